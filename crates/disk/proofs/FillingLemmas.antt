@@ -1,0 +1,74 @@
+-- How a loop fills a range, or the marked positions, one at a time.
+use Rattle.std.proofs.Common.{◌≡◌, ℕ, ◌+◌, ◌<◌, zero, suc, Bool, true, false, List, [], ◌∷◌, ◌++◌, length, get_or, set, take, drop, refl, sym, ◌∙◌, ap, arith, append_assoc, length-append}
+use Rattle.std.proofs.lemmas.List.{drop_more, drop-set-lt, take_more_set, take_more, set_at, length-take-le}
+use Rattle.disk.specs.Disk.{put_at, KeepsSynced}
+use Rattle.disk.specs.Filling.{nth_given, spread, filled}
+
+pub length-spread : (given : List ℕ) (i n : ℕ) → length (spread given i n) ≡ n
+length-spread given i zero = refl
+length-spread given i (suc n) = omega (arith, length-spread given (i + 1) n)
+
+pub spread_more : (given : List ℕ) (i n : ℕ) → spread given i (n + 1) ≡ spread given i n ++ nth_given given (i + n) ∷ []
+spread_more given i zero = let e : i ≡ i + 0 = omega arith in ap (λ (k : ℕ). nth_given given k ∷ []) e
+spread_more given i (suc n) =
+    let shift : suc n + 1 ≡ suc (n + 1) = omega arith in
+    let e : (i + 1) + n ≡ i + suc n = omega arith in
+    ap (spread given i) shift
+    ∙ ap (λ (l : List ℕ). nth_given given i ∷ l) (spread_more given (i + 1) n)
+    ∙ ap (λ (k : ℕ). nth_given given i ∷ (spread given (i + 1) n ++ nth_given given k ∷ [])) e
+
+pub put_more : (old xs : List ℕ) (at y : ℕ) → at + length xs < length old → set (put_at old at xs) (at + length xs) y ≡ put_at old at (xs ++ y ∷ [])
+put_more old xs at y within =
+    let p = take at old ++ xs in
+    let front : length (take at old) ≡ at = length-take-le at old (omega arith) in
+    let long : length p ≡ at + length xs = omega (arith, length-append (take at old) xs) in
+    let next : at + length (xs ++ y ∷ []) ≡ at + length xs + 1 = omega (arith, length-append xs (y ∷ [])) in
+    ap (λ (l : List ℕ). set (p ++ l) (at + length xs) y) (drop_more old (at + length xs) 0 within)
+    ∙ set_at p _ _ y _ long
+    ∙ sym (append_assoc p (y ∷ []) (drop (at + length xs + 1) old))
+    ∙ ap (λ (l : List ℕ). l ++ drop (at + length xs + 1) old) (append_assoc (take at old) xs (y ∷ []))
+    ∙ ap (λ (k : ℕ). take at old ++ (xs ++ y ∷ []) ++ drop k old) (sym next)
+
+module _ (given : List ℕ) (next : ℕ) (flags : List Bool) (bytes : List ℕ) (i : ℕ) (within : i < length bytes) (same : length flags ≡ length bytes) where
+  flags_at : (b : Bool) → get_or flags i false ≡ b → drop i flags ≡ b ∷ drop (i + 1) flags
+  flags_at b is = drop_more flags i false (omega arith) ∙ ap (λ (c : Bool). c ∷ drop (i + 1) flags) is
+
+  bytes_at : drop i bytes ≡ get_or bytes i 0 ∷ drop (i + 1) bytes
+  bytes_at = drop_more bytes i 0 within
+
+  pub filled_true : get_or flags i false ≡ true → take i bytes ++ filled given next (drop i flags) (drop i bytes) ≡ take (i + 1) (set bytes i (nth_given given next)) ++ filled given (next + 1) (drop (i + 1) flags) (drop (i + 1) (set bytes i (nth_given given next)))
+  filled_true is =
+      let v = nth_given given next in
+      let rest = filled given (next + 1) (drop (i + 1) flags) (drop (i + 1) bytes) in
+      ap (λ (l : List Bool). take i bytes ++ filled given next l (drop i bytes)) (flags_at true is)
+      ∙ ap (λ (l : List ℕ). take i bytes ++ filled given next (true ∷ drop (i + 1) flags) l) bytes_at
+      ∙ sym (append_assoc (take i bytes) (v ∷ []) rest)
+      ∙ ap (λ (l : List ℕ). l ++ rest) (sym (take_more_set bytes i v within))
+      ∙ ap (λ (l : List ℕ). take (i + 1) (set bytes i v) ++ filled given (next + 1) (drop (i + 1) flags) l) (sym (drop-set-lt (i + 1) bytes i v (omega arith)))
+
+  pub filled_false : get_or flags i false ≡ false → take i bytes ++ filled given next (drop i flags) (drop i bytes) ≡ take (i + 1) bytes ++ filled given next (drop (i + 1) flags) (drop (i + 1) bytes)
+  filled_false is =
+      let rest = filled given next (drop (i + 1) flags) (drop (i + 1) bytes) in
+      ap (λ (l : List Bool). take i bytes ++ filled given next l (drop i bytes)) (flags_at false is)
+      ∙ ap (λ (l : List ℕ). take i bytes ++ filled given next (false ∷ drop (i + 1) flags) l) bytes_at
+      ∙ sym (append_assoc (take i bytes) (get_or bytes i 0 ∷ []) rest)
+      ∙ ap (λ (l : List ℕ). l ++ rest) (sym (take_more bytes i 0 within))
+
+pub length-filled : (given : List ℕ) (next : ℕ) (flags : List Bool) (bytes : List ℕ) → length flags ≡ length bytes → length (filled given next flags bytes) ≡ length bytes
+length-filled given next [] bytes same = refl
+length-filled given next (flag ∷ flags) [] same = absurd (omega arith)
+length-filled given next (true ∷ flags) (b ∷ bytes) same = ap suc (length-filled given (next + 1) flags bytes (omega arith))
+length-filled given next (false ∷ flags) (b ∷ bytes) same = ap suc (length-filled given next flags bytes (omega arith))
+
+unmarked_stays : (given : List ℕ) (next : ℕ) (flags : List Bool) (bytes : List ℕ) (k : ℕ) → get_or flags k false ≡ false → get_or (filled given next flags bytes) k 0 ≡ get_or bytes k 0
+unmarked_stays given next [] bytes k synced = refl
+unmarked_stays given next (flag ∷ flags) [] k synced = refl
+unmarked_stays given next (true ∷ flags) (b ∷ bytes) zero synced = cc
+unmarked_stays given next (true ∷ flags) (b ∷ bytes) (suc k) synced = unmarked_stays given (next + 1) flags bytes k synced
+unmarked_stays given next (false ∷ flags) (b ∷ bytes) zero synced = refl
+unmarked_stays given next (false ∷ flags) (b ∷ bytes) (suc k) synced = unmarked_stays given next flags bytes k synced
+
+-- only marked positions are filled
+pub filled_keeps : (given : List ℕ) (next : ℕ) (flags : List Bool) (bytes : List ℕ) → length flags ≡ length bytes → KeepsSynced flags bytes (filled given next flags bytes)
+filled_keeps given next flags bytes same =
+    record { as_many = length-filled given next flags bytes same; same = λ k synced. unmarked_stays given next flags bytes k synced }

@@ -1,0 +1,16 @@
+//! Disks that hosts share: the calls of a device, and a simulated disk that can fail, tear, crash and be lost.
+#![tactic(auto)]
+
+mod boot;
+mod device;
+mod fault;
+mod image;
+mod simulated;
+
+pub use boot::Boot;
+pub use device::Disk;
+pub use fault::{DiskFault, NoMemory};
+pub use simulated::SimDisk;
+
+#[cfg(test)]
+mod tests;

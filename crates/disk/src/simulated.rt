@@ -1,0 +1,216 @@
+ghost use Rattle.std.specs.Prelude.{◌≡◌, ◌+◌, ◌≤◌, ◌<◌, ◌^◌, Some, None, length, IfOk};
+ghost use Rattle.disk.specs.Disk.{Torn, Crashes, written, lost};
+ghost use Rattle.disk.specs.Simulated.{fresh_disk, filling, crashed, items_of, refusal_under, TakesFailure};
+
+use crate::image::{fill_stamped, next_epoch, put, put_given, stamp};
+use crate::{Boot, Disk, DiskFault, NoMemory};
+use std::alloc::Global;
+use std::marker::Model;
+
+/// A disk in memory, which fails, tears, crashes and is lost when it is told to. No call after `new` takes memory, and
+/// none but `crash` does work that grows with the disk.
+///
+/// Where a list of bytes fills positions, the i-th of them in rising order, from 0, takes byte `i mod len` of the list.
+#[derive(Drop)]
+pub struct SimDisk {
+    bytes: Vec<u8>,
+    stamps: Vec<u16>,
+    epoch: u16,
+    boot: u64,
+    gone: bool,
+    failing: Option<Vec<u8>>,
+    failures: u64,
+}
+
+impl Model for SimDisk {
+    ghost use Rattle.std.specs.Prelude.{◌≡◌, ◌≤◌, length, All};
+    ghost use Rattle.disk.specs.Filling.{marks};
+    ghost use Rattle.disk.specs.Simulated.{SimState, IsGiven, items_of};
+
+    ghost Value = { SimState };
+
+    ghost view = { λ d. record {
+      disk = record {
+        bytes = d.bytes.items;
+        unsynced = marks d.epoch d.stamps.items;
+        boot = d.boot;
+        gone = d.gone;
+      };
+      failing = items_of d.failing;
+      failures = d.failures;
+    } };
+
+    ghost invariant = { λ d. record {
+      as_many : length d.stamps.items ≡ length d.bytes.items;
+      no_later : All (λ s. s ≤ d.epoch) d.stamps.items;
+      given : IsGiven (items_of d.failing);
+    } };
+}
+
+impl SimDisk {
+    /// A disk of `size` zeros.
+    pub fn new(alloc: Global, size: u64) -> Result<SimDisk, NoMemory>
+        ensures fresh { IfOk result (λ d. d ≡ record { disk = fresh_disk size; failing = None; failures = 0 }) }
+        ensures size { IfOk result (λ d. length d.disk.bytes ≡ size) }
+        ensures boot { IfOk result (λ d. d.disk.boot ≡ 1) }
+    {
+        Ok(SimDisk {
+            bytes: vec![in alloc; 0; size as usize]?,
+            stamps: vec![in alloc; 0; size as usize]?,
+            epoch: 1,
+            boot: 1,
+            gone: false,
+            failing: None,
+            failures: 0,
+        })
+    }
+
+    /// The next call that is not refused fails. If it is a write, its range takes the given bytes.
+    pub fn fail_next(&mut self, given: Vec<u8>)
+        requires { 0 < length given.items }
+        ensures { self.new ≡ record self.old { failing = Some given.items } }
+    {
+        self.failing = Some(given);
+    }
+
+    /// A write of `len` bytes is cut short, as where its host stops within it: its range takes the given bytes.
+    pub fn tear(&mut self, at: u64, len: u64, given: &[u8])
+        requires range { at + len ≤ length self.old.disk.bytes }
+        requires given { 0 < length given.now }
+        ensures exact { self.new ≡ record self.old { disk = filling self.old.disk at len given.now } }
+        ensures torn { Torn at len self.old.disk self.new.disk }
+        ensures size { length self.new.disk.bytes ≡ length self.old.disk.bytes }
+    {
+        put_given(&mut self.bytes, at as usize, len as usize, given);
+        stamp(&mut self.stamps, at as usize, len as usize, self.epoch);
+    }
+
+    /// The disk loses power and comes up again: its unsynced positions take the given bytes.
+    pub fn crash(&mut self, given: &[u8])
+        requires given { 0 < length given.now }
+        requires boot { self.old.disk.boot < 2 ^ 62 }
+        ensures exact { self.new ≡ record self.old { disk = crashed self.old.disk given.now } }
+        ensures crashes { Crashes self.old.disk self.new.disk }
+        ensures size { length self.new.disk.bytes ≡ length self.old.disk.bytes }
+    {
+        fill_stamped(&mut self.bytes, &self.stamps, self.epoch, given);
+        self.epoch = next_epoch(&mut self.stamps, self.epoch);
+        self.boot += 1;
+    }
+
+    /// The disk is lost for good.
+    pub fn lose(&mut self)
+        ensures { self.new ≡ record self.old { disk = lost self.old.disk } }
+    {
+        self.gone = true;
+    }
+}
+
+impl SimDisk {
+    // What stands in the way of a call under this boot number.
+    fn refusal(&self, boot: u64) -> Option<DiskFault>
+        ensures { result ≡ refusal_under self.now.disk boot }
+    {
+        if self.gone {
+            Some(DiskFault::Gone)
+        } else if boot != self.boot {
+            Some(DiskFault::Reset)
+        } else {
+            None
+        }
+    }
+
+    // The range holds these bytes, unsynced.
+    fn overwrite(&mut self, at: usize, from: &[u8])
+        requires { at + length from.now ≤ length self.old.disk.bytes }
+        ensures { self.new ≡ record self.old { disk = written self.old.disk at from.now } }
+    {
+        put(&mut self.bytes, at, from);
+        stamp(&mut self.stamps, at, from.len(), self.epoch);
+    }
+
+    // Takes the failure that was asked for, and counts it.
+    fn take_failure(&mut self) -> Option<Vec<u8>>
+        ensures { TakesFailure self.old (items_of result) self.new }
+    {
+        let given = self.failing.take();
+        if given.is_some() {
+            self.failures = self.failures.saturating_add(1);
+        }
+        given
+    }
+}
+
+impl Disk for SimDisk {
+    ghost use Rattle.std.specs.Prelude.{◌≡◌, refl};
+    ghost use Rattle.disk.specs.Disk.{device_of};
+    ghost use Rattle.disk.specs.Simulated.{outcome};
+
+    ghost state = { λ d. d.disk };
+
+    ghost device = { λ d. device_of d.disk };
+
+    ghost failures = { λ d. d.failures };
+
+    // Which disk is left and what is answered follow from the disk and the call.
+    ghost gives = { λ old call answer new. (new, answer) ≡ outcome old call };
+
+    ghost told = { λ d tells. refl };
+
+    fn size(&self) -> u64 {
+        self.bytes.len() as u64
+    }
+
+    fn attach(&mut self) -> Result<Boot, DiskFault> {
+        if let Some(fault) = self.refusal(self.boot) {
+            return Err(fault);
+        }
+        match self.take_failure() {
+            None => Ok(Boot { number: self.boot }),
+            Some(_) => Err(DiskFault::Failed),
+        }
+    }
+
+    fn read(&mut self, boot: Boot, at: u64, into: &mut [u8]) -> Result<(), DiskFault> {
+        if let Some(fault) = self.refusal(boot.number) {
+            return Err(fault);
+        }
+        match self.take_failure() {
+            None => {
+                let at = at as usize;
+                into.copy_from_slice(&self.bytes[at..at + into.len()]);
+                Ok(())
+            }
+            Some(_) => Err(DiskFault::Failed),
+        }
+    }
+
+    fn write(&mut self, boot: Boot, at: u64, from: &[u8]) -> Result<(), DiskFault> {
+        if let Some(fault) = self.refusal(boot.number) {
+            return Err(fault);
+        }
+        match self.take_failure() {
+            None => {
+                self.overwrite(at as usize, from);
+                Ok(())
+            }
+            Some(given) => {
+                self.tear(at, from.len() as u64, &given);
+                Err(DiskFault::Failed)
+            }
+        }
+    }
+
+    fn sync(&mut self, boot: Boot) -> Result<(), DiskFault> {
+        if let Some(fault) = self.refusal(boot.number) {
+            return Err(fault);
+        }
+        match self.take_failure() {
+            None => {
+                self.epoch = next_epoch(&mut self.stamps, self.epoch);
+                Ok(())
+            }
+            Some(_) => Err(DiskFault::Failed),
+        }
+    }
+}

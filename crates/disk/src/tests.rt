@@ -1,0 +1,44 @@
+ghost use Rattle.std.specs.Prelude.{◌≡◌, IfOk, length};
+
+use crate::{Boot, Disk, DiskFault, SimDisk};
+use std::alloc::Global;
+use std::test::Fail;
+
+// A disk of eight bytes, of which the first four were written and synced, and the next two written since.
+fn written_disk(alloc: Global) -> Result<(SimDisk, Boot), Fail>
+    ensures written { IfOk result (λ r. (length r.0.disk.bytes ≡ 8) × (r.0.disk.boot ≡ 1)) }
+{
+    let mut disk = SimDisk::new(alloc, 8)?;
+    let boot = disk.attach()?;
+    disk.write(boot, 0, &[1, 2, 3, 4])?;
+    disk.sync(boot)?;
+    disk.write(boot, 4, &[5, 6])?;
+    Ok((disk, boot))
+}
+
+#[test]
+fn crash_fills_unsynced_positions_in_turn(rt: HostRuntime) -> Result<(), Fail> {
+    let (mut disk, old) = written_disk(rt.alloc())?;
+    assert_eq!(rt; disk.size(), 8);
+    disk.crash(&[0xA5, 0xFF, 0x00]);
+    let mut bytes = [0; 8];
+    assert_eq!(rt; disk.read(old, 0, &mut bytes), Err(DiskFault::Reset));
+    let boot = disk.attach()?;
+    assert_eq!(rt; boot.number, 2);
+    disk.read(boot, 0, &mut bytes)?;
+    assert_eq!(rt; bytes, [1, 2, 3, 4, 0xA5, 0xFF, 0, 0]);
+    disk.lose();
+    assert_eq!(rt; disk.attach(), Err(DiskFault::Gone));
+    Ok(())
+}
+
+#[test]
+fn failing_write_leaves_the_given_bytes(rt: HostRuntime) -> Result<(), Fail> {
+    let (mut disk, boot) = written_disk(rt.alloc())?;
+    disk.fail_next([7, 8].to_vec(rt.alloc())?);
+    assert_eq!(rt; disk.write(boot, 1, &[9, 9, 9]), Err(DiskFault::Failed));
+    let mut bytes = [0; 8];
+    disk.read(boot, 0, &mut bytes)?;
+    assert_eq!(rt; bytes, [1, 7, 8, 7, 5, 6, 0, 0]);
+    Ok(())
+}
