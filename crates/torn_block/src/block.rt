@@ -1,0 +1,145 @@
+ghost use Rattle.std.specs.Prelude.{◌≡◌, ◌⊎◌, length, List, ℕ, Some, None, Contains};
+ghost use Rattle.torn_block.specs.Block;
+ghost use Rattle.torn_block.specs.Block.{sequence_of, body_of};
+ghost use Rattle.torn_block.specs.Written.{HoldsOnly, ChoosesOpen};
+
+use crate::layout::{BLOCK_LENGTH, BODY_LENGTH, COPY_LENGTH, HEADING_LENGTH};
+use byteorder::{BigEndian, ByteOrder};
+
+/// The gate of a copy that counts. Any other byte there closes it.
+pub const OPEN_GATE: u8 = 0xA5;
+
+/// One of the two copies of a block.
+#[derive(Clone, Copy, Debug, PartialEq, Eq)]
+pub enum Half {
+    First,
+    Second,
+}
+
+/// The bytes of a copy that are its caller's: those between the gate and the sequence number, and those behind it.
+#[derive(Clone, Copy, Debug, PartialEq, Eq)]
+pub struct Body {
+    pub bytes: [u8; BODY_LENGTH],
+}
+
+/// A block as read.
+#[derive(Clone, Copy, Debug, PartialEq, Eq)]
+pub struct Block128 {
+    /// The copy that counts, or none where the block is blank.
+    pub current: Option<Half>,
+    /// The sequence number of the current copy, 0 for a blank block.
+    pub sequence: u64,
+    /// The body of the current copy, zeros for a blank block.
+    pub body: Body,
+    /// Whether the gate of the copy to be written next stands open.
+    pub next_is_open: bool,
+}
+
+/// The block that these bytes are.
+pub fn read_block(bytes: &[u8; BLOCK_LENGTH]) -> Block128
+    ensures { (bodies : List (List ℕ)) → HoldsOnly bodies bytes.now →
+        (result.current ≡ None) ⊎ Contains bodies result.body.bytes }
+{
+    block_in(bytes)
+}
+
+/// The block that these bytes, a part of a longer list, are.
+pub fn block_in(bytes: &[u8]) -> Block128
+    requires { length bytes.now ≡ BLOCK_LENGTH }
+    ensures { (bodies : List (List ℕ)) → HoldsOnly bodies bytes.now →
+        (result.current ≡ None) ⊎ Contains bodies result.body.bytes }
+{
+    let (first, second) = bytes.split_at(COPY_LENGTH);
+    match current_in(first, second) {
+        None => blank_before(first),
+        Some(Half::First) => reading(Half::First, first, second),
+        Some(Half::Second) => reading(Half::Second, second, first),
+    }
+}
+
+// A block whose current copy is this one, of these bytes, and whose other copy has those.
+fn reading(current: Half, kept: &[u8], target: &[u8]) -> Block128
+    requires kept { length kept.now ≡ COPY_LENGTH }
+    requires target { length target.now ≡ COPY_LENGTH }
+    ensures current { result.current ≡ Some current }
+    ensures sequence { result.sequence ≡ sequence_of kept.now }
+    ensures body { result.body.bytes ≡ body_of kept.now }
+    ensures next { result.next_is_open ≡ Block.is_open target.now }
+{
+    Block128 {
+        current: Some(current),
+        sequence: sequence_in(kept),
+        body: body_in(kept),
+        next_is_open: is_open(target),
+    }
+}
+
+// A blank block, whose first copy has these bytes.
+fn blank_before(target: &[u8]) -> Block128
+    requires { length target.now ≡ COPY_LENGTH }
+    ensures current { result.current ≡ None }
+    ensures next { result.next_is_open ≡ Block.is_open target.now }
+{
+    Block128 {
+        current: None,
+        sequence: 0,
+        body: Body {
+            bytes: [0; BODY_LENGTH],
+        },
+        next_is_open: is_open(target),
+    }
+}
+
+/// Whether a copy counts, by its gate.
+pub fn is_open(copy: &[u8]) -> bool
+    requires { length copy.now ≡ COPY_LENGTH }
+    ensures { result ≡ Block.is_open copy.now }
+{
+    copy[0] == OPEN_GATE
+}
+
+/// A copy's sequence number, whether it counts or not.
+pub fn sequence_in(copy: &[u8]) -> u64
+    requires { length copy.now ≡ COPY_LENGTH }
+    ensures { result ≡ sequence_of copy.now }
+{
+    BigEndian::read_u64(&copy[HEADING_LENGTH + 1..])
+}
+
+fn current_in(first: &[u8], second: &[u8]) -> Option<Half>
+    requires first { length first.now ≡ COPY_LENGTH }
+    requires second { length second.now ≡ COPY_LENGTH }
+    ensures { ChoosesOpen result first.now second.now }
+{
+    match (is_open(first), is_open(second)) {
+        (true, true) => {
+            if sequence_in(first) < sequence_in(second) {
+                Some(Half::Second)
+            } else {
+                Some(Half::First)
+            }
+        }
+        (true, false) => Some(Half::First),
+        (false, true) => Some(Half::Second),
+        (false, false) => None,
+    }
+}
+
+fn body_in(copy: &[u8]) -> Body
+    requires { length copy.now ≡ COPY_LENGTH }
+    ensures { result.bytes ≡ body_of copy.now }
+{
+    let mut bytes = [0; BODY_LENGTH];
+    take_body(&mut bytes, copy);
+    Body { bytes }
+}
+
+fn take_body(bytes: &mut [u8], copy: &[u8])
+    requires bytes { length bytes.old ≡ BODY_LENGTH }
+    requires copy { length copy.now ≡ COPY_LENGTH }
+    ensures { bytes.new ≡ body_of copy.now }
+{
+    let (front, back) = bytes.split_at_mut(HEADING_LENGTH);
+    front.copy_from_slice(&copy[1..HEADING_LENGTH + 1]);
+    back.copy_from_slice(&copy[HEADING_LENGTH + 9..]);
+}

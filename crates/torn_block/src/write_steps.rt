@@ -1,0 +1,156 @@
+ghost use Rattle.std.specs.Prelude.{◌≡◌, ◌+◌, ◌≤◌, ◌^◌, ◌∷◌, ◌↔◌, length, IfOk, IsOk};
+ghost use Rattle.std.specs.Option.{option_map};
+ghost use Rattle.torn_block.specs.Block.{number_bytes, tail_with, next_sequence_at};
+ghost use Rattle.torn_block.specs.Plan.{told_value, plan_by, seen_need, LiesWithin, need_of, next_after};
+
+use crate::block::{Block128, Body, Half, OPEN_GATE};
+use crate::layout::{BODY_LENGTH, COPY_LENGTH, HEADING_LENGTH, LAST_SEQUENCE};
+use byteorder::{BigEndian, ByteOrder};
+use std::marker::Model;
+use thiserror::Error;
+
+/// The block's sequence number is 2^62 or above, so there is no next one.
+#[derive(Clone, Copy, Debug, PartialEq, Eq, Error)]
+#[error("the block's sequence numbers are spent")]
+pub struct SequenceSpent;
+
+/// The device calls that write a block, in order.
+#[derive(Clone, Copy, Debug, PartialEq, Eq)]
+pub enum WriteCall {
+    CloseGate,
+    SyncClosed,
+    PutBody,
+    SyncBody,
+    OpenGate,
+    SyncOpened,
+}
+
+/// What a writer needs next: a write of these bytes `at` bytes behind the block's begin, or a sync.
+#[derive(Drop)]
+pub enum BlockNeed<'a> {
+    Write { at: u64, bytes: &'a [u8] },
+    Sync,
+}
+
+/// The six calls of one write. It goes to the copy that does not count: the gate is closed first, opened last, and each
+/// step is made sure of before the next begins.
+///
+/// A gate that stands closed already is not written again: a torn write of it could open it before the old bytes
+/// behind it. The write is then of no bytes.
+#[derive(Drop)]
+pub struct WriteSteps {
+    copy: [u8; COPY_LENGTH],
+    target: Half,
+    closes: bool,
+    due: Option<WriteCall>,
+}
+
+impl Model for WriteSteps {
+    ghost use Rattle.std.specs.Prelude.{◌≡◌, drop, slice_index};
+    ghost use Rattle.torn_block.specs.Plan.{Plan};
+
+    ghost Value = { Plan };
+
+    ghost view = { λ s. record { target = s.target; closes = s.closes; tail = drop 1 s.copy; due = s.due } };
+
+    ghost invariant = { λ s. slice_index s.copy 0 ≡ 165 };
+}
+
+impl WriteSteps {
+    /// The calls that write `body` over a block as its owner read it.
+    pub fn new(read: &Block128, body: &Body) -> Result<WriteSteps, SequenceSpent>
+        ensures steps { IfOk result (λ s. s ≡ plan_by read.now body.now.bytes) }
+        ensures spent { IsOk result ↔ (next_sequence_at (told_value read.now) ≤ 2 ^ 62) }
+    {
+        let sequence = match read.current {
+            None => 1,
+            Some(_) => {
+                if read.sequence >= LAST_SEQUENCE {
+                    return Err(SequenceSpent);
+                }
+                read.sequence + 1
+            }
+        };
+        Ok(WriteSteps {
+            copy: copy_with(sequence, body),
+            target: match read.current {
+                Some(Half::First) => Half::Second,
+                _ => Half::First,
+            },
+            closes: read.next_is_open,
+            due: Some(WriteCall::CloseGate),
+        })
+    }
+
+    /// What the call that is due needs. After the sixth there is none.
+    pub fn next(&self) -> Option<BlockNeed<'_>>
+        ensures need { option_map seen_need result ≡ need_of self.now }
+        ensures within { LiesWithin result }
+    {
+        let gate = match self.target {
+            Half::First => 0,
+            Half::Second => COPY_LENGTH as u64,
+        };
+        match self.due? {
+            WriteCall::CloseGate => Some(BlockNeed::Write {
+                at: gate,
+                bytes: if self.closes { &[0] } else { &[] },
+            }),
+            WriteCall::PutBody => Some(BlockNeed::Write {
+                at: gate + 1,
+                bytes: &self.copy[1..],
+            }),
+            WriteCall::OpenGate => Some(BlockNeed::Write {
+                at: gate,
+                bytes: &self.copy[..1],
+            }),
+            WriteCall::SyncClosed | WriteCall::SyncBody | WriteCall::SyncOpened => {
+                Some(BlockNeed::Sync)
+            }
+        }
+    }
+
+    /// The call that was due succeeded.
+    pub fn done(&mut self)
+        ensures { self.new ≡ record self.old { due = next_after self.old.due } }
+    {
+        self.due = match self.due {
+            Some(WriteCall::CloseGate) => Some(WriteCall::SyncClosed),
+            Some(WriteCall::SyncClosed) => Some(WriteCall::PutBody),
+            Some(WriteCall::PutBody) => Some(WriteCall::SyncBody),
+            Some(WriteCall::SyncBody) => Some(WriteCall::OpenGate),
+            Some(WriteCall::OpenGate) => Some(WriteCall::SyncOpened),
+            Some(WriteCall::SyncOpened) | None => None,
+        };
+    }
+}
+
+// An open copy with this sequence number and body.
+fn copy_with(sequence: u64, body: &Body) -> [u8; COPY_LENGTH]
+    ensures { result ≡ 165 ∷ tail_with sequence body.now.bytes }
+{
+    let mut copy = [0; COPY_LENGTH];
+    put_copy(&mut copy, sequence, &body.bytes);
+    copy
+}
+
+fn put_copy(copy: &mut [u8], sequence: u64, body: &[u8])
+    requires copy { length copy.old ≡ COPY_LENGTH }
+    requires body { length body.now ≡ BODY_LENGTH }
+    ensures { copy.new ≡ 165 ∷ tail_with sequence body.now }
+{
+    let (gate, tail) = copy.split_at_mut(1);
+    let (front, rest) = tail.split_at_mut(HEADING_LENGTH);
+    let (number, back) = rest.split_at_mut(8);
+    gate[0] = OPEN_GATE;
+    front.copy_from_slice(&body[..HEADING_LENGTH]);
+    put_number(number, sequence);
+    back.copy_from_slice(&body[HEADING_LENGTH..]);
+}
+
+fn put_number(bytes: &mut [u8], number: u64)
+    requires { length bytes.old ≡ 8 }
+    ensures { bytes.new ≡ number_bytes number }
+{
+    BigEndian::write_u64(bytes, number);
+}
