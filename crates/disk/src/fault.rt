@@ -15,6 +15,20 @@ pub enum DiskFault {
     Gone,
 }
 
+/// Why an image file is not used.
+#[derive(Clone, Copy, Debug, PartialEq, Eq, Error)]
+pub enum ImageFault {
+    /// The gate of its header is not open.
+    #[error("the image is not formatted")]
+    NotFormatted,
+    /// Its header is not that of an image of this name and length.
+    #[error("the image has a wrong header")]
+    WrongHeader,
+    /// The file could not be opened, read, made or written.
+    #[error("the image cannot be read or written")]
+    Unreadable,
+}
+
 /// Memory was refused.
 #[derive(Clone, Copy, Debug, PartialEq, Eq, Error)]
 #[error("out of memory")]

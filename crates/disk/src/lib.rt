@@ -5,11 +5,13 @@ mod boot;
 mod device;
 mod fault;
 mod image;
+mod law;
 mod simulated;
 
 pub use boot::Boot;
 pub use device::Disk;
-pub use fault::{DiskFault, NoMemory};
+pub use fault::{DiskFault, ImageFault, NoMemory};
+pub use law::calls_keep_the_shape;
 pub use simulated::SimDisk;
 
 #[cfg(test)]

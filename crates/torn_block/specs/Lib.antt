@@ -5,7 +5,7 @@ pub mod Numbers
 pub mod Place
 pub mod Plan
 pub mod Register
+pub mod RegisterLaws
 pub mod Stage
 pub mod StageLaws
 pub mod Writing
-pub mod Written

@@ -92,6 +92,33 @@ module _ (half : Half) (place at n : ℕ) (old new : List ℕ) (room : place + B
   elsewhere_same h (inl below) = copy_same h (λ k within. inr (omega arith))
   elsewhere_same h (inr above) = copy_same h (λ k within. inl (omega (arith, offset_fits h)))
 
+-- a write elsewhere leaves the whole block
+pub block_elsewhere : (place at n : ℕ) (old new : List ℕ) → place + BLOCK_LENGTH ≤ length old → ChangesOnly at n old new → (at + n ≤ place) ⊎ (place + BLOCK_LENGTH ≤ at) → block_in place new ≡ block_in place old
+block_elsewhere place at n old new room changes outside =
+    let room' : place + BLOCK_LENGTH ≤ length new = omega (arith, changes.as_many) in
+    let long = length-block_in place new room' in
+    ext_get_or 0 _ _ (long ∙ sym (length-block_in place old room)) (λ k within.
+    get_or-block_in place new k (omega (arith, long))
+    ∙ elim outside [
+      | inl below ↦ changes.above (place + k) (omega arith)
+      | inr above ↦ changes.below (place + k) (omega (arith, long))
+    ]
+    ∙ sym (get_or-block_in place old k (omega (arith, long))))
+
+-- a block among bytes that were read from a place on is the block there
+pub block_read : (at q len : ℕ) (bytes : List ℕ) → q + BLOCK_LENGTH ≤ len → at + len ≤ length bytes → block_in q (slice_range bytes at (at + len)) ≡ block_in (at + q) bytes
+block_read at q len bytes inside fits =
+    let part = slice_range bytes at (at + len) in
+    let n : (at + len) - at ≡ len = omega arith in
+    let size : length part ≡ len = ap (λ (k : ℕ). length (take k (drop at bytes))) n ∙ length-take-le len (drop at bytes) (omega (arith, length-drop at bytes)) in
+    let long = length-block_in q part (omega (arith, size)) in
+    ext_get_or 0 _ _ (long ∙ sym (length-block_in (at + q) bytes (omega arith))) (λ k within.
+    get_or-block_in q part k (omega (arith, long))
+    ∙ get_or-take ((at + len) - at) (drop at bytes) (q + k) 0 (omega (arith, long))
+    ∙ get_or-drop at bytes (q + k) 0
+    ∙ (let e : at + (q + k) ≡ at + q + k = omega arith in ap (λ (j : ℕ). get_or bytes j 0) e)
+    ∙ sym (get_or-block_in (at + q) bytes k (omega (arith, long))))
+
 length-number : (n : ℕ) → length (number_bytes n) ≡ 8
 unfolding number_bytes
 length-number n = length-bytes_high_first 8 n

@@ -1,5 +1,5 @@
 -- The six calls that write a block, and what stands on the disk when each is due.
-use Rattle.std.specs.Prelude.{◌≡◌, ◌⊎◌, ◌+◌, ◌≤◌, ◌<◌, ◌^◌, ℕ, true, false, List, [], ◌∷◌, length, drop, Option, Some, None, if◌then◌else◌}
+use Rattle.std.specs.Prelude.{◌≡◌, ◌⊎◌, ◌+◌, ◌<◌, ◌^◌, ℕ, true, false, List, [], ◌∷◌, length, drop, Option, Some, None, if◌then◌else◌}
 use Rattle.disk.specs.Disk.{DiskState, Call, Write, Sync}
 use Rattle.disk.specs.Crash.{MayLeave, IsWhole}
 use Rattle.torn_block.specs.declared.layout.TheConstants.{BLOCK_LENGTH, BODY_LENGTH}
@@ -7,6 +7,7 @@ use Rattle.torn_block.specs.declared.write_steps.WriteCall.{WriteCall}
 use Rattle.torn_block.specs.declared.write_steps.WriteCall.TheVariants.{CloseGate, SyncClosed, PutBody, SyncBody, OpenGate, SyncOpened}
 use Rattle.torn_block.specs.Block.{is_open, tail_with, other, copy_of, value_of, target_of, next_sequence}
 use Rattle.torn_block.specs.Place.{block_in, copy_in, offset_of}
+use Rattle.torn_block.specs.Register.{Value, Register, LiesOn}
 
 -- A block that is written: its place, its bytes as its owner read them, and the new body.
 pub record Write128 : Type 0 where
@@ -42,12 +43,16 @@ next_call SyncBody = Some OpenGate
 next_call OpenGate = Some SyncOpened
 next_call SyncOpened = None
 
--- the old value, and the new one
-abbrev pub old_value : Write128 → Option (ℕ × List ℕ)
+-- the value as its owner read it, the new one, and the register that has both
+abbrev pub old_value : Write128 → Value
 old_value w = value_of w.block
 
-abbrev pub new_value : Write128 → Option (ℕ × List ℕ)
+abbrev pub new_value : Write128 → Value
 new_value w = Some (next_sequence w.block, w.body)
+
+-- while it is written
+abbrev pub in_writing : Write128 → Register
+in_writing w = record { confirmed = old_value w; writing = Some (new_value w) }
 
 -- what the block may be among the bytes that a crash leaves while this call is due: the other copy is as it was, and ..
 abbrev pub MayBe : WriteCall → Write128 → List ℕ → Type 0
@@ -93,7 +98,7 @@ Stands (Some call) w disk = IsDue call w disk
 -- the block lies within a disk, and its write is of a body of 55 bytes
 pub record IsPlaced (w : Write128) (disk : DiskState) : Type 0 where
   pub whole : IsWhole disk
-  pub within : w.place + BLOCK_LENGTH ≤ length disk.bytes
+  pub within : LiesOn w.place disk
   pub block : length w.block ≡ BLOCK_LENGTH
   pub body : length w.body ≡ BODY_LENGTH
   pub fits : next_sequence w.block < 2 ^ 64
@@ -101,8 +106,3 @@ pub record IsPlaced (w : Write128) (disk : DiskState) : Type 0 where
 -- each outcome of a crash now has this block
 abbrev pub IsSettled : Write128 → DiskState → Type 0
 IsSettled w disk = (bytes : List ℕ) → MayLeave disk bytes → block_in w.place bytes ≡ w.block
-
--- each outcome of a crash now reads as the old value or as the new one
-abbrev pub ReadsOldOrNew : Write128 → DiskState → Type 0
-ReadsOldOrNew w disk =
-    (bytes : List ℕ) → MayLeave disk bytes → (value_of (block_in w.place bytes) ≡ old_value w) ⊎ (value_of (block_in w.place bytes) ≡ new_value w)

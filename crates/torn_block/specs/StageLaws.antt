@@ -1,10 +1,10 @@
 -- How the disk's steps lead from one due call to the next.
-use Rattle.std.specs.Prelude.{◌≡◌, ◌⊎◌, ◌+◌, ◌≤◌, ◌<◌, ◌^◌, ◌==◌, ℕ, Bool, true, false, List, [], ◌∷◌, length, drop, slice_index, Option, Some, if◌then◌else◌}
+use Rattle.std.specs.Prelude.{◌≡◌, ◌⊎◌, ◌+◌, ◌≤◌, ◌<◌, ◌^◌, ◌==◌, ℕ, Bool, true, false, List, [], ◌∷◌, length, drop, slice_index, Option, Some, if◌then◌else◌, slice_range}
 use Rattle.std.proofs.Common.{refl, sym, ◌∙◌, ap, subst, arith, inl, inr, get_or, length-drop}
 use Rattle.std.proofs.lemmas.List.{ext_get_or, get_or-drop}
 use Rattle.std.proofs.lemmas.Bool.Decides.{nat_tests}
-use Rattle.disk.specs.Disk.{DiskState, Step, Done, Torn, FailureLeaves, Crashes, put_at, written, synced}
-use Rattle.disk.specs.Crash.{MayLeave, ChangesOnly, may_leave_now, may_leave_synced, may_leave_written, may_leave_crashed, put-inside, put-below, put-above, length-put}
+use Rattle.disk.specs.Disk.{DiskState, Read, Told, Answer, Call, Step, Done, Torn, FailureLeaves, put_at, written, synced}
+use Rattle.disk.specs.Crash.{MayLeave, ChangesOnly, may_leave_now, may_leave_synced, may_leave_written, put-inside, put-below, put-above, length-put}
 use Rattle.torn_block.specs.declared.layout.TheConstants.{BLOCK_LENGTH, BODY_LENGTH, COPY_LENGTH, TAIL_LENGTH}
 use Rattle.torn_block.specs.declared.block.Half.{Half}
 use Rattle.torn_block.specs.declared.block.Half.TheVariants.{First, Second}
@@ -13,7 +13,11 @@ use Rattle.torn_block.specs.declared.write_steps.WriteCall.TheVariants.{CloseGat
 use Rattle.torn_block.specs.Block.{is_open, sequence_of, body_of, other, copy_of, value_by, value_of, target_of, next_sequence}
 use Rattle.torn_block.specs.Place.{block_in, copy_in, offset_fits, other_same, tail_same, gate_same, elsewhere_same, nothing_same, length-copy_in, get_or-copy_in, length-tail_with, reads_sequence, reads_body}
 use Rattle.torn_block.specs.Writing.{closed_first, closed_second, opened_first, opened_second}
-use Rattle.torn_block.specs.Stage.{Write128, gate_of, closing, new_tail, call_of, next_call, old_value, new_value, MayBe, IsWritten, IsNow, Copies, IsDue, IsDone, Stands, IsPlaced, IsSettled, ReadsOldOrNew}
+use Rattle.disk.specs.Steps.{WritesOn, step_keeps}
+use Rattle.torn_block.specs.Place.{block_read}
+use Rattle.torn_block.specs.Register.{Reads, StandsFor, IsAtRest, LeavesBlock}
+use Rattle.torn_block.specs.RegisterLaws.{ranges}
+use Rattle.torn_block.specs.Stage.{Write128, gate_of, closing, new_tail, call_of, next_call, old_value, new_value, MayBe, IsWritten, IsNow, Copies, IsDue, IsDone, Stands, IsPlaced, IsSettled, in_writing}
 
 -- the value by the copy that is written and the other one
 abbrev value_with : Half → List ℕ → List ℕ → Option (ℕ × List ℕ)
@@ -73,7 +77,7 @@ now_may_be OpenGate w target now = now
 now_may_be SyncOpened w target now = now.1
 
 -- At every moment, and after a crash at any moment: the old value, or the new one.
-may_be_reads : (call : WriteCall) (w : Write128) (bytes : List ℕ) → length w.body ≡ BODY_LENGTH → next_sequence w.block < 2 ^ 64 → Copies w (MayBe call w) bytes → (value_of (block_in w.place bytes) ≡ old_value w) ⊎ (value_of (block_in w.place bytes) ≡ new_value w)
+may_be_reads : (call : WriteCall) (w : Write128) (bytes : List ℕ) → length w.body ≡ BODY_LENGTH → next_sequence w.block < 2 ^ 64 → Copies w (MayBe call w) bytes → Reads (in_writing w) (value_of (block_in w.place bytes))
 may_be_reads CloseGate w bytes long fits c = inl (reads_same w bytes c)
 may_be_reads SyncClosed w bytes long fits c =
     elim c.target [
@@ -86,11 +90,11 @@ may_be_reads OpenGate w bytes long fits c = inl (reads_closed w bytes (record { 
 may_be_reads SyncOpened w bytes long fits c =
     let target = copy_in (target_of w.block) w.place bytes in
     elim (either (is_open target)) [
-      | inl opened ↦ inr (reads_written w bytes long fits (record { kept = c.kept; target = (opened, c.target) }))
+      | inl opened ↦ inr (ap Some (reads_written w bytes long fits (record { kept = c.kept; target = (opened, c.target) })))
       | inr closed ↦ inl (reads_closed w bytes (record { kept = c.kept; target = closed }))
     ]
 
-pub due_reads : (call : WriteCall) (w : Write128) (disk : DiskState) → IsPlaced w disk → IsDue call w disk → ReadsOldOrNew w disk
+pub due_reads : (call : WriteCall) (w : Write128) (disk : DiskState) → IsPlaced w disk → IsDue call w disk → StandsFor w.place (in_writing w) disk
 due_reads call w disk placed due bytes left = may_be_reads call w bytes placed.body placed.fits (due.left bytes left)
 
 pub done_reads : (w : Write128) (disk : DiskState) → IsPlaced w disk → IsDone w disk → (bytes : List ℕ) → MayLeave disk bytes → value_of (block_in w.place bytes) ≡ new_value w
@@ -284,24 +288,24 @@ module _ (w : Write128) (disk : DiskState) (placed : IsPlaced w disk) where
   done_leads_on OpenGate boot new due step = subst (IsDue SyncOpened w) (sym step.2.1) (after_open due)
   done_leads_on SyncOpened boot new due step = subst (IsDone w) (sym step.2.1) (record { left = synced_left (IsWritten w) due.now })
 
-  reads_where : (call : WriteCall) (new : DiskState) → ((bytes : List ℕ) → MayLeave new bytes → Copies w (MayBe call w) bytes) → ReadsOldOrNew w new
+  reads_where : (call : WriteCall) (new : DiskState) → ((bytes : List ℕ) → MayLeave new bytes → Copies w (MayBe call w) bytes) → StandsFor w.place (in_writing w) new
   reads_where call new left bytes may = may_be_reads call w bytes placed.body placed.fits (left bytes may)
 
   -- the range of a torn write holds some bytes, of which there are as many
-  torn_reads : (call next : WriteCall) (at n : ℕ) (new : DiskState) → at + n ≤ length disk.bytes → ((old after : List ℕ) → w.place + BLOCK_LENGTH ≤ length old → ChangesOnly at n old after → Copies w (MayBe call w) old → Copies w (MayBe next w) after) → IsDue call w disk → Torn at n disk new → ReadsOldOrNew w new
+  torn_reads : (call next : WriteCall) (at n : ℕ) (new : DiskState) → at + n ≤ length disk.bytes → ((old after : List ℕ) → w.place + BLOCK_LENGTH ≤ length old → ChangesOnly at n old after → Copies w (MayBe call w) old → Copies w (MayBe next w) after) → IsDue call w disk → Torn at n disk new → StandsFor w.place (in_writing w) new
   torn_reads call next at n new within step due torn =
-      subst (ReadsOldOrNew w) (sym torn.leaves) (reads_where next (written disk at torn.left) (
+      subst (StandsFor w.place (in_writing w)) (sym torn.leaves) (reads_where next (written disk at torn.left) (
       left_by at torn.left (MayBe call w) (MayBe next w) (omega (arith, torn.as_many))
       (λ old after room changes c. step old after room (subst (λ (k : ℕ). ChangesOnly at k old after) torn.as_many changes) c) due.left))
 
   -- A call that fails, or a write that is torn, leaves the old value or the new one.
-  pub failure_reads : (call : WriteCall) (boot : ℕ) (new : DiskState) → IsDue call w disk → FailureLeaves (call_of call w boot) disk new → ReadsOldOrNew w new
+  pub failure_reads : (call : WriteCall) (boot : ℕ) (new : DiskState) → IsDue call w disk → FailureLeaves (call_of call w boot) disk new → StandsFor w.place (in_writing w) new
   failure_reads CloseGate boot new due torn = torn_reads CloseGate SyncClosed (gate_of w) (length (closing w)) new (omega (arith, gate_within, closing_short)) (λ old after room changes c. closes w old after room placed.block changes c) due torn
-  failure_reads SyncClosed boot new due same = subst (ReadsOldOrNew w) (sym same) (due_reads SyncClosed w disk placed due)
+  failure_reads SyncClosed boot new due same = subst (StandsFor w.place (in_writing w)) (sym same) (due_reads SyncClosed w disk placed due)
   failure_reads PutBody boot new due torn = torn_reads PutBody SyncBody (gate_of w + 1) (length (new_tail w)) new (omega (arith, gate_within, tail_long)) (λ old after room changes c. fills w old after room changes placed.body c) due torn
-  failure_reads SyncBody boot new due same = subst (ReadsOldOrNew w) (sym same) (due_reads SyncBody w disk placed due)
+  failure_reads SyncBody boot new due same = subst (StandsFor w.place (in_writing w)) (sym same) (due_reads SyncBody w disk placed due)
   failure_reads OpenGate boot new due torn = torn_reads OpenGate SyncOpened (gate_of w) 1 new (omega (arith, gate_within)) (λ old after room changes c. opens w old after room changes c) due torn
-  failure_reads SyncOpened boot new due same = subst (ReadsOldOrNew w) (sym same) (due_reads SyncOpened w disk placed due)
+  failure_reads SyncOpened boot new due same = subst (StandsFor w.place (in_writing w)) (sym same) (due_reads SyncOpened w disk placed due)
 
   -- A sync by anyone leaves the same call due.
   pub due_through_sync : (call : WriteCall) → IsDue call w disk → IsDue call w (synced disk)
@@ -323,6 +327,23 @@ module _ (w : Write128) (disk : DiskState) (placed : IsPlaced w disk) where
       let same = (λ (bytes : List ℕ) (left : MayLeave disk bytes). settled_copies w bytes (settled bytes left)) in
       record { now = same disk.bytes (may_leave_now disk); left = same }
 
--- After a crash the block reads as one of the two, and no other crash changes that.
-pub crash_keeps : (w : Write128) (old new : DiskState) → ReadsOldOrNew w old → Crashes old new → (bytes : List ℕ) → MayLeave new bytes → (bytes ≡ new.bytes) × ((value_of (block_in w.place new.bytes) ≡ old_value w) ⊎ (value_of (block_in w.place new.bytes) ≡ new_value w))
-crash_keeps w old new reads crash bytes left = (may_leave_crashed old new bytes crash left, reads new.bytes crash.bytes)
+  -- Any call that leaves the block, by anyone and whatever it answers, leaves the same call due.
+  pub due_elsewhere : (due_call : WriteCall) (call : Call) (answer : Answer) (new : DiskState) → WritesOn disk call → LeavesBlock w.place call → Step disk call answer new → IsDue due_call w disk → IsDue due_call w new
+  due_elsewhere due_call call answer new fits leaves step due =
+      step_keeps (IsDue due_call w) disk new call answer
+      (record {
+        writes =
+            λ boot at from left is as_many.
+            let range = ranges w.place disk placed.whole placed.within call answer new fits leaves step boot at from left is as_many in
+            due_through_write due_call at left range.0 range.1 due;
+        syncs = due_through_sync due_call due;
+        stays = due;
+      })
+      step
+
+-- What was read of a block at rest is settled.
+pub read_settles : (w : Write128) (disk new : DiskState) (boot at q len : ℕ) (bytes : List ℕ) → IsAtRest (at + q) disk → q + BLOCK_LENGTH ≤ len → at + len ≤ length disk.bytes → Step disk (Read boot at len) (Told bytes) new → w.place ≡ at + q → w.block ≡ block_in q bytes → IsSettled w new
+read_settles w disk new boot at q len bytes rests inside fits step is has left may =
+    let told : bytes ≡ slice_range disk.bytes at (at + len) = cc in
+    let before : MayLeave disk left = subst (λ (d : DiskState). MayLeave d left) step.2.1 may in
+    ap (λ (p : ℕ). block_in p left) is ∙ rests left before ∙ sym (block_read at q len disk.bytes inside fits) ∙ ap (block_in q) (sym told) ∙ sym has

@@ -1,7 +1,7 @@
-ghost use Rattle.std.specs.Prelude.{◌≡◌, ◌⊎◌, length, List, ℕ, Some, None, Contains};
+ghost use Rattle.std.specs.Prelude.{◌≡◌, length, Some, None};
 ghost use Rattle.torn_block.specs.Block;
-ghost use Rattle.torn_block.specs.Block.{sequence_of, body_of};
-ghost use Rattle.torn_block.specs.Written.{HoldsOnly, ChoosesOpen};
+ghost use Rattle.torn_block.specs.Block.{sequence_of, body_of, current_by};
+ghost use Rattle.torn_block.specs.Plan.{IsReading};
 
 use crate::layout::{BLOCK_LENGTH, BODY_LENGTH, COPY_LENGTH, HEADING_LENGTH};
 use byteorder::{BigEndian, ByteOrder};
@@ -37,8 +37,7 @@ pub struct Block128 {
 
 /// The block that these bytes are.
 pub fn read_block(bytes: &[u8; BLOCK_LENGTH]) -> Block128
-    ensures { (bodies : List (List ℕ)) → HoldsOnly bodies bytes.now →
-        (result.current ≡ None) ⊎ Contains bodies result.body.bytes }
+    ensures { IsReading bytes.now result }
 {
     block_in(bytes)
 }
@@ -46,8 +45,7 @@ pub fn read_block(bytes: &[u8; BLOCK_LENGTH]) -> Block128
 /// The block that these bytes, a part of a longer list, are.
 pub fn block_in(bytes: &[u8]) -> Block128
     requires { length bytes.now ≡ BLOCK_LENGTH }
-    ensures { (bodies : List (List ℕ)) → HoldsOnly bodies bytes.now →
-        (result.current ≡ None) ⊎ Contains bodies result.body.bytes }
+    ensures { IsReading bytes.now result }
 {
     let (first, second) = bytes.split_at(COPY_LENGTH);
     match current_in(first, second) {
@@ -109,7 +107,7 @@ pub fn sequence_in(copy: &[u8]) -> u64
 fn current_in(first: &[u8], second: &[u8]) -> Option<Half>
     requires first { length first.now ≡ COPY_LENGTH }
     requires second { length second.now ≡ COPY_LENGTH }
-    ensures { ChoosesOpen result first.now second.now }
+    ensures { result ≡ current_by first.now second.now }
 {
     match (is_open(first), is_open(second)) {
         (true, true) => {

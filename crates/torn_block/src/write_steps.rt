@@ -1,4 +1,4 @@
-ghost use Rattle.std.specs.Prelude.{◌≡◌, ◌+◌, ◌≤◌, ◌^◌, ◌∷◌, ◌↔◌, length, IfOk, IsOk};
+ghost use Rattle.std.specs.Prelude.{◌≡◌, ◌+◌, ◌≤◌, ◌^◌, ◌∷◌, ◌↔◌, length, IfOk, IsOk, IsTrue, None};
 ghost use Rattle.std.specs.Option.{option_map};
 ghost use Rattle.torn_block.specs.Block.{number_bytes, tail_with, next_sequence_at};
 ghost use Rattle.torn_block.specs.Plan.{told_value, plan_by, seen_need, LiesWithin, need_of, next_after};
@@ -108,6 +108,13 @@ impl WriteSteps {
                 Some(BlockNeed::Sync)
             }
         }
+    }
+
+    /// Whether all six calls succeeded.
+    pub fn is_done(&self) -> bool
+        ensures { IsTrue result ↔ (self.now.due ≡ None) }
+    {
+        self.due.is_none()
     }
 
     /// The call that was due succeeded.

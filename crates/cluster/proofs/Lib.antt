@@ -1,0 +1,4 @@
+pub mod Statuses
+pub mod Kept
+pub mod Ballots
+pub mod Turns

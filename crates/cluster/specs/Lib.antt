@@ -1,0 +1,3 @@
+pub mod Numbers
+pub mod Attempt
+pub mod OneDisk

@@ -1,0 +1,8 @@
+use Rattle.disk.specs.Steps.{shape_fresh, shape_keeps}
+use Rattle.disk.proofs.law.calls_keep_the_shape.Goals as goal
+
+pub returns-clause-fresh : goal.returns-clause-fresh
+returns-clause-fresh c = shape_fresh
+
+pub returns-clause-kept : goal.returns-clause-kept
+returns-clause-kept c = shape_keeps

@@ -1,0 +1,101 @@
+-- Each field of a spelling reads as what was spelled.
+use Rattle.std.proofs.Common.{◌≡◌, ◌≤◌, ◌<◌, ◌-◌, ◌^◌, ℕ, Bool, true, false, cond, not, ◌&&◌, ◌==◌, nat_le, List, ◌∷◌, ◌++◌, length, take, Option, Some, None, refl, sym, ap, ◌∙◌, arith}
+use Rattle.std.specs.Prelude.{replicate}
+use Rattle.std.proofs.Math.Seq.{take-append_seam}
+use Rattle.std.proofs.lemmas.Bool.{le-leb, lt-ltb}
+use Rattle.std.specs.Cmp.Derive.{both_true}
+use Rattle.byteorder.specs.Numbers.{big_number-reads_back}
+use Rattle.lock_modes.specs.declared.mode.Mode.{Mode}
+use Rattle.lock_modes.specs.declared.mode.Mode.TheVariants.{Null, ConcurrentRead, ConcurrentWrite, ProtectedRead, ProtectedWrite, Exclusive}
+use Rattle.lock_command.specs.declared.number.TheConstants.{HOSTS}
+use Rattle.lock_command.specs.declared.command.Command.{Command}
+use Rattle.lock_command.specs.declared.command.Action.{Action}
+use Rattle.lock_command.specs.declared.command.Action.TheVariants.{Enqueue, Convert, Release, Cancel, Status, Purge}
+use Rattle.lock_command.specs.Name.{IsName, padded}
+use Rattle.lock_command.specs.Command.{Fields, fields_of, number, spelled, spelling, mode_number, IsLock, FitsAction, Fits}
+use Rattle.lock_command.specs.Reading.{◌>>=◌, passed, lock_at, request_at, mode_of, name_of, name_at, enqueue_at, convert_at, action_at, command_at}
+
+passed_true : {A : Type 0} (test : Bool) (x : A) → test ≡ true → passed test x ≡ Some x
+passed_true test x h = ap (λ t. passed t x) h
+
+both_are : (a b : Bool) → (a && b) ≡ true → (a ≡ true) × (b ≡ true)
+both_are true b h = (refl, h)
+both_are false b h = cc
+
+-- what stands behind the lock number, and behind the request number
+abbrev behind_lock : ℕ → Fields → List ℕ
+behind_lock request f = number 8 request ++ (f.purged ∷ padded f.name)
+
+lock_at-spelled : (host client request : ℕ) (f : Fields) → IsLock f.lock → lock_at (spelled host client request f) ≡ Some f.lock
+unfolding lock_at number
+lock_at-spelled host client request f fits =
+    let bound : f.lock < 256 ^ 2 = omega (arith, fits.1) in
+    let least : nat_le 1 f.lock ≡ true = le-leb 1 f.lock fits.0 in
+    ap (λ n. passed (nat_le 1 n) n) (big_number-reads_back 2 f.lock (behind_lock request f) bound) ∙ passed_true _ f.lock least
+
+request_at-spelled : (host client request : ℕ) (f : Fields) → (1 ≤ request) × (request ≤ 2 ^ 62) → request_at (spelled host client request f) ≡ Some request
+unfolding request_at number
+request_at-spelled host client request f fits =
+    let bound : request < 256 ^ 8 = omega (arith, fits.1) in
+    let least : nat_le 1 request ≡ true = le-leb 1 request fits.0 in
+    let most : nat_le request (2 ^ 62) ≡ true = le-leb request (2 ^ 62) fits.1 in
+    ap (λ n. passed (nat_le 1 n && nat_le n (2 ^ 62)) n) (big_number-reads_back 8 request (f.purged ∷ padded f.name) bound)
+    ∙ passed_true _ request (both_true least most)
+
+name_at-spelled : (host client request : ℕ) (f : Fields) → IsName f.name → name_at (spelled host client request f) ≡ Some f.name
+unfolding name_at number
+name_at-spelled host client request f named =
+    let lengths = (both_are _ _ named).0 in
+    let few : nat_le (length f.name) 15 ≡ true = (both_are _ _ lengths).1 in
+    ap (λ t. cond t (name_of (take (length f.name) (padded f.name))) None) few
+    ∙ ap name_of (take-append_seam f.name (replicate (15 - length f.name) 0))
+    ∙ passed_true _ f.name named
+
+mode_of-mode_number : (mode : Mode) → mode_of (mode_number mode) ≡ Some mode
+unfolding mode_of
+mode_of-mode_number Null = refl
+mode_of-mode_number ConcurrentRead = refl
+mode_of-mode_number ConcurrentWrite = refl
+mode_of-mode_number ProtectedRead = refl
+mode_of-mode_number ProtectedWrite = refl
+mode_of-mode_number Exclusive = refl
+
+flag_again : (no_queue : Bool) → not (cond no_queue 1 0 == 0) ≡ no_queue
+flag_again true = refl
+flag_again false = refl
+
+action_at-spelled : (host client request : ℕ) (a : Action) → FitsAction a → action_at (spelled host client request (fields_of a)) ≡ Some a
+unfolding action_at enqueue_at convert_at number
+action_at-spelled host client request (Enqueue lock name mode no_queue) fits =
+    ap (λ (found : Option ℕ). found >>= λ l. name_at (spelled host client request (fields_of (Enqueue lock name mode no_queue))) >>= λ n. mode_of (mode_number mode) >>= λ m. Some (Enqueue l n m (not (cond no_queue 1 0 == 0)))) (lock_at-spelled host client request (fields_of (Enqueue lock name mode no_queue)) fits.0)
+    ∙ ap (λ (found : Option (List ℕ)). found >>= λ n. mode_of (mode_number mode) >>= λ m. Some (Enqueue lock n m (not (cond no_queue 1 0 == 0)))) (name_at-spelled host client request (fields_of (Enqueue lock name mode no_queue)) fits.1)
+    ∙ ap (λ (found : Option Mode). found >>= λ m. Some (Enqueue lock name m (not (cond no_queue 1 0 == 0)))) (mode_of-mode_number mode)
+    ∙ ap (λ flag. Some (Enqueue lock name mode flag)) (flag_again no_queue)
+action_at-spelled host client request (Convert lock mode no_queue) fits =
+    ap (λ (found : Option ℕ). found >>= λ l. mode_of (mode_number mode) >>= λ m. Some (Convert l m (not (cond no_queue 1 0 == 0)))) (lock_at-spelled host client request (fields_of (Convert lock mode no_queue)) fits)
+    ∙ ap (λ (found : Option Mode). found >>= λ m. Some (Convert lock m (not (cond no_queue 1 0 == 0)))) (mode_of-mode_number mode)
+    ∙ ap (λ flag. Some (Convert lock mode flag)) (flag_again no_queue)
+action_at-spelled host client request (Release lock) fits =
+    ap (λ (found : Option ℕ). found >>= λ l. Some (Release l)) (lock_at-spelled host client request (fields_of (Release lock)) fits)
+action_at-spelled host client request (Cancel lock) fits =
+    ap (λ (found : Option ℕ). found >>= λ l. Some (Cancel l)) (lock_at-spelled host client request (fields_of (Cancel lock)) fits)
+action_at-spelled host client request (Status lock) fits =
+    ap (λ (found : Option ℕ). found >>= λ l. Some (Status l)) (lock_at-spelled host client request (fields_of (Status lock)) fits)
+action_at-spelled host client request (Purge purged) fits =
+    ap (λ (found : Option ℕ). found >>= λ h. Some (Purge h)) (passed_true _ purged (lt-ltb purged HOSTS fits))
+
+-- a command that fits is read from its spelling
+pub command_at-spelling : (c : Command) → Fits c → command_at (spelling c) ≡ Some c
+unfolding command_at
+command_at-spelling c fits =
+    ap (λ (found : Option ℕ). found >>= λ h. request_at (spelling c) >>= λ r. action_at (spelling c) >>= λ a. Some (record { host = h; client = c.client; request = r; action = a })) (passed_true _ c.host (lt-ltb c.host HOSTS fits.host))
+    ∙ ap (λ (found : Option ℕ). found >>= λ r. action_at (spelling c) >>= λ a. Some (record { host = c.host; client = c.client; request = r; action = a })) (request_at-spelled c.host c.client c.request (fields_of c.action) fits.request)
+    ∙ ap (λ (found : Option Action). found >>= λ a. Some (record { host = c.host; client = c.client; request = c.request; action = a })) (action_at-spelled c.host c.client c.request c.action fits.action)
+
+-- the command that was read spells what another reading of the bytes spells
+pub spelled_again : (found : Option Command) (command d : Command) (value : List ℕ)
+    → found ≡ Some command → found ≡ Some d → value ≡ spelling d → value ≡ spelling command
+spelled_again found command d value one other given =
+    let some : Some command ≡ Some d = sym one ∙ other in
+    let same : command ≡ d = cc in
+    given ∙ ap spelling (sym same)

@@ -1,0 +1,89 @@
+-- What the fields of 32 bytes read as, each by itself. It says nothing of the bytes that no field of the kind reads.
+use Rattle.std.specs.Prelude.{ℕ, ◌==◌, ◌^◌, nat_lt, nat_le, Bool, ◌&&◌, not, List, take, drop, slice_index, Option, Some, None, if◌then◌else◌, bytes_eq}
+use Rattle.byteorder.specs.Endian.{big_number}
+use Rattle.lock_modes.specs.declared.mode.Mode.{Mode}
+use Rattle.lock_modes.specs.declared.mode.Mode.TheVariants.{Null, ConcurrentRead, ConcurrentWrite, ProtectedRead, ProtectedWrite, Exclusive}
+use Rattle.lock_command.specs.declared.number.TheConstants.{HOSTS}
+use Rattle.lock_command.specs.declared.command.Command.{Command}
+use Rattle.lock_command.specs.declared.command.Action.{Action}
+use Rattle.lock_command.specs.declared.command.Action.TheVariants.{Enqueue, Convert, Release, Cancel, Status, Purge}
+use Rattle.lock_command.specs.Name.{is_name}
+use Rattle.lock_command.specs.Command.{spelling}
+
+-- a reading, and what is read after it
+infixl 10 ◌>>=◌
+abbrev pub ◌>>=◌ : {A B : Type 0} → Option A → (A → Option B) → Option B
+(Some x) >>= f = f x
+None >>= f = None
+
+-- the value, where the test is passed
+abbrev pub passed : {A : Type 0} → Bool → A → Option A
+passed test x = if test then Some x else None
+
+abbrev pub host_of : ℕ → Option ℕ
+host_of n = passed (nat_lt n HOSTS) n
+
+unfoldable pub lock_at : List ℕ → Option ℕ
+lock_at bytes = let n = big_number 2 (drop 6 bytes) in passed (nat_le 1 n) n
+
+unfoldable pub request_at : List ℕ → Option ℕ
+request_at bytes = let n = big_number 8 (drop 8 bytes) in passed (nat_le 1 n && nat_le n (2 ^ 62)) n
+
+unfoldable pub mode_of : ℕ → Option Mode
+mode_of n =
+    if n == 0 then Some Null
+    else if n == 1 then Some ConcurrentRead
+    else if n == 2 then Some ConcurrentWrite
+    else if n == 3 then Some ProtectedRead
+    else if n == 4 then Some ProtectedWrite
+    else if n == 5 then Some Exclusive
+    else None
+
+abbrev pub name_of : List ℕ → Option (List ℕ)
+name_of bytes = passed (is_name bytes) bytes
+
+unfoldable pub name_at : List ℕ → Option (List ℕ)
+name_at bytes = let n = slice_index bytes 5 in if nat_le n 15 then name_of (take n (drop 17 bytes)) else None
+
+abbrev pub flag_at : List ℕ → Bool
+flag_at bytes = not (slice_index bytes 4 == 0)
+
+unfoldable pub enqueue_at : List ℕ → Option Action
+enqueue_at bytes = do
+  lock ← lock_at bytes
+  name ← name_at bytes
+  mode ← mode_of (slice_index bytes 3)
+  Some (Enqueue lock name mode (flag_at bytes))
+
+unfoldable pub convert_at : List ℕ → Option Action
+convert_at bytes = do
+  lock ← lock_at bytes
+  mode ← mode_of (slice_index bytes 3)
+  Some (Convert lock mode (flag_at bytes))
+
+unfoldable pub action_at : List ℕ → Option Action
+action_at bytes =
+    let kind = slice_index bytes 0 in
+    if kind == 1 then enqueue_at bytes
+    else if kind == 2 then convert_at bytes
+    else if kind == 3 then (do lock ← lock_at bytes; Some (Release lock))
+    else if kind == 4 then (do lock ← lock_at bytes; Some (Cancel lock))
+    else if kind == 5 then (do lock ← lock_at bytes; Some (Status lock))
+    else if kind == 6 then (do host ← host_of (slice_index bytes 16); Some (Purge host))
+    else None
+
+unfoldable pub command_at : List ℕ → Option Command
+command_at bytes = do
+  host ← host_of (slice_index bytes 1)
+  request ← request_at bytes
+  action ← action_at bytes
+  Some (record { host = host; client = slice_index bytes 2; request = request; action = action })
+
+-- the command, where these bytes are its spelling to the last of them
+abbrev pub checked : List ℕ → Option Command → Option Command
+checked bytes None = None
+checked bytes (Some c) = passed (bytes_eq (spelling c) bytes) c
+
+-- the command that the bytes spell, if they spell one
+abbrev pub decoded : List ℕ → Option Command
+decoded bytes = checked bytes (command_at bytes)

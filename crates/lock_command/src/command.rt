@@ -1,0 +1,38 @@
+use crate::name::LockName;
+use crate::number::{ClientNumber, HostNumber, LockNumber, RequestNumber};
+use lock_modes::Mode;
+
+/// What a client asks of the lock table, and through which host.
+#[derive(Clone, Copy, Debug)]
+pub struct Command {
+    pub host: HostNumber,
+    pub client: ClientNumber,
+    pub request: RequestNumber,
+    pub action: Action,
+}
+
+/// What is asked. With `no_queue` a lock that cannot be granted at once is refused in place of queued.
+#[derive(Clone, Copy, Debug)]
+pub enum Action {
+    /// Takes a lock of a new number on a name.
+    Enqueue {
+        lock: LockNumber,
+        name: LockName,
+        mode: Mode,
+        no_queue: bool,
+    },
+    /// Changes the mode that a lock holds.
+    Convert {
+        lock: LockNumber,
+        mode: Mode,
+        no_queue: bool,
+    },
+    /// Gives a lock up, in whatever state it is.
+    Release(LockNumber),
+    /// Takes back what a lock wants and has not got.
+    Cancel(LockNumber),
+    /// Asks what any client's lock holds and wants.
+    Status(LockNumber),
+    /// Takes away all locks that were enqueued through the host.
+    Purge(HostNumber),
+}

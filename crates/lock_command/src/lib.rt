@@ -1,0 +1,17 @@
+//! The commands of the lock table, and the one spelling in 32 bytes that each of them has.
+#![tactic(auto)]
+
+mod command;
+mod name;
+mod number;
+mod reading;
+mod spelling;
+
+pub use command::{Action, Command};
+pub use name::LockName;
+pub use number::{ClientNumber, HOSTS, HostNumber, LockNumber, RequestNumber};
+pub use reading::decode;
+pub use spelling::Value;
+
+#[cfg(test)]
+mod tests;

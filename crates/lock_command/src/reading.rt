@@ -1,0 +1,131 @@
+ghost use Rattle.std.specs.Prelude.{bytes_eq, ◌≡◌, ◌↔◌, slice_index, IfSome, IsTrue};
+ghost use Rattle.lock_command.specs.Command.{spelling, Fits as FitsCommand};
+ghost use Rattle.lock_command.specs.Reading.{host_of, lock_at, request_at, mode_of, name_at, enqueue_at, convert_at, action_at, command_at, decoded};
+
+use crate::command::{Action, Command};
+use crate::name::LockName;
+use crate::number::{ClientNumber, HostNumber, LockNumber, RequestNumber};
+use crate::spelling::Value;
+use byteorder::{BigEndian, ByteOrder};
+use lock_modes::Mode;
+
+fn host_of(byte: u8) -> Option<HostNumber>
+    ensures { result ≡ host_of byte }
+{
+    HostNumber::new(byte)
+}
+
+#[tactic(auto, unfolding(crate::specs::Reading::lock_at))]
+fn lock_at(value: &Value) -> Option<LockNumber>
+    ensures { result ≡ lock_at value.now }
+{
+    LockNumber::new(BigEndian::read_u16(&value[6..]))
+}
+
+#[tactic(auto, unfolding(crate::specs::Reading::request_at))]
+fn request_at(value: &Value) -> Option<RequestNumber>
+    ensures { result ≡ request_at value.now }
+{
+    RequestNumber::new(BigEndian::read_u64(&value[8..]))
+}
+
+#[tactic(auto, unfolding(crate::specs::Reading::mode_of))]
+fn mode_of(byte: u8) -> Option<Mode>
+    ensures { result ≡ mode_of byte }
+{
+    match byte {
+        0 => Some(Mode::Null),
+        1 => Some(Mode::ConcurrentRead),
+        2 => Some(Mode::ConcurrentWrite),
+        3 => Some(Mode::ProtectedRead),
+        4 => Some(Mode::ProtectedWrite),
+        5 => Some(Mode::Exclusive),
+        _ => None,
+    }
+}
+
+#[tactic(auto, unfolding(crate::specs::Reading::name_at))]
+fn name_at(value: &Value) -> Option<LockName>
+    ensures { result ≡ name_at value.now }
+{
+    let len = value[5] as usize;
+    if len > LockName::LONGEST {
+        return None;
+    }
+    LockName::new(&value[17..17 + len])
+}
+
+#[tactic(auto, unfolding(crate::specs::Reading::enqueue_at))]
+fn enqueue_at(value: &Value) -> Option<Action>
+    ensures { result ≡ enqueue_at value.now }
+{
+    Some(Action::Enqueue {
+        lock: lock_at(value)?,
+        name: name_at(value)?,
+        mode: mode_of(value[3])?,
+        no_queue: value[4] != 0,
+    })
+}
+
+#[tactic(auto, unfolding(crate::specs::Reading::convert_at))]
+fn convert_at(value: &Value) -> Option<Action>
+    ensures { result ≡ convert_at value.now }
+{
+    Some(Action::Convert {
+        lock: lock_at(value)?,
+        mode: mode_of(value[3])?,
+        no_queue: value[4] != 0,
+    })
+}
+
+#[tactic(auto, unfolding(crate::specs::Reading::action_at))]
+fn action_at(value: &Value) -> Option<Action>
+    ensures { result ≡ action_at value.now }
+{
+    match value[0] {
+        1 => enqueue_at(value),
+        2 => convert_at(value),
+        3 => Some(Action::Release(lock_at(value)?)),
+        4 => Some(Action::Cancel(lock_at(value)?)),
+        5 => Some(Action::Status(lock_at(value)?)),
+        6 => Some(Action::Purge(host_of(value[16])?)),
+        _ => None,
+    }
+}
+
+#[tactic(auto, unfolding(crate::specs::Reading::command_at))]
+fn command_at(value: &Value) -> Option<Command>
+    ensures { result ≡ command_at value.now }
+{
+    Some(Command {
+        host: host_of(value[1])?,
+        client: ClientNumber::new(value[2]),
+        request: request_at(value)?,
+        action: action_at(value)?,
+    })
+}
+
+/// Whether the bytes are the command's spelling, to the last of them.
+fn is_spelled(command: &Command, value: &Value) -> bool
+    ensures same { IsTrue result ↔ (value.now ≡ spelling command.now) }
+    ensures exact { result ≡ bytes_eq (spelling command.now) value.now }
+{
+    command.encode() == *value
+}
+
+/// The command that the bytes spell, if they are the one spelling of a command.
+pub fn decode(value: &Value) -> Option<Command>
+    ensures found { IfSome result (λ c. FitsCommand c) }
+    ensures spelled { IfSome result (λ c. value.now ≡ spelling c) }
+    ensures only { (c : Command) → FitsCommand c → value.now ≡ spelling c → result ≡ Some c }
+    // The same as a function, for layers whose definitions compute.
+    ensures exact { result ≡ decoded value.now }
+{
+    let command = command_at(value)?;
+    // Bytes that no field of the kind reads, and flags above 1, are told by spelling the command again.
+    if is_spelled(&command, value) {
+        Some(command)
+    } else {
+        None
+    }
+}

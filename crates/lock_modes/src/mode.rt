@@ -1,0 +1,49 @@
+ghost use Rattle.std.specs.Prelude.{◌≡◌, not};
+ghost use Rattle.lock_modes.specs.Mode.{conflict};
+
+/// What a lock permits its holder, and what it keeps others from. The modes are those of the OpenVMS lock manager.
+#[derive(Clone, Copy, Debug, PartialEq, Eq)]
+pub enum Mode {
+    /// Permits nothing and keeps nobody out: a place in the table from which to convert.
+    Null,
+    /// Reads, while others read and write.
+    ConcurrentRead,
+    /// Writes, while others write too.
+    ConcurrentWrite,
+    /// Reads, while nobody writes.
+    ProtectedRead,
+    /// Writes, while nobody else does.
+    ProtectedWrite,
+    /// Keeps everybody else out.
+    Exclusive,
+}
+
+/// One row for each mode that is held, and in it one answer for each mode that is wanted, in the order of `Mode`.
+macro_rules! compatibility {
+    ($a:expr, $b:expr; $($held:ident: $null:literal $cr:literal $cw:literal $pr:literal $pw:literal $ex:literal;)*) => {
+        match $a {
+            $(Mode::$held => match $b {
+                Mode::Null => $null,
+                Mode::ConcurrentRead => $cr,
+                Mode::ConcurrentWrite => $cw,
+                Mode::ProtectedRead => $pr,
+                Mode::ProtectedWrite => $pw,
+                Mode::Exclusive => $ex,
+            },)*
+        }
+    };
+}
+
+/// Whether two locks of one name may hold these modes at once.
+pub fn compatible(a: Mode, b: Mode) -> bool
+    ensures no_conflict { result ≡ not (conflict a b) }
+{
+    compatibility! { a, b;
+        Null: true true true true true true;
+        ConcurrentRead: true true true true true false;
+        ConcurrentWrite: true true true false false false;
+        ProtectedRead: true true false true false false;
+        ProtectedWrite: true true false false false false;
+        Exclusive: true false false false false false;
+    }
+}

@@ -1,0 +1,4 @@
+pub mod HeaderLemmas
+pub mod PlaceLemmas
+pub mod RowLemmas
+pub mod SayingLemmas

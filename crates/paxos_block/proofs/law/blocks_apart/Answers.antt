@@ -1,0 +1,26 @@
+use Rattle.paxos_block.proofs.PlaceLemmas as lemmas
+use Rattle.paxos_block.proofs.law.blocks_apart.Goals as goal
+
+pub returns-clause-others : goal.returns-clause-others
+returns-clause-others c =
+    λ slots mine other disk new call answer r is_mine is_other differ image within step holds.
+    lemmas.others_hold slots mine is_mine disk image other is_other differ call answer new r within step holds
+
+pub returns-clause-image : goal.returns-clause-image
+returns-clause-image c =
+    λ slots mine disk new call answer is_mine image within step.
+    lemmas.stays_image slots mine is_mine disk image call answer new within step
+
+pub returns-clause-shown : goal.returns-clause-shown
+returns-clause-shown c = λ disk slot host r row below holds is. lemmas.shown disk slot host r row below holds is
+
+pub returns-clause-due : goal.returns-clause-due
+returns-clause-due c =
+    λ slots mine other w due_call disk new call answer is_mine is_other differ at_other image placed within step due.
+    lemmas.others_stay_due slots mine is_mine disk image other is_other differ w due_call call answer new at_other placed within step due
+
+pub returns-clause-told : goal.returns-clause-told
+returns-clause-told c = lemmas.told
+
+pub returns-clause-placed : goal.returns-clause-placed
+returns-clause-placed c = lemmas.placed

@@ -1,0 +1,14 @@
+use Rattle.paxos_block.proofs.SayingLemmas.{claims_back}
+use Rattle.paxos_block.proofs.RowLemmas.{sound_says}
+use Rattle.paxos_block.specs.Row.{IsSound, is_sound}
+use Rattle.torn_block.specs.DamageLaws.{sound_is_not_damaged}
+use Rattle.paxos_block.proofs.law.blocks_say.Goals as goal
+
+pub returns-clause-written : goal.returns-clause-written
+returns-clause-written c = λ host sequence says may. claims_back says host may
+
+pub returns-clause-sound : goal.returns-clause-sound
+returns-clause-sound c = λ host block long sound. sound_says host block long sound
+
+pub returns-clause-not_both : goal.returns-clause-not_both
+returns-clause-not_both c = λ host block sound damaged. sound_is_not_damaged (IsSound host) (is_sound host) block sound damaged

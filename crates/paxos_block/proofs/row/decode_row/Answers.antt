@@ -1,0 +1,65 @@
+use Rattle.std.proofs.Common.{rules, ◌≡◌, ◌<◌, ◌+◌, ◌∙◌, ℕ, List, ◌∷◌, length, sym, subst, arith, refl, zero, suc, inl, inr, get_or, set}
+use Rattle.std.proofs.lemmas.List.{get_or-set_same, get_or-set_other, length-set}
+use Rattle.std.proofs.lemmas.Bool.{cases_lt}
+use Rattle.paxos_block.specs.declared.cell.Cell.{Cell}
+use Rattle.paxos_block.specs.Row.{IsCell, IsSound, is_sound}
+use Rattle.torn_block.specs.Damage.{block_of}
+use Rattle.torn_block.specs.DamageLaws.{sound_is_not_damaged}
+use Rattle.paxos_block.proofs.RowLemmas.{damaged_row, row_is_said, row_is_not_unsaid}
+use Rattle.paxos_block.proofs.row.decode_row.Invariants.{Cells}
+use Rattle.paxos_block.proofs.row.decode_row.Goals as goal
+
+first_done : (bytes : List ℕ) (first : Cell) (rest : List Cell) → IsCell 0 (block_of 0 bytes) first → length rest ≡ 7 → Cells bytes (first ∷ rest) 1
+first_done bytes first rest is long = record { count = omega arith; done = by_index }
+  where
+    by_index : (k : ℕ) → k < 1 → (d : Cell) → IsCell k (block_of k bytes) (get_or (first ∷ rest) k d)
+    by_index zero below d = is
+    by_index (suc k) below d = absurd (omega arith)
+
+next_done : (bytes : List ℕ) (cells : List Cell) (host : ℕ) (cell : Cell) → Cells bytes cells host → host < 8 → IsCell host (block_of host bytes) cell → Cells bytes (set cells host cell) (host + 1)
+next_done bytes cells host cell sofar below is =
+    record {
+      count = length-set cells host cell ∙ sofar.count;
+      done =
+          λ k under d.
+          elim (cases_lt k host) [
+            | inl lt ↦ subst (IsCell k (block_of k bytes)) (sym (get_or-set_other cells host k cell d (λ same. absurd (omega arith)))) (sofar.done k lt d)
+            | inr ge ↦
+                (let same : host ≡ k = omega arith in
+                subst (λ (j : ℕ). IsCell j (block_of j bytes) (get_or (set cells host cell) j d)) same (subst (IsCell host (block_of host bytes)) (sym (get_or-set_same cells host cell d (omega (arith, sofar.count)))) is))
+          ];
+    }
+
+pub loop-host-init : goal.loop-host-init
+loop-host-init c = first_done c.args.bytes.now c.in_ok-cells.field-0 _ c.in_ok-cells.ensures.cell refl
+
+pub loop-host-preserved : goal.loop-host-preserved
+loop-host-preserved c = next_done c.args.bytes.now c.loop-host.cells c.loop-host.host c.in_ok-cells-2.field-0 c.loop-host.invariant (omega arith) c.in_ok-cells-2.ensures.cell
+
+pub returns-clause-row : goal.returns-clause-row
+returns-clause-row c = λ host below. c.loop-host.invariant.done host (omega arith)
+
+pub returns-clause-damaged : goal.returns-clause-damaged
+returns-clause-damaged c = (
+  (λ t. absurd cc),
+  (λ damage.
+      absurd (sound_is_not_damaged (IsSound damage.0) (is_sound damage.0) (block_of damage.0 c.args.bytes.now) (c.loop-host.invariant.done damage.0 (let below = damage.1 in omega arith) c.in_ok-cells.field-0).sound damage.2)),
+)
+
+pub returns-in_err-cells-clause-unsaid : goal.returns-in_err-cells-clause-unsaid
+returns-in_err-cells-clause-unsaid c =
+    let none = damaged_row c.args.bytes.now c.told-bytes (λ i. omega (arith, c.fits-bytes i)) (0, omega arith, c.in_err-cells.ensures.damaged) in
+    ((λ t. none), (λ is. search rules))
+
+pub returns-in_err-cells-2-clause-unsaid : goal.returns-in_err-cells-2-clause-unsaid
+returns-in_err-cells-2-clause-unsaid c =
+    let none = damaged_row c.args.bytes.now c.told-bytes (λ i. omega (arith, c.fits-bytes i)) (c.loop-host.host, omega arith, c.in_err-cells-2.ensures.damaged) in
+    ((λ t. none), (λ is. search rules))
+
+pub returns-clause-unsaid : goal.returns-clause-unsaid
+returns-clause-unsaid c =
+    ((λ t. absurd cc), (λ none. absurd (row_is_not_unsaid c.args.bytes.now c.told-bytes (record { cells = c.loop-host.cells }) (λ host below. c.loop-host.invariant.done host (omega arith)) c.in_ok-cells.field-0 none)))
+
+pub returns-clause-said : goal.returns-clause-said
+returns-clause-said c =
+    row_is_said c.args.bytes.now c.told-bytes (record { cells = c.loop-host.cells }) (λ host below. c.loop-host.invariant.done host (omega arith)) c.in_ok-cells.field-0

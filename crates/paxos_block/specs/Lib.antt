@@ -1,0 +1,5 @@
+pub mod Ballot
+pub mod Headers
+pub mod Places
+pub mod Row
+pub mod Saying

@@ -1,0 +1,52 @@
+ghost use Rattle.std.specs.Prelude.{◌≡◌, ◌↔◌, IsTrue};
+ghost use Rattle.paxos_block.specs.Ballot;
+ghost use Rattle.paxos_block.specs.Ballot.{IsBallotOf};
+
+use torn_block::HOSTS;
+
+/// The greatest ballot. The least is 1, and 0 stands for none.
+pub const LAST_BALLOT: u64 = 1 << 62;
+
+/// Whether this is a ballot of this host's. The hosts own the ballots in turn, host 0 the first.
+pub fn is_ballot_of(host: u8, ballot: u64) -> bool
+    ensures owned { IsTrue result ↔ IsBallotOf host ballot }
+    ensures test { result ≡ Ballot.is_ballot_of host ballot }
+{
+    owns(host, ballot)
+}
+
+fn owns(host: u8, ballot: u64) -> bool
+    ensures { result ≡ Ballot.is_ballot_of host ballot }
+{
+    1 <= ballot && ballot <= LAST_BALLOT && (ballot - 1) % HOSTS as u64 == host as u64
+}
+
+/// How many of so many disks are a majority.
+pub fn majority(disks: u8) -> u8
+    ensures { result ≡ Ballot.majority disks }
+{
+    disks / 2 + 1
+}
+
+#[cfg(test)]
+mod tests {
+    use super::*;
+
+    #[test]
+    fn owners(rt: HostRuntime) {
+        for (ballot, host) in [(1, 0), (2, 1), (8, 7), (9, 0), (LAST_BALLOT, 7)] {
+            for other in 0..8 {
+                assert_eq!(rt; is_ballot_of(other, ballot), other == host, "{ballot}");
+            }
+        }
+        assert!(rt; !is_ballot_of(7, 0));
+        assert!(rt; !is_ballot_of(0, LAST_BALLOT + 1));
+    }
+
+    #[test]
+    fn majorities(rt: HostRuntime) {
+        for (disks, enough) in [(1, 1), (2, 2), (3, 2), (4, 3), (5, 3), (6, 4), (7, 4)] {
+            assert_eq!(rt; majority(disks), enough);
+        }
+    }
+}

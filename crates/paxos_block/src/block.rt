@@ -1,0 +1,187 @@
+ghost use Rattle.std.specs.Prelude.{◌≡◌, ◌≢◌, ◌↔◌, ◌++◌, Bool, IsTrue, length, Some, IfSome, MatchOption, option_copied};
+ghost use Rattle.paxos_block.specs.Ballot;
+ghost use Rattle.paxos_block.specs.Saying;
+ghost use Rattle.paxos_block.specs.Saying.{MaySay, body_saying, claim_of, said_by, heading, value_bytes};
+
+use crate::ballot::is_ballot_of;
+use crate::number::{NUMBER_LENGTH, is_zero, number_in, put_number};
+use torn_block::{BODY_LENGTH, Body, HEADING_LENGTH, VALUE_LENGTH, VERSION};
+
+/// The bytes of a body behind its heading: two ballots and an input.
+pub const VOTE_LENGTH: usize = BODY_LENGTH - HEADING_LENGTH;
+
+// The two ballots of a body.
+const BALLOTS_LENGTH: usize = 2 * NUMBER_LENGTH;
+
+// The bytes in front of the ballots, with an input and without one.
+const VOTED: [u8; HEADING_LENGTH] = [VERSION, 1, 0, 0, 0, 0, 0];
+
+const BLANK: [u8; HEADING_LENGTH] = [VERSION, 0, 0, 0, 0, 0, 0];
+
+/// An input: a command, spelled in bytes that are not looked at here.
+pub type Value = [u8; VALUE_LENGTH];
+
+/// What a host's block says of a slot, by the names of Gafni and Lamport, "Disk Paxos" (2003).
+#[derive(Clone, Copy, Debug, PartialEq, Eq)]
+pub struct PBlock {
+    /// The host's latest ballot; 0 in a blank block.
+    pub mbal: u64,
+    /// Its latest ballot that came to a vote; 0 where none did.
+    pub bal: u64,
+    /// What it voted for then.
+    pub inp: Option<Value>,
+}
+
+impl PBlock {
+    /// What a blank block says. No copy is spelled so.
+    pub const BLANK: PBlock = PBlock {
+        mbal: 0,
+        bal: 0,
+        inp: None,
+    };
+}
+
+/// The body of a copy that says this, which the host may say by `may_say`.
+pub fn encode(host: u8, block: &PBlock) -> Body
+    requires { MaySay host block.now }
+    ensures { result.bytes ≡ body_saying block.now }
+{
+    let mut bytes = [0; BODY_LENGTH];
+    put_block(&mut bytes, block);
+    Body { bytes }
+}
+
+fn put_block(bytes: &mut [u8], block: &PBlock)
+    requires { length bytes.old ≡ BODY_LENGTH }
+    ensures { bytes.new ≡ body_saying block.now }
+{
+    let (front, back) = bytes.split_at_mut(HEADING_LENGTH);
+    let (mbal, rest) = back.split_at_mut(NUMBER_LENGTH);
+    let (bal, value) = rest.split_at_mut(NUMBER_LENGTH);
+    front.copy_from_slice(if block.inp.is_some() { &VOTED } else { &BLANK });
+    put_number(mbal, block.mbal);
+    put_number(bal, block.bal);
+    put_value(value, block.inp.as_ref());
+}
+
+fn put_value(bytes: &mut [u8], inp: Option<&Value>)
+    requires { length bytes.old ≡ VALUE_LENGTH }
+    ensures { bytes.new ≡ value_bytes (option_copied inp.entry) }
+{
+    match inp {
+        Some(value) => bytes.copy_from_slice(value),
+        None => bytes.fill(0),
+    }
+}
+
+/// What a body says in a host's block. None where it is no spelling of what the host may say.
+pub fn decode(host: u8, body: &Body) -> Option<PBlock>
+    // What is found is spelled so, and the host may say it.
+    ensures found { IfSome result (λ says. MaySay host says × (body.now.bytes ≡ body_saying says)) }
+    // What is spelled so, and the host may say, is found.
+    ensures only { (says : PBlock) → MaySay host says → body.now.bytes ≡ body_saying says →
+        result ≡ Some says }
+    // The same as one function of the bytes.
+    ensures exact { result ≡ said_by host body.now.bytes }
+{
+    let (front, back) = body.bytes.split_at(HEADING_LENGTH);
+    said(host, front, back)
+}
+
+// The same of a body in two parts.
+fn said(host: u8, front: &[u8], back: &[u8]) -> Option<PBlock>
+    requires front { length front.now ≡ HEADING_LENGTH }
+    requires back { length back.now ≡ VOTE_LENGTH }
+    ensures { result ≡ said_by host (front.now ++ back.now) }
+{
+    if is_said(host, front, back) {
+        Some(claim(front, back))
+    } else {
+        None
+    }
+}
+
+// Whether a body in two parts says anything.
+pub(crate) fn is_said(host: u8, front: &[u8], back: &[u8]) -> bool
+    requires front { length front.now ≡ HEADING_LENGTH }
+    requires back { length back.now ≡ VOTE_LENGTH }
+    ensures { result ≡ Saying.is_said host (front.now ++ back.now) }
+{
+    match flag_in(front) {
+        None => false,
+        Some(true) => may_promise(
+            host,
+            number_in(back),
+            number_in(&back[NUMBER_LENGTH..]),
+            true,
+        ),
+        Some(false) => {
+            is_zero(&back[BALLOTS_LENGTH..])
+                && may_promise(
+                    host,
+                    number_in(back),
+                    number_in(&back[NUMBER_LENGTH..]),
+                    false,
+                )
+        }
+    }
+}
+
+// What it then says.
+pub(crate) fn claim(front: &[u8], back: &[u8]) -> PBlock
+    requires front { length front.now ≡ HEADING_LENGTH }
+    requires back { length back.now ≡ VOTE_LENGTH }
+    ensures { result ≡ claim_of (front.now ++ back.now) }
+{
+    PBlock {
+        mbal: number_in(back),
+        bal: number_in(&back[NUMBER_LENGTH..]),
+        inp: if front[1] == 1 {
+            Some(value_in(&back[BALLOTS_LENGTH..]))
+        } else {
+            None
+        },
+    }
+}
+
+fn value_in(bytes: &[u8]) -> Value
+    requires { length bytes.now ≡ VALUE_LENGTH }
+    ensures { result ≡ bytes.now }
+{
+    let mut value = [0; VALUE_LENGTH];
+    value.copy_from_slice(bytes);
+    value
+}
+
+// Whether there is an input, by a body's heading. None where that is no heading.
+fn flag_in(front: &[u8]) -> Option<bool>
+    ensures { MatchOption result
+        ((voted : Bool) → front.now ≢ heading voted)
+        (λ voted. front.now ≡ heading voted) }
+{
+    if front == VOTED.as_slice() {
+        Some(true)
+    } else if front == BLANK.as_slice() {
+        Some(false)
+    } else {
+        None
+    }
+}
+
+/// Whether a host may write this in a block of its own.
+pub fn may_say(host: u8, block: &PBlock) -> bool
+    ensures { IsTrue result ↔ MaySay host block.now }
+{
+    may_promise(host, block.mbal, block.bal, block.inp.is_some())
+}
+
+fn may_promise(host: u8, mbal: u64, bal: u64, voted: bool) -> bool
+    ensures { result ≡ Ballot.may_promise host mbal bal voted }
+{
+    is_ballot_of(host, mbal)
+        && if voted {
+            is_ballot_of(host, bal) && bal <= mbal
+        } else {
+            bal == 0
+        }
+}

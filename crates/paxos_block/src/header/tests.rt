@@ -1,0 +1,52 @@
+// A known header, each fault once, and an image that ends before its header does.
+use super::*;
+use crate::place::{beat_place, block_place, row_place};
+
+const OF_DISK_1: [u8; ZEROS_AT] = [0xa5, 1, 1, 3, 0, 0, 0, 0x10, 0, 0, 0, 0, 0, 0, 0, 7];
+
+const LENGTH: u64 = 18_432;
+
+#[test]
+fn header_of_disk_1(rt: HostRuntime) {
+    let header = Header {
+        disk: 1,
+        disks: 3,
+        slots: 16,
+        cluster: 7,
+    };
+    let mut bytes = [0; HEADER_LENGTH];
+    bytes[..ZEROS_AT].copy_from_slice(&OF_DISK_1);
+    assert!(rt; is_header(&header));
+    assert_eq!(rt; encode_header(&header).as_slice(), bytes.as_slice());
+    assert_eq!(rt; decode_header(1, LENGTH, &bytes), Ok(header));
+    let wrong = Err(ImageFault::WrongHeader);
+    assert_eq!(rt; decode_header(2, LENGTH, &bytes), wrong);
+    assert_eq!(rt; decode_header(1, LENGTH - 1024, &bytes), wrong);
+    for (at, byte) in [
+        (1usize, 2u8),
+        (3, 1),
+        (3, 8),
+        (5, 1),
+        (7, 0),
+        (16, 1),
+        (1023, 1),
+    ] {
+        let mut other = bytes;
+        other[at] = byte;
+        assert_eq!(rt; decode_header(1, LENGTH, &other), wrong, "{at}, {byte}");
+    }
+    bytes[0] = 0;
+    assert_eq!(rt;
+        decode_header(1, LENGTH, &bytes),
+        Err(ImageFault::NotFormatted)
+    );
+    assert_eq!(rt; decode_header(1, 1000, &bytes), wrong);
+}
+
+#[test]
+fn places(rt: HostRuntime) {
+    assert_eq!(rt; image_length(16), LENGTH);
+    assert_eq!(rt; row_place(0), 2048);
+    assert_eq!(rt; block_place(3, 2), 2048 + 3 * 1024 + 2 * 128);
+    assert_eq!(rt; beat_place(1), 1152);
+}

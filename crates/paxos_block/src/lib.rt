@@ -1,0 +1,21 @@
+//! Blocks of Disk Paxos, the rows of a slot and the headers of images, as bytes of a disk and back.
+#![tactic(auto)]
+
+mod ballot;
+mod block;
+mod cell;
+mod damaged;
+mod header;
+mod law;
+mod number;
+mod place;
+mod row;
+
+pub use ballot::{LAST_BALLOT, is_ballot_of, majority};
+pub use block::{PBlock, VOTE_LENGTH, Value, decode, encode, may_say};
+pub use cell::Cell;
+pub use damaged::Damaged;
+pub use header::{GATE, Header, decode_header, encode_header, is_header};
+pub use law::{ballots_and_majorities, blocks_apart, blocks_say, rows_say};
+pub use place::{AREA_PLACE, beat_place, block_place, image_length, row_place};
+pub use row::{Row, decode_row};

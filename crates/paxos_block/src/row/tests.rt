@@ -1,0 +1,155 @@
+// The bytes of known copies, and sound copies with a byte changed.
+ghost use Rattle.std.specs.Prelude.{◌≤◌, ◌+◌};
+
+use super::*;
+use crate::block::{PBlock, Value, decode, encode, may_say};
+use std::test::Fail;
+use torn_block::{BODY_LENGTH, Body, COPY_LENGTH, HEADING_LENGTH, Half};
+
+// The command `enqueue 1 1 1 EX db` of host 0.
+const COMMAND: Value = [
+    0x01, 0x00, 0x01, 0x05, 0x00, 0x02, 0x00, 0x01, 0, 0, 0, 0, 0, 0, 0, 1, 0, 0x64, 0x62, 0, 0, 0,
+    0, 0, 0, 0, 0, 0, 0, 0, 0, 0,
+];
+
+// Host 0 promised ballot 1, under sequence number 1.
+const PROMISE: [u8; COPY_LENGTH] = [
+    0xa5, 1, 0, 0, 0, 0, 0, 0, 0, 0, 0, 0, 0, 0, 0, 1, 0, 0, 0, 0, 0, 0, 0, 1, 0, 0, 0, 0, 0, 0, 0,
+    0, 0, 0, 0, 0, 0, 0, 0, 0, 0, 0, 0, 0, 0, 0, 0, 0, 0, 0, 0, 0, 0, 0, 0, 0, 0, 0, 0, 0, 0, 0, 0,
+    0,
+];
+
+// It voted for the command at ballot 1, under sequence number 2.
+const VOTE: [u8; COPY_LENGTH] = [
+    0xa5, 1, 1, 0, 0, 0, 0, 0, 0, 0, 0, 0, 0, 0, 0, 2, 0, 0, 0, 0, 0, 0, 0, 1, 0, 0, 0, 0, 0, 0, 0,
+    1, 1, 0, 1, 5, 0, 2, 0, 1, 0, 0, 0, 0, 0, 0, 0, 1, 0, 0x64, 0x62, 0, 0, 0, 0, 0, 0, 0, 0, 0, 0,
+    0, 0, 0,
+];
+
+// A row whose host 0 has these two copies.
+fn row_with(first: &[u8; COPY_LENGTH], second: &[u8; COPY_LENGTH]) -> [u8; ROW_LENGTH] {
+    let mut row = [0; ROW_LENGTH];
+    row[..COPY_LENGTH].copy_from_slice(first);
+    row[COPY_LENGTH..BLOCK_LENGTH].copy_from_slice(second);
+    row
+}
+
+// The body of a copy: all but its gate and its sequence number.
+fn body_in(copy: &[u8; COPY_LENGTH]) -> Body {
+    let mut bytes = [0; BODY_LENGTH];
+    bytes[..HEADING_LENGTH].copy_from_slice(&copy[1..8]);
+    bytes[HEADING_LENGTH..].copy_from_slice(&copy[16..]);
+    Body { bytes }
+}
+
+#[test]
+fn both_copies(rt: HostRuntime) -> Result<(), Fail> {
+    let promised = PBlock {
+        mbal: 1,
+        bal: 0,
+        inp: None,
+    };
+    let voted = PBlock {
+        mbal: 1,
+        bal: 1,
+        inp: Some(COMMAND),
+    };
+    for (copy, says) in [(PROMISE, promised), (VOTE, voted)] {
+        assert!(rt; may_say(0, &says));
+        assert_eq!(rt; decode(0, &body_in(&copy)), Some(says));
+        assert_eq!(rt; decode(1, &body_in(&copy)), None);
+    }
+    assert_eq!(rt; encode(0, &promised), body_in(&PROMISE));
+    assert_eq!(rt; encode(0, &voted), body_in(&VOTE));
+    let row = decode_row(&row_with(&PROMISE, &[0; COPY_LENGTH]))?;
+    assert_eq!(rt; row.cells[0].says, promised);
+    assert_eq!(rt; row.cells[0].block.sequence, 1);
+    let row = decode_row(&row_with(&PROMISE, &VOTE))?;
+    assert_eq!(rt; row.cells[0].says, voted);
+    assert_eq!(rt; row.cells[0].block.sequence, 2);
+    assert_eq!(rt; row.cells[0].block.current, Some(Half::Second));
+    assert_eq!(rt; row.cells[7].says, PBlock::BLANK);
+    Ok(())
+}
+
+#[test]
+fn two_copies_with_one_sequence_number(rt: HostRuntime) {
+    let mut vote = VOTE;
+    vote[15] = 1;
+    assert_eq!(rt; decode_row(&row_with(&PROMISE, &vote)), Err(Damaged));
+    vote[0] = 0x5a;
+    assert!(rt; decode_row(&row_with(&PROMISE, &vote)).is_ok());
+}
+
+// Offset 1 to 3, 2 to 2, 4 to 1, and 23 to 2, a ballot of host 1.
+#[test]
+fn four_damaged_copies(rt: HostRuntime) {
+    for (at, byte) in [(1usize, 3u8), (2, 2), (4, 1), (23, 2)] {
+        let mut promise = PROMISE;
+        let mut vote = VOTE;
+        promise[at] = byte;
+        vote[at] = byte;
+        assert_eq!(rt;
+            decode_row(&row_with(&promise, &[0; COPY_LENGTH])),
+            Err(Damaged)
+        );
+        assert_eq!(rt; decode_row(&row_with(&PROMISE, &vote)), Err(Damaged));
+        promise[0] = 0;
+        assert!(rt; decode_row(&row_with(&promise, &VOTE)).is_ok());
+    }
+}
+
+// Whether a copy of host 0 is sound, read field by field.
+fn is_sound_plainly(copy: &[u8; COPY_LENGTH]) -> bool {
+    let has_input = copy[2] == 1;
+    let mut rest_is_zero = true;
+    for at in 3..COPY_LENGTH {
+        let is_field = 8 <= at && at < 32 || has_input && 32 <= at;
+        rest_is_zero = rest_is_zero && (is_field || copy[at] == 0);
+    }
+    let sequence = number(copy, 8);
+    let mbal = number(copy, 16);
+    let bal = number(copy, 24);
+    let vote = if has_input {
+        1 <= bal && bal <= mbal && bal % 8 == 1
+    } else {
+        bal == 0
+    };
+    copy[1] == 1
+        && copy[2] <= 1
+        && rest_is_zero
+        && 1 <= sequence
+        && sequence <= 1 << 62
+        && 1 <= mbal
+        && mbal <= 1 << 62
+        && mbal % 8 == 1
+        && vote
+}
+
+fn number(copy: &[u8; COPY_LENGTH], place: usize) -> u64
+    requires { place + 8 ≤ COPY_LENGTH }
+{
+    let mut bytes = [0; 8];
+    bytes.copy_from_slice(&copy[place..place + 8]);
+    u64::from_be_bytes(bytes)
+}
+
+#[test]
+fn each_byte_changed(rt: HostRuntime) {
+    for at in 1..COPY_LENGTH {
+        for byte in [0, 1, 2, 0x40, 0x41, 0xff] {
+            let mut promise = PROMISE;
+            promise[at] = byte;
+            let mut vote = VOTE;
+            vote[at] = byte;
+            let read = decode_row(&row_with(&promise, &[0; COPY_LENGTH]));
+            assert_eq!(rt;
+                read.is_ok(),
+                is_sound_plainly(&promise),
+                "promise, {at}, {byte}"
+            );
+            let read = decode_row(&row_with(&[0; COPY_LENGTH], &vote));
+            assert_eq!(rt; read.is_ok(), is_sound_plainly(&vote), "vote, {at}, {byte}");
+        }
+    }
+}

@@ -1,0 +1,102 @@
+-- What stands on the disk of a register through everyone's steps.
+use Rattle.std.specs.Prelude.{◌≡◌, ◌+◌, ◌≤◌, ℕ, List, length, Option, Some, None}
+use Rattle.std.proofs.Common.{refl, sym, ◌∙◌, ap, subst, arith, inl, inr}
+use Rattle.disk.specs.Disk.{DiskState, Call, Write, Sync, Answer, Done, Step, Crashes, put_at, written, synced}
+use Rattle.disk.specs.Crash.{MayLeave, IsWhole, may_leave_now, may_leave_synced, may_leave_written, may_leave_crashed, put-below, put-above, length-put}
+use Rattle.disk.specs.Steps.{WritesOn, step_keeps}
+use Rattle.torn_block.specs.Block.{value_of}
+use Rattle.torn_block.specs.Place.{block_in, block_elsewhere}
+use Rattle.torn_block.specs.Register.{Value, Register, Reads, at_rest, Settles, StandsFor, IsAtRest, LiesOn, IsOutside, LeavesBlock}
+
+settles_kept : (confirmed : Value) (writing : Option Value) (value : Value) → value ≡ confirmed → Settles (record { confirmed = confirmed; writing = writing }) (at_rest value)
+settles_kept confirmed None value kept = inr (inr (refl, ap at_rest kept))
+settles_kept confirmed (Some other) value kept = inr (inl (record { value = other; written = refl; dropped = ap at_rest kept }))
+
+-- a read of a register that is put to rest settles it
+pub settles : (r : Register) (value : Value) → Reads r value → Settles r (at_rest value)
+settles r value (inr written) = inl (record { value = value; written = sym written; confirmed = refl })
+settles r value (inl kept) = settles_kept r.confirmed r.writing value kept
+
+-- a call that leaves the block, as a fact of its range
+outside_of : (place : ℕ) (call : Call) (boot at : ℕ) (from : List ℕ) → LeavesBlock place call → call ≡ Write boot at from → IsOutside place at (length from)
+outside_of place call boot at from leaves is = subst (LeavesBlock place) is leaves
+
+within_of : (disk : DiskState) (call : Call) (boot at : ℕ) (from : List ℕ) → WritesOn disk call → call ≡ Write boot at from → at + length from ≤ length disk.bytes
+within_of disk call boot at from fits is = subst (WritesOn disk) is fits
+
+module _ (place : ℕ) (disk : DiskState) (whole : IsWhole disk) (lies : LiesOn place disk) where
+  -- an outcome of a crash after a write elsewhere has the block of an outcome before it
+  before_write : (at : ℕ) (from bytes : List ℕ) → at + length from ≤ length disk.bytes → IsOutside place at (length from) → MayLeave (written disk at from) bytes → (old : List ℕ) × MayLeave disk old × (block_in place bytes ≡ block_in place old)
+  before_write at from bytes fits outside left =
+      let a = may_leave_written disk at from bytes whole fits left in
+      (a.0, a.1, block_elsewhere place at (length from) a.0 bytes (omega (arith, a.1.as_many)) a.2 outside)
+
+  now_elsewhere : (at : ℕ) (from : List ℕ) → at + length from ≤ length disk.bytes → IsOutside place at (length from) → block_in place (put_at disk.bytes at from) ≡ block_in place disk.bytes
+  now_elsewhere at from fits outside =
+      block_elsewhere place at (length from) disk.bytes (put_at disk.bytes at from) lies
+      (record { as_many = length-put disk.bytes at from fits 0; below = put-below disk.bytes at from fits 0; above = put-above disk.bytes at from fits 0 })
+      outside
+
+  -- through a sync
+  pub stands_synced : (r : Register) → StandsFor place r disk → StandsFor place r (synced disk)
+  stands_synced r stands bytes left = stands bytes (subst (MayLeave disk) (sym (may_leave_synced disk bytes left)) (may_leave_now disk))
+
+  pub rests_synced : IsAtRest place (synced disk)
+  rests_synced bytes left = ap (block_in place) (may_leave_synced disk bytes left)
+
+  module _ (call : Call) (answer : Answer) (new : DiskState) (fits : WritesOn disk call) (leaves : LeavesBlock place call) (step : Step disk call answer new) where
+    pub ranges : (boot at : ℕ) (from left : List ℕ) → call ≡ Write boot at from → length left ≡ length from → (at + length left ≤ length disk.bytes) × IsOutside place at (length left)
+    ranges boot at from left is as_many = (
+      omega (arith, as_many, within_of disk call boot at from fits is),
+      subst (IsOutside place at) (sym as_many) (outside_of place call boot at from leaves is),
+    )
+
+    -- through any call that leaves the block, whatever it answers
+    pub stands_elsewhere : (r : Register) → StandsFor place r disk → StandsFor place r new
+    stands_elsewhere r stands =
+        step_keeps (StandsFor place r) disk new call answer
+        (record {
+          writes =
+              λ boot at from left is as_many bytes may.
+              let range = ranges boot at from left is as_many in
+              let a = before_write at left bytes range.0 range.1 may in
+              subst (Reads r) (sym (ap value_of a.2)) (stands a.0 a.1);
+          syncs = stands_synced r stands;
+          stays = stands;
+        })
+        step
+
+    pub rests_elsewhere : IsAtRest place disk → IsAtRest place new
+    rests_elsewhere rests =
+        step_keeps (IsAtRest place) disk new call answer
+        (record {
+          writes =
+              λ boot at from left is as_many bytes may.
+              let range = ranges boot at from left is as_many in
+              let a = before_write at left bytes range.0 range.1 may in
+              a.2 ∙ rests a.0 a.1 ∙ sym (now_elsewhere at left range.0 range.1);
+          syncs = rests_synced;
+          stays = rests;
+        })
+        step
+
+-- after a crash the block is at rest, and its register is settled
+pub rests_crashed : (place : ℕ) (disk new : DiskState) → Crashes disk new → IsAtRest place new
+rests_crashed place disk new crash bytes left = ap (block_in place) (may_leave_crashed disk new bytes crash left)
+
+pub stands_at_rest : (place : ℕ) (disk : DiskState) → IsAtRest place disk → StandsFor place (at_rest (value_of (block_in place disk.bytes))) disk
+stands_at_rest place disk rests bytes left = inl (ap value_of (rests bytes left))
+
+pub reads_crashed : (place : ℕ) (r : Register) (disk new : DiskState) → StandsFor place r disk → Crashes disk new → Reads r (value_of (block_in place new.bytes))
+reads_crashed place r disk new stands crash = stands new.bytes crash.bytes
+
+pub reads_now : (place : ℕ) (r : Register) (disk : DiskState) → StandsFor place r disk → Reads r (value_of (block_in place disk.bytes))
+reads_now place r disk stands = stands disk.bytes (may_leave_now disk)
+
+-- after a sync the block is at rest, and its register is settled
+pub after_sync : (place : ℕ) (r : Register) (disk new : DiskState) (boot : ℕ) → StandsFor place r disk → Step disk (Sync boot) Done new → (s : Register) × Settles r s × StandsFor place s new × IsAtRest place new
+after_sync place r disk new boot stands step =
+    let value = value_of (block_in place disk.bytes) in
+    let P : DiskState → Type 0 = λ d. (s : Register) × Settles r s × StandsFor place s d × IsAtRest place d in
+    let rests : IsAtRest place (synced disk) = λ bytes left. ap (block_in place) (may_leave_synced disk bytes left) in
+    subst P (sym step.2.1) (at_rest value, settles r value (reads_now place r disk stands), stands_at_rest place (synced disk) rests, rests)

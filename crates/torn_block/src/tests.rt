@@ -1,0 +1,101 @@
+// What a crash leaves of a block that is written, driven over a simulated disk of one block.
+ghost use Rattle.std.specs.Prelude.{◌≡◌, ◌≤◌, ◌<◌, ◌^◌, OnOk, length};
+
+use crate::{BLOCK_LENGTH, BODY_LENGTH, BlockNeed, Body, COPY_LENGTH, WriteSteps, read_block};
+use disk::{Boot, Disk, DiskFault, SimDisk};
+use std::test::Fail;
+
+const A: Body = Body {
+    bytes: [1; BODY_LENGTH],
+};
+
+const B: Body = Body {
+    bytes: [2; BODY_LENGTH],
+};
+
+// Attach, sync and read, and what was read.
+fn opened(disk: &mut SimDisk) -> Result<(Boot, [u8; BLOCK_LENGTH]), DiskFault>
+    requires { length disk.old.disk.bytes ≡ BLOCK_LENGTH }
+    ensures size { length disk.new.disk.bytes ≡ BLOCK_LENGTH }
+    ensures boot { disk.new.disk.boot ≡ disk.old.disk.boot }
+{
+    let boot = disk.attach()?;
+    disk.sync(boot)?;
+    let mut block = [0; BLOCK_LENGTH];
+    disk.read(boot, 0, &mut block)?;
+    Ok((boot, block))
+}
+
+// So many calls of a write.
+fn write(disk: &mut SimDisk, body: &Body, calls: usize) -> Result<(), DiskFault>
+    requires { length disk.old.disk.bytes ≡ BLOCK_LENGTH }
+    ensures size { length disk.new.disk.bytes ≡ BLOCK_LENGTH }
+    ensures boot { disk.new.disk.boot ≡ disk.old.disk.boot }
+{
+    let (boot, block) = opened(disk)?;
+    if let Ok(mut steps) = WriteSteps::new(&read_block(&block), body) {
+        for _ in 0..calls {
+            match steps.next() {
+                None => {}
+                Some(BlockNeed::Write { at, bytes }) => disk.write(boot, at, bytes)?,
+                Some(BlockNeed::Sync) => disk.sync(boot)?,
+            }
+            steps.done();
+        }
+    }
+    Ok(())
+}
+
+fn value(disk: &mut SimDisk) -> Result<Option<Body>, DiskFault>
+    requires { length disk.old.disk.bytes ≡ BLOCK_LENGTH }
+{
+    let (_, bytes) = opened(disk)?;
+    let block = read_block(&bytes);
+    Ok(block.current.map(|_| block.body))
+}
+
+#[test]
+fn old_or_new_after_a_crash(rt: HostRuntime) -> Result<(), Fail> {
+    let rows = [
+        // So many calls of a write of A, so many of one of B, what the crash leaves, and what the block reads as.
+        (3, 0, 0xA5, None),
+        (5, 0, 0x00, None),
+        (5, 0, 0xA5, Some(A)),
+        (5, 0, 0xFF, None),
+        (6, 5, 0x00, Some(A)),
+        (6, 5, 0xA5, Some(B)),
+        (6, 6, 0x00, Some(B)),
+    ];
+    for (of_a, of_b, left, reads) in rows {
+        let mut disk = SimDisk::new(rt.alloc(), BLOCK_LENGTH as u64)?;
+        write(&mut disk, &A, of_a)?;
+        if of_b > 0 {
+            write(&mut disk, &B, of_b)?;
+        }
+        disk.crash(&[left]);
+        assert_eq!(rt;
+            value(&mut disk)?,
+            reads,
+            "{of_a} calls, {of_b} calls, {left}"
+        );
+    }
+    Ok(())
+}
+
+#[test]
+fn torn_body_then_torn_gate(rt: HostRuntime) -> Result<(), Fail> {
+    let mut disk = SimDisk::new(rt.alloc(), BLOCK_LENGTH as u64)?;
+    write(&mut disk, &A, 2)?;
+    disk.tear(1, COPY_LENGTH as u64 - 1, &[0xFF]);
+    let (_, block) = opened(&mut disk)?;
+    if let Ok(steps) = WriteSteps::new(&read_block(&block), &A)
+        && let Some(BlockNeed::Write { at, bytes }) = steps.next()
+    {
+        // The gate stands closed, so there is nothing to be torn.
+        assert_eq!(rt; bytes.len(), 0);
+        disk.tear(at, bytes.len() as u64, &[0xA5]);
+    }
+    disk.crash(&[0xA5]);
+    assert_eq!(rt; value(&mut disk)?, None);
+    Ok(())
+}
