@@ -14,9 +14,12 @@ use Rattle.cluster.specs.declared.attempt.Attempt.{Attempt}
 use Rattle.cluster.specs.declared.attempt.Stage.{Stage}
 use Rattle.cluster.specs.declared.attempt.Stage.TheVariants as stage
 use Rattle.cluster.specs.declared.attempt.End.TheVariants as end
-use Rattle.cluster.specs.Attempt.{Phase, One, Two, Heard, Booted, Done, Told, Fault, Answers, Setup, Status, NoMajority, status, taken, is_bad, next_call, ballot, says_for}
-use Rattle.cluster.specs.OneDisk.{dones, opened, promised, heard_at, setup_in, only, IsWriting, HasOpened, HasPromised, IsKeptAt, IsKept, heard_in, IsEnd}
-use Rattle.cluster.proofs.Statuses.{next_promising, next_checking, next_voting, next_confirming, write_one, write_two, dropped, bad_last, taken_after}
+use Rattle.cluster.specs.declared.attempt.Heard as code
+use Rattle.cluster.specs.declared.attempt.Heard.TheVariants as answer
+use Rattle.cluster.specs.Fits.{FitsCall, Fits}
+use Rattle.cluster.specs.Attempt.{Phase, Opening, One, Two, Due, Heard, Booted, Done, Told, Fault, Answers, Setup, Status, NoMajority, status, taken, is_bad, next_call, ballot, says_for}
+use Rattle.cluster.specs.OneDisk.{dones, opened, promised, heard_at, setup_in, only, IsWriting, HasOpened, HasPromised, IsKeptAt, IsKept, heard_in, FitsStage, IsEnd}
+use Rattle.cluster.proofs.Statuses.{next_promising, next_checking, next_voting, next_confirming, write_one, write_two, dropped, bad_last, taken_after, due_promising, due_checking, due_voting, due_confirming}
 
 -- what a call needs does not go by which call is due
 need_same : (plan : Plan) (due : Option WriteCall) (call : WriteCall) → need_at (record plan { due = due }) call ≡ need_at plan call
@@ -50,15 +53,19 @@ module _ (a : Attempt) where
       ∙ plan_calls write writing.read writing.is_read writing.call a.boot.number
       ∙ ap (λ (x : Write128). call_of writing.call x a.boot.number) (sym is)
 
-  pub promising_call : (got : device.Call) → IsKeptAt stage.Promising a → Sends got → next_call s (only (heard stage.Promising)) ≡ Some (0, got)
-  promising_call got kept sends =
+  pub promising_next : (kept : IsKeptAt stage.Promising a) → next_call s (only (heard stage.Promising)) ≡ Some (0, call_of kept.2.call (write_one a.host a.slot a.floor a.input a.boot.number kept.0) a.boot.number)
+  promising_next kept =
       let row = kept.0 in
       let w = kept.2 in
       let due : a.steps.due ≡ Some w.call = ap (λ (plan : Plan). plan.due) w.plan in
       ap (λ (r : Option (List SeenBlock)). next_call s (only (opened a.boot.number r (dones a.steps.due)))) kept.1.said
       ∙ ap (λ (d : Option WriteCall). next_call s (only (opened a.boot.number (Some row) (dones d)))) due
       ∙ next_promising a.host a.slot a.floor a.input a.boot.number row kept.1.unspent w.unspent w.call
-      ∙ ap (λ (c : device.Call). Some (0, c)) (sym (writes One (only (opened 0 (Some row) [])) (seen_at row a.host) (write_one a.host a.slot a.floor a.input a.boot.number row) w got refl sends))
+
+  pub promising_call : (got : device.Call) → IsKeptAt stage.Promising a → Sends got → next_call s (only (heard stage.Promising)) ≡ Some (0, got)
+  promising_call got kept sends =
+      promising_next kept
+      ∙ ap (λ (c : device.Call). Some (0, c)) (sym (writes One (only (opened 0 (Some kept.0) [])) (seen_at kept.0 a.host) (write_one a.host a.slot a.floor a.input a.boot.number kept.0) kept.2 got refl sends))
 
   pub checking_call : IsKeptAt stage.Checking a → next_call s (only (heard stage.Checking)) ≡ Some (0, device.Read a.boot.number (row_place a.slot) ROW_LENGTH)
   checking_call kept =
@@ -70,14 +77,19 @@ module _ (a : Attempt) where
       subst (λ (r : Option (List SeenBlock)). st (opened a.boot.number r (promised (row_said a.promised) rest))) (sym o.said)
       (subst (λ (r : Option (List SeenBlock)). st (opened a.boot.number (Some first) (promised r rest))) (sym p.said) holds)
 
-  pub voting_call : (got : device.Call) → IsKeptAt stage.Voting a → Sends got → next_call s (only (heard stage.Voting)) ≡ Some (0, got)
-  voting_call got kept sends =
+  pub voting_next : (kept : IsKeptAt stage.Voting a) → next_call s (only (heard stage.Voting)) ≡ Some (0, call_of kept.4.call (write_two a.host a.slot a.floor a.input a.boot.number kept.0 kept.1) a.boot.number)
+  voting_next kept =
       let w = kept.4 in
       let due : a.steps.due ≡ Some w.call = ap (λ (plan : Plan). plan.due) w.plan in
+      let got = call_of w.call (write_two a.host a.slot a.floor a.input a.boot.number kept.0 kept.1) a.boot.number in
       told_both (λ (l : List Heard). next_call s (only l) ≡ Some (0, got)) kept.0 kept.1 (dones a.steps.due) kept.2 kept.3
       (ap (λ (d : Option WriteCall). next_call s (only (opened a.boot.number (Some kept.0) (promised (Some kept.1) (dones d))))) due
-      ∙ next_voting a.host a.slot a.floor a.input a.boot.number kept.0 kept.1 a.proposal kept.2.unspent kept.3.not_outrun kept.3.proposal_is w.unspent w.call
-      ∙ ap (λ (c : device.Call). Some (0, c)) (sym (writes Two (only (opened 0 (Some kept.0) (promised (Some kept.1) []))) (seen_at kept.1 a.host) (write_two a.host a.slot a.floor a.input a.boot.number kept.0 kept.1) w got refl sends)))
+      ∙ next_voting a.host a.slot a.floor a.input a.boot.number kept.0 kept.1 a.proposal kept.2.unspent kept.3.not_outrun kept.3.proposal_is w.unspent w.call)
+
+  pub voting_call : (got : device.Call) → IsKeptAt stage.Voting a → Sends got → next_call s (only (heard stage.Voting)) ≡ Some (0, got)
+  voting_call got kept sends =
+      voting_next kept
+      ∙ ap (λ (c : device.Call). Some (0, c)) (sym (writes Two (only (opened 0 (Some kept.0) (promised (Some kept.1) []))) (seen_at kept.1 a.host) (write_two a.host a.slot a.floor a.input a.boot.number kept.0 kept.1) kept.4 got refl sends))
 
   pub confirming_call : IsKeptAt stage.Confirming a → next_call s (only (heard stage.Confirming)) ≡ Some (0, device.Read a.boot.number (row_place a.slot) ROW_LENGTH)
   confirming_call kept =
@@ -151,3 +163,96 @@ module _ (a : Attempt) where
   dropped_late kept (inr (inl is)) x bad = at_stage (drops a.ballot x) stage.Checking is (dropped_checking (kept_at stage.Checking kept is) x bad)
   dropped_late kept (inr (inr (inl is))) x bad = at_stage (drops a.ballot x) stage.Voting is (dropped_voting (kept_at stage.Voting kept is) x bad)
   dropped_late kept (inr (inr (inr is))) x bad = at_stage (drops a.ballot x) stage.Confirming is (dropped_confirming (kept_at stage.Confirming kept is) x bad)
+
+-- WHICH ANSWERS FIT
+
+fits_writing : (call : WriteCall) (w : Write128) (boot : ℕ) (heard_now : code.Heard) → FitsCall (call_of call w boot) heard_now → (FitsStage stage.Promising heard_now × FitsStage stage.Voting heard_now)
+fits_writing call w boot (answer.Fault fault) fits = (tt, tt)
+fits_writing call w boot answer.Done fits = (tt, tt)
+fits_writing CloseGate w boot (answer.Booted b) fits = absurd fits
+fits_writing SyncClosed w boot (answer.Booted b) fits = absurd fits
+fits_writing PutBody w boot (answer.Booted b) fits = absurd fits
+fits_writing SyncBody w boot (answer.Booted b) fits = absurd fits
+fits_writing OpenGate w boot (answer.Booted b) fits = absurd fits
+fits_writing SyncOpened w boot (answer.Booted b) fits = absurd fits
+fits_writing CloseGate w boot (answer.Told row) fits = absurd fits
+fits_writing SyncClosed w boot (answer.Told row) fits = absurd fits
+fits_writing PutBody w boot (answer.Told row) fits = absurd fits
+fits_writing SyncBody w boot (answer.Told row) fits = absurd fits
+fits_writing OpenGate w boot (answer.Told row) fits = absurd fits
+fits_writing SyncOpened w boot (answer.Told row) fits = absurd fits
+
+fits_attaching : (heard_now : code.Heard) → FitsCall device.Attach heard_now → FitsStage stage.Attaching heard_now
+fits_attaching (answer.Fault fault) fits = tt
+fits_attaching (answer.Booted boot) fits = tt
+fits_attaching answer.Done fits = absurd fits
+fits_attaching (answer.Told row) fits = absurd fits
+
+fits_syncing : (boot : ℕ) (heard_now : code.Heard) → FitsCall (device.Sync boot) heard_now → FitsStage stage.Syncing heard_now
+fits_syncing boot (answer.Fault fault) fits = tt
+fits_syncing boot (answer.Booted b) fits = absurd fits
+fits_syncing boot answer.Done fits = tt
+fits_syncing boot (answer.Told row) fits = absurd fits
+
+fits_reading : (boot at len : ℕ) (heard_now : code.Heard) → FitsCall (device.Read boot at len) heard_now → FitsStage stage.Reading heard_now × FitsStage stage.Checking heard_now × FitsStage stage.Confirming heard_now
+fits_reading boot at len (answer.Fault fault) fits = (tt, tt, tt)
+fits_reading boot at len (answer.Booted b) fits = absurd fits
+fits_reading boot at len answer.Done fits = absurd fits
+fits_reading boot at len (answer.Told row) fits = (tt, tt, tt)
+
+module _ (a : Attempt) (heard_now : code.Heard) where
+  fits_by : (st : Stage) → IsKeptAt st a → Fits (next_call (setup_in a) (only (heard_at st a.boot.number (row_said a.opening) (row_said a.promised) a.steps.due))) heard_now → FitsStage st heard_now
+  fits_by stage.Attaching kept fits = fits_attaching heard_now fits
+  fits_by stage.Syncing kept fits = fits_syncing a.boot.number heard_now fits
+  fits_by stage.Reading kept fits = (fits_reading a.boot.number (row_place a.slot) ROW_LENGTH heard_now fits).0
+  fits_by stage.Promising kept fits =
+      let P : Option (ℕ × device.Call) → Type 0 = λ n. Fits n heard_now in
+      let is = promising_next a kept in
+      (fits_writing kept.2.call (write_one a.host a.slot a.floor a.input a.boot.number kept.0) a.boot.number heard_now (subst P is fits)).0
+  fits_by stage.Checking kept fits =
+      let P : Option (ℕ × device.Call) → Type 0 = λ n. Fits n heard_now in
+      (fits_reading a.boot.number (row_place a.slot) ROW_LENGTH heard_now (subst P (checking_call a kept) fits)).1
+  fits_by stage.Voting kept fits =
+      let P : Option (ℕ × device.Call) → Type 0 = λ n. Fits n heard_now in
+      (fits_writing kept.4.call (write_two a.host a.slot a.floor a.input a.boot.number kept.0 kept.1) a.boot.number heard_now (subst P (voting_next a kept) fits)).1
+  fits_by stage.Confirming kept fits =
+      let P : Option (ℕ × device.Call) → Type 0 = λ n. Fits n heard_now in
+      (fits_reading a.boot.number (row_place a.slot) ROW_LENGTH heard_now (subst P (confirming_call a kept) fits)).2
+
+  pub fits_stage : IsKept a → Fits (next_call (setup_in a) (only (heard_in a))) heard_now → FitsStage a.stage heard_now
+  fits_stage kept fits = fits_by a.stage kept.so fits
+
+-- A CALL IS DUE
+
+module _ (a : Attempt) where
+  due_by : (st : Stage) → IsKeptAt st a → (p : Phase) × (status (setup_in a) (only (heard_at st a.boot.number (row_said a.opening) (row_said a.promised) a.steps.due)) ≡ Due p 0)
+  due_by stage.Attaching kept = (Opening, refl)
+  due_by stage.Syncing kept = (Opening, refl)
+  due_by stage.Reading kept = (Opening, refl)
+  due_by stage.Promising kept =
+      let w = kept.2 in (
+        One,
+        ap (λ (r : Option (List SeenBlock)). status (setup_in a) (only (opened a.boot.number r (dones a.steps.due)))) kept.1.said
+        ∙ ap (λ (d : Option WriteCall). status (setup_in a) (only (opened a.boot.number (Some kept.0) (dones d)))) (ap (λ (plan : Plan). plan.due) w.plan)
+        ∙ due_promising a.host a.slot a.floor a.input a.boot.number kept.0 kept.1.unspent w.unspent w.call,
+      )
+  due_by stage.Checking kept = (
+    One,
+    ap (λ (r : Option (List SeenBlock)). status (setup_in a) (only (opened a.boot.number r (dones None)))) kept.1.said
+    ∙ due_checking a.host a.slot a.floor a.input a.boot.number kept.0 kept.1.unspent,
+  )
+  due_by stage.Voting kept =
+      let w = kept.4 in (
+        Two,
+        told_both a (λ (l : List Heard). status (setup_in a) (only l) ≡ Due Two 0) kept.0 kept.1 (dones a.steps.due) kept.2 kept.3
+        (ap (λ (d : Option WriteCall). status (setup_in a) (only (opened a.boot.number (Some kept.0) (promised (Some kept.1) (dones d))))) (ap (λ (plan : Plan). plan.due) w.plan)
+        ∙ due_voting a.host a.slot a.floor a.input a.boot.number kept.0 kept.1 a.proposal kept.2.unspent kept.3.not_outrun kept.3.proposal_is w.unspent w.call),
+      )
+  due_by stage.Confirming kept = (
+    Two,
+    told_both a (λ (l : List Heard). status (setup_in a) (only l) ≡ Due Two 0) kept.0 kept.1 (dones None) kept.2 kept.3
+    (due_confirming a.host a.slot a.floor a.input a.boot.number kept.0 kept.1 a.proposal kept.2.unspent kept.3.not_outrun kept.3.proposal_is),
+  )
+
+  pub kept_due : IsKept a → (p : Phase) × (status (setup_in a) (only (heard_in a)) ≡ Due p 0)
+  kept_due kept = due_by a.stage kept.so

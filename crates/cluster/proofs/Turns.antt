@@ -19,11 +19,13 @@ use Rattle.paxos_block.proofs.RowLemmas.{said_is_said}
 use Rattle.cluster.specs.declared.attempt.Attempt.{Attempt}
 use Rattle.cluster.specs.declared.attempt.Stage.{Stage}
 use Rattle.cluster.specs.declared.attempt.Stage.TheVariants as stage
+use Rattle.cluster.specs.declared.attempt.Heard.TheVariants as answer
+use Rattle.disk.specs.declared.boot.Boot.{Boot}
 use Rattle.cluster.specs.declared.attempt.End.TheVariants as end
 use Rattle.cluster.specs.declared.rows.Best.{Best}
 use Rattle.cluster.specs.Attempt.{One, Two, Heard, Booted, Done, Told, Answers, Setup, status, taken, ballot, own, proposal, others_mbal, says_in, says_for, ballot_above, no_input, later_of, best_below, or_else, some_value, Ended, Outrun, Committed}
 use Rattle.cluster.specs.Numbers.{greatest}
-use Rattle.cluster.specs.OneDisk.{dones, opened, promised, heard_at, heard_in, setup_in, only, IsWriting, HasOpened, HasPromised, IsKeptAt, IsKept, IsEnd, GoesOn, IsReadAfter, ReadsAs}
+use Rattle.cluster.specs.OneDisk.{dones, opened, promised, heard_at, heard_in, setup_in, only, IsWriting, HasOpened, HasPromised, IsKeptAt, IsKept, IsEnd, GoesOn, IsReadAfter, ReadsAs, FitsStage}
 use Rattle.cluster.proofs.Ballots.{above, is_ballot, greatest_is_greatest, may_promise, unspent}
 use Rattle.cluster.proofs.Statuses.{spent_again, outrun_two, committed}
 use Rattle.cluster.proofs.Kept.{took_first, told_both}
@@ -348,3 +350,22 @@ reads_by bytes row (Some blocks) is said = record { seen = blocks; said = is; so
 
 pub reads_as : (bytes : List ℕ) (row : Row) → IsSomeAnd (row_said bytes) (λ seen. AreSeenAs seen row) → ReadsAs bytes row
 reads_as bytes row said = reads_by bytes row (row_said bytes) refl said
+
+-- THE BOOT NUMBER
+
+attaching : (st : Stage) (boot : Boot) → FitsStage st (answer.Booted boot) → st ≡ stage.Attaching
+attaching stage.Attaching boot fits = refl
+attaching stage.Syncing boot fits = absurd fits
+attaching stage.Reading boot fits = absurd fits
+attaching stage.Promising boot fits = absurd fits
+attaching stage.Checking boot fits = absurd fits
+attaching stage.Voting boot fits = absurd fits
+attaching stage.Confirming boot fits = absurd fits
+
+pub boots : (a : Attempt) (boot : Boot) → IsKept a → FitsStage a.stage (answer.Booted boot) → GoesOn a (record a { boot = boot; stage = stage.Syncing }) (Booted boot.number)
+boots a boot kept fits =
+    record {
+      kept = record { is_host = kept.is_host; so = tt };
+      heard = sym (ap (λ (x : Stage). heard_at x a.boot.number (row_said a.opening) (row_said a.promised) a.steps.due ++ Booted boot.number ∷ []) (attaching a.stage boot fits));
+      setup = refl;
+    }

@@ -1,3 +1,10 @@
-pub mod Numbers
 pub mod Attempt
+pub mod Calls
+pub mod Entry
+pub mod Fits
+pub mod Host
+pub mod Numbers
 pub mod OneDisk
+pub mod Seat
+pub mod Shape
+pub mod World

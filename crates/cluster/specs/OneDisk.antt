@@ -1,5 +1,5 @@
 -- An attempt over one disk: what it has heard, by how far it has come, and what it keeps of that.
-use Rattle.std.specs.Prelude.{◌≡◌, ◌<◌, ℕ, false, List, [], ◌∷◌, ◌++◌, nat_lt, nat_le, Option, Some, None}
+use Rattle.std.specs.Prelude.{◌≡◌, ◌<◌, ℕ, false, List, [], ◌∷◌, ◌++◌, nat_lt, nat_le, Option, Some, None, ◌==◌, if◌then◌else◌}
 use Rattle.disk.specs.Disk as device
 use Rattle.torn_block.specs.declared.layout.TheConstants.{HOSTS, LAST_SEQUENCE, ROW_LENGTH}
 use Rattle.torn_block.specs.declared.block.Block128.{Block128}
@@ -58,9 +58,9 @@ heard_in a = heard_at a.stage a.boot.number (row_said a.opening) (row_said a.pro
 abbrev pub setup_in : Attempt → Setup
 setup_in a = record { host = a.host; slot = a.slot; disks = 1; floor = a.floor; input = Some a.input }
 
--- the answers of the one disk
+-- the answers of disk 0, where it is the only one
 abbrev pub only : List Heard → Answers
-only a d = a
+only a d = if 0 == d then a else []
 
 -- WHAT IS KEPT OF IT
 
@@ -147,7 +147,7 @@ pub record GoesOn (old new : Attempt) (x : Heard) : Type 0 where
 abbrev pub IsReadAfter : Stage → Stage → Type 0
 IsReadAfter stage.Promising stage.Checking = Unit {0}
 IsReadAfter stage.Voting stage.Confirming = Unit {0}
-IsReadAfter write then = ⊥
+IsReadAfter write behind = ⊥
 
 -- the bytes are a sound row, and this is what was made of it
 pub record ReadsAs (bytes : List ℕ) (row : Row) : Type 0 where

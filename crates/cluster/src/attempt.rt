@@ -6,7 +6,7 @@ ghost use Rattle.cluster.specs.Attempt as attempts;
 ghost use Rattle.std.specs.Prelude.{true, List};
 ghost use Rattle.torn_block.specs.declared.write_steps.WriteCall.{WriteCall};
 ghost use Rattle.torn_block.specs.Plan.{device_call, need_at};
-ghost use Rattle.paxos_block.specs.Places.{place_of, VoteOf};
+ghost use Rattle.paxos_block.specs.Places.{place_of, VoteOf, row_place};
 ghost use Rattle.cluster.specs.Attempt.{next_call};
 
 use crate::rows::{Best, ballot_above, best_of, cell_of, others_top, top_of};
@@ -87,6 +87,8 @@ pub struct Attempt {
 impl Attempt {
     ghost use Rattle.cluster.specs.OneDisk.{setup_in, heard_in, only, IsKept, call_of_need, FitsStage, heard_of, IsEnd, GoesOn, IsReadAfter, ReadsAs};
     ghost use Rattle.paxos_block.specs.Row.{row_said};
+    ghost use Rattle.cluster.specs.Calls.{LiesWithin};
+    ghost use Rattle.cluster.specs.Fits.{Fits};
 
     /// An attempt that has heard nothing.
     pub fn new(host: u8, slot: u16, floor: u64, input: &Value) -> Attempt
@@ -114,7 +116,8 @@ impl Attempt {
     /// The device call that is due.
     pub fn call(&self) -> Need<'_>
         requires { IsKept self.now }
-        ensures { next_call (setup_in self.now) (only (heard_in self.now)) ≡ Some (0, call_of_need result) }
+        ensures next { next_call (setup_in self.now) (only (heard_in self.now)) ≡ Some (0, call_of_need result) }
+        ensures range { LiesWithin (row_place self.now.slot + ROW_LENGTH) (call_of_need result) }
     {
         match self.stage {
             Stage::Attaching => Need::Attach,
@@ -130,7 +133,8 @@ impl Attempt {
     // The call of the write that is under way.
     fn write_call(&self) -> Need<'_>
         requires { self.now.host < HOSTS }
-        ensures { (call : WriteCall) → self.now.steps.due ≡ Some call →
+        ensures range { LiesWithin (row_place self.now.slot + ROW_LENGTH) (call_of_need result) }
+        ensures call { (call : WriteCall) → self.now.steps.due ≡ Some call →
             call_of_need result ≡ device_call (place_of (VoteOf self.now.slot self.now.host)) self.now.boot.number (need_at self.now.steps call) }
     {
         let place = block_place(u32::from(self.slot), self.host);
@@ -147,7 +151,7 @@ impl Attempt {
     /// Hears the answer to the call that is due, and tells whether the attempt has ended with it.
     pub fn hear(&mut self, heard: &Heard<'_>) -> Option<Ended>
         requires kept { IsKept self.old }
-        requires fits { FitsStage self.old.stage heard.now }
+        requires fits { Fits (next_call (setup_in self.old) (only (heard_in self.old))) heard.now }
         ensures going { IfNone result (GoesOn self.old self.new (heard_of heard.now)) }
         ensures ended { IfSome result (IsEnd (setup_in self.old) (only (heard_in self.old ++ heard_of heard.now ∷ []))) }
     {
