@@ -1,6 +1,8 @@
-pub mod Statuses
-pub mod Kept
+pub mod Agreements
 pub mod Ballots
-pub mod First
+pub mod Kept
+pub mod OneDisk
+pub mod Runs
 pub mod Seats
+pub mod Statuses
 pub mod Turns

@@ -15,7 +15,7 @@ use Rattle.cluster.specs.Attempt.{Phase, Heard, Answered, Setup, Answers, Status
 use Rattle.cluster.specs.Host.{Memory, Doing, next_in, next_doing, setup_of, hears, goes_by, by_status, does, ended, takes, after_learning, with_floor}
 use Rattle.cluster.specs.OneDisk.{only, heard_in, setup_in, end_of, IsEnd, GoesOn}
 use Rattle.cluster.specs.Seat.{on_first, doing_in, IsDoing, IsUnderWay}
-use Rattle.cluster.proofs.First.{on-on_first}
+use Rattle.cluster.proofs.OneDisk.{on-on_first}
 
 pub under_way : (shape : Shape) (host : ℕ) (m : Memory) (o : Option Submission) (a : Attempt) (d : Submission) → o ≡ Some d → IsDoing shape host m a o → IsUnderWay shape host m a d
 under_way shape host m o a d is doing = subst (λ (x : Option Submission). IsDoing shape host m a x) is doing

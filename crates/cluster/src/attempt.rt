@@ -9,6 +9,7 @@ ghost use Rattle.torn_block.specs.Plan.{device_call, need_at};
 ghost use Rattle.paxos_block.specs.Places.{place_of, VoteOf, row_place};
 ghost use Rattle.cluster.specs.Attempt.{next_call};
 
+use crate::entry::CallKind;
 use crate::rows::{Best, ballot_above, best_of, cell_of, others_top, top_of};
 use disk::{Boot, DiskFault};
 use paxos_block::{LAST_BALLOT, PBlock, Row, Value, block_place, decode_row, encode, row_place};
@@ -64,6 +65,22 @@ pub enum Need<'a> {
     Read { boot: Boot, at: u64 },
     Write { boot: Boot, at: u64, bytes: &'a [u8] },
     Sync { boot: Boot },
+}
+
+impl Need<'_> {
+    ghost use Rattle.cluster.specs.Entry.{kind_of};
+    ghost use Rattle.cluster.specs.OneDisk.{call_of_need};
+
+    pub fn kind(&self) -> CallKind
+        ensures { result ≡ kind_of (call_of_need self.now) }
+    {
+        match self {
+            Need::Attach => CallKind::Attach,
+            Need::Read { .. } => CallKind::Read,
+            Need::Write { .. } => CallKind::Write,
+            Need::Sync { .. } => CallKind::Sync,
+        }
+    }
 }
 
 /// An attempt that has a call due. Beside what it needs it keeps the rows that it read, so that contracts can say by

@@ -1,3 +1,5 @@
+ghost use Rattle.std.specs.Prelude.{◌≡◌};
+
 use disk::DiskFault;
 use lock_command::{Command, HostNumber};
 
@@ -29,4 +31,17 @@ pub enum Entry {
         call: CallKind,
         fault: Option<DiskFault>,
     },
+}
+
+impl Entry {
+    // A submission of a command.
+    pub(crate) fn submit(host: HostNumber, command: &Command, tries: u8) -> Entry
+        ensures { result ≡ Entry.Submit host command.now tries }
+    {
+        Entry::Submit {
+            host,
+            command: *command,
+            tries,
+        }
+    }
 }

@@ -3,17 +3,24 @@
 
 mod answer;
 mod attempt;
+mod book;
 mod config;
 mod entry;
 mod fault;
+mod journal;
+mod push;
 mod rows;
 mod seat;
+mod steps;
 mod submission;
+mod touched;
 
-pub use lock_command::{Action, Command};
 pub use answer::{HostAnswer, Receipt, Refusal};
-pub use attempt::Attempt;
+pub use book::DiskBook;
 pub use config::Config;
 pub use entry::{CallKind, Entry};
 pub use fault::HostFault;
+pub use journal::{Journal, MOST, Promise};
 pub use seat::HostSeat;
+pub use steps::{begin, commit_step, first};
+pub use touched::Touched;

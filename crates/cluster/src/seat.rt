@@ -6,12 +6,13 @@ use crate::HostFault;
 use crate::answer::{HostAnswer, Receipt, Refusal};
 use crate::attempt::{Attempt, End, Ended, Heard, Need};
 use crate::config::Config;
+use crate::push::push;
 use crate::submission::Submission;
 use lock_command::{Command, HostNumber, decode};
-use lock_table::{Reply, Table};
+use lock_table::{NoMemory, Reply, Table};
 use paxos_block::Value;
 use torn_block::VALUE_LENGTH;
-use std::alloc::{AllocError, Global};
+use std::alloc::Global;
 use std::marker::Model;
 
 /// A running host, with what it has learned and the lock table after that.
@@ -31,6 +32,7 @@ pub struct HostSeat {
 impl Model for HostSeat {
     ghost use Rattle.std.specs.Prelude.{◌≡◌, ◌≤◌, vec_len, vec_capacity};
     ghost use Rattle.lock_table.specs.Apply.{table_after};
+    ghost use Rattle.lock_table.specs.Picture.{IsPictureOf};
     ghost use Rattle.cluster.specs.Seat.{SeatState, doing_in, IsDoing};
 
     ghost Value = { SeatState };
@@ -45,7 +47,7 @@ impl Model for HostSeat {
     ghost invariant = { λ s. record {
       one_disk : s.config.disks ≡ 1;
       slots : s.config.slots ≤ 4096;
-      table : s.table ≡ table_after s.learned.items;
+      table : IsPictureOf s.table (table_after s.learned.items);
       doing : IsDoing s.config s.host (record { learned = s.learned.items; floor = s.floor; doing = doing_in s.submission s.attempt; said = s.said }) s.attempt s.submission;
       learned : vec_len s.learned ≤ s.config.slots;
       room : s.config.slots ≤ vec_capacity s.learned;
@@ -60,6 +62,13 @@ impl HostSeat {
         ensures { IsTrue result ↔ IsTrue (is_idle self.now.memory) }
     {
         self.submission.is_none()
+    }
+
+    // The host's number.
+    pub(crate) fn host(&self) -> HostNumber
+        ensures { result ≡ self.now.host }
+    {
+        self.host
     }
 
     /// The acknowledged submissions of this incarnation, in order.
@@ -89,7 +98,7 @@ impl HostSeat {
     ghost use Rattle.cluster.specs.World.{receipt_by};
 
     // A host that was just started, with room for all that it may learn.
-    pub(crate) fn new(alloc: Global, host: HostNumber, config: Config) -> Result<HostSeat, AllocError>
+    pub(crate) fn new(alloc: Global, host: HostNumber, config: Config) -> Result<HostSeat, NoMemory>
         requires { config.disks ≡ 1 }
         ensures { IfOk result (λ s. s ≡ record { host = host; shape = config; memory = fresh; acks = [] }) }
     {
@@ -161,7 +170,7 @@ impl HostSeat {
         // The check looks for the types within a command only where one of them is used.
         let _action = &command.action;
         let reply = self.table.apply(&command);
-        keep(&mut self.learned, command);
+        push(&mut self.learned, command);
         self.floor = 0;
         self.submission = None;
         self.said = None;
@@ -185,7 +194,7 @@ impl HostSeat {
             reply,
             place,
         };
-        keep(&mut self.acks, receipt);
+        push(&mut self.acks, receipt);
     }
 
     // Hears the answer to the call that is due, which stands in the journal at a place.
@@ -249,14 +258,4 @@ impl HostSeat {
             self.go_on(submission.command, submission.tries);
         }
     }
-}
-
-// Puts an item behind the others, for which there is room.
-fn keep<T>(items: &mut Vec<T>, item: T)
-    requires { vec_len items.old < vec_capacity items.old }
-    ensures items { items.new.items ≡ items.old.items ++ item ∷ [] }
-    ensures len { vec_len items.new ≡ vec_len items.old + 1 }
-    ensures room { vec_capacity items.new ≡ vec_capacity items.old }
-{
-    items.push_reserved(item);
 }

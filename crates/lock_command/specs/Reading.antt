@@ -20,15 +20,19 @@ None >>= f = None
 abbrev pub passed : {A : Type 0} → Bool → A → Option A
 passed test x = if test then Some x else None
 
+-- a host's number
 abbrev pub host_of : ℕ → Option ℕ
 host_of n = passed (nat_lt n HOSTS) n
 
+-- the lock's number, in bytes 6 and 7
 unfoldable pub lock_at : List ℕ → Option ℕ
 lock_at bytes = let n = big_number 2 (drop 6 bytes) in passed (nat_le 1 n) n
 
+-- the request's number, in bytes 8 to 15
 unfoldable pub request_at : List ℕ → Option ℕ
 request_at bytes = let n = big_number 8 (drop 8 bytes) in passed (nat_le 1 n && nat_le n (2 ^ 62)) n
 
+-- the mode of a number
 unfoldable pub mode_of : ℕ → Option Mode
 mode_of n =
     if n == 0 then Some Null
@@ -39,15 +43,19 @@ mode_of n =
     else if n == 5 then Some Exclusive
     else None
 
+-- the bytes of a name
 abbrev pub name_of : List ℕ → Option (List ℕ)
 name_of bytes = passed (is_name bytes) bytes
 
+-- the name, as many bytes from byte 17 on as byte 5 says
 unfoldable pub name_at : List ℕ → Option (List ℕ)
 name_at bytes = let n = slice_index bytes 5 in if nat_le n 15 then name_of (take n (drop 17 bytes)) else None
 
+-- the flag in byte 4
 abbrev pub flag_at : List ℕ → Bool
 flag_at bytes = not (slice_index bytes 4 == 0)
 
+-- what an enqueue asks, and a convert, and any kind
 unfoldable pub enqueue_at : List ℕ → Option Action
 enqueue_at bytes = do
   lock ← lock_at bytes
@@ -72,6 +80,7 @@ action_at bytes =
     else if kind == 6 then (do host ← host_of (slice_index bytes 16); Some (Purge host))
     else None
 
+-- the command
 unfoldable pub command_at : List ℕ → Option Command
 command_at bytes = do
   host ← host_of (slice_index bytes 1)

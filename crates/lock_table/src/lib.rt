@@ -4,14 +4,26 @@
 mod clients;
 mod laws;
 mod locks;
+mod no_memory;
+mod picture;
+mod plain;
 mod purge;
 mod queues;
 mod record;
 mod reply;
 mod table;
 
-pub use laws::{held_modes_are_compatible, requests_count_once, settling_is_complete};
+pub use clients::CLIENTS;
+pub use laws::{
+    a_table_has_one_picture, heads_could_not_be_granted, held_modes_are_compatible,
+    requests_count_once, settling_is_complete,
+};
+pub use locks::LOCKS;
+pub use no_memory::NoMemory;
+pub use picture::Picture;
 pub use record::{KnownClient, LockRecord, LockState};
 pub use reply::{Refusal, Reply};
 pub use table::Table;
 
+#[cfg(test)]
+mod tests;

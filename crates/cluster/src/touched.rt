@@ -1,0 +1,61 @@
+ghost use Rattle.std.specs.Prelude.{◌≡◌, List, ℕ, IfErr, OnOk, Some, None};
+ghost use Rattle.disk.specs.Disk.{DiskState, Call, Step};
+ghost use Rattle.cluster.specs.Attempt.{heard_as};
+ghost use Rattle.cluster.specs.Book.{answer_in};
+ghost use Rattle.cluster.specs.Entry.{fault_in};
+ghost use Rattle.cluster.specs.Fits.{FitsCall};
+ghost use Rattle.cluster.specs.OneDisk.{heard_of};
+
+use crate::attempt::Heard;
+use disk::{Boot, DiskFault};
+use torn_block::ROW_LENGTH;
+
+/// What a device call answered. The bytes of a row lie in the disk's book.
+#[derive(Clone, Copy, Debug)]
+pub enum Outcome {
+    Booted(Boot),
+    Done,
+    Told,
+    Fault(DiskFault),
+}
+
+impl Outcome {
+    // The answer to a call that gives nothing more.
+    pub(crate) fn of(answer: Result<(), DiskFault>, success: Outcome) -> Outcome
+        ensures done { OnOk answer (result ≡ success) }
+        ensures failed { IfErr answer (λ fault. result ≡ Outcome.Fault fault) }
+    {
+        match answer {
+            Ok(()) => success,
+            Err(fault) => Outcome::Fault(fault),
+        }
+    }
+
+    // The fault, where the call was answered by one.
+    pub(crate) fn fault(&self) -> Option<DiskFault>
+        ensures { (row : List ℕ) → result ≡ fault_in (answer_in self.now row) }
+    {
+        match self {
+            Outcome::Fault(fault) => Some(*fault),
+            Outcome::Booted(_) | Outcome::Done | Outcome::Told => None,
+        }
+    }
+
+    // What the host hears.
+    pub(crate) fn heard<'a>(&self, row: &'a [u8; ROW_LENGTH]) -> Heard<'a>
+        ensures same { heard_of result ≡ heard_as (answer_in self.now row.now) }
+        ensures fits { (old new : DiskState) (call : Call) → Step old call (answer_in self.now row.now) new → FitsCall call result }
+    {
+        match self {
+            Outcome::Booted(boot) => Heard::Booted(*boot),
+            Outcome::Done => Heard::Done,
+            Outcome::Told => Heard::Told(row),
+            Outcome::Fault(fault) => Heard::Fault(*fault),
+        }
+    }
+}
+
+/// A device call that was made, and is to be committed to the journal: it can't be dropped.
+pub struct Touched {
+    pub(crate) outcome: Outcome,
+}

@@ -1,0 +1,199 @@
+-- Two plain tables with the same locks and clients do and answer the same.
+use Rattle.std.proofs.Common.{◌≡◌, ℕ, Bool, true, false, cond, not, ◌&&◌, ◌||◌, ◌==◌, nat_lt, nat_le, List, [], ◌∷◌, length, Option, Some, None, is_some, map, refl, sym, ap, ◌∙◌}
+use Rattle.std.specs.List.{filter, find, list_any}
+use Rattle.lock_modes.specs.declared.mode.Mode.{Mode}
+use Rattle.lock_command.specs.declared.command.Command.{Command}
+use Rattle.lock_command.specs.declared.command.Action.{Action}
+use Rattle.lock_command.specs.declared.command.Action.TheVariants.{Enqueue, Convert, Release, Cancel, Status, Purge}
+use Rattle.lock_table.specs.declared.clients.TheConstants.{CLIENTS}
+use Rattle.lock_table.specs.declared.locks.TheConstants.{LOCKS}
+use Rattle.lock_table.specs.declared.record.LockRecord.{LockRecord}
+use Rattle.lock_table.specs.declared.record.LockState.{LockState}
+use Rattle.lock_table.specs.declared.record.LockState.TheVariants.{Granted, Converting, Waiting}
+use Rattle.lock_table.specs.declared.record.KnownClient.{KnownClient}
+use Rattle.lock_table.specs.declared.reply.Refusal.TheVariants as refusal
+use Rattle.lock_table.specs.declared.reply.Reply.{Reply}
+use Rattle.lock_table.specs.declared.reply.Reply.TheVariants as reply
+use Rattle.lock_table.specs.Locks.{is_lock, is_on, in_state, lock_in, admits, has_queue, IsDistinct}
+use Rattle.lock_table.specs.Apply.{Outcome, enqueued, converted, released, cancelled, with_own, told, is_through, purged, done, Plain, Applied, is_client, kept, carried_out, applied_after, applied}
+use Rattle.lock_table.specs.Picture.{HasSameLocks, HasSameClients}
+use Rattle.lock_table.proofs.Parts.{find_alike, length_alike, AlikeBy-filter, AlikeBy-append}
+use Rattle.lock_table.proofs.Numbered.{IsDistinct-filter, IsDistinct-put}
+use Rattle.lock_table.proofs.Alike.{same-filter, same-put, same-any, same-lock_in, same-length, same-admits, same-has_queue, same-settled}
+use Rattle.lock_table.proofs.Apart.{IsDistinct-settled, IsDistinct-settled_all}
+use Rattle.lock_table.proofs.Settled.{is_among, same-settled_all}
+
+-- the same locks are left, and the same is answered
+record IsSameOutcome (x y : Outcome) : Type 0 where
+  pub locks : HasSameLocks x.locks y.locks
+  pub reply : x.reply ≡ y.reply
+
+by_test : (t u : Bool) (x y v w : Outcome) → t ≡ u → IsSameOutcome x v → IsSameOutcome y w → IsSameOutcome (cond t x y) (cond u v w)
+by_test true true x y v w same one other = one
+by_test true false x y v w same one other = let impossible : ⊥ = cc in absurd impossible
+by_test false true x y v w same one other = let impossible : ⊥ = cc in absurd impossible
+by_test false false x y v w same one other = other
+
+answered : (a b : List LockRecord) (r : Reply) → HasSameLocks a b → IsSameOutcome (record { locks = a; reply = r }) (record { locks = b; reply = r })
+answered a b r s = record { locks = s; reply = refl }
+
+same-enqueued : (a b : List LockRecord) (new : LockRecord) (mode : Mode) (no_queue : Bool) → HasSameLocks a b → IsSameOutcome (enqueued a new mode no_queue) (enqueued b new mode no_queue)
+same-enqueued a b new mode no_queue s =
+    by_test _ _ _ _ _ _ (ap is_some (same-lock_in new.lock a b s)) (answered a b (reply.Refused refusal.LockInUse) s)
+    (by_test _ _ _ _ _ _ (ap (nat_le LOCKS) (same-length a b s)) (answered a b (reply.Refused refusal.TableFull) s)
+    (by_test _ _ _ _ _ _ (λ i. not (same-has_queue new.name a b s i) && same-admits new.lock new.name mode a b s i) (answered _ _ reply.Granted (same-put (in_state new (Granted mode)) a b s))
+    (by_test no_queue no_queue _ _ _ _ refl (answered a b (reply.Refused refusal.NotQueued) s)
+    (answered _ _ reply.Queued (same-put (in_state new (Waiting mode)) a b s)))))
+
+same-converted : (a b : List LockRecord) (r : LockRecord) (mode : Mode) (no_queue : Bool) (state : LockState) → HasSameLocks a b → IsSameOutcome (converted a r mode no_queue state) (converted b r mode no_queue state)
+same-converted a b r mode no_queue (Waiting wanted) s = answered a b (reply.Refused refusal.StillWaiting) s
+same-converted a b r mode no_queue (Converting held wanted) s = answered a b (reply.Refused refusal.AlreadyConverting) s
+same-converted a b r mode no_queue (Granted held) s =
+    by_test _ _ _ _ _ _ (same-admits r.lock r.name mode a b s) (answered _ _ reply.Granted (same-settled r.name _ _ (same-put (in_state r (Granted mode)) a b s)))
+    (by_test no_queue no_queue _ _ _ _ refl (answered a b (reply.Refused refusal.NotQueued) s)
+    (answered _ _ reply.Queued (same-put (in_state r (Converting held mode)) a b s)))
+
+same-released : (a b : List LockRecord) (r : LockRecord) → HasSameLocks a b → IsSameOutcome (released a r) (released b r)
+same-released a b r s = answered _ _ reply.Released (same-settled r.name _ _ (same-filter (λ o. not (is_lock r.lock o)) a b s))
+
+same-cancelled : (a b : List LockRecord) (r : LockRecord) (state : LockState) → HasSameLocks a b → IsSameOutcome (cancelled a r state) (cancelled b r state)
+same-cancelled a b r (Granted held) s = answered a b (reply.Refused refusal.NothingToCancel) s
+same-cancelled a b r (Converting held wanted) s = answered _ _ reply.Cancelled (same-settled r.name _ _ (same-put (in_state r (Granted held)) a b s))
+same-cancelled a b r (Waiting wanted) s = answered _ _ reply.Cancelled (same-settled r.name _ _ (same-filter (λ o. not (is_lock r.lock o)) a b s))
+
+same-own : (a b : List LockRecord) (client : ℕ) (does also : LockRecord → Outcome) (found : Option LockRecord) → HasSameLocks a b
+    → ((r : LockRecord) → IsSameOutcome (does r) (also r)) → IsSameOutcome (with_own a client does found) (with_own b client also found)
+same-own a b client does also None s each = answered a b (reply.Refused refusal.NoSuchLock) s
+same-own a b client does also (Some r) s each = by_test (r.client == client) (r.client == client) _ _ _ _ refl (each r) (answered a b (reply.Refused refusal.NotOwner) s)
+
+same-told : (a b : List LockRecord) (found : Option LockRecord) → HasSameLocks a b → IsSameOutcome (told a found) (told b found)
+same-told a b None s = answered a b (reply.Refused refusal.NoSuchLock) s
+same-told a b (Some r) s = answered a b (reply.State r.state) s
+
+pub any-names : (name : List ℕ) (locks : List LockRecord) → is_among (map (λ (r : LockRecord). r.name) locks) name ≡ list_any (is_on name) locks
+any-names name [] = refl
+any-names name (r ∷ rest) = ap (λ b. is_on name r || b) (any-names name rest)
+
+same-purged : (a b : List LockRecord) (host : ℕ) → HasSameLocks a b → IsDistinct a → IsSameOutcome (purged a host) (purged b host)
+same-purged a b host s distinct =
+    let gone = same-filter (is_through host) a b s in
+    record {
+      locks = same-settled_all _ _ _ _ (same-filter (λ r. not (is_through host r)) a b s) (IsDistinct-filter (λ r. not (is_through host r)) a distinct)
+          (λ name. any-names name (filter (is_through host) a) ∙ same-any (is_on name) _ _ gone ∙ sym (any-names name (filter (is_through host) b)));
+      reply = ap reply.Purged (same-length _ _ gone);
+    }
+
+same-done : (a b : List LockRecord) (host client : ℕ) (action : Action) → HasSameLocks a b → IsDistinct a → IsSameOutcome (done a host client action) (done b host client action)
+same-done a b host client (Enqueue lock name mode no_queue) s distinct = same-enqueued a b (record { lock = lock; client = client; host = host; name = name; state = Waiting mode }) mode no_queue s
+same-done a b host client (Convert lock mode no_queue) s distinct =
+    rw (same-lock_in lock a b s) (same-own a b client (λ r. converted a r mode no_queue r.state) (λ r. converted b r mode no_queue r.state) (lock_in b lock) s (λ r. same-converted a b r mode no_queue r.state s))
+same-done a b host client (Release lock) s distinct =
+    rw (same-lock_in lock a b s) (same-own a b client (released a) (released b) (lock_in b lock) s (λ r. same-released a b r s))
+same-done a b host client (Cancel lock) s distinct =
+    rw (same-lock_in lock a b s) (same-own a b client (λ r. cancelled a r r.state) (λ r. cancelled b r r.state) (lock_in b lock) s (λ r. same-cancelled a b r r.state s))
+same-done a b host client (Status lock) s distinct = rw (same-lock_in lock a b s) (same-told a b (lock_in b lock) s)
+same-done a b host client (Purge gone) s distinct = same-purged a b gone s distinct
+
+client_of : KnownClient → ℕ
+client_of k = k.client
+
+same-kept : (k : KnownClient) (x y : List KnownClient) → HasSameClients x y → HasSameClients (kept x k) (kept y k)
+unfolding client_of
+same-kept k x y s = AlikeBy-append client_of (k ∷ []) _ _ (AlikeBy-filter client_of (λ other. not (is_client k.client other)) x y s)
+
+-- the same table is left, and the same is answered
+pub record IsSameApplied (x y : Applied) : Type 0 where
+  pub locks : HasSameLocks x.table.locks y.table.locks
+  pub clients : HasSameClients x.table.clients y.table.clients
+  pub reply : x.reply ≡ y.reply
+
+by_truth : (t u : Bool) (x y v w : Applied) → t ≡ u → IsSameApplied x v → IsSameApplied y w → IsSameApplied (cond t x y) (cond u v w)
+by_truth true true x y v w same one other = one
+by_truth true false x y v w same one other = let impossible : ⊥ = cc in absurd impossible
+by_truth false true x y v w same one other = let impossible : ⊥ = cc in absurd impossible
+by_truth false false x y v w same one other = other
+
+same-carried_out : (x y : Plain) (c : Command) → HasSameLocks x.locks y.locks → HasSameClients x.clients y.clients → IsDistinct x.locks → IsSameApplied (carried_out x c) (carried_out y c)
+same-carried_out x y c locks clients distinct =
+    let o = same-done x.locks y.locks c.host c.client c.action locks distinct in
+    record {
+      locks = o.locks;
+      clients = λ n. same-kept _ x.clients y.clients clients n ∙ ap (λ (r : Reply). filter (is_client n) (kept y.clients (record { client = c.client; request = c.request; reply = r }))) o.reply;
+      reply = o.reply;
+    }
+
+same-after : (x y : Plain) (c : Command) (found : Option KnownClient) → HasSameLocks x.locks y.locks → HasSameClients x.clients y.clients → IsDistinct x.locks → IsSameApplied (applied_after x c found) (applied_after y c found)
+unfolding client_of
+same-after x y c None locks clients distinct =
+    by_truth _ _ _ _ _ _ (ap (nat_le CLIENTS) (length_alike client_of x.clients y.clients clients)) (record { locks = locks; clients = clients; reply = refl }) (same-carried_out x y c locks clients distinct)
+same-after x y c (Some k) locks clients distinct =
+    by_truth (nat_lt c.request k.request) (nat_lt c.request k.request) _ _ _ _ refl (record { locks = locks; clients = clients; reply = refl })
+    (by_truth (c.request == k.request) (c.request == k.request) _ _ _ _ refl (record { locks = locks; clients = clients; reply = refl }) (same-carried_out x y c locks clients distinct))
+
+-- the same command does and answers the same
+pub same-applied : (x y : Plain) (c : Command) → HasSameLocks x.locks y.locks → HasSameClients x.clients y.clients → IsDistinct x.locks → IsSameApplied (applied x c) (applied y c)
+unfolding applied client_of
+same-applied x y c locks clients distinct = rw (find_alike client_of c.client x.clients y.clients clients) (same-after x y c (find (is_client c.client) y.clients) locks clients distinct)
+
+-- a command leaves no two records with one lock number
+LeavesDistinct : Outcome → Type 0
+LeavesDistinct o = IsDistinct o.locks
+
+distinct_by_test : (t : Bool) (x y : Outcome) → LeavesDistinct x → LeavesDistinct y → LeavesDistinct (cond t x y)
+distinct_by_test true x y one other = one
+distinct_by_test false x y one other = other
+
+distinct-converted : (a : List LockRecord) (r : LockRecord) (mode : Mode) (no_queue : Bool) (state : LockState) → IsDistinct a → LeavesDistinct (converted a r mode no_queue state)
+unfolding LeavesDistinct
+distinct-converted a r mode no_queue (Waiting wanted) d = d
+distinct-converted a r mode no_queue (Converting held wanted) d = d
+distinct-converted a r mode no_queue (Granted held) d =
+    distinct_by_test (admits a r.lock r.name mode) _ _ (IsDistinct-settled r.name _ (IsDistinct-put a (in_state r (Granted mode)) d))
+    (distinct_by_test no_queue _ _ d (IsDistinct-put a (in_state r (Converting held mode)) d))
+
+distinct-cancelled : (a : List LockRecord) (r : LockRecord) (state : LockState) → IsDistinct a → LeavesDistinct (cancelled a r state)
+unfolding LeavesDistinct
+distinct-cancelled a r (Granted held) d = d
+distinct-cancelled a r (Converting held wanted) d = IsDistinct-settled r.name _ (IsDistinct-put a (in_state r (Granted held)) d)
+distinct-cancelled a r (Waiting wanted) d = IsDistinct-settled r.name _ (IsDistinct-filter (λ o. not (is_lock r.lock o)) a d)
+
+distinct-own : (a : List LockRecord) (client : ℕ) (does : LockRecord → Outcome) (found : Option LockRecord) → IsDistinct a → ((r : LockRecord) → LeavesDistinct (does r)) → LeavesDistinct (with_own a client does found)
+unfolding LeavesDistinct
+distinct-own a client does None d each = d
+distinct-own a client does (Some r) d each = distinct_by_test (r.client == client) _ _ (each r) d
+
+distinct-told : (a : List LockRecord) (found : Option LockRecord) → IsDistinct a → LeavesDistinct (told a found)
+unfolding LeavesDistinct
+distinct-told a None d = d
+distinct-told a (Some r) d = d
+
+pub distinct-done : (a : List LockRecord) (host client : ℕ) (action : Action) → IsDistinct a → IsDistinct (done a host client action).locks
+unfolding LeavesDistinct
+distinct-done a host client (Enqueue lock name mode no_queue) d =
+    let new : LockRecord = record { lock = lock; client = client; host = host; name = name; state = Waiting mode } in
+    distinct_by_test (is_some (lock_in a lock)) _ _ d
+    (distinct_by_test (nat_le LOCKS (length a)) _ _ d
+    (distinct_by_test (not (has_queue a name) && admits a lock name mode) _ _ (IsDistinct-put a (in_state new (Granted mode)) d)
+    (distinct_by_test no_queue _ _ d (IsDistinct-put a (in_state new (Waiting mode)) d))))
+distinct-done a host client (Convert lock mode no_queue) d = distinct-own a client (λ r. converted a r mode no_queue r.state) (lock_in a lock) d (λ r. distinct-converted a r mode no_queue r.state d)
+distinct-done a host client (Release lock) d = distinct-own a client (released a) (lock_in a lock) d (λ r. IsDistinct-settled r.name _ (IsDistinct-filter (λ o. not (is_lock r.lock o)) a d))
+distinct-done a host client (Cancel lock) d = distinct-own a client (λ r. cancelled a r r.state) (lock_in a lock) d (λ r. distinct-cancelled a r r.state d)
+distinct-done a host client (Status lock) d = distinct-told a (lock_in a lock) d
+distinct-done a host client (Purge gone) d = IsDistinct-settled_all (map (λ (r : LockRecord). r.name) (filter (is_through gone) a)) _ (IsDistinct-filter (λ r. not (is_through gone r)) a d)
+
+LeavesTableDistinct : Applied → Type 0
+LeavesTableDistinct x = IsDistinct x.table.locks
+
+distinct_by_truth : (t : Bool) (x y : Applied) → LeavesTableDistinct x → LeavesTableDistinct y → LeavesTableDistinct (cond t x y)
+distinct_by_truth true x y one other = one
+distinct_by_truth false x y one other = other
+
+distinct-after : (t : Plain) (c : Command) (found : Option KnownClient) → IsDistinct t.locks → LeavesTableDistinct (applied_after t c found)
+unfolding LeavesTableDistinct
+distinct-after t c None d = distinct_by_truth (nat_le CLIENTS (length t.clients)) _ _ d (distinct-done t.locks c.host c.client c.action d)
+distinct-after t c (Some k) d =
+    distinct_by_truth (nat_lt c.request k.request) _ _ d (distinct_by_truth (c.request == k.request) _ _ d (distinct-done t.locks c.host c.client c.action d))
+
+pub distinct-applied : (t : Plain) (c : Command) → IsDistinct t.locks → IsDistinct (applied t c).table.locks
+unfolding applied LeavesTableDistinct
+distinct-applied t c d = distinct-after t c (find (is_client c.client) t.clients) d

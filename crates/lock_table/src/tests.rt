@@ -1,0 +1,339 @@
+use crate::{LockState, Picture, Refusal, Reply, Table};
+use lock_command::{
+    Action, ClientNumber, Command, HostNumber, LockName, LockNumber, RequestNumber,
+};
+use lock_modes::Mode;
+use std::test::Fail;
+
+/// What a row asks, with names of one byte.
+#[derive(Clone, Copy)]
+enum Ask {
+    Enqueue(u16, Mode, u8),
+    Convert(u16, Mode),
+    ConvertNow(u16, Mode),
+    Release(u16),
+    Cancel(u16),
+    Status(u16),
+    Purge(u8),
+}
+
+/// Host, client, request number, what is asked, and the reply that has to come.
+type Step = (u8, u8, u64, Ask, Reply);
+
+/// Name, lock, client, host and state of a lock in a picture.
+type Line = (u8, u16, u8, u8, LockState);
+
+fn lock(number: u16) -> Result<LockNumber, Fail> {
+    Ok(LockNumber::new(number).ok_or("lock number")?)
+}
+
+fn action(ask: Ask) -> Result<Action, Fail> {
+    Ok(match ask {
+        Ask::Enqueue(number, mode, name) => Action::Enqueue {
+            lock: lock(number)?,
+            name: LockName::new(&[name]).ok_or("name")?,
+            mode,
+            no_queue: false,
+        },
+        Ask::Convert(number, mode) => Action::Convert {
+            lock: lock(number)?,
+            mode,
+            no_queue: false,
+        },
+        Ask::ConvertNow(number, mode) => Action::Convert {
+            lock: lock(number)?,
+            mode,
+            no_queue: true,
+        },
+        Ask::Release(number) => Action::Release(lock(number)?),
+        Ask::Cancel(number) => Action::Cancel(lock(number)?),
+        Ask::Status(number) => Action::Status(lock(number)?),
+        Ask::Purge(host) => Action::Purge(HostNumber::new(host).ok_or("host to purge")?),
+    })
+}
+
+fn reply_to(table: &mut Table, step: &Step) -> Result<Reply, Fail> {
+    let command = Command {
+        host: HostNumber::new(step.0).ok_or("host")?,
+        client: ClientNumber::new(step.1),
+        request: RequestNumber::new(step.2).ok_or("request number")?,
+        action: action(step.3)?,
+    };
+    Ok(table.apply(&command))
+}
+
+/// Whether the table replies to each step as it has to.
+fn replies(table: &mut Table, steps: &[Step]) -> Result<bool, Fail> {
+    for step in steps {
+        if reply_to(table, step)? != step.4 {
+            return Ok(false);
+        }
+    }
+    Ok(true)
+}
+
+/// Whether the picture lists these locks, and no others.
+fn lists(picture: &Picture, lines: &[Line]) -> bool {
+    let locks = picture.locks();
+    if locks.len() != lines.len() {
+        return false;
+    }
+    for at in 0..lines.len() {
+        let (name, lock, client, host, state) = lines[at];
+        let record = &locks[at];
+        let same_name = record.name.as_bytes() == [name].as_slice();
+        let same_owner = record.client.get() == client && record.host.get() == host;
+        if !same_name || record.lock.get() != lock || !same_owner || record.state != state {
+            return false;
+        }
+    }
+    true
+}
+
+const NULL: Mode = Mode::Null;
+
+const READ: Mode = Mode::ConcurrentRead;
+
+const WRITE: Mode = Mode::ConcurrentWrite;
+
+const SHARED: Mode = Mode::ProtectedRead;
+
+const UPDATE: Mode = Mode::ProtectedWrite;
+
+const ALONE: Mode = Mode::Exclusive;
+
+#[test]
+fn three_locks_of_which_one_waits(rt: HostRuntime) -> Result<(), Fail> {
+    let table = &mut Table::new(rt.alloc())?;
+    let steps = [
+        (0, 1, 1, Ask::Enqueue(1, READ, b'a'), Reply::Granted),
+        (0, 2, 1, Ask::Enqueue(2, WRITE, b'a'), Reply::Granted),
+        (0, 3, 1, Ask::Enqueue(3, SHARED, b'a'), Reply::Queued),
+    ];
+    assert!(rt; replies(table, &steps)?);
+    let lines = [
+        (b'a', 1, 1, 0, LockState::Granted(READ)),
+        (b'a', 2, 2, 0, LockState::Granted(WRITE)),
+        (b'a', 3, 3, 0, LockState::Waiting(SHARED)),
+    ];
+    assert!(rt; lists(&table.picture(rt.alloc())?, &lines));
+    Ok(())
+}
+
+#[test]
+fn deadlock_of_two_conversions(rt: HostRuntime) -> Result<(), Fail> {
+    let table = &mut Table::new(rt.alloc())?;
+    let steps = [
+        (0, 1, 1, Ask::Enqueue(1, SHARED, b'a'), Reply::Granted),
+        (0, 2, 1, Ask::Enqueue(2, SHARED, b'a'), Reply::Granted),
+        (0, 1, 2, Ask::Convert(1, ALONE), Reply::Queued),
+        (0, 2, 2, Ask::Convert(2, ALONE), Reply::Queued),
+    ];
+    assert!(rt; replies(table, &steps)?);
+    Ok(())
+}
+
+#[test]
+fn conversion_before_waiting_locks(rt: HostRuntime) -> Result<(), Fail> {
+    let table = &mut Table::new(rt.alloc())?;
+    let steps = [
+        (0, 1, 1, Ask::Enqueue(1, NULL, b'a'), Reply::Granted),
+        (0, 2, 1, Ask::Enqueue(2, ALONE, b'a'), Reply::Granted),
+        (0, 1, 2, Ask::Convert(1, UPDATE), Reply::Queued),
+        (0, 3, 1, Ask::Enqueue(3, READ, b'a'), Reply::Queued),
+        (0, 4, 1, Ask::Enqueue(4, SHARED, b'a'), Reply::Queued),
+        (0, 2, 2, Ask::Release(2), Reply::Released),
+    ];
+    assert!(rt; replies(table, &steps)?);
+    let lines = [
+        (b'a', 1, 1, 0, LockState::Granted(UPDATE)),
+        (b'a', 3, 3, 0, LockState::Granted(READ)),
+        (b'a', 4, 4, 0, LockState::Waiting(SHARED)),
+    ];
+    assert!(rt; lists(&table.picture(rt.alloc())?, &lines));
+    Ok(())
+}
+
+#[test]
+fn later_waiters_do_not_overtake(rt: HostRuntime) -> Result<(), Fail> {
+    let table = &mut Table::new(rt.alloc())?;
+    let steps = [
+        (0, 1, 1, Ask::Enqueue(1, READ, b'a'), Reply::Granted),
+        (0, 2, 1, Ask::Enqueue(2, SHARED, b'a'), Reply::Granted),
+        (0, 3, 1, Ask::Enqueue(3, UPDATE, b'a'), Reply::Queued),
+        (0, 4, 1, Ask::Enqueue(4, READ, b'a'), Reply::Queued),
+    ];
+    assert!(rt; replies(table, &steps)?);
+    Ok(())
+}
+
+#[test]
+fn settle_does_not_pass_over_a_blocked_head(rt: HostRuntime) -> Result<(), Fail> {
+    let table = &mut Table::new(rt.alloc())?;
+    let waits = Reply::State(LockState::Waiting(READ));
+    let steps = [
+        (0, 1, 1, Ask::Enqueue(1, READ, b'a'), Reply::Granted),
+        (0, 2, 1, Ask::Enqueue(2, SHARED, b'a'), Reply::Granted),
+        (0, 3, 1, Ask::Enqueue(3, UPDATE, b'a'), Reply::Queued),
+        (0, 4, 1, Ask::Enqueue(4, READ, b'a'), Reply::Queued),
+        (0, 1, 2, Ask::Release(1), Reply::Released),
+        (0, 1, 3, Ask::Status(4), waits),
+    ];
+    assert!(rt; replies(table, &steps)?);
+    Ok(())
+}
+
+#[test]
+fn noqueue_and_status(rt: HostRuntime) -> Result<(), Fail> {
+    let table = &mut Table::new(rt.alloc())?;
+    let refused = Reply::Refused(Refusal::NotQueued);
+    let held = Reply::State(LockState::Granted(READ));
+    let steps = [
+        (0, 1, 1, Ask::Enqueue(1, READ, b'a'), Reply::Granted),
+        (0, 2, 1, Ask::Enqueue(2, READ, b'a'), Reply::Granted),
+        (0, 1, 2, Ask::ConvertNow(1, ALONE), refused),
+        (0, 1, 3, Ask::Status(1), held),
+    ];
+    assert!(rt; replies(table, &steps)?);
+    Ok(())
+}
+
+#[test]
+fn repetition_through_another_host(rt: HostRuntime) -> Result<(), Fail> {
+    let table = &mut Table::new(rt.alloc())?;
+    let steps = [
+        (0, 1, 1, Ask::Enqueue(1, ALONE, b'd'), Reply::Granted),
+        (1, 1, 1, Ask::Enqueue(1, ALONE, b'd'), Reply::Granted),
+    ];
+    assert!(rt; replies(table, &steps)?);
+    let picture = table.picture(rt.alloc())?;
+    assert!(rt; lists(&picture, &[(b'd', 1, 1, 0, LockState::Granted(ALONE))]));
+    assert!(rt; picture.clients().len() == 1);
+    Ok(())
+}
+
+#[test]
+fn purge_and_a_stale_number(rt: HostRuntime) -> Result<(), Fail> {
+    let table = &mut Table::new(rt.alloc())?;
+    let stale = Reply::Refused(Refusal::Stale);
+    let steps = [
+        (0, 2, 1, Ask::Enqueue(2, ALONE, b'b'), Reply::Granted),
+        (1, 1, 1, Ask::Enqueue(1, ALONE, b'a'), Reply::Granted),
+        (1, 1, 2, Ask::Enqueue(3, SHARED, b'b'), Reply::Queued),
+        (0, 2, 2, Ask::Enqueue(4, SHARED, b'a'), Reply::Queued),
+        (0, 3, 1, Ask::Purge(1), Reply::Purged(2)),
+        (0, 2, 1, Ask::Status(4), stale),
+    ];
+    assert!(rt; replies(table, &steps)?);
+    let lines = [
+        (b'a', 4, 2, 0, LockState::Granted(SHARED)),
+        (b'b', 2, 2, 0, LockState::Granted(ALONE)),
+    ];
+    assert!(rt; lists(&table.picture(rt.alloc())?, &lines));
+    Ok(())
+}
+
+#[test]
+fn table_full(rt: HostRuntime) -> Result<(), Fail> {
+    let table = &mut Table::new(rt.alloc())?;
+    for number in 1..257u16 {
+        let ask_for = Ask::Enqueue(number, NULL, b'a');
+        let step = (0, 1, u64::from(number), ask_for, Reply::Granted);
+        assert!(rt; replies(table, &[step])?);
+    }
+    let steps = [
+        (
+            0,
+            1,
+            257,
+            Ask::Enqueue(257, NULL, b'a'),
+            Reply::Refused(Refusal::TableFull),
+        ),
+        (
+            0,
+            1,
+            257,
+            Ask::Enqueue(257, NULL, b'a'),
+            Reply::Refused(Refusal::TableFull),
+        ),
+        (
+            0,
+            1,
+            258,
+            Ask::Enqueue(1, NULL, b'a'),
+            Reply::Refused(Refusal::LockInUse),
+        ),
+    ];
+    assert!(rt; replies(table, &steps)?);
+    Ok(())
+}
+
+#[test]
+fn clients_full(rt: HostRuntime) -> Result<(), Fail> {
+    let table = &mut Table::new(rt.alloc())?;
+    let unknown = Reply::Refused(Refusal::NoSuchLock);
+    for client in 0..32u8 {
+        assert!(rt; replies(table, &[(0, client, 1, Ask::Status(5), unknown)])?);
+    }
+    let steps = [
+        (
+            0,
+            32,
+            1,
+            Ask::Status(5),
+            Reply::Refused(Refusal::ClientsFull),
+        ),
+        (0, 0, 1, Ask::Status(5), unknown),
+    ];
+    assert!(rt; replies(table, &steps)?);
+    Ok(())
+}
+
+/// Each of 32 clients takes eight locks on a name of its own.
+fn fill(table: &mut Table) -> Result<bool, Fail> {
+    for client in 0..32u8 {
+        for number in 1..9u8 {
+            let ask_for = Ask::Enqueue(
+                u16::from(client) * 8 + u16::from(number),
+                NULL,
+                b'A' + client,
+            );
+            let step = (0, client, u64::from(number), ask_for, Reply::Granted);
+            if !replies(table, &[step])? {
+                return Ok(false);
+            }
+        }
+    }
+    Ok(true)
+}
+
+#[test]
+fn a_full_table_takes_each_command(rt: HostRuntime) -> Result<(), Fail> {
+    let table = &mut Table::new(rt.alloc())?;
+    assert!(rt; fill(table)?);
+    let steps = [
+        (
+            0,
+            0,
+            9,
+            Ask::Enqueue(257, NULL, b'A'),
+            Reply::Refused(Refusal::TableFull),
+        ),
+        (0, 1, 9, Ask::Convert(9, ALONE), Reply::Granted),
+        (0, 1, 10, Ask::Convert(10, READ), Reply::Queued),
+        (0, 1, 11, Ask::Cancel(10), Reply::Cancelled),
+        (
+            0,
+            2,
+            9,
+            Ask::Status(9),
+            Reply::State(LockState::Granted(ALONE)),
+        ),
+        (0, 1, 12, Ask::Release(9), Reply::Released),
+        (0, 3, 9, Ask::Purge(0), Reply::Purged(255)),
+    ];
+    assert!(rt; replies(table, &steps)?);
+    let picture = table.picture(rt.alloc())?;
+    assert!(rt; picture.locks().is_empty() && picture.clients().len() == 32);
+    Ok(())
+}
