@@ -1,0 +1,2 @@
+mod LineCounts
+mod Numbers

@@ -1,0 +1,36 @@
+use crate::reply_text::ReplyText;
+use cluster::{HostAnswer, Refusal};
+use std::fmt;
+
+#[cfg(test)]
+mod tests;
+
+/// What a host answered, as it is printed behind the host.
+#[derive(Clone, Copy)]
+pub struct AnswerText(pub HostAnswer);
+
+impl fmt::Display for AnswerText {
+    fn fmt<W: fmt::Write>(&self, f: &mut fmt::Formatter<W>) -> fmt::Result {
+        match self.0 {
+            HostAnswer::Ack { slot, reply } => {
+                let reply = ReplyText(reply);
+                write!(f, "ack {slot} {reply}")
+            }
+            HostAnswer::Refused(refusal) => {
+                let refusal = refusal_text(refusal);
+                write!(f, "refused {refusal}")
+            }
+        }
+    }
+}
+
+/// The number and the name of a refusal of an operation.
+fn refusal_text(refusal: Refusal) -> &'static str {
+    match refusal {
+        Refusal::Outrun => "6 Outrun",
+        Refusal::NoMajority => "7 NoMajority",
+        Refusal::BallotsSpent => "8 BallotsSpent",
+        Refusal::LogFull => "9 LogFull",
+        Refusal::NotACommand => "10 NotACommand",
+    }
+}

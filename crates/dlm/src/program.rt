@@ -1,0 +1,101 @@
+ghost use Rattle.std.specs.Prelude.{◌≡◌, ◌≤◌, ◌↔◌, is_ok, if◌then◌else◌};
+ghost use Rattle.std.specs.Io.KnownBytes.{Keeps};
+
+use crate::failure::Failure;
+use crate::fault::Fault;
+use crate::run::run_script;
+use crate::script::read_script;
+use crate::words::{Task, WordsFault, task_of};
+use std::alloc::Global;
+use std::io::{Read, Write};
+use std::rt::Files;
+use std::{fs, io};
+
+#[cfg(test)]
+mod tests;
+
+/// Does what the words ask for, prints on `out` and a refusal on `err`, and returns the status.
+pub fn run_words<R: Files + Input + AllocGlobal, O: Write, E: Write>(
+    rt: &R,
+    words: &[&str],
+    out: &mut O,
+    err: &mut E,
+) -> u8
+    ensures status { result ≤ 2 }
+    ensures quiet { result ≡ 0 → err.new ≡ err.old }
+    ensures usage { result ≡ 2 → Keeps (O.contents out.old) (O.contents out.new) }
+{
+    match task_of(rt.alloc(), words) {
+        Ok(Task::Run { script }) => finish(run_file(rt, script, out), err),
+        Err(fault) => decline(fault, err),
+    }
+}
+
+/// Tells why the words are no task, and returns the status.
+pub fn decline<E: Write>(fault: WordsFault, err: &mut E) -> u8
+    ensures usage { result ≡ 2 ↔ (fault ≡ WordsFault.Usage) }
+    ensures refusal { result ≡ 1 ↔ (fault ≡ WordsFault.NoMemory) }
+{
+    match fault {
+        WordsFault::NoMemory => refuse(Fault::NoMemory, err),
+        WordsFault::Usage => {
+            let _ = writeln!(err, "dlm: usage");
+            2
+        }
+    }
+}
+
+/// Tells why the task did not end well, if so, and returns the status.
+fn finish<E: Write>(end: Result<(), Failure>, err: &mut E) -> u8
+    ensures status { result ≡ (if is_ok end then 0 else 1) }
+    ensures quiet { result ≡ 0 → err.new ≡ err.old }
+{
+    match end {
+        Ok(()) => 0,
+        Err(Failure::Refused(fault)) => refuse(fault, err),
+        Err(Failure::Output(_)) => 1,
+    }
+}
+
+/// Tells the refusal, and returns its status.
+fn refuse<E: Write>(fault: Fault, err: &mut E) -> u8
+    ensures { result ≡ 1 }
+{
+    let _ = writeln!(err, "dlm: {fault}");
+    1
+}
+
+fn run_file<R: Files + Input + AllocGlobal, O: Write>(
+    rt: &R,
+    path: &str,
+    out: &mut O,
+) -> Result<(), Failure> {
+    let bytes = read_source(rt, path)?;
+    run_bytes(rt.alloc(), bytes.as_slice(), out)
+}
+
+/// Reads the whole script and runs it. What it printed goes out also where it is refused later on.
+fn run_bytes<O: Write>(alloc: Global, bytes: &[u8], out: &mut O) -> Result<(), Failure> {
+    let script = read_script(alloc, bytes)?;
+    let end = run_script(alloc, &script, out);
+    out.flush()?;
+    end
+}
+
+/// The bytes of the file, or of the standard input.
+fn read_source<R: Files + Input + AllocGlobal>(rt: &R, path: &str) -> Result<Vec<u8>, Fault> {
+    let read = match path {
+        "/dev/stdin" => read_input(rt),
+        _ => fs::read(rt, path),
+    };
+    match read {
+        Ok(bytes) => Ok(bytes),
+        Err(error) => Err(Fault::of_reading(&error)),
+    }
+}
+
+fn read_input<R: Input + AllocGlobal>(rt: &R) -> io::Result<Vec<u8>> {
+    let mut bytes = Vec::new(rt.alloc());
+    rt.reader().read_to_end(&mut bytes)?;
+    Ok(bytes)
+}

@@ -1,0 +1,49 @@
+use crate::mode_text::ModeText;
+use lock_table::{LockState, Refusal, Reply};
+use std::fmt;
+
+/// A reply of the lock table.
+#[derive(Clone, Copy)]
+pub struct ReplyText(pub Reply);
+
+impl fmt::Display for ReplyText {
+    fn fmt<W: fmt::Write>(&self, f: &mut fmt::Formatter<W>) -> fmt::Result {
+        match self.0 {
+            Reply::Granted => f.write_str("Granted"),
+            Reply::Queued => f.write_str("Queued"),
+            Reply::Released => f.write_str("Released"),
+            Reply::Cancelled => f.write_str("Cancelled"),
+            Reply::Purged(count) => write!(f, "Purged({count})"),
+            Reply::State(state) => {
+                let (held, wanted) = modes_of(state);
+                write!(f, "State(held={held}, wanted={wanted})")
+            }
+            Reply::Refused(refusal) => f.write_str(refusal_text(refusal)),
+        }
+    }
+}
+
+/// The held mode and the wanted one.
+fn modes_of(state: LockState) -> (ModeText, ModeText) {
+    match state {
+        LockState::Granted(held) => (ModeText(Some(held)), ModeText(None)),
+        LockState::Converting { held, wanted } => (ModeText(Some(held)), ModeText(Some(wanted))),
+        LockState::Waiting(wanted) => (ModeText(None), ModeText(Some(wanted))),
+    }
+}
+
+/// The number and the name of a refusal of the lock table.
+fn refusal_text(refusal: Refusal) -> &'static str {
+    match refusal {
+        Refusal::LockInUse => "11 LockInUse",
+        Refusal::NoSuchLock => "12 NoSuchLock",
+        Refusal::NotOwner => "13 NotOwner",
+        Refusal::AlreadyConverting => "14 AlreadyConverting",
+        Refusal::StillWaiting => "15 StillWaiting",
+        Refusal::NotQueued => "16 NotQueued",
+        Refusal::TableFull => "17 TableFull",
+        Refusal::Stale => "18 Stale",
+        Refusal::ClientsFull => "19 ClientsFull",
+        Refusal::NothingToCancel => "20 NothingToCancel",
+    }
+}

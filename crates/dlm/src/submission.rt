@@ -1,0 +1,13 @@
+ghost use Rattle.std.specs.Prelude.{◌≡◌, ◌≤◌};
+
+use lock_command::Command;
+
+/// A command that is to be put into the log.
+#[derive(Clone, Copy, Debug)]
+pub struct Submission {
+    pub command: Command,
+    /// How many attempts the host has for a slot.
+    pub tries: u8,
+    ghost first_host: { command.host ≡ 0 },
+    ghost tried: { 1 ≤ tries },
+}

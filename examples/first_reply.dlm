@@ -1,0 +1,4 @@
+cluster 1 4
+start 0
+submit 0 1 enqueue 1 1 10 EX db
+step 0 17
