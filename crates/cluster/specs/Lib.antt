@@ -8,6 +8,7 @@ pub mod Host
 pub mod Journal
 pub mod Numbers
 pub mod OneDisk
+pub mod Ready
 pub mod Seat
 pub mod Shape
 pub mod World

@@ -12,6 +12,9 @@ use disk::Disk;
 use std::marker::Model;
 use torn_block::ROW_LENGTH;
 
+#[cfg(test)]
+mod tests;
+
 /// A disk, and the call on it that the journal does not have yet, where there is one.
 #[derive(Drop)]
 pub struct DiskBook<D: Disk> {

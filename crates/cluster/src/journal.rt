@@ -78,7 +78,7 @@ impl Journal {
     }
 
     // Keeps an entry in the room, and tells its place.
-    pub(crate) fn keep(&mut self, promise: Promise, entry: Entry) -> usize
+    pub(crate) fn keep(&mut self, room: Promise, entry: Entry) -> usize
         requires { 0 < self.old.promised }
         ensures kept { self.new ≡ record { entries = self.old.entries ++ entry ∷ []; promised = self.old.promised - 1 } }
         ensures place { result ≡ length self.old.entries }
@@ -87,7 +87,7 @@ impl Journal {
         if let Entry::Submit { command, .. } = &entry {
             let _action = &command.action;
         }
-        let Promise(()) = promise;
+        let Promise(()) = room;
         let place = self.entries.len();
         push(&mut self.entries, entry);
         self.promised -= 1;
