@@ -1,5 +1,5 @@
 -- How journal, book and seat come to agree, and go on to.
-use Rattle.std.proofs.Common.{◌≡◌, ◌<◌, ◌≤◌, ◌+◌, ℕ, IsTrue, Bool, true, false, cond, List, [], ◌∷◌, ◌++◌, length, map, filter, Option, Some, None, refl, sym, ◌∙◌, ap, subst, arith}
+use Rattle.std.proofs.Common.{◌≡◌, ◌≤◌, ℕ, IsTrue, Bool, true, cond, List, [], ◌∷◌, ◌++◌, length, Option, Some, None, refl, sym, ◌∙◌, ap, subst, arith}
 use Rattle.std.proofs.lemmas.List.{map-append, append-nil, length-map}
 use Rattle.std.proofs.lemmas.List.Elements.{filter-append}
 use Rattle.std.proofs.lemmas.Bool.{eq-eqb}
@@ -16,7 +16,7 @@ use Rattle.cluster.specs.declared.touched.Outcome.{Outcome}
 use Rattle.cluster.specs.Agreement.{Makes, IsFollowedBy, Agree}
 use Rattle.cluster.specs.Attempt.{heard_as}
 use Rattle.cluster.specs.Book.{BookState, answer_in}
-use Rattle.cluster.specs.Entry.{Filled, Start, Submit, Called, plain, is_of, is_on, kind_of, fault_in, on_disk, of_host, called_by, disk_step, disk_after, host_step, host_after}
+use Rattle.cluster.specs.Entry.{Filled, Start, Submit, Called, plain, is_of, is_on, kind_of, fault_in, on_disk, of_host, called_by, disk_after, host_step, host_after}
 use Rattle.cluster.specs.Host.{Host, Stopped, Running, Memory, Doing, next_doing, next_in, next_of, is_idle_in, is_idle, idles, goes_on, hears, fresh}
 use Rattle.cluster.specs.Seat.{SeatState, knowing}
 use Rattle.cluster.specs.Shape.{Shape}
@@ -205,10 +205,10 @@ module _ (kept : List Entry) (book : BookState) (old : SeatState) (outcome : Out
         disk = leaves.1 ∙ sym (ap (disk_after (fresh_disk book.device.size)) (filter-append (is_on 0) agree.log (entry ∷ [])) ∙ disk_more (fresh_disk book.device.size) (on_disk 0 agree.log) entry);
         host = ap (host_after old.shape old.host Stopped) (of_host_more old.host agree.log entry own) ∙ host_more old.shape old.host Stopped (of_host old.host agree.log) entry ∙ ap (λ (s : Host). host_step old.shape old.host s entry) agree.host;
         acks =
-          acks_is
-          ∙ ap (λ (n : ℕ). old.acks ++ receipt_by old.host n old.memory.doing after.said) long
-          ∙ ap (λ (l : List Receipt). l ++ receipt) agree.acks
-          ∙ sym (receipts_of_more old.shape old.host agree.log entry (Running old.memory) own agree.host ∙ ap (λ (l : List Receipt). receipts_of old.shape old.host agree.log ++ l) (append-nil receipt));
+            acks_is
+            ∙ ap (λ (n : ℕ). old.acks ++ receipt_by old.host n old.memory.doing after.said) long
+            ∙ ap (λ (l : List Receipt). l ++ receipt) agree.acks
+            ∙ sym (receipts_of_more old.shape old.host agree.log entry (Running old.memory) own agree.host ∙ ap (λ (l : List Receipt). receipts_of old.shape old.host agree.log ++ l) (append-nil receipt));
         tells = agree.tells;
       }
 
@@ -237,7 +237,7 @@ commits kept more book new_book old new outcome call pending due more_is book_is
     let same : call ≡ made.call = one_next call made.call (sym due ∙ made.due) in
     let after = hears old.shape old.host old.memory old.memory.doing (record { disk = 0; heard = heard_as (answer_in outcome book.row) }) in
     let seat_is : new ≡ record { host = old.host; shape = old.shape; memory = after; acks = new.acks } =
-      λ i. record { host = host_is i; shape = shape_is i; memory = memory_is i; acks = new.acks } in
+    λ i. record { host = host_is i; shape = shape_is i; memory = memory_is i; acks = new.acks } in
     let entry_is : List Entry → Type 0 = λ l. Agree l new_book new in
     subst entry_is (sym (more_is ∙ ap (λ (c : Call). kept ++ entries.Called old.host 0 (kind_of c) (fault_in (answer_in outcome book.row)) ∷ []) same))
     (subst (λ (b : BookState). Agree (kept ++ entries.Called old.host 0 (kind_of made.call) (fault_in (answer_in outcome book.row)) ∷ []) b new) (sym book_is)

@@ -1,5 +1,5 @@
 -- The ballot that an attempt takes, and what its host may write at it.
-use Rattle.std.proofs.Common.{◌≡◌, ◌+◌, ◌-◌, ◌*◌, ◌/◌, ◌%◌, ◌<◌, ◌≤◌, ℕ, zero, suc, Bool, true, false, List, max, nat_lt, nat_le, cond, Option, Some, None, refl, sym, ◌∙◌, ap, subst, inl, inr, arith}
+use Rattle.std.proofs.Common.{◌≡◌, ◌+◌, ◌<◌, ◌≤◌, ℕ, zero, suc, Bool, true, false, List, nat_lt, nat_le, Option, Some, None, refl, sym, ap, subst, inl, inr, arith}
 use Rattle.std.proofs.lemmas.Bool.Decides.{nat_tests}
 use Rattle.std.proofs.lemmas.Bool.{cases_lt}
 use Rattle.torn_block.specs.declared.layout.TheConstants.{HOSTS, LAST_SEQUENCE}
@@ -9,7 +9,6 @@ use Rattle.paxos_block.specs.declared.block.PBlock.{PBlock}
 use Rattle.paxos_block.specs.Ballot.{owner_of, IsBallotOf}
 use Rattle.paxos_block.specs.Row.{IsSaid, sequence_in}
 use Rattle.paxos_block.specs.Saying.{IsVoteOf, MaySay}
-use Rattle.cluster.specs.declared.rows.Best.{Best}
 use Rattle.cluster.specs.Attempt.{ballot_above, no_input, later_of}
 use Rattle.cluster.specs.Numbers.{greatest}
 

@@ -1,12 +1,11 @@
 -- What an attempt keeps, and what follows from what it has heard.
-use Rattle.std.proofs.Common.{◌≡◌, ◌+◌, ◌<◌, ◌≤◌, ℕ, Bool, true, false, List, [], ◌∷◌, ◌++◌, length, nat_lt, nat_le, Option, Some, None, ◌⊎◌, inl, inr, refl, sym, ◌∙◌, ap, subst, arith}
+use Rattle.std.proofs.Common.{◌≡◌, ℕ, true, List, [], ◌∷◌, ◌++◌, Option, Some, None, ◌⊎◌, inl, inr, refl, sym, ◌∙◌, ap, subst}
 use Rattle.disk.specs.Disk as device
-use Rattle.torn_block.specs.declared.layout.TheConstants.{HOSTS, ROW_LENGTH, LAST_SEQUENCE}
+use Rattle.torn_block.specs.declared.layout.TheConstants.{ROW_LENGTH}
 use Rattle.torn_block.specs.declared.write_steps.WriteCall.{WriteCall}
 use Rattle.torn_block.specs.declared.write_steps.WriteCall.TheVariants.{CloseGate, SyncClosed, PutBody, SyncBody, OpenGate, SyncOpened}
 use Rattle.torn_block.specs.Plan.{Plan, plan_by, need_at, device_call, plan_calls}
 use Rattle.torn_block.specs.Stage.{Write128, call_of}
-use Rattle.paxos_block.specs.declared.ballot.TheConstants.{LAST_BALLOT}
 use Rattle.paxos_block.specs.Places.{place_of, VoteOf, row_place}
 use Rattle.paxos_block.specs.Row.{SeenBlock, seen_at, row_said}
 use Rattle.paxos_block.specs.Saying.{body_saying}
@@ -17,7 +16,7 @@ use Rattle.cluster.specs.declared.attempt.End.TheVariants as end
 use Rattle.cluster.specs.declared.attempt.Heard as code
 use Rattle.cluster.specs.declared.attempt.Heard.TheVariants as answer
 use Rattle.cluster.specs.Fits.{FitsCall, Fits}
-use Rattle.cluster.specs.Attempt.{Phase, Opening, One, Two, Due, Heard, Booted, Done, Told, Fault, Answers, Setup, Status, NoMajority, status, taken, is_bad, next_call, ballot, says_for}
+use Rattle.cluster.specs.Attempt.{Phase, Opening, One, Two, Due, Heard, Booted, Done, Told, Fault, Answers, Setup, status, taken, is_bad, next_call, says_for}
 use Rattle.cluster.specs.OneDisk.{dones, opened, promised, heard_at, setup_in, only, IsWriting, HasOpened, HasPromised, IsKeptAt, IsKept, heard_in, FitsStage, IsEnd}
 use Rattle.cluster.proofs.Statuses.{next_promising, next_checking, next_voting, next_confirming, write_one, write_two, dropped, bad_last, taken_after, due_promising, due_checking, due_voting, due_confirming}
 
@@ -233,25 +232,25 @@ module _ (a : Attempt) where
       let w = kept.2 in (
         One,
         ap (λ (r : Option (List SeenBlock)). status (setup_in a) (only (opened a.boot.number r (dones a.steps.due)))) kept.1.said
-        ∙ ap (λ (d : Option WriteCall). status (setup_in a) (only (opened a.boot.number (Some kept.0) (dones d)))) (ap (λ (plan : Plan). plan.due) w.plan)
-        ∙ due_promising a.host a.slot a.floor a.input a.boot.number kept.0 kept.1.unspent w.unspent w.call,
+            ∙ ap (λ (d : Option WriteCall). status (setup_in a) (only (opened a.boot.number (Some kept.0) (dones d)))) (ap (λ (plan : Plan). plan.due) w.plan)
+            ∙ due_promising a.host a.slot a.floor a.input a.boot.number kept.0 kept.1.unspent w.unspent w.call,
       )
   due_by stage.Checking kept = (
     One,
     ap (λ (r : Option (List SeenBlock)). status (setup_in a) (only (opened a.boot.number r (dones None)))) kept.1.said
-    ∙ due_checking a.host a.slot a.floor a.input a.boot.number kept.0 kept.1.unspent,
+        ∙ due_checking a.host a.slot a.floor a.input a.boot.number kept.0 kept.1.unspent,
   )
   due_by stage.Voting kept =
       let w = kept.4 in (
         Two,
         told_both a (λ (l : List Heard). status (setup_in a) (only l) ≡ Due Two 0) kept.0 kept.1 (dones a.steps.due) kept.2 kept.3
-        (ap (λ (d : Option WriteCall). status (setup_in a) (only (opened a.boot.number (Some kept.0) (promised (Some kept.1) (dones d))))) (ap (λ (plan : Plan). plan.due) w.plan)
-        ∙ due_voting a.host a.slot a.floor a.input a.boot.number kept.0 kept.1 a.proposal kept.2.unspent kept.3.not_outrun kept.3.proposal_is w.unspent w.call),
+            (ap (λ (d : Option WriteCall). status (setup_in a) (only (opened a.boot.number (Some kept.0) (promised (Some kept.1) (dones d))))) (ap (λ (plan : Plan). plan.due) w.plan)
+            ∙ due_voting a.host a.slot a.floor a.input a.boot.number kept.0 kept.1 a.proposal kept.2.unspent kept.3.not_outrun kept.3.proposal_is w.unspent w.call),
       )
   due_by stage.Confirming kept = (
     Two,
     told_both a (λ (l : List Heard). status (setup_in a) (only l) ≡ Due Two 0) kept.0 kept.1 (dones None) kept.2 kept.3
-    (due_confirming a.host a.slot a.floor a.input a.boot.number kept.0 kept.1 a.proposal kept.2.unspent kept.3.not_outrun kept.3.proposal_is),
+        (due_confirming a.host a.slot a.floor a.input a.boot.number kept.0 kept.1 a.proposal kept.2.unspent kept.3.not_outrun kept.3.proposal_is),
   )
 
   pub kept_due : IsKept a → (p : Phase) × (status (setup_in a) (only (heard_in a)) ≡ Due p 0)

@@ -1,5 +1,5 @@
 -- What a seat's submission under way is to the host.
-use Rattle.std.proofs.Common.{◌≡◌, ℕ, Bool, true, false, List, [], ◌∷◌, ◌++◌, map, Option, Some, None, refl, sym, ◌∙◌, ap, subst}
+use Rattle.std.proofs.Common.{◌≡◌, ℕ, Bool, true, false, List, [], ◌∷◌, ◌++◌, Option, Some, None, refl, sym, ◌∙◌, ap, subst}
 use Rattle.std.specs.Prelude.{bytes_eq, is_some}
 use Rattle.disk.specs.Disk as device
 use Rattle.lock_command.specs.declared.command.Command.{Command}
@@ -11,7 +11,7 @@ use Rattle.cluster.specs.declared.attempt.Heard as answers
 use Rattle.cluster.specs.declared.submission.Submission.{Submission}
 use Rattle.cluster.specs.Shape.{Shape}
 use Rattle.cluster.specs.Fits.{Fits}
-use Rattle.cluster.specs.Attempt.{Phase, Heard, Answered, Setup, Answers, Status, Due, End, Committed, Empty, Outrun, NoMajority, BallotsSpent, on, status, taken, next_call}
+use Rattle.cluster.specs.Attempt.{Phase, Heard, Answered, Setup, Answers, Due, End, Committed, Empty, Outrun, NoMajority, BallotsSpent, on, status, taken, next_call}
 use Rattle.cluster.specs.Host.{Memory, Doing, next_in, next_doing, setup_of, hears, goes_by, by_status, does, ended, takes, after_learning, with_floor}
 use Rattle.cluster.specs.OneDisk.{only, heard_in, setup_in, end_of, IsEnd, GoesOn}
 use Rattle.cluster.specs.Seat.{on_first, doing_in, IsDoing, IsUnderWay}

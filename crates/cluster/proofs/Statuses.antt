@@ -1,8 +1,7 @@
 -- The status of an attempt over one disk, by what it has heard.
-use Rattle.std.proofs.Common.{◌≡◌, ◌+◌, ◌*◌, ◌<◌, ◌≤◌, ◌&&◌, ◌||◌, not, ℕ, Bool, true, false, List, [], ◌∷◌, ◌++◌, length, max, nat_lt, nat_le, Option, Some, None, refl, sym, ◌∙◌, ap, subst, cond, arith}
+use Rattle.std.proofs.Common.{◌≡◌, ◌&&◌, ◌||◌, not, ℕ, Bool, true, false, List, [], ◌∷◌, ◌++◌, length, nat_lt, nat_le, Option, Some, None, refl, ◌∙◌, ap, arith}
 use Rattle.std.specs.List.{list_any}
 use Rattle.std.proofs.lemmas.Bool.Decides.{nat_tests}
-use Rattle.disk.specs.declared.fault.DiskFault.{DiskFault}
 use Rattle.torn_block.specs.declared.layout.TheConstants.{LAST_SEQUENCE, ROW_LENGTH}
 use Rattle.torn_block.specs.declared.write_steps.WriteCall.{WriteCall}
 use Rattle.torn_block.specs.declared.write_steps.WriteCall.TheVariants.{CloseGate, SyncClosed, PutBody, SyncBody, OpenGate, SyncOpened}
@@ -12,7 +11,7 @@ use Rattle.torn_block.specs.Stage.{Write128, call_of}
 use Rattle.paxos_block.specs.Places.{place_of, VoteOf, row_place}
 use Rattle.paxos_block.specs.Row.{SeenBlock, seen_at}
 use Rattle.paxos_block.specs.Saying.{body_saying}
-use Rattle.cluster.specs.Attempt.{Phase, Opening, One, Two, Heard, Booted, Done, Told, Fault, Setup, Status, Due, Ended, Committed, Empty, Outrun, NoMajority, BallotsSpent, status, ballot, own, proposal, others_mbal, taken, all_good, waits, takes_part, is_stuck, is_bad, says_for, next_in, next_call}
+use Rattle.cluster.specs.Attempt.{Opening, One, Two, Heard, Booted, Done, Setup, Due, Ended, Committed, Outrun, NoMajority, BallotsSpent, status, ballot, proposal, others_mbal, taken, all_good, waits, takes_part, is_stuck, is_bad, says_for, next_in, next_call}
 use Rattle.cluster.specs.OneDisk.{dones, opened, promised, only}
 
 -- nothing is below zero

@@ -1,5 +1,5 @@
 -- What an attempt keeps when a row comes in, or a call of a write succeeded.
-use Rattle.std.proofs.Common.{◌≡◌, ◌+◌, ◌<◌, ◌≤◌, ℕ, Bool, true, false, List, [], ◌∷◌, ◌++◌, length, max, nat_lt, nat_le, Option, Some, None, refl, sym, ◌∙◌, ap, subst, arith}
+use Rattle.std.proofs.Common.{◌≡◌, ◌<◌, ◌≤◌, ℕ, true, false, List, [], ◌∷◌, ◌++◌, max, nat_lt, nat_le, Option, Some, None, refl, sym, ◌∙◌, ap, subst, arith}
 use Rattle.std.specs.Prelude.{unwrap_or, if◌then◌else◌, ◌==◌}
 use Rattle.std.specs.Option.{IsSomeAnd}
 use Rattle.std.proofs.lemmas.Bool.Decides.{nat_tests}
@@ -23,7 +23,7 @@ use Rattle.cluster.specs.declared.attempt.Heard.TheVariants as answer
 use Rattle.disk.specs.declared.boot.Boot.{Boot}
 use Rattle.cluster.specs.declared.attempt.End.TheVariants as end
 use Rattle.cluster.specs.declared.rows.Best.{Best}
-use Rattle.cluster.specs.Attempt.{One, Two, Heard, Booted, Done, Told, Answers, Setup, status, taken, ballot, own, proposal, others_mbal, says_in, says_for, ballot_above, no_input, later_of, best_below, or_else, some_value, Ended, Outrun, Committed}
+use Rattle.cluster.specs.Attempt.{One, Two, Heard, Booted, Done, Told, Answers, taken, ballot, own, proposal, others_mbal, says_in, says_for, ballot_above, no_input, later_of, best_below, or_else, some_value, Ended, Outrun}
 use Rattle.cluster.specs.Numbers.{greatest}
 use Rattle.cluster.specs.OneDisk.{dones, opened, promised, heard_at, heard_in, setup_in, only, IsWriting, HasOpened, HasPromised, IsKeptAt, IsKept, IsEnd, GoesOn, IsReadAfter, ReadsAs, FitsStage}
 use Rattle.cluster.proofs.Ballots.{above, is_ballot, greatest_is_greatest, may_promise, unspent}

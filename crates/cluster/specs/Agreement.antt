@@ -1,5 +1,5 @@
 -- When journal, book and seat agree, and what a step of them does.
-use Rattle.std.specs.Prelude.{◌≡◌, ◌<◌, ◌≤◌, ◌+◌, ℕ, IsTrue, List, [], ◌∷◌, ◌++◌, length, map, Option, Some, None, Result, Ok, Err}
+use Rattle.std.specs.Prelude.{◌≡◌, ◌<◌, ◌≤◌, ℕ, IsTrue, List, [], ◌∷◌, ◌++◌, length, map, Option, Some, None, Result, Ok, Err}
 use Rattle.disk.specs.Disk.{DiskState, Call, Answer, Step}
 use Rattle.disk.specs.Simulated.{fresh_disk}
 use Rattle.lock_command.specs.declared.command.Command.{Command}

@@ -1,5 +1,5 @@
 -- One attempt of a host on a slot, by Gafni and Lamport: what follows from the answers that it has heard.
-use Rattle.std.specs.Prelude.{◌+◌, ◌-◌, ◌*◌, ◌/◌, ◌==◌, ◌&&◌, ℕ, Bool, true, false, zero, suc, pred, not, cond, List, [], ◌∷◌, ◌++◌, length, map, max, nat_lt, nat_le, slice_get, Option, Some, None, if◌then◌else◌, option_and_then, option_map, is_some}
+use Rattle.std.specs.Prelude.{◌+◌, ◌-◌, ◌*◌, ◌/◌, ◌==◌, ◌&&◌, ℕ, Bool, true, false, zero, suc, pred, not, List, [], ◌∷◌, ◌++◌, length, map, max, nat_lt, nat_le, slice_get, Option, Some, None, if◌then◌else◌, option_and_then, option_map, is_some}
 use Rattle.std.specs.List.{list_any}
 use Rattle.disk.specs.declared.fault.DiskFault.{DiskFault}
 use Rattle.disk.specs.Disk as device

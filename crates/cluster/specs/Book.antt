@@ -1,5 +1,5 @@
 -- A disk's book as contracts see it.
-use Rattle.std.specs.Prelude.{ℕ, List, Option, Some, None}
+use Rattle.std.specs.Prelude.{ℕ, List, Option}
 use Rattle.disk.specs.Disk.{DiskState, Device, Answer}
 use Rattle.disk.specs.Disk as device
 use Rattle.cluster.specs.declared.touched.Outcome.{Outcome}

@@ -5,7 +5,7 @@ use Rattle.torn_block.specs.declared.layout.TheConstants.{HOSTS, LAST_SEQUENCE, 
 use Rattle.torn_block.specs.declared.block.Block128.{Block128}
 use Rattle.torn_block.specs.declared.write_steps.WriteCall.{WriteCall}
 use Rattle.torn_block.specs.declared.write_steps.WriteCall.TheVariants.{CloseGate, SyncClosed, PutBody, SyncBody, OpenGate, SyncOpened}
-use Rattle.torn_block.specs.Plan.{Plan, IsReading, plan_by}
+use Rattle.torn_block.specs.Plan.{IsReading, plan_by}
 use Rattle.paxos_block.specs.declared.ballot.TheConstants.{LAST_BALLOT}
 use Rattle.paxos_block.specs.declared.row.Row.{Row}
 use Rattle.paxos_block.specs.Row.{SeenBlock, seen_at, row_said, AreSeenAs}

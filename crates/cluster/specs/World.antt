@@ -1,14 +1,13 @@
 -- The world after a list of entries, which entry may follow, what a run is, and what a run acknowledged.
-use Rattle.std.specs.Prelude.{◌≡◌, ◌+◌, ◌<◌, ◌≤◌, ℕ, Bool, true, false, IsTrue, List, [], ◌∷◌, ◌++◌, cond, Option, Some, None}
-use Rattle.disk.specs.Disk.{DiskState, Call, Answer, Step}
+use Rattle.std.specs.Prelude.{◌≡◌, ◌+◌, ◌<◌, ℕ, IsTrue, List, [], ◌∷◌, ◌++◌, cond, Option, Some, None}
+use Rattle.disk.specs.Disk.{DiskState, Step}
 use Rattle.disk.specs.Simulated.{fresh_disk}
 use Rattle.torn_block.specs.declared.layout.TheConstants.{HOSTS}
-use Rattle.lock_command.specs.declared.command.Command.{Command}
 use Rattle.cluster.specs.declared.answer.HostAnswer.{HostAnswer}
-use Rattle.cluster.specs.declared.answer.HostAnswer.TheVariants.{Ack, Refused}
+use Rattle.cluster.specs.declared.answer.HostAnswer.TheVariants.{Ack}
 use Rattle.cluster.specs.declared.answer.Receipt.{Receipt}
 use Rattle.cluster.specs.Shape.{Shape}
-use Rattle.cluster.specs.Host.{Host, Stopped, Running, Doing, Memory, next_of, is_stopped, idles, said_of}
+use Rattle.cluster.specs.Host.{Host, Stopped, Running, Doing, next_of, is_stopped, idles, said_of}
 use Rattle.cluster.specs.Entry.{Filled, Start, Submit, Called, is_of, on_disk, of_host, disk_step, disk_after, host_step, host_after}
 
 pub record World : Type 0 where

@@ -13,9 +13,7 @@ use crate::entry::CallKind;
 use crate::rows::{Best, ballot_above, best_of, cell_of, others_top, top_of};
 use disk::{Boot, DiskFault};
 use paxos_block::{LAST_BALLOT, PBlock, Row, Value, block_place, decode_row, encode, row_place};
-use torn_block::{
-    BODY_LENGTH, Block128, BlockNeed, Body, ROW_LENGTH, WriteSteps,
-};
+use torn_block::{BODY_LENGTH, Block128, BlockNeed, Body, ROW_LENGTH, WriteSteps};
 
 /// How far an attempt has come on its disk.
 #[derive(Clone, Copy, Debug, PartialEq, Eq)]
@@ -62,9 +60,18 @@ pub enum Heard<'a> {
 #[derive(Drop)]
 pub enum Need<'a> {
     Attach,
-    Read { boot: Boot, at: u64 },
-    Write { boot: Boot, at: u64, bytes: &'a [u8] },
-    Sync { boot: Boot },
+    Read {
+        boot: Boot,
+        at: u64,
+    },
+    Write {
+        boot: Boot,
+        at: u64,
+        bytes: &'a [u8],
+    },
+    Sync {
+        boot: Boot,
+    },
 }
 
 impl Need<'_> {

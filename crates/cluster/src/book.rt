@@ -80,8 +80,14 @@ impl<D: Disk> DiskBook<D> {
                 Ok(boot) => Outcome::Booted(boot),
                 Err(fault) => Outcome::Fault(fault),
             },
-            Need::Read { boot, at } => Outcome::of(self.disk.read(boot, at, &mut self.row), Outcome::Told),
-            Need::Write { boot, at, bytes } => Outcome::of(self.disk.write(boot, at, bytes), Outcome::Done),
+            Need::Read { boot, at } => {
+                let told = self.disk.read(boot, at, &mut self.row);
+                Outcome::of(told, Outcome::Told)
+            }
+            Need::Write { boot, at, bytes } => {
+                let done = self.disk.write(boot, at, bytes);
+                Outcome::of(done, Outcome::Done)
+            }
             Need::Sync { boot } => Outcome::of(self.disk.sync(boot), Outcome::Done),
         }
     }

@@ -11,9 +11,9 @@ use crate::submission::Submission;
 use lock_command::{Command, HostNumber, decode};
 use lock_table::{NoMemory, Reply, Table};
 use paxos_block::Value;
-use torn_block::VALUE_LENGTH;
 use std::alloc::Global;
 use std::marker::Model;
+use torn_block::VALUE_LENGTH;
 
 /// A running host, with what it has learned and the lock table after that.
 #[derive(Drop)]

@@ -22,7 +22,11 @@ use lock_command::{Command, HostNumber};
 use std::alloc::Global;
 
 /// A cluster of one disk, on which host 0 was just started.
-pub fn first<D: Disk + Drop>(alloc: Global, config: Config, disk: D) -> Result<(Journal, DiskBook<D>, HostSeat), HostFault>
+pub fn first<D: Disk + Drop>(
+    alloc: Global,
+    config: Config,
+    disk: D,
+) -> Result<(Journal, DiskBook<D>, HostSeat), HostFault>
     requires one_disk { config.disks ≡ 1 }
     requires tells { IsTrue (D.device disk).tells }
     requires fresh { D.state disk ≡ fresh_disk (D.device disk).size }
@@ -46,7 +50,12 @@ pub fn first<D: Disk + Drop>(alloc: Global, config: Config, disk: D) -> Result<(
 }
 
 /// Begins to put a command into the log. Up to `tries` attempts on a slot may be outrun, the last of which ends it.
-pub fn begin(journal: &mut Journal, seat: &mut HostSeat, command: Command, tries: u8) -> Result<(), HostFault>
+pub fn begin(
+    journal: &mut Journal,
+    seat: &mut HostSeat,
+    command: Command,
+    tries: u8,
+) -> Result<(), HostFault>
     requires idle { is_idle seat.old.memory ≡ true }
     requires host { command.host ≡ seat.old.host }
     requires tries { 1 ≤ tries }

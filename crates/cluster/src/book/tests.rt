@@ -24,14 +24,16 @@ const PLACE: u64 = 2048;
 
 /// What phase 1 wrote: ballot 1, nothing voted for.
 const PROMISED: [u8; 64] = [
-    0xA5, 1, 0, 0, 0, 0, 0, 0, 0, 0, 0, 0, 0, 0, 0, 1, 0, 0, 0, 0, 0, 0, 0, 1, 0, 0, 0, 0, 0, 0, 0, 0,
+    0xA5, 1, 0, 0, 0, 0, 0, 0, 0, 0, 0, 0, 0, 0, 0, 1, 0, 0, 0, 0, 0, 0, 0, 1, 0, 0, 0, 0, 0, 0, 0,
     0, 0, 0, 0, 0, 0, 0, 0, 0, 0, 0, 0, 0, 0, 0, 0, 0, 0, 0, 0, 0, 0, 0, 0, 0, 0, 0, 0, 0, 0, 0, 0,
+    0,
 ];
 
 /// What phase 2 wrote: ballot 1 and the command.
 const VOTED: [u8; 64] = [
-    0xA5, 1, 1, 0, 0, 0, 0, 0, 0, 0, 0, 0, 0, 0, 0, 2, 0, 0, 0, 0, 0, 0, 0, 1, 0, 0, 0, 0, 0, 0, 0, 1,
-    1, 0, 1, 5, 0, 2, 0, 1, 0, 0, 0, 0, 0, 0, 0, 1, 0, 0x64, 0x62, 0, 0, 0, 0, 0, 0, 0, 0, 0, 0, 0, 0, 0,
+    0xA5, 1, 1, 0, 0, 0, 0, 0, 0, 0, 0, 0, 0, 0, 0, 2, 0, 0, 0, 0, 0, 0, 0, 1, 0, 0, 0, 0, 0, 0, 0,
+    1, 1, 0, 1, 5, 0, 2, 0, 1, 0, 0, 0, 0, 0, 0, 0, 1, 0, 0x64, 0x62, 0, 0, 0, 0, 0, 0, 0, 0, 0, 0,
+    0, 0, 0,
 ];
 
 /// A host over its disk.
@@ -76,7 +78,13 @@ impl Running {
         }
         let promise = self.journal.promise()?;
         let touched = self.book.touch(&self.seat);
-        commit_step(&mut self.journal, &mut self.book, &mut self.seat, promise, touched);
+        commit_step(
+            &mut self.journal,
+            &mut self.book,
+            &mut self.seat,
+            promise,
+            touched,
+        );
         Ok(())
     }
 }

@@ -1,5 +1,5 @@
-use Rattle.std.proofs.Common.{◌≡◌, ◌≤◌, ◌∙◌, ap, ℕ, refl, arith}
-use Rattle.torn_block.specs.Plan.{Plan, plan_by, told_value}
+use Rattle.std.proofs.Common.{◌≤◌, ◌∙◌, ap, refl, arith}
+use Rattle.torn_block.specs.Plan.{plan_by, told_value}
 use Rattle.paxos_block.specs.Row.{seen_at}
 use Rattle.cluster.proofs.Ballots.{spent}
 use Rattle.cluster.proofs.Turns.{ends_spent, goes_on_checking}

@@ -1,4 +1,4 @@
-use Rattle.std.proofs.Common.{◌≡◌, ◌≤◌, ◌<◌, subst, sym, arith, List, ℕ, [], ◌∷◌, ◌++◌}
+use Rattle.std.proofs.Common.{subst, sym, [], ◌∷◌, ◌++◌}
 use Rattle.cluster.specs.declared.attempt.End.{End}
 use Rattle.cluster.specs.Attempt.{Told}
 use Rattle.paxos_block.specs.Row.{row_said}

@@ -1,6 +1,6 @@
-use Rattle.std.proofs.Common.{◌≡◌, subst, sym}
+use Rattle.std.proofs.Common.{subst}
 use Rattle.cluster.specs.declared.attempt.Heard as code
-use Rattle.cluster.specs.OneDisk.{FitsStage, GoesOn, heard_of}
+use Rattle.cluster.specs.OneDisk.{FitsStage}
 use Rattle.cluster.proofs.Kept.{fits_stage}
 use Rattle.cluster.proofs.Turns.{boots}
 use Rattle.cluster.proofs.attempt.Attempt.hear.Goals as goal

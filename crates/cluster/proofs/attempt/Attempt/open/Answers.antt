@@ -1,8 +1,8 @@
-use Rattle.std.proofs.Common.{◌≡◌, ◌∙◌, ap, ℕ, max, refl, arith}
+use Rattle.std.proofs.Common.{◌≡◌, ◌∙◌, ap, max, refl, arith}
 use Rattle.cluster.specs.declared.rows.Best.{Best}
 use Rattle.cluster.specs.Attempt.{later_of}
 use Rattle.cluster.proofs.Turns.{opening_promise, goes_on_opening}
-use Rattle.torn_block.specs.Plan.{Plan, plan_by}
+use Rattle.torn_block.specs.Plan.{plan_by}
 use Rattle.cluster.proofs.attempt.Attempt.open.Goals as goal
 
 pub encode-requires : goal.encode-requires

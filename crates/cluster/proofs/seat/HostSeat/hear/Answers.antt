@@ -1,6 +1,5 @@
 use Rattle.std.proofs.Common.{◌≡◌, ◌∙◌, [], ◌∷◌, ◌++◌, Some, None, Option, refl, sym, ap, subst}
 use Rattle.cluster.specs.declared.submission.Submission.{Submission}
-use Rattle.cluster.specs.Attempt.{Heard}
 use Rattle.cluster.specs.Fits.{Fits}
 use Rattle.cluster.specs.Host.{Memory, next_in, hears, ended, with_floor}
 use Rattle.cluster.specs.OneDisk.{heard_of, heard_in, end_of}
