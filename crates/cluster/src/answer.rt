@@ -8,7 +8,8 @@ pub enum Refusal {
     /// Another host's greater ballot was read, and it was the last try.
     #[error("outrun by another host's ballot")]
     Outrun,
-    /// So many disks failed, were lost, crashed or showed damage that no majority of them is left.
+    /// So many disks failed, were lost, crashed, showed damage or have no sequence number left for this host's block that
+    /// no majority of them is left.
     #[error("no majority of the disks answers")]
     NoMajority,
     /// The next ballot of this host would be above 2^62.

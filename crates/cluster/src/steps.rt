@@ -49,7 +49,7 @@ pub fn first<D: Disk + Drop>(
     Ok((journal, DiskBook::new(disk), seat))
 }
 
-/// Begins to put a command into the log. Up to `tries` attempts on a slot may be outrun, the last of which ends it.
+/// Begins to put a command into the log. Up to `tries` attempts may be outrun, the last of which ends the operation.
 pub fn begin(
     journal: &mut Journal,
     seat: &mut HostSeat,

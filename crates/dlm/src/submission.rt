@@ -6,7 +6,7 @@ use lock_command::Command;
 #[derive(Clone, Copy, Debug)]
 pub struct Submission {
     pub command: Command,
-    /// How many attempts the host has for a slot.
+    /// How many attempts may be outrun, the last of which ends the operation.
     pub tries: u8,
     ghost first_host: { command.host ≡ 0 },
     ghost tried: { 1 ≤ tries },

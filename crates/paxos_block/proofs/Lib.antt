@@ -2,3 +2,4 @@ pub mod HeaderLemmas
 pub mod PlaceLemmas
 pub mod RowLemmas
 pub mod SayingLemmas
+pub mod WriteLemmas

@@ -1,20 +1,20 @@
 -- Blocks at different spots have no byte in common, so a call within one leaves what the others hold.
-use Rattle.std.specs.Prelude.{◌≡◌, ◌≢◌, ◌⊎◌, ◌+◌, ◌-◌, ◌*◌, ◌≤◌, ◌<◌, ℕ, true, List, Some, length, take, drop, slice_range, replicate}
-use Rattle.std.proofs.Common.{sym, ◌∙◌, ap, subst, arith, inl, inr}
-use Rattle.std.proofs.lemmas.List.{drop-drop, take-take, drop-take, length-replicate}
+use Rattle.std.specs.Prelude.{◌≡◌, ◌≢◌, ◌⊎◌, ◌+◌, ◌-◌, ◌*◌, ◌≤◌, ◌<◌, ℕ, List, Some, length, take, drop, slice_range}
+use Rattle.std.proofs.Common.{refl, sym, ◌∙◌, ap, subst, arith, inl, inr}
+use Rattle.std.proofs.lemmas.List.{drop-drop, take-take, drop-take}
 use Rattle.std.proofs.lemmas.Bool.{cases_order}
 use Rattle.disk.specs.Disk.{DiskState, Call, Attach, Read, Write, Sync, Answer, Step}
-use Rattle.disk.specs.Crash.{may_leave_now}
-use Rattle.disk.specs.Steps.{WritesOn, shape_keeps}
+use Rattle.disk.specs.Crash.{MayLeave, may_leave_now, may_leave_synced, may_leave_written}
+use Rattle.disk.specs.Steps.{WritesOn, shape_keeps, step_keeps}
 use Rattle.torn_block.specs.declared.layout.TheConstants.{BLOCK_LENGTH, HOSTS, ROW_LENGTH}
 use Rattle.torn_block.specs.declared.write_steps.WriteCall.{WriteCall}
 use Rattle.torn_block.specs.Block.{value_of}
 use Rattle.torn_block.specs.Stage.{Write128, IsDue, IsPlaced}
 use Rattle.torn_block.specs.StageLaws.{due_elsewhere}
-use Rattle.torn_block.specs.Place.{block_in}
-use Rattle.torn_block.specs.Register.{Register, Reads, LeavesBlock}
-use Rattle.torn_block.specs.RegisterLaws.{stands_elsewhere}
-use Rattle.std.specs.Prelude.{slice_index_or, false}
+use Rattle.torn_block.specs.Place.{block_in, block_elsewhere}
+use Rattle.torn_block.specs.Register.{Register, Reads, LiesOn, LeavesBlock}
+use Rattle.torn_block.specs.RegisterLaws.{ranges, stands_elsewhere}
+use Rattle.std.specs.Prelude.{slice_index_or}
 use Rattle.std.specs.List.{HoldsAt}
 use Rattle.torn_block.specs.Plan.{told_value}
 use Rattle.paxos_block.specs.declared.row.Row.{Row}
@@ -56,6 +56,11 @@ spot_fits slots (VoteOf s h) is = omega arith
 
 -- ---- what a call within one block leaves
 
+-- whatever a crash may make of this block on the new disk, it may on the old one
+abbrev Outcomes : DiskState → ℕ → DiskState → Type 0
+Outcomes old place new =
+    (bytes : List ℕ) → MayLeave new bytes → (before : List ℕ) × MayLeave old before × (block_in place bytes ≡ block_in place before)
+
 module _ (slots : ℕ) (mine : Spot) (is_mine : IsSpot slots mine) (disk : DiskState) (image : IsImage slots disk) where
   pub writes_on : (call : Call) → IsWithin mine call → WritesOn disk call
   writes_on Attach within = tt
@@ -69,6 +74,9 @@ module _ (slots : ℕ) (mine : Spot) (is_mine : IsSpot slots mine) (disk : DiskS
       record { whole = shape.0; long = shape.1 }
 
   module _ (other : Spot) (is_other : IsSpot slots other) (differ : mine ≢ other) where
+    lies_on : LiesOn (place_of other) disk
+    lies_on = omega (arith, spot_fits slots other is_other, image.long)
+
     pub leaves_other : (call : Call) → IsWithin mine call → LeavesBlock (place_of other) call
     leaves_other Attach within = tt
     leaves_other (Read boot at len) within = tt
@@ -78,7 +86,22 @@ module _ (slots : ℕ) (mine : Spot) (is_mine : IsSpot slots mine) (disk : DiskS
 
     pub others_hold : (call : Call) (answer : Answer) (new : DiskState) (r : Register) → IsWithin mine call → Step disk call answer new → Holds disk other r → Holds new other r
     others_hold call answer new r within step holds =
-        stands_elsewhere (place_of other) disk image.whole (omega (arith, spot_fits slots other is_other, image.long)) call answer new (writes_on call within) (leaves_other call within) step r holds
+        stands_elsewhere (place_of other) disk image.whole lies_on call answer new (writes_on call within) (leaves_other call within) step r holds
+
+    -- what a crash may make of the other block then
+    pub others_outcomes : (call : Call) (answer : Answer) (new : DiskState) → IsWithin mine call → Step disk call answer new → Outcomes disk (place_of other) new
+    others_outcomes call answer new within step =
+        step_keeps (Outcomes disk (place_of other)) disk new call answer
+        (record {
+          writes =
+              λ boot at from left is as_many bytes may.
+              let range = ranges (place_of other) disk image.whole lies_on call answer new (writes_on call within) (leaves_other call within) step boot at from left is as_many in
+              let a = may_leave_written disk at left bytes image.whole range.0 may in
+              (a.0, a.1, block_elsewhere (place_of other) at (length left) a.0 bytes (omega (arith, a.1.as_many, lies_on)) a.2 range.1);
+          syncs = λ bytes may. (disk.bytes, may_leave_now disk, ap (block_in (place_of other)) (may_leave_synced disk bytes may));
+          stays = λ bytes may. (bytes, may, refl);
+        })
+        step
 
     pub others_stay_due : (w : Write128) (due_call : WriteCall) (call : Call) (answer : Answer) (new : DiskState) → w.place ≡ place_of other → IsPlaced w disk → IsWithin mine call → Step disk call answer new → IsDue due_call w disk → IsDue due_call w new
     others_stay_due w due_call call answer new at_other placed within step due =
@@ -122,17 +145,10 @@ module _ (disk : DiskState) (slot host : ℕ) (seen : List SeenBlock) (below : h
   seen_there : seen_at seen host ≡ seen_in (block_in (place_of (VoteOf slot host)) disk.bytes)
   seen_there = said_sees (row_of slot disk.bytes) seen host below said ∙ ap seen_in (block_of-row_of slot host disk.bytes below)
 
-  -- what a row says of a host has the bytes of the host's block
-  bytes_there : (seen_at seen host).bytes ≡ block_in (place_of (VoteOf slot host)) disk.bytes
-  bytes_there = ap (λ (s : SeenBlock). s.bytes) seen_there
-
-  -- and tells a value that its register allows
+  -- what a row says of a host tells a value that its register allows
   tells_there : (r : Register) → Holds disk (VoteOf slot host) r → Tells r (seen_at seen host)
   tells_there r holds =
       subst (Tells r) (sym seen_there) (record { reads = holds disk.bytes (may_leave_now disk); so = λ i. seen_in (block_in (place_of (VoteOf slot host)) disk.bytes) })
 
 pub told : (disk : DiskState) (slot host : ℕ) (r : Register) (seen : List SeenBlock) → host < HOSTS → Holds disk (VoteOf slot host) r → row_said (row_of slot disk.bytes) ≡ Some seen → Tells r (seen_at seen host)
 told disk slot host r seen below holds said = tells_there disk slot host seen below said r holds
-
-pub placed : (disk : DiskState) (slot host : ℕ) (seen : List SeenBlock) → host < HOSTS → row_said (row_of slot disk.bytes) ≡ Some seen → (seen_at seen host).bytes ≡ block_in (place_of (VoteOf slot host)) disk.bytes
-placed disk slot host seen below said = bytes_there disk slot host seen below said

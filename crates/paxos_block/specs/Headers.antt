@@ -4,7 +4,7 @@ use Rattle.std.specs.List.{list_all}
 use Rattle.byteorder.specs.Endian.{big_number, big_bytes}
 use Rattle.torn_block.specs.Block.{number_bytes}
 use Rattle.torn_block.specs.declared.layout.TheConstants.{VERSION, DISKS, SLOTS, HEADER_LENGTH}
-use Rattle.paxos_block.specs.declared.header.TheConstants.{GATE, SLOTS_AT, CLUSTER_AT, ZEROS_AT}
+use Rattle.paxos_block.specs.declared.header.TheConstants.{GATE, GATE_AT, VERSION_AT, DISK_AT, DISKS_AT, SLOTS_AT, CLUSTER_AT, ZEROS_AT}
 use Rattle.paxos_block.specs.declared.header.Header.{Header}
 use Rattle.paxos_block.specs.declared.number.TheConstants.{SHORT_LENGTH}
 use Rattle.paxos_block.specs.Saying.{zeros, number_at}
@@ -33,7 +33,7 @@ header_saying header = GATE ∷ VERSION ∷ header.disk ∷ header.disks ∷ (sh
 
 -- the image was formatted to the end: its gate is open
 abbrev pub IsFormatted : List ℕ → Type 0
-IsFormatted bytes = slice_index bytes 0 ≡ GATE
+IsFormatted bytes = slice_index bytes GATE_AT ≡ GATE
 
 -- An image of this length, with these first bytes, is right as that of this disk, and its header says this.
 pub record IsRight (disk long : ℕ) (bytes : List ℕ) (header : Header) : Type 0 where
@@ -53,8 +53,8 @@ pub record HasNoHeader (disk long : ℕ) (bytes : List ℕ) : Type 0 where
 unfoldable pub header_in : List ℕ → Header
 header_in bytes =
     record {
-      disk = slice_index bytes 2;
-      disks = slice_index bytes 3;
+      disk = slice_index bytes DISK_AT;
+      disks = slice_index bytes DISKS_AT;
       slots = short_at SLOTS_AT bytes;
       cluster = number_at CLUSTER_AT bytes;
     }
@@ -65,5 +65,5 @@ is_header header =
 
 abbrev pub is_right : ℕ → ℕ → List ℕ → Bool
 is_right disk long bytes =
-    (slice_index bytes 1 == VERSION) && is_header (header_in bytes) && ((header_in bytes).disk == disk) && (image_length (header_in bytes).slots == long)
+    (slice_index bytes VERSION_AT == VERSION) && is_header (header_in bytes) && ((header_in bytes).disk == disk) && (image_length (header_in bytes).slots == long)
     && list_all (λ b. b == 0) (drop ZEROS_AT bytes)

@@ -1,13 +1,18 @@
 -- Where the blocks of an image stand, and what a call within one of them leaves of the others.
-use Rattle.std.specs.Prelude.{◌≡◌, ◌+◌, ◌*◌, ◌≤◌, ◌<◌, ℕ, List, length, slice_range}
+use Rattle.std.specs.Prelude.{◌≡◌, ◌+◌, ◌*◌, ◌^◌, ◌≤◌, ◌<◌, ℕ, List, length, slice_range}
 use Rattle.disk.specs.Disk.{DiskState, Call, Attach, Read, Write, Sync}
-use Rattle.disk.specs.Crash.{IsWhole}
+use Rattle.disk.specs.Crash.{IsWhole, MayLeave}
 use Rattle.torn_block.specs.declared.layout.TheConstants.{BLOCK_LENGTH, HOSTS, ROW_LENGTH, HEADER_LENGTH}
 use Rattle.torn_block.specs.Register.{Register, StandsFor, Reads}
-use Rattle.torn_block.specs.Block.{value_of}
+use Rattle.torn_block.specs.Block.{value_of, next_sequence}
+use Rattle.torn_block.specs.Damage.{IsSoundBlock}
+use Rattle.torn_block.specs.Place.{block_in}
 use Rattle.torn_block.specs.Plan.{told_value}
+use Rattle.torn_block.specs.Stage.{Write128}
+use Rattle.paxos_block.specs.declared.block.PBlock.{PBlock}
 use Rattle.paxos_block.specs.declared.cell.Cell.{Cell}
-use Rattle.paxos_block.specs.Row.{says_of, SeenBlock, seen_in}
+use Rattle.paxos_block.specs.Row.{IsSound, says_of, SeenBlock, seen_in}
+use Rattle.paxos_block.specs.Saying.{MaySay, body_saying}
 
 -- A block's spot: a host's heartbeat block, or its block of a slot.
 pub data Spot : Type 0 where
@@ -44,6 +49,17 @@ IsWithin spot Attach = Unit {0}
 IsWithin spot (Read boot at len) = Unit {0}
 IsWithin spot (Write boot at from) = (place_of spot ≤ at) × (at + length from ≤ place_of spot + BLOCK_LENGTH)
 IsWithin spot (Sync boot) = Unit {0}
+
+-- the host's block at this place is sound, now and after a crash now
+abbrev pub IsSoundAt : ℕ → ℕ → DiskState → Type 0
+IsSoundAt host place disk = (bytes : List ℕ) → MayLeave disk bytes → IsSoundBlock (IsSound host) (block_in place bytes)
+
+-- The write of what a host may say, over a sound block of its own.
+pub record IsWriteOf (host : ℕ) (says : PBlock) (w : Write128) : Type 0 where
+  pub sound : IsSoundBlock (IsSound host) w.block
+  pub may_say : MaySay host says
+  pub body : w.body ≡ body_saying says
+  pub number : next_sequence w.block ≤ 2 ^ 62
 
 -- the block at this spot reads as the register allows, now and after a crash now
 abbrev pub Holds : DiskState → Spot → Register → Type 0

@@ -5,7 +5,7 @@ use Rattle.std.specs.Prelude.{nat_eq}
 use Rattle.byteorder.specs.Endian.{big_number}
 use Rattle.torn_block.specs.Block.{number_bytes}
 use Rattle.torn_block.specs.declared.layout.TheConstants.{VERSION, VALUE_LENGTH, HEADING_LENGTH}
-use Rattle.paxos_block.specs.declared.block.TheConstants.{BALLOTS_LENGTH}
+use Rattle.paxos_block.specs.declared.block.TheConstants.{BALLOTS_LENGTH, FLAG_AT}
 use Rattle.paxos_block.specs.declared.number.TheConstants.{NUMBER_LENGTH}
 use Rattle.paxos_block.specs.declared.block.PBlock.{PBlock}
 use Rattle.paxos_block.specs.Ballot.{IsBallotOf, may_promise}
@@ -58,7 +58,7 @@ claim_of body =
     record {
       mbal = number_at HEADING_LENGTH body;
       bal = number_at (HEADING_LENGTH + NUMBER_LENGTH) body;
-      inp = if slice_index body 1 == 1 then Some (drop (HEADING_LENGTH + BALLOTS_LENGTH) body) else None;
+      inp = if slice_index body FLAG_AT == 1 then Some (drop (HEADING_LENGTH + BALLOTS_LENGTH) body) else None;
     }
 
 abbrev pub may_say : ℕ → PBlock → Bool

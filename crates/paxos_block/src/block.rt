@@ -13,6 +13,9 @@ pub const VOTE_LENGTH: usize = BODY_LENGTH - HEADING_LENGTH;
 // The two ballots of a body.
 const BALLOTS_LENGTH: usize = 2 * NUMBER_LENGTH;
 
+// Where a body says whether there is an input.
+const FLAG_AT: usize = 1;
+
 // The bytes in front of the ballots, with an input and without one.
 const VOTED: [u8; HEADING_LENGTH] = [VERSION, 1, 0, 0, 0, 0, 0];
 
@@ -33,7 +36,7 @@ pub struct PBlock {
 }
 
 impl PBlock {
-    /// What a blank block says. No copy is spelled so.
+    /// What a blank block says. No sound copy says it.
     pub const BLANK: PBlock = PBlock {
         mbal: 0,
         bal: 0,
@@ -41,7 +44,7 @@ impl PBlock {
     };
 }
 
-/// The body of a copy that says this, which the host may say by `may_say`.
+/// The body of a copy that says this. `may_say` is the test of what a host may say.
 pub fn encode(host: u8, block: &PBlock) -> Body
     requires { MaySay host block.now }
     ensures { result.bytes ≡ body_saying block.now }
@@ -136,7 +139,7 @@ pub(crate) fn claim(front: &[u8], back: &[u8]) -> PBlock
     PBlock {
         mbal: number_in(back),
         bal: number_in(&back[NUMBER_LENGTH..]),
-        inp: if front[1] == 1 {
+        inp: if front[FLAG_AT] == 1 {
             Some(value_in(&back[BALLOTS_LENGTH..]))
         } else {
             None

@@ -12,7 +12,15 @@ use torn_block::{DISKS, HEADER_LENGTH, SLOTS, VERSION};
 /// The first byte of an image that was formatted to the end, and of an open copy.
 pub const GATE: u8 = 0xA5;
 
-// Where the fields of more than a byte stand, and the zeros behind them.
+// Where the fields stand, and the zeros behind them.
+const GATE_AT: usize = 0;
+
+const VERSION_AT: usize = 1;
+
+const DISK_AT: usize = 2;
+
+const DISKS_AT: usize = 3;
+
 const SLOTS_AT: usize = 4;
 
 const CLUSTER_AT: usize = SLOTS_AT + SHORT_LENGTH;
@@ -65,7 +73,7 @@ pub fn decode_header(disk: u8, long: u64, bytes: &[u8; HEADER_LENGTH]) -> Result
     if long < HEADER_LENGTH as u64 {
         return Err(ImageFault::WrongHeader);
     }
-    if bytes[0] != GATE {
+    if bytes[GATE_AT] != GATE {
         return Err(ImageFault::NotFormatted);
     }
     if !is_right(disk, long, bytes) {
@@ -79,7 +87,7 @@ fn is_right(disk: u8, long: u64, bytes: &[u8]) -> bool
     ensures { result ≡ Headers.is_right disk long bytes.now }
 {
     let header = header_in(bytes);
-    bytes[1] == VERSION
+    bytes[VERSION_AT] == VERSION
         && has_right_numbers(&header)
         && header.disk == disk
         && image_length(header.slots) == long
@@ -91,8 +99,8 @@ fn header_in(bytes: &[u8]) -> Header
     ensures { result ≡ header_in bytes.now }
 {
     Header {
-        disk: bytes[2],
-        disks: bytes[3],
+        disk: bytes[DISK_AT],
+        disks: bytes[DISKS_AT],
         slots: short_in(&bytes[SLOTS_AT..]),
         cluster: number_in(&bytes[CLUSTER_AT..]),
     }

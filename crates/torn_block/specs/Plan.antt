@@ -1,7 +1,7 @@
 -- A block as read, and the plan of a write: what a writer keeps of both.
-use Rattle.std.specs.Prelude.{◌≡◌, ◌+◌, ◌≤◌, length, ℕ, Bool, List, [], ◌∷◌, Option, Some, None, if◌then◌else◌}
+use Rattle.std.specs.Prelude.{◌≡◌, ◌+◌, ◌≤◌, length, ℕ, Bool, List, [], ◌∷◌, replicate, Option, Some, None, if◌then◌else◌}
 use Rattle.std.specs.Option.{option_map}
-use Rattle.torn_block.specs.declared.layout.TheConstants.{BLOCK_LENGTH}
+use Rattle.torn_block.specs.declared.layout.TheConstants.{BLOCK_LENGTH, BODY_LENGTH}
 use Rattle.torn_block.specs.declared.block.Half.{Half}
 use Rattle.torn_block.specs.declared.block.Block128.{Block128}
 use Rattle.torn_block.specs.declared.write_steps.WriteCall.{WriteCall}
@@ -10,7 +10,7 @@ use Rattle.torn_block.specs.declared.write_steps.BlockNeed.{BlockNeed}
 use Rattle.torn_block.specs.declared.write_steps.BlockNeed.TheVariants as needs
 use Rattle.torn_block.specs.Block.{is_open, copy_of, current_of, value_of, tail_with, target_at, target_of, next_sequence_at}
 use Rattle.torn_block.specs.Place.{offset_of}
-use Rattle.torn_block.specs.Stage.{Write128, gate_of, new_tail, call_of}
+use Rattle.torn_block.specs.Stage.{Write128, gate_of, new_tail, call_of, next_call}
 use Rattle.disk.specs.Disk.{Call, Write, Sync}
 use Rattle.std.proofs.Common.{ap, ◌∙◌, refl, arith}
 
@@ -23,6 +23,8 @@ pub record IsReading (bytes : List ℕ) (read : Block128) : Type 0 where
   pub current : read.current ≡ current_of bytes
   pub value : told_value read ≡ value_of bytes
   pub next_is_open : read.next_is_open ≡ is_open (copy_of (target_of bytes) bytes)
+  pub blank_number : read.current ≡ None → read.sequence ≡ 0
+  pub blank_body : read.current ≡ None → read.body.bytes ≡ replicate BODY_LENGTH 0
 
 -- which copy is written, whether its gate is to be closed, what comes behind the gate, and the call that is due
 pub record Plan : Type 0 where
@@ -66,14 +68,10 @@ LiesWithin None = Unit {0}
 LiesWithin (Some (needs.Write at bytes)) = at + length bytes.now ≤ BLOCK_LENGTH
 LiesWithin (Some needs.Sync) = Unit {0}
 
+-- the call behind the one that is due
 abbrev pub next_after : Option WriteCall → Option WriteCall
 next_after None = None
-next_after (Some CloseGate) = Some SyncClosed
-next_after (Some SyncClosed) = Some PutBody
-next_after (Some PutBody) = Some SyncBody
-next_after (Some SyncBody) = Some OpenGate
-next_after (Some OpenGate) = Some SyncOpened
-next_after (Some SyncOpened) = None
+next_after (Some call) = next_call call
 
 -- the device call of a need, at the block's place
 abbrev pub device_call : ℕ → ℕ → Need → Call

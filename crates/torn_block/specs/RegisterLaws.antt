@@ -1,11 +1,15 @@
 -- What stands on the disk of a register through everyone's steps.
-use Rattle.std.specs.Prelude.{◌≡◌, ◌+◌, ◌≤◌, ℕ, List, length, Option, Some, None}
-use Rattle.std.proofs.Common.{refl, sym, ◌∙◌, ap, subst, arith, inl, inr}
-use Rattle.disk.specs.Disk.{DiskState, Call, Write, Sync, Answer, Done, Step, Crashes, put_at, written, synced}
+use Rattle.std.specs.Prelude.{◌≡◌, ◌+◌, ◌≤◌, ◌==◌, ℕ, zero, suc, Bool, false, nat_lt, List, length, replicate, Option, Some, None}
+use Rattle.std.proofs.Common.{refl, sym, ◌∙◌, ap, subst, arith, inl, inr, get_or}
+use Rattle.std.proofs.lemmas.List.{length-replicate}
+use Rattle.disk.specs.Disk.{DiskState, KeepsSynced, Call, Write, Sync, Answer, Done, Step, Crashes, put_at, written, synced}
 use Rattle.disk.specs.Crash.{MayLeave, IsWhole, may_leave_now, may_leave_synced, may_leave_written, may_leave_crashed, put-below, put-above, length-put}
+use Rattle.disk.specs.Simulated.{fresh_disk}
 use Rattle.disk.specs.Steps.{WritesOn, step_keeps}
-use Rattle.torn_block.specs.Block.{value_of}
-use Rattle.torn_block.specs.Place.{block_in, block_elsewhere}
+use Rattle.torn_block.specs.declared.block.Half.{Half}
+use Rattle.torn_block.specs.declared.block.Half.TheVariants.{First, Second}
+use Rattle.torn_block.specs.Block.{is_open, sequence_of, choice, value_at, value_by, value_of}
+use Rattle.torn_block.specs.Place.{block_in, block_elsewhere, copy_in, offset_of, get_or-copy_in}
 use Rattle.torn_block.specs.Register.{Value, Register, Reads, at_rest, Settles, StandsFor, IsAtRest, LiesOn, IsOutside, LeavesBlock}
 
 settles_kept : (confirmed : Value) (writing : Option Value) (value : Value) → value ≡ confirmed → Settles (record { confirmed = confirmed; writing = writing }) (at_rest value)
@@ -100,3 +104,46 @@ after_sync place r disk new boot stands step =
     let P : DiskState → Type 0 = λ d. (s : Register) × Settles r s × StandsFor place s d × IsAtRest place d in
     let rests : IsAtRest place (synced disk) = λ bytes left. ap (block_in place) (may_leave_synced disk bytes left) in
     subst P (sym step.2.1) (at_rest value, settles r value (reads_now place r disk stands), stands_at_rest place (synced disk) rests, rests)
+
+-- the same of a block of any history
+pub known_synced : (place : ℕ) (disk new : DiskState) (boot : ℕ) → Step disk (Sync boot) Done new → IsAtRest place new × StandsFor place (at_rest (value_of (block_in place new.bytes))) new
+known_synced place disk new boot step =
+    let P : DiskState → Type 0 = λ d. IsAtRest place d × StandsFor place (at_rest (value_of (block_in place d.bytes))) d in
+    let rests : IsAtRest place (synced disk) = λ bytes left. ap (block_in place) (may_leave_synced disk bytes left) in
+    subst P (sym step.2.1) (rests, stands_at_rest place (synced disk) rests)
+
+-- A FRESH DISK
+
+zero_at : (size k : ℕ) → ◌≡◌ {A = ℕ} (get_or (replicate size 0) k 0) 0
+zero_at zero k = refl
+zero_at (suc size) zero = refl
+zero_at (suc size) (suc k) = zero_at size k
+
+-- among zeros both copies are closed
+closed_in_zeros : (half : Half) (place size : ℕ) → is_open (copy_in half place (replicate size 0)) ≡ false
+closed_in_zeros half place size =
+    ap (λ (gate : ℕ). gate == 165) (get_or-copy_in half place (replicate size 0) 0 (omega arith) ∙ zero_at size (place + offset_of half + 0))
+
+blank_by : (first second : List ℕ) → is_open first ≡ false → is_open second ≡ false → value_by first second ≡ None
+blank_by first second a b =
+    let later = nat_lt (sequence_of first) (sequence_of second) in
+    ap (λ (x : Bool). value_at (choice x (is_open second) later) first second) a
+    ∙ ap (λ (x : Bool). value_at (choice false x later) first second) b
+
+blank_in_zeros : (place size : ℕ) → value_of (block_in place (replicate size 0)) ≡ None
+unfolding copy_in
+blank_in_zeros place size =
+    blank_by (copy_in First place (replicate size 0)) (copy_in Second place (replicate size 0)) (closed_in_zeros First place size) (closed_in_zeros Second place size)
+
+fresh_leaves : (size : ℕ) (bytes : List ℕ) → MayLeave (fresh_disk size) bytes → bytes ≡ replicate size 0
+unfolding fresh_disk
+fresh_leaves size bytes left =
+    let P : ℕ → Type 0 = λ n. KeepsSynced (replicate n false) (replicate size 0) bytes in
+    may_leave_synced (fresh_disk size) bytes (subst P (sym (length-replicate size 0)) left)
+
+pub fresh_rests : (place size : ℕ) → StandsFor place (at_rest None) (fresh_disk size) × IsAtRest place (fresh_disk size)
+unfolding fresh_disk
+fresh_rests place size = (
+  λ bytes left. inl (ap (λ (l : List ℕ). value_of (block_in place l)) (fresh_leaves size bytes left) ∙ blank_in_zeros place size),
+  λ bytes left. ap (block_in place) (fresh_leaves size bytes left),
+)

@@ -1,5 +1,6 @@
-ghost use Rattle.std.specs.Prelude.{◌≡◌, length, Some, None};
+ghost use Rattle.std.specs.Prelude.{◌≡◌, length, replicate, Some, None};
 ghost use Rattle.torn_block.specs.Block;
+ghost use Rattle.torn_block.specs.declared.layout.TheConstants.{BODY_LENGTH};
 ghost use Rattle.torn_block.specs.Block.{sequence_of, body_of, current_by};
 ghost use Rattle.torn_block.specs.Plan.{IsReading};
 
@@ -76,6 +77,8 @@ fn reading(current: Half, kept: &[u8], target: &[u8]) -> Block128
 fn blank_before(target: &[u8]) -> Block128
     requires { length target.now ≡ COPY_LENGTH }
     ensures current { result.current ≡ None }
+    ensures sequence { result.sequence ≡ 0 }
+    ensures body { result.body.bytes ≡ replicate BODY_LENGTH 0 }
     ensures next { result.next_is_open ≡ Block.is_open target.now }
 {
     Block128 {

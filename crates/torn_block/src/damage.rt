@@ -1,12 +1,16 @@
-ghost use Rattle.std.specs.Prelude.{◌≡◌, ℕ, length};
+ghost use Rattle.std.specs.Prelude.{◌≡◌, ◌↔◌, ℕ, IsTrue, length};
+ghost use Rattle.torn_block.specs.Block;
+ghost use Rattle.torn_block.specs.Block.{sequence_of};
 ghost use Rattle.torn_block.specs.Damage;
+ghost use Rattle.torn_block.specs.Damage.{IsSequence};
 
 use crate::block::{is_open, sequence_in};
 use crate::layout::{COPY_LENGTH, LAST_SEQUENCE};
 
 /// That a copy may have this sequence number.
 pub fn is_sequence(number: u64) -> bool
-    ensures { result ≡ Damage.is_sequence number }
+    ensures sound { IsTrue result ↔ IsSequence number }
+    ensures exact { result ≡ Damage.is_sequence number }
 {
     1 <= number && number <= LAST_SEQUENCE
 }
@@ -15,7 +19,8 @@ pub fn is_sequence(number: u64) -> bool
 pub fn has_twins(first: &[u8], second: &[u8]) -> bool
     requires first { length first.now ≡ COPY_LENGTH }
     requires second { length second.now ≡ COPY_LENGTH }
-    ensures { result ≡ Damage.has_twins first.now second.now }
+    ensures twins { IsTrue result ↔ (IsTrue (Block.is_open first.now) × IsTrue (Block.is_open second.now) × (sequence_of first.now ≡ sequence_of second.now)) }
+    ensures exact { result ≡ Damage.has_twins first.now second.now }
 {
     is_open(first) && is_open(second) && sequence_in(first) == sequence_in(second)
 }

@@ -1,6 +1,7 @@
-ghost use Rattle.std.specs.Prelude.{◌≡◌, ◌⊎◌, ◌+◌, ◌≤◌, ℕ, List, length};
+ghost use Rattle.std.specs.Prelude.{◌≡◌, ◌⊎◌, ◌+◌, ◌≤◌, ℕ, List, None, length};
 ghost use Rattle.disk.specs.Disk.{DiskState, Call, Answer, Read, Sync, Told, Done, Step, FailureLeaves, Crashes};
 ghost use Rattle.disk.specs.Crash.{MayLeave, IsWhole};
+ghost use Rattle.disk.specs.Simulated.{fresh_disk};
 ghost use Rattle.disk.specs.Steps.{WritesOn};
 ghost use Rattle.torn_block.specs.declared.block.Block128.{Block128};
 ghost use Rattle.torn_block.specs.declared.write_steps.WriteCall.{WriteCall};
@@ -14,6 +15,9 @@ ghost use Rattle.torn_block.specs.Stage.{Write128, call_of, next_call, in_writin
 
 /// What becomes of the register that a block stands for, on any disk.
 pub fn registers()
+    // On a fresh disk each block is blank and at rest.
+    ensures fresh { (place size : ℕ) → StandsFor place (at_rest None) (fresh_disk size) × IsAtRest place (fresh_disk size) }
+
     // A read of the bytes gives a value that the register allows, at this moment and after a crash at this moment.
     ensures reads { (place : ℕ) (r : Register) (disk : DiskState) (bytes : List ℕ) (read : Block128) →
         StandsFor place r disk → MayLeave disk bytes → IsReading (block_in place bytes) read → Reads r (told_value read) }
@@ -33,6 +37,10 @@ pub fn registers()
     ensures rests { (place : ℕ) (disk new : DiskState) (call : Call) (answer : Answer) →
         IsWhole disk → LiesOn place disk → WritesOn disk call → LeavesBlock place call → Step disk call answer new →
         IsAtRest place disk → IsAtRest place new }
+
+    // After a sync a block of any history is at rest, and stands for what it reads as.
+    ensures opened { (place : ℕ) (disk new : DiskState) (boot : ℕ) → Step disk (Sync boot) Done new →
+        IsAtRest place new × StandsFor place (at_rest (value_of (block_in place new.bytes))) new }
 
     // What is then read is the confirmed value, and a write over it may begin.
     ensures settled { (w : Write128) (disk new : DiskState) (boot at q len : ℕ) (bytes : List ℕ) →

@@ -127,8 +127,8 @@ fn bytes_of_the_first_acknowledgement(rt: HostRuntime) -> Result<(), Fail> {
         open_call: _,
     } = book;
     let boot = disk.attach()?;
-    let mut copy = [0; 64];
     for (at, want) in [(PLACE, PROMISED), (PLACE + 64, VOTED)] {
+        let mut copy = [0; 64];
         if at + 64 <= disk.size() {
             disk.read(boot, at, &mut copy)?;
         }

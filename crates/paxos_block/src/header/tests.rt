@@ -1,4 +1,4 @@
-// A known header, each fault once, and an image that ends before its header does.
+// A known header, each fault once, an image that ends before its header does, and the limits.
 use super::*;
 use crate::place::{beat_place, block_place, row_place};
 
@@ -41,6 +41,33 @@ fn header_of_disk_1(rt: HostRuntime) {
         Err(ImageFault::NotFormatted)
     );
     assert_eq!(rt; decode_header(1, 1000, &bytes), wrong);
+}
+
+// The greatest of each number, and one more of each.
+#[test]
+fn limits(rt: HostRuntime) {
+    let most = Header {
+        disk: 6,
+        disks: 7,
+        slots: 4096,
+        cluster: u64::MAX,
+    };
+    assert!(rt; is_header(&most));
+    assert_eq!(rt;
+        decode_header(6, 4_196_352, &encode_header(&most)),
+        Ok(most)
+    );
+    for more in [
+        Header { disk: 7, ..most },
+        Header { disks: 8, ..most },
+        Header {
+            slots: 4097,
+            ..most
+        },
+        Header { slots: 0, ..most },
+    ] {
+        assert!(rt; !is_header(&more));
+    }
 }
 
 #[test]

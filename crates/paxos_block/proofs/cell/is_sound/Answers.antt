@@ -14,4 +14,4 @@ pub returns-then-is_sequence : goal.returns-then-is_sequence
 returns-then-is_sequence c =
     c.is_said.ensures
     ∙ ap (is_said c.args.host) (body_is c.args.copy.now)
-    ∙ ap (λ (b : Bool). b && is_said c.args.host (body_of c.args.copy.now)) (sym c.if-is_sequence.true ∙ c.is_sequence.ensures ∙ ap is_sequence c.sequence_in.ensures)
+    ∙ ap (λ (b : Bool). b && is_said c.args.host (body_of c.args.copy.now)) (sym c.if-is_sequence.true ∙ c.is_sequence.ensures.exact ∙ ap is_sequence c.sequence_in.ensures)

@@ -6,6 +6,11 @@ returns-clause-others c =
     λ slots mine other disk new call answer r is_mine is_other differ image within step holds.
     lemmas.others_hold slots mine is_mine disk image other is_other differ call answer new r within step holds
 
+pub returns-clause-outcomes : goal.returns-clause-outcomes
+returns-clause-outcomes c =
+    λ slots mine other disk new call answer bytes is_mine is_other differ image within step left.
+    lemmas.others_outcomes slots mine is_mine disk image other is_other differ call answer new within step bytes left
+
 pub returns-clause-image : goal.returns-clause-image
 returns-clause-image c =
     λ slots mine disk new call answer is_mine image within step.
@@ -22,5 +27,8 @@ returns-clause-due c =
 pub returns-clause-told : goal.returns-clause-told
 returns-clause-told c = lemmas.told
 
-pub returns-clause-placed : goal.returns-clause-placed
-returns-clause-placed c = lemmas.placed
+pub returns-clause-row : goal.returns-clause-row
+returns-clause-row c = λ bytes slot host below. lemmas.block_of-row_of slot host bytes below
+
+pub returns-clause-area : goal.returns-clause-area
+returns-clause-area c = λ bytes host below. lemmas.block_of-area_of host bytes below

@@ -2,7 +2,7 @@ use Rattle.std.proofs.Common.{sym, subst}
 use Rattle.torn_block.specs.Place.{block_in}
 use Rattle.torn_block.specs.Block.{value_of}
 use Rattle.torn_block.specs.Register.{Value, Reads, at_rest}
-use Rattle.torn_block.specs.RegisterLaws.{settles, stands_elsewhere, rests_elsewhere, rests_crashed, stands_at_rest, reads_crashed, after_sync}
+use Rattle.torn_block.specs.RegisterLaws.{settles, stands_elsewhere, rests_elsewhere, rests_crashed, stands_at_rest, reads_crashed, after_sync, known_synced, fresh_rests}
 use Rattle.torn_block.specs.StageLaws.{read_settles}
 use Rattle.torn_block.proofs.law.registers.Goals as goal
 
@@ -30,3 +30,9 @@ returns-clause-rests c =
 
 pub returns-clause-settled : goal.returns-clause-settled
 returns-clause-settled c = read_settles
+
+pub returns-clause-fresh : goal.returns-clause-fresh
+returns-clause-fresh c = fresh_rests
+
+pub returns-clause-opened : goal.returns-clause-opened
+returns-clause-opened c = known_synced

@@ -1,4 +1,4 @@
-use Rattle.std.proofs.Common.{◌≡◌, ap, ◌∙◌, sym, subst}
+use Rattle.std.proofs.Common.{ap, sym, subst}
 use Rattle.lock_table.specs.Apply.{Plain, no_locks}
 use Rattle.lock_table.specs.Picture.{IsPictureOf}
 use Rattle.lock_table.specs.Placed.{pictured}
