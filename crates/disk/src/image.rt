@@ -13,7 +13,7 @@ pub fn put(bytes: &mut Vec<u8>, at: usize, from: &[u8])
 }
 
 /// The range from `at` on has this stamp.
-pub fn stamp(stamps: &mut Vec<u16>, at: usize, len: usize, epoch: u16)
+pub fn stamp(stamps: &mut Vec<u32>, at: usize, len: usize, epoch: u32)
     requires { at + len ≤ length stamps.old.items }
     ensures { stamps.new.items ≡ put_at stamps.old.items at (replicate len epoch) }
 {
@@ -32,7 +32,7 @@ pub fn put_given(bytes: &mut Vec<u8>, at: usize, len: usize, given: &[u8])
 }
 
 /// The bytes whose stamp is the epoch take the given bytes in turn.
-pub fn fill_stamped(bytes: &mut Vec<u8>, stamps: &Vec<u16>, epoch: u16, given: &[u8])
+pub fn fill_stamped(bytes: &mut Vec<u8>, stamps: &Vec<u32>, epoch: u32, given: &[u8])
     requires same { length stamps.now.items ≡ length bytes.old.items }
     requires given { 0 < length given.now }
     ensures { bytes.new.items ≡ filled given.now 0 (marks epoch stamps.now.items) bytes.old.items }
@@ -47,14 +47,14 @@ pub fn fill_stamped(bytes: &mut Vec<u8>, stamps: &Vec<u16>, epoch: u16, given: &
 }
 
 /// The epoch after this one, which no stamp is. Where the numbers are spent, all stamps are set back first: that is
-/// once in 65,534 times.
-pub fn next_epoch(stamps: &mut Vec<u16>, epoch: u16) -> u16
+/// once in 4,294,967,294 times.
+pub fn next_epoch(stamps: &mut Vec<u32>, epoch: u32) -> u32
     requires { All (λ s. s ≤ epoch) stamps.old.items }
     ensures none { marks result stamps.new.items ≡ replicate (length stamps.old.items) false }
     ensures no_later { All (λ s. s ≤ result) stamps.new.items }
     ensures as_many { length stamps.new.items ≡ length stamps.old.items }
 {
-    if epoch == u16::MAX {
+    if epoch == u32::MAX {
         stamps.fill(0);
         1
     } else {

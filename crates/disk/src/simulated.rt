@@ -14,8 +14,8 @@ use std::marker::Model;
 #[derive(Drop)]
 pub struct SimDisk {
     bytes: Vec<u8>,
-    stamps: Vec<u16>,
-    epoch: u16,
+    stamps: Vec<u32>,
+    epoch: u32,
     boot: u64,
     gone: bool,
     failing: Option<Vec<u8>>,

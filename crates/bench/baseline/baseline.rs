@@ -1,0 +1,497 @@
+//! The benchmarks' work in plain Rust, without proofs: what the times of the proved program are compared with.
+//! It prints the same lines. A row is decoded without the tests for damage, and the first path keeps no receipts.
+
+use std::hint::black_box;
+use std::time::Instant;
+
+const BLOCK: usize = 128;
+const COPY: usize = 64;
+const ROW: usize = 8 * BLOCK;
+const OPEN: u8 = 0xA5;
+
+#[derive(Clone, Copy, Debug)]
+#[allow(dead_code)]
+enum Fault {
+    Reset,
+    Failed,
+    Gone,
+}
+
+// A DISK: bytes, and for each a stamp; a position is unsynced where its stamp is the present epoch
+
+struct Disk {
+    bytes: Vec<u8>,
+    stamps: Vec<u16>,
+    epoch: u16,
+    boot: u64,
+    gone: bool,
+    failing: Option<Vec<u8>>,
+}
+
+/// So many zeros, each of them put there: the system hands out no page later on.
+fn zeros<T: From<u8>>(size: usize) -> Vec<T> {
+    (0..size).map(|_| T::from(black_box(0))).collect()
+}
+
+impl Disk {
+    fn new(size: usize) -> Disk {
+        Disk { bytes: zeros(size), stamps: zeros(size), epoch: 1, boot: 1, gone: false, failing: None }
+    }
+
+    fn permit(&mut self, boot: u64) -> Result<(), Fault> {
+        if self.gone {
+            Err(Fault::Gone)
+        } else if boot != self.boot {
+            Err(Fault::Reset)
+        } else if self.failing.take().is_some() {
+            Err(Fault::Failed)
+        } else {
+            Ok(())
+        }
+    }
+
+    fn attach(&mut self) -> Result<u64, Fault> {
+        self.permit(self.boot)?;
+        Ok(self.boot)
+    }
+
+    fn read(&mut self, boot: u64, at: usize, into: &mut [u8]) -> Result<(), Fault> {
+        self.permit(boot)?;
+        into.copy_from_slice(&self.bytes[at..at + into.len()]);
+        Ok(())
+    }
+
+    fn write(&mut self, boot: u64, at: usize, from: &[u8]) -> Result<(), Fault> {
+        self.permit(boot)?;
+        self.bytes[at..at + from.len()].copy_from_slice(from);
+        self.stamps[at..at + from.len()].fill(self.epoch);
+        Ok(())
+    }
+
+    fn sync(&mut self, boot: u64) -> Result<(), Fault> {
+        self.permit(boot)?;
+        if self.epoch == u16::MAX {
+            self.stamps.fill(0);
+            self.epoch = 1;
+        } else {
+            self.epoch += 1;
+        }
+        Ok(())
+    }
+}
+
+fn disk_calls(disk: &mut Disk, count: u32) -> Result<(), Fault> {
+    let first = disk.bytes.len() - 2048;
+    let mut boot = disk.attach()?;
+    let mut row = [0; 1024];
+    for call in 0..count {
+        match call % 4 {
+            0 => boot = disk.attach()?,
+            1 => disk.read(boot, first, &mut row)?,
+            2 => disk.write(boot, first + 1024, &[7; 64])?,
+            _ => disk.sync(boot)?,
+        }
+    }
+    black_box(row);
+    Ok(())
+}
+
+// BLOCKS AND ROWS
+
+fn number(bytes: &[u8]) -> u64 {
+    u64::from_be_bytes(bytes[..8].try_into().unwrap())
+}
+
+/// The copy of a block that counts, by its gates and sequence numbers.
+fn current(block: &[u8]) -> Option<usize> {
+    match (block[0] == OPEN, block[COPY] == OPEN) {
+        (true, true) if number(&block[8..]) < number(&block[COPY + 8..]) => Some(1),
+        (true, _) => Some(0),
+        (false, true) => Some(1),
+        (false, false) => None,
+    }
+}
+
+/// Writes a body over a block as it was read, in six calls.
+fn write_over(disk: &mut Disk, boot: u64, at: usize, block: &[u8], body: &[u8; 55]) -> Result<(), Fault> {
+    let (target, sequence) = match current(block) {
+        None => (0, 1),
+        Some(half) => (1 - half, number(&block[COPY * half + 8..]) + 1),
+    };
+    let mut copy = [0; COPY];
+    copy[0] = OPEN;
+    copy[1..8].copy_from_slice(&body[..7]);
+    copy[8..16].copy_from_slice(&sequence.to_be_bytes());
+    copy[16..].copy_from_slice(&body[7..]);
+    let gate = at + COPY * target;
+    let closes = usize::from(block[COPY * target] == OPEN);
+    disk.write(boot, gate, &[0][..closes])?;
+    disk.sync(boot)?;
+    disk.write(boot, gate + 1, &copy[1..])?;
+    disk.sync(boot)?;
+    disk.write(boot, gate, &copy[..1])?;
+    disk.sync(boot)
+}
+
+fn block_write(disk: &mut Disk, count: u32) -> Result<(), Fault> {
+    let boot = disk.attach()?;
+    let mut body = [0; 55];
+    for write in 0..count {
+        body[0] = (write % 251) as u8;
+        let mut block = [0; BLOCK];
+        disk.read(boot, 0, &mut block)?;
+        write_over(disk, boot, 0, &block, &body)?;
+    }
+    Ok(())
+}
+
+#[derive(Clone, Copy, Default)]
+struct Says {
+    mbal: u64,
+    bal: u64,
+    inp: Option<[u8; 32]>,
+}
+
+fn body_of(says: &Says) -> [u8; 55] {
+    let mut body = [0; 55];
+    body[0] = 1;
+    body[1] = u8::from(says.inp.is_some());
+    body[7..15].copy_from_slice(&says.mbal.to_be_bytes());
+    body[15..23].copy_from_slice(&says.bal.to_be_bytes());
+    body[23..].copy_from_slice(&says.inp.unwrap_or([0; 32]));
+    body
+}
+
+/// What the current copies of a row say.
+fn decode_row(row: &[u8; ROW]) -> [Says; 8] {
+    let mut cells = [Says::default(); 8];
+    for (host, block) in row.chunks_exact(BLOCK).enumerate() {
+        if let Some(half) = current(block) {
+            let copy = &block[COPY * half..COPY * half + COPY];
+            cells[host] = Says {
+                mbal: number(&copy[16..]),
+                bal: number(&copy[24..]),
+                inp: (copy[2] == 1).then(|| copy[32..].try_into().unwrap()),
+            };
+        }
+    }
+    cells
+}
+
+fn written_row() -> Result<[u8; ROW], Fault> {
+    let mut disk = Disk::new(ROW);
+    let boot = disk.attach()?;
+    for host in 0..8 {
+        let ballot = host as u64 + 1;
+        for says in [
+            Says { mbal: ballot, bal: 0, inp: None },
+            Says { mbal: ballot, bal: ballot, inp: Some([1; 32]) },
+        ] {
+            let mut block = [0; BLOCK];
+            disk.read(boot, BLOCK * host, &mut block)?;
+            write_over(&mut disk, boot, BLOCK * host, &block, &body_of(&says))?;
+        }
+    }
+    let mut row = [0; ROW];
+    disk.read(boot, 0, &mut row)?;
+    Ok(row)
+}
+
+fn decode_rows(row: &mut [u8; ROW], count: u32) -> bool {
+    (0..count).all(|time| {
+        let last = (time % 251) as u8;
+        row[ROW - 1] = last;
+        let cells = black_box(decode_row(black_box(row)));
+        cells.iter().all(|cell| cell.inp.is_some()) && cells[7].inp.is_some_and(|value| value[31] == last)
+    })
+}
+
+// A LOCK TABLE: one list of records, in the order in which they joined their queues
+
+#[derive(Clone, Copy, PartialEq)]
+#[allow(dead_code)]
+enum Mode {
+    Null,
+    ConcurrentRead,
+    ConcurrentWrite,
+    ProtectedRead,
+    ProtectedWrite,
+    Exclusive,
+}
+
+#[derive(Clone, Copy, PartialEq)]
+enum State {
+    Granted(Mode),
+    Converting(Mode, Mode),
+    Waiting(Mode),
+}
+
+type Name = [u8; 15];
+
+#[derive(Clone, Copy)]
+struct Record {
+    lock: u16,
+    client: u8,
+    name: Name,
+    state: State,
+}
+
+#[derive(Clone, Copy)]
+enum Action {
+    Enqueue(u16, Name, Mode),
+    Convert(u16, Mode),
+    Release(u16),
+}
+
+#[derive(Clone, Copy)]
+struct Command {
+    client: u8,
+    request: u64,
+    action: Action,
+}
+
+#[derive(Clone, Copy, PartialEq)]
+enum Reply {
+    Granted,
+    Queued,
+    Released,
+    Refused,
+}
+
+#[derive(Default)]
+struct Table {
+    records: Vec<Record>,
+    clients: Vec<(u8, u64, Reply)>,
+}
+
+fn compatible(a: Mode, b: Mode) -> bool {
+    const MASKS: [u8; 6] = [0b111111, 0b011111, 0b000111, 0b001011, 0b000011, 0b000001];
+    MASKS[a as usize] >> b as u8 & 1 == 1
+}
+
+impl Table {
+    fn admits(&self, lock: u16, name: &Name, mode: Mode) -> bool {
+        self.records.iter().all(|other| {
+            other.lock == lock
+                || other.name != *name
+                || match other.state {
+                    State::Granted(held) | State::Converting(held, _) => compatible(held, mode),
+                    State::Waiting(_) => true,
+                }
+        })
+    }
+
+    fn head(&self, name: &Name) -> Option<usize> {
+        let on = |record: &Record| record.name == *name;
+        let converts = |record: &Record| matches!(record.state, State::Converting(..));
+        let waits = |record: &Record| matches!(record.state, State::Waiting(_));
+        self.records
+            .iter()
+            .position(|record| on(record) && converts(record))
+            .or_else(|| self.records.iter().position(|record| on(record) && waits(record)))
+    }
+
+    fn put(&mut self, record: Record) {
+        self.records.retain(|other| other.lock != record.lock);
+        self.records.push(record);
+    }
+
+    fn settle(&mut self, name: &Name) {
+        while let Some(at) = self.head(name) {
+            let mut first = self.records[at];
+            let (State::Converting(_, wanted) | State::Waiting(wanted)) = first.state else { return };
+            if !self.admits(first.lock, name, wanted) {
+                return;
+            }
+            first.state = State::Granted(wanted);
+            self.put(first);
+        }
+    }
+
+    fn own(&self, client: u8, lock: u16) -> Option<Record> {
+        self.records.iter().find(|record| record.lock == lock && record.client == client).copied()
+    }
+
+    fn act(&mut self, client: u8, action: &Action) -> Reply {
+        match *action {
+            Action::Enqueue(lock, name, mode) => {
+                if self.records.iter().any(|record| record.lock == lock) || self.records.len() >= 256 {
+                    return Reply::Refused;
+                }
+                let granted = self.head(&name).is_none() && self.admits(lock, &name, mode);
+                let state = if granted { State::Granted(mode) } else { State::Waiting(mode) };
+                self.put(Record { lock, client, name, state });
+                if granted { Reply::Granted } else { Reply::Queued }
+            }
+            Action::Convert(lock, mode) => {
+                let Some(mut own) = self.own(client, lock) else { return Reply::Refused };
+                let State::Granted(held) = own.state else { return Reply::Refused };
+                let granted = self.admits(lock, &own.name, mode);
+                own.state = if granted { State::Granted(mode) } else { State::Converting(held, mode) };
+                self.put(own);
+                if granted {
+                    self.settle(&own.name);
+                    Reply::Granted
+                } else {
+                    Reply::Queued
+                }
+            }
+            Action::Release(lock) => {
+                let Some(own) = self.own(client, lock) else { return Reply::Refused };
+                self.records.retain(|other| other.lock != lock);
+                self.settle(&own.name);
+                Reply::Released
+            }
+        }
+    }
+
+    fn apply(&mut self, command: &Command) -> Reply {
+        let known = self.clients.iter().position(|last| last.0 == command.client);
+        match known.map(|at| self.clients[at]) {
+            None if self.clients.len() >= 32 => return Reply::Refused,
+            Some((_, request, _)) if command.request < request => return Reply::Refused,
+            Some((_, request, reply)) if command.request == request => return reply,
+            _ => {}
+        }
+        let reply = self.act(command.client, &command.action);
+        self.clients.retain(|last| last.0 != command.client);
+        self.clients.push((command.client, command.request, reply));
+        reply
+    }
+}
+
+fn name(text: &[u8]) -> Name {
+    let mut name = [0; 15];
+    name[..text.len()].copy_from_slice(text);
+    name
+}
+
+fn command_at(place: u32) -> Command {
+    let client = place % 8;
+    let round = place / 8;
+    let lock = client as u16 + 1;
+    let action = match round % 3 {
+        0 => Action::Enqueue(lock, name(if client < 4 { b"accounts" } else { b"orders" }), Mode::ConcurrentRead),
+        1 => Action::Convert(lock, if client % 2 == 0 { Mode::ProtectedRead } else { Mode::ProtectedWrite }),
+        _ => Action::Release(lock),
+    };
+    Command { client: client as u8, request: u64::from(round) + 1, action }
+}
+
+fn standing_table() -> Table {
+    let mut table = Table::default();
+    for place in 0..248 {
+        let action = Action::Enqueue(place + 9, name(b"standing"), Mode::ConcurrentRead);
+        table.apply(&Command { client: 8, request: u64::from(place) + 1, action });
+    }
+    table
+}
+
+fn apply(table: &mut Table, count: u32) -> bool {
+    (0..count).all(|place| table.apply(&command_at(place)) != Reply::Refused)
+}
+
+// THE FIRST PATH: host 0 alone, over one disk
+
+#[derive(Clone, Copy)]
+#[allow(dead_code)]
+enum Entry {
+    Submit(Command),
+    Called(u8),
+}
+
+struct Host {
+    disk: Disk,
+    table: Table,
+    learned: Vec<Command>,
+    journal: Vec<Entry>,
+}
+
+impl Host {
+    fn read_row(&mut self, boot: u64, at: usize) -> Result<([u8; ROW], [Says; 8]), Fault> {
+        let mut row = [0; ROW];
+        self.disk.read(boot, at, &mut row)?;
+        self.journal.push(Entry::Called(1));
+        let cells = decode_row(&row);
+        Ok((row, cells))
+    }
+
+    fn write_own(&mut self, boot: u64, at: usize, row: &[u8; ROW], says: &Says) -> Result<(), Fault> {
+        write_over(&mut self.disk, boot, at, &row[..BLOCK], &body_of(says))?;
+        self.journal.extend([Entry::Called(2); 6]);
+        Ok(())
+    }
+
+    /// Whether the command was acknowledged.
+    fn submit(&mut self, command: Command, value: [u8; 32]) -> Result<bool, Fault> {
+        self.journal.push(Entry::Submit(command));
+        let at = 2048 + ROW * self.learned.len();
+        let boot = self.disk.attach()?;
+        self.disk.sync(boot)?;
+        self.journal.extend([Entry::Called(0), Entry::Called(3)]);
+        let (row, cells) = self.read_row(boot, at)?;
+        let top = cells.iter().map(|cell| cell.mbal).max().unwrap_or(0);
+        let ballot = top / 8 * 8 + if top % 8 < 1 { 1 } else { 9 };
+        let promise = Says { mbal: ballot, ..cells[0] };
+        self.write_own(boot, at, &row, &promise)?;
+        let (row, cells) = self.read_row(boot, at)?;
+        if cells[1..].iter().any(|cell| cell.mbal > ballot) {
+            return Ok(false);
+        }
+        let best = cells.iter().max_by_key(|cell| cell.bal).and_then(|cell| cell.inp);
+        let vote = Says { mbal: ballot, bal: ballot, inp: Some(best.unwrap_or(value)) };
+        self.write_own(boot, at, &row, &vote)?;
+        let (_, cells) = self.read_row(boot, at)?;
+        if cells[1..].iter().any(|cell| cell.mbal > ballot) {
+            return Ok(false);
+        }
+        self.table.apply(&command);
+        self.learned.push(command);
+        Ok(vote.inp == Some(value))
+    }
+}
+
+fn first_path(host: &mut Host, count: u32) -> Result<bool, Fault> {
+    for place in 0..count {
+        let action = Action::Enqueue(place as u16 + 1, name(b"accounts"), Mode::ConcurrentRead);
+        let command = Command { client: (place % 8) as u8, request: u64::from(place) + 1, action };
+        let mut value = [0; 32];
+        value[..4].copy_from_slice(&place.to_be_bytes());
+        if !host.submit(command, value)? {
+            return Ok(false);
+        }
+    }
+    Ok(true)
+}
+
+/// The shortest of twenty rounds, each from new, in nanoseconds; printed as nanoseconds an operation.
+fn timed<T>(name: &str, count: u32, new: impl Fn() -> T, run: impl Fn(&mut T, u32) -> bool) -> u64 {
+    let mut best = u64::MAX;
+    for _ in 0..20 {
+        let mut work = new();
+        let start = Instant::now();
+        assert!(run(&mut work, count), "{name}");
+        best = best.min(start.elapsed().as_nanos() as u64);
+    }
+    let tenths = best * 10 / u64::from(count);
+    println!("{name} {count} {}.{}", tenths / 10, tenths % 10);
+    best
+}
+
+fn main() {
+    let calls = |disk: &mut Disk, count| disk_calls(disk, count).is_ok();
+    let those = timed("disk_calls_2k", 1_000_000, || Disk::new(2048), calls);
+    let these = timed("disk_calls_4m", 1_000_000, || Disk::new(4 << 20), calls);
+    println!("disk_calls_4m/disk_calls_2k {:.2}", these as f64 / those as f64);
+    timed("block_write", 200_000, || Disk::new(2048), |disk, count| block_write(disk, count).is_ok());
+    timed("decode_row", 200_000, || written_row().unwrap(), decode_rows);
+    timed("apply", 1_000_000, standing_table, apply);
+    let host = || Host {
+        disk: Disk::new(2048 + ROW * 4096),
+        table: Table::default(),
+        learned: Vec::new(),
+        journal: Vec::new(),
+    };
+    let spent = timed("first_path", 4096, host, |host, count| first_path(host, count).unwrap_or(false));
+    println!("first_path/second {}", 4096 * 1_000_000_000 / spent);
+}

@@ -1,0 +1,94 @@
+use crate::benchmark::Benchmark;
+use crate::failure::Failure;
+use lock_command::{
+    Action, ClientNumber, Command, HostNumber, LockName, LockNumber, RequestNumber,
+};
+use lock_modes::Mode;
+use lock_table::{Reply, Table};
+use std::alloc::Global;
+
+/// How many clients there are. Each has a lock of its own.
+const CLIENTS: u32 = 8;
+
+/// How many locks stand in the table all the while, beside those of the clients.
+const STANDING: u16 = 248;
+
+/// Commands of eight clients to a lock table of 256 locks: each enqueues a lock, then each converts it, then each
+/// releases it.
+#[derive(Drop)]
+pub struct Apply {
+    table: Table,
+}
+
+impl Benchmark for Apply {
+    fn new(alloc: Global) -> Result<Self, Failure> {
+        let mut table = Table::new(alloc)?;
+        for place in 0..STANDING {
+            let Some(command) = standing_at(place) else {
+                return Err(Failure::Wrong);
+            };
+            if table.apply(&command) != Reply::Granted {
+                return Err(Failure::Wrong);
+            }
+        }
+        Ok(Apply { table })
+    }
+
+    fn run(&mut self, count: u32) -> Result<(), Failure> {
+        for place in 0..count {
+            let Some(command) = command_at(place) else {
+                return Err(Failure::Wrong);
+            };
+            if let Reply::Refused(_) = self.table.apply(&command) {
+                return Err(Failure::Wrong);
+            }
+        }
+        Ok(())
+    }
+}
+
+/// The enqueue of a lock that stands all the while.
+fn standing_at(place: u16) -> Option<Command> {
+    Some(Command {
+        host: HostNumber::new(0)?,
+        client: ClientNumber::new(CLIENTS as u8),
+        request: RequestNumber::new(u64::from(place) + 1)?,
+        action: Action::Enqueue {
+            lock: LockNumber::new(place.checked_add(CLIENTS as u16 + 1)?)?,
+            name: LockName::new(b"standing")?,
+            mode: Mode::ConcurrentRead,
+            no_queue: false,
+        },
+    })
+}
+
+/// The command at this place of the list, from 0. No reply to these is a refusal.
+fn command_at(place: u32) -> Option<Command> {
+    let client = place % CLIENTS;
+    let round = place / CLIENTS;
+    let lock = LockNumber::new(client as u16 + 1)?;
+    let action = match round % 3 {
+        0 => Action::Enqueue {
+            lock,
+            name: LockName::new(if client < 4 { b"accounts" } else { b"orders" })?,
+            mode: Mode::ConcurrentRead,
+            no_queue: false,
+        },
+        1 => Action::Convert {
+            lock,
+            mode: if client % 2 == 0 {
+                Mode::ProtectedRead
+            } else {
+                Mode::ProtectedWrite
+            },
+            no_queue: false,
+        },
+        _ => Action::Release(lock),
+    };
+    Some(Command {
+        host: HostNumber::new(0)?,
+        client: ClientNumber::new(client as u8),
+        request: RequestNumber::new(u64::from(round) + 1)?,
+        action,
+    })
+}

@@ -1,0 +1,52 @@
+use crate::apply::Apply;
+use crate::benchmark::Benchmark;
+use crate::block_write::BlockWrite;
+use crate::decode_row::DecodeRow;
+use crate::disk_calls::DiskCalls;
+use crate::failure::Failure;
+use crate::first_path::FirstPath;
+use crate::timing::{Ratio, Timing};
+use crate::words::Task;
+use std::time::Clock;
+
+/// How many operations a benchmark does where nothing is measured.
+const FEW: u32 = 48;
+
+/// Runs each benchmark, and prints a line for it.
+pub fn run_all<R: Print + Clock + AllocGlobal>(rt: &R, task: Task) -> Result<(), Failure> {
+    let small = run_one::<R, DiskCalls<0>>(rt, task, "disk_calls_2k", 1_000_000)?;
+    let large = run_one::<R, DiskCalls<4094>>(rt, task, "disk_calls_4m", 1_000_000)?;
+    if let (Some(these), Some(those)) = (large, small) {
+        let ratio = Ratio { these, those };
+        println!(rt; "disk_calls_4m/disk_calls_2k {ratio}")?;
+    }
+    run_one::<R, BlockWrite>(rt, task, "block_write", 200_000)?;
+    run_one::<R, DecodeRow>(rt, task, "decode_row", 200_000)?;
+    run_one::<R, Apply>(rt, task, "apply", 1_000_000)?;
+    if let Some(timing) = run_one::<R, FirstPath>(rt, task, "first_path", 4096)? {
+        let rate = timing.rate();
+        println!(rt; "first_path/second {rate}")?;
+    }
+    Ok(())
+}
+
+/// Runs a benchmark a few times, or measures it over so many.
+fn run_one<R: Print + Clock + AllocGlobal, B: Benchmark>(
+    rt: &R,
+    task: Task,
+    name: &str,
+    count: u32,
+) -> Result<Option<Timing>, Failure> {
+    match task {
+        Task::Check => {
+            B::new(rt.alloc())?.run(FEW)?;
+            println!(rt; "{name}: ran")?;
+            Ok(None)
+        }
+        Task::Measure => {
+            let timing = Timing::best_of::<R, B>(rt, rt.alloc(), count)?;
+            println!(rt; "{name} {timing}")?;
+            Ok(Some(timing))
+        }
+    }
+}

@@ -1,0 +1,21 @@
+ghost use Rattle.std.specs.Prelude.{◌≡◌};
+
+use crate::failure::Failure;
+
+/// What the program is asked to do with each benchmark.
+#[derive(Clone, Copy, Debug, PartialEq, Eq)]
+pub enum Task {
+    /// Run it a few times, and tell that it ran.
+    Check,
+    /// Run it many times, and tell how long that took.
+    Measure,
+}
+
+/// The task that the words name.
+pub fn task_of(words: &[&str]) -> Result<Task, Failure> {
+    match words {
+        [] => Ok(Task::Check),
+        ["times"] => Ok(Task::Measure),
+        _ => Err(Failure::Usage),
+    }
+}
