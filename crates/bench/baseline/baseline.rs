@@ -21,8 +21,8 @@ enum Fault {
 
 struct Disk {
     bytes: Vec<u8>,
-    stamps: Vec<u16>,
-    epoch: u16,
+    stamps: Vec<u32>,
+    epoch: u32,
     boot: u64,
     gone: bool,
     failing: Option<Vec<u8>>,
@@ -70,7 +70,7 @@ impl Disk {
 
     fn sync(&mut self, boot: u64) -> Result<(), Fault> {
         self.permit(boot)?;
-        if self.epoch == u16::MAX {
+        if self.epoch == u32::MAX {
             self.stamps.fill(0);
             self.epoch = 1;
         } else {
