@@ -2,4 +2,5 @@ pub mod HeaderLemmas
 pub mod PlaceLemmas
 pub mod RowLemmas
 pub mod SayingLemmas
+pub mod VoteLemmas
 pub mod WriteLemmas

@@ -3,3 +3,4 @@ pub mod Headers
 pub mod Places
 pub mod Row
 pub mod Saying
+pub mod Votes

@@ -1,6 +1,8 @@
-ghost use Rattle.std.specs.Prelude.{◌≡◌, ◌↔◌, IsTrue};
+ghost use Rattle.std.specs.Prelude.{◌≡◌, ◌↔◌, ◌<◌, ◌≤◌, ◌^◌, IsTrue, IfSome, IfNone};
+ghost use Rattle.torn_block.specs.declared.layout.TheConstants.{HOSTS};
 ghost use Rattle.paxos_block.specs.Ballot;
 ghost use Rattle.paxos_block.specs.Ballot.{IsBallotOf};
+ghost use Rattle.paxos_block.specs.Votes;
 
 use torn_block::HOSTS;
 
@@ -19,6 +21,37 @@ fn owns(host: u8, ballot: u64) -> bool
     ensures { result ≡ Ballot.is_ballot_of host ballot }
 {
     1 <= ballot && ballot <= LAST_BALLOT && (ballot - 1) % HOSTS as u64 == host as u64
+}
+
+/// The least ballot of a host above a number. None where that would be greater than `LAST_BALLOT`.
+pub fn ballot_above(host: u8, number: u64) -> Option<u64>
+    requires { host < HOSTS }
+    ensures found { IfSome result (λ ballot. ballot ≡ Votes.ballot_above host number) }
+    ensures owned { IfSome result (IsBallotOf host) }
+    ensures spent { IfNone result (2 ^ 62 < Votes.ballot_above host number) }
+{
+    if number >= LAST_BALLOT {
+        return None;
+    }
+    let ballot = next_ballot(host, number);
+    if ballot <= LAST_BALLOT {
+        Some(ballot)
+    } else {
+        None
+    }
+}
+
+fn next_ballot(host: u8, number: u64) -> u64
+    requires host { host < HOSTS }
+    requires number { number < 2 ^ 62 }
+    ensures { result ≡ Votes.ballot_above host number }
+{
+    let first = u64::from(host) + 1;
+    if number < first {
+        first
+    } else {
+        first + HOSTS as u64 * ((number - first) / HOSTS as u64 + 1)
+    }
 }
 
 /// How many of so many disks are a majority.

@@ -2,6 +2,7 @@ ghost use Rattle.std.specs.Prelude.{◌≡◌, ◌≢◌, ◌↔◌, ◌++◌, B
 ghost use Rattle.paxos_block.specs.Ballot;
 ghost use Rattle.paxos_block.specs.Saying;
 ghost use Rattle.paxos_block.specs.Saying.{MaySay, body_saying, claim_of, said_by, heading, value_bytes};
+ghost use Rattle.paxos_block.specs.Votes.{later_of};
 
 use crate::ballot::is_ballot_of;
 use crate::number::{NUMBER_LENGTH, is_zero, number_in, put_number};
@@ -42,6 +43,13 @@ impl PBlock {
         bal: 0,
         inp: None,
     };
+
+    /// The later vote: that with the greater bal, `self` where they have one bal.
+    pub fn or_later(self, other: &PBlock) -> PBlock
+        ensures { result ≡ later_of self other.now }
+    {
+        if self.bal < other.bal { *other } else { self }
+    }
 }
 
 /// The body of a copy that says this. `may_say` is the test of what a host may say.

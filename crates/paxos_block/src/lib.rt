@@ -11,7 +11,7 @@ mod number;
 mod place;
 mod row;
 
-pub use ballot::{LAST_BALLOT, is_ballot_of, majority};
+pub use ballot::{LAST_BALLOT, ballot_above, is_ballot_of, majority};
 pub use block::{PBlock, VOTE_LENGTH, Value, decode, encode, may_say};
 pub use cell::Cell;
 pub use damaged::Damaged;

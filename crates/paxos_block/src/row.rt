@@ -1,7 +1,10 @@
-ghost use Rattle.std.specs.Prelude.{◌≡◌, ◌↔◌, None, IfOk, IsErr};
+ghost use Rattle.std.specs.Prelude.{◌≡◌, ◌↔◌, ◌<◌, List, None, IfOk, IsErr};
 ghost use Rattle.std.specs.Option.{IsSomeAnd};
-ghost use Rattle.paxos_block.specs.Row.{IsRow, IsDamagedRow, row_said, AreSeenAs};
+ghost use Rattle.torn_block.specs.declared.layout.TheConstants.{HOSTS};
+ghost use Rattle.paxos_block.specs.Row.{IsRow, IsDamagedRow, SeenBlock, row_said, seen_at, IsSeenAs, AreSeenAs};
+ghost use Rattle.paxos_block.specs.Votes.{top_of, others_top_of, latest_in};
 
+use crate::block::PBlock;
 use crate::cell::{Cell, cell_in};
 use crate::damaged::Damaged;
 use torn_block::{BLOCK_LENGTH, HOSTS, ROW_LENGTH};
@@ -11,6 +14,57 @@ use torn_block::{BLOCK_LENGTH, HOSTS, ROW_LENGTH};
 pub struct Row {
     /// By the hosts' numbers.
     pub cells: [Cell; HOSTS],
+}
+
+impl Row {
+    /// A host's block.
+    pub fn cell(&self, host: u8) -> &Cell
+        requires { host < HOSTS }
+        ensures { (seen : List SeenBlock) → AreSeenAs seen self.now →
+            IsSeenAs (seen_at seen host) result.now }
+    {
+        &self.cells[usize::from(host)]
+    }
+
+    /// The greatest mbal of all hosts.
+    pub fn greatest_mbal(&self) -> u64
+        ensures { (seen : List SeenBlock) → AreSeenAs seen self.now → result ≡ top_of seen }
+    {
+        let mut top = 0;
+        for g in 0..HOSTS {
+            top = top.max(self.cells[g].says.mbal);
+        }
+        top
+    }
+
+    /// The greatest mbal of all hosts but this one.
+    pub fn others_mbal(&self, host: u8) -> u64
+        ensures { (seen : List SeenBlock) → AreSeenAs seen self.now →
+            result ≡ others_top_of host seen }
+    {
+        let mut top = 0;
+        for g in 0..HOSTS {
+            if g != usize::from(host) {
+                top = top.max(self.cells[g].says.mbal);
+            }
+        }
+        top
+    }
+
+    /// The latest among a vote and those of all hosts but this one: of several with one bal the first, and `best`
+    /// before all.
+    pub fn latest_vote(&self, host: u8, best: PBlock) -> PBlock
+        ensures { (seen : List SeenBlock) → AreSeenAs seen self.now →
+            result ≡ latest_in host seen best }
+    {
+        let mut best = best;
+        for g in 0..HOSTS {
+            if g != usize::from(host) {
+                best = best.or_later(&self.cells[g].says);
+            }
+        }
+        best
+    }
 }
 
 /// The row that these bytes are.

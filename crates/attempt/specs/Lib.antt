@@ -1,0 +1,9 @@
+pub mod Answers
+pub mod Calls
+pub mod History
+pub mod NextCall
+pub mod Numbers
+pub mod Proposal
+pub mod Setup
+pub mod Status
+pub mod Visits

@@ -1,0 +1,50 @@
+-- The device call that an attempt makes next, with its boot number and its bytes.
+use Rattle.std.specs.Prelude.{◌≡◌, ℕ, List, [], length, slice_get, Option, Some, None, option_map}
+use Rattle.disk.specs.Disk as device
+use Rattle.torn_block.specs.declared.layout.TheConstants.{ROW_LENGTH}
+use Rattle.torn_block.specs.Stage.{Write128, call_of}
+use Rattle.paxos_block.specs.declared.block.PBlock.{PBlock}
+use Rattle.paxos_block.specs.Places.{place_of, VoteOf, row_place}
+use Rattle.paxos_block.specs.Saying.{body_saying}
+use Rattle.attempt.specs.Calls.{Phase, Opening, One, Two, Kind, Attaching, Syncing, Reading, Putting, seventeen}
+use Rattle.attempt.specs.Answers.{Answers, last_row, block_in, boot_of}
+use Rattle.attempt.specs.Setup.{Setup}
+use Rattle.attempt.specs.Proposal.{ballot, own, proposal}
+use Rattle.attempt.specs.Status.{Status, Due, Ended, status}
+
+abbrev pub some_value : Option (List ℕ) → List ℕ
+some_value None = []
+some_value (Some value) = value
+
+-- what is written in a phase: the ballot with the own latest vote, and then with the vote for the proposal
+abbrev pub says_for : Setup → Phase → Answers → PBlock
+says_for s Opening f = record { mbal = 0; bal = 0; inp = None }
+says_for s One f = record { mbal = ballot s f; bal = (own s f).bal; inp = (own s f).inp }
+says_for s Two f = record { mbal = ballot s f; bal = ballot s f; inp = Some (some_value (proposal s f)) }
+
+-- the write of a phase goes to the own block, as it was read last
+abbrev pub write_on : Setup → Phase → ℕ → Answers → Write128
+write_on s p d f =
+    record { place = place_of (VoteOf s.slot s.host); block = (block_in (last_row (f d)) s.host).bytes; body = body_saying (says_for s p f) }
+
+abbrev pub call_by : Setup → ℕ → Answers → Kind → device.Call
+call_by s d f Attaching = device.Attach
+call_by s d f Syncing = device.Sync (boot_of (f d))
+call_by s d f Reading = device.Read (boot_of (f d)) (row_place s.slot) ROW_LENGTH
+call_by s d f (Putting p call) = call_of call (write_on s p d f) (boot_of (f d))
+
+-- of a disk's seventeen calls, the one behind those that were answered
+abbrev pub call_on : Setup → ℕ → Answers → Option device.Call
+call_on s d f = option_map (call_by s d f) (slice_get seventeen (length (f d)))
+
+abbrev pub with_disk : ℕ → Option device.Call → Option (ℕ × device.Call)
+with_disk d None = None
+with_disk d (Some call) = Some (d, call)
+
+abbrev pub next_in : Setup → Answers → Status → Option (ℕ × device.Call)
+next_in s f (Due p d) = with_disk d (call_on s d f)
+next_in s f (Ended end) = None
+
+-- the disk and the device call that are due
+abbrev pub next_call : Setup → Answers → Option (ℕ × device.Call)
+next_call s f = next_in s f (status s f)

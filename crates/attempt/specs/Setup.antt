@@ -1,0 +1,10 @@
+-- What an attempt begins with.
+use Rattle.std.specs.Prelude.{ℕ, List, Option}
+
+-- A host tries a slot over so many disks, with a ballot above its floor, and proposes its input where it finds none.
+pub record Setup : Type 0 where
+  pub host : ℕ
+  pub slot : ℕ
+  pub disks : ℕ
+  pub floor : ℕ
+  pub input : Option (List ℕ)
