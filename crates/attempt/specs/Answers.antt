@@ -1,5 +1,5 @@
 -- What an attempt hears of its disks, and what follows from the answers of one disk alone.
-use Rattle.std.specs.Prelude.{◌==◌, ℕ, Bool, true, false, pred, not, List, [], ◌∷◌, slice_get, Option, Some, None, if◌then◌else◌, option_and_then}
+use Rattle.std.specs.Prelude.{◌==◌, ℕ, Bool, true, false, pred, not, List, [], ◌∷◌, ◌++◌, slice_get, Option, Some, None, if◌then◌else◌, option_and_then}
 use Rattle.std.specs.List.{list_any}
 use Rattle.disk.specs.declared.fault.DiskFault.{DiskFault}
 use Rattle.disk.specs.Disk as device
@@ -32,6 +32,10 @@ Answers = ℕ → List Heard
 abbrev pub on : List Answered → Answers
 on [] d = []
 on (x ∷ xs) d = if x.disk == d then x.heard ∷ on xs d else on xs d
+
+-- a disk has answered once more
+abbrev pub more : Answers → ℕ → Heard → Answers
+more f d x e = if e == d then f d ++ x ∷ [] else f e
 
 -- ONE DISK: what follows from its answers
 

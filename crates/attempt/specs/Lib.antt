@@ -5,5 +5,6 @@ pub mod NextCall
 pub mod Numbers
 pub mod Proposal
 pub mod Setup
+pub mod Standing
 pub mod Status
 pub mod Visits

@@ -1,0 +1,15 @@
+//! One attempt of Disk Paxos on a slot, call by call: a machine that asks for device calls and hears their answers.
+#![tactic(auto)]
+
+mod end;
+mod heard;
+mod need;
+mod notes;
+mod one_attempt;
+mod phase;
+mod visit;
+
+pub use end::End;
+pub use heard::Heard;
+pub use need::{DeviceCall, Need};
+pub use one_attempt::Attempt;

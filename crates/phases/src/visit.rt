@@ -1,0 +1,24 @@
+use disk::Boot;
+use torn_block::{BODY_LENGTH, Block128, Body};
+
+/// What is kept of a disk that is left: the boot number it was attached under, and the own block as it was read last.
+#[derive(Clone, Copy)]
+pub struct Visit {
+    pub boot: Boot,
+    pub block: Block128,
+}
+
+impl Visit {
+    /// Of a disk that has answered nothing.
+    pub const NONE: Visit = Visit {
+        boot: Boot { number: 0 },
+        block: Block128 {
+            current: None,
+            sequence: 0,
+            body: Body {
+                bytes: [0; BODY_LENGTH],
+            },
+            next_is_open: false,
+        },
+    };
+}
