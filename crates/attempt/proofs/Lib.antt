@@ -1,6 +1,11 @@
 pub mod Firsts
+pub mod Histories
 pub mod Lists
 pub mod More
+pub mod OneDisk
+pub mod Replies
 pub mod Rows
 pub mod Statuses
 pub mod Visitors
+pub mod Totals
+pub mod Ends

@@ -1,10 +1,10 @@
 -- The status of an attempt, case by case: what it tells, and what it follows from.
 use Rattle.std.specs.Prelude.{nat_lt, if◌then◌else◌}
-use Rattle.std.proofs.Common.{ℕ, ◌*◌, ◌<◌, ◌≡◌, Bool, true, false, Option, Some, None, List, refl, sym, subst, ap, ap₂, ◌∙◌, arith}
+use Rattle.std.proofs.Common.{arith, length, ◌≤◌, ℕ, ◌*◌, ◌<◌, ◌≡◌, Bool, true, false, Option, Some, None, List, refl, sym, subst, ap, ap₂, ◌∙◌, arith}
 use Rattle.std.proofs.lemmas.Bool.{lt-ltb, ltb-true}
 use Rattle.paxos_block.specs.declared.ballot.TheConstants.{LAST_BALLOT}
 use Rattle.attempt.specs.Calls.{Phase, Opening, One, Two, start}
-use Rattle.attempt.specs.Answers.{Answers}
+use Rattle.attempt.specs.Answers.{Heard, Answers, more}
 use Rattle.attempt.specs.Setup.{Setup}
 use Rattle.attempt.specs.Numbers.{count}
 use Rattle.attempt.specs.Visits.{takes_part, visited, is_left, is_left_at, are_enough}
@@ -12,7 +12,8 @@ use Rattle.attempt.specs.Proposal.{ballot, proposal, others_mbal}
 use Rattle.attempt.specs.Status.{Status, Due, Ended, Committed, Empty, Outrun, NoMajority, BallotsSpent, next_or, through, unless_outrun, proposing, voting, promising, status}
 use Rattle.attempt.specs.Standing.{IsIn, NotOutrun, HasBallot, HasProposal}
 use Rattle.attempt.proofs.Firsts.{count_below}
-use Rattle.attempt.proofs.Visitors.{part_is, part_if, part_before, not_stuck, left_is, left_if}
+use Rattle.attempt.proofs.Rows.{AreSameRows, ballot_same, others_same, proposal_same, rows_kept}
+use Rattle.attempt.proofs.Visitors.{visited_kept, part_is, part_if, part_before, not_stuck, left_is, left_if}
 
 -- WHERE AN ATTEMPT STANDS
 
@@ -76,7 +77,8 @@ left_before s p q at f d less takes =
     let is = part_is p (f d) takes in
     left_if s q at f d (part_before p q (f d) (omega arith) is) (not_stuck s q (f d) (omega (arith, is.come)))
 
-enough_more : (s : Setup) (g h : ℕ → Bool) → ((d : ℕ) → d < s.disks → g d ≡ true → h d ≡ true) → are_enough s g ≡ true → are_enough s h ≡ true
+-- where more disks pass, enough do
+pub enough_more : (s : Setup) (g h : ℕ → Bool) → ((d : ℕ) → d < s.disks → g d ≡ true → h d ≡ true) → are_enough s g ≡ true → are_enough s h ≡ true
 enough_more s g h more enough =
     let less = count_below s.disks g h more in
     let half : s.disks < 2 * count s.disks g = ltb-true s.disks (2 * count s.disks g) enough in
@@ -260,3 +262,30 @@ module _ (s : Setup) (f : Answers) where
   -- too few disks are left
   pub few : HasFew s f → status s f ≡ Ended NoMajority
   few is = few_by is.phase is.come is.not_outrun is.few
+
+-- ONE ANSWER MORE
+
+module _ (s : Setup) (f : Answers) (d : ℕ) (x : Heard) where
+  ballot_kept : start One ≤ length (f d) → HasBallot s f → HasBallot s (more f d x)
+  ballot_kept l come =
+      record {
+        over = visited_kept s f d x Opening l come.over;
+        fits = ap (nat_lt LAST_BALLOT) (ballot_same s (more f d x) f (rows_kept f d x Opening l)) ∙ come.fits;
+      }
+
+  proposal_kept : (value : List ℕ) → start Two ≤ length (f d) → HasProposal s f value → HasProposal s (more f d x) value
+  proposal_kept value l come =
+      let opening : AreSameRows Opening (more f d x) f = rows_kept f d x Opening (omega arith) in
+      let one : AreSameRows One (more f d x) f = rows_kept f d x One l in
+      record {
+        taken = ballot_kept (omega arith) come.taken;
+        over = visited_kept s f d x One l come.over;
+        not_outrun = ap₂ nat_lt (ballot_same s (more f d x) f opening) (others_same s (more f d x) f One one) ∙ come.not_outrun;
+        is = proposal_same s (more f d x) f opening one ∙ come.is;
+      }
+
+  -- an attempt that has come to a phase stays in it with an answer of the phase
+  pub in_kept : (p : Phase) → start p ≤ length (f d) → IsIn s p f → IsIn s p (more f d x)
+  in_kept Opening l come = tt
+  in_kept One l come = ballot_kept l come
+  in_kept Two l come = (come.0, proposal_kept come.0 l come.1)

@@ -1,6 +1,7 @@
 pub mod Answers
 pub mod Calls
 pub mod History
+pub mod Laws
 pub mod NextCall
 pub mod Numbers
 pub mod Proposal

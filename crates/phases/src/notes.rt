@@ -1,5 +1,5 @@
 // What an attempt keeps of what it has heard, and how each answer changes it.
-ghost use Rattle.std.specs.Prelude.{◌≡◌, ◌<◌, ◌≤◌, ◌+◌, ◌*◌, ℕ, true, false, List, [], Some, None, nat_lt, is_some, slice_set};
+ghost use Rattle.std.specs.Prelude.{◌≡◌, ◌≢◌, ◌<◌, ◌≤◌, ◌+◌, ◌*◌, ℕ, true, false, List, [], Some, None, nat_lt, is_some, slice_set};
 ghost use Rattle.std.specs.Bool.{OnTrue, OnFalse};
 ghost use Rattle.torn_block.specs.declared.layout.TheConstants.{HOSTS, DISKS};
 ghost use Rattle.attempt.specs.Answers as answers;
@@ -156,10 +156,13 @@ impl Notes {
         ensures follows { (s : Setup) (f : Answers) → IsInOrder s (phase_of self.old) self.old.disk f →
             Follows s f self.old → Follows s (more f self.old.disk (answers.Booted boot.number)) self.new }
     {
-        self.visits[usize::from(self.disk)] = Some(Visit {
-            boot,
-            block: Visit::NONE.block,
-        });
+        let disk = usize::from(self.disk);
+        if let Some(visit) = self.visits[disk] {
+            self.visits[disk] = Some(Visit {
+                boot,
+                block: visit.block,
+            });
+        }
         self.stage = Stage::Syncing;
     }
 
@@ -173,12 +176,25 @@ impl Notes {
             Follows s f self.old → Follows s (more f self.old.disk answers.Done) self.new }
     {
         if self.stage == Stage::Writing {
-            self.steps.done();
-            if !self.steps.is_done() {
-                return;
-            }
+            self.go_on_writing();
+        } else {
+            self.stage = Stage::Reading;
         }
-        self.stage = Stage::Reading;
+    }
+
+    // A call of a write succeeded. Behind the last of them the row is read.
+    fn go_on_writing(&mut self)
+        requires sound { IsSound self.old }
+        requires going { self.old.end ≡ None }
+        requires stage { self.old.stage ≡ Stage.Writing }
+        ensures sound { IsSound self.new }
+        ensures follows { (s : Setup) (f : Answers) → IsInOrder s (phase_of self.old) self.old.disk f →
+            Follows s f self.old → Follows s (more f self.old.disk answers.Done) self.new }
+    {
+        self.steps.done();
+        if self.steps.is_done() {
+            self.stage = Stage::Reading;
+        }
     }
 
     // A bad answer drops the disk for the rest of the attempt.
@@ -335,8 +351,10 @@ impl Notes {
         ensures sound { IsSound self.new }
         ensures follows { (s : Setup) (f : Answers) → IsPassed s f self.old from → Follows s f self.new }
     {
-        if self.is_over(from) {
-            self.end = self.says.inp.map(End::Committed);
+        if self.is_over(from)
+            && let Some(value) = self.says.inp
+        {
+            self.end = Some(End::Committed(value));
         }
     }
 
@@ -433,20 +451,37 @@ impl Notes {
         ensures passed { OnFalse result ((s : Setup) (f : Answers) → IsPassed s f self.old disk →
             IsPassed s f self.new (disk + 1)) }
     {
-        let Some(visit) = &self.visits[usize::from(disk)] else {
+        let Some(visit) = self.visits[usize::from(disk)] else {
             return false;
         };
-        if self.phase == Phase::Opening {
-            self.stage = Stage::Attaching;
-        } else {
-            let Ok(steps) = WriteSteps::new(&visit.block, &encode(self.host, &self.says)) else {
-                self.visits[usize::from(disk)] = None;
-                return false;
-            };
-            self.steps = steps;
-            self.stage = Stage::Writing;
+        if self.phase != Phase::Opening {
+            return self.begin_write(disk, &visit);
         }
         self.disk = disk;
+        self.stage = Stage::Attaching;
+        true
+    }
+
+    // Begins the write of the phase on a disk, or drops it where its block is spent.
+    fn begin_write(&mut self, disk: u8, visit: &Visit) -> bool
+        requires sound { IsSound self.old }
+        requires disk { disk < self.old.disks }
+        requires phase { self.old.phase ≢ Phase.Opening }
+        requires visit { visit_at self.old.visits disk ≡ Some visit.now }
+        ensures sound { IsSound self.new }
+        ensures same { (self.new.phase ≡ self.old.phase) × (self.new.end ≡ self.old.end) × (self.new.disks ≡ self.old.disks) }
+        ensures begun { OnTrue result ((s : Setup) (f : Answers) → IsPassed s f self.old disk →
+            IsBegun s f self.new) }
+        ensures passed { OnFalse result ((s : Setup) (f : Answers) → IsPassed s f self.old disk →
+            IsPassed s f self.new (disk + 1)) }
+    {
+        let Ok(steps) = WriteSteps::new(&visit.block, &encode(self.host, &self.says)) else {
+            self.visits[usize::from(disk)] = None;
+            return false;
+        };
+        self.disk = disk;
+        self.stage = Stage::Writing;
+        self.steps = steps;
         true
     }
 
