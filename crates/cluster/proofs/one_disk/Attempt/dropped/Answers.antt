@@ -1,5 +1,5 @@
 use Rattle.cluster.proofs.Kept.{dropped_early, dropped_late}
-use Rattle.cluster.proofs.attempt.Attempt.dropped.Goals as goal
+use Rattle.cluster.proofs.one_disk.Attempt.dropped.Goals as goal
 
 pub returns-in-Attaching : goal.returns-in-Attaching
 returns-in-Attaching c = dropped_early c.args.self.now c.in-Attaching.is

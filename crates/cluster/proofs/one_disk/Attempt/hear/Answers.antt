@@ -1,9 +1,9 @@
 use Rattle.std.proofs.Common.{subst}
-use Rattle.cluster.specs.declared.attempt.Heard as code
+use Rattle.cluster.specs.declared.one_disk.Heard as code
 use Rattle.cluster.specs.OneDisk.{FitsStage}
 use Rattle.cluster.proofs.Kept.{fits_stage}
 use Rattle.cluster.proofs.Turns.{boots}
-use Rattle.cluster.proofs.attempt.Attempt.hear.Goals as goal
+use Rattle.cluster.proofs.one_disk.Attempt.hear.Goals as goal
 
 pub hear_row-requires-clause-fits : goal.hear_row-requires-clause-fits
 hear_row-requires-clause-fits c =

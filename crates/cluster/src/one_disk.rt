@@ -1,18 +1,15 @@
 // One attempt of a host on a slot, over one disk.
-ghost use Rattle.std.specs.Prelude.{◌≡◌, ◌+◌, ◌<◌, ◌≤◌, ◌^◌, ◌++◌, ◌∷◌, [], ℕ, Some, None, length, IfSome, OnSome, IfNone, MatchOption};
-ghost use Rattle.disk.specs.Disk.{Call};
+ghost use Rattle.std.specs.Prelude.{◌≡◌, ◌+◌, ◌<◌, ◌++◌, ◌∷◌, [], ℕ, true, List, Some, IfSome, IfNone};
 ghost use Rattle.torn_block.specs.declared.layout.TheConstants.{HOSTS, ROW_LENGTH};
-ghost use Rattle.cluster.specs.Attempt as attempts;
-ghost use Rattle.std.specs.Prelude.{true, List};
 ghost use Rattle.torn_block.specs.declared.write_steps.WriteCall.{WriteCall};
 ghost use Rattle.torn_block.specs.Plan.{device_call, need_at};
 ghost use Rattle.paxos_block.specs.Places.{place_of, VoteOf, row_place};
-ghost use Rattle.cluster.specs.Attempt.{next_call};
+ghost use Rattle.attempt.specs.Answers as answers;
+ghost use Rattle.attempt.specs.NextCall.{next_call};
 
 use crate::entry::CallKind;
-use crate::rows::{Best, ballot_above, best_of, cell_of, others_top, top_of};
 use disk::{Boot, DiskFault};
-use paxos_block::{LAST_BALLOT, PBlock, Row, Value, block_place, decode_row, encode, row_place};
+use paxos_block::{PBlock, Row, Value, ballot_above, block_place, decode_row, encode, row_place};
 use torn_block::{BODY_LENGTH, Block128, BlockNeed, Body, ROW_LENGTH, WriteSteps};
 
 /// How far an attempt has come on its disk.
@@ -103,7 +100,7 @@ pub struct Attempt {
     pub opening: [u8; ROW_LENGTH],
     pub promised: [u8; ROW_LENGTH],
     pub ballot: u64,
-    pub own: Best,
+    pub own: PBlock,
     pub proposal: Value,
     pub steps: WriteSteps,
 }
@@ -131,7 +128,7 @@ impl Attempt {
             opening: [0; ROW_LENGTH],
             promised: [0; ROW_LENGTH],
             ballot: 0,
-            own: Best::none(),
+            own: PBlock::BLANK,
             proposal: *input,
             steps: no_steps(),
         }
@@ -198,7 +195,7 @@ impl Attempt {
     fn go_on(&mut self)
         requires kept { IsKept self.old }
         requires fits { FitsStage self.old.stage Heard.Done }
-        ensures { GoesOn self.old self.new attempts.Done }
+        ensures { GoesOn self.old self.new answers.Done }
     {
         match self.stage {
             Stage::Syncing => self.stage = Stage::Reading,
@@ -212,7 +209,7 @@ impl Attempt {
     fn wrote(&mut self, then: Stage)
         requires kept { IsKept self.old }
         requires stage { IsReadAfter self.old.stage then }
-        ensures { GoesOn self.old self.new attempts.Done }
+        ensures { GoesOn self.old self.new answers.Done }
     {
         self.steps.done();
         if self.steps.is_done() {
@@ -224,8 +221,8 @@ impl Attempt {
     fn hear_row(&mut self, bytes: &[u8; ROW_LENGTH]) -> Option<Ended>
         requires kept { IsKept self.old }
         requires fits { FitsStage self.old.stage (Heard.Told bytes) }
-        ensures going { IfNone result (GoesOn self.old self.new (attempts.Told (row_said bytes.now))) }
-        ensures ended { IfSome result (IsEnd (setup_in self.old) (only (heard_in self.old ++ attempts.Told (row_said bytes.now) ∷ []))) }
+        ensures going { IfNone result (GoesOn self.old self.new (answers.Told (row_said bytes.now))) }
+        ensures ended { IfSome result (IsEnd (setup_in self.old) (only (heard_in self.old ++ answers.Told (row_said bytes.now) ∷ []))) }
     {
         let Ok(row) = decode_row(bytes) else {
             return Some(self.dropped());
@@ -243,17 +240,17 @@ impl Attempt {
         requires kept { IsKept self.old }
         requires stage { self.old.stage ≡ Stage.Reading }
         requires row { ReadsAs bytes.now row.now }
-        ensures going { IfNone result (GoesOn self.old self.new (attempts.Told (row_said bytes.now))) }
-        ensures ended { IfSome result (IsEnd (setup_in self.old) (only (heard_in self.old ++ attempts.Told (row_said bytes.now) ∷ []))) }
+        ensures going { IfNone result (GoesOn self.old self.new (answers.Told (row_said bytes.now))) }
+        ensures ended { IfSome result (IsEnd (setup_in self.old) (only (heard_in self.old ++ answers.Told (row_said bytes.now) ∷ []))) }
     {
-        let Some(ballot) = ballot_above(self.host, self.floor.max(top_of(row))) else {
+        let Some(ballot) = ballot_above(self.host, self.floor.max(row.greatest_mbal())) else {
             return Some(Ended {
                 end: End::BallotsSpent,
                 taken: 0,
             });
         };
-        let cell = cell_of(self.host, row);
-        let own = Best::none().or_later(&cell.says);
+        let cell = row.cell(self.host);
+        let own = PBlock::BLANK.or_later(&cell.says);
         let promise = PBlock {
             mbal: ballot,
             bal: own.bal,
@@ -278,23 +275,24 @@ impl Attempt {
         requires kept { IsKept self.old }
         requires stage { self.old.stage ≡ Stage.Checking }
         requires row { ReadsAs bytes.now row.now }
-        ensures going { IfNone result (GoesOn self.old self.new (attempts.Told (row_said bytes.now))) }
-        ensures ended { IfSome result (IsEnd (setup_in self.old) (only (heard_in self.old ++ attempts.Told (row_said bytes.now) ∷ []))) }
+        ensures going { IfNone result (GoesOn self.old self.new (answers.Told (row_said bytes.now))) }
+        ensures ended { IfSome result (IsEnd (setup_in self.old) (only (heard_in self.old ++ answers.Told (row_said bytes.now) ∷ []))) }
     {
-        let others = others_top(self.host, row);
+        let others = row.others_mbal(self.host);
         if self.ballot < others {
             return Some(Ended {
                 end: End::Outrun(others),
                 taken: self.ballot,
             });
         }
-        let proposal = best_of(self.host, row, self.own).inp.unwrap_or(self.input);
+        let latest = row.latest_vote(self.host, self.own);
+        let proposal = latest.inp.unwrap_or(self.input);
         let vote = PBlock {
             mbal: self.ballot,
             bal: self.ballot,
             inp: Some(proposal),
         };
-        let cell = cell_of(self.host, row);
+        let cell = row.cell(self.host);
         let Ok(steps) = WriteSteps::new(&cell.block, &encode(self.host, &vote)) else {
             return Some(Ended {
                 end: End::NoMajority,
@@ -312,9 +310,9 @@ impl Attempt {
     fn confirm(&self, row: &Row) -> Ended
         requires kept { IsKept self.now }
         requires stage { self.now.stage ≡ Stage.Confirming }
-        ensures { (bytes : List ℕ) → ReadsAs bytes row.now → IsEnd (setup_in self.now) (only (heard_in self.now ++ attempts.Told (row_said bytes) ∷ [])) result }
+        ensures { (bytes : List ℕ) → ReadsAs bytes row.now → IsEnd (setup_in self.now) (only (heard_in self.now ++ answers.Told (row_said bytes) ∷ [])) result }
     {
-        let others = others_top(self.host, row);
+        let others = row.others_mbal(self.host);
         Ended {
             end: if self.ballot < others {
                 End::Outrun(others)
@@ -328,7 +326,7 @@ impl Attempt {
     // A bad answer drops the one disk, and so ends the attempt.
     fn dropped(&self) -> Ended
         requires { IsKept self.now }
-        ensures { (x : attempts.Heard) → attempts.is_bad x ≡ true → IsEnd (setup_in self.now) (only (heard_in self.now ++ x ∷ [])) result }
+        ensures { (x : answers.Heard) → answers.is_bad x ≡ true → IsEnd (setup_in self.now) (only (heard_in self.now ++ x ∷ [])) result }
     {
         let taken = match self.stage {
             Stage::Attaching | Stage::Syncing | Stage::Reading => 0,

@@ -1,6 +1,6 @@
 use Rattle.std.proofs.Common.{◌≡◌, true, refl}
 use Rattle.cluster.proofs.Turns.{wrote_more, wrote_last}
-use Rattle.cluster.proofs.attempt.Attempt.wrote.Goals as goal
+use Rattle.cluster.proofs.one_disk.Attempt.wrote.Goals as goal
 
 pub returns-else-is_done : goal.returns-else-is_done
 returns-else-is_done c =

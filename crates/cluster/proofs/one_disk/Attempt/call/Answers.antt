@@ -3,7 +3,7 @@ use Rattle.disk.specs.Disk as device
 use Rattle.torn_block.specs.declared.layout.TheConstants.{ROW_LENGTH}
 use Rattle.paxos_block.specs.Places.{row_place}
 use Rattle.cluster.proofs.Kept.{sent_by, read_by}
-use Rattle.cluster.proofs.attempt.Attempt.call.Goals as goal
+use Rattle.cluster.proofs.one_disk.Attempt.call.Goals as goal
 
 pub returns-in-Promising-clause-next : goal.returns-in-Promising-clause-next
 returns-in-Promising-clause-next c = sent_by c.args.self.now _ c.requires c.in-Promising.is c.write_call.ensures.call
