@@ -56,7 +56,7 @@ module _ (s : Setup) (f : Answers) (d : ℕ) (below : d < s.disks) (well : Answe
 
 -- with a majority of them there are always enough
 enough_well : (s : Setup) (f : Answers) (p : Phase) → MostAnswerWell s f → IsIn s p f → are_enough s (is_left s p f) ≡ true
-enough_well s f p good come = enough_more s good.those (is_left s p f) (λ d l is. stays_left s f d l (good.well d l is) p come) good.most
+enough_well s f p good come = enough_more s good.those (is_left s p f) (λ d l is. stays_left s f d l (good.each d l is) p come) good.most
 
 not_few : (s : Setup) (f : Answers) → MostAnswerWell s f → ¬ HasFew s f
 not_few s f good few = both_ways (are_enough s (is_left s few.phase f)) few.few (enough_well s f few.phase good few.come)
@@ -71,7 +71,7 @@ most_well s f some well =
     record {
       those = λ d. true;
       most = lt-ltb s.disks (2 * count s.disks (λ d. true)) (omega (arith, count_all s.disks));
-      well = λ d l is. well d l;
+      each = λ d l is. well d l;
     }
 
 -- THE OTHER HOSTS

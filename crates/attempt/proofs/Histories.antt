@@ -38,12 +38,12 @@ pub visit : (s : Setup) (p : Phase) (d : ℕ) (f : Answers) → IsDueAt s p d f 
 visit s p d f is = some_below s.disks (λ e. waits s p (f e)) d is.visits
 
 -- of two phases one comes first
-data Order (p q : Phase) : Type 0 where
+pub data Order (p q : Phase) : Type 0 where
   Same : p ≡ q → Order p q
   Before : goal p ≤ start q → Order p q
   After : goal q ≤ start p → Order p q
 
-order : (p q : Phase) → Order p q
+pub order : (p q : Phase) → Order p q
 order Opening Opening = Same refl
 order One One = Same refl
 order Two Two = Same refl
@@ -71,6 +71,16 @@ begins : (p : Phase) → start p ≤ goal p
 begins Opening = omega arith
 begins One = omega arith
 begins Two = omega arith
+
+-- the disk on which a call is due has come to each phase that the attempt has come to
+pub come_so_far : (s : Setup) (f : Answers) (p q : Phase) (d : ℕ) → IsIn s p f → IsDueAt s q d f → start p ≤ length (f d)
+come_so_far s f p q d come is =
+    let waiting = waiting_is s q (f d) (visit s q d f is).passes in
+    elim (order p q) [
+      | Same same ↦ subst (λ (r : Phase). start r ≤ length (f d)) (sym same) waiting.part.come
+      | Before l ↦ omega (arith, begins p, waiting.part.come)
+      | After l ↦ (let over = over_before s p q f l come in let visits = is.visits in absurd (cc))
+    ]
 
 -- while a call is due, no disk is beyond its phase
 pub behind_due : (s : Setup) (f : Answers) (p : Phase) (d : ℕ) → IsReached s f → IsDueAt s p d f → (e : ℕ) → length (f e) ≤ goal p

@@ -9,3 +9,7 @@ pub mod Statuses
 pub mod Visitors
 pub mod Totals
 pub mod Ends
+pub mod Proposals
+pub mod Moments
+pub mod Confirmed
+pub mod Preparing

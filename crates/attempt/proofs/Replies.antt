@@ -1,6 +1,6 @@
 -- A history by its last answer, and what an answer to the call due tells.
 use Rattle.std.specs.Prelude.{slice_get, option_map}
-use Rattle.std.proofs.Common.{true≢false, ℕ, ◌≡◌, true, false, Option, Some, None, List, [], ◌∷◌, ◌++◌, length, is_some, refl, sym, subst, append-nil, append_assoc}
+use Rattle.std.proofs.Common.{true≢false, ℕ, ◌≡◌, true, false, Option, Some, None, List, [], ◌∷◌, ◌++◌, length, is_some, refl, sym, subst, ap, ◌∙◌, append-nil, append_assoc}
 use Rattle.disk.specs.Disk as device
 use Rattle.attempt.specs.Calls.{Phase, Kind, seventeen}
 use Rattle.attempt.specs.Answers.{Heard, Booted, Done, Told, Fault, Answered, Answers, on, is_bad, told}
@@ -61,6 +61,10 @@ module _ (s : Setup) (f : Answers) (x : Answered) where
 
   pub answer_is : IsAnswerTo (next_call s f) x → IsAnswer s f x.disk x.heard
   answer_is answers = answer_in (status s f) refl answers
+
+-- the call that is due where one is due on a disk
+pub next_is : (s : Setup) (f : Answers) (p : Phase) (d : ℕ) (kind : Kind) → status s f ≡ Due p d → slice_get seventeen (length (f d)) ≡ Some kind → next_call s f ≡ Some (d, call_by s d f kind)
+next_is s f p d kind due is = ap (next_in s f) due ∙ ap (λ (o : Option Kind). with_disk d (option_map (call_by s d f) o)) is
 
 -- a good answer to a read tells a sound row
 pub reading_tells : (boot at len : ℕ) (x : Heard) → Fits (device.Read boot at len) x → is_bad x ≡ false → is_some (told x) ≡ true

@@ -17,11 +17,15 @@ pub record AnswersWell (s : Setup) (a : List Heard) : Type 0 where
 abbrev pub AllAnswerWell : Setup → Answers → Type 0
 AllAnswerWell s f = (d : ℕ) → d < s.disks → AnswersWell s (f d)
 
--- more than half of the disks did
-pub record MostAnswerWell (s : Setup) (f : Answers) : Type 0 where
+-- it is so on each of some disks, more than half of all
+pub record OnMost (s : Setup) (IsSo : ℕ → Type 0) : Type 0 where
   pub those : ℕ → Bool
   pub most : are_enough s those ≡ true
-  pub well : (d : ℕ) → d < s.disks → those d ≡ true → AnswersWell s (f d)
+  pub each : (d : ℕ) → d < s.disks → those d ≡ true → IsSo d
+
+-- more than half of the disks did
+abbrev pub MostAnswerWell : Setup → Answers → Type 0
+MostAnswerWell s f = OnMost s (λ d. AnswersWell s (f d))
 
 -- what a later row of a disk says of the other hosts is what the opening's row there said
 abbrev pub OthersRest : Setup → Answers → Type 0

@@ -4,6 +4,7 @@ pub mod History
 pub mod Laws
 pub mod NextCall
 pub mod Numbers
+pub mod Prepared
 pub mod Proposal
 pub mod Setup
 pub mod Standing

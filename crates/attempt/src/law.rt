@@ -1,10 +1,12 @@
-// What bounds an attempt's device calls, and how an attempt ends that its disks answer.
+// What bounds an attempt's device calls, how one ends that its disks answer, and what one has done that proposes.
 ghost use Rattle.std.specs.Prelude.{◌≡◌, ◌≢◌, ◌*◌, ◌<◌, ◌≤◌, ℕ, List, length};
+ghost use Rattle.torn_block.specs.declared.layout.TheConstants.{HOSTS};
 ghost use Rattle.attempt.specs.Calls.{Phase};
 ghost use Rattle.attempt.specs.Answers.{Answered, on};
 ghost use Rattle.attempt.specs.Setup.{Setup};
 ghost use Rattle.attempt.specs.Status.{Due, Ended, Committed, Empty, NoMajority, status};
 ghost use Rattle.attempt.specs.History.{IsHistory};
+ghost use Rattle.attempt.specs.Prepared.{Proposes, IsPrepared, IsAccepted, IsProposal, HasNoInput, AreVotes};
 ghost use Rattle.attempt.specs.Laws.{AllAnswerWell, MostAnswerWell, OthersRest, IsServed};
 
 /// An attempt makes at most seventeen calls a disk. Over disks that answer well it makes all of
@@ -30,4 +32,18 @@ pub fn alone_answered()
     ensures { (s : Setup) (heard : List Answered) → IsHistory s heard →
         OthersRest s (on heard) → MostAnswerWell s (on heard) →
         IsServed s heard (status s (on heard)) }
+{}
+
+/// An attempt that proposes has its ballot and its latest vote confirmed on more than half of the
+/// disks, and proposes what the votes that it saw ask for. One whose proposal is chosen has its
+/// vote for it confirmed on more than half.
+pub fn prepared_and_proposed()
+    ensures prepared { (s : Setup) (heard : List Answered) (value : List ℕ) →
+        IsHistory s heard → Proposes s (on heard) value → IsPrepared s heard }
+    ensures proposal { (s : Setup) (heard : List Answered) (value : List ℕ) → s.host < HOSTS →
+        AreVotes (on heard) → Proposes s (on heard) value → IsProposal s (on heard) value }
+    ensures none { (s : Setup) (heard : List Answered) → s.host < HOSTS → AreVotes (on heard) →
+        status s (on heard) ≡ Ended Empty → HasNoInput s (on heard) }
+    ensures accepted { (s : Setup) (heard : List Answered) (value : List ℕ) → IsHistory s heard →
+        status s (on heard) ≡ Ended (Committed value) → IsAccepted s heard value }
 {}

@@ -134,10 +134,8 @@ module _ (s : Setup) (f : Answers) (n : Notes) (is : IsOver s f (record n { phas
   -- there is no ballot
   pub ends_spent : LAST_BALLOT < ballot_above n.host n.highest → Follows s f (record n { phase = phase.Opening; end = Some end.BallotsSpent })
   ends_spent above =
-      let r = is.passed.rows in
       let high : nat_lt LAST_BALLOT (ballot s f) ≡ true = lt-ltb LAST_BALLOT (ballot s f) (omega (arith, above, ballot_is)) in
       record {
-        rows = record { is_host = r.is_host; is_slot = r.is_slot; as_many = r.as_many; input = r.input; highest = r.highest; best = r.best };
         ballot = ap (λ (x : PBlock). x.mbal) is.passed.says ∙ sym (taken_is ∙ ap (λ (t : Bool). if t then 0 else ballot s f) high);
         stands = statuses.spent s f (record {
           over = record { come = tt; not_outrun = tt; visits = over; enough = is.enough };
@@ -173,14 +171,13 @@ module _ (s : Setup) (f : Answers) (n : Notes) (is : IsOver s f (record n { phas
 
   -- there is no proposal
   pub ends_empty : or_else n.best.inp n.input ≡ None → Follows s f (record n { phase = phase.One; end = Some end.Empty })
-  ends_empty none =
+  ends_empty without =
       let r = is.passed.rows in
       record {
-        rows = record { is_host = r.is_host; is_slot = r.is_slot; as_many = r.as_many; input = r.input; highest = r.highest; best = r.best };
         ballot = ap (λ (x : PBlock). x.mbal) is.passed.says ∙ sym is.passed.opened;
         stands = statuses.empty s f (record {
           over = record { come = is.passed.come; not_outrun = is.passed.not_outrun; visits = none_waits s f promised_notes is.passed; enough = is.enough };
-          none = sym (ap₂ (λ (x : PBlock) (y : Option (List ℕ)). or_else x.inp y) r.best r.input) ∙ none;
+          none = sym (ap₂ (λ (x : PBlock) (y : Option (List ℕ)). or_else x.inp y) r.best r.input) ∙ without;
         });
       }
 
@@ -210,12 +207,10 @@ module _ (s : Setup) (f : Answers) (n : Notes) (is : IsOver s f (record n { phas
   -- the proposal is committed
   pub ends_committed : (value : List ℕ) → n.says.inp ≡ Some value → Follows s f (record n { phase = phase.Two; end = Some (end.Committed value) })
   ends_committed value value_is =
-      let r = is.passed.rows in
       let same : Some value ≡ Some (some_value (proposal s f)) = sym value_is ∙ ap (λ (x : PBlock). x.inp) is.passed.says in
       let proposed : proposal s f ≡ Some is.passed.come.0 = is.passed.come.1.is in
       let some : some_value (proposal s f) ≡ is.passed.come.0 = ap some_value proposed in
       record {
-        rows = record { is_host = r.is_host; is_slot = r.is_slot; as_many = r.as_many; input = r.input; highest = r.highest; best = r.best };
         ballot = ap (λ (x : PBlock). x.mbal) is.passed.says ∙ sym is.passed.opened;
         stands = statuses.committed s f value (record {
           over = record { come = is.passed.come; not_outrun = is.passed.not_outrun; visits = none_waits s f (record n { phase = phase.Two }) is.passed; enough = is.enough };

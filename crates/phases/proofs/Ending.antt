@@ -106,9 +106,9 @@ visits_one s f n is enough going =
     let waiting = waiting_is s p (f n.disk) is.waits in
     let takes : takes_part p (f n.disk) ≡ true = part_if p (f n.disk) waiting.part in
     record {
-      rows = is.passed.rows;
       ballot = ballot_visiting s f p n.disk n.says is.passed.says is.passed.opened at.visits;
       stands = subst (Stands s f n) (sym going) (record {
+        rows = is.passed.rows;
         status = statuses.due_if s f p n.disk (record { come = is.passed.come; not_outrun = is.passed.not_outrun; visits = at.visits; enough = enough_is s f n (Some n.disk) at ∙ enough });
         suits = is.suits;
         answers = is.passed.ahead n.disk (omega arith) takes ∙ sym is.answers;
@@ -120,10 +120,8 @@ visits_one s f n is enough going =
 
 few_at : (s : Setup) (f : Answers) (n : Notes) (at : Option ℕ) (from : ℕ) → IsAt s f n at → IsPassed s f n from → keeps_enough s n ≡ false → Follows s f (record n { end = Some end.NoMajority })
 few_at s f n at from here is few =
-    let r = is.rows in
     let left : are_enough s (is_left s (phase_of n) f) ≡ false = enough_is s f n at here ∙ few in
     record {
-      rows = record { is_host = r.is_host; is_slot = r.is_slot; as_many = r.as_many; input = r.input; highest = r.highest; best = r.best };
       ballot = ballot_few s f (phase_of n) n.says is.says is.opened left;
       stands = statuses.few s f (record { phase = phase_of n; come = is.come; not_outrun = is.not_outrun; few = left });
     }

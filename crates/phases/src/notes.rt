@@ -157,12 +157,13 @@ impl Notes {
             Follows s f self.old → Follows s (more f self.old.disk (answers.Booted boot.number)) self.new }
     {
         let disk = usize::from(self.disk);
-        if let Some(visit) = self.visits[disk] {
-            self.visits[disk] = Some(Visit {
-                boot,
-                block: visit.block,
-            });
-        }
+        let Some(visit) = self.visits[disk] else {
+            return;
+        };
+        self.visits[disk] = Some(Visit {
+            boot,
+            block: visit.block,
+        });
         self.stage = Stage::Syncing;
     }
 
