@@ -1,6 +1,6 @@
 -- What an attempt has written and read on a disk that has answered all calls of a phase.
 use Rattle.std.specs.Prelude.{slice_get, take, drop, nat_lt, option_and_then, if◌then◌else◌}
-use Rattle.std.proofs.Common.{ℕ, zero, suc, pred, ◌+◌, ◌<◌, ◌≤◌, ◌≡◌, ◌≢◌, ◌==◌, true≢false, true, false, Option, Some, None, List, [], length, refl, sym, subst, ap, ap₂, ◌∙◌, arith, take-append-drop}
+use Rattle.std.proofs.Common.{ℕ, zero, suc, pred, ◌+◌, ◌<◌, ◌≤◌, ◌≡◌, ◌≢◌, ◌==◌, true, false, Option, Some, None, List, [], length, refl, sym, subst, ap, ap₂, ◌∙◌, arith, take-append-drop}
 use Rattle.std.proofs.lemmas.Bool.{ltb-false}
 use Rattle.disk.specs.Disk as device
 use Rattle.torn_block.specs.declared.layout.TheConstants.{HOSTS, ROW_LENGTH}
@@ -14,7 +14,7 @@ use Rattle.paxos_block.specs.Saying.{body_saying}
 use Rattle.paxos_block.specs.Votes.{says_in, others_top_of}
 use Rattle.paxos_block.proofs.VoteLemmas.{greatest_is_greatest}
 use Rattle.attempt.specs.Calls.{Phase, Opening, One, Two, start, goal, Kind, Reading, Putting, seventeen}
-use Rattle.attempt.specs.Answers.{Heard, Booted, Done, Told, Fault, Answered, Answers, on, is_bad, all_good, told, row_in, later_row, last_row, block_in, boot_of}
+use Rattle.attempt.specs.Answers.{Heard, Done, Told, Answered, Answers, on, is_bad, all_good, told, row_in, later_row, last_row, block_in, boot_of}
 use Rattle.attempt.specs.Setup.{Setup}
 use Rattle.attempt.specs.Proposal.{ballot, others_top, others_mbal}
 use Rattle.attempt.specs.NextCall.{some_value, says_for, write_on, call_by, next_call}
@@ -24,6 +24,7 @@ use Rattle.attempt.specs.Prepared.{IsAnswered, step_of, IsConfirmedOn}
 use Rattle.attempt.proofs.Lists.{by_eq, boot_is, last_more}
 use Rattle.attempt.proofs.Rows.{AreSameRows, ballot_same, own_same, proposal_same}
 use Rattle.attempt.proofs.Visitors.{waiting_is}
+use Rattle.attempt.proofs.Replies.{reading_tells, putting_tells}
 use Rattle.attempt.proofs.OneDisk.{IsDisk}
 use Rattle.attempt.proofs.Histories.{Same, Before, After, order, visit}
 use Rattle.attempt.proofs.Moments.{Moment, place_in, before_nth, moment, in_order, Lasts, lasts, rest_at, good_at, take_more, take_first}
@@ -52,11 +53,13 @@ reads_at Opening l = absurd (omega arith)
 reads_at One l = refl
 reads_at Two l = refl
 
+-- a phase of a write has seven calls
 seven_calls : (p : Phase) → 0 < start p → goal p ≡ start p + 7
 seven_calls Opening l = absurd (omega arith)
 seven_calls One l = refl
 seven_calls Two l = refl
 
+-- six of them write
 step_below : (call : WriteCall) → step_of call < 6
 step_below CloseGate = omega arith
 step_below SyncClosed = omega arith
@@ -65,6 +68,7 @@ step_below SyncBody = omega arith
 step_below OpenGate = omega arith
 step_below SyncOpened = omega arith
 
+-- and each of the six has its number
 step_at : (n : ℕ) → n < 6 → (call : WriteCall) × (step_of call ≡ n)
 step_at zero l = (CloseGate, refl)
 step_at (suc zero) l = (SyncClosed, refl)
@@ -73,37 +77,6 @@ step_at (suc (suc (suc zero))) l = (SyncBody, refl)
 step_at (suc (suc (suc (suc zero)))) l = (OpenGate, refl)
 step_at (suc (suc (suc (suc (suc zero))))) l = (SyncOpened, refl)
 step_at (suc (suc (suc (suc (suc (suc n)))))) l = absurd (omega arith)
-
--- a good answer to a call of a write is that it is done
-no_boot : (call : WriteCall) (w : Write128) (boot number : ℕ) → ¬ Fits (call_of call w boot) (Booted number)
-no_boot CloseGate w boot number fits = fits
-no_boot SyncClosed w boot number fits = fits
-no_boot PutBody w boot number fits = fits
-no_boot SyncBody w boot number fits = fits
-no_boot OpenGate w boot number fits = fits
-no_boot SyncOpened w boot number fits = fits
-
-no_row : (call : WriteCall) (w : Write128) (boot : ℕ) (row : Option (List SeenBlock)) → ¬ Fits (call_of call w boot) (Told row)
-no_row CloseGate w boot row fits = fits
-no_row SyncClosed w boot row fits = fits
-no_row PutBody w boot row fits = fits
-no_row SyncBody w boot row fits = fits
-no_row OpenGate w boot row fits = fits
-no_row SyncOpened w boot row fits = fits
-
-putting_tells : (call : WriteCall) (w : Write128) (boot : ℕ) (x : Heard) → Fits (call_of call w boot) x → is_bad x ≡ false → x ≡ Done
-putting_tells call w boot (Booted number) fits good = absurd (no_boot call w boot number fits)
-putting_tells call w boot Done fits good = refl
-putting_tells call w boot (Told row) fits good = absurd (no_row call w boot row fits)
-putting_tells call w boot (Fault fault) fits good = absurd (true≢false good)
-
--- a good answer to a read is a sound row
-reading_is : (boot at len : ℕ) (x : Heard) → Fits (device.Read boot at len) x → is_bad x ≡ false → (row : List SeenBlock) × (x ≡ Told (Some row))
-reading_is boot at len (Booted number) fits good = absurd fits
-reading_is boot at len Done fits good = absurd fits
-reading_is boot at len (Told (Some row)) fits good = (row, refl)
-reading_is boot at len (Told None) fits good = absurd (true≢false good)
-reading_is boot at len (Fault fault) fits good = absurd (true≢false good)
 
 -- WHAT IS SAID
 
@@ -130,6 +103,7 @@ module _ (s : Setup) (heard : List Answered) (is : IsHistory s heard) (d : ℕ) 
   f = on heard
 
   module _ (disk : IsDisk (f d)) (good : all_good (f d) ≡ true) (over : goal p ≤ length (f d)) where
+    -- the disk has come to each call of the phase
     reaches : (i : ℕ) → i ≤ 6 → start p + i < length (f d)
     reaches i l = omega (arith, seven_calls p puts)
 
@@ -137,6 +111,7 @@ module _ (s : Setup) (heard : List Answered) (is : IsHistory s heard) (d : ℕ) 
     at_step : (i : ℕ) → i ≤ 6 → Moment s heard d (start p + i)
     at_step i l = moment s heard is d (start p + i) (reaches i l)
 
+    -- they are good
     is_good : (i : ℕ) (l : i ≤ 6) → is_bad (at_step i l).answer ≡ false
     is_good i l = let at = at_step i l in good_at (f d) (start p + i) at.answer good at.is
 
@@ -148,9 +123,11 @@ module _ (s : Setup) (heard : List Answered) (is : IsHistory s heard) (d : ℕ) 
     kind_at : (i : ℕ) (l : i ≤ 6) (kind : Kind) → slice_get seventeen (start p + i) ≡ Some kind → (at_step i l).kind ≡ kind
     kind_at i l kind here = let both : Some (at_step i l).kind ≡ Some kind = sym (at_step i l).kind_is ∙ here in cc
 
+    -- and fit them
     fits_at : (i : ℕ) (l : i ≤ 6) (kind : Kind) → slice_get seventeen (start p + i) ≡ Some kind → Fits (call_by s d (on (prior i)) kind) (at_step i l).answer
     fits_at i l kind here = subst (λ (k : Kind). Fits (call_by s d (on (prior i)) k) (at_step i l).answer) (kind_at i l kind here) (at_step i l).fits
 
+    -- and those were due
     due_at : (i : ℕ) (l : i ≤ 6) (kind : Kind) → slice_get seventeen (start p + i) ≡ Some kind → next_call s (on (prior i)) ≡ Some (d, call_by s d (on (prior i)) kind)
     due_at i l kind here = (at_step i l).due ∙ ap (λ (k : Kind). Some (d, call_by s d (on (prior i)) k)) (kind_at i l kind here)
 
@@ -165,6 +142,7 @@ module _ (s : Setup) (heard : List Answered) (is : IsHistory s heard) (d : ℕ) 
           | After after ↦ absurd (omega (arith, waiting.part.come, at.count, seven_calls p puts))
         ]
 
+    -- what they follow from stays
     lasts_from : (i : ℕ) → i ≤ 6 → Lasts s p (on (prior i)) f
     lasts_from i l =
         let at = at_step i l in
@@ -178,6 +156,7 @@ module _ (s : Setup) (heard : List Answered) (is : IsHistory s heard) (d : ℕ) 
         putting_tells call (write_on s p d (on (prior (step_of call)))) (boot_of (on (prior (step_of call)) d)) (at_step (step_of call) l).answer
         (fits_at (step_of call) l (Putting p call) (puts_at p call puts)) (is_good (step_of call) l)
 
+    -- and tell no row
     done_by : (i : ℕ) (l : i ≤ 6) → i < 6 → told (at_step i l).answer ≡ None
     done_by i l below =
         let call = step_at i below in
@@ -196,21 +175,25 @@ module _ (s : Setup) (heard : List Answered) (is : IsHistory s heard) (d : ℕ) 
         ∙ ap (later_row (last_row (take (start p + i) (f d)))) (done_by i before (omega arith))
         ∙ still i before
 
+    -- the write of the phase
     abbrev write : Write128
     write = record { place = place_of (VoteOf s.slot s.host); block = (block_in (last_row (take (start p) (f d))) s.host).bytes; body = body_saying (says_for s p f) }
 
+    -- each of its calls is of this one write
     write_at : (i : ℕ) → i ≤ 6 → write_on s p d (on (prior i)) ≡ write
     write_at i l =
         let last : last_row (on (prior i) d) ≡ last_row (take (start p) (f d)) = ap last_row (at_step i l).at.before ∙ still i l in
         let same : says_for s p (on (prior i)) ≡ says_for s p f = says_same s p (on (prior i)) f (λ q before e. sym ((lasts_from i l).rows q before e)) in
         ap₂ (λ (row : Option (List SeenBlock)) (says : PBlock). record { place = place_of (VoteOf s.slot s.host); block = (block_in row s.host).bytes; body = body_saying says }) last same
 
+    -- and under this one boot number
     boot_at : (i : ℕ) → i ≤ 6 → boot_of (on (prior i) d) ≡ boot_of (f d)
     boot_at i l =
         let told = disk.booted good (let far = reaches i l in omega arith) in
         let first : slice_get (on (prior i) d) 0 ≡ slice_get (f d) 0 = ap (λ (a : List Heard). slice_get a 0) (at_step i l).at.before ∙ take_first (f d) (start p + i) (omega arith) in
         boot_is (on (prior i) d) told.0 (first ∙ told.1) ∙ sym (boot_is (f d) told.0 told.1)
 
+    -- so its six calls were made with success
     wrote : (call : WriteCall) → IsAnswered s heard (place_in heard d (start p + step_of call)) d (call_of call write (boot_of (f d))) Done
     wrote call =
         let l : step_of call ≤ 6 = omega (arith, step_below call) in
@@ -220,12 +203,15 @@ module _ (s : Setup) (heard : List Answered) (is : IsHistory s heard) (d : ℕ) 
           answered = (at_step (step_of call) l).at.here ∙ ap (λ (x : Heard). Some (record { disk = d; heard = x })) (done_at call l);
         }
 
+    -- the phase's last call
     abbrev read_at : Moment s heard d (start p + 6)
     read_at = at_step 6 (omega arith)
 
+    -- it read a sound row
     row_read : (row : List SeenBlock) × (read_at.answer ≡ Told (Some row))
-    row_read = reading_is (boot_of (on (prior 6) d)) (row_place s.slot) ROW_LENGTH read_at.answer (fits_at 6 (omega arith) Reading (reads_at p puts)) (is_good 6 (omega arith))
+    row_read = reading_tells (boot_of (on (prior 6) d)) (row_place s.slot) ROW_LENGTH read_at.answer (fits_at 6 (omega arith) Reading (reads_at p puts)) (is_good 6 (omega arith))
 
+    -- which is the row of the phase
     row_is : row_in p (f d) ≡ Some row_read.0
     row_is =
         let last : pred (goal p) ≡ start p + 6 = omega (arith, seven_calls p puts) in

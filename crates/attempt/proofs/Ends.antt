@@ -37,6 +37,7 @@ through s p a well come still =
     ]
 
 module _ (s : Setup) (f : Answers) (d : ℕ) (below : d < s.disks) (well : AnswersWell s (f d)) where
+  -- on a disk that answers well a phase that is over was gone through
   through_on : (p : Phase) → start p ≤ length (f d) → visited s p f ≡ None → goal p ≤ length (f d)
   through_on p come none = through s p (f d) well come (none_below s.disks (λ e. waits s p (f e)) none d below)
 
@@ -58,9 +59,11 @@ module _ (s : Setup) (f : Answers) (d : ℕ) (below : d < s.disks) (well : Answe
 enough_well : (s : Setup) (f : Answers) (p : Phase) → MostAnswerWell s f → IsIn s p f → are_enough s (is_left s p f) ≡ true
 enough_well s f p good come = enough_more s good.those (is_left s p f) (λ d l is. stays_left s f d l (good.each d l is) p come) good.most
 
+-- so an attempt does not lack them
 not_few : (s : Setup) (f : Answers) → MostAnswerWell s f → ¬ HasFew s f
 not_few s f good few = both_ways (are_enough s (is_left s few.phase f)) few.few (enough_well s f few.phase good few.come)
 
+-- all of n pass a test that all pass
 count_all : (n : ℕ) → count n (λ d. true) ≡ n
 count_all zero = refl
 count_all (suc n) = omega (arith, count_all n)
@@ -89,6 +92,7 @@ has_passed p a row disk later is =
       | inr over ↦ disk.passed Opening (omega arith)
     ]
 
+-- whichever the phase is
 opened_too : (p : Phase) (a : List Heard) (row : List SeenBlock) → IsDisk a → row_in p a ≡ Some row → is_some (row_in Opening a) ≡ true
 opened_too Opening a row disk is = ap is_some is
 opened_too One a row disk is = has_passed One a row disk (omega arith) is
@@ -103,22 +107,26 @@ rest_top host first later same =
     subst (λ (says : PBlock). says.mbal ≤ top_of first) (sym (same g off)) one))
 
 module _ (s : Setup) (f : Answers) (reached : IsReached s f) (rest : OthersRest s f) (p : Phase) where
+  -- what a phase's row of a disk shows of other hosts, its opening's row showed
   top_row : (d : ℕ) (o first : Option (List SeenBlock)) → row_in p (f d) ≡ o → row_in Opening (f d) ≡ first → others_top s.host o ≤ top_in first
   top_row d None first is before = omega arith
   top_row d (Some later) (Some first) is before = rest_top s.host first later (λ g off. rest p d g first later before is off)
   top_row d (Some later) None is before = absurd (both_ways (is_some (row_in Opening (f d))) (ap is_some before) (opened_too p (f d) later (reached.disk d) is))
 
+  -- so their greatest mbal is below the ballot
   under : others_mbal s p f ≤ highest s f
   under =
       let each = greatest_bound s.disks (λ d. others_top s.host (row_in p (f d))) (greatest s.disks (λ d. top_in (row_in Opening (f d))))
       (λ e l. (let at = greatest_is_greatest s.disks (λ d. top_in (row_in Opening (f d))) e l in omega (arith, top_row e (row_in p (f e)) (row_in Opening (f e)) refl refl))) in
       omega arith
 
+  -- and they do not outrun it
   not_above : ¬ (nat_lt (ballot s f) (others_mbal s p f) ≡ true)
   not_above is = let over = above s.host (highest s f) in let less = ltb-true (ballot s f) (others_mbal s p f) is in absurd (omega (arith, under))
 
 -- COUNTING CALLS
 
+-- a phase is over within seventeen calls
 ends_at : (p : Phase) → goal p ≤ 17
 ends_at Opening = omega arith
 ends_at One = omega arith
@@ -128,15 +136,19 @@ module _ (s : Setup) (heard : List Answered) (is : IsHistory s heard) where
   abbrev f : Answers
   f = on heard
 
+  -- where the history has led
   reached : IsReached s f
   reached = history_reached s heard is
 
+  -- each disk gave at most seventeen answers
   at_most : (e : ℕ) → length (f e) ≤ 17
   at_most e = omega (arith, reached.behind e, ends_at reached.phase)
 
+  -- all gave at most seventeen a disk
   pub bound : length heard ≤ 17 * s.disks
   bound = omega (arith, history_total s heard is, total_bound s.disks 17 f (λ e l. at_most e))
 
+  -- fewer while the calls of a disk are not through
   going_at : (p : Phase) (d : ℕ) → IsDueAt s p d f → length heard < 17 * s.disks
   going_at p d due =
       let first = visit s p d f due in
@@ -144,9 +156,11 @@ module _ (s : Setup) (heard : List Answered) (is : IsHistory s heard) where
       let fewer : length (f d) < 17 = omega (arith, waiting.short, ends_at p) in
       omega (arith, history_total s heard is, total_below s.disks 17 f d (λ e l. at_most e) first.below fewer)
 
+  -- so while a call is due
   pub going : (p : Phase) (d : ℕ) → status s f ≡ Due p d → length heard < 17 * s.disks
   going p d due = going_at p d (told_by s f (Due p d) due)
 
+  -- where all answer well, all calls are made of an attempt whose proposal is chosen
   pub committed : (value : List ℕ) → AllAnswerWell s f → status s f ≡ Ended (Committed value) → length heard ≡ 17 * s.disks
   committed value well ended =
       let chosen : HasChosen s value f = told_by s f (Ended (Committed value)) ended in
@@ -159,6 +173,7 @@ module _ (s : Setup) (heard : List Answered) (is : IsHistory s heard) where
   before_two One none come = omega arith
   before_two Two none come = let some = (come.1).is in absurd (cc)
 
+  -- and ten a disk of one that finds none
   pub empty : AllAnswerWell s f → status s f ≡ Ended Empty → length heard ≡ 10 * s.disks
   empty well ended =
       let none : HasNone s f = told_by s f (Ended Empty) ended in
@@ -168,9 +183,11 @@ module _ (s : Setup) (heard : List Answered) (is : IsHistory s heard) where
       let last = before_two reached.phase none.none reached.come in
       omega (arith, reached.behind d)))
 
+  -- where most answer well, there is a majority
   pub majority : MostAnswerWell s f → ¬ (status s f ≡ Ended NoMajority)
   majority good ended = not_few s f good (told_by s f (Ended NoMajority) ended)
 
+  -- where the others rest too, none of the other ends comes
   served_by : OthersRest s f → MostAnswerWell s f → (st : Status) → Tells s f st → IsServed s heard st
   served_by rest good (Due p d) tells = going_at p d tells
   served_by rest good (Ended (Committed value)) tells = tt

@@ -43,6 +43,7 @@ pub data Order (p q : Phase) : Type 0 where
   Before : goal p ≤ start q → Order p q
   After : goal q ≤ start p → Order p q
 
+-- which of the three holds
 pub order : (p q : Phase) → Order p q
 order Opening Opening = Same refl
 order One One = Same refl
@@ -95,15 +96,19 @@ module _ (s : Setup) (f : Answers) (d : ℕ) (x : Heard) (p : Phase) (is : IsDue
   abbrev then : Answers
   then = more f d x
 
+  -- the disk is the first that waits
   visiting : IsFirst s.disks (λ e. waits s p (f e)) d
   visiting = visit s p d f is
 
+  -- and waits
   waiting : IsWaiting s p (f d)
   waiting = waiting_is s p (f d) visiting.passes
 
+  -- with its answer no disk is beyond the phase
   behind_then : (e : ℕ) → length (then e) ≤ goal p
   behind_then = by_disk f d x (λ e a. length a ≤ goal p) (omega (arith, length_more (f d) x, waiting.short)) (λ e off. behind_due s f p d reached is e)
 
+  -- nor has the attempt left it
   come_then : IsIn s p then
   come_then = in_kept s f d x p waiting.part.come is.come
 
@@ -118,6 +123,7 @@ module _ (s : Setup) (f : Answers) (d : ℕ) (x : Heard) (p : Phase) (is : IsDue
             ap length same ∙ reached.rising p d is k (omega arith) (ap (takes_part p) (sym same) ∙ takes))
       ]
 
+  -- nor in a later phase do disks behind the visited one begin
   rises_then : (q : Phase) (e : ℕ) → IsDueAt s q e then → Rises q e then
   rises_then q e due =
       elim (order p q) [
@@ -126,6 +132,7 @@ module _ (s : Setup) (f : Answers) (d : ℕ) (x : Heard) (p : Phase) (is : IsDue
         | After l ↦ (let over = over_before s p q then l come_then in let visits = due.visits in absurd (cc))
       ]
 
+  -- so all of it is so with the answer
   reached_then : IsAnswer s f d x → IsReached s then
   reached_then answer =
       record {
@@ -138,6 +145,7 @@ module _ (s : Setup) (f : Answers) (d : ℕ) (x : Heard) (p : Phase) (is : IsDue
       }
 
 module _ (s : Setup) where
+  -- it is so at the start
   reached_start : IsReached s (on [])
   reached_start =
       record {
@@ -149,6 +157,7 @@ module _ (s : Setup) where
         rising = λ p d is e l takes. (let part = part_is p [] takes in omega (arith, part.come));
       }
 
+  -- and with each answer
   reached_next : (xs : List Answered) (x : Answered) → IsReached s (on xs) → IsAnswerTo (next_call s (on xs)) x → IsReached s (on (xs ++ x ∷ []))
   reached_next xs x reached answers =
       let answer = answer_is s (on xs) x answers in
@@ -170,6 +179,7 @@ pub record IsOrderly (s : Setup) (p : Phase) (d : ℕ) (f : Answers) : Type 0 wh
   pub unread : (e : ℕ) → all_good (f e) ≡ false → row_in p (f e) ≡ None
   pub booted : (e : ℕ) → 1 ≤ length (f e) → all_good (f e) ≡ true → (boot : ℕ) × (slice_get (f e) 0 ≡ Some (Booted boot))
 
+-- every history is orderly
 pub orderly : (s : Setup) (heard : List Answered) (p : Phase) (d : ℕ) → IsHistory s heard → status s (on heard) ≡ Due p d → IsOrderly s p d (on heard)
 orderly s heard p d is due =
     let reached = history_reached s heard is in

@@ -17,6 +17,7 @@ use Rattle.attempt.proofs.Histories.{come_so_far}
 
 -- WHERE AN ANSWER STANDS
 
+-- the first answer of a list stands at its head
 abbrev after_first : ℕ → (ℕ → ℕ) → ℕ
 after_first zero place = 0
 after_first (suc n) place = suc (place n)
@@ -31,6 +32,7 @@ pub record IsAt (heard : List Answered) (d n : ℕ) (x : Heard) : Type 0 where
   pub here : slice_get heard (place_in heard d n) ≡ Some (record { disk = d; heard = x })
   pub before : on (take (place_in heard d n) heard) d ≡ take n (on heard d)
 
+-- so where the head is the disk's
 at_first : (y : Answered) (heard : List Answered) (d : ℕ) (x : Heard) → (y.disk == d) ≡ true → y.heard ≡ x → IsAt (y ∷ heard) d 0 x
 at_first y heard d x disk same = let at = eqb-true y.disk d disk in record { here = rw disk (ap Some (λ i. record { disk = at i; heard = same i })); before = rw disk refl }
 
@@ -41,12 +43,14 @@ at_later y heard d n x disk is = record { here = rw disk is.here; before = rw di
 at_other : (y : Answered) (heard : List Answered) (d n : ℕ) (x : Heard) → (y.disk == d) ≡ false → IsAt heard d n x → IsAt (y ∷ heard) d n x
 at_other y heard d n x disk is = record { here = rw disk is.here; before = rw disk (rw disk is.before) }
 
+-- by whose answer the head is
 at_by : (y : Answered) (heard : List Answered) (d n : ℕ) (x : Heard) (t : Bool) → (y.disk == d) ≡ t → slice_get (if t then y.heard ∷ on heard d else on heard d) n ≡ Some x
     → ((m : ℕ) → slice_get (on heard d) m ≡ Some x → IsAt heard d m x) → IsAt (y ∷ heard) d n x
 at_by y heard d zero x true disk is rest = let both : Some y.heard ≡ Some x = is in at_first y heard d x disk (cc)
 at_by y heard d (suc n) x true disk is rest = at_later y heard d n x disk (rest n is)
 at_by y heard d n x false disk is rest = at_other y heard d n x disk (rest n is)
 
+-- so each answer has its place
 pub at_place : (heard : List Answered) (d n : ℕ) (x : Heard) → slice_get (on heard d) n ≡ Some x → IsAt heard d n x
 at_place [] d n x is = absurd (cc)
 at_place (y ∷ heard) d n x is = at_by y heard d n x (y.disk == d) refl is (λ m at. at_place heard d m x at)
@@ -81,6 +85,7 @@ module _ (s : Setup) where
   front_at before [] (suc place) is = tt
   front_at before (y ∷ heard) (suc place) is = (is.0, front_at (before ++ y ∷ []) heard place is.1)
 
+  -- and the rest goes on from there
   pub rest_at : (before heard : List Answered) (place : ℕ) → IsHistoryFrom s before heard → IsHistoryFrom s (before ++ take place heard) (drop place heard)
   rest_at before heard zero is = subst (λ (l : List Answered). IsHistoryFrom s l heard) (sym (append-nil before)) is
   rest_at before [] (suc place) is = tt
@@ -94,6 +99,7 @@ pub record Lasts (s : Setup) (p : Phase) (f new : Answers) : Type 0 where
   pub rows : (q : Phase) → goal q ≤ start p → AreSameRows q new f
 
 module _ (s : Setup) (p : Phase) where
+  -- with one answer
   lasts_next : (xs : List Answered) (x : Answered) → IsAnswerTo (next_call s (on xs)) x → IsIn s p (on xs) → Lasts s p (on xs) (on (xs ++ x ∷ []))
   lasts_next xs x answers come =
       let answer = answer_is s (on xs) x answers in
@@ -103,6 +109,7 @@ module _ (s : Setup) (p : Phase) where
         rows = λ q l. rows_kept (on xs) x.disk x.heard q (omega arith);
       })
 
+  -- and with more
   lasts_both : (f g h : Answers) → Lasts s p f g → Lasts s p g h → Lasts s p f h
   lasts_both f g h first second = record { come = second.come; rows = λ q l e. second.rows q l e ∙ first.rows q l e }
 
@@ -116,25 +123,30 @@ module _ (s : Setup) (p : Phase) where
 
 -- ONE DISK'S ANSWERS
 
+-- each number below the length has its answer
 pub get_some : (a : List Heard) (n : ℕ) → n < length a → (x : Heard) × (slice_get a n ≡ Some x)
 get_some [] n l = absurd (omega arith)
 get_some (x ∷ a) zero l = (x, refl)
 get_some (x ∷ a) (suc n) l = get_some a n (omega arith)
 
+-- not the one, and none of the others
 not_either : (t rest : Bool) → not (t || rest) ≡ true → (t ≡ false) × (not rest ≡ true)
 not_either true rest is = absurd (true≢false (sym is))
 not_either false rest is = (refl, is)
 
+-- each of good answers is good
 pub good_at : (a : List Heard) (n : ℕ) (x : Heard) → all_good a ≡ true → slice_get a n ≡ Some x → is_bad x ≡ false
 good_at [] n x good is = absurd (cc)
 good_at (y ∷ a) zero x good is = let both : Some y ≡ Some x = is in let same : y ≡ x = cc in ap is_bad (sym same) ∙ (not_either (is_bad y) (list_any is_bad a) good).0
 good_at (y ∷ a) (suc n) x good is = good_at a n x (not_either (is_bad y) (list_any is_bad a) good).1 is
 
+-- the first n and one more
 pub take_more : (a : List Heard) (n : ℕ) (x : Heard) → slice_get a n ≡ Some x → take (suc n) a ≡ take n a ++ x ∷ []
 take_more [] n x is = absurd (cc)
 take_more (y ∷ a) zero x is = let both : Some y ≡ Some x = is in let same : y ≡ x = cc in ap (λ (z : Heard). z ∷ []) same
 take_more (y ∷ a) (suc n) x is = ap (λ (l : List Heard). y ∷ l) (take_more a n x is)
 
+-- some of them begin as all do
 pub take_first : (a : List Heard) (n : ℕ) → 0 < n → slice_get (take n a) 0 ≡ slice_get a 0
 take_first a zero l = absurd (omega arith)
 take_first [] (suc n) l = refl
@@ -160,6 +172,7 @@ pub record Moment (s : Setup) (heard : List Answered) (d n : ℕ) : Type 0 where
   pub due_at : IsDueAt s phase d (on (before_nth heard d n))
 
 module _ (s : Setup) (heard : List Answered) (is : IsHistory s heard) (d : ℕ) where
+  -- from the call that the answer is to
   moment_of : (n : ℕ) (x : Heard) → n < length (on heard d) → slice_get (on heard d) n ≡ Some x → IsAt heard d n x → IsAnswer s (on (before_nth heard d n)) d x → Moment s heard d n
   moment_of n x l here at answer =
       let count : length (on (before_nth heard d n) d) ≡ n = ap length at.before ∙ length-take-le n (on heard d) (omega arith) in

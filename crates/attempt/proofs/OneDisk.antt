@@ -5,7 +5,7 @@ use Rattle.std.proofs.lemmas.Bool.{cases_lt, and_parts, and_from, both_ways, not
 use Rattle.torn_block.specs.declared.layout.TheConstants.{ROW_LENGTH}
 use Rattle.paxos_block.specs.Places.{row_place}
 use Rattle.attempt.specs.Calls.{Phase, Opening, One, Two, goal, Kind, Attaching, Reading, seventeen}
-use Rattle.attempt.specs.Answers.{Heard, Booted, Answers, is_bad, all_good, row_in, boot_of}
+use Rattle.attempt.specs.Answers.{Heard, Booted, Answers, is_bad, all_good, row_in, boot_of, told}
 use Rattle.attempt.specs.Setup.{Setup}
 use Rattle.attempt.specs.NextCall.{call_by}
 use Rattle.attempt.specs.History.{Fits}
@@ -19,6 +19,7 @@ pub record IsDisk (a : List Heard) : Type 0 where
   pub unread : (q : Phase) → all_good a ≡ false → length a ≤ goal q → row_in q a ≡ None
   pub booted : all_good a ≡ true → 1 ≤ length a → (boot : ℕ) × (slice_get a 0 ≡ Some (Booted boot))
 
+-- so it is at the start
 pub disk_new : IsDisk []
 disk_new =
     record {
@@ -35,12 +36,15 @@ reads_last One = refl
 reads_last Two = refl
 
 module _ (s : Setup) (f : Answers) (d : ℕ) (x : Heard) (answer : IsAnswer s f d x) (good : all_good (f d) ≡ true) (before : IsDisk (f d)) where
+  -- the answers with this one
   abbrev new : List Heard
   new = f d ++ x ∷ []
 
+  -- where all are good, this one is
   good_new : all_good new ≡ true → is_bad x ≡ false
   good_new is = not-true (is_bad x) (and_parts (all_good (f d)) (not (is_bad x)) (sym (good_more (f d) x) ∙ is)).1
 
+  -- and where not, it is not
   bad_new : all_good new ≡ false → is_bad x ≡ true
   bad_new is = true_from_ne_false (is_bad x) (λ fine. both_ways (all_good new) is (good_more (f d) x ∙ and_from (all_good (f d)) (not (is_bad x)) good (ap not fine)))
 
@@ -51,16 +55,19 @@ module _ (s : Setup) (f : Answers) (d : ℕ) (x : Heard) (answer : IsAnswer s f 
       let same : answer.kind ≡ kind = cc in
       subst (λ (k : Kind). Fits (call_by s d f k) x) same answer.fits
 
+  -- the last read of a phase tells its row
   read_new : (q : Phase) → all_good new ≡ true → goal q ≤ length new → is_some (row_in q new) ≡ true
   read_new q is l =
       elim (cases_lt (length (f d)) (goal q)) [
         | inl last ↦
             (let here : length (f d) + 1 ≡ goal q = omega (arith, length_more (f d) x) in
             let fits = fits_at (pred (goal q)) Reading (omega arith) (reads_last q) in
-            ap is_some (row_last q (f d) x here) ∙ reading_tells (boot_of (f d)) (row_place s.slot) ROW_LENGTH x fits (good_new is))
+            let read = reading_tells (boot_of (f d)) (row_place s.slot) ROW_LENGTH x fits (good_new is) in
+            ap is_some (row_last q (f d) x here) ∙ ap (λ (y : Heard). is_some (told y)) read.1)
         | inr over ↦ ap is_some (row_kept q (f d) x over) ∙ before.read q good over
       ]
 
+  -- a bad answer tells none
   unread_new : (q : Phase) → all_good new ≡ false → length new ≤ goal q → row_in q new ≡ None
   unread_new q bad l =
       elim (cases_lt (length new) (goal q)) [
@@ -68,6 +75,7 @@ module _ (s : Setup) (f : Answers) (d : ℕ) (x : Heard) (answer : IsAnswer s f 
         | inr last ↦ row_last q (f d) x (omega (arith, length_more (f d) x)) ∙ bad_tells x (bad_new bad)
       ]
 
+  -- the first answer tells the boot number
   booted_new : all_good new ≡ true → (boot : ℕ) × (slice_get new 0 ≡ Some (Booted boot))
   booted_new is =
       elim (cases_lt 0 (length (f d))) [
@@ -78,6 +86,7 @@ module _ (s : Setup) (f : Answers) (d : ℕ) (x : Heard) (answer : IsAnswer s f 
             (told.0, get_last (f d) x 0 (sym zero_long) ∙ ap Some told.1))
       ]
 
+  -- so it is with this answer
   pub disk_more : IsDisk new
   disk_more =
       record {

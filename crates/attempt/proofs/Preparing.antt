@@ -24,6 +24,7 @@ module _ (s : Setup) (heard : List Answered) (value : List ℕ) where
     come : IsIn s Two f
     enough : are_enough s (λ d. takes_part Two (f d)) ≡ true
 
+  -- an attempt that proposes has come there
   voting : Proposes s f value → IsVoting
   voting proposes =
       elim proposes.now [
@@ -34,6 +35,7 @@ module _ (s : Setup) (heard : List Answered) (value : List ℕ) where
       ]
 
   module _ (is : IsHistory s heard) where
+    -- those disks have confirmed phase 1
     prepared_by : IsVoting → IsPrepared s heard
     prepared_by at =
         record {
@@ -48,6 +50,7 @@ module _ (s : Setup) (heard : List Answered) (value : List ℕ) where
     pub prepared : Proposes s f value → IsPrepared s heard
     prepared proposes = prepared_by (voting proposes)
 
+    -- and those left have confirmed phase 2
     accepted_by : HasChosen s value f → IsAccepted s heard value
     accepted_by chosen =
         record {

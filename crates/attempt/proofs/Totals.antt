@@ -55,11 +55,13 @@ pub total_exact : (n k : ℕ) (f : Answers) → ((e : ℕ) → e < n → length 
 total_exact zero k f each = omega arith
 total_exact (suc n) k f each = omega (arith, total_exact n k f (λ e l. each e (omega arith)), each n (omega arith))
 
+-- at the start there are none
 total_none : (n : ℕ) → total n (on []) ≡ 0
 total_none zero = refl
 total_none (suc n) = omega (arith, total_none n)
 
 module _ (s : Setup) where
+  -- each answer is counted once
   counts_next : (xs : List Answered) (x : Answered) → length xs ≡ total s.disks (on xs) → IsAnswerTo (next_call s (on xs)) x → length (xs ++ x ∷ []) ≡ total s.disks (on (xs ++ x ∷ []))
   counts_next xs x before answers =
       let answer = answer_is s (on xs) x answers in

@@ -322,7 +322,7 @@ module _ (s : Setup) (f : Answers) (n : Notes) (is : Follows s f n) (going : n.e
         }
 
     -- the disk is done with
-    reads : (m : Notes) → m.phase ≡ n.phase → m.says ≡ n.says → m.visits ≡ kept_block → KeepsRows s (more f n.disk x) m → NotOutrun s (phase_of n) (more f n.disk x)
+    pub reads : (m : Notes) → m.phase ≡ n.phase → m.says ≡ n.says → m.visits ≡ kept_block → KeepsRows s (more f n.disk x) m → NotOutrun s (phase_of n) (more f n.disk x)
         → IsPassed s (more f n.disk x) m (n.disk + 1)
     reads m same says visits rows below =
         passes s f n is going order x (Read row refl last) m same says rows below

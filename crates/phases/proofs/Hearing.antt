@@ -101,7 +101,7 @@ module _ (s : Setup) (p : Phase) (d : ℕ) (f : Answers) (x : Heard) (due : IsDu
   come_kept = statuses.in_kept s f d x p due.waiting.part.come due.at.come
 
   -- the ballot was taken before, or the opening is not over
-  taken_later : (q : Phase) → IsIn s q f → start q ≤ length (f d) → start Opening < start q → taken s f ≡ ballot s f → taken s new ≡ ballot s new
+  pub taken_later : (q : Phase) → IsIn s q f → start q ≤ length (f d) → start Opening < start q → taken s f ≡ ballot s f → taken s new ≡ ballot s new
   taken_later q come l later is =
       let opening : AreSameRows Opening new f = rows_kept f d x Opening (opening_over q l later) in
       let b : ballot s new ≡ ballot s f = ballot_same s new f opening in

@@ -256,13 +256,14 @@ impl Notes {
             Follows s f self.old → ReadsAs bytes row.now →
             Follows s (more f self.old.disk (answers.Told (row_said bytes))) self.new }
     {
+        let cell = row.cell(self.host);
         let others = row.others_mbal(self.host);
         if self.says.mbal < others {
             self.end = Some(End::Outrun(others));
             return;
         }
         self.best = row.latest_vote(self.host, self.best);
-        self.keep_block(&row.cell(self.host).block);
+        self.keep_block(&cell.block);
         self.go_on_promising(self.disk + 1);
     }
 
@@ -276,12 +277,13 @@ impl Notes {
             Follows s f self.old → ReadsAs bytes row.now →
             Follows s (more f self.old.disk (answers.Told (row_said bytes))) self.new }
     {
+        let cell = row.cell(self.host);
         let others = row.others_mbal(self.host);
         if self.says.mbal < others {
             self.end = Some(End::Outrun(others));
             return;
         }
-        self.keep_block(&row.cell(self.host).block);
+        self.keep_block(&cell.block);
         self.go_on_voting(self.disk + 1);
     }
 
