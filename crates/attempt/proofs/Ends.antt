@@ -127,7 +127,7 @@ module _ (s : Setup) (f : Answers) (reached : IsReached s f) (rest : OthersRest 
 -- COUNTING CALLS
 
 -- a phase is over within seventeen calls
-ends_at : (p : Phase) → goal p ≤ 17
+pub ends_at : (p : Phase) → goal p ≤ 17
 ends_at Opening = omega arith
 ends_at One = omega arith
 ends_at Two = omega arith

@@ -13,3 +13,4 @@ pub mod Proposals
 pub mod Moments
 pub mod Confirmed
 pub mod Preparing
+pub mod Possible

@@ -124,7 +124,7 @@ module _ (s : Setup) (p : Phase) where
 -- ONE DISK'S ANSWERS
 
 -- each number below the length has its answer
-pub get_some : (a : List Heard) (n : ℕ) → n < length a → (x : Heard) × (slice_get a n ≡ Some x)
+pub get_some : {A : Type 0} (a : List A) (n : ℕ) → n < length a → (x : A) × (slice_get a n ≡ Some x)
 get_some [] n l = absurd (omega arith)
 get_some (x ∷ a) zero l = (x, refl)
 get_some (x ∷ a) (suc n) l = get_some a n (omega arith)

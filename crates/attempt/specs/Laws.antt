@@ -3,10 +3,11 @@ use Rattle.std.specs.Prelude.{◌≡◌, ◌≢◌, ◌*◌, ◌<◌, ℕ, Bool,
 use Rattle.paxos_block.specs.Row.{SeenBlock}
 use Rattle.paxos_block.specs.Votes.{says_in}
 use Rattle.attempt.specs.Calls.{Phase, Opening}
-use Rattle.attempt.specs.Answers.{Heard, Answered, Answers, all_good, row_in}
+use Rattle.attempt.specs.Answers.{Heard, Answered, Answers, on, all_good, row_in}
 use Rattle.attempt.specs.Setup.{Setup}
+use Rattle.attempt.specs.History.{IsHistory}
 use Rattle.attempt.specs.Visits.{is_stuck, are_enough}
-use Rattle.attempt.specs.Status.{Status, Due, Ended, Committed, Empty, Outrun, NoMajority, BallotsSpent}
+use Rattle.attempt.specs.Status.{Status, End, status, Due, Ended, Committed, Empty, Outrun, NoMajority, BallotsSpent}
 
 -- a disk gave good answers alone, and no write was due there to a spent block
 pub record AnswersWell (s : Setup) (a : List Heard) : Type 0 where
@@ -41,3 +42,12 @@ IsServed s heard (Ended Empty) = Unit {0}
 IsServed s heard (Ended BallotsSpent) = Unit {0}
 IsServed s heard (Ended (Outrun mbal)) = ⊥
 IsServed s heard (Ended NoMajority) = ⊥
+
+-- some history of the setup comes to an end over disks that answer well, with the other hosts at rest
+pub record CanEnd (s : Setup) : Type 0 where
+  pub heard : List Answered
+  pub is : IsHistory s heard
+  pub well : AllAnswerWell s (on heard)
+  pub rest : OthersRest s (on heard)
+  pub end : End
+  pub ended : status s (on heard) ≡ Ended end

@@ -7,7 +7,7 @@ ghost use Rattle.attempt.specs.Setup.{Setup};
 ghost use Rattle.attempt.specs.Status.{Due, Ended, Committed, Empty, NoMajority, status};
 ghost use Rattle.attempt.specs.History.{IsHistory};
 ghost use Rattle.attempt.specs.Prepared.{Proposes, IsPrepared, IsAccepted, IsProposal, HasNoInput, AreVotes};
-ghost use Rattle.attempt.specs.Laws.{AllAnswerWell, MostAnswerWell, OthersRest, IsServed};
+ghost use Rattle.attempt.specs.Laws.{AllAnswerWell, MostAnswerWell, OthersRest, IsServed, CanEnd};
 
 /// An attempt makes at most seventeen calls a disk. Over disks that answer well it makes all of
 /// them where its proposal is chosen, ten where it finds none, and does not lack a majority.
@@ -28,10 +28,12 @@ pub fn seventeen_calls_a_disk()
 {}
 
 /// Where the other hosts leave the slot alone, and most disks answer well, an attempt is served.
+/// Some history where they do, and all disks answer well, comes to an end.
 pub fn alone_answered()
-    ensures { (s : Setup) (heard : List Answered) → IsHistory s heard →
+    ensures served { (s : Setup) (heard : List Answered) → IsHistory s heard →
         OthersRest s (on heard) → MostAnswerWell s (on heard) →
         IsServed s heard (status s (on heard)) }
+    ensures possible { (s : Setup) → CanEnd s }
 {}
 
 /// An attempt that proposes has its ballot and its latest vote confirmed on more than half of the

@@ -16,7 +16,9 @@ use Rattle.attempt.proofs.Lists.{last_more, row_none, positive}
 use Rattle.attempt.proofs.Rows.{IsLast, highest_same, best_same, rows_stay}
 use Rattle.attempt.proofs.Visitors.{part_if}
 use Rattle.paxos_block.specs.declared.cell.Cell.{Cell}
-use Rattle.paxos_block.specs.Row.{SeenBlock, seen_at, IsSeenAs}
+use Rattle.std.specs.Option.{IsSomeAnd}
+use Rattle.paxos_block.specs.declared.row.Row.{Row}
+use Rattle.paxos_block.specs.Row.{SeenBlock, seen_at, row_said, IsSeenAs, AreSeenAs}
 use Rattle.phases.specs.declared.notes.Notes.{Notes}
 use Rattle.phases.specs.declared.phase.Phase as code_phase
 use Rattle.phases.specs.declared.phase.Phase.TheVariants as phase
@@ -24,9 +26,17 @@ use Rattle.phases.specs.declared.phase.Stage.{Stage}
 use Rattle.phases.specs.declared.phase.Stage.TheVariants as stage
 use Rattle.phases.specs.declared.visit.Visit.{Visit}
 use Rattle.phases.specs.Calls.{phase_in}
-use Rattle.phases.specs.Kept.{phase_of, visit_at, boot_in, made, answered, Suits, Remembers, KeepsRows, IsVisiting, IsWriting, Writes, Follows}
+use Rattle.phases.specs.Kept.{ReadsAs, phase_of, visit_at, boot_in, made, answered, Suits, Remembers, KeepsRows, IsVisiting, IsWriting, Writes, Follows}
 use Rattle.phases.specs.Moves.{IsInOrder, IsPassed}
 use Rattle.phases.proofs.Hearing.{IsDue, KeepsAll, keeps_not_outrun, Ending, Dropped, Read, passes, Stays, visiting, due_there, moved, some_now, stays_there, boot_stays, remembers_more}
+
+-- what a row was read as
+reads_by : (bytes : List ℕ) (row : Row) (o : Option (List SeenBlock)) → row_said bytes ≡ o → IsSomeAnd o (λ seen. AreSeenAs seen row) → ReadsAs bytes row
+reads_by bytes row None is some = absurd some
+reads_by bytes row (Some seen) is so = record { seen = seen; said = is; so = so }
+
+pub reads_as : (bytes : List ℕ) (row : Row) → IsSomeAnd (row_said bytes) (λ seen. AreSeenAs seen row) → ReadsAs bytes row
+reads_as bytes row so = reads_by bytes row (row_said bytes) refl so
 
 -- THE DISK WAS ATTACHED
 

@@ -31,7 +31,7 @@ use Rattle.phases.proofs.Ending.{none_waits, left_kept}
 
 -- A PHASE WITHOUT ROWS
 
-greatest_zero : (n : ℕ) → greatest n (λ e. 0) ≡ 0
+pub greatest_zero : (n : ℕ) → greatest n (λ e. 0) ≡ 0
 greatest_zero zero = refl
 greatest_zero (suc n) = let before : greatest n (λ e. 0) ≡ 0 = greatest_zero n in omega arith
 

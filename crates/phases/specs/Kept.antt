@@ -114,6 +114,12 @@ pub record IsSound (n : Notes) : Type 0 where
   pub few : n.disks ≤ DISKS
   pub said : SaysWell n.phase n
 
+-- it is of the same host, slot and disks
+pub record IsSameAttempt (old new : Notes) : Type 0 where
+  pub host : new.host ≡ old.host
+  pub slot : new.slot ≡ old.slot
+  pub disks : new.disks ≡ old.disks
+
 -- WHAT FOLLOWS FROM THE ANSWERS
 
 -- what is kept of a disk is what it answered: its boot number, and the own block in the row read last
