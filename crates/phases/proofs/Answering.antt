@@ -1,7 +1,7 @@
 -- What follows from each kind of answer, by where the attempt stands.
-use Rattle.std.specs.Prelude.{nat_lt, nat_le, if◌then◌else◌, slice_set}
-use Rattle.std.proofs.Common.{◌≡◌, ◌≢◌, ◌+◌, ◌*◌, ◌<◌, ◌≤◌, ◌&&◌, not, max, ℕ, zero, suc, pred, Bool, true, false, Option, Some, None, List, [], ◌∷◌, ◌++◌, length, is_some, inl, inr, refl, sym, subst, ap, ap₂, ◌∙◌, arith, true≢false}
-use Rattle.std.proofs.lemmas.Bool.{cases_eq, cases_lt, le-ltb}
+use Rattle.std.specs.Prelude.{slice_set}
+use Rattle.std.proofs.Common.{◌≡◌, ◌≢◌, ◌+◌, ◌<◌, ◌≤◌, ℕ, pred, Bool, true, false, Option, Some, None, List, [], ◌∷◌, ◌++◌, length, is_some, inl, inr, refl, sym, subst, ap, ◌∙◌, arith, true≢false}
+use Rattle.std.proofs.lemmas.Bool.{cases_lt}
 use Rattle.std.proofs.lemmas.List.{get_or-set_same, get_or-set_other}
 use Rattle.disk.specs.declared.boot.Boot.{Boot}
 use Rattle.torn_block.specs.declared.write_steps.WriteCall.{WriteCall}
@@ -9,7 +9,7 @@ use Rattle.torn_block.specs.declared.write_steps.WriteCall.TheVariants.{CloseGat
 use Rattle.torn_block.specs.Plan.{Plan, IsReading, plan_by, next_after}
 use Rattle.paxos_block.specs.Saying.{body_saying}
 use Rattle.attempt.specs.Calls.{Phase, Opening, One, Two, start, goal}
-use Rattle.attempt.specs.Answers.{Heard, Booted, Done, Told, Fault, Answers, more, is_bad, all_good, row_in, told, boot_of, last_row, later_row, block_in}
+use Rattle.attempt.specs.Answers.{Heard, Booted, Done, Told, Fault, Answers, more, is_bad, all_good, row_in, told, boot_of, last_row, block_in}
 use Rattle.attempt.specs.Setup.{Setup}
 use Rattle.attempt.specs.Standing.{NotOutrun}
 use Rattle.attempt.proofs.Lists.{last_more, row_none, positive}
@@ -28,7 +28,7 @@ use Rattle.phases.specs.declared.visit.Visit.{Visit}
 use Rattle.phases.specs.Calls.{phase_in}
 use Rattle.phases.specs.Kept.{ReadsAs, phase_of, visit_at, boot_in, made, answered, Suits, Remembers, KeepsRows, IsVisiting, IsWriting, Writes, Follows}
 use Rattle.phases.specs.Moves.{IsInOrder, IsPassed}
-use Rattle.phases.proofs.Hearing.{IsDue, KeepsAll, keeps_not_outrun, Ending, Dropped, Read, passes, Stays, visiting, due_there, moved, some_now, stays_there, boot_stays, remembers_more}
+use Rattle.phases.proofs.Hearing.{IsDue, KeepsAll, keeps_not_outrun, Dropped, Read, passes, visiting, due_there, moved, some_now, stays_there, boot_stays, remembers_more}
 
 -- what a row was read as
 reads_by : (bytes : List ℕ) (row : Row) (o : Option (List SeenBlock)) → row_said bytes ≡ o → IsSomeAnd o (λ seen. AreSeenAs seen row) → ReadsAs bytes row
@@ -54,7 +54,6 @@ module _ (s : Setup) (f : Answers) (n : Notes) (is : Follows s f n) (going : n.e
   pub kept_here : visit_at n.visits n.disk ≡ None → ⊥
   kept_here none = true≢false (sym (some_now s f n is going order) ∙ ap is_some none)
 
-
   pub attaches : n.stage ≡ stage.Attaching → (boot : Boot) (visit : Visit) → visit_at n.visits n.disk ≡ Some visit → n.disk < length n.visits
       → Follows s (more f n.disk (Booted boot.number)) (moved s f n is going order (slice_set n.visits n.disk (Some (record { boot = boot; block = visit.block }))) stage.Syncing n.steps)
   attaches at boot visit here room =
@@ -74,13 +73,13 @@ module _ (s : Setup) (f : Answers) (n : Notes) (is : Follows s f n) (going : n.e
       (λ e off. get_or-set_other n.visits d e (Some new) None off)
       (ap is_some set)
       (λ w at. (let same : Some w ≡ Some new = sym at ∙ set in let w_is : new ≡ w = cc in
-        subst (Remembers s.host (f d ++ Booted boot.number ∷ [])) w_is (
-        let last : last_row (f d ++ Booted boot.number ∷ []) ≡ last_row (f d) = last_more (f d) (Booted boot.number) in
-        record {
-          boot = ap (λ (a : List Heard). boot_of (a ++ Booted boot.number ∷ [])) (no_answers (f d) none);
-          read = subst (λ o. IsReading (block_in o s.host).bytes visit.block) (sym last) old.read;
-          sequence = old.sequence ∙ ap (λ o. (block_in o s.host).sequence) (sym last);
-        })))
+      subst (Remembers s.host (f d ++ Booted boot.number ∷ [])) w_is (
+      let last : last_row (f d ++ Booted boot.number ∷ []) ≡ last_row (f d) = last_more (f d) (Booted boot.number) in
+      record {
+        boot = ap (λ (a : List Heard). boot_of (a ++ Booted boot.number ∷ [])) (no_answers (f d) none);
+        read = subst (λ o. IsReading (block_in o s.host).bytes visit.block) (sym last) old.read;
+        sequence = old.sequence ∙ ap (λ o. (block_in o s.host).sequence) (sym last);
+      })))
       tt
 
 -- THE DISK WAS SYNCED
@@ -115,7 +114,7 @@ module _ (s : Setup) (f : Answers) (n : Notes) (is : Follows s f n) (going : n.e
       (kept_still (omega (arith, one)))
       tt
 
--- A CALL OF A WRITE SUCCEEDED
+  -- A CALL OF A WRITE SUCCEEDED
 
   -- the phase writes, so it has seven calls
   writing : n.stage ≡ stage.Writing → goal (phase_of n) ≡ start (phase_of n) + 7
@@ -268,7 +267,7 @@ module _ (s : Setup) (f : Answers) (n : Notes) (is : Follows s f n) (going : n.e
       (ap is_some (set_is None))
       (λ w at. (let none : None ≡ Some w = sym (set_is None) ∙ at in absurd (cc)))
 
--- A ROW WAS READ
+  -- A ROW WAS READ
 
   module _ (at : n.stage ≡ stage.Reading) (row : List SeenBlock) (cell : Cell) (shows : IsSeenAs (seen_at row n.host) cell) where
     abbrev x : Heard
@@ -339,5 +338,5 @@ module _ (s : Setup) (f : Answers) (n : Notes) (is : Follows s f n) (going : n.e
         (λ e off. ap (λ (l : List (Option Visit)). visit_at l e) visits ∙ others (Some new_visit) e off)
         (ap (λ (l : List (Option Visit)). is_some (visit_at l n.disk)) visits ∙ ap is_some (set_is (Some new_visit)))
         (λ w here. (let same_visit : Some new_visit ≡ Some w = sym (set_is (Some new_visit)) ∙ ap (λ (l : List (Option Visit)). visit_at l n.disk) (sym visits) ∙ here in
-          let is_w : new_visit ≡ w = cc in
-          subst (Remembers s.host (f n.disk ++ x ∷ [])) is_w remembers))
+        let is_w : new_visit ≡ w = cc in
+        subst (Remembers s.host (f n.disk ++ x ∷ [])) is_w remembers))

@@ -45,6 +45,7 @@ impl Attempt {
         requires few { disks ≤ DISKS }
         ensures leads { LeadsTo (record { host = host; slot = slot; disks = disks; floor = floor; input = input }) [] result }
         ensures going { result.end ≡ None }
+        ensures of { (result.host ≡ host) × (result.slot ≡ slot) × (result.disks ≡ disks) }
     {
         Attempt {
             notes: Notes::new(host, slot, disks, floor, input),

@@ -1,4 +1,4 @@
-use Rattle.std.proofs.Common.{◌≡◌, ◌∙◌, ap, sym, subst, ◌++◌, ◌∷◌, [], Option, Some, None}
+use Rattle.std.proofs.Common.{◌≡◌, ◌∙◌, ap, sym, subst, ◌++◌, ◌∷◌, [], None}
 use Rattle.attempt.specs.Answers.{on}
 use Rattle.attempt.specs.History.{Fits}
 use Rattle.phases.specs.declared.notes.Notes.{Notes}
