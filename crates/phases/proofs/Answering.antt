@@ -13,6 +13,7 @@ use Rattle.attempt.specs.Answers.{Heard, Booted, Done, Told, Fault, Answers, mor
 use Rattle.attempt.specs.Setup.{Setup}
 use Rattle.attempt.specs.Standing.{NotOutrun}
 use Rattle.attempt.proofs.Lists.{last_more, row_none, positive}
+use Rattle.attempt.proofs.Replies.{bad_tells}
 use Rattle.attempt.proofs.Rows.{IsLast, highest_same, best_same, rows_stay}
 use Rattle.attempt.proofs.Visitors.{part_if}
 use Rattle.paxos_block.specs.declared.cell.Cell.{Cell}
@@ -37,6 +38,11 @@ reads_by bytes row (Some seen) is so = record { seen = seen; said = is; so = so 
 
 pub reads_as : (bytes : List ℕ) (row : Row) → IsSomeAnd (row_said bytes) (λ seen. AreSeenAs seen row) → ReadsAs bytes row
 reads_as bytes row so = reads_by bytes row (row_said bytes) refl so
+
+-- what is kept of a disk, where something is
+pub found : (o : Option Visit) → is_some o ≡ true → (w : Visit) × (o ≡ Some w)
+found None none = absurd (cc)
+found (Some w) some = (w, refl)
 
 -- THE DISK WAS ATTACHED
 
@@ -220,13 +226,6 @@ module _ (s : Setup) (f : Answers) (n : Notes) (is : Follows s f n) (going : n.e
 
 -- THE DISK IS DROPPED
 
-bad_tells : (x : Heard) → is_bad x ≡ true → told x ≡ None
-bad_tells (Booted boot) bad = refl
-bad_tells Done bad = refl
-bad_tells (Told None) bad = refl
-bad_tells (Told (Some row)) bad = absurd (cc)
-bad_tells (Fault fault) bad = refl
-
 module _ (s : Setup) (f : Answers) (n : Notes) (is : Follows s f n) (going : n.end ≡ None) (order : IsInOrder s (phase_of n) n.disk f) (room : n.disk < length n.visits) where
   abbrev d : ℕ
   d = n.disk
@@ -306,10 +305,6 @@ module _ (s : Setup) (f : Answers) (n : Notes) (is : Follows s f n) (going : n.e
     pub is_last : IsLast s (phase_of n) n.disk f
     is_last = record { below = due.first.below; last = last; behind = behind }
 
-    old : (o : Option Visit) → is_some o ≡ true → (w : Visit) × (o ≡ Some w)
-    old None none = absurd (cc)
-    old (Some w) some = (w, refl)
-
     some_answers : 1 ≤ length (f n.disk)
     some_answers = go (phase_of n) last
       where
@@ -320,7 +315,7 @@ module _ (s : Setup) (f : Answers) (n : Notes) (is : Follows s f n) (going : n.e
 
     remembers : Remembers s.host (f n.disk ++ x ∷ []) new_visit
     remembers =
-        let one = old (visit_at n.visits n.disk) (some_now s f n is going order) in
+        let one = found (visit_at n.visits n.disk) (some_now s f n is going order) in
         let before = v.visits.each n.disk one.0 due.first.below one.1 in
         let row_is : last_row (f n.disk ++ x ∷ []) ≡ Some row = last_more (f n.disk) x in
         let host_is : n.host ≡ s.host = v.rows.is_host in

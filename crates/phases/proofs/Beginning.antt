@@ -25,6 +25,7 @@ use Rattle.phases.specs.declared.phase.Phase as code_phase
 use Rattle.phases.specs.declared.phase.Phase.TheVariants as phase
 use Rattle.phases.specs.Kept.{phase_of, KeepsVisits, Follows}
 use Rattle.phases.specs.Moves.{IsPassed, IsOver}
+use Rattle.phases.proofs.Visiting.{never}
 use Rattle.phases.proofs.Ending.{none_waits, left_kept}
 
 -- A PHASE WITHOUT ROWS
@@ -47,11 +48,6 @@ both true true to back = refl
 both true false to back = sym (to refl)
 both false true to back = back refl
 both false false to back = refl
-
-never : (t k : Bool) → (t && not (k && false)) ≡ t
-never true true = refl
-never true false = refl
-never false k = refl
 
 -- no disk is below the first
 left_at_first : (s : Setup) (p : Phase) (f : Answers) (e : ℕ) → is_left_at (Some 0) s p f e ≡ takes_part p (f e)
@@ -95,12 +91,6 @@ in_phase q n is = ap (λ (x : code_phase.Phase). record n { phase = x }) is
 opened_by : (good : Bool) (k : ℕ) → good ≡ true → 3 ≤ k → (good && nat_le 3 k) ≡ true
 opened_by good k is long = and_from good (nat_le 3 k) is (le-leb 3 k long)
 
-enough_more : (s : Setup) (g h : ℕ → Bool) → ((e : ℕ) → e < s.disks → g e ≡ true → h e ≡ true) → are_enough s g ≡ true → are_enough s h ≡ true
-enough_more s g h more enough =
-    let less = count_below s.disks g h more in
-    let half : s.disks < 2 * count s.disks g = ltb-true s.disks (2 * count s.disks g) enough in
-    lt-ltb s.disks (2 * count s.disks h) (omega arith)
-
 next_one : AreNext Opening One
 next_one = record { later = omega arith; joined = refl }
 
@@ -121,7 +111,7 @@ module _ (s : Setup) (f : Answers) (n : Notes) (is : IsOver s f (record n { phas
   left_opened e l left = is.passed.opened e ∙ opened_by (all_good (f e)) (length (f e)) (left_is s Opening (visited s Opening f) f e left).good (left_over s Opening f e over l left)
 
   enough_opened : are_enough s (is_opened f) ≡ true
-  enough_opened = enough_more s (is_left s Opening f) (is_opened f) left_opened is.enough
+  enough_opened = statuses.enough_more s (is_left s Opening f) (is_opened f) left_opened is.enough
 
   taken_is : taken s f ≡ (if nat_lt LAST_BALLOT (ballot s f) then 0 else ballot s f)
   taken_is = ap₂ (taken_by (ballot s f)) over enough_opened

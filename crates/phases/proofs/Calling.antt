@@ -31,6 +31,7 @@ use Rattle.phases.specs.declared.visit.Visit.{Visit}
 use Rattle.phases.specs.Calls.{phase_in}
 use Rattle.phases.specs.Kept.{phase_of, visit_at, boot_in, made, answered, Suits, write_due, call_at, call_due, Remembers, Writes, IsVisiting, Stands, Follows, LeadsTo}
 use Rattle.phases.specs.Moves.{IsOpenedIn, IsInOrder}
+use Rattle.phases.proofs.Answering.{found}
 use Rattle.phases.proofs.Hearing.{due_there, some_now}
 
 -- THE KIND OF THE CALL THAT IS DUE
@@ -144,10 +145,6 @@ module _ (s : Setup) (heard : List Answered) (n : Notes) (leads : LeadsTo s hear
           (λ bad. subst (λ (q : code_phase.Phase). row_in (phase_in q) (f e) ≡ None) is (unread e bad)))
       opened phase.One is unread = subst (λ (q : code_phase.Phase). IsOpenedIn s (phase_in q) f) (sym is) (sym leads.follows.ballot ∙ ap (λ (x : PBlock). x.mbal) (subst (λ (q : code_phase.Phase). n.says ≡ says_for s (phase_in q) f) is visits.says))
       opened phase.Two is unread = subst (λ (q : code_phase.Phase). IsOpenedIn s (phase_in q) f) (sym is) (sym leads.follows.ballot ∙ ap (λ (x : PBlock). x.mbal) (subst (λ (q : code_phase.Phase). n.says ≡ says_for s (phase_in q) f) is visits.says))
-
-  found : (o : Option Visit) → is_some o ≡ true → (w : Visit) × (o ≡ Some w)
-  found None none = absurd (cc)
-  found (Some w) some = (w, refl)
 
   -- the call that is due by what is kept
   pub call_is : next_call s f ≡ Some (call_due n)

@@ -56,7 +56,8 @@ passed_at s f n is = record {
 
 -- THE BALLOT TAKEN
 
-not_taken : (b d : ℕ) (enough : Bool) → taken_by b (Some d) enough ≡ 0
+-- no ballot is taken while the opening goes on
+pub not_taken : (b d : ℕ) (enough : Bool) → taken_by b (Some d) enough ≡ 0
 not_taken b d true = refl
 not_taken b d false = refl
 

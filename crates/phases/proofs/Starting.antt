@@ -21,6 +21,7 @@ use Rattle.phases.specs.declared.visit.TheConstants.{UNSEEN}
 use Rattle.torn_block.specs.Plan.{Plan}
 use Rattle.phases.specs.Kept.{visit_at, Remembers, Follows}
 use Rattle.phases.proofs.Beginning.{greatest_zero}
+use Rattle.phases.proofs.Ending.{not_taken}
 
 -- nothing was heard of any disk
 abbrev nothing : Answers
@@ -43,10 +44,6 @@ all_count : (n : ℕ) → count n (λ d. true) ≡ n
 all_count zero = refl
 all_count (suc n) = let before : count n (λ d. true) ≡ n = all_count n in omega arith
 
-no_ballot : (b d : ℕ) (enough : Bool) → taken_by b (Some d) enough ≡ 0
-no_ballot b d true = refl
-no_ballot b d false = refl
-
 pub starts : (s : Setup) (visits : List (Option Visit)) (steps : Plan) → 0 < s.disks → ((e : ℕ) → e < s.disks → visit_at visits e ≡ Some UNSEEN)
     → Follows s nothing (record {
       host = s.host;
@@ -66,7 +63,7 @@ pub starts : (s : Setup) (visits : List (Option Visit)) (steps : Plan) → 0 < s
 starts s visits steps some unseen_all =
     let first : visited s Opening nothing ≡ Some 0 = below_some s.disks (λ d. waits s Opening []) 0 (record { below = some; passes = refl; none = λ e l. absurd (omega arith) }) in
     record {
-      ballot = sym (ap (λ (o : Option ℕ). taken_by (ballot s nothing) o (are_enough s (is_opened nothing))) first ∙ no_ballot (ballot s nothing) 0 (are_enough s (is_opened nothing)));
+      ballot = sym (ap (λ (o : Option ℕ). taken_by (ballot s nothing) o (are_enough s (is_opened nothing))) first ∙ not_taken (ballot s nothing) 0 (are_enough s (is_opened nothing)));
       stands = record {
         rows = record {
           is_host = refl;

@@ -38,7 +38,8 @@ same_less d e off =
       | inr high ↦ le-ltb e (d + 1) (omega arith) ∙ sym (le-ltb e d high)
     ]
 
-never : (t k : Bool) → (t && not (k && false)) ≡ t
+-- what never comes changes nothing
+pub never : (t k : Bool) → (t && not (k && false)) ≡ t
 never true true = refl
 never true false = refl
 never false k = refl

@@ -18,7 +18,7 @@ use Rattle.attempt.specs.Proposal.{highest, best}
 use Rattle.attempt.specs.Status.{End, Status, Due, Ended, status, taken}
 use Rattle.attempt.specs.NextCall.{says_for}
 use Rattle.attempt.specs.History.{IsHistory}
-use Rattle.phases.specs.Calls.{phase_in, end_of}
+use Rattle.phases.specs.Calls.{phase_in, heard_of, end_of}
 use Rattle.phases.specs.declared.end.End as code_end
 use Rattle.phases.specs.declared.heard.Heard as code_heard
 use Rattle.phases.specs.declared.heard.Heard.TheVariants as answer
@@ -98,6 +98,10 @@ call_at stage.Reading boot n = device.Read boot (row_place n.slot) ROW_LENGTH
 -- on the disk that is visited
 abbrev pub call_due : Notes → ℕ × device.Call
 call_due n = (n.disk, call_at n.stage (boot_in (visit_at n.visits n.disk)).number n)
+
+-- an answer to it
+abbrev pub answer_of : Notes → code_heard.Heard → Answered
+answer_of n heard = record { disk = n.disk; heard = heard_of heard }
 
 -- WHAT IS KEPT AT ANY TIME
 
