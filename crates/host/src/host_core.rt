@@ -155,10 +155,11 @@ impl HostCore {
             LeadsTo c h (hears c h m m.doing (record { disk = (due_call self.old).0; heard = heard_of heard.now })) self.new }
     {
         self.learner.hear(heard);
-        let reply = match self.learner.offered() {
-            Some(value) => judge(&mut self.learner, &mut self.prefix, &mut self.table, &value),
-            None => None,
+        let Some(value) = self.learner.offered() else {
+            self.said = HostAnswer::of(self.learner.said(), None);
+            return;
         };
+        let reply = judge(&mut self.learner, &mut self.prefix, &mut self.table, &value);
         self.said = HostAnswer::of(self.learner.said(), reply);
     }
 
@@ -190,6 +191,8 @@ fn judge(
         learner.take(false);
         return None;
     };
+    // The check looks for the types within a command only where one of them is used.
+    let _action = &command.action;
     let reply = table.apply(&command);
     prefix.push_reserved(command);
     learner.take(true);

@@ -39,8 +39,13 @@ fn start(alloc: Global, number: u8, config: Config) -> Result<HostCore, Fail> {
 }
 
 // The first request of a client: an exclusive lock on "db".
-fn enqueue(host: &HostCore, client: u8, lock: u16) -> Result<Command, Fail> {
-    Ok(Command {
+fn submit(host: &mut HostCore, client: u8, lock: u16, tries: u8) -> Result<(), Fail>
+    requires { 1 ≤ tries }
+{
+    if !host.idle() {
+        return Err(Fail::from("busy"));
+    }
+    let command = Command {
         host: host.host(),
         client: ClientNumber::new(client),
         request: RequestNumber::new(1).ok_or("request")?,
@@ -50,16 +55,7 @@ fn enqueue(host: &HostCore, client: u8, lock: u16) -> Result<Command, Fail> {
             mode: Mode::Exclusive,
             no_queue: false,
         },
-    })
-}
-
-fn submit(host: &mut HostCore, client: u8, lock: u16, tries: u8) -> Result<(), Fail>
-    requires { 1 ≤ tries }
-{
-    let command = enqueue(host, client, lock)?;
-    if !host.idle() {
-        return Err(Fail::from("busy"));
-    }
+    };
     host.submit(command, tries);
     Ok(())
 }
