@@ -5,6 +5,7 @@ use Rattle.attempt.specs.Numbers.{count, found, first_below}
 
 -- THE FIRST
 
+-- nothing is found where neither is
 found_none : (o : Option ℕ) (b : Bool) (n : ℕ) → found o b n ≡ None → (o ≡ None) × (b ≡ false)
 found_none (Some d) b n e = absurd (cc)
 found_none None true n e = absurd (cc)
@@ -28,6 +29,7 @@ pub record IsFirst (n : ℕ) (g : ℕ → Bool) (d : ℕ) : Type 0 where
   pub passes : g d ≡ true
   pub none : (e : ℕ) → e < d → g e ≡ false
 
+-- what is found is the one before, or the new one
 found_some : (o : Option ℕ) (b : Bool) (n d : ℕ) → found o b n ≡ Some d → (o ≡ Some d) ⊎ ((o ≡ None) × (n ≡ d) × (b ≡ true))
 found_some (Some e) b n d is = inl is
 found_some None true n d is = inr (refl, cc, refl)

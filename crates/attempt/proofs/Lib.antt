@@ -1,6 +1,16 @@
 pub mod Firsts
+pub mod Histories
 pub mod Lists
 pub mod More
+pub mod OneDisk
+pub mod Replies
 pub mod Rows
 pub mod Statuses
 pub mod Visitors
+pub mod Totals
+pub mod Ends
+pub mod Proposals
+pub mod Moments
+pub mod Confirmed
+pub mod Preparing
+pub mod Possible

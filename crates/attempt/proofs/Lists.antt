@@ -42,10 +42,12 @@ get_none (y ∷ a) (suc n) l = get_none a n (omega arith)
 
 -- ALL GOOD
 
+-- a list of one is good where its answer is
 or_none : (t : Bool) → not (t || false) ≡ not t
 or_none true = refl
 or_none false = refl
 
+-- the answer before makes no difference to that
 one_more : (t rest before new : Bool) → not rest ≡ (not before && new) → not (t || rest) ≡ (not (t || before) && new)
 one_more true rest before new e = refl
 one_more false rest before new e = e
@@ -57,10 +59,12 @@ good_more (y ∷ a) x = one_more (is_bad y) (list_any is_bad (a ++ x ∷ [])) (l
 
 -- THE ROW READ LAST
 
+-- of three rows the last is read last
 later_assoc : (first second third : Option (List SeenBlock)) → later_row first (later_row second third) ≡ later_row (later_row first second) third
 later_assoc first second None = refl
 later_assoc first second (Some row) = refl
 
+-- of one row that one is
 later_first : (o : Option (List SeenBlock)) → later_row o None ≡ later_row None o
 later_first None = refl
 later_first (Some row) = refl

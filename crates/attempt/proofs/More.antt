@@ -19,6 +19,7 @@ by_disk f d x P here there e = by_eq (λ t. P e (if t then f d ++ x ∷ [] else 
     at : d ≡ e → P e (f d ++ x ∷ [])
     at same = subst (λ (k : ℕ). P k (f d ++ x ∷ [])) same here
 
+-- an answer at the head changes nothing at the end
 on_by : (y : Answered) (xs ys : List Answered) (d : ℕ) (zs : List Heard) → on xs d ≡ on ys d ++ zs → on (y ∷ xs) d ≡ on (y ∷ ys) d ++ zs
 on_by y xs ys d zs e = go (y.disk == d)
   where
@@ -26,14 +27,17 @@ on_by y xs ys d zs e = go (y.disk == d)
     go true = ap (λ (l : List Heard). y.heard ∷ l) e
     go false = e
 
+-- at the end of its disk's answers it stands
 on_here : (xs : List Answered) (x : Answered) → on (xs ++ x ∷ []) x.disk ≡ on xs x.disk ++ x.heard ∷ []
 on_here [] x = by_eq (λ t. (if t then x.heard ∷ [] else []) ≡ x.heard ∷ []) x.disk x.disk (λ e. refl) (λ ne. absurd (ne refl))
 on_here (y ∷ xs) x = on_by y (xs ++ x ∷ []) xs x.disk (x.heard ∷ []) (on_here xs x)
 
+-- and not among those of another
 on_there : (xs : List Answered) (x : Answered) (d : ℕ) → d ≢ x.disk → on (xs ++ x ∷ []) d ≡ on xs d
 on_there [] x d ne = by_eq (λ t. (if t then x.heard ∷ [] else []) ≡ []) x.disk d (λ e. absurd (ne (sym e))) (λ e. refl)
 on_there (y ∷ xs) x d ne = on_by y (xs ++ x ∷ []) xs d [] (on_there xs x d ne ∙ sym (append-nil (on xs d))) ∙ append-nil (on (y ∷ xs) d)
 
+-- so it is for each disk
 on_at : (xs : List Answered) (x : Answered) (e : ℕ) → on (xs ++ x ∷ []) e ≡ more (on xs) x.disk x.heard e
 on_at xs x e = by_eq (λ t. on (xs ++ x ∷ []) e ≡ (if t then on xs x.disk ++ x.heard ∷ [] else on xs e)) e x.disk
     (λ same. ap (on (xs ++ x ∷ [])) same ∙ on_here xs x)

@@ -24,6 +24,7 @@ module _ (s : Setup) (f g : Answers) where
   pub highest_same : AreSameRows Opening f g → highest s f ≡ highest s g
   highest_same same = ap (max s.floor) (greatest_same s.disks (λ d. top_in (row_in Opening (f d))) (λ d. top_in (row_in Opening (g d))) (λ e l. ap top_in (same e)))
 
+  -- and so the ballot itself
   pub ballot_same : AreSameRows Opening f g → ballot s f ≡ ballot s g
   ballot_same same = ap (ballot_above s.host) (highest_same same)
 
@@ -37,6 +38,7 @@ module _ (s : Setup) (f g : Answers) where
   best_same opening one zero = own_same opening s.disks
   best_same opening one (suc n) = ap₂ (best_in s.host) (best_same opening one n) (one n)
 
+  -- and the proposal itself
   pub proposal_same : AreSameRows Opening f g → AreSameRows One f g → proposal s f ≡ proposal s g
   proposal_same opening one = ap (λ (vote : PBlock). or_else vote.inp s.input) (best_same opening one s.disks)
 
@@ -101,21 +103,26 @@ best_none s f (suc n) none =
     ap (best_in s.host (best_below s f n)) (none n (omega arith)) ∙ best_none s f n (λ e l. none e (omega arith))
 
 module _ (s : Setup) (f : Answers) (d : ℕ) (row : List SeenBlock) where
+  -- the answers with this row
   abbrev new : Answers
   new = more f d (Told (Some row))
 
+  -- it is the disk's row of the phase
   row_here : (p : Phase) → IsLast s p d f → row_in p (new d) ≡ Some row
   row_here p is = ap (row_in p) (more_here f d (Told (Some row))) ∙ row_last p (f d) (Told (Some row)) is.last
 
+  -- the others keep theirs
   row_there : (p : Phase) (e : ℕ) → e ≢ d → row_in p (new e) ≡ row_in p (f e)
   row_there p e off = ap (row_in p) (more_there f d (Told (Some row)) e off)
 
+  -- from the disk on there was none
   from_here : (p : Phase) → IsLast s p d f → (e : ℕ) → d ≤ e → e < s.disks → row_in p (f e) ≡ None
   from_here p is e l u = elim (cases_eq e d) [
     | inl same ↦ ap (λ (k : ℕ). row_in p (f k)) same ∙ row_none p (f d) (omega (arith, is.last))
     | inr off ↦ is.behind e (omega arith) u
   ]
 
+  -- what is greatest of all rows takes this one in
   greatest_takes : (p : Phase) (of_row : Option (List SeenBlock) → ℕ) → of_row None ≡ 0 → IsLast s p d f
       → greatest s.disks (λ e. of_row (row_in p (new e))) ≡ max (greatest s.disks (λ e. of_row (row_in p (f e)))) (of_row (Some row))
   greatest_takes p of_row zeroed is =

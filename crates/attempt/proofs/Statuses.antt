@@ -1,10 +1,10 @@
 -- The status of an attempt, case by case: what it tells, and what it follows from.
 use Rattle.std.specs.Prelude.{nat_lt, if◌then◌else◌}
-use Rattle.std.proofs.Common.{ℕ, ◌*◌, ◌<◌, ◌≡◌, Bool, true, false, Option, Some, None, List, refl, sym, subst, ap, ap₂, ◌∙◌, arith}
+use Rattle.std.proofs.Common.{arith, length, ◌≤◌, ℕ, ◌*◌, ◌<◌, ◌≡◌, Bool, true, false, Option, Some, None, List, refl, sym, subst, ap, ap₂, ◌∙◌, arith}
 use Rattle.std.proofs.lemmas.Bool.{lt-ltb, ltb-true}
 use Rattle.paxos_block.specs.declared.ballot.TheConstants.{LAST_BALLOT}
 use Rattle.attempt.specs.Calls.{Phase, Opening, One, Two, start}
-use Rattle.attempt.specs.Answers.{Answers}
+use Rattle.attempt.specs.Answers.{Heard, Answers, more}
 use Rattle.attempt.specs.Setup.{Setup}
 use Rattle.attempt.specs.Numbers.{count}
 use Rattle.attempt.specs.Visits.{takes_part, visited, is_left, is_left_at, are_enough}
@@ -12,7 +12,8 @@ use Rattle.attempt.specs.Proposal.{ballot, proposal, others_mbal}
 use Rattle.attempt.specs.Status.{Status, Due, Ended, Committed, Empty, Outrun, NoMajority, BallotsSpent, next_or, through, unless_outrun, proposing, voting, promising, status}
 use Rattle.attempt.specs.Standing.{IsIn, NotOutrun, HasBallot, HasProposal}
 use Rattle.attempt.proofs.Firsts.{count_below}
-use Rattle.attempt.proofs.Visitors.{part_is, part_if, part_before, not_stuck, left_is, left_if}
+use Rattle.attempt.proofs.Rows.{AreSameRows, ballot_same, others_same, proposal_same, rows_kept}
+use Rattle.attempt.proofs.Visitors.{visited_kept, part_is, part_if, part_before, not_stuck, left_is, left_if}
 
 -- WHERE AN ATTEMPT STANDS
 
@@ -76,7 +77,8 @@ left_before s p q at f d less takes =
     let is = part_is p (f d) takes in
     left_if s q at f d (part_before p q (f d) (omega arith) is) (not_stuck s q (f d) (omega (arith, is.come)))
 
-enough_more : (s : Setup) (g h : ℕ → Bool) → ((d : ℕ) → d < s.disks → g d ≡ true → h d ≡ true) → are_enough s g ≡ true → are_enough s h ≡ true
+-- where more disks pass, enough do
+pub enough_more : (s : Setup) (g h : ℕ → Bool) → ((d : ℕ) → d < s.disks → g d ≡ true → h d ≡ true) → are_enough s g ≡ true → are_enough s h ≡ true
 enough_more s g h more enough =
     let less = count_below s.disks g h more in
     let half : s.disks < 2 * count s.disks g = ltb-true s.disks (2 * count s.disks g) enough in
@@ -92,6 +94,7 @@ EnoughBefore s Opening f = Unit {0}
 EnoughBefore s One f = are_enough s (is_left s Opening f) ≡ true
 EnoughBefore s Two f = (are_enough s (is_left s Opening f) ≡ true) × (are_enough s (is_left s One f) ≡ true)
 
+-- enough disks take part: enough were left in each phase before
 left_enough : (s : Setup) (p q : Phase) (f : Answers) → start q < start p → are_enough s (λ d. takes_part p (f d)) ≡ true → are_enough s (is_left s q f) ≡ true
 left_enough s p q f less = enough_more s (λ d. takes_part p (f d)) (is_left s q f) (λ d l takes. left_before s p q (visited s q f) f d less takes)
 
@@ -104,6 +107,7 @@ enough_before s Two f enough = (left_enough s Two Opening f (omega arith) enough
 -- WHAT A STATUS TELLS
 
 module _ (s : Setup) (f : Answers) (P : Status → Type 0) where
+  -- a phase ends the attempt, or has a call due, or is over
   through_by : (p : Phase) (rest : Status) → (are_enough s (is_left s p f) ≡ false → P (Ended NoMajority)) → ((d : ℕ) → visited s p f ≡ Some d → are_enough s (is_left s p f) ≡ true → P (Due p d)) → (visited s p f ≡ None → are_enough s (is_left s p f) ≡ true → P rest) → P (through s p f rest)
   through_by p rest few here done = go (are_enough s (is_left s p f)) refl (visited s p f) refl
     where
@@ -112,6 +116,7 @@ module _ (s : Setup) (f : Answers) (P : Status → Type 0) where
       go true e (Some d) eo = here d eo e
       go true e None eo = done eo e
 
+  -- another host is faster, or not
   outrun_by : (p : Phase) (rest : Status) → (nat_lt (ballot s f) (others_mbal s p f) ≡ true → P (Ended (Outrun (others_mbal s p f)))) → (nat_lt (ballot s f) (others_mbal s p f) ≡ false → P rest) → P (unless_outrun s p f rest)
   outrun_by p rest out on = go (nat_lt (ballot s f) (others_mbal s p f)) refl
     where
@@ -120,6 +125,7 @@ module _ (s : Setup) (f : Answers) (P : Status → Type 0) where
       go false e = on e
 
 module _ (s : Setup) (f : Answers) where
+  -- a phase tells of itself, and then what comes after it
   tells_through : (p : Phase) (rest : Status) → IsIn s p f → NotOutrun s p f → (IsOver s p f → Tells s f rest) → Tells s f (through s p f rest)
   tells_through p rest come not_outrun next =
       through_by s f (Tells s f) p rest
@@ -127,6 +133,7 @@ module _ (s : Setup) (f : Answers) where
       (λ d visits enough. record { come = come; not_outrun = not_outrun; visits = visits; enough = enough })
       (λ visits enough. next (record { come = come; not_outrun = not_outrun; visits = visits; enough = enough }))
 
+  -- phase 2
   tells_voting : (value : List ℕ) → proposal s f ≡ Some value → IsOver s One f → Tells s f (voting s f value)
   tells_voting value is over =
       let come : IsIn s Two f = (value, record { taken = over.come; over = over.visits; not_outrun = over.not_outrun; is = is }) in
@@ -134,16 +141,19 @@ module _ (s : Setup) (f : Answers) where
       (λ above. record { phase = Two; come = come; above = above; mbal_is = refl })
       (λ below. tells_through Two (Ended (Committed value)) come below (λ done. record { over = done; proposal_is = is }))
 
+  -- the proposal
   tells_proposing : IsOver s One f → (o : Option (List ℕ)) → proposal s f ≡ o → Tells s f (proposing o (voting s f))
   tells_proposing over None is = record { over = over; none = is }
   tells_proposing over (Some value) is = tells_voting value is over
 
+  -- phase 1
   tells_promising : HasBallot s f → Tells s f (promising s f)
   tells_promising come =
       outrun_by s f (Tells s f) One (through s One f (proposing (proposal s f) (voting s f)))
       (λ above. record { phase = One; come = come; above = above; mbal_is = refl })
       (λ below. tells_through One (proposing (proposal s f) (voting s f)) come below (λ over. tells_proposing over (proposal s f) refl))
 
+  -- the ballot
   tells_ballot : IsOver s Opening f → (t : Bool) → nat_lt LAST_BALLOT (ballot s f) ≡ t → Tells s f (if t then Ended BallotsSpent else promising s f)
   tells_ballot over true is = record { over = over; spent = is }
   tells_ballot over false is = tells_promising (record { over = over.visits; fits = is })
@@ -156,18 +166,22 @@ module _ (s : Setup) (f : Answers) where
   pub told_by : (st : Status) → status s f ≡ st → Tells s f st
   told_by st is = subst (Tells s f) is status_tells
 
+  -- where a call is due
   pub due_is : (p : Phase) (d : ℕ) → status s f ≡ Due p d → IsDueAt s p d f
   due_is p d is = told_by (Due p d) is
 
 -- WHAT A STATUS FOLLOWS FROM
 
 module _ (s : Setup) (f : Answers) where
+  -- a phase, by its two tests
   through_is : (p : Phase) (rest : Status) (enough : Bool) (at : Option ℕ) → are_enough s (is_left s p f) ≡ enough → visited s p f ≡ at → through s p f rest ≡ (if enough then next_or p at rest else Ended NoMajority)
   through_is p rest enough at is here = ap₂ (λ (t : Bool) (o : Option ℕ). if t then next_or p o rest else Ended NoMajority) is here
 
+  -- the other hosts, by theirs
   outrun_is : (p : Phase) (rest : Status) (above : Bool) → nat_lt (ballot s f) (others_mbal s p f) ≡ above → unless_outrun s p f rest ≡ (if above then Ended (Outrun (others_mbal s p f)) else rest)
   outrun_is p rest above is = ap (λ (t : Bool). if t then Ended (Outrun (others_mbal s p f)) else rest) is
 
+  -- the ballot, by its own
   ballot_is : (spent : Bool) → nat_lt LAST_BALLOT (ballot s f) ≡ spent → (if nat_lt LAST_BALLOT (ballot s f) then Ended BallotsSpent else promising s f) ≡ (if spent then Ended BallotsSpent else promising s f)
   ballot_is spent is = ap (λ (t : Bool). if t then Ended BallotsSpent else promising s f) is
 
@@ -183,9 +197,11 @@ module _ (s : Setup) (f : Answers) where
   standing One come = unless_outrun s One f (through s One f (rest One come))
   standing Two come = unless_outrun s Two f (through s Two f (rest Two come))
 
+  -- behind the opening stands phase 1
   to_promising : HasBallot s f → are_enough s (is_left s Opening f) ≡ true → status s f ≡ promising s f
   to_promising come enough = through_is Opening (rest Opening tt) true None enough come.over ∙ ballot_is false come.fits
 
+  -- behind phase 1 stands phase 2
   to_voting : (value : List ℕ) → HasProposal s f value → are_enough s (is_left s One f) ≡ true → promising s f ≡ voting s f value
   to_voting value come enough =
       outrun_is One (through s One f (rest One come.taken)) false come.not_outrun
@@ -198,11 +214,13 @@ module _ (s : Setup) (f : Answers) where
   stands One come enough = to_promising come enough
   stands Two come enough = to_promising (come.1).taken enough.0 ∙ to_voting come.0 come.1 enough.1
 
+  -- where no other host is faster, the phase itself counts
   not_outrun_is : (p : Phase) (come : IsIn s p f) → NotOutrun s p f → standing p come ≡ through s p f (rest p come)
   not_outrun_is Opening come below = refl
   not_outrun_is One come below = outrun_is One (through s One f (rest One come)) false below
   not_outrun_is Two come below = outrun_is Two (through s Two f (rest Two come)) false below
 
+  -- so the status goes by the phase
   goes : (p : Phase) (come : IsIn s p f) → NotOutrun s p f → EnoughBefore s p f → status s f ≡ through s p f (rest p come)
   goes p come below enough = stands p come enough ∙ not_outrun_is p come below
 
@@ -240,18 +258,22 @@ module _ (s : Setup) (f : Answers) where
   pub outrun_two : IsIn s Two f → EnoughBefore s Two f → nat_lt (ballot s f) (others_mbal s Two f) ≡ true → status s f ≡ Ended (Outrun (others_mbal s Two f))
   outrun_two come enough above = stands Two come enough ∙ outrun_is Two (through s Two f (rest Two come)) true above
 
+  -- too few are left where enough were before
   few_in : (p : Phase) (come : IsIn s p f) → NotOutrun s p f → are_enough s (is_left s p f) ≡ false → EnoughBefore s p f → status s f ≡ Ended NoMajority
   few_in p come below is enough = goes p come below enough ∙ through_is p (rest p come) false (visited s p f) is refl
 
+  -- or too few were already in the opening
   few_one : HasBallot s f → NotOutrun s One f → are_enough s (is_left s One f) ≡ false → (t : Bool) → are_enough s (is_left s Opening f) ≡ t → status s f ≡ Ended NoMajority
   few_one come below is true enough = few_in One come below is enough
   few_one come below is false few = few_in Opening tt tt few tt
 
+  -- or in phase 1
   few_two : (come : IsIn s Two f) → NotOutrun s Two f → are_enough s (is_left s Two f) ≡ false → (t u : Bool) → are_enough s (is_left s Opening f) ≡ t → are_enough s (is_left s One f) ≡ u → status s f ≡ Ended NoMajority
   few_two come below is false u few other = few_in Opening tt tt few tt
   few_two come below is true false enough few = few_in One (come.1).taken (come.1).not_outrun few enough
   few_two come below is true true enough more = few_in Two come below is (enough, more)
 
+  -- so wherever too few are left
   few_by : (p : Phase) → IsIn s p f → NotOutrun s p f → are_enough s (is_left s p f) ≡ false → status s f ≡ Ended NoMajority
   few_by Opening come below is = few_in Opening come below is tt
   few_by One come below is = few_one come below is (are_enough s (is_left s Opening f)) refl
@@ -260,3 +282,32 @@ module _ (s : Setup) (f : Answers) where
   -- too few disks are left
   pub few : HasFew s f → status s f ≡ Ended NoMajority
   few is = few_by is.phase is.come is.not_outrun is.few
+
+-- ONE ANSWER MORE
+
+module _ (s : Setup) (f : Answers) (d : ℕ) (x : Heard) where
+  -- the ballot stays
+  ballot_kept : start One ≤ length (f d) → HasBallot s f → HasBallot s (more f d x)
+  ballot_kept l come =
+      record {
+        over = visited_kept s f d x Opening l come.over;
+        fits = ap (nat_lt LAST_BALLOT) (ballot_same s (more f d x) f (rows_kept f d x Opening l)) ∙ come.fits;
+      }
+
+  -- so does the proposal
+  proposal_kept : (value : List ℕ) → start Two ≤ length (f d) → HasProposal s f value → HasProposal s (more f d x) value
+  proposal_kept value l come =
+      let opening : AreSameRows Opening (more f d x) f = rows_kept f d x Opening (omega arith) in
+      let one : AreSameRows One (more f d x) f = rows_kept f d x One l in
+      record {
+        taken = ballot_kept (omega arith) come.taken;
+        over = visited_kept s f d x One l come.over;
+        not_outrun = ap₂ nat_lt (ballot_same s (more f d x) f opening) (others_same s (more f d x) f One one) ∙ come.not_outrun;
+        is = proposal_same s (more f d x) f opening one ∙ come.is;
+      }
+
+  -- an attempt that has come to a phase stays in it with an answer of the phase
+  pub in_kept : (p : Phase) → start p ≤ length (f d) → IsIn s p f → IsIn s p (more f d x)
+  in_kept Opening l come = tt
+  in_kept One l come = ballot_kept l come
+  in_kept Two l come = (come.0, proposal_kept come.0 l come.1)

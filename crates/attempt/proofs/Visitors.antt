@@ -18,11 +18,13 @@ pub record IsPart (p : Phase) (a : List Heard) : Type 0 where
   pub good : all_good a ≡ true
   pub come : start p ≤ length a
 
+-- the test tells it
 pub part_is : (p : Phase) (a : List Heard) → takes_part p a ≡ true → IsPart p a
 part_is p a takes =
     let parts = and_parts (all_good a) (nat_le (start p) (length a)) takes in
     record { good = parts.0; come = leb-true (start p) (length a) parts.1 }
 
+-- and is passed by it
 pub part_if : (p : Phase) (a : List Heard) → IsPart p a → takes_part p a ≡ true
 part_if p a is = and_from (all_good a) (nat_le (start p) (length a)) is.good (le-leb (start p) (length a) is.come)
 
@@ -40,12 +42,14 @@ pub record IsWaiting (s : Setup) (p : Phase) (a : List Heard) : Type 0 where
   pub short : length a < goal p
   pub unspent : is_stuck s p a ≡ false
 
+-- the test tells it
 pub waiting_is : (s : Setup) (p : Phase) (a : List Heard) → waits s p a ≡ true → IsWaiting s p a
 waiting_is s p a is =
     let parts = and_parts (takes_part p a && nat_lt (length a) (goal p)) (not (is_stuck s p a)) is in
     let first = and_parts (takes_part p a) (nat_lt (length a) (goal p)) parts.0 in
     record { part = part_is p a first.0; short = ltb-true (length a) (goal p) first.1; unspent = not-true (is_stuck s p a) parts.1 }
 
+-- and is passed by it
 pub waiting_if : (s : Setup) (p : Phase) (a : List Heard) → IsWaiting s p a → waits s p a ≡ true
 waiting_if s p a is =
     and_from (takes_part p a && nat_lt (length a) (goal p)) (not (is_stuck s p a))
@@ -68,6 +72,7 @@ part_more p a x good is =
 pub bad_more : (a : List Heard) (x : Heard) → is_bad x ≡ true → all_good (a ++ x ∷ []) ≡ false
 bad_more a x bad = good_more a x ∙ and_right (all_good a) (not (is_bad x)) (ap not bad)
 
+-- and it takes part in nothing then
 pub bad_part : (p : Phase) (a : List Heard) → all_good a ≡ false → takes_part p a ≡ false
 bad_part p a bad = and_left (all_good a) (nat_le (start p) (length a)) bad
 
@@ -81,10 +86,12 @@ left_if s p at f d is unspent = and_from (takes_part p (f d)) (not (is_stuck s p
 
 -- ALL DISKS
 
+-- not stuck on a disk that is past
 past_none : (stuck : Bool) → not (stuck && true) ≡ true → stuck ≡ false
 past_none true is = absurd (true≢false (sym is))
 past_none false is = refl
 
+-- by one disk's tests
 over_by : (s : Setup) (p : Phase) (f : Answers) (d : ℕ) → waits s p (f d) ≡ false → is_left_at None s p f d ≡ true → goal p ≤ length (f d)
 over_by s p f d still left =
     let unspent = past_none (is_stuck s p (f d)) (and_parts (takes_part p (f d)) (not (is_stuck s p (f d) && true)) left).1 in

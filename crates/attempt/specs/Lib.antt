@@ -1,8 +1,10 @@
 pub mod Answers
 pub mod Calls
 pub mod History
+pub mod Laws
 pub mod NextCall
 pub mod Numbers
+pub mod Prepared
 pub mod Proposal
 pub mod Setup
 pub mod Standing

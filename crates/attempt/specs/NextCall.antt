@@ -1,5 +1,5 @@
 -- The device call that an attempt makes next, with its boot number and its bytes.
-use Rattle.std.specs.Prelude.{◌≡◌, ℕ, List, [], length, slice_get, Option, Some, None, option_map}
+use Rattle.std.specs.Prelude.{ℕ, List, [], length, slice_get, Option, Some, None, option_map}
 use Rattle.disk.specs.Disk as device
 use Rattle.torn_block.specs.declared.layout.TheConstants.{ROW_LENGTH}
 use Rattle.torn_block.specs.Stage.{Write128, call_of}

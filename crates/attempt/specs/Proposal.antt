@@ -1,5 +1,6 @@
 -- What follows from the rows that an attempt has read: its ballot, its proposal, and whether another host was faster.
 use Rattle.std.specs.Prelude.{ℕ, zero, suc, List, max, Option, Some, None}
+use Rattle.std.specs.Option.{option_or}
 use Rattle.paxos_block.specs.declared.block.PBlock.{PBlock}
 use Rattle.paxos_block.specs.Row.{SeenBlock, blank}
 use Rattle.paxos_block.specs.Votes.{says_in, greatest, top_of, others_top_of, later_of, latest_in, ballot_above}
@@ -48,8 +49,7 @@ abbrev pub best : Setup → Answers → PBlock
 best s f = best_below s f s.disks
 
 abbrev pub or_else : Option (List ℕ) → Option (List ℕ) → Option (List ℕ)
-or_else None other = other
-or_else (Some value) other = Some value
+or_else first other = option_or first other
 
 -- what was voted for there, or where nothing was the attempt's input
 abbrev pub proposal : Setup → Answers → Option (List ℕ)

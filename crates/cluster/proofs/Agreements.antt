@@ -14,7 +14,7 @@ use Rattle.cluster.specs.declared.entry.Entry.{Entry}
 use Rattle.cluster.specs.declared.entry.Entry.TheVariants as entries
 use Rattle.cluster.specs.declared.touched.Outcome.{Outcome}
 use Rattle.cluster.specs.Agreement.{Makes, IsFollowedBy, Agree}
-use Rattle.cluster.specs.Attempt.{heard_as}
+use Rattle.attempt.specs.Answers.{heard_as}
 use Rattle.cluster.specs.Book.{BookState, answer_in}
 use Rattle.cluster.specs.Entry.{Filled, Start, Submit, Called, plain, is_of, is_on, kind_of, fault_in, on_disk, of_host, called_by, disk_after, host_step, host_after}
 use Rattle.cluster.specs.Host.{Host, Stopped, Running, Memory, Doing, next_doing, next_in, next_of, is_idle_in, is_idle, idles, goes_on, hears, fresh}

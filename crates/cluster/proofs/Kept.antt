@@ -9,15 +9,20 @@ use Rattle.torn_block.specs.Stage.{Write128, call_of}
 use Rattle.paxos_block.specs.Places.{place_of, VoteOf, row_place}
 use Rattle.paxos_block.specs.Row.{SeenBlock, seen_at, row_said}
 use Rattle.paxos_block.specs.Saying.{body_saying}
-use Rattle.cluster.specs.declared.attempt.Attempt.{Attempt}
-use Rattle.cluster.specs.declared.attempt.Stage.{Stage}
-use Rattle.cluster.specs.declared.attempt.Stage.TheVariants as stage
-use Rattle.cluster.specs.declared.attempt.End.TheVariants as end
-use Rattle.cluster.specs.declared.attempt.Heard as code
-use Rattle.cluster.specs.declared.attempt.Heard.TheVariants as answer
-use Rattle.cluster.specs.Fits.{FitsCall, Fits}
-use Rattle.cluster.specs.Attempt.{Phase, Opening, One, Two, Due, Heard, Booted, Done, Told, Fault, Answers, Setup, status, taken, is_bad, next_call, says_for}
-use Rattle.cluster.specs.OneDisk.{dones, opened, promised, heard_at, setup_in, only, IsWriting, HasOpened, HasPromised, IsKeptAt, IsKept, heard_in, FitsStage, IsEnd}
+use Rattle.cluster.specs.declared.one_disk.Attempt.{Attempt}
+use Rattle.cluster.specs.declared.one_disk.Stage.{Stage}
+use Rattle.cluster.specs.declared.one_disk.Stage.TheVariants as stage
+use Rattle.cluster.specs.declared.one_disk.End.TheVariants as end
+use Rattle.cluster.specs.declared.one_disk.Heard as code
+use Rattle.cluster.specs.declared.one_disk.Heard.TheVariants as answer
+use Rattle.cluster.specs.Fits.{Fits}
+use Rattle.attempt.specs.Calls.{Phase, Opening, One, Two}
+use Rattle.attempt.specs.Answers.{Heard, Booted, Done, Told, Fault, Answers, is_bad}
+use Rattle.attempt.specs.History as history
+use Rattle.attempt.specs.Setup.{Setup}
+use Rattle.attempt.specs.Status.{Due, status, taken}
+use Rattle.attempt.specs.NextCall.{next_call, says_for}
+use Rattle.cluster.specs.OneDisk.{dones, opened, promised, heard_at, setup_in, only, IsWriting, HasOpened, HasPromised, IsKeptAt, IsKept, heard_in, heard_of, FitsStage, IsEnd}
 use Rattle.cluster.proofs.Statuses.{next_promising, next_checking, next_voting, next_confirming, write_one, write_two, dropped, bad_last, taken_after, due_promising, due_checking, due_voting, due_confirming}
 
 -- what a call needs does not go by which call is due
@@ -165,7 +170,7 @@ module _ (a : Attempt) where
 
 -- WHICH ANSWERS FIT
 
-fits_writing : (call : WriteCall) (w : Write128) (boot : ℕ) (heard_now : code.Heard) → FitsCall (call_of call w boot) heard_now → (FitsStage stage.Promising heard_now × FitsStage stage.Voting heard_now)
+fits_writing : (call : WriteCall) (w : Write128) (boot : ℕ) (heard_now : code.Heard) → history.Fits (call_of call w boot) (heard_of heard_now) → (FitsStage stage.Promising heard_now × FitsStage stage.Voting heard_now)
 fits_writing call w boot (answer.Fault fault) fits = (tt, tt)
 fits_writing call w boot answer.Done fits = (tt, tt)
 fits_writing CloseGate w boot (answer.Booted b) fits = absurd fits
@@ -181,19 +186,19 @@ fits_writing SyncBody w boot (answer.Told row) fits = absurd fits
 fits_writing OpenGate w boot (answer.Told row) fits = absurd fits
 fits_writing SyncOpened w boot (answer.Told row) fits = absurd fits
 
-fits_attaching : (heard_now : code.Heard) → FitsCall device.Attach heard_now → FitsStage stage.Attaching heard_now
+fits_attaching : (heard_now : code.Heard) → history.Fits device.Attach (heard_of heard_now) → FitsStage stage.Attaching heard_now
 fits_attaching (answer.Fault fault) fits = tt
 fits_attaching (answer.Booted boot) fits = tt
 fits_attaching answer.Done fits = absurd fits
 fits_attaching (answer.Told row) fits = absurd fits
 
-fits_syncing : (boot : ℕ) (heard_now : code.Heard) → FitsCall (device.Sync boot) heard_now → FitsStage stage.Syncing heard_now
+fits_syncing : (boot : ℕ) (heard_now : code.Heard) → history.Fits (device.Sync boot) (heard_of heard_now) → FitsStage stage.Syncing heard_now
 fits_syncing boot (answer.Fault fault) fits = tt
 fits_syncing boot (answer.Booted b) fits = absurd fits
 fits_syncing boot answer.Done fits = tt
 fits_syncing boot (answer.Told row) fits = absurd fits
 
-fits_reading : (boot at len : ℕ) (heard_now : code.Heard) → FitsCall (device.Read boot at len) heard_now → FitsStage stage.Reading heard_now × FitsStage stage.Checking heard_now × FitsStage stage.Confirming heard_now
+fits_reading : (boot at len : ℕ) (heard_now : code.Heard) → history.Fits (device.Read boot at len) (heard_of heard_now) → FitsStage stage.Reading heard_now × FitsStage stage.Checking heard_now × FitsStage stage.Confirming heard_now
 fits_reading boot at len (answer.Fault fault) fits = (tt, tt, tt)
 fits_reading boot at len (answer.Booted b) fits = absurd fits
 fits_reading boot at len answer.Done fits = absurd fits

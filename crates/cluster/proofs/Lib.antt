@@ -1,5 +1,4 @@
 pub mod Agreements
-pub mod Ballots
 pub mod Kept
 pub mod OneDisk
 pub mod Runs

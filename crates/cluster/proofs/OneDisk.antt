@@ -1,6 +1,6 @@
 -- With one disk, a list of answers is what disk 0 has answered.
 use Rattle.std.proofs.Common.{◌≡◌, ◌==◌, ℕ, Bool, true, false, List, [], ◌∷◌, if◌then◌else◌, refl, ◌∙◌, ap}
-use Rattle.cluster.specs.Attempt.{Heard, on}
+use Rattle.attempt.specs.Answers.{Heard, on}
 use Rattle.cluster.specs.OneDisk.{only}
 use Rattle.cluster.specs.Seat.{on_first}
 

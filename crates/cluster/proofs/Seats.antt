@@ -5,13 +5,17 @@ use Rattle.disk.specs.Disk as device
 use Rattle.lock_command.specs.declared.command.Command.{Command}
 use Rattle.lock_command.specs.Command.{spelling}
 use Rattle.lock_command.specs.Reading.{decoded}
-use Rattle.cluster.specs.declared.attempt.Attempt.{Attempt}
-use Rattle.cluster.specs.declared.attempt.Ended as ends
-use Rattle.cluster.specs.declared.attempt.Heard as answers
+use Rattle.cluster.specs.declared.one_disk.Attempt.{Attempt}
+use Rattle.cluster.specs.declared.one_disk.Ended as ends
+use Rattle.cluster.specs.declared.one_disk.Heard as answers
 use Rattle.cluster.specs.declared.submission.Submission.{Submission}
 use Rattle.cluster.specs.Shape.{Shape}
 use Rattle.cluster.specs.Fits.{Fits}
-use Rattle.cluster.specs.Attempt.{Phase, Heard, Answered, Setup, Answers, Due, End, Committed, Empty, Outrun, NoMajority, BallotsSpent, on, status, taken, next_call}
+use Rattle.attempt.specs.Calls.{Phase}
+use Rattle.attempt.specs.Answers.{Heard, Answered, Answers, on}
+use Rattle.attempt.specs.Setup.{Setup}
+use Rattle.attempt.specs.Status.{Due, End, Committed, Empty, Outrun, NoMajority, BallotsSpent, status, taken}
+use Rattle.attempt.specs.NextCall.{next_call}
 use Rattle.cluster.specs.Host.{Memory, Doing, next_in, next_doing, setup_of, hears, goes_by, by_status, does, ended, takes, after_learning, with_floor}
 use Rattle.cluster.specs.OneDisk.{only, heard_in, setup_in, end_of, IsEnd, GoesOn}
 use Rattle.cluster.specs.Seat.{on_first, doing_in, IsDoing, IsUnderWay}

@@ -11,7 +11,13 @@ use Rattle.torn_block.specs.Stage.{Write128, call_of}
 use Rattle.paxos_block.specs.Places.{place_of, VoteOf, row_place}
 use Rattle.paxos_block.specs.Row.{SeenBlock, seen_at}
 use Rattle.paxos_block.specs.Saying.{body_saying}
-use Rattle.cluster.specs.Attempt.{Opening, One, Two, Heard, Booted, Done, Setup, Due, Ended, Committed, Outrun, NoMajority, BallotsSpent, status, ballot, proposal, others_mbal, taken, all_good, waits, takes_part, is_stuck, is_bad, says_for, next_in, next_call}
+use Rattle.attempt.specs.Calls.{Opening, One, Two}
+use Rattle.attempt.specs.Answers.{Heard, Booted, Done, all_good, is_bad}
+use Rattle.attempt.specs.Setup.{Setup}
+use Rattle.attempt.specs.Visits.{waits, takes_part, is_stuck}
+use Rattle.attempt.specs.Proposal.{ballot, proposal, others_mbal}
+use Rattle.attempt.specs.Status.{Due, Ended, Committed, Outrun, NoMajority, BallotsSpent, status, taken}
+use Rattle.attempt.specs.NextCall.{says_for, next_in, next_call}
 use Rattle.cluster.specs.OneDisk.{dones, opened, promised, only}
 
 -- nothing is below zero

@@ -1,6 +1,6 @@
 -- What an attempt keeps when a row comes in, or a call of a write succeeded.
 use Rattle.std.proofs.Common.{◌≡◌, ◌<◌, ◌≤◌, ℕ, true, false, List, [], ◌∷◌, ◌++◌, max, nat_lt, nat_le, Option, Some, None, refl, sym, ◌∙◌, ap, subst, arith}
-use Rattle.std.specs.Prelude.{unwrap_or, if◌then◌else◌, ◌==◌}
+use Rattle.std.specs.Prelude.{unwrap_or}
 use Rattle.std.specs.Option.{IsSomeAnd}
 use Rattle.std.proofs.lemmas.Bool.Decides.{nat_tests}
 use Rattle.torn_block.specs.declared.layout.TheConstants.{HOSTS, LAST_SEQUENCE}
@@ -13,20 +13,23 @@ use Rattle.paxos_block.specs.declared.block.PBlock.{PBlock}
 use Rattle.paxos_block.specs.declared.cell.Cell.{Cell}
 use Rattle.paxos_block.specs.declared.row.Row.{Row}
 use Rattle.paxos_block.specs.Ballot.{IsBallotOf}
-use Rattle.paxos_block.specs.Row.{SeenBlock, seen_at, row_said, IsSeenAs, AreSeenAs}
+use Rattle.paxos_block.specs.Row.{SeenBlock, seen_at, row_said, IsSeenAs, AreSeenAs, blank}
 use Rattle.paxos_block.specs.Saying.{MaySay, body_saying}
+use Rattle.paxos_block.specs.Votes.{says_in, top_of, others_top_of, later_of, latest_in, ballot_above}
 use Rattle.paxos_block.proofs.RowLemmas.{said_is_said}
-use Rattle.cluster.specs.declared.attempt.Attempt.{Attempt}
-use Rattle.cluster.specs.declared.attempt.Stage.{Stage}
-use Rattle.cluster.specs.declared.attempt.Stage.TheVariants as stage
-use Rattle.cluster.specs.declared.attempt.Heard.TheVariants as answer
+use Rattle.paxos_block.proofs.VoteLemmas.{above, greatest_is_greatest, vote_at, vote_in, later_vote, may_promise, unspent}
+use Rattle.cluster.specs.declared.one_disk.Attempt.{Attempt}
+use Rattle.cluster.specs.declared.one_disk.Stage.{Stage}
+use Rattle.cluster.specs.declared.one_disk.Stage.TheVariants as stage
+use Rattle.cluster.specs.declared.one_disk.Heard.TheVariants as answer
 use Rattle.disk.specs.declared.boot.Boot.{Boot}
-use Rattle.cluster.specs.declared.attempt.End.TheVariants as end
-use Rattle.cluster.specs.declared.rows.Best.{Best}
-use Rattle.cluster.specs.Attempt.{One, Two, Heard, Booted, Done, Told, Answers, taken, ballot, own, proposal, others_mbal, says_in, says_for, ballot_above, no_input, later_of, best_below, or_else, some_value, Ended, Outrun}
-use Rattle.cluster.specs.Numbers.{greatest}
+use Rattle.cluster.specs.declared.one_disk.End.TheVariants as end
+use Rattle.attempt.specs.Calls.{One, Two}
+use Rattle.attempt.specs.Answers.{Heard, Booted, Done, Told, Answers}
+use Rattle.attempt.specs.Proposal.{ballot, own, proposal, others_mbal, or_else}
+use Rattle.attempt.specs.Status.{taken, Ended, Outrun}
+use Rattle.attempt.specs.NextCall.{says_for, some_value}
 use Rattle.cluster.specs.OneDisk.{dones, opened, promised, heard_at, heard_in, setup_in, only, IsWriting, HasOpened, HasPromised, IsKeptAt, IsKept, IsEnd, GoesOn, IsReadAfter, ReadsAs, FitsStage}
-use Rattle.cluster.proofs.Ballots.{above, is_ballot, greatest_is_greatest, may_promise, unspent}
 use Rattle.cluster.proofs.Statuses.{spent_again, outrun_two, committed}
 use Rattle.cluster.proofs.Kept.{took_first, told_both}
 
@@ -161,25 +164,23 @@ module _ (a : Attempt) (bytes : List ℕ) (row : Row) (reads : ReadsAs bytes row
   abbrev seen : List SeenBlock
   seen = reads.seen
 
-  module _ (top most b : ℕ) (top_is : top ≡ greatest HOSTS (λ g. (says_in reads.seen g).mbal)) (most_is : most ≡ max a.floor top) (b_is : b ≡ ballot_above a.host most) (fits : nat_lt LAST_BALLOT b ≡ false) (o : Best) (o_is : o ≡ later_of no_input cell.says) where
+  module _ (top most b : ℕ) (top_is : top ≡ top_of reads.seen) (most_is : most ≡ max a.floor top) (b_is : b ≡ ballot_above a.host most) (is_own : IsBallotOf a.host b) (o : PBlock) (o_is : o ≡ later_of blank cell.says) where
     ballot_by : b ≡ ballot (setup_in a) (only (opened 0 (Some seen) []))
-    ballot_by = b_is ∙ ap (ballot_above a.host) (most_is ∙ ap (max a.floor) (top_is ∙ sym (max_zero (greatest HOSTS (λ g. (says_in reads.seen g).mbal)))))
+    ballot_by = b_is ∙ ap (ballot_above a.host) (most_is ∙ ap (max a.floor) (top_is ∙ sym (max_zero (top_of reads.seen))))
 
     own_by : o ≡ own (setup_in a) (only (opened 0 (Some seen) []))
-    own_by = o_is ∙ ap (later_of no_input) shows.says
-
-    ballot_fits : nat_lt LAST_BALLOT (ballot_above a.host most) ≡ false
-    ballot_fits = ap (nat_lt LAST_BALLOT) (sym b_is) ∙ fits
+    own_by = o_is ∙ ap (later_of blank) shows.says
 
     pub opening_promise : MaySay a.host (record { mbal = b; bal = o.bal; inp = o.inp })
     opening_promise =
         let says = says_in reads.seen a.host in
-        let is : IsBallotOf a.host b = subst (IsBallotOf a.host) (sym b_is) (is_ballot a.host most kept.is_host ballot_fits) in
         let below = greatest_is_greatest HOSTS (λ g. (says_in reads.seen g).mbal) a.host kept.is_host in
         let high = above a.host most in
         let under : says.mbal ≤ b = omega (arith, below, high, top_is, most_is, b_is) in
-        subst (λ (x : Best). MaySay a.host (record { mbal = b; bal = x.bal; inp = x.inp })) (sym own_by)
-        (may_promise a.host b (value_of (seen_at reads.seen a.host).bytes) says is under (said_is_said bytes reads.seen a.host kept.is_host reads.said))
+        let said = vote_in a.host (value_of (seen_at reads.seen a.host).bytes) says (said_is_said bytes reads.seen a.host kept.is_host reads.said) in
+        let vote = vote_at a.host says.mbal b says.bal says.inp under said in
+        subst (λ (x : PBlock). MaySay a.host (record { mbal = b; bal = x.bal; inp = x.inp })) (sym own_by)
+        (may_promise a.host b (later_of blank says) is_own (later_vote a.host b blank says refl vote))
 
     module _ (steps : Plan) (steps_is : steps ≡ plan_by cell.block (body_saying (record { mbal = b; bal = o.bal; inp = o.inp }))) (room : next_sequence_at (told_value cell.block) ≤ LAST_SEQUENCE) where
       abbrev opens : Attempt
@@ -195,7 +196,7 @@ module _ (a : Attempt) (bytes : List ℕ) (row : Row) (reads : ReadsAs bytes row
               is_host = kept.is_host;
               so = (
                 reads.seen,
-                record { said = reads.said; ballot_is = ballot_by; own_is = own_by; unspent = ap (nat_lt LAST_BALLOT) (sym ballot_by) ∙ fits },
+                record { said = reads.said; ballot_is = ballot_by; own_is = own_by; unspent = ap (nat_lt LAST_BALLOT) (sym ballot_by) ∙ not_less LAST_BALLOT b is_own.within },
                 record {
                   call = CloseGate;
                   read = cell.block;
@@ -224,7 +225,7 @@ module _ (a : Attempt) (bytes : List ℕ) (row : Row) (reads : ReadsAs bytes row
   heard_then : List Heard
   heard_then = opened a.boot.number (row_said a.opening) (promised (Some reads.seen) [])
 
-  module _ (others : ℕ) (others_is : others ≡ greatest HOSTS (λ g. if g == a.host then 0 else (says_in reads.seen g).mbal)) (ahead : others ≤ a.ballot) (best : Best) (best_is : best ≡ best_below a.host reads.seen HOSTS a.own) (v : List ℕ) (v_is : v ≡ unwrap_or best.inp a.input) where
+  module _ (others : ℕ) (others_is : others ≡ others_top_of a.host reads.seen) (ahead : others ≤ a.ballot) (best : PBlock) (best_is : best ≡ latest_in a.host reads.seen a.own) (v : List ℕ) (v_is : v ≡ unwrap_or best.inp a.input) where
     abbrev first : List SeenBlock
     first = checking.0
 
@@ -233,8 +234,8 @@ module _ (a : Attempt) (bytes : List ℕ) (row : Row) (reads : ReadsAs bytes row
 
     wanted_by : proposal (setup_in a) both ≡ Some v
     wanted_by =
-        ap (λ (o : Best). or_else (best_below a.host reads.seen HOSTS o).inp (Some a.input)) (sym checking.1.own_is)
-        ∙ ap (λ (o : Best). or_else o.inp (Some a.input)) (sym best_is)
+        ap (λ (o : PBlock). or_else (latest_in a.host reads.seen o).inp (Some a.input)) (sym checking.1.own_is)
+        ∙ ap (λ (o : PBlock). or_else o.inp (Some a.input)) (sym best_is)
         ∙ or_input best.inp a.input
         ∙ ap Some (sym v_is)
 
@@ -244,7 +245,7 @@ module _ (a : Attempt) (bytes : List ℕ) (row : Row) (reads : ReadsAs bytes row
     others_by : nat_lt (ballot (setup_in a) (only (opened 0 (Some checking.0) []))) (others_mbal (setup_in a) One both) ≡ false
     others_by =
         ap (λ (b : ℕ). nat_lt b (others_mbal (setup_in a) One both)) (sym checking.1.ballot_is)
-        ∙ ap (nat_lt a.ballot) (max_zero (greatest HOSTS (λ g. if g == a.host then 0 else (says_in reads.seen g).mbal)) ∙ sym others_is)
+        ∙ ap (nat_lt a.ballot) (max_zero (others_top_of a.host reads.seen) ∙ sym others_is)
         ∙ not_less a.ballot others ahead
 
     -- the write is due to a spent block
@@ -293,7 +294,7 @@ module _ (a : Attempt) (bytes : List ℕ) (row : Row) (reads : ReadsAs bytes row
 
 -- THE ROW OF PHASE 2
 
-module _ (a : Attempt) (bytes : List ℕ) (row : Row) (reads : ReadsAs bytes row) (kept : IsKept a) (is : a.stage ≡ stage.Confirming) (others : ℕ) (others_is : others ≡ greatest HOSTS (λ g. if g == a.host then 0 else (says_in reads.seen g).mbal)) where
+module _ (a : Attempt) (bytes : List ℕ) (row : Row) (reads : ReadsAs bytes row) (kept : IsKept a) (is : a.stage ≡ stage.Confirming) (others : ℕ) (others_is : others ≡ others_top_of a.host reads.seen) where
   confirming : IsKeptAt stage.Confirming a
   confirming = subst (λ (x : Stage). IsKeptAt x a) is kept.so
 
@@ -307,7 +308,7 @@ module _ (a : Attempt) (bytes : List ℕ) (row : Row) (reads : ReadsAs bytes row
   mbals = others_mbal (setup_in a) Two (only (opened 0 (Some confirming.0) (promised (Some confirming.1) (promised (Some reads.seen) []))))
 
   others_two : others ≡ others_mbal (setup_in a) Two (only (opened 0 (Some confirming.0) (promised (Some confirming.1) (promised (Some reads.seen) []))))
-  others_two = others_is ∙ sym (max_zero (greatest HOSTS (λ g. if g == a.host then 0 else (says_in reads.seen g).mbal)))
+  others_two = others_is ∙ sym (max_zero (others_top_of a.host reads.seen))
 
   took : taken (setup_in a) (only (all third)) ≡ a.ballot
   took =

@@ -8,7 +8,7 @@ use Rattle.cluster.specs.declared.entry.Entry.{Entry}
 use Rattle.cluster.specs.declared.entry.Entry.TheVariants as entries
 use Rattle.cluster.specs.declared.entry.CallKind.{CallKind}
 use Rattle.cluster.specs.declared.entry.CallKind.TheVariants as kinds
-use Rattle.cluster.specs.Attempt.{heard_as}
+use Rattle.attempt.specs.Answers.{heard_as}
 use Rattle.cluster.specs.Shape.{Shape}
 use Rattle.cluster.specs.Host.{Host, Stopped, Running, fresh, goes_on, hears}
 

@@ -1,19 +1,11 @@
 -- Which answers a call may get.
 use Rattle.std.specs.Prelude.{ℕ, Option, Some, None}
 use Rattle.disk.specs.Disk as device
-use Rattle.cluster.specs.declared.attempt.Heard as code
-use Rattle.cluster.specs.declared.attempt.Heard.TheVariants as answer
+use Rattle.attempt.specs.History as history
+use Rattle.cluster.specs.declared.one_disk.Heard as code
+use Rattle.cluster.specs.OneDisk.{heard_of}
 
--- an answer of the kind that the call may get
-abbrev pub FitsCall : device.Call → code.Heard → Type 0
-FitsCall call (answer.Fault fault) = Unit {0}
-FitsCall device.Attach (answer.Booted boot) = Unit {0}
-FitsCall (device.Read boot at len) (answer.Told row) = Unit {0}
-FitsCall (device.Write boot at from) answer.Done = Unit {0}
-FitsCall (device.Sync boot) answer.Done = Unit {0}
-FitsCall call other = ⊥
-
--- a call is due, and the answer fits it
+-- a call is due, and the answer is of the kind that it may get
 abbrev pub Fits : Option (ℕ × device.Call) → code.Heard → Type 0
 Fits None heard = ⊥
-Fits (Some next) heard = FitsCall next.1 heard
+Fits (Some next) heard = history.Fits next.1 (heard_of heard)

@@ -10,8 +10,10 @@ use Rattle.cluster.specs.Shape.{Shape}
 use Rattle.cluster.specs.declared.answer.HostAnswer.{HostAnswer}
 use Rattle.cluster.specs.declared.answer.HostAnswer.TheVariants.{Ack, Refused}
 use Rattle.cluster.specs.declared.answer.Refusal.TheVariants as refusal
-use Rattle.cluster.specs.Attempt as attempt
-use Rattle.cluster.specs.Attempt.{Answered, Setup, Status, Due, Ended, End, on, status, next_call, taken, heard_as}
+use Rattle.attempt.specs.Answers.{Answered, on}
+use Rattle.attempt.specs.Setup.{Setup}
+use Rattle.attempt.specs.Status.{Status, Due, Ended, End, Committed, Empty, Outrun, NoMajority, BallotsSpent, status, taken}
+use Rattle.attempt.specs.NextCall.{next_call}
 
 -- COMMANDS
 
@@ -81,11 +83,11 @@ tries_again c m t = if nat_le t.tries 1 then says m (Refused refusal.Outrun) els
 
 -- an attempt has ended; with an input it never ends empty
 abbrev pub ended : Shape → Memory → Doing → End → Memory
-ended c m t (attempt.Committed value) = takes c m t value (decoded value)
-ended c m t attempt.Empty = m
-ended c m t (attempt.Outrun mbal) = tries_again c (with_floor m mbal) t
-ended c m t attempt.NoMajority = says m (Refused refusal.NoMajority)
-ended c m t attempt.BallotsSpent = says m (Refused refusal.BallotsSpent)
+ended c m t (Committed value) = takes c m t value (decoded value)
+ended c m t Empty = m
+ended c m t (Outrun mbal) = tries_again c (with_floor m mbal) t
+ended c m t NoMajority = says m (Refused refusal.NoMajority)
+ended c m t BallotsSpent = says m (Refused refusal.BallotsSpent)
 
 abbrev pub by_status : Shape → Memory → Doing → ℕ → Status → Memory
 by_status c m t ballot (Due phase disk) = does m t

@@ -1,12 +1,10 @@
 pub mod Agreement
-pub mod Attempt
 pub mod Book
 pub mod Calls
 pub mod Entry
 pub mod Fits
 pub mod Host
 pub mod Journal
-pub mod Numbers
 pub mod OneDisk
 pub mod Ready
 pub mod Seat

@@ -10,18 +10,23 @@ use Rattle.paxos_block.specs.declared.ballot.TheConstants.{LAST_BALLOT}
 use Rattle.paxos_block.specs.declared.row.Row.{Row}
 use Rattle.paxos_block.specs.Row.{SeenBlock, seen_at, row_said, AreSeenAs}
 use Rattle.paxos_block.specs.Saying.{body_saying}
-use Rattle.cluster.specs.declared.attempt.Attempt.{Attempt}
-use Rattle.cluster.specs.declared.attempt.Stage.{Stage}
-use Rattle.cluster.specs.declared.attempt.Stage.TheVariants as stage
-use Rattle.cluster.specs.declared.attempt.Heard as code
-use Rattle.cluster.specs.declared.attempt.Heard.TheVariants as answer
-use Rattle.cluster.specs.declared.attempt.Need as code_need
-use Rattle.cluster.specs.declared.attempt.Need.TheVariants as need
-use Rattle.cluster.specs.declared.attempt.End as code_end
-use Rattle.cluster.specs.declared.attempt.End.TheVariants as end
-use Rattle.cluster.specs.declared.attempt.Ended.{Ended}
-use Rattle.cluster.specs.Attempt.{Phase, Opening, One, Two, Heard, Booted, Done, Told, Fault, Setup, Answers, End, Committed, Outrun, NoMajority, BallotsSpent, ballot, own, proposal, others_mbal, says_for, status, taken}
-use Rattle.cluster.specs.Attempt as attempts
+use Rattle.cluster.specs.declared.one_disk.Attempt.{Attempt}
+use Rattle.cluster.specs.declared.one_disk.Stage.{Stage}
+use Rattle.cluster.specs.declared.one_disk.Stage.TheVariants as stage
+use Rattle.cluster.specs.declared.one_disk.Heard as code
+use Rattle.cluster.specs.declared.one_disk.Heard.TheVariants as answer
+use Rattle.cluster.specs.declared.one_disk.Need as code_need
+use Rattle.cluster.specs.declared.one_disk.Need.TheVariants as need
+use Rattle.cluster.specs.declared.one_disk.End as code_end
+use Rattle.cluster.specs.declared.one_disk.End.TheVariants as end
+use Rattle.cluster.specs.declared.one_disk.Ended.{Ended}
+use Rattle.attempt.specs.Calls.{Phase, One, Two}
+use Rattle.attempt.specs.Answers.{Heard, Booted, Done, Told, Fault, Answers}
+use Rattle.attempt.specs.Setup.{Setup}
+use Rattle.attempt.specs.Proposal.{ballot, own, proposal, others_mbal}
+use Rattle.attempt.specs.Status.{End, Committed, Outrun, NoMajority, BallotsSpent, status, taken}
+use Rattle.attempt.specs.NextCall.{says_for}
+use Rattle.attempt.specs.Status as attempts
 
 -- WHAT WAS HEARD
 

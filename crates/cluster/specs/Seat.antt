@@ -1,10 +1,10 @@
 -- A host's seat as contracts see it, and how it lies in its fields.
 use Rattle.std.specs.Prelude.{◌≡◌, ◌<◌, ◌≤◌, ℕ, List, [], map, length, Option, Some, None}
 use Rattle.cluster.specs.declared.answer.Receipt.{Receipt}
-use Rattle.cluster.specs.declared.attempt.Attempt.{Attempt}
+use Rattle.cluster.specs.declared.one_disk.Attempt.{Attempt}
 use Rattle.cluster.specs.declared.submission.Submission.{Submission}
 use Rattle.cluster.specs.Shape.{Shape}
-use Rattle.cluster.specs.Attempt.{Heard, Answered}
+use Rattle.attempt.specs.Answers.{Heard, Answered}
 use Rattle.cluster.specs.OneDisk.{heard_in, setup_in, IsKept}
 use Rattle.cluster.specs.Host.{Doing, Memory, setup_of}
 

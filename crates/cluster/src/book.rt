@@ -5,7 +5,7 @@ ghost use Rattle.cluster.specs.Book.{answer_in};
 ghost use Rattle.cluster.specs.Host.{is_idle};
 ghost use Rattle.cluster.specs.declared.entry.Entry.{Entry};
 
-use crate::attempt::Need;
+use crate::one_disk::Need;
 use crate::seat::HostSeat;
 use crate::touched::{Outcome, Touched};
 use disk::Disk;

@@ -2,14 +2,13 @@
 #![tactic(auto)]
 
 mod answer;
-mod attempt;
 mod book;
 mod config;
 mod entry;
 mod fault;
 mod journal;
+mod one_disk;
 mod push;
-mod rows;
 mod seat;
 mod steps;
 mod submission;

@@ -4,8 +4,8 @@ ghost use Rattle.cluster.specs.declared.answer.HostAnswer.TheVariants as said;
 
 use crate::HostFault;
 use crate::answer::{HostAnswer, Receipt, Refusal};
-use crate::attempt::{Attempt, End, Ended, Heard, Need};
 use crate::config::Config;
+use crate::one_disk::{Attempt, End, Ended, Heard, Need};
 use crate::push::push;
 use crate::submission::Submission;
 use lock_command::{Command, HostNumber, decode};
@@ -88,7 +88,7 @@ impl HostSeat {
 
 impl HostSeat {
     ghost use Rattle.paxos_block.specs.Places.{image_length};
-    ghost use Rattle.cluster.specs.Attempt.{Answered};
+    ghost use Rattle.attempt.specs.Answers.{Answered};
     ghost use Rattle.cluster.specs.Calls.{LiesWithin};
     ghost use Rattle.cluster.specs.OneDisk.{call_of_need, heard_of, FitsStage};
     ghost use Rattle.cluster.specs.Fits.{Fits};

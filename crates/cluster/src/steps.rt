@@ -2,7 +2,7 @@ ghost use Rattle.std.specs.Prelude.{◌≡◌, ◌≤◌, ◌<◌, ◌+◌, ◌-
 ghost use Rattle.disk.specs.Simulated.{fresh_disk};
 ghost use Rattle.paxos_block.specs.Places.{image_length};
 ghost use Rattle.cluster.specs.Agreement.{Agree, AddsNext, Begins};
-ghost use Rattle.cluster.specs.Attempt.{heard_as};
+ghost use Rattle.attempt.specs.Answers.{heard_as};
 ghost use Rattle.cluster.specs.Book.{BookState, answer_in};
 ghost use Rattle.cluster.specs.Host.{fresh, hears, is_idle};
 ghost use Rattle.cluster.specs.World.{receipt_by};

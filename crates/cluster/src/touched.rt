@@ -1,12 +1,12 @@
 ghost use Rattle.std.specs.Prelude.{◌≡◌, List, ℕ, IfErr, OnOk, Some, None};
 ghost use Rattle.disk.specs.Disk.{DiskState, Call, Step};
-ghost use Rattle.cluster.specs.Attempt.{heard_as};
+ghost use Rattle.attempt.specs.Answers.{heard_as};
+ghost use Rattle.attempt.specs.History.{Fits};
 ghost use Rattle.cluster.specs.Book.{answer_in};
 ghost use Rattle.cluster.specs.Entry.{fault_in};
-ghost use Rattle.cluster.specs.Fits.{FitsCall};
 ghost use Rattle.cluster.specs.OneDisk.{heard_of};
 
-use crate::attempt::Heard;
+use crate::one_disk::Heard;
 use disk::{Boot, DiskFault};
 use torn_block::ROW_LENGTH;
 
@@ -44,7 +44,7 @@ impl Outcome {
     // What the host hears.
     pub(crate) fn heard<'a>(&self, row: &'a [u8; ROW_LENGTH]) -> Heard<'a>
         ensures same { heard_of result ≡ heard_as (answer_in self.now row.now) }
-        ensures fits { (old new : DiskState) (call : Call) → Step old call (answer_in self.now row.now) new → FitsCall call result }
+        ensures fits { (old new : DiskState) (call : Call) → Step old call (answer_in self.now row.now) new → Fits call (heard_of result) }
     {
         match self {
             Outcome::Booted(boot) => Heard::Booted(*boot),

@@ -1,5 +1,5 @@
 -- The ballot that a host takes, and what it may say at it.
-use Rattle.std.proofs.Common.{◌≡◌, ◌+◌, ◌<◌, ◌≤◌, ◌^◌, ℕ, zero, suc, Bool, true, false, List, max, nat_lt, nat_le, Option, Some, None, refl, sym, ap, subst, inl, inr, arith, ◌∙◌}
+use Rattle.std.proofs.Common.{◌≡◌, ◌+◌, ◌<◌, ◌≤◌, ℕ, zero, suc, Bool, true, false, List, nat_lt, nat_le, Option, Some, None, refl, sym, ap, subst, inl, inr, arith}
 use Rattle.std.proofs.lemmas.Bool.Decides.{nat_tests}
 use Rattle.std.proofs.lemmas.Bool.{cases_lt}
 use Rattle.torn_block.specs.declared.layout.TheConstants.{HOSTS, LAST_SEQUENCE}
@@ -7,7 +7,7 @@ use Rattle.torn_block.specs.Block.{next_sequence_at}
 use Rattle.paxos_block.specs.declared.ballot.TheConstants.{LAST_BALLOT}
 use Rattle.paxos_block.specs.declared.block.PBlock.{PBlock}
 use Rattle.paxos_block.specs.Ballot.{owner_of, IsBallotOf}
-use Rattle.paxos_block.specs.Row.{IsSaid, blank, sequence_in}
+use Rattle.paxos_block.specs.Row.{IsSaid, sequence_in}
 use Rattle.paxos_block.specs.Saying.{IsVoteOf, MaySay}
 use Rattle.paxos_block.specs.Votes.{ballot_above, greatest, later_of}
 

@@ -30,11 +30,11 @@ impl Row {
     pub fn greatest_mbal(&self) -> u64
         ensures { (seen : List SeenBlock) → AreSeenAs seen self.now → result ≡ top_of seen }
     {
-        let mut top = 0;
+        let mut greatest = 0;
         for g in 0..HOSTS {
-            top = top.max(self.cells[g].says.mbal);
+            greatest = greatest.max(self.cells[g].says.mbal);
         }
-        top
+        greatest
     }
 
     /// The greatest mbal of all hosts but this one.
@@ -43,9 +43,9 @@ impl Row {
             result ≡ others_top_of host seen }
     {
         let mut top = 0;
-        for g in 0..HOSTS {
-            if g != usize::from(host) {
-                top = top.max(self.cells[g].says.mbal);
+        for other in 0..HOSTS {
+            if other != usize::from(host) {
+                top = top.max(self.cells[other].says.mbal);
             }
         }
         top

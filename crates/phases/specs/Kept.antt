@@ -114,6 +114,12 @@ pub record IsSound (n : Notes) : Type 0 where
   pub few : n.disks ≤ DISKS
   pub said : SaysWell n.phase n
 
+-- it is of the same host, slot and disks
+pub record IsSameAttempt (old new : Notes) : Type 0 where
+  pub host : new.host ≡ old.host
+  pub slot : new.slot ≡ old.slot
+  pub disks : new.disks ≡ old.disks
+
 -- WHAT FOLLOWS FROM THE ANSWERS
 
 -- what is kept of a disk is what it answered: its boot number, and the own block in the row read last
@@ -149,6 +155,7 @@ Writes other n = Unit {0}
 
 -- a call is due on the disk that is visited
 pub record IsVisiting (s : Setup) (f : Answers) (n : Notes) : Type 0 where
+  pub rows : KeepsRows s f n
   pub status : status s f ≡ Due (phase_of n) n.disk
   pub suits : Suits n.phase n.stage
   pub answers : length (f n.disk) ≡ answered (phase_of n) n.stage n.steps.due
@@ -167,7 +174,6 @@ end_of_status (Ended end) = Some end
 
 -- what is kept follows from these answers
 pub record Follows (s : Setup) (f : Answers) (n : Notes) : Type 0 where
-  pub rows : KeepsRows s f n
   pub ballot : n.says.mbal ≡ taken s f
   pub stands : Stands s f n n.end
 

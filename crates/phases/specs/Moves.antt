@@ -1,7 +1,7 @@
 -- Between an answer and the next call: how far an attempt is with the disks of its phase.
-use Rattle.std.specs.Prelude.{◌≡◌, ◌<◌, ◌≤◌, ◌&&◌, ℕ, true, false, length, nat_le, Some}
+use Rattle.std.specs.Prelude.{◌≡◌, ◌<◌, ◌≤◌, ◌&&◌, ℕ, true, false, length, nat_le, slice_get, Some, None}
 use Rattle.attempt.specs.Calls.{Phase, Opening, One, Two, start, goal}
-use Rattle.attempt.specs.Answers.{Answers, all_good}
+use Rattle.attempt.specs.Answers.{Booted, Answers, all_good, row_in}
 use Rattle.attempt.specs.Setup.{Setup}
 use Rattle.attempt.specs.Visits.{takes_part, waits, is_left, is_left_at, are_enough}
 use Rattle.attempt.specs.Proposal.{ballot}
@@ -22,6 +22,8 @@ pub record IsInOrder (s : Setup) (p : Phase) (d : ℕ) (f : Answers) : Type 0 wh
   pub rising : (e : ℕ) → d < e → takes_part p (f e) ≡ true → length (f e) ≡ start p
   pub behind : (e : ℕ) → length (f e) ≤ goal p
   pub opened : IsOpenedIn s p f
+  pub unread : (e : ℕ) → all_good (f e) ≡ false → row_in p (f e) ≡ None
+  pub booted : (e : ℕ) → 1 ≤ length (f e) → all_good (f e) ≡ true → (boot : ℕ) × (slice_get (f e) 0 ≡ Some (Booted boot))
 
 -- the disks below `from` are done with in the phase, and those from there on still wait for it
 pub record IsPassed (s : Setup) (f : Answers) (n : Notes) (from : ℕ) : Type 0 where

@@ -1,15 +1,15 @@
 // What an attempt keeps of what it has heard, and how each answer changes it.
-ghost use Rattle.std.specs.Prelude.{◌≡◌, ◌<◌, ◌≤◌, ◌+◌, ◌*◌, ℕ, true, false, List, [], Some, None, nat_lt, is_some, slice_set};
+ghost use Rattle.std.specs.Prelude.{◌≡◌, ◌≢◌, ◌<◌, ◌≤◌, ◌+◌, ◌*◌, ℕ, true, false, List, [], Some, None, nat_lt, is_some, slice_set};
 ghost use Rattle.std.specs.Bool.{OnTrue, OnFalse};
-ghost use Rattle.torn_block.specs.declared.layout.TheConstants.{HOSTS, DISKS};
+ghost use Rattle.torn_block.specs.declared.layout.TheConstants.{HOSTS, DISKS, ROW_LENGTH};
 ghost use Rattle.attempt.specs.Answers as answers;
 ghost use Rattle.attempt.specs.Answers.{Answers, more};
 ghost use Rattle.attempt.specs.Numbers.{count};
 ghost use Rattle.attempt.specs.Setup.{Setup};
-ghost use Rattle.phases.specs.Calls.{device_call_of, heard_of};
-ghost use Rattle.phases.specs.Kept.{IsSound, Follows, FitsStage, ReadsAs, boot_in, call_due, phase_of, visit_at, write_due};
+ghost use Rattle.phases.specs.Calls.{IsWithin, device_call_of, heard_of};
+ghost use Rattle.phases.specs.Kept.{IsSound, IsSameAttempt, Follows, FitsStage, ReadsAs, boot_in, call_due, phase_of, visit_at, write_due};
 ghost use Rattle.phases.specs.Moves.{IsBegun, IsInOrder, IsOver, IsPassed};
-ghost use Rattle.paxos_block.specs.Places.{place_of, VoteOf};
+ghost use Rattle.paxos_block.specs.Places.{place_of, row_place, VoteOf};
 ghost use Rattle.paxos_block.specs.Row.{row_said};
 ghost use Rattle.attempt.specs.Calls.{Opening, One, Two};
 
@@ -17,7 +17,7 @@ use crate::end::End;
 use crate::heard::Heard;
 use crate::need::DeviceCall;
 use crate::phase::{Phase, Stage};
-use crate::visit::Visit;
+use crate::visit::{UNSEEN, Visit};
 use disk::Boot;
 use paxos_block::{
     PBlock, Row, Value, ballot_above, block_place, decode_row, encode, row_place,
@@ -63,7 +63,7 @@ impl Notes {
     {
         let mut visits = [None; PLACES];
         for disk in 0..usize::from(disks) {
-            visits[disk] = Some(Visit::NONE);
+            visits[disk] = Some(UNSEEN);
         }
         Notes {
             host,
@@ -85,7 +85,8 @@ impl Notes {
     /// The device call that is due, on the disk that is visited.
     pub fn call(&self) -> DeviceCall<'_>
         requires { IsSound self.now }
-        ensures { (self.now.disk, device_call_of result) ≡ call_due self.now }
+        ensures due { (self.now.disk, device_call_of result) ≡ call_due self.now }
+        ensures range { IsWithin (row_place self.now.slot + ROW_LENGTH) result }
     {
         let boot = self.boot();
         match self.stage {
@@ -113,8 +114,9 @@ impl Notes {
     // The call of the write that is under way.
     fn write_call(&self, boot: Boot) -> DeviceCall<'_>
         requires { IsSound self.now }
-        ensures { device_call_of result ≡
+        ensures due { device_call_of result ≡
             write_due (place_of (VoteOf self.now.slot self.now.host)) boot.number self.now.steps self.now.steps.due }
+        ensures range { IsWithin (row_place self.now.slot + ROW_LENGTH) result }
     {
         let place = block_place(u32::from(self.slot), self.host);
         match self.steps.next() {
@@ -133,6 +135,7 @@ impl Notes {
         requires going { self.old.end ≡ None }
         requires fits { FitsStage self.old.stage heard.now }
         ensures sound { IsSound self.new }
+        ensures attempt { IsSameAttempt self.old self.new }
         ensures follows { (s : Setup) (f : Answers) → IsInOrder s (phase_of self.old) self.old.disk f →
             Follows s f self.old → Follows s (more f self.old.disk (heard_of heard.now)) self.new }
     {
@@ -153,12 +156,17 @@ impl Notes {
         requires going { self.old.end ≡ None }
         requires stage { self.old.stage ≡ Stage.Attaching }
         ensures sound { IsSound self.new }
+        ensures attempt { IsSameAttempt self.old self.new }
         ensures follows { (s : Setup) (f : Answers) → IsInOrder s (phase_of self.old) self.old.disk f →
             Follows s f self.old → Follows s (more f self.old.disk (answers.Booted boot.number)) self.new }
     {
-        self.visits[usize::from(self.disk)] = Some(Visit {
+        let disk = usize::from(self.disk);
+        let Some(visit) = self.visits[disk] else {
+            return;
+        };
+        self.visits[disk] = Some(Visit {
             boot,
-            block: Visit::NONE.block,
+            block: visit.block,
         });
         self.stage = Stage::Syncing;
     }
@@ -169,16 +177,31 @@ impl Notes {
         requires going { self.old.end ≡ None }
         requires stage { FitsStage self.old.stage Heard.Done }
         ensures sound { IsSound self.new }
+        ensures attempt { IsSameAttempt self.old self.new }
         ensures follows { (s : Setup) (f : Answers) → IsInOrder s (phase_of self.old) self.old.disk f →
             Follows s f self.old → Follows s (more f self.old.disk answers.Done) self.new }
     {
         if self.stage == Stage::Writing {
-            self.steps.done();
-            if !self.steps.is_done() {
-                return;
-            }
+            self.go_on_writing();
+        } else {
+            self.stage = Stage::Reading;
         }
-        self.stage = Stage::Reading;
+    }
+
+    // A call of a write succeeded. Behind the last of them the row is read.
+    fn go_on_writing(&mut self)
+        requires sound { IsSound self.old }
+        requires going { self.old.end ≡ None }
+        requires stage { self.old.stage ≡ Stage.Writing }
+        ensures sound { IsSound self.new }
+        ensures attempt { IsSameAttempt self.old self.new }
+        ensures follows { (s : Setup) (f : Answers) → IsInOrder s (phase_of self.old) self.old.disk f →
+            Follows s f self.old → Follows s (more f self.old.disk answers.Done) self.new }
+    {
+        self.steps.done();
+        if self.steps.is_done() {
+            self.stage = Stage::Reading;
+        }
     }
 
     // A bad answer drops the disk for the rest of the attempt.
@@ -186,6 +209,7 @@ impl Notes {
         requires sound { IsSound self.old }
         requires going { self.old.end ≡ None }
         ensures sound { IsSound self.new }
+        ensures attempt { IsSameAttempt self.old self.new }
         ensures follows { (s : Setup) (f : Answers) (x : answers.Heard) → IsInOrder s (phase_of self.old) self.old.disk f →
             Follows s f self.old → answers.is_bad x ≡ true → Follows s (more f self.old.disk x) self.new }
     {
@@ -200,6 +224,7 @@ impl Notes {
         requires stage { self.old.stage ≡ Stage.Reading }
         requires row { (bytes : List ℕ) × ReadsAs bytes row.now }
         ensures sound { IsSound self.new }
+        ensures attempt { IsSameAttempt self.old self.new }
         ensures follows { (s : Setup) (f : Answers) (bytes : List ℕ) → IsInOrder s (phase_of self.old) self.old.disk f →
             Follows s f self.old → ReadsAs bytes row.now →
             Follows s (more f self.old.disk (answers.Told (row_said bytes))) self.new }
@@ -218,6 +243,7 @@ impl Notes {
         requires stage { self.old.stage ≡ Stage.Reading }
         requires row { (bytes : List ℕ) × ReadsAs bytes row.now }
         ensures sound { IsSound self.new }
+        ensures attempt { IsSameAttempt self.old self.new }
         ensures follows { (s : Setup) (f : Answers) (bytes : List ℕ) → IsInOrder s Opening self.old.disk f →
             Follows s f self.old → ReadsAs bytes row.now →
             Follows s (more f self.old.disk (answers.Told (row_said bytes))) self.new }
@@ -235,17 +261,19 @@ impl Notes {
         requires phase { self.old.phase ≡ Phase.One }
         requires stage { self.old.stage ≡ Stage.Reading }
         ensures sound { IsSound self.new }
+        ensures attempt { IsSameAttempt self.old self.new }
         ensures follows { (s : Setup) (f : Answers) (bytes : List ℕ) → IsInOrder s One self.old.disk f →
             Follows s f self.old → ReadsAs bytes row.now →
             Follows s (more f self.old.disk (answers.Told (row_said bytes))) self.new }
     {
+        let cell = row.cell(self.host);
         let others = row.others_mbal(self.host);
         if self.says.mbal < others {
             self.end = Some(End::Outrun(others));
             return;
         }
         self.best = row.latest_vote(self.host, self.best);
-        self.keep_block(&row.cell(self.host).block);
+        self.keep_block(&cell.block);
         self.go_on_promising(self.disk + 1);
     }
 
@@ -255,16 +283,18 @@ impl Notes {
         requires phase { self.old.phase ≡ Phase.Two }
         requires stage { self.old.stage ≡ Stage.Reading }
         ensures sound { IsSound self.new }
+        ensures attempt { IsSameAttempt self.old self.new }
         ensures follows { (s : Setup) (f : Answers) (bytes : List ℕ) → IsInOrder s Two self.old.disk f →
             Follows s f self.old → ReadsAs bytes row.now →
             Follows s (more f self.old.disk (answers.Told (row_said bytes))) self.new }
     {
+        let cell = row.cell(self.host);
         let others = row.others_mbal(self.host);
         if self.says.mbal < others {
             self.end = Some(End::Outrun(others));
             return;
         }
-        self.keep_block(&row.cell(self.host).block);
+        self.keep_block(&cell.block);
         self.go_on_voting(self.disk + 1);
     }
 
@@ -290,6 +320,7 @@ impl Notes {
         requires sound { IsSound self.old }
         requires going { self.old.end ≡ None }
         ensures sound { IsSound self.new }
+        ensures attempt { IsSameAttempt self.old self.new }
         ensures follows { (s : Setup) (f : Answers) → IsPassed s f self.old (self.old.disk + 1) →
             Follows s f self.new }
     {
@@ -307,6 +338,7 @@ impl Notes {
         requires phase { self.old.phase ≡ Phase.Opening }
         requires from { from ≤ self.old.disks }
         ensures sound { IsSound self.new }
+        ensures attempt { IsSameAttempt self.old self.new }
         ensures follows { (s : Setup) (f : Answers) → IsPassed s f self.old from → Follows s f self.new }
     {
         if self.is_over(from) {
@@ -320,6 +352,7 @@ impl Notes {
         requires phase { self.old.phase ≡ Phase.One }
         requires from { from ≤ self.old.disks }
         ensures sound { IsSound self.new }
+        ensures attempt { IsSameAttempt self.old self.new }
         ensures follows { (s : Setup) (f : Answers) → IsPassed s f self.old from → Follows s f self.new }
     {
         if self.is_over(from) {
@@ -333,10 +366,13 @@ impl Notes {
         requires phase { self.old.phase ≡ Phase.Two }
         requires from { from ≤ self.old.disks }
         ensures sound { IsSound self.new }
+        ensures attempt { IsSameAttempt self.old self.new }
         ensures follows { (s : Setup) (f : Answers) → IsPassed s f self.old from → Follows s f self.new }
     {
-        if self.is_over(from) {
-            self.end = self.says.inp.map(End::Committed);
+        if self.is_over(from)
+            && let Some(value) = self.says.inp
+        {
+            self.end = Some(End::Committed(value));
         }
     }
 
@@ -346,6 +382,7 @@ impl Notes {
         requires going { self.old.end ≡ None }
         requires phase { self.old.phase ≡ Phase.Opening }
         ensures sound { IsSound self.new }
+        ensures attempt { IsSameAttempt self.old self.new }
         ensures follows { (s : Setup) (f : Answers) → IsOver s f self.old → Follows s f self.new }
     {
         let Some(ballot) = ballot_above(self.host, self.highest) else {
@@ -367,6 +404,7 @@ impl Notes {
         requires going { self.old.end ≡ None }
         requires phase { self.old.phase ≡ Phase.One }
         ensures sound { IsSound self.new }
+        ensures attempt { IsSameAttempt self.old self.new }
         ensures follows { (s : Setup) (f : Answers) → IsOver s f self.old → Follows s f self.new }
     {
         let Some(value) = self.best.inp.or(self.input) else {
@@ -388,6 +426,7 @@ impl Notes {
         requires going { self.old.end ≡ None }
         requires from { from ≤ self.old.disks }
         ensures sound { IsSound self.new }
+        ensures attempt { IsSameAttempt self.old self.new }
         ensures phase { self.new.phase ≡ self.old.phase }
         ensures over { OnTrue result ((s : Setup) (f : Answers) → IsPassed s f self.old from →
             IsOver s f self.new) }
@@ -408,7 +447,8 @@ impl Notes {
         requires sound { IsSound self.old }
         requires from { from ≤ self.old.disks }
         ensures sound { IsSound self.new }
-        ensures same { (self.new.phase ≡ self.old.phase) × (self.new.end ≡ self.old.end) × (self.new.disks ≡ self.old.disks) }
+        ensures attempt { IsSameAttempt self.old self.new }
+        ensures same { (self.new.phase ≡ self.old.phase) × (self.new.end ≡ self.old.end) }
         ensures begun { OnTrue result ((s : Setup) (f : Answers) → IsPassed s f self.old from →
             IsBegun s f self.new) }
         ensures none { OnFalse result ((s : Setup) (f : Answers) → IsPassed s f self.old from →
@@ -427,26 +467,45 @@ impl Notes {
         requires sound { IsSound self.old }
         requires disk { disk < self.old.disks }
         ensures sound { IsSound self.new }
-        ensures same { (self.new.phase ≡ self.old.phase) × (self.new.end ≡ self.old.end) × (self.new.disks ≡ self.old.disks) }
+        ensures attempt { IsSameAttempt self.old self.new }
+        ensures same { (self.new.phase ≡ self.old.phase) × (self.new.end ≡ self.old.end) }
         ensures begun { OnTrue result ((s : Setup) (f : Answers) → IsPassed s f self.old disk →
             IsBegun s f self.new) }
         ensures passed { OnFalse result ((s : Setup) (f : Answers) → IsPassed s f self.old disk →
             IsPassed s f self.new (disk + 1)) }
     {
-        let Some(visit) = &self.visits[usize::from(disk)] else {
+        let Some(visit) = self.visits[usize::from(disk)] else {
             return false;
         };
-        if self.phase == Phase::Opening {
-            self.stage = Stage::Attaching;
-        } else {
-            let Ok(steps) = WriteSteps::new(&visit.block, &encode(self.host, &self.says)) else {
-                self.visits[usize::from(disk)] = None;
-                return false;
-            };
-            self.steps = steps;
-            self.stage = Stage::Writing;
+        if self.phase != Phase::Opening {
+            return self.begin_write(disk, &visit);
         }
         self.disk = disk;
+        self.stage = Stage::Attaching;
+        true
+    }
+
+    // Begins the write of the phase on a disk, or drops it where its block is spent.
+    fn begin_write(&mut self, disk: u8, visit: &Visit) -> bool
+        requires sound { IsSound self.old }
+        requires disk { disk < self.old.disks }
+        requires phase { self.old.phase ≢ Phase.Opening }
+        requires visit { visit_at self.old.visits disk ≡ Some visit.now }
+        ensures sound { IsSound self.new }
+        ensures attempt { IsSameAttempt self.old self.new }
+        ensures same { (self.new.phase ≡ self.old.phase) × (self.new.end ≡ self.old.end) }
+        ensures begun { OnTrue result ((s : Setup) (f : Answers) → IsPassed s f self.old disk →
+            IsBegun s f self.new) }
+        ensures passed { OnFalse result ((s : Setup) (f : Answers) → IsPassed s f self.old disk →
+            IsPassed s f self.new (disk + 1)) }
+    {
+        let Ok(steps) = WriteSteps::new(&visit.block, &encode(self.host, &self.says)) else {
+            self.visits[usize::from(disk)] = None;
+            return false;
+        };
+        self.disk = disk;
+        self.stage = Stage::Writing;
+        self.steps = steps;
         true
     }
 
@@ -466,6 +525,6 @@ impl Notes {
 
 // The steps of a write that is never made.
 fn no_steps() -> WriteSteps {
-    let blank = Visit::NONE.block;
+    let blank = UNSEEN.block;
     WriteSteps::new(&blank, &blank.body).unwrap()
 }

@@ -8,7 +8,7 @@ ghost use Rattle.attempt.specs.NextCall.{next_call};
 ghost use Rattle.attempt.specs.Setup.{Setup};
 ghost use Rattle.attempt.specs.Status.{status, taken};
 ghost use Rattle.phases.specs.Calls.{call_of_need, heard_of, end_in, IsWithin};
-ghost use Rattle.phases.specs.Kept.{LeadsTo, call_due, end_of_status};
+ghost use Rattle.phases.specs.Kept.{IsSameAttempt, LeadsTo, call_due, end_of_status};
 
 use crate::end::End;
 use crate::heard::Heard;
@@ -73,7 +73,7 @@ impl Attempt {
         requires fits { Fits (call_due self.old).1 (heard_of heard.now) }
         ensures leads { (s : Setup) (answers : List Answered) → LeadsTo s answers self.old →
             LeadsTo s (answers ++ record { disk = self.old.disk; heard = heard_of heard.now } ∷ []) self.new }
-        ensures same { (self.new.host ≡ self.old.host) × (self.new.slot ≡ self.old.slot) × (self.new.disks ≡ self.old.disks) }
+        ensures same { IsSameAttempt self.old self.new }
     {
         self.notes.hear(heard);
     }

@@ -8,17 +8,15 @@ pub struct Visit {
     pub block: Block128,
 }
 
-impl Visit {
-    /// Of a disk that has answered nothing.
-    pub const NONE: Visit = Visit {
-        boot: Boot { number: 0 },
-        block: Block128 {
-            current: None,
-            sequence: 0,
-            body: Body {
-                bytes: [0; BODY_LENGTH],
-            },
-            next_is_open: false,
+/// What is kept of a disk that has answered nothing.
+pub const UNSEEN: Visit = Visit {
+    boot: Boot { number: 0 },
+    block: Block128 {
+        current: None,
+        sequence: 0,
+        body: Body {
+            bytes: [0; BODY_LENGTH],
         },
-    };
-}
+        next_is_open: false,
+    },
+};

@@ -2,7 +2,7 @@ use Rattle.std.proofs.Common.{◌≡◌, ℕ, List, [], ◌∷◌, ◌++◌, len
 use Rattle.disk.specs.declared.fault.DiskFault.{DiskFault}
 use Rattle.cluster.specs.declared.entry.Entry.TheVariants as entries
 use Rattle.cluster.specs.declared.entry.CallKind.{CallKind}
-use Rattle.cluster.specs.Attempt.{Heard, heard_as}
+use Rattle.attempt.specs.Answers.{Heard, heard_as}
 use Rattle.cluster.specs.Book.{answer_in}
 use Rattle.cluster.specs.Entry.{kind_of, fault_in}
 use Rattle.cluster.specs.Host.{hears}

@@ -1,0 +1,51 @@
+// What bounds an attempt's device calls, how one ends that its disks answer, and what one has done that proposes.
+ghost use Rattle.std.specs.Prelude.{◌≡◌, ◌≢◌, ◌*◌, ◌<◌, ◌≤◌, ℕ, List, length};
+ghost use Rattle.torn_block.specs.declared.layout.TheConstants.{HOSTS};
+ghost use Rattle.attempt.specs.Calls.{Phase};
+ghost use Rattle.attempt.specs.Answers.{Answered, on};
+ghost use Rattle.attempt.specs.Setup.{Setup};
+ghost use Rattle.attempt.specs.Status.{Due, Ended, Committed, Empty, NoMajority, status};
+ghost use Rattle.attempt.specs.History.{IsHistory};
+ghost use Rattle.attempt.specs.Prepared.{Proposes, IsPrepared, IsAccepted, IsProposal, HasNoInput, AreVotes};
+ghost use Rattle.attempt.specs.Laws.{AllAnswerWell, MostAnswerWell, OthersRest, IsServed, CanEnd};
+
+/// An attempt makes at most seventeen calls a disk. Over disks that answer well it makes all of
+/// them where its proposal is chosen, ten where it finds none, and does not lack a majority.
+pub fn seventeen_calls_a_disk()
+    ensures bound { (s : Setup) (heard : List Answered) → IsHistory s heard →
+        length heard ≤ 17 * s.disks }
+    ensures going { (s : Setup) (heard : List Answered) (p : Phase) (d : ℕ) → IsHistory s heard →
+        status s (on heard) ≡ Due p d → length heard < 17 * s.disks }
+    ensures committed { (s : Setup) (heard : List Answered) (value : List ℕ) →
+        IsHistory s heard → AllAnswerWell s (on heard) →
+        status s (on heard) ≡ Ended (Committed value) → length heard ≡ 17 * s.disks }
+    ensures empty { (s : Setup) (heard : List Answered) →
+        IsHistory s heard → AllAnswerWell s (on heard) →
+        status s (on heard) ≡ Ended Empty → length heard ≡ 10 * s.disks }
+    ensures majority { (s : Setup) (heard : List Answered) → 1 ≤ s.disks →
+        IsHistory s heard → AllAnswerWell s (on heard) →
+        status s (on heard) ≢ Ended NoMajority }
+{}
+
+/// Where the other hosts leave the slot alone, and most disks answer well, an attempt is served.
+/// Some history where they do, and all disks answer well, comes to an end.
+pub fn alone_answered()
+    ensures served { (s : Setup) (heard : List Answered) → IsHistory s heard →
+        OthersRest s (on heard) → MostAnswerWell s (on heard) →
+        IsServed s heard (status s (on heard)) }
+    ensures possible { (s : Setup) → CanEnd s }
+{}
+
+/// An attempt that proposes has its ballot and its latest vote confirmed on more than half of the
+/// disks, and proposes what the votes that it saw ask for. One whose proposal is chosen has its
+/// vote for it confirmed on more than half.
+pub fn prepared_and_proposed()
+    ensures prepared { (s : Setup) (heard : List Answered) (value : List ℕ) →
+        IsHistory s heard → Proposes s (on heard) value → IsPrepared s heard }
+    ensures proposal { (s : Setup) (heard : List Answered) (value : List ℕ) → s.host < HOSTS →
+        AreVotes (on heard) → Proposes s (on heard) value → IsProposal s (on heard) value }
+    ensures none { (s : Setup) (heard : List Answered) → s.host < HOSTS → AreVotes (on heard) →
+        status s (on heard) ≡ Ended Empty → HasNoInput s (on heard) }
+    ensures accepted { (s : Setup) (heard : List Answered) (value : List ℕ) → IsHistory s heard →
+        status s (on heard) ≡ Ended (Committed value) → IsAccepted s heard value }
+{}

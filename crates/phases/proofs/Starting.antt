@@ -1,0 +1,85 @@
+-- What an attempt keeps that has heard nothing.
+use Rattle.std.specs.Prelude.{nat_lt}
+use Rattle.std.proofs.Common.{◌≡◌, ◌*◌, ◌+◌, ◌<◌, ◌≤◌, max, ℕ, zero, suc, Bool, true, false, Option, Some, None, List, [], length, is_some, refl, sym, subst, ap, ◌∙◌, arith}
+use Rattle.std.proofs.lemmas.Bool.{lt-ltb}
+use Rattle.paxos_block.specs.Saying.{zeros}
+use Rattle.paxos_block.specs.Row.{blank}
+use Rattle.paxos_block.specs.Votes.{greatest}
+use Rattle.attempt.specs.Calls.{Opening}
+use Rattle.attempt.specs.Answers.{Answers}
+use Rattle.attempt.specs.Numbers.{count}
+use Rattle.attempt.specs.Setup.{Setup}
+use Rattle.attempt.specs.Visits.{waits, visited, is_left, are_enough}
+use Rattle.attempt.specs.Proposal.{ballot, own_below, best_below}
+use Rattle.attempt.specs.Status.{is_opened, taken, taken_by}
+use Rattle.attempt.specs.NextCall.{says_for}
+use Rattle.attempt.proofs.Firsts.{below_some}
+use Rattle.attempt.proofs.Rows.{best_none}
+use Rattle.attempt.proofs.Statuses as statuses
+use Rattle.phases.specs.declared.notes.Notes.{Notes}
+use Rattle.phases.specs.declared.phase.Phase.TheVariants as phase
+use Rattle.phases.specs.declared.phase.Stage.TheVariants as stage
+use Rattle.phases.specs.declared.visit.Visit.{Visit}
+use Rattle.phases.specs.declared.visit.TheConstants.{UNSEEN}
+use Rattle.torn_block.specs.Plan.{Plan}
+use Rattle.phases.specs.Kept.{visit_at, Remembers, Follows}
+use Rattle.phases.proofs.Beginning.{greatest_zero}
+
+-- nothing was heard of any disk
+abbrev nothing : Answers
+nothing d = []
+
+-- an unseen disk is remembered as one that has answered nothing
+unseen : (host : ℕ) → Remembers host [] UNSEEN
+unfolding zeros
+unseen host = record {
+  boot = refl;
+  read = record { current = refl; value = refl; next_is_open = refl; blank_number = λ e. refl; blank_body = λ e. refl };
+  sequence = refl;
+}
+
+own_none : (s : Setup) (n : ℕ) → own_below s nothing n ≡ blank
+own_none s zero = refl
+own_none s (suc n) = own_none s n
+
+all_count : (n : ℕ) → count n (λ d. true) ≡ n
+all_count zero = refl
+all_count (suc n) = let before : count n (λ d. true) ≡ n = all_count n in omega arith
+
+no_ballot : (b d : ℕ) (enough : Bool) → taken_by b (Some d) enough ≡ 0
+no_ballot b d true = refl
+no_ballot b d false = refl
+
+pub starts : (s : Setup) (visits : List (Option Visit)) (steps : Plan) → 0 < s.disks → ((e : ℕ) → e < s.disks → visit_at visits e ≡ Some UNSEEN)
+    → Follows s nothing (record {
+        host = s.host; slot = s.slot; disks = s.disks; input = s.input; highest = s.floor; best = blank; says = blank; visits = visits;
+        phase = phase.Opening; disk = 0; stage = stage.Attaching; steps = steps; end = None })
+starts s visits steps some unseen_all =
+    let first : visited s Opening nothing ≡ Some 0 = below_some s.disks (λ d. waits s Opening []) 0 (record { below = some; passes = refl; none = λ e l. absurd (omega arith) }) in
+    record {
+      ballot = sym (ap (λ (o : Option ℕ). taken_by (ballot s nothing) o (are_enough s (is_opened nothing))) first ∙ no_ballot (ballot s nothing) 0 (are_enough s (is_opened nothing)));
+      stands = record {
+        rows = record {
+          is_host = refl;
+          is_slot = refl;
+          as_many = refl;
+          input = refl;
+          highest = (let none : greatest s.disks (λ d. 0) ≡ 0 = greatest_zero s.disks in omega arith);
+          best = sym (best_none s nothing s.disks (λ e l. refl) ∙ own_none s s.disks);
+        };
+        status = statuses.due_if s nothing Opening 0 (record {
+          come = tt;
+          not_outrun = tt;
+          visits = first;
+          enough = lt-ltb s.disks (2 * count s.disks (λ d. true)) (let all = all_count s.disks in omega arith);
+        });
+        suits = tt;
+        answers = refl;
+        says = refl;
+        visits = record {
+          some = λ e l. ap is_some (unseen_all e l);
+          each = λ e visit l at. (let same : Some UNSEEN ≡ Some visit = sym (unseen_all e l) ∙ at in let is : UNSEEN ≡ visit = cc in subst (Remembers s.host []) is (unseen s.host));
+        };
+        writes = tt;
+      };
+    }

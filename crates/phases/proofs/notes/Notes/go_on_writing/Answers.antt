@@ -1,0 +1,17 @@
+use Rattle.std.proofs.Common.{◌≡◌, ◌∙◌, sym, subst, ap, Option, Some, None, true, false, refl, true≢false}
+use Rattle.torn_block.specs.declared.write_steps.WriteCall.{WriteCall}
+use Rattle.attempt.specs.Answers.{Done, more}
+use Rattle.phases.specs.Kept.{Follows}
+use Rattle.phases.proofs.Answering.{wrote, wrote_all}
+use Rattle.phases.proofs.notes.Notes.go_on_writing.Goals as goal
+
+pub returns-then-is_done-clause-follows : goal.returns-then-is_done-clause-follows
+returns-then-is_done-clause-follows c s f order is =
+    wrote_all s f c.args.self.now is c.requires.going order c.requires.stage c.done.new.self c.done.ensures (c.is_done.ensures.0 c.if-is_done.true)
+
+pub returns-else-is_done-clause-follows : goal.returns-else-is_done-clause-follows
+returns-else-is_done-clause-follows c s f order is = go c.done.new.self.due refl
+  where
+    go : (due : Option WriteCall) → c.done.new.self.due ≡ due → Follows s (more f c.args.self.now.disk Done) (record c.args.self.now { steps = c.done.new.self })
+    go None none = absurd (true≢false (sym (c.is_done.ensures.1 none) ∙ c.if-is_done.false))
+    go (Some after) left = wrote s f c.args.self.now is c.requires.going order c.requires.stage c.done.new.self c.done.ensures after left
