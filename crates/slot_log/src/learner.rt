@@ -3,6 +3,7 @@ ghost use Rattle.torn_block.specs.declared.layout.TheConstants.{HOSTS, ROW_LENGT
 ghost use Rattle.paxos_block.specs.Places.{image_length};
 ghost use Rattle.attempt.specs.History.{Fits};
 ghost use Rattle.phases.specs.Calls.{call_of_need, heard_of, end_of, IsWithin};
+ghost use Rattle.slot_log.specs.Alone.{IsAnsweredAlone};
 ghost use Rattle.slot_log.specs.Kept.{Kept, LeadsTo, IsSameLog, is_idle, offered_of, due_call, IsOf, IsOver, KeepsLearned};
 ghost use Rattle.slot_log.specs.Learning.{Memory, Doing, fresh, says, does, begins, goes_on, tries_again, ended, hears, takes, with_floor, learns, after_learning, next_in, offered_in};
 ghost use Rattle.slot_log.specs.Shape.{Shape};
@@ -146,6 +147,9 @@ impl Learner {
         requires fits { Fits (due_call self.old).1 (heard_of heard.now) }
         ensures leads { (c : Shape) (h : ℕ) (m : Memory) → LeadsTo c h m self.old →
             LeadsTo c h (hears c h m m.doing (record { disk = (due_call self.old).0; heard = heard_of heard.now })) self.new }
+        // By Committed, Empty or BallotsSpent within 17 calls a disk, if no other host makes a call on the slot meanwhile.
+        ensures alone { (c : Shape) (h : ℕ) (m : Memory) → LeadsTo c h m self.old →
+            IsAnsweredAlone c h m m.doing (record { disk = (due_call self.old).0; heard = heard_of heard.now }) }
         ensures same { IsSameLog self.old self.new }
     {
         self.attempt.hear(heard);
