@@ -12,7 +12,7 @@ ghost use Rattle.slot_log.specs.Kept.{offered_of};
 ghost use Rattle.slot_log.specs.Learning as log;
 ghost use Rattle.slot_log.specs.Shape.{Shape};
 ghost use Rattle.host.specs.Alone.{IsAnsweredAlone};
-ghost use Rattle.host.specs.Host.{Memory, Submitting, Recovering, fresh, goes_on, hears, next_in, reply_after};
+ghost use Rattle.host.specs.Host.{Memory, Submitting, Recovering, fresh, goes_on, hears, is_idle_in, next_in, reply_after};
 ghost use Rattle.host.specs.Kept.{Kept, LeadsTo, is_idle, due_call, option_list};
 
 use crate::answer::HostAnswer;
@@ -80,7 +80,9 @@ impl HostCore {
 
     /// Whether an operation may begin.
     pub fn idle(&self) -> bool
-        ensures { result ≡ is_idle self.now }
+        ensures known { (c : Shape) (h : ℕ) (m : Memory) → LeadsTo c h m self.now →
+            result ≡ is_idle_in m.doing }
+        ensures idle { result ≡ is_idle self.now }
     {
         self.learner.idle()
     }

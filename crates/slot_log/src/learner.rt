@@ -5,7 +5,7 @@ ghost use Rattle.attempt.specs.History.{Fits};
 ghost use Rattle.phases.specs.Calls.{call_of_need, heard_of, end_of, IsWithin};
 ghost use Rattle.slot_log.specs.Alone.{IsAnsweredAlone};
 ghost use Rattle.slot_log.specs.Kept.{Kept, LeadsTo, IsSameLog, is_idle, offered_of, due_call, IsOf, IsOver, KeepsLearned};
-ghost use Rattle.slot_log.specs.Learning.{Memory, Doing, fresh, says, does, begins, goes_on, tries_again, ended, hears, takes, with_floor, learns, after_learning, next_in, offered_in};
+ghost use Rattle.slot_log.specs.Learning.{Memory, Doing, fresh, says, does, begins, goes_on, tries_again, ended, hears, takes, with_floor, learns, after_learning, is_idle_in, next_in, offered_in};
 ghost use Rattle.slot_log.specs.Shape.{Shape};
 
 use crate::config::Config;
@@ -83,7 +83,9 @@ impl Learner {
 
     /// Whether an operation may begin.
     pub fn idle(&self) -> bool
-        ensures { result ≡ is_idle self.now }
+        ensures known { (c : Shape) (h : ℕ) (m : Memory) → LeadsTo c h m self.now →
+            result ≡ is_idle_in m.doing }
+        ensures idle { result ≡ is_idle self.now }
     {
         self.task.is_none()
     }
