@@ -1,5 +1,5 @@
 -- What a host knows is what its learner knows, once each value that it offers is judged by its spelling.
-use Rattle.std.proofs.Common.{◌≡◌, ◌-◌, ◌*◌, ℕ, Bool, true, false, zero, suc, List, [], ◌∷◌, ◌++◌, length, map, max, Option, Some, None, refl, sym, ◌∙◌, ap, subst, if◌then◌else◌}
+use Rattle.std.proofs.Common.{◌≡◌, ◌-◌, ◌*◌, ℕ, Bool, true, false, zero, suc, List, [], ◌∷◌, ◌++◌, length, map, Option, Some, None, refl, sym, ◌∙◌, ap, subst, if◌then◌else◌}
 use Rattle.std.specs.Prelude.{bytes_eq, is_some, nat_lt, nat_le}
 use Rattle.std.specs.Option.{option_map}
 use Rattle.std.proofs.lemmas.List.{length-map, map-append, append-nil}
@@ -30,7 +30,7 @@ use Rattle.slot_log.specs.declared.outcome.Refusal.TheVariants as refusal
 use Rattle.host.specs.declared.answer.HostAnswer.{HostAnswer}
 use Rattle.host.specs.declared.answer.HostAnswer.TheVariants.{Ack, Recovered, Refused}
 use Rattle.host.specs.Alone.{IsAnsweredAlone}
-use Rattle.host.specs.Host.{Memory, Doing, Operation, Submitting, Recovering, input_of, setup_of, says, does, begins, goes_on, full_answer, learns, takes, after_learning, is_submitted, tries_again, with_floor, ended, by_status, hears, with_heard, reply_after}
+use Rattle.host.specs.Host.{Memory, Doing, Operation, Submitting, Recovering, input_of, setup_of, says, begins, goes_on, full_answer, learns, takes, after_learning, is_submitted, with_floor, by_status, hears, with_heard, reply_after}
 use Rattle.host.specs.Kept.{Kept, LeadsTo, operation_of, outcome_of, doing_of, values_of, answer_of, option_list}
 
 -- ANSWERS

@@ -1,5 +1,5 @@
 -- What a learner keeps while an operation goes on.
-use Rattle.std.proofs.Common.{◌≡◌, ◌<◌, ◌-◌, ℕ, Bool, true, false, List, [], ◌∷◌, ◌++◌, length, max, nat_le, Option, Some, None, refl, sym, ◌∙◌, ap, subst, arith, if◌then◌else◌}
+use Rattle.std.proofs.Common.{◌≡◌, ◌<◌, ◌-◌, ℕ, true, false, List, [], ◌∷◌, ◌++◌, max, Option, Some, None, refl, sym, ◌∙◌, ap, subst}
 use Rattle.std.proofs.lemmas.Bool.{lt-leb}
 use Rattle.attempt.specs.Answers.{Answered, Heard, on}
 use Rattle.attempt.specs.Setup.{Setup}
@@ -14,8 +14,8 @@ use Rattle.phases.specs.Kept.{end_of_status}
 use Rattle.attempt.proofs.Ends.{bound, served}
 use Rattle.slot_log.specs.Alone.{IsAnsweredAlone}
 use Rattle.slot_log.specs.Shape.{Shape}
-use Rattle.slot_log.specs.Learning.{Memory, Doing, setup_of, begins, ended, tries_again, with_floor, with_heard, goes_by, by_status, hears, takes, judges, offered_by, offered_in, after_learning, is_placed, learns, goes_on}
-use Rattle.slot_log.specs.Kept.{Kept, LeadsTo, AreDoing, IsDoing, IsOf, IsOver, KeepsLearned, is_idle, is_idle_with}
+use Rattle.slot_log.specs.Learning.{Memory, Doing, setup_of, begins, ended, tries_again, with_floor, with_heard, by_status, hears, takes, judges, offered_in, after_learning, is_placed, learns, goes_on}
+use Rattle.slot_log.specs.Kept.{Kept, LeadsTo, AreDoing, IsDoing, IsOf, IsOver, is_idle, is_idle_with}
 use Rattle.slot_log.specs.declared.operation.Operation.{Operation}
 use Rattle.slot_log.specs.declared.operation.Task.{Task}
 
@@ -55,9 +55,9 @@ outrun c h m t task ballot mbal e new is of more begun =
     let m' : Memory = with_floor (with_floor m ballot) mbal in
     let P : Memory → Type 0 = λ n. LeadsTo c h n new in
     let known : tries_again m' t.operation t.tries ≡ begins m' task.operation (task.tries - 1) =
-      ap (λ (o : Operation). tries_again m' o t.tries) of.operation
-      ∙ ap (λ (n : ℕ). tries_again m' task.operation n) of.tries
-      ∙ one_more_try m' task.operation task.tries more in
+    ap (λ (o : Operation). tries_again m' o t.tries) of.operation
+    ∙ ap (λ (n : ℕ). tries_again m' task.operation n) of.tries
+    ∙ one_more_try m' task.operation task.tries more in
     let ends : ended m t ballot (end_of e) ≡ tries_again m' t.operation t.tries = ap (λ (x : End). ended m t ballot (end_of x)) is in
     subst P (sym (ends ∙ known)) begun
 

@@ -1,7 +1,7 @@
-use Rattle.std.proofs.Common.{ℕ, List, [], ◌∷◌, ◌++◌, Option, Some, rules, refl, sym, ◌∙◌, ap, subst}
+use Rattle.std.proofs.Common.{[], ◌∷◌, ◌++◌, rules, sym, ◌∙◌, ap, subst}
 use Rattle.attempt.specs.Answers.{Answered}
 use Rattle.phases.specs.Calls.{heard_of}
-use Rattle.slot_log.specs.Learning.{Memory, setup_of, with_floor, hears}
+use Rattle.slot_log.specs.Learning.{Memory, setup_of, hears}
 use Rattle.slot_log.specs.Kept.{Kept, LeadsTo, IsOver, is_idle, is_idle_with}
 use Rattle.slot_log.proofs.Learners.{task_is, counted, hears_end, alone}
 use Rattle.slot_log.proofs.learner.Learner.hear.Goals as goal
