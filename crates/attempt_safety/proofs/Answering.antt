@@ -18,7 +18,7 @@ use Rattle.attempt.specs.NextCall.{call_by}
 use Rattle.attempt.specs.History.{Fits}
 use Rattle.attempt.proofs.Lists.{row_none}
 use Rattle.attempt.proofs.Replies.{IsAnswer}
-use Rattle.attempt.proofs.Visitors.{IsWaiting, waiting_is, part_if}
+use Rattle.attempt.proofs.Visitors.{IsPart, IsWaiting, waiting_is, part_if}
 use Rattle.attempt.proofs.Rows.{IsLast, AreSameRows, ballot_same, own_same, rows_kept}
 use Rattle.attempt.proofs.Statuses.{IsDueAt}
 use Rattle.attempt.proofs.Histories.{IsReached, visit, behind_due}
@@ -63,7 +63,7 @@ write_is s Opening f writes = absurd (omega arith)
 write_is s One f writes = refl
 write_is s Two f writes = refl
 
-some_of : {A : Type 0} (o : Option A) → is_some o ≡ true → (y : A) × (o ≡ Some y)
+pub some_of : {A : Type 0} (o : Option A) → is_some o ≡ true → (y : A) × (o ≡ Some y)
 some_of None is = absurd (true≢false (sym is))
 some_of (Some y) is = (y, refl)
 
@@ -85,6 +85,32 @@ silent s f d kind Done other fits = refl
 silent s f d kind (Told None) other fits = refl
 silent s f d kind (Told (Some row)) other fits = absurd (silent_row s f d kind row other fits)
 silent s f d kind (Fault fault) other fits = refl
+
+-- THE WRITE OF A PHASE
+
+module _ (s : Setup) (p : Phase) (f : Answers) (d : ℕ) (m : Machine) (holds : Holds s.disks m) (stands : StandsIn s p f m) (part : IsPart p (f d)) (writes : 1 ≤ writing_in p) where
+  -- what the host writes in the phase
+  writes_it : write_of (m.mind s.host) ≡ Some (write_in s p f)
+  writes_it = ap write_of stands.mind ∙ write_is s p f writes
+
+  -- where its first call is due, it may begin
+  pub may_begin : IsFirstCall p (length (f d)) → Allowed s.disks m (Begins s.host d (write_in s p f))
+  may_begin first =
+      let due : suc (m.cell s.host d).stage ≡ writing_in p = ap suc (stands.stages d (part_if p (f d) part)) ∙ first.before in
+      (writes_it, due, writes_at_rest s.disks m holds s.host d (write_in s p f) writes_it due)
+
+  -- where its sixth is, and a value is in writing, it may be confirmed
+  may_confirm : IsSixthCall p (length (f d)) → is_some (m.cell s.host d).writing ≡ true → Allowed s.disks m (Confirms s.host d (write_in s p f))
+  may_confirm sixth still =
+      let c = m.cell s.host d in
+      let w = write_in s p f in
+      let now : c.stage ≡ writing_in p = stands.stages d (part_if p (f d) part) ∙ sixth.before in
+      let old = some_of c.writing still in
+      let write : IsWrite w c = to_write m.accepted d w c (m.mind s.host) writes_it (holds.stages s.host d) (omega arith) in
+      let same : old.0 ≡ w.block = (write.alone old.0 old.1).1 in
+      (writes_it, now, old.1 ∙ ap Some same)
+
+-- EVENTS
 
 module _ (s : Setup) (f : Answers) (d : ℕ) (m : Machine) (holds : Holds s.disks m) (host_below : s.host < HOSTS) (reached : IsReached s f) where
   abbrev c : Cell (List ℕ)
@@ -135,30 +161,19 @@ module _ (s : Setup) (f : Answers) (d : ℕ) (m : Machine) (holds : Holds s.disk
           block = only kind x ((after m e).cell s.host d) is (subst (λ (k : Cell (List ℕ)). OwnBlock s f kind x c k) (sym here) block);
         }
 
-    -- what the host writes in the phase
-    writes_it : 1 ≤ writing_in p → write_of (m.mind s.host) ≡ Some (write_in s p f)
-    writes_it writes = ap write_of stands.mind ∙ write_is s p f writes
-
     -- the first call of a write: it begins, whatever is answered
     begins : (x : Heard) → IsNext (f d) (Putting p CloseGate) → IsFirstCall p (length (f d)) → 1 ≤ writing_in p → told x ≡ None → Moves s p f d x m
     begins x is first writes none =
-        let w = write_in s p f in
-        let due_now : suc c.stage ≡ writing_in p = ap suc was ∙ first.before in
-        by_event (Putting p CloseGate) x (Begins s.host d w) (being_written c w) is refl
-        (writes_it writes, due_now, writes_at_rest s.disks m holds s.host d w (writes_it writes) due_now)
+        by_event (Putting p CloseGate) x (Begins s.host d (write_in s p f)) (being_written c (write_in s p f)) is refl
+        (may_begin s p f d m holds stands waiting.part writes first)
         refl (mind_stays s p f d x m waiting.part.come stands none) (λ g off. refl)
         (λ good. sym first.behind) (record { confirmed = refl; writing = refl })
 
     -- the success of the sixth: it is confirmed
     confirms : IsNext (f d) (Putting p SyncOpened) → IsSixthCall p (length (f d)) → 1 ≤ writing_in p → RegistersAllow s.host d (f d) Done m → Moves s p f d Done m
     confirms is sixth writes allow =
-        let w = write_in s p f in
-        let now : c.stage ≡ writing_in p = was ∙ sixth.before in
-        let old = some_of c.writing (allow.still_writing p is refl) in
-        let write : IsWrite w c = to_write m.accepted d w c (m.mind s.host) (writes_it writes) (holds.stages s.host d) (omega arith) in
-        let same : old.0 ≡ w.block = (write.alone old.0 old.1).1 in
-        by_event (Putting p SyncOpened) Done (Confirms s.host d w) (at_rest w.block (suc w.stage)) is refl
-        (writes_it writes, now, old.1 ∙ ap Some same)
+        by_event (Putting p SyncOpened) Done (Confirms s.host d (write_in s p f)) (at_rest (write_in s p f).block (suc (writing_in p))) is refl
+        (may_confirm s p f d m holds stands waiting.part writes sixth (allow.still_writing p is refl))
         refl (mind_stays s p f d Done m waiting.part.come stands refl) (λ g off. refl)
         (λ good. sym sixth.behind) (record { confirmed = refl; writing = refl })
 

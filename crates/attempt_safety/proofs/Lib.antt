@@ -1,6 +1,9 @@
 pub mod Answering
+pub mod Beginning
 pub mod Cells
+pub mod Choosing
 pub mod Following
+pub mod Leaving
 pub mod Readings
 pub mod Stages
 pub mod Stands

@@ -141,35 +141,36 @@ module _ (s : Setup) (g : Answers) (disk : (e : ℕ) → IsDisk (g e)) where
 
 -- THE END OF A PHASE
 
+module _ (s : Setup) (g : Answers) (m : Machine) (p : Phase) (stands : StandsIn s p g m) (behind : (e : ℕ) → length (g e) ≤ goal p) where
+  -- a phase is over where it has come to that many answers on the disks left
+  majority_at : (stage : ℕ) → stage_at (goal p) ≡ stage → visited s p g ≡ None → are_enough s (is_left s p g) ≡ true → IsMajority s.disks (is_at stage (m.cell s.host))
+  majority_at stage is none enough =
+      majority_more s (is_left s p g) (is_at stage (m.cell s.host))
+      (λ e l left. (
+      let part : IsPart p (g e) = left_is s p (visited s p g) g e left in
+      let all = left_over s p g e none l left in
+      let exact : length (g e) ≡ goal p = (let most = behind e in omega arith) in
+      eq-eqb (m.cell s.host e).stage stage (stands.stages e (part_if p (g e) part) ∙ ap stage_at exact ∙ is)))
+      enough
+
+  -- no later phase has disks
+  none_later : (q : Phase) → goal p < start q → ¬ (are_enough s (λ e. takes_part q (g e)) ≡ true)
+  none_later q later enough =
+      let one = enough_one s (λ e. takes_part q (g e)) enough in
+      let come = (part_is q (g one.disk) one.passes).come in
+      let most = behind one.disk in
+      absurd (omega arith)
+
+  -- nor is one over
+  pub none_over : (q : Phase) → goal p < goal q → ¬ IsOver s q g
+  none_over q later over =
+      let one = enough_one s (is_left s q g) over.enough in
+      let all = left_over s q g one.disk over.visits one.below one.passes in
+      let most = behind one.disk in
+      absurd (omega arith)
+
 module _ (s : Setup) (g : Answers) (disk : (e : ℕ) → IsDisk (g e)) (host_below : s.host < HOSTS) (m : Machine) where
   module _ (p : Phase) (stands : StandsIn s p g m) (behind : (e : ℕ) → length (g e) ≤ goal p) where
-    -- a phase is over where it has come to that many answers on the disks left
-    majority_at : (stage : ℕ) → stage_at (goal p) ≡ stage → visited s p g ≡ None → are_enough s (is_left s p g) ≡ true → IsMajority s.disks (is_at stage (m.cell s.host))
-    majority_at stage is none enough =
-        majority_more s (is_left s p g) (is_at stage (m.cell s.host))
-        (λ e l left. (
-        let part : IsPart p (g e) = left_is s p (visited s p g) g e left in
-        let all = left_over s p g e none l left in
-        let exact : length (g e) ≡ goal p = (let most = behind e in omega arith) in
-        eq-eqb (m.cell s.host e).stage stage (stands.stages e (part_if p (g e) part) ∙ ap stage_at exact ∙ is)))
-        enough
-
-    -- no later phase has disks
-    none_later : (q : Phase) → goal p < start q → ¬ (are_enough s (λ e. takes_part q (g e)) ≡ true)
-    none_later q later enough =
-        let one = enough_one s (λ e. takes_part q (g e)) enough in
-        let come = (part_is q (g one.disk) one.passes).come in
-        let most = behind one.disk in
-        absurd (omega arith)
-
-    -- nor is one over
-    none_over : (q : Phase) → goal p < goal q → ¬ IsOver s q g
-    none_over q later over =
-        let one = enough_one s (is_left s q g) over.enough in
-        let all = left_over s q g one.disk over.visits one.below one.passes in
-        let most = behind one.disk in
-        absurd (omega arith)
-
     -- nothing happens
     stays : (st : Status) → Agrees s g m st → ((value : List ℕ) → Chooses s g value → IsCommitted s.disks m s.host (ballot s g) value) → Turns s g m st
     stays st agrees commits =
@@ -210,7 +211,7 @@ module _ (s : Setup) (g : Answers) (disk : (e : ℕ) → IsDisk (g e)) (host_bel
         events = e ∷ [];
         few = omega arith;
         own = All-cons (IsOfAttempt s g) e [] refl (All-nil (IsOfAttempt s g));
-        allowed = ((stands.mind, owned s.host (highest s g) host_below, less, majority_at Opening stands behind seen refl come.over enough), tt);
+        allowed = ((stands.mind, owned s.host (highest s g) host_below, less, majority_at s g m Opening stands behind seen refl come.over enough), tt);
         agrees = agrees (after m e) stands_one;
         commits = λ value. early Opening (omega arith) behind value (after m e);
         minds = λ h off. put_other m.mind s.host (OneMind (first_asking (opened s g) (ballot s g))) h off;
@@ -232,7 +233,7 @@ module _ (s : Setup) (g : Answers) (disk : (e : ℕ) → IsDisk (g e)) (host_bel
         events = e ∷ [];
         few = omega arith;
         own = All-cons (IsOfAttempt s g) e [] (refl, is) (All-nil (IsOfAttempt s g));
-        allowed = ((record { asking = stands.mind; majority = majority_at One stands behind read_one refl come.over enough }, or_found (best s g).inp s.input value is), tt);
+        allowed = ((record { asking = stands.mind; majority = majority_at s g m One stands behind read_one refl come.over enough }, or_found (best s g).inp s.input value is), tt);
         agrees = agrees (after m e) stands_two;
         commits = λ value. early One (omega arith) behind value (after m e);
         minds = λ h off. put_other m.mind s.host (TwoMind (record { ballot = ballot s g; value = value })) h off;
@@ -259,7 +260,7 @@ module _ (s : Setup) (g : Answers) (disk : (e : ℕ) → IsDisk (g e)) (host_bel
   to_due : (p q : Phase) (e : ℕ) → StandsIn s p g m → ((e : ℕ) → length (g e) ≤ goal p) → IsIn s p g → IsDueAt s q e g → Turns s g m (Due q e)
   to_due Opening Opening e stands behind come due = at_once Opening stands behind (Due Opening e) stands
   to_due Opening One e stands behind come due = takes stands behind due.come (enough_before s One g (enough_part s One g due.enough)) (Due One e) (λ n next. next)
-  to_due Opening Two e stands behind come due = absurd (none_later Opening stands behind Two (omega arith) (enough_part s Two g due.enough))
+  to_due Opening Two e stands behind come due = absurd (none_later s g m Opening stands behind Two (omega arith) (enough_part s Two g due.enough))
   to_due One Opening e stands behind come due = let over = come.over in let visits = due.visits in absurd (cc)
   to_due One One e stands behind come due = at_once One stands behind (Due One e) stands
   to_due One Two e stands behind come due = proposes stands behind (due.come).0 (due.come).1 (enough_before s Two g (enough_part s Two g due.enough)).1 (Due Two e) (λ n next. next)
@@ -268,21 +269,21 @@ module _ (s : Setup) (g : Answers) (disk : (e : ℕ) → IsDisk (g e)) (host_bel
   to_due Two Two e stands behind come due = at_once Two stands behind (Due Two e) stands
 
   to_committed : (p : Phase) (value : List ℕ) → StandsIn s p g m → ((e : ℕ) → length (g e) ≤ goal p) → HasChosen s value g → Turns s g m (Ended (Committed value))
-  to_committed Opening value stands behind is = absurd (none_over Opening stands behind Two (omega arith) is.over)
-  to_committed One value stands behind is = absurd (none_over One stands behind Two (omega arith) is.over)
+  to_committed Opening value stands behind is = absurd (none_over s g m Opening stands behind Two (omega arith) is.over)
+  to_committed One value stands behind is = absurd (none_over s g m One stands behind Two (omega arith) is.over)
   to_committed Two value stands behind is =
       let proposed : proposal s g ≡ Some value = is.proposal_is in
       let knows : mind_in s Two g ≡ TwoMind (record { ballot = ballot s g; value = value }) = rw proposed refl in
       at_once Two stands behind (Ended (Committed value))
-      (record { proposing = stands.mind ∙ knows; majority = majority_at Two stands behind read_two refl is.over.visits is.over.enough })
+      (record { proposing = stands.mind ∙ knows; majority = majority_at s g m Two stands behind read_two refl is.over.visits is.over.enough })
 
   to_empty : (p : Phase) → StandsIn s p g m → ((e : ℕ) → length (g e) ≤ goal p) → IsIn s p g → HasNone s g → Turns s g m (Ended Empty)
-  to_empty Opening stands behind come is = absurd (none_over Opening stands behind One (omega arith) is.over)
+  to_empty Opening stands behind come is = absurd (none_over s g m Opening stands behind One (omega arith) is.over)
   to_empty One stands behind come is =
       at_once One stands behind (Ended Empty)
       (record {
         asking = asking s g;
-        prepared = record { asking = stands.mind; majority = majority_at One stands behind read_one refl is.over.visits is.over.enough };
+        prepared = record { asking = stands.mind; majority = majority_at s g m One stands behind read_one refl is.over.visits is.over.enough };
         no_input = or_none (best s g).inp s.input is.none;
       })
   to_empty Two stands behind come is = let some = (come.1).is in let none = is.none in absurd (cc)

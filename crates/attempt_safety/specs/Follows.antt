@@ -30,3 +30,8 @@ Agrees s f m (Ended BallotsSpent) = Unit {0}
 pub record Follows (s : Setup) (heard : List Answered) (m : Machine) : Type 0 where
   pub history : IsHistory s heard
   pub agrees : Agrees s (on heard) m (status s (on heard))
+
+-- a host is as before: its mind, and how far it has come on each disk
+pub record IsSameHost (h : ℕ) (old new : Machine) : Type 0 where
+  pub mind : new.mind h ≡ old.mind h
+  pub stages : (d : ℕ) → (new.cell h d).stage ≡ (old.cell h d).stage

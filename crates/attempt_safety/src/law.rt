@@ -1,18 +1,63 @@
 // What an attempt does is what agreement allows.
-ghost use Rattle.std.specs.Prelude.{◌≡◌, ◌∷◌, ◌++◌, ◌<◌, ℕ, List, []};
+ghost use Rattle.std.specs.Prelude.{◌≡◌, ◌≢◌, ◌∷◌, ◌++◌, ◌<◌, ℕ, List, []};
 ghost use Rattle.torn_block.specs.declared.layout.TheConstants.{HOSTS};
+ghost use Rattle.torn_block.specs.declared.write_steps.WriteCall.TheVariants.{CloseGate};
+ghost use Rattle.attempt.specs.Calls.{Phase, Putting};
 ghost use Rattle.attempt.specs.Answers.{Answered, on};
 ghost use Rattle.attempt.specs.Setup.{Setup};
+ghost use Rattle.attempt.specs.Proposal.{ballot};
 ghost use Rattle.attempt.specs.NextCall.{next_call};
-ghost use Rattle.attempt.specs.History.{IsAnswerTo};
-ghost use Rattle.agreement.specs.Event.{Event, IsRun, state_after};
-ghost use Rattle.attempt_safety.specs.Follows.{Follows};
-ghost use Rattle.attempt_safety.specs.Registers.{RegistersAllow};
-ghost use Rattle.attempt_safety.specs.Leads.{Leads};
+ghost use Rattle.attempt.specs.Status.{Due, Ended, Committed, status};
+ghost use Rattle.attempt.specs.History.{IsAnswerTo, IsHistory};
+ghost use Rattle.agreement.specs.State.{Block};
+ghost use Rattle.agreement.specs.Event.{Event, IsRun, state_after, after};
+ghost use Rattle.agreement.specs.Event.Event.{Starts, Begins, Settles, Crashes};
+ghost use Rattle.agreement.specs.Chosen.{IsChosenBy};
+ghost use Rattle.attempt_safety.specs.Machine.{Machine, write_in};
+ghost use Rattle.attempt_safety.specs.Follows.{Follows, IsSameHost};
+ghost use Rattle.attempt_safety.specs.Registers.{IsNext, RegistersAllow};
+ghost use Rattle.attempt_safety.specs.Chosen.{Chooses};
+ghost use Rattle.attempt_safety.specs.Leads.{Leads, LeavesOthers};
 
-/// An answer.
-pub fn answer_leads()
+/// Behind any run of the machine an attempt may begin, and with its start the machine follows it.
+pub fn attempt_begins()
+    ensures runs { (s : Setup) (early : List (Event (List ℕ))) → IsRun s.disks early →
+        IsRun s.disks (early ++ Starts s.host ∷ []) }
+    ensures follows { (s : Setup) (early : List (Event (List ℕ))) →
+        Follows s [] (state_after (early ++ Starts s.host ∷ [])) }
+{}
+
+/// Whatever is answered to the call due, where the registers allow it, is at most two events of the
+/// machine, each of them allowed, behind which the machine follows the attempt with that answer.
+pub fn answers_lead()
     ensures { (s : Setup) (early : List (Event (List ℕ))) (heard : List Answered) (x : Answered) → s.host < HOSTS →
         IsRun s.disks early → Follows s heard (state_after early) → IsAnswerTo (next_call s (on heard)) x →
         RegistersAllow s.host x.disk (on heard x.disk) x.heard (state_after early) → Leads s early heard x }
+{}
+
+/// Where the host stops in the first call of a write, and so without an answer, the write may begin all the same.
+pub fn torn_writes_begin()
+    ensures { (s : Setup) (early : List (Event (List ℕ))) (heard : List Answered) (p : Phase) (d : ℕ) →
+        IsRun s.disks early → Follows s heard (state_after early) →
+        status s (on heard) ≡ Due p d → IsNext (on heard d) (Putting p CloseGate) →
+        IsRun s.disks (early ++ Begins s.host d (write_in s p (on heard)) ∷ []) }
+{}
+
+/// The machine goes on to follow an attempt while others do what they do, and blocks settle.
+pub fn others_leave_it()
+    // All that counts is the host's own mind, and how far it has come.
+    ensures same { (s : Setup) (heard : List Answered) (old new : Machine) →
+        IsSameHost s.host old new → Follows s heard old → Follows s heard new }
+    ensures others { (h g d : ℕ) (old new : Machine) → h ≢ g → LeavesOthers g d old new → IsSameHost h old new }
+    ensures settling { (h g d : ℕ) (x : Block (List ℕ)) (m : Machine) → IsSameHost h m (after m (Settles g d x)) }
+    ensures crashing { (h d : ℕ) (left : ℕ → Block (List ℕ)) (m : Machine) → IsSameHost h m (after m (Crashes d left)) }
+{}
+
+/// What an attempt commits is chosen, and what is chosen is chosen in the machine, however the attempt ends.
+pub fn what_is_chosen()
+    ensures committed { (s : Setup) (heard : List Answered) (value : List ℕ) →
+        IsHistory s heard → status s (on heard) ≡ Ended (Committed value) → Chooses s (on heard) value }
+    ensures chosen { (s : Setup) (early : List (Event (List ℕ))) (heard : List Answered) (x : Answered)
+        (value : List ℕ) (leads : Leads s early heard x) → Chooses s (on (heard ++ x ∷ [])) value →
+        IsChosenBy s.disks (state_after (early ++ leads.events)) (ballot s (on (heard ++ x ∷ []))) value }
 {}

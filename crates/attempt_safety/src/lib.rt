@@ -3,4 +3,4 @@
 
 mod law;
 
-pub use law::answer_leads;
+pub use law::{answers_lead, attempt_begins, others_leave_it, torn_writes_begin, what_is_chosen};
