@@ -1,7 +1,7 @@
 -- Which event of the machine an answer is.
-use Rattle.std.specs.Prelude.{nat_lt, slice_get}
+use Rattle.std.specs.Prelude.{nat_lt}
 use Rattle.std.specs.List.{All}
-use Rattle.std.proofs.Common.{true≢false, ℕ, suc, ◌+◌, ◌<◌, ◌≤◌, ◌≡◌, ◌≢◌, ◌⊎◌, inl, inr, Bool, true, false, Option, Some, None, List, [], ◌∷◌, length, is_some, refl, sym, subst, ap, ap₂, ◌∙◌, arith}
+use Rattle.std.proofs.Common.{true≢false, ℕ, suc, ◌+◌, ◌<◌, ◌≤◌, ◌≡◌, ◌≢◌, ◌⊎◌, inl, inr, Bool, true, false, Option, Some, None, List, [], ◌∷◌, length, is_some, refl, sym, subst, ap, ◌∙◌, arith}
 use Rattle.std.proofs.lemmas.Bool.{ltb-false, cases_lt, cases_Bool}
 use Rattle.std.proofs.lemmas.List.Elements.{All-nil, All-cons}
 use Rattle.torn_block.specs.declared.layout.TheConstants.{HOSTS}
@@ -10,10 +10,9 @@ use Rattle.torn_block.specs.declared.write_steps.WriteCall.TheVariants.{CloseGat
 use Rattle.paxos_block.specs.Row.{SeenBlock}
 use Rattle.paxos_block.specs.Votes.{others_top_of}
 use Rattle.attempt.specs.Calls.{Phase, Opening, One, Two, Kind, Attaching, Syncing, Reading, Putting, start, goal}
-use Rattle.attempt.specs.Answers.{Heard, Booted, Done, Told, Fault, Answers, is_bad, all_good, told, row_in, more}
+use Rattle.attempt.specs.Answers.{Heard, Booted, Done, Told, Fault, Answers, is_bad, all_good, told, more}
 use Rattle.attempt.specs.Setup.{Setup}
-use Rattle.attempt.specs.Visits.{waits, takes_part}
-use Rattle.attempt.specs.Proposal.{ballot, own, best}
+use Rattle.attempt.specs.Proposal.{ballot, own}
 use Rattle.attempt.specs.NextCall.{call_by}
 use Rattle.attempt.specs.History.{Fits}
 use Rattle.attempt.proofs.Lists.{row_none}
@@ -22,18 +21,19 @@ use Rattle.attempt.proofs.Visitors.{IsPart, IsWaiting, waiting_is, part_if}
 use Rattle.attempt.proofs.Rows.{IsLast, AreSameRows, ballot_same, own_same, rows_kept}
 use Rattle.attempt.proofs.Statuses.{IsDueAt}
 use Rattle.attempt.proofs.Histories.{IsReached, visit, behind_due}
-use Rattle.agreement.specs.State.{Block, Cell, seen, writing_one, wrote_one, read_one, wrote_two, read_two, Mind}
-use Rattle.agreement.specs.State.Mind.{Opening as OpeningMind, One as OneMind, Two as TwoMind}
+use Rattle.agreement.specs.State.{Cell, seen, wrote_one, read_one, wrote_two, read_two}
+use Rattle.agreement.specs.State.Mind.{Opening as OpeningMind, One as OneMind}
 use Rattle.agreement.specs.Event.{Event, write_of, being_written, at_rest, at_stage, IsRow, Allowed, AllAllowed, after, run}
 use Rattle.agreement.specs.Event.Event.{Sees, Begins, Confirms, ReadsOne, ReadsTwo}
 use Rattle.agreement.proofs.Invariant.{Holds, IsWrite}
 use Rattle.agreement.proofs.Writing.{to_write, writes_at_rest}
 use Rattle.agreement.proofs.Puts.{put_same, put_other}
-use Rattle.attempt_safety.specs.Machine.{Machine, block_said, blocks_said, stage_at, opened, asking, telling, mind_in, writing_in, write_in}
+use Rattle.attempt_safety.specs.Machine.{Machine, blocks_said, stage_at, opened, asking, telling, mind_in, writing_in, write_in}
 use Rattle.attempt_safety.specs.Follows.{StandsIn}
 use Rattle.attempt_safety.specs.Registers.{IsNext, RegistersAllow}
 use Rattle.attempt_safety.specs.Leads.{IsOfAttempt, LeavesOthers, OwnBlock}
-use Rattle.attempt_safety.proofs.Stages.{MarksCall, Marks, IsFirstCall, IsSixthCall, marks, one_phase}
+use Rattle.attempt_safety.proofs.Stages.{IsWithin, HasWrite, IsFirstCall, IsSixthCall, MarksCall}
+use Rattle.attempt_safety.proofs.Stages as table
 use Rattle.attempt_safety.proofs.Stands.{mind_same, stands_more, mind_stays, stands_quiet}
 use Rattle.attempt_safety.proofs.Readings.{others_below, can_see, best_is}
 use Rattle.attempt_safety.proofs.Cells.{block_same, leaves_same, changed, changed_here, changed_there, changed_leaves}
@@ -58,8 +58,8 @@ pub record IsFaster (s : Setup) (p : Phase) (f : Answers) (d : ℕ) (x : Heard) 
   pub block : (kind : Kind) → IsNext (f d) kind → OwnBlock s f kind x (m.cell s.host d) (m.cell s.host d)
 
 -- the write of a phase is what the host writes
-write_is : (s : Setup) (p : Phase) (f : Answers) → 1 ≤ writing_in p → write_of (mind_in s p f) ≡ Some (write_in s p f)
-write_is s Opening f writes = absurd (omega arith)
+write_is : (s : Setup) (p : Phase) (f : Answers) → HasWrite p → write_of (mind_in s p f) ≡ Some (write_in s p f)
+write_is s Opening f writes = absurd writes
 write_is s One f writes = refl
 write_is s Two f writes = refl
 
@@ -88,7 +88,7 @@ silent s f d kind (Fault fault) other fits = refl
 
 -- THE WRITE OF A PHASE
 
-module _ (s : Setup) (p : Phase) (f : Answers) (d : ℕ) (m : Machine) (holds : Holds s.disks m) (stands : StandsIn s p f m) (part : IsPart p (f d)) (writes : 1 ≤ writing_in p) where
+module _ (s : Setup) (p : Phase) (f : Answers) (d : ℕ) (m : Machine) (holds : Holds s.disks m) (stands : StandsIn s p f m) (part : IsPart p (f d)) (writes : HasWrite p) where
   -- what the host writes in the phase
   writes_it : write_of (m.mind s.host) ≡ Some (write_in s p f)
   writes_it = ap write_of stands.mind ∙ write_is s p f writes
@@ -96,7 +96,7 @@ module _ (s : Setup) (p : Phase) (f : Answers) (d : ℕ) (m : Machine) (holds : 
   -- where its first call is due, it may begin
   pub may_begin : IsFirstCall p (length (f d)) → Allowed s.disks m (Begins s.host d (write_in s p f))
   may_begin first =
-      let due : suc (m.cell s.host d).stage ≡ writing_in p = ap suc (stands.stages d (part_if p (f d) part)) ∙ first.before in
+      let due : suc (m.cell s.host d).stage ≡ writing_in p = ap suc (stands.stages d (part_if p (f d) part)) ∙ first.0 in
       (writes_it, due, writes_at_rest s.disks m holds s.host d (write_in s p f) writes_it due)
 
   -- where its sixth is, and a value is in writing, it may be confirmed
@@ -104,7 +104,7 @@ module _ (s : Setup) (p : Phase) (f : Answers) (d : ℕ) (m : Machine) (holds : 
   may_confirm sixth still =
       let c = m.cell s.host d in
       let w = write_in s p f in
-      let now : c.stage ≡ writing_in p = stands.stages d (part_if p (f d) part) ∙ sixth.before in
+      let now : c.stage ≡ writing_in p = stands.stages d (part_if p (f d) part) ∙ sixth.0 in
       let old = some_of c.writing still in
       let write : IsWrite w c = to_write m.accepted d w c (m.mind s.host) writes_it (holds.stages s.host d) (omega arith) in
       let same : old.0 ≡ w.block = (write.alone old.0 old.1).1 in
@@ -162,20 +162,20 @@ module _ (s : Setup) (f : Answers) (d : ℕ) (m : Machine) (holds : Holds s.disk
         }
 
     -- the first call of a write: it begins, whatever is answered
-    begins : (x : Heard) → IsNext (f d) (Putting p CloseGate) → IsFirstCall p (length (f d)) → 1 ≤ writing_in p → told x ≡ None → Moves s p f d x m
+    begins : (x : Heard) → IsNext (f d) (Putting p CloseGate) → IsFirstCall p (length (f d)) → HasWrite p → told x ≡ None → Moves s p f d x m
     begins x is first writes none =
         by_event (Putting p CloseGate) x (Begins s.host d (write_in s p f)) (being_written c (write_in s p f)) is refl
         (may_begin s p f d m holds stands waiting.part writes first)
         refl (mind_stays s p f d x m waiting.part.come stands none) (λ g off. refl)
-        (λ good. sym first.behind) (record { confirmed = refl; writing = refl })
+        (λ good. sym first.1) (record { confirmed = refl; writing = refl })
 
     -- the success of the sixth: it is confirmed
-    confirms : IsNext (f d) (Putting p SyncOpened) → IsSixthCall p (length (f d)) → 1 ≤ writing_in p → RegistersAllow s.host d (f d) Done m → Moves s p f d Done m
+    confirms : IsNext (f d) (Putting p SyncOpened) → IsSixthCall p (length (f d)) → HasWrite p → RegistersAllow s.host d (f d) Done m → Moves s p f d Done m
     confirms is sixth writes allow =
         by_event (Putting p SyncOpened) Done (Confirms s.host d (write_in s p f)) (at_rest (write_in s p f).block (suc (writing_in p))) is refl
         (may_confirm s p f d m holds stands waiting.part writes sixth (allow.still_writing p is refl))
         refl (mind_stays s p f d Done m waiting.part.come stands refl) (λ g off. refl)
-        (λ good. sym sixth.behind) (record { confirmed = refl; writing = refl })
+        (λ good. sym sixth.1) (record { confirmed = refl; writing = refl })
 
     -- no disk behind has a row of the phase
     last_in : length (f d) + 1 ≡ goal p → IsLast s p d f
@@ -274,34 +274,32 @@ module _ (s : Setup) (f : Answers) (d : ℕ) (m : Machine) (holds : Holds s.disk
     reading (Told (Some row)) is fits allow last = reads_row row is p due stands allow last
 
     -- the sixth call of a write
-    sixth : (x : Heard) → IsNext (f d) (Putting p SyncOpened) → Fits (call_by s d f (Putting p SyncOpened)) x → RegistersAllow s.host d (f d) x m → IsSixthCall p (length (f d)) → 1 ≤ writing_in p → Found x
+    sixth : (x : Heard) → IsNext (f d) (Putting p SyncOpened) → Fits (call_by s d f (Putting p SyncOpened)) x → RegistersAllow s.host d (f d) x m → IsSixthCall p (length (f d)) → HasWrite p → Found x
     sixth (Booted boot) is fits allow marked writes = absurd fits
     sixth Done is fits allow marked writes = inl (confirms p due stands is marked writes allow)
     sixth (Told row) is fits allow marked writes = absurd fits
     sixth (Fault fault) is fits allow marked writes = inl (nothing p due stands (Putting p SyncOpened) (Fault fault) is (block_same c) refl (λ good. absurd (true≢false good)))
 
     -- a call of a write
-    putting : (call : WriteCall) (x : Heard) → IsNext (f d) (Putting p call) → Fits (call_by s d f (Putting p call)) x → RegistersAllow s.host d (f d) x m → MarksCall p call (length (f d)) → 1 ≤ writing_in p → Found x
-    putting CloseGate x is fits allow marked writes = inl (begins p due stands x is marked writes (silent s f d (Putting p CloseGate) x (λ e. absurd (cc)) fits))
-    putting SyncClosed x is fits allow marked writes = quiet (Putting p SyncClosed) x (λ e. absurd (cc)) is fits (block_same c) marked
-    putting PutBody x is fits allow marked writes = quiet (Putting p PutBody) x (λ e. absurd (cc)) is fits (block_same c) marked
-    putting SyncBody x is fits allow marked writes = quiet (Putting p SyncBody) x (λ e. absurd (cc)) is fits (block_same c) marked
-    putting OpenGate x is fits allow marked writes = quiet (Putting p OpenGate) x (λ e. absurd (cc)) is fits (block_same c) marked
-    putting SyncOpened x is fits allow marked writes = sixth x is fits allow marked writes
+    putting : (call : WriteCall) (x : Heard) → IsNext (f d) (Putting p call) → Fits (call_by s d f (Putting p call)) x → RegistersAllow s.host d (f d) x m → HasWrite p × MarksCall p call (length (f d)) → Found x
+    putting CloseGate x is fits allow (writes, marked) = inl (begins p due stands x is marked writes (silent s f d (Putting p CloseGate) x (λ e. absurd (cc)) fits))
+    putting SyncClosed x is fits allow (writes, marked) = quiet (Putting p SyncClosed) x (λ e. absurd (cc)) is fits (block_same c) marked
+    putting PutBody x is fits allow (writes, marked) = quiet (Putting p PutBody) x (λ e. absurd (cc)) is fits (block_same c) marked
+    putting SyncBody x is fits allow (writes, marked) = quiet (Putting p SyncBody) x (λ e. absurd (cc)) is fits (block_same c) marked
+    putting OpenGate x is fits allow (writes, marked) = quiet (Putting p OpenGate) x (λ e. absurd (cc)) is fits (block_same c) marked
+    putting SyncOpened x is fits allow (writes, marked) = sixth x is fits allow marked writes
 
-    -- the phase of the call is that of the attempt
-    phase_is : (q : Phase) → start q ≤ length (f d) → length (f d) < goal q → q ≡ p
-    phase_is q come short = let w = waiting p due stands in one_phase p q (length (f d)) w.part.come w.short come short
+    here : IsWithin p (length (f d))
+    here = let w = waiting p due stands in record { come = w.part.come; short = w.short }
 
-    by_kind : (kind : Kind) (x : Heard) → IsNext (f d) kind → Fits (call_by s d f kind) x → RegistersAllow s.host d (f d) x m → Marks kind (length (f d)) → Found x
-    by_kind Attaching x is fits allow marked = quiet Attaching x (λ e. absurd (cc)) is fits (block_same c) marked
-    by_kind Syncing x is fits allow marked = quiet Syncing x (λ e. absurd (cc)) is fits (block_same c) marked
-    by_kind Reading x is fits allow (q, marked) =
-        reading x is fits allow (subst (λ (r : Phase). length (f d) + 1 ≡ goal r) (phase_is q marked.come (omega (arith, marked.last))) marked.last)
-    by_kind (Putting q call) x is fits allow (within, marked) =
-        subst (λ (r : Phase). IsNext (f d) (Putting r call) → Fits (call_by s d f (Putting r call)) x → RegistersAllow s.host d (f d) x m → MarksCall r call (length (f d)) → 1 ≤ writing_in r → Found x)
-        (sym (phase_is q within.come within.short)) (putting call x) is fits allow marked within.writes
+    by_kind : (kind : Kind) (x : Heard) → IsNext (f d) kind → Fits (call_by s d f kind) x → RegistersAllow s.host d (f d) x m → Found x
+    by_kind Attaching x is fits allow = quiet Attaching x (λ e. absurd (cc)) is fits (block_same c) (table.attaching (length (f d)) is)
+    by_kind Syncing x is fits allow = quiet Syncing x (λ e. absurd (cc)) is fits (block_same c) (table.syncing (length (f d)) is)
+    by_kind Reading x is fits allow = reading x is fits allow (table.reading p (length (f d)) here is)
+    by_kind (Putting q call) x is fits allow =
+        subst (λ (r : Phase). IsNext (f d) (Putting r call) → Fits (call_by s d f (Putting r call)) x → Found x) (sym (table.putting p (length (f d)) here q call is))
+        (λ is fits. putting call x is fits allow (table.writing p call (length (f d)) is)) is fits
 
     -- an answer to the call due is at most one event, or tells of a greater ballot
     pub answered : (x : Heard) → IsAnswer s f d x → RegistersAllow s.host d (f d) x m → Moves s p f d x m ⊎ IsFaster s p f d x m
-    answered x answer allow = by_kind answer.kind x answer.kind_is answer.fits allow (marks (length (f d)) answer.kind answer.kind_is)
+    answered x answer allow = by_kind answer.kind x answer.kind_is answer.fits allow

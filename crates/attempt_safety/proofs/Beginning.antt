@@ -1,5 +1,5 @@
 -- An attempt begins; and a write of it may begin whose first call gets no answer.
-use Rattle.std.proofs.Common.{true≢false, ℕ, zero, suc, ◌≤◌, ◌≡◌, ◌<◌, inl, inr, true, Some, List, [], ◌∷◌, ◌++◌, length, refl, sym, subst, ap, ap₂, ◌∙◌, arith}
+use Rattle.std.proofs.Common.{ℕ, zero, suc, ◌≡◌, ◌<◌, List, [], ◌∷◌, ◌++◌, length, refl, sym, subst, ap, ap₂, ◌∙◌, arith}
 use Rattle.torn_block.specs.declared.write_steps.WriteCall.TheVariants.{CloseGate}
 use Rattle.paxos_block.specs.declared.block.PBlock.{PBlock}
 use Rattle.paxos_block.specs.Row.{blank}
@@ -7,10 +7,9 @@ use Rattle.paxos_block.specs.Votes.{greatest}
 use Rattle.attempt.specs.Calls.{Phase, Opening, One, Two, Putting, goal}
 use Rattle.attempt.specs.Answers.{Answered, on}
 use Rattle.attempt.specs.Setup.{Setup}
-use Rattle.attempt.specs.Visits.{waits}
 use Rattle.attempt.specs.Proposal.{own_below}
 use Rattle.attempt.specs.Status.{Status, Due, Ended, Committed, Empty, Outrun, NoMajority, BallotsSpent, status}
-use Rattle.attempt.proofs.Visitors.{IsWaiting, waiting_is}
+use Rattle.attempt.proofs.Visitors.{waiting_is}
 use Rattle.attempt.proofs.Statuses.{IsOver, Tells, status_tells, due_is}
 use Rattle.attempt.proofs.Histories.{visit}
 use Rattle.agreement.specs.State.{Cell, none_opened, start}
@@ -20,10 +19,10 @@ use Rattle.agreement.specs.Event.Event.{Starts, Begins}
 use Rattle.agreement.proofs.Puts.{put_same}
 use Rattle.agreement.proofs.Steps.{state_by-append, may_both}
 use Rattle.agreement.proofs.Runs.{holds_reached}
-use Rattle.attempt_safety.specs.Machine.{Machine, vote_said, top, mind_in, write_in}
+use Rattle.attempt_safety.specs.Machine.{Machine, vote_said, mind_in, write_in}
 use Rattle.attempt_safety.specs.Follows.{StandsIn, Agrees, Follows}
 use Rattle.attempt_safety.specs.Registers.{IsNext}
-use Rattle.attempt_safety.proofs.Stages.{marks}
+use Rattle.attempt_safety.proofs.Stages.{writing}
 use Rattle.attempt_safety.proofs.Answering.{may_begin}
 use Rattle.attempt_safety.proofs.Turning.{none_over}
 
@@ -82,6 +81,6 @@ pub write_begins : (s : Setup) (early : List (Event (List ℕ))) (heard : List A
 write_begins s early heard p d is_run follows due is =
     let stands : StandsIn s p (on heard) (state_after early) = subst (Agrees s (on heard) (state_after early)) due follows.agrees in
     let waiting = waiting_is s p (on heard d) (visit s p d (on heard) (due_is s (on heard) p d due)).passes in
-    let marked = marks (length (on heard d)) (Putting p CloseGate) is in
+    let marked = writing p CloseGate (length (on heard d)) is in
     one_more s.disks early (Begins s.host d (write_in s p (on heard))) is_run
-    (may_begin s p (on heard) d (state_after early) (holds_reached s.disks early is_run) stands waiting.part marked.0.writes marked.1)
+    (may_begin s p (on heard) d (state_after early) (holds_reached s.disks early is_run) stands waiting.part marked.0 marked.1)

@@ -1,8 +1,7 @@
 -- What an attempt commits is chosen, and what is chosen is chosen in the machine.
-use Rattle.std.specs.Prelude.{nat_lt, not}
-use Rattle.std.proofs.Common.{ℕ, ◌<◌, ◌≤◌, ◌≡◌, true, false, Option, Some, None, List, ◌∷◌, [], ◌++◌, length, is_some, refl, sym, ap, ◌∙◌, arith}
+use Rattle.std.specs.Prelude.{not}
+use Rattle.std.proofs.Common.{ℕ, ◌<◌, ◌≤◌, ◌≡◌, true, List, ◌∷◌, [], ◌++◌, ap, ◌∙◌, arith}
 use Rattle.std.proofs.lemmas.Bool.{le-ltb, ltb-false}
-use Rattle.paxos_block.specs.Row.{SeenBlock}
 use Rattle.paxos_block.specs.Votes.{others_top_of}
 use Rattle.paxos_block.proofs.VoteLemmas.{greatest_is_greatest}
 use Rattle.attempt.specs.Calls.{Two}
@@ -54,4 +53,4 @@ pub chosen : (s : Setup) (early : List (Event (List ℕ))) (heard : List Answere
     → IsChosenBy s.disks (state_after (early ++ leads.events)) (ballot s (on (heard ++ x ∷ []))) value
 chosen s early heard x value leads chooses =
     commits_chosen s.disks (state_after (early ++ leads.events)) (holds_reached s.disks (early ++ leads.events) leads.is_run)
-    s.host (ballot s (on (heard ++ x ∷ []))) value (leads.commits value chooses)
+    s.host (ballot s (on (heard ++ x ∷ []))) value (leads.arrives.commits value chooses)

@@ -1,7 +1,7 @@
 -- One answer, from the call that was due to the status behind it, is a few events of the machine.
 use Rattle.std.specs.Prelude.{nat_lt, not}
 use Rattle.std.specs.List.{All}
-use Rattle.std.proofs.Common.{ℕ, ◌+◌, ◌<◌, ◌≤◌, ◌≡◌, ◌≢◌, inl, inr, true, false, Some, List, [], ◌∷◌, ◌++◌, length, length-append, refl, sym, subst, ap, ap₂, ◌∙◌, arith}
+use Rattle.std.proofs.Common.{ℕ, ◌+◌, ◌<◌, ◌≤◌, ◌≡◌, inl, inr, true, false, Some, List, [], ◌∷◌, ◌++◌, length, length-append, sym, subst, ap, ◌∙◌, arith}
 use Rattle.std.proofs.lemmas.Bool.{cases_eq, both_ways, lt-ltb, ltb-true}
 use Rattle.std.proofs.lemmas.List.Elements.{All-nil, All-append}
 use Rattle.torn_block.specs.declared.layout.TheConstants.{HOSTS}
@@ -15,12 +15,12 @@ use Rattle.attempt.specs.Visits.{takes_part, visited, is_left, are_enough}
 use Rattle.attempt.specs.Proposal.{ballot, others_top, others_mbal}
 use Rattle.attempt.specs.NextCall.{next_call}
 use Rattle.attempt.specs.Standing.{IsIn}
-use Rattle.attempt.specs.Status.{Status, Ended, Outrun, status}
+use Rattle.attempt.specs.Status.{Ended, Outrun, status}
 use Rattle.attempt.specs.History.{IsAnswerTo, IsHistory}
 use Rattle.attempt.proofs.Lists.{length_more, row_last}
 use Rattle.attempt.proofs.More.{more_here, more_there, by_disk, on_more}
 use Rattle.attempt.proofs.Replies.{history_more, IsAnswer, answer_is}
-use Rattle.attempt.proofs.Rows.{AreSameRows, ballot_same, rows_kept}
+use Rattle.attempt.proofs.Rows.{ballot_same, rows_kept}
 use Rattle.attempt.proofs.Visitors.{IsWaiting, waiting_is, part_if, part_more, left_is}
 use Rattle.attempt.proofs.Statuses.{IsDueAt, due_is, status_tells, in_kept, EnoughBefore, enough_before, enough_more, outrun_one, outrun_two}
 use Rattle.attempt.proofs.Histories.{IsReached, history_reached, visit, behind_due}
@@ -30,7 +30,7 @@ use Rattle.agreement.specs.Chosen.{IsCommitted}
 use Rattle.agreement.proofs.Steps.{state_by-append, may_both}
 use Rattle.agreement.proofs.Invariant.{Holds}
 use Rattle.agreement.proofs.Runs.{holds_reached}
-use Rattle.attempt_safety.specs.Machine.{Machine, stage_at, mind_in}
+use Rattle.attempt_safety.specs.Machine.{Machine, stage_at}
 use Rattle.attempt_safety.specs.Follows.{StandsIn, Agrees, Follows}
 use Rattle.attempt_safety.specs.Registers.{IsNext, RegistersAllow}
 use Rattle.attempt_safety.specs.Chosen.{accepts_in, accepts, Chooses}
@@ -41,7 +41,7 @@ use Rattle.attempt_safety.proofs.Answering.{Moves, IsFaster, answered}
 use Rattle.attempt_safety.proofs.Turning.{Turns, Accepted, commits_by, not_yet, turn}
 
 -- with an answer the machine m has come to n, which agrees with the attempt
-pub record Arrives (s : Setup) (f : Answers) (d : ℕ) (x : Heard) (g : Answers) (m n : Machine) : Type 0 where
+pub record Goes (s : Setup) (f : Answers) (d : ℕ) (x : Heard) (g : Answers) (m n : Machine) : Type 0 where
   pub agrees : Agrees s g n (status s g)
   pub commits : (value : List ℕ) → Chooses s g value → IsCommitted s.disks n s.host (ballot s g) value
   pub others : LeavesOthers s.host d m n
@@ -53,7 +53,7 @@ pub record Comes (s : Setup) (f : Answers) (d : ℕ) (x : Heard) (g : Answers) (
   pub few : length events ≤ 2
   pub own : All (IsOfAttempt s g) events
   pub allowed : AllAllowed s.disks m events
-  pub arrives : Arrives s f d x g m (run m events)
+  pub goes : Goes s f d x g m (run m events)
 
 module _ (s : Setup) (f : Answers) (d : ℕ) (x : Heard) (m : Machine) (p : Phase) (due : IsDueAt s p d f) (reached : IsReached s f) (stands : StandsIn s p f m) (reached_then : IsReached s (more f d x)) (host_below : s.host < HOSTS) where
   abbrev g : Answers
@@ -77,7 +77,7 @@ module _ (s : Setup) (f : Answers) (d : ℕ) (x : Heard) (m : Machine) (p : Phas
         few = omega (arith, length-append one.events two.events, one.few, two.few);
         own = All-append (IsOfAttempt s g) one.events two.events one.own two.own;
         allowed = may_both after (Allowed s.disks) m one.events two.events one.allowed two.allowed;
-        arrives = subst (Arrives s f d x g m) (sym (state_by-append after m one.events two.events)) (record {
+        goes = subst (Goes s f d x g m) (sym (state_by-append after m one.events two.events)) (record {
           agrees = two.agrees;
           commits = two.commits;
           others = leaves_then s.host d m (run m one.events) (run (run m one.events) two.events) one.others two.minds two.cells;
@@ -158,7 +158,7 @@ module _ (s : Setup) (f : Answers) (d : ℕ) (x : Heard) (m : Machine) (p : Phas
         few = omega arith;
         own = All-nil (IsOfAttempt s (more f d x));
         allowed = tt;
-        arrives = record {
+        goes = record {
           agrees = subst (Agrees s (more f d x) m) (sym ended) tt;
           commits = faster_commits s f d x m p due reached stands reached_then host_below k.row k.is k.last k.later k.above;
           others = leaves_same s.host d m;
@@ -181,17 +181,19 @@ module _ (s : Setup) (early : List (Event (List ℕ))) (heard : List Answered) (
 
   leads_by : IsRun s.disks early → IsHistory s new → Comes s (on heard) x.disk x.heard (on new) (state_after early) → Leads s early heard x
   leads_by is_run history k =
-      let arrives : Arrives s (on heard) x.disk x.heard (on new) (state_after early) (state_after (early ++ k.events)) =
-      subst (Arrives s (on heard) x.disk x.heard (on new) (state_after early)) (sym (state_by-append after beginning early k.events)) k.arrives in
+      let there : Goes s (on heard) x.disk x.heard (on new) (state_after early) (state_after (early ++ k.events)) =
+      subst (Goes s (on heard) x.disk x.heard (on new) (state_after early)) (sym (state_by-append after beginning early k.events)) k.goes in
       record {
         events = k.events;
         few = k.few;
         own = k.own;
         is_run = may_both after (Allowed s.disks) beginning early k.events is_run k.allowed;
-        follows = record { history = history; agrees = arrives.agrees };
-        commits = arrives.commits;
-        others = arrives.others;
-        block = arrives.block;
+        arrives = record {
+          follows = record { history = history; agrees = there.agrees };
+          commits = there.commits;
+          others = there.others;
+          block = there.block;
+        };
       }
 
   pub leads : s.host < HOSTS → IsRun s.disks early → Follows s heard (state_after early) → IsAnswerTo (next_call s (on heard)) x

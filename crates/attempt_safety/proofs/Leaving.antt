@@ -1,9 +1,9 @@
 -- What others do, and what becomes of blocks, leaves an attempt where the machine follows it.
-use Rattle.std.proofs.Common.{ℕ, ◌*◌, ◌<◌, ◌≡◌, ◌≢◌, ◌==◌, true, List, refl, ap, ◌∙◌, arith}
+use Rattle.std.proofs.Common.{ℕ, ◌≡◌, ◌≢◌, ◌==◌, List, refl, ap, ◌∙◌, arith}
 use Rattle.attempt.specs.Answers.{Answered, Answers, on}
 use Rattle.attempt.specs.Setup.{Setup}
 use Rattle.attempt.specs.Status.{Status, Due, Ended, Committed, Empty, Outrun, NoMajority, BallotsSpent, status}
-use Rattle.agreement.specs.Majority.{count, IsMajority}
+use Rattle.agreement.specs.Majority.{IsMajority}
 use Rattle.agreement.specs.State.{Block, Cell, put}
 use Rattle.agreement.specs.Event.{is_at, at_rest, after}
 use Rattle.agreement.specs.Event.Event.{Settles, Crashes}

@@ -1,13 +1,13 @@
 -- The rows that a mind takes in: the opening's, and phase 1's.
 use Rattle.std.specs.Prelude.{nat_lt, max, if◌then◌else◌}
-use Rattle.std.proofs.Common.{ℕ, zero, suc, ◌+◌, ◌<◌, ◌≤◌, ◌≡◌, ◌≢◌, ◌==◌, inl, inr, Bool, true, false, None, Some, List, refl, sym, subst, ap, ◌∙◌, arith}
+use Rattle.std.proofs.Common.{ℕ, zero, suc, ◌<◌, ◌≤◌, ◌≡◌, ◌≢◌, ◌==◌, inl, inr, Bool, true, false, None, Some, List, refl, sym, subst, ap, ◌∙◌, arith}
 use Rattle.std.proofs.lemmas.Bool.{cases_lt, ltb-true, ltb-false}
 use Rattle.torn_block.specs.declared.layout.TheConstants.{HOSTS}
 use Rattle.paxos_block.specs.declared.block.PBlock.{PBlock}
 use Rattle.paxos_block.specs.Row.{SeenBlock}
 use Rattle.paxos_block.specs.Votes.{says_in, top_of, others_top_of, later_of, latest_below, latest_in}
 use Rattle.paxos_block.proofs.VoteLemmas.{greatest_is_greatest}
-use Rattle.attempt.specs.Calls.{Phase, Opening, One}
+use Rattle.attempt.specs.Calls.{Opening, One}
 use Rattle.attempt.specs.Answers.{Told, Answers, more}
 use Rattle.attempt.specs.Setup.{Setup}
 use Rattle.attempt.specs.Proposal.{own, best}

@@ -1,15 +1,12 @@
 -- What follows an answer: the attempt goes on, comes to its next phase, or ends; and so does the machine.
-use Rattle.std.specs.Prelude.{nat_lt, if◌then◌else◌}
 use Rattle.std.specs.List.{All}
-use Rattle.std.proofs.Common.{true≢false, ℕ, zero, suc, ◌+◌, ◌*◌, ◌<◌, ◌≤◌, ◌≡◌, ◌≢◌, inl, inr, Bool, true, false, cond, Option, Some, None, List, [], ◌∷◌, length, refl, sym, subst, ap, ◌∙◌, arith}
+use Rattle.std.proofs.Common.{ℕ, zero, suc, ◌+◌, ◌*◌, ◌<◌, ◌≤◌, ◌≡◌, ◌≢◌, inl, inr, Bool, true, false, cond, Option, Some, None, List, [], ◌∷◌, length, refl, sym, ap, ◌∙◌, arith}
 use Rattle.std.proofs.lemmas.Bool.{cases_lt, cases_Bool, both_ways, ltb-true, eq-eqb}
 use Rattle.std.proofs.lemmas.List.Elements.{All-nil, All-cons}
 use Rattle.torn_block.specs.declared.layout.TheConstants.{HOSTS}
-use Rattle.paxos_block.specs.Row.{SeenBlock}
-use Rattle.paxos_block.specs.Votes.{ballot_above}
 use Rattle.paxos_block.proofs.VoteLemmas.{above, owned}
 use Rattle.attempt.specs.Calls.{Phase, Opening, One, Two, start, goal}
-use Rattle.attempt.specs.Answers.{Heard, Answers, all_good, row_in}
+use Rattle.attempt.specs.Answers.{Answers, all_good, row_in}
 use Rattle.attempt.specs.Setup.{Setup}
 use Rattle.attempt.specs.Numbers.{count as passing}
 use Rattle.attempt.specs.Visits.{takes_part, visited, is_left, are_enough}
@@ -20,14 +17,14 @@ use Rattle.attempt.proofs.Firsts.{count_below}
 use Rattle.attempt.proofs.Lists.{row_none}
 use Rattle.attempt.proofs.Rows.{best_none}
 use Rattle.attempt.proofs.Visitors.{IsPart, part_is, part_if, part_before, left_is, left_over}
-use Rattle.attempt.proofs.Statuses.{IsDueAt, IsOver, HasNone, HasChosen, Tells, EnoughBefore, enough_before, enough_part}
+use Rattle.attempt.proofs.Statuses.{IsDueAt, IsOver, HasNone, HasChosen, Tells, enough_before, enough_part}
 use Rattle.attempt.proofs.OneDisk.{IsDisk}
 use Rattle.agreement.specs.Majority.{count, IsMajority}
 use Rattle.agreement.specs.State.{Cell, put, seen, read_one, read_two, first_asking}
 use Rattle.agreement.specs.State.Mind.{One as OneMind, Two as TwoMind}
 use Rattle.agreement.specs.Event.{Event, is_at, MayPropose, AllAllowed, after, run}
 use Rattle.agreement.specs.Event.Event.{Takes, Proposes}
-use Rattle.agreement.specs.Chosen.{IsCommitted, IsEmpty}
+use Rattle.agreement.specs.Chosen.{IsCommitted}
 use Rattle.agreement.proofs.Puts.{put_same, put_other, all_put}
 use Rattle.attempt_safety.specs.Machine.{Machine, stage_at, top, opened, asking, mind_in}
 use Rattle.attempt_safety.specs.Follows.{StandsIn, Agrees}

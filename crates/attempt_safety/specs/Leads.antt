@@ -9,7 +9,7 @@ use Rattle.attempt.specs.Proposal.{ballot, proposal}
 use Rattle.attempt.specs.NextCall.{says_for}
 use Rattle.agreement.specs.State.{Block, Cell}
 use Rattle.agreement.specs.Event.{Event, IsRun, state_after}
-use Rattle.agreement.specs.Event.Event.{Settles, Crashes, Stops, Starts, Drops, Sees, Takes, Begins, Confirms, ReadsOne, Proposes, ReadsTwo}
+use Rattle.agreement.specs.Event.Event.{Sees, Takes, Begins, Confirms, ReadsOne, Proposes, ReadsTwo}
 use Rattle.agreement.specs.Chosen.{IsCommitted}
 use Rattle.attempt_safety.specs.Machine.{Machine, block_said}
 use Rattle.attempt_safety.specs.Follows.{Follows}
@@ -18,13 +18,9 @@ use Rattle.attempt_safety.specs.Chosen.{Chooses}
 
 -- WHOSE THE EVENTS ARE
 
--- the event is one of the attempt's: of its host, and what is proposed is its proposal
+-- the event is the attempt's: one of the calls that its host makes, or the end of a phase, and what it proposes is the
+-- attempt's proposal
 abbrev pub IsOfAttempt : Setup → Answers → Event (List ℕ) → Type 0
-IsOfAttempt s f (Settles h d x) = ⊥
-IsOfAttempt s f (Crashes d left) = ⊥
-IsOfAttempt s f (Stops h) = ⊥
-IsOfAttempt s f (Starts h) = ⊥
-IsOfAttempt s f (Drops h d) = ⊥
 IsOfAttempt s f (Sees h d old new) = h ≡ s.host
 IsOfAttempt s f (Takes h o b) = h ≡ s.host
 IsOfAttempt s f (Begins h d w) = h ≡ s.host
@@ -32,6 +28,7 @@ IsOfAttempt s f (Confirms h d w) = h ≡ s.host
 IsOfAttempt s f (ReadsOne h d row a best) = h ≡ s.host
 IsOfAttempt s f (Proposes h a value) = (h ≡ s.host) × (proposal s f ≡ Some value)
 IsOfAttempt s f (ReadsTwo h d row t) = h ≡ s.host
+IsOfAttempt s f other = ⊥
 
 -- WHAT BECOMES OF THE BLOCKS
 
@@ -50,7 +47,7 @@ pub record IsConfirmed (x : Block (List ℕ)) (new : Cell (List ℕ)) : Type 0 w
   pub confirmed : new.confirmed ≡ x
   pub writing : new.writing ≡ None
 
--- The host's own block on the disk that answers. With the first call of a write, whatever its answer, the write has
+-- The host's own block on the disk that answers: with the first call of a write, whatever its answer, the write has
 -- begun; with the success of the sixth it is confirmed; no other answer changes the block.
 abbrev pub OwnBlock : Setup → Answers → Kind → Heard → Cell (List ℕ) → Cell (List ℕ) → Type 0
 OwnBlock s f (Putting p CloseGate) x old new = IsBegun (block_said (says_for s p f)) old new
@@ -65,19 +62,22 @@ pub record LeavesOthers (h d : ℕ) (old new : Machine) : Type 0 where
 
 -- WHAT AN ANSWER LEADS TO
 
--- behind a run of the machine that follows an attempt, and an answer to the call due
+-- with an answer the machine has come from old to new
+pub record Arrives (s : Setup) (heard : List Answered) (x : Answered) (old new : Machine) : Type 0 where
+  -- it follows the attempt with the answer
+  pub follows : Follows s (heard ++ x ∷ []) new
+  -- what is chosen with the answer is committed, however the attempt ends
+  pub commits : (value : List ℕ) → Chooses s (on (heard ++ x ∷ [])) value
+      → IsCommitted s.disks new s.host (ballot s (on (heard ++ x ∷ []))) value
+  pub others : LeavesOthers s.host x.disk old new
+  pub block : (kind : Kind) → IsNext (on heard x.disk) kind
+      → OwnBlock s (on heard) kind x.heard (old.cell s.host x.disk) (new.cell s.host x.disk)
+
+-- behind a run of the machine, the answer is at most two events: its own, and the end of a phase
 pub record Leads (s : Setup) (early : List (Event (List ℕ))) (heard : List Answered) (x : Answered) : Type 0 where
   pub events : List (Event (List ℕ))
-  -- at most two: what the answer is, and the end of the phase
   pub few : length events ≤ 2
   pub own : All (IsOfAttempt s (on (heard ++ x ∷ []))) events
   -- each is allowed where it stands
   pub is_run : IsRun s.disks (early ++ events)
-  -- the machine follows the attempt with the answer
-  pub follows : Follows s (heard ++ x ∷ []) (state_after (early ++ events))
-  -- what is chosen with the answer is committed
-  pub commits : (value : List ℕ) → Chooses s (on (heard ++ x ∷ [])) value
-      → IsCommitted s.disks (state_after (early ++ events)) s.host (ballot s (on (heard ++ x ∷ []))) value
-  pub others : LeavesOthers s.host x.disk (state_after early) (state_after (early ++ events))
-  pub block : (kind : Kind) → IsNext (on heard x.disk) kind
-      → OwnBlock s (on heard) kind x.heard ((state_after early).cell s.host x.disk) ((state_after (early ++ events)).cell s.host x.disk)
+  pub arrives : Arrives s heard x (state_after early) (state_after (early ++ events))

@@ -1,4 +1,4 @@
--- An attempt as agreement's machine of its slot has it: what blocks say, how far it has come on a disk, what the host knows and writes.
+-- An attempt as agreement's machine has it: what blocks say, how far it has come, what its host knows and writes.
 use Rattle.std.specs.Prelude.{ℕ, List, [], ◌∷◌, slice_index_or}
 use Rattle.paxos_block.specs.declared.block.PBlock.{PBlock}
 use Rattle.paxos_block.specs.Row.{SeenBlock}

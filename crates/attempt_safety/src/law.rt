@@ -21,8 +21,8 @@ ghost use Rattle.attempt_safety.specs.Leads.{Leads, LeavesOthers};
 
 /// Behind any run of the machine an attempt may begin, and with its start the machine follows it.
 pub fn attempt_begins()
-    ensures runs { (s : Setup) (early : List (Event (List ℕ))) → IsRun s.disks early →
-        IsRun s.disks (early ++ Starts s.host ∷ []) }
+    ensures runs { (s : Setup) (early : List (Event (List ℕ))) →
+        IsRun s.disks early → IsRun s.disks (early ++ Starts s.host ∷ []) }
     ensures follows { (s : Setup) (early : List (Event (List ℕ))) →
         Follows s [] (state_after (early ++ Starts s.host ∷ [])) }
 {}
@@ -30,34 +30,43 @@ pub fn attempt_begins()
 /// Whatever is answered to the call due, where the registers allow it, is at most two events of the
 /// machine, each of them allowed, behind which the machine follows the attempt with that answer.
 pub fn answers_lead()
-    ensures { (s : Setup) (early : List (Event (List ℕ))) (heard : List Answered) (x : Answered) → s.host < HOSTS →
-        IsRun s.disks early → Follows s heard (state_after early) → IsAnswerTo (next_call s (on heard)) x →
-        RegistersAllow s.host x.disk (on heard x.disk) x.heard (state_after early) → Leads s early heard x }
+    ensures { (s : Setup) (early : List (Event (List ℕ))) (heard : List Answered) (x : Answered) →
+        s.host < HOSTS → IsRun s.disks early → Follows s heard (state_after early) →
+        IsAnswerTo (next_call s (on heard)) x →
+        RegistersAllow s.host x.disk (on heard x.disk) x.heard (state_after early) →
+        Leads s early heard x }
 {}
 
-/// Where the host stops in the first call of a write, and so without an answer, the write may begin all the same.
+/// Where a host stops in the first call of a write, which then has no answer, the write may begin.
 pub fn torn_writes_begin()
-    ensures { (s : Setup) (early : List (Event (List ℕ))) (heard : List Answered) (p : Phase) (d : ℕ) →
-        IsRun s.disks early → Follows s heard (state_after early) →
+    ensures { (s : Setup) (early : List (Event (List ℕ))) (heard : List Answered)
+        (p : Phase) (d : ℕ) → IsRun s.disks early → Follows s heard (state_after early) →
         status s (on heard) ≡ Due p d → IsNext (on heard d) (Putting p CloseGate) →
         IsRun s.disks (early ++ Begins s.host d (write_in s p (on heard)) ∷ []) }
 {}
 
-/// The machine goes on to follow an attempt while others do what they do, and blocks settle.
+/// The machine goes on to follow an attempt, whatever other hosts do and whatever blocks settle to.
 pub fn others_leave_it()
-    // All that counts is the host's own mind, and how far it has come.
+    // All that counts is the own host's mind, and how far it has come.
     ensures same { (s : Setup) (heard : List Answered) (old new : Machine) →
         IsSameHost s.host old new → Follows s heard old → Follows s heard new }
-    ensures others { (h g d : ℕ) (old new : Machine) → h ≢ g → LeavesOthers g d old new → IsSameHost h old new }
-    ensures settling { (h g d : ℕ) (x : Block (List ℕ)) (m : Machine) → IsSameHost h m (after m (Settles g d x)) }
-    ensures crashing { (h d : ℕ) (left : ℕ → Block (List ℕ)) (m : Machine) → IsSameHost h m (after m (Crashes d left)) }
+    ensures others { (h g d : ℕ) (old new : Machine) → h ≢ g →
+        LeavesOthers g d old new → IsSameHost h old new }
+    ensures settling { (h g d : ℕ) (x : Block (List ℕ)) (m : Machine) →
+        IsSameHost h m (after m (Settles g d x)) }
+    ensures crashing { (h d : ℕ) (left : ℕ → Block (List ℕ)) (m : Machine) →
+        IsSameHost h m (after m (Crashes d left)) }
 {}
 
-/// What an attempt commits is chosen, and what is chosen is chosen in the machine, however the attempt ends.
+/// What an attempt commits is chosen; and what is chosen, however the attempt ends, is chosen in
+/// the machine.
 pub fn what_is_chosen()
     ensures committed { (s : Setup) (heard : List Answered) (value : List ℕ) →
-        IsHistory s heard → status s (on heard) ≡ Ended (Committed value) → Chooses s (on heard) value }
-    ensures chosen { (s : Setup) (early : List (Event (List ℕ))) (heard : List Answered) (x : Answered)
-        (value : List ℕ) (leads : Leads s early heard x) → Chooses s (on (heard ++ x ∷ [])) value →
-        IsChosenBy s.disks (state_after (early ++ leads.events)) (ballot s (on (heard ++ x ∷ []))) value }
+        IsHistory s heard → status s (on heard) ≡ Ended (Committed value) →
+        Chooses s (on heard) value }
+    ensures chosen { (s : Setup) (early : List (Event (List ℕ))) (heard : List Answered)
+        (x : Answered) (value : List ℕ) (leads : Leads s early heard x) →
+        Chooses s (on (heard ++ x ∷ [])) value →
+        IsChosenBy s.disks (state_after (early ++ leads.events))
+            (ballot s (on (heard ++ x ∷ []))) value }
 {}
