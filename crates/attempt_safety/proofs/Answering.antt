@@ -12,7 +12,7 @@ use Rattle.paxos_block.specs.Votes.{others_top_of}
 use Rattle.attempt.specs.Calls.{Phase, Opening, One, Two, Kind, Attaching, Syncing, Reading, Putting, start, goal}
 use Rattle.attempt.specs.Answers.{Heard, Booted, Done, Told, Fault, Answers, is_bad, all_good, told, more}
 use Rattle.attempt.specs.Setup.{Setup}
-use Rattle.attempt.specs.Proposal.{ballot, own}
+use Rattle.attempt.specs.Proposal.{ballot}
 use Rattle.attempt.specs.NextCall.{call_by}
 use Rattle.attempt.specs.History.{Fits}
 use Rattle.attempt.proofs.Lists.{row_none}
@@ -25,13 +25,14 @@ use Rattle.agreement.specs.State.{Cell, seen, wrote_one, read_one, wrote_two, re
 use Rattle.agreement.specs.State.Mind.{Opening as OpeningMind, One as OneMind}
 use Rattle.agreement.specs.Event.{Event, write_of, being_written, at_rest, at_stage, IsRow, Allowed, AllAllowed, after, run}
 use Rattle.agreement.specs.Event.Event.{Sees, Begins, Confirms, ReadsOne, ReadsTwo}
+use Rattle.agreement.specs.Chosen.{PutsIn}
 use Rattle.agreement.proofs.Invariant.{Holds, IsWrite}
 use Rattle.agreement.proofs.Writing.{to_write, writes_at_rest}
 use Rattle.agreement.proofs.Puts.{put_same, put_other}
 use Rattle.attempt_safety.specs.Machine.{Machine, blocks_said, stage_at, opened, asking, telling, mind_in, writing_in, write_in}
 use Rattle.attempt_safety.specs.Follows.{StandsIn}
 use Rattle.attempt_safety.specs.Registers.{IsNext, RegistersAllow}
-use Rattle.attempt_safety.specs.Leads.{IsOfAttempt, LeavesOthers, OwnBlock}
+use Rattle.attempt_safety.specs.Leads.{IsOfHost, IsOfAttempt, LeavesOthers, OwnBlock}
 use Rattle.attempt_safety.proofs.Stages.{IsWithin, HasWrite, IsFirstCall, IsSixthCall, MarksCall}
 use Rattle.attempt_safety.proofs.Stages as table
 use Rattle.attempt_safety.proofs.Stands.{mind_same, stands_more, mind_stays, stands_quiet}
@@ -42,7 +43,7 @@ use Rattle.attempt_safety.proofs.Cells.{block_same, leaves_same, changed, change
 pub record Moves (s : Setup) (p : Phase) (f : Answers) (d : ℕ) (x : Heard) (m : Machine) : Type 0 where
   pub events : List (Event (List ℕ))
   pub few : length events ≤ 1
-  pub own : All (IsOfAttempt s (more f d x)) events
+  pub own : All (IsOfAttempt s) events
   pub allowed : AllAllowed s.disks m events
   pub stands : StandsIn s p (more f d x) (run m events)
   pub others : LeavesOthers s.host d m (run m events)
@@ -136,7 +137,7 @@ module _ (s : Setup) (f : Answers) (d : ℕ) (m : Machine) (holds : Holds s.disk
         record {
           events = [];
           few = omega arith;
-          own = All-nil (IsOfAttempt s (more f d x));
+          own = All-nil (IsOfAttempt s);
           allowed = tt;
           stands = stands_quiet s p f d x m waiting.part.come stands none waiting.part.good level;
           others = leaves_same s.host d m;
@@ -144,15 +145,15 @@ module _ (s : Setup) (f : Answers) (d : ℕ) (m : Machine) (holds : Holds s.disk
         }
 
     -- an event that gives the host another cell on the disk
-    by_event : (kind : Kind) (x : Heard) (e : Event (List ℕ)) (new : Cell (List ℕ)) → IsNext (f d) kind → IsOfAttempt s (more f d x) e → Allowed s.disks m e
+    by_event : (kind : Kind) (x : Heard) (e : Event (List ℕ)) (new : Cell (List ℕ)) → IsNext (f d) kind → IsOfHost s.host e → ((value : List ℕ) → ¬ PutsIn e value) → Allowed s.disks m e
         → (after m e).cell ≡ changed m s.host d new → (after m e).mind s.host ≡ mind_in s p (more f d x) → ((g : ℕ) → g ≢ s.host → (after m e).mind g ≡ m.mind g)
         → (is_bad x ≡ false → new.stage ≡ stage_at (length (f d) + 1)) → OwnBlock s f kind x c new → Moves s p f d x m
-    by_event kind x e new is own allowed cells knows minds stage block =
+    by_event kind x e new is host none allowed cells knows minds stage block =
         let here : (after m e).cell s.host d ≡ new = ap (λ (all : ℕ → ℕ → Cell (List ℕ)). all s.host d) cells ∙ changed_here m s.host d new in
         record {
           events = e ∷ [];
           few = omega arith;
-          own = All-cons (IsOfAttempt s (more f d x)) e [] own (All-nil (IsOfAttempt s (more f d x)));
+          own = All-cons (IsOfAttempt s) e [] (record { host = host; input = λ value puts. absurd (none value puts) }) (All-nil (IsOfAttempt s));
           allowed = (allowed, tt);
           stands = stands_more s p f d x m waiting.part.come stands (after m e) knows
               (λ good. ap (λ (k : Cell (List ℕ)). k.stage) here ∙ stage good)
@@ -164,7 +165,7 @@ module _ (s : Setup) (f : Answers) (d : ℕ) (m : Machine) (holds : Holds s.disk
     -- the first call of a write: it begins, whatever is answered
     begins : (x : Heard) → IsNext (f d) (Putting p CloseGate) → IsFirstCall p (length (f d)) → HasWrite p → told x ≡ None → Moves s p f d x m
     begins x is first writes none =
-        by_event (Putting p CloseGate) x (Begins s.host d (write_in s p f)) (being_written c (write_in s p f)) is refl
+        by_event (Putting p CloseGate) x (Begins s.host d (write_in s p f)) (being_written c (write_in s p f)) is refl (λ value puts. puts)
         (may_begin s p f d m holds stands waiting.part writes first)
         refl (mind_stays s p f d x m waiting.part.come stands none) (λ g off. refl)
         (λ good. sym first.1) (record { confirmed = refl; writing = refl })
@@ -172,7 +173,7 @@ module _ (s : Setup) (f : Answers) (d : ℕ) (m : Machine) (holds : Holds s.disk
     -- the success of the sixth: it is confirmed
     confirms : IsNext (f d) (Putting p SyncOpened) → IsSixthCall p (length (f d)) → HasWrite p → RegistersAllow s.host d (f d) Done m → Moves s p f d Done m
     confirms is sixth writes allow =
-        by_event (Putting p SyncOpened) Done (Confirms s.host d (write_in s p f)) (at_rest (write_in s p f).block (suc (writing_in p))) is refl
+        by_event (Putting p SyncOpened) Done (Confirms s.host d (write_in s p f)) (at_rest (write_in s p f).block (suc (writing_in p))) is refl (λ value puts. puts)
         (may_confirm s p f d m holds stands waiting.part writes sixth (allow.still_writing p is refl))
         refl (mind_stays s p f d Done m waiting.part.come stands refl) (λ g off. refl)
         (λ good. sym sixth.1) (record { confirmed = refl; writing = refl })
@@ -206,7 +207,7 @@ module _ (s : Setup) (f : Answers) (d : ℕ) (m : Machine) (holds : Holds s.disk
     sees due stands allow last =
         let e : Event (List ℕ) = Sees s.host d (opened s f) (opened s (more f d x)) in
         let all = last_in Opening due stands last in
-        by_event Opening due stands Reading x e (at_stage c seen) reads refl
+        by_event Opening due stands Reading x e (at_stage c seen) reads refl (λ value puts. puts)
         (stands.mind, can_see s f d row c host_below all (allow.own_rests row (last, refl)) (allow.own_read row (last, refl)))
         refl (put_same m.mind s.host (OpeningMind (opened s (more f d x)))) (λ g off. put_other m.mind s.host (OpeningMind (opened s (more f d x))) g off)
         (λ good. ap stage_at (sym last)) (record { confirmed = refl; writing = refl })
@@ -227,7 +228,7 @@ module _ (s : Setup) (f : Answers) (d : ℕ) (m : Machine) (holds : Holds s.disk
         let knows : mind_in s One g ≡ OneMind (record { ballot = ballot s f; own = (asking s f).own; best = (asking s g).best }) = rw (ballot_same s g f opening, own_same s g f opening s.disks) refl in
         let nine : length (f d) ≡ 9 = omega (arith, last) in
         let now : c.stage ≡ wrote_one = was One due stands ∙ ap stage_at nine in
-        by_event One due stands Reading x e (at_stage c read_one) reads refl
+        by_event One due stands Reading x e (at_stage c read_one) reads refl (λ value puts. puts)
         (stands.mind, now, is_row allow below, best_is s f d row all)
         refl (put_same m.mind s.host _ ∙ sym knows) (λ g off. put_other m.mind s.host _ g off)
         (λ good. ap stage_at (sym last)) (record { confirmed = refl; writing = refl })
@@ -241,7 +242,7 @@ module _ (s : Setup) (f : Answers) (d : ℕ) (m : Machine) (holds : Holds s.disk
         let one : AreSameRows One g f = rows_kept f d x One (omega (arith, last)) in
         let sixteen : length (f d) ≡ 16 = omega (arith, last) in
         let now : c.stage ≡ wrote_two = was Two due stands ∙ ap stage_at sixteen in
-        by_event Two due stands Reading x e (at_stage c read_two) reads refl
+        by_event Two due stands Reading x e (at_stage c read_two) reads refl (λ value puts. puts)
         (stands.mind, now, is_row allow below)
         refl (stands.mind ∙ sym (mind_same s g f opening one Two)) (λ g off. refl)
         (λ good. ap stage_at (sym last)) (record { confirmed = refl; writing = refl })

@@ -78,7 +78,7 @@ enough_one s passes enough =
 pub record Turns (s : Setup) (g : Answers) (m : Machine) (st : Status) : Type 0 where
   pub events : List (Event (List ℕ))
   pub few : length events ≤ 1
-  pub own : All (IsOfAttempt s g) events
+  pub own : All (IsOfAttempt s) events
   pub allowed : AllAllowed s.disks m events
   pub agrees : Agrees s g (run m events) st
   pub commits : (value : List ℕ) → Chooses s g value → IsCommitted s.disks (run m events) s.host (ballot s g) value
@@ -88,6 +88,11 @@ pub record Turns (s : Setup) (g : Answers) (m : Machine) (st : Status) : Type 0 
 or_found : (found input : Option (List ℕ)) (value : List ℕ) → or_else found input ≡ Some value → MayPropose found value
 or_found None input value is = tt
 or_found (Some found) input value is = cc
+
+-- where nothing was found, it is the input
+or_input : (found input : Option (List ℕ)) (value v : List ℕ) → or_else found input ≡ Some value → found ≡ None → value ≡ v → input ≡ Some v
+or_input None input value v is none same = cc
+or_input (Some found) input value v is none same = absurd (cc)
 
 or_none : (found input : Option (List ℕ)) → or_else found input ≡ None → found ≡ None
 or_none None input is = refl
@@ -174,7 +179,7 @@ module _ (s : Setup) (g : Answers) (disk : (e : ℕ) → IsDisk (g e)) (host_bel
         record {
           events = [];
           few = omega arith;
-          own = All-nil (IsOfAttempt s g);
+          own = All-nil (IsOfAttempt s);
           allowed = tt;
           agrees = agrees;
           commits = commits;
@@ -207,7 +212,7 @@ module _ (s : Setup) (g : Answers) (disk : (e : ℕ) → IsDisk (g e)) (host_bel
       record {
         events = e ∷ [];
         few = omega arith;
-        own = All-cons (IsOfAttempt s g) e [] refl (All-nil (IsOfAttempt s g));
+        own = All-cons (IsOfAttempt s) e [] (record { host = refl; input = λ value puts. absurd puts }) (All-nil (IsOfAttempt s));
         allowed = ((stands.mind, owned s.host (highest s g) host_below, less, majority_at s g m Opening stands behind seen refl come.over enough), tt);
         agrees = agrees (after m e) stands_one;
         commits = λ value. early Opening (omega arith) behind value (after m e);
@@ -229,7 +234,7 @@ module _ (s : Setup) (g : Answers) (disk : (e : ℕ) → IsDisk (g e)) (host_bel
       record {
         events = e ∷ [];
         few = omega arith;
-        own = All-cons (IsOfAttempt s g) e [] (refl, is) (All-nil (IsOfAttempt s g));
+        own = All-cons (IsOfAttempt s) e [] (record { host = refl; input = λ v puts. or_input (best s g).inp s.input value v is puts.0 puts.1 }) (All-nil (IsOfAttempt s));
         allowed = ((record { asking = stands.mind; majority = majority_at s g m One stands behind read_one refl come.over enough }, or_found (best s g).inp s.input value is), tt);
         agrees = agrees (after m e) stands_two;
         commits = λ value. early One (omega arith) behind value (after m e);

@@ -5,12 +5,12 @@ use Rattle.torn_block.specs.declared.write_steps.WriteCall.TheVariants.{CloseGat
 use Rattle.attempt.specs.Calls.{Kind, Putting}
 use Rattle.attempt.specs.Answers.{Heard, Done, Answered, Answers, on}
 use Rattle.attempt.specs.Setup.{Setup}
-use Rattle.attempt.specs.Proposal.{ballot, proposal}
+use Rattle.attempt.specs.Proposal.{ballot}
 use Rattle.attempt.specs.NextCall.{says_for}
 use Rattle.agreement.specs.State.{Block, Cell}
 use Rattle.agreement.specs.Event.{Event, IsRun, state_after}
 use Rattle.agreement.specs.Event.Event.{Sees, Takes, Begins, Confirms, ReadsOne, Proposes, ReadsTwo}
-use Rattle.agreement.specs.Chosen.{IsCommitted}
+use Rattle.agreement.specs.Chosen.{PutsIn, IsCommitted}
 use Rattle.attempt_safety.specs.Machine.{Machine, block_said}
 use Rattle.attempt_safety.specs.Follows.{Follows}
 use Rattle.attempt_safety.specs.Registers.{IsNext}
@@ -18,17 +18,21 @@ use Rattle.attempt_safety.specs.Chosen.{Chooses}
 
 -- WHOSE THE EVENTS ARE
 
--- the event is the attempt's: one of the calls that its host makes, or the end of a phase, and what it proposes is the
--- attempt's proposal
-abbrev pub IsOfAttempt : Setup → Answers → Event (List ℕ) → Type 0
-IsOfAttempt s f (Sees h d old new) = h ≡ s.host
-IsOfAttempt s f (Takes h o b) = h ≡ s.host
-IsOfAttempt s f (Begins h d w) = h ≡ s.host
-IsOfAttempt s f (Confirms h d w) = h ≡ s.host
-IsOfAttempt s f (ReadsOne h d row a best) = h ≡ s.host
-IsOfAttempt s f (Proposes h a value) = (h ≡ s.host) × (proposal s f ≡ Some value)
-IsOfAttempt s f (ReadsTwo h d row t) = h ≡ s.host
-IsOfAttempt s f other = ⊥
+-- the host reads or writes, or takes its ballot or proposes
+abbrev pub IsOfHost : ℕ → Event (List ℕ) → Type 0
+IsOfHost host (Sees h d old new) = h ≡ host
+IsOfHost host (Takes h o b) = h ≡ host
+IsOfHost host (Begins h d w) = h ≡ host
+IsOfHost host (Confirms h d w) = h ≡ host
+IsOfHost host (ReadsOne h d row a best) = h ≡ host
+IsOfHost host (Proposes h a value) = h ≡ host
+IsOfHost host (ReadsTwo h d row t) = h ≡ host
+IsOfHost host other = ⊥
+
+-- and what it puts in is the attempt's input
+pub record IsOfAttempt (s : Setup) (e : Event (List ℕ)) : Type 0 where
+  pub host : IsOfHost s.host e
+  pub input : (value : List ℕ) → PutsIn e value → s.input ≡ Some value
 
 -- WHAT BECOMES OF THE BLOCKS
 
@@ -77,7 +81,7 @@ pub record Arrives (s : Setup) (heard : List Answered) (x : Answered) (old new :
 pub record Leads (s : Setup) (early : List (Event (List ℕ))) (heard : List Answered) (x : Answered) : Type 0 where
   pub events : List (Event (List ℕ))
   pub few : length events ≤ 2
-  pub own : All (IsOfAttempt s (on (heard ++ x ∷ []))) events
+  pub own : All (IsOfAttempt s) events
   -- each is allowed where it stands
   pub is_run : IsRun s.disks (early ++ events)
   pub arrives : Arrives s heard x (state_after early) (state_after (early ++ events))

@@ -68,5 +68,5 @@ pub fn what_is_chosen()
         (x : Answered) (value : List ℕ) (leads : Leads s early heard x) →
         Chooses s (on (heard ++ x ∷ [])) value →
         IsChosenBy s.disks (state_after (early ++ leads.events))
-            (ballot s (on (heard ++ x ∷ []))) value }
+        (ballot s (on (heard ++ x ∷ []))) value }
 {}
