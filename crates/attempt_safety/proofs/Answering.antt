@@ -64,6 +64,7 @@ write_is s Opening f writes = absurd writes
 write_is s One f writes = refl
 write_is s Two f writes = refl
 
+-- what an option has that has something
 pub some_of : {A : Type 0} (o : Option A) → is_some o ≡ true → (y : A) × (o ≡ Some y)
 some_of None is = absurd (true≢false (sym is))
 some_of (Some y) is = (y, refl)
@@ -80,6 +81,7 @@ silent_row s f d (Putting p SyncBody) row other fits = fits
 silent_row s f d (Putting p OpenGate) row other fits = fits
 silent_row s f d (Putting p SyncOpened) row other fits = fits
 
+-- so the answer to any other call tells none
 silent : (s : Setup) (f : Answers) (d : ℕ) (kind : Kind) (x : Heard) → kind ≢ Reading → Fits (call_by s d f kind) x → told x ≡ None
 silent s f d kind (Booted boot) other fits = refl
 silent s f d kind Done other fits = refl

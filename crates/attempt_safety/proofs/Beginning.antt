@@ -76,6 +76,7 @@ module _ (s : Setup) where
 
 -- A WRITE
 
+-- where its first call is due, it may begin
 pub write_begins : (s : Setup) (early : List (Event (List ℕ))) (heard : List Answered) (p : Phase) (d : ℕ) → IsRun s.disks early → Follows s heard (state_after early)
     → status s (on heard) ≡ Due p d → IsNext (on heard d) (Putting p CloseGate) → IsRun s.disks (early ++ Begins s.host d (write_in s p (on heard)) ∷ [])
 write_begins s early heard p d is_run follows due is =

@@ -5,15 +5,19 @@ use Rattle.agreement.proofs.Puts.{put_same, put_other}
 use Rattle.attempt_safety.specs.Machine.{Machine}
 use Rattle.attempt_safety.specs.Leads.{IsSameBlock, LeavesOthers}
 
+-- a block is as it was
 pub block_same : (c : Cell (List ℕ)) → IsSameBlock c c
 block_same c = record { confirmed = refl; writing = refl }
 
+-- so it is in the same cell
 pub block_by : (old new : Cell (List ℕ)) → new ≡ old → IsSameBlock old new
 block_by old new same = record { confirmed = ap (λ (c : Cell (List ℕ)). c.confirmed) same; writing = ap (λ (c : Cell (List ℕ)). c.writing) same }
 
+-- and after that in the same cell
 block_then : (first second third : Cell (List ℕ)) → IsSameBlock first second → third ≡ second → IsSameBlock first third
 block_then first second third one same = subst (λ (c : Cell (List ℕ)). IsSameBlock first c) (sym same) one
 
+-- nothing changes
 pub leaves_same : (h d : ℕ) (m : Machine) → LeavesOthers h d m m
 leaves_same h d m = record { minds = λ g off. refl; cells = λ g e off. refl; blocks = λ e off. block_same (m.cell h e) }
 

@@ -5,6 +5,7 @@ pub mod Choosing
 pub mod Following
 pub mod Leaving
 pub mod Readings
+pub mod Slotting
 pub mod Stages
 pub mod Stands
 pub mod Turning

@@ -36,6 +36,7 @@ later_by best says false is =
       picked = inl refl;
     }
 
+-- whichever that is
 pub later_is : (best says : PBlock) → IsLastVote (λ x. x ≡ block_said says) (vote_said best) (vote_said (later_of best says))
 later_is best says = later_by best says (nat_lt best.bal says.bal) refl
 

@@ -14,6 +14,7 @@ abbrev AllFrom : (Kind → ℕ → Type 0) → List Kind → ℕ → Type 0
 AllFrom P [] i = Unit {0}
 AllFrom P (kind ∷ kinds) i = P kind i × AllFrom P kinds (i + 1)
 
+-- so it holds of the call that stands at a number
 at : (P : Kind → ℕ → Type 0) (kinds : List Kind) (i n : ℕ) (kind : Kind) → AllFrom P kinds i → slice_get kinds n ≡ Some kind → P kind (i + n)
 at P [] i n kind all is = absurd (cc)
 at P (first ∷ kinds) i zero kind all is =
@@ -36,6 +37,7 @@ pub record IsWithin (p : Phase) (n : ℕ) : Type 0 where
 abbrev is_within : Phase → ℕ → Bool
 is_within p n = nat_le (start p) n && nat_lt n (goal p)
 
+-- what the test tells
 within_is : (p : Phase) (n : ℕ) → is_within p n ≡ true → IsWithin p n
 within_is p n is =
     let both = and_parts (nat_le (start p) n) (nat_lt n (goal p)) is in
@@ -59,6 +61,7 @@ IsFirstCall p n = (suc (stage_at n) ≡ writing_in p) × (stage_at (n + 1) ≡ w
 abbrev pub IsSixthCall : Phase → ℕ → Type 0
 IsSixthCall p n = (stage_at n ≡ writing_in p) × (stage_at (n + 1) ≡ suc (writing_in p))
 
+-- any other call of a write leaves the stage
 abbrev pub MarksCall : Phase → WriteCall → ℕ → Type 0
 MarksCall p CloseGate n = IsFirstCall p n
 MarksCall p SyncOpened n = IsSixthCall p n
@@ -71,6 +74,7 @@ Marks Syncing n = IsLevel n
 Marks Reading n = (p : Phase) × (is_within p n ≡ true) × (n + 1 ≡ goal p)
 Marks (Putting p call) n = HasWrite p × (is_within p n ≡ true) × MarksCall p call n
 
+-- the calls of phase 2, of phase 1, and all
 marks_two : AllFrom Marks (drop 10 seventeen) 10
 marks_two =
     ((tt, refl, (refl, refl)), ((tt, refl, refl), ((tt, refl, refl), ((tt, refl, refl), ((tt, refl, refl), ((tt, refl, (refl, refl)), ((Two, refl, refl), tt)))))))
@@ -86,6 +90,7 @@ marks_all = (refl, (refl, ((Opening, refl, refl), marks_one)))
 marks : (n : ℕ) (kind : Kind) → slice_get seventeen n ≡ Some kind → Marks kind n
 marks n kind is = let number : 0 + n ≡ n = omega arith in subst (λ (k : ℕ). Marks kind k) number (at Marks seventeen 0 n kind marks_all is)
 
+-- the first two calls leave the stage
 pub attaching : (n : ℕ) → slice_get seventeen n ≡ Some Attaching → IsLevel n
 attaching n is = marks n Attaching is
 
@@ -117,5 +122,6 @@ module _ (p : Phase) (n : ℕ) (here : IsWithin p n) where
   pub putting : (q : Phase) (call : WriteCall) → slice_get seventeen n ≡ Some (Putting q call) → q ≡ p
   putting q call is = let marked = marks n (Putting q call) is in one_phase p q n here (within_is q n marked.1)
 
+-- and it marks the write
 pub writing : (p : Phase) (call : WriteCall) (n : ℕ) → slice_get seventeen n ≡ Some (Putting p call) → HasWrite p × MarksCall p call n
 writing p call n is = let marked = marks n (Putting p call) is in (marked.0, marked.2)

@@ -34,6 +34,7 @@ pub record TookPart (p : Phase) (a : List Heard) (x : Heard) : Type 0 where
   pub part : IsPart p a
   pub good : is_bad x ≡ false
 
+-- so it is with each answer to a call of the phase
 pub took_part : (p : Phase) (a : List Heard) (x : Heard) → start p ≤ length a → takes_part p (a ++ x ∷ []) ≡ true → TookPart p a x
 took_part p a x come takes =
     let both = and_parts (all_good a) (not (is_bad x)) (sym (good_more a x) ∙ (part_is p (a ++ x ∷ []) takes).good) in

@@ -38,12 +38,6 @@ count_is : (n : ℕ) (passes : ℕ → Bool) → passing n passes ≡ count n pa
 count_is zero passes = refl
 count_is (suc n) passes = rw (count_is n passes) refl
 
-majority_is : (s : Setup) (passes : ℕ → Bool) → are_enough s passes ≡ true → IsMajority s.disks passes
-majority_is s passes enough =
-    let most : s.disks < 2 * passing s.disks passes = ltb-true s.disks (2 * passing s.disks passes) enough in
-    let same = count_is s.disks passes in
-    omega arith
-
 -- where as many pass, there is a majority of them
 majority_more : (s : Setup) (g h : ℕ → Bool) → ((d : ℕ) → d < s.disks → g d ≡ true → h d ≡ true) → are_enough s g ≡ true → IsMajority s.disks h
 majority_more s g h more enough =
@@ -58,6 +52,7 @@ pub record IsOne (n : ℕ) (g : ℕ → Bool) : Type 0 where
   pub below : disk < n
   pub passes : g disk ≡ true
 
+-- there is one where the count is positive
 one_of : (n : ℕ) (g : ℕ → Bool) → 0 < passing n g → IsOne n g
 one_of zero g some = absurd (omega arith)
 one_of (suc n) g some = go (g n) refl some (one_of n g)
@@ -85,6 +80,7 @@ pub record Turns (s : Setup) (g : Answers) (m : Machine) (st : Status) : Type 0 
   pub minds : (h : ℕ) → h ≢ s.host → (run m events).mind h ≡ m.mind h
   pub cells : (h d : ℕ) → (run m events).cell h d ≡ m.cell h d
 
+-- what is proposed is the value of the vote that was found, if one was
 or_found : (found input : Option (List ℕ)) (value : List ℕ) → or_else found input ≡ Some value → MayPropose found value
 or_found None input value is = tt
 or_found (Some found) input value is = cc
@@ -94,6 +90,7 @@ or_input : (found input : Option (List ℕ)) (value v : List ℕ) → or_else fo
 or_input None input value v is none same = cc
 or_input (Some found) input value v is none same = absurd (cc)
 
+-- where nothing is proposed, none was
 or_none : (found input : Option (List ℕ)) → or_else found input ≡ None → found ≡ None
 or_none None input is = refl
 or_none (Some found) input is = absurd (cc)

@@ -3,3 +3,4 @@ pub mod Follows
 pub mod Leads
 pub mod Machine
 pub mod Registers
+pub mod Slots

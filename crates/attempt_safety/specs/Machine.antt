@@ -18,9 +18,11 @@ Machine = State (List ℕ)
 
 -- WHAT BLOCKS SAY
 
+-- what a block says
 abbrev pub block_said : PBlock → Block (List ℕ)
 block_said says = record { mbal = says.mbal; bal = says.bal; inp = says.inp }
 
+-- its vote
 abbrev pub vote_said : PBlock → Vote (List ℕ)
 vote_said says = record { bal = says.bal; inp = says.inp }
 
@@ -37,15 +39,17 @@ stages =
     ∷ writing_one ∷ writing_one ∷ writing_one ∷ writing_one ∷ writing_one ∷ wrote_one ∷ read_one
     ∷ writing_two ∷ writing_two ∷ writing_two ∷ writing_two ∷ writing_two ∷ wrote_two ∷ read_two ∷ []
 
+-- of a disk with so many answers
 abbrev pub stage_at : ℕ → ℕ
 stage_at answers = slice_index_or stages answers away
 
 -- WHAT THE HOST KNOWS
 
--- in the opening: the greatest mbal in its rows, and the own latest vote
+-- the greatest mbal in the opening's rows
 abbrev pub top : Setup → Answers → ℕ
 top s f = greatest s.disks (λ d. top_in (row_in Opening (f d)))
 
+-- in the opening: that, and the own latest vote
 abbrev pub opened : Setup → Answers → Opened (List ℕ)
 opened s f = record { top = top s f; own = vote_said (own s f) }
 

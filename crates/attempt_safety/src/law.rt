@@ -1,5 +1,5 @@
 // What an attempt does is what agreement allows.
-ghost use Rattle.std.specs.Prelude.{◌≡◌, ◌≢◌, ◌∷◌, ◌++◌, ◌<◌, ℕ, List, []};
+ghost use Rattle.std.specs.Prelude.{◌≡◌, ◌≢◌, ◌∷◌, ◌++◌, ◌<◌, ℕ, List, [], length};
 ghost use Rattle.torn_block.specs.declared.layout.TheConstants.{HOSTS};
 ghost use Rattle.torn_block.specs.declared.write_steps.WriteCall.TheVariants.{CloseGate};
 ghost use Rattle.attempt.specs.Calls.{Phase, Putting};
@@ -13,11 +13,13 @@ ghost use Rattle.agreement.specs.State.{Block};
 ghost use Rattle.agreement.specs.Event.{Event, IsRun, state_after, after};
 ghost use Rattle.agreement.specs.Event.Event.{Starts, Begins, Settles, Crashes};
 ghost use Rattle.agreement.specs.Chosen.{IsChosenBy};
+ghost use Rattle.agreement.specs.Log.{Move, IsHistory as IsSlotsHistory, slots_after, events_of_slot};
 ghost use Rattle.attempt_safety.specs.Machine.{Machine, write_in};
 ghost use Rattle.attempt_safety.specs.Follows.{Follows, IsSameHost};
 ghost use Rattle.attempt_safety.specs.Registers.{IsNext, RegistersAllow};
 ghost use Rattle.attempt_safety.specs.Chosen.{Chooses};
 ghost use Rattle.attempt_safety.specs.Leads.{Leads, LeavesOthers};
+ghost use Rattle.attempt_safety.specs.Slots.{in_slot};
 
 /// Behind any run of the machine an attempt may begin, and with its start the machine follows it.
 pub fn attempt_begins()
@@ -69,4 +71,18 @@ pub fn what_is_chosen()
         Chooses s (on (heard ++ x ∷ [])) value →
         IsChosenBy s.disks (state_after (early ++ leads.events))
         (ballot s (on (heard ++ x ∷ []))) value }
+{}
+
+/// Among all slots an answer is as many moves of its own slot, where that is the next one of its host.
+pub fn answers_move()
+    ensures history { (s : Setup) (ms : List (Move (List ℕ))) (heard : List Answered) (x : Answered)
+        (leads : Leads s (events_of_slot s.slot ms) heard x) → IsSlotsHistory s.disks ms →
+        s.slot ≡ length ((slots_after ms).learned s.host) →
+        IsSlotsHistory s.disks (ms ++ in_slot s.slot leads.events) }
+    ensures here { (k : ℕ) (ms : List (Move (List ℕ))) (events : List (Event (List ℕ))) →
+        events_of_slot k (ms ++ in_slot k events) ≡ events_of_slot k ms ++ events }
+    ensures elsewhere { (j k : ℕ) (ms : List (Move (List ℕ))) (events : List (Event (List ℕ))) →
+        j ≢ k → events_of_slot j (ms ++ in_slot k events) ≡ events_of_slot j ms }
+    ensures learned { (k : ℕ) (ms : List (Move (List ℕ))) (events : List (Event (List ℕ))) →
+        (slots_after (ms ++ in_slot k events)).learned ≡ (slots_after ms).learned }
 {}

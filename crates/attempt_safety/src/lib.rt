@@ -3,4 +3,6 @@
 
 mod law;
 
-pub use law::{answers_lead, attempt_begins, others_leave_it, torn_writes_begin, what_is_chosen};
+pub use law::{
+    answers_lead, answers_move, attempt_begins, others_leave_it, torn_writes_begin, what_is_chosen,
+};
