@@ -17,7 +17,7 @@ pub record StandsIn (s : Setup) (p : Phase) (f : Answers) (m : Machine) : Type 0
   pub stages : (d : ℕ) → takes_part p (f d) ≡ true → (m.cell s.host d).stage ≡ stage_at (length (f d))
 
 -- Where a call is due, the host stands in its phase; what the attempt has committed, the host has committed; where it
--- ended empty, the host is. Other ends owe nothing.
+-- ended empty, the host has found no vote. Other ends owe nothing.
 abbrev pub Agrees : Setup → Answers → Machine → Status → Type 0
 Agrees s f m (Due p d) = StandsIn s p f m
 Agrees s f m (Ended (Committed value)) = IsCommitted s.disks m s.host (ballot s f) value

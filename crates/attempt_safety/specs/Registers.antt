@@ -24,5 +24,5 @@ pub record RegistersAllow (host d : ℕ) (a : List Heard) (x : Heard) (m : Machi
   pub own_rests : (row : List SeenBlock) → IsRowOf Opening a x row → (m.cell host d).writing ≡ None
   -- and so its confirmed value
   pub own_read : (row : List SeenBlock) → IsRowOf Opening a x row → blocks_said row host ≡ (m.cell host d).confirmed
-  -- when a write's sixth call succeeds, its value has been in writing ever since the first
+  -- when a write's sixth call succeeds, a value is still in writing, as since the first
   pub still_writing : (p : Phase) → IsNext a (Putting p SyncOpened) → x ≡ Done → IsSome (m.cell host d).writing
