@@ -1,3 +1,4 @@
+pub mod Agreeing
 pub mod Answering
 pub mod Beginning
 pub mod Cells

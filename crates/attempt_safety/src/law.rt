@@ -7,12 +7,13 @@ ghost use Rattle.attempt.specs.Answers.{Answered, on};
 ghost use Rattle.attempt.specs.Setup.{Setup};
 ghost use Rattle.attempt.specs.Proposal.{ballot};
 ghost use Rattle.attempt.specs.NextCall.{next_call};
-ghost use Rattle.attempt.specs.Status.{Due, Ended, Committed, status};
+ghost use Rattle.attempt.specs.Status.{Due, Ended, Committed, Empty, status};
 ghost use Rattle.attempt.specs.History.{IsAnswerTo, IsHistory};
 ghost use Rattle.agreement.specs.State.{Block};
 ghost use Rattle.agreement.specs.Event.{Event, IsRun, state_after, after};
 ghost use Rattle.agreement.specs.Event.Event.{Starts, Begins, Settles, Crashes};
 ghost use Rattle.agreement.specs.Chosen.{IsChosenBy};
+ghost use Rattle.agreement.specs.Claims.{NoneChosen};
 ghost use Rattle.agreement.specs.Log.{Move, IsHistory as IsSlotsHistory, slots_after, events_of_slot};
 ghost use Rattle.attempt_safety.specs.Machine.{Machine, write_in};
 ghost use Rattle.attempt_safety.specs.Follows.{Follows, IsSameHost};
@@ -71,6 +72,19 @@ pub fn what_is_chosen()
         Chooses s (on (heard ++ x ∷ [])) value →
         IsChosenBy s.disks (state_after (early ++ leads.events))
         (ballot s (on (heard ++ x ∷ []))) value }
+{}
+
+/// Attempts agree. What two of them choose, at any two places of a run, is one value; and where one
+/// ends empty, nothing had been chosen when it began.
+pub fn attempts_agree()
+    ensures one { (s t : Setup) (early middle : List (Event (List ℕ))) (heard before : List Answered)
+        (x y : Answered) (v u : List ℕ) (first : Leads s early heard x)
+        (second : Leads t ((early ++ first.events) ++ middle) before y) → t.disks ≡ s.disks →
+        Chooses s (on (heard ++ x ∷ [])) v → Chooses t (on (before ++ y ∷ [])) u → u ≡ v }
+    ensures none_missed { (s : Setup) (early late : List (Event (List ℕ))) (heard : List Answered) →
+        IsRun s.disks (early ++ Starts s.host ∷ late) →
+        Follows s heard (state_after (early ++ Starts s.host ∷ late)) →
+        status s (on heard) ≡ Ended Empty → NoneChosen s.disks (state_after early) }
 {}
 
 /// Among all slots an answer is as many moves of its own slot, where that is the next one of its host.

@@ -4,5 +4,6 @@
 mod law;
 
 pub use law::{
-    answers_lead, answers_move, attempt_begins, others_leave_it, torn_writes_begin, what_is_chosen,
+    answers_lead, answers_move, attempt_begins, attempts_agree, others_leave_it, torn_writes_begin,
+    what_is_chosen,
 };
