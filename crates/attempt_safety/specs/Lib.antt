@@ -1,0 +1,6 @@
+pub mod Chosen
+pub mod Follows
+pub mod Leads
+pub mod Machine
+pub mod Registers
+pub mod Slots
