@@ -53,19 +53,24 @@ pub record IsSafe (c : Shape) (log : List Filled) (commands : List Command) : Ty
   -- each command that was acknowledged before the recovery began is among them
   pub holds : (i j host n slot : ℕ) (command : Command) → IsRecovery c log i j host n → IsAcknowledgedBefore c log i slot command → slot < n
 
+-- a list has no second log
+abbrev pub HasOneLog : Shape → List Filled → Type 0
+HasOneLog c log = (first second : List (List ℕ)) → IsLog c log first → IsLog c log second → first ≡ second
+
+-- of two hosts' prefixes, at any two places of a list, one begins the other
+abbrev pub OneBeginsOther : Shape → List Filled → Type 0
+OneBeginsOther c log =
+    (i j host other : ℕ) → i ≤ length log → j ≤ length log
+    → Begins (prefix_at c log i host) (prefix_at c log j other) ⊎ Begins (prefix_at c log j other) (prefix_at c log i host)
+
 -- EVERY LIST OF EVENTS
 
--- it has such a log
+-- It has a log, by which all goes; it has no other; and of two prefixes one begins the other.
+pub record IsOneLog (c : Shape) (events : List Event) : Type 0 where
+  pub commands : List Command
+  pub is_safe : IsSafe c (run c events) commands
+  pub no_other : HasOneLog c (run c events)
+  pub prefixes : OneBeginsOther c (run c events)
+
 abbrev pub Headline : Type 0
-Headline = (c : Shape) (events : List Event) → (commands : List Command) × IsSafe c (run c events) commands
-
--- and no other
-abbrev pub OneLog : Type 0
-OneLog = (c : Shape) (events : List Event) (first second : List (List ℕ)) → IsLog c (run c events) first → IsLog c (run c events) second → first ≡ second
-
--- of two hosts' prefixes, at any two places, one begins the other
-abbrev pub OneBeginsOther : Type 0
-OneBeginsOther =
-    (c : Shape) (events : List Event) (i j host other : ℕ) → i ≤ length (run c events) → j ≤ length (run c events)
-    → Begins (prefix_at c (run c events) i host) (prefix_at c (run c events) j other)
-    ⊎ Begins (prefix_at c (run c events) j other) (prefix_at c (run c events) i host)
+Headline = (c : Shape) (events : List Event) → IsOneLog c events

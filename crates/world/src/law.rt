@@ -1,10 +1,12 @@
 // What an entry changes, and that events make runs.
 ghost use Rattle.std.specs.Prelude.{◌≡◌, ◌++◌, ◌∷◌, [], ℕ, true, false, List, Some};
 ghost use Rattle.disk.specs.Crash.{IsWhole};
+ghost use Rattle.lock_command.specs.declared.command.Command.{Command};
 ghost use Rattle.slot_log.specs.Shape.{Shape};
 ghost use Rattle.world.specs.Entry.{Filled, is_on, is_of, disk_step, host_step};
 ghost use Rattle.world.specs.World.{world, MayFollow, IsRun};
 ghost use Rattle.world.specs.Happens.{Event, entry_of, happens, run};
+ghost use Rattle.world.specs.Headline.{IsSafe, HasOneLog, OneBeginsOther};
 
 /// An entry is a step of its own disk and of its own host, and changes no other.
 pub fn changes_its_own()
@@ -38,4 +40,12 @@ pub fn events_make_a_run()
     ensures run { (c : Shape) (events : List Event) → IsRun c (run c events) }
     ensures one_more { (c : Shape) (events : List Event) (event : Event) →
         run c (events ++ event ∷ []) ≡ happens c (run c events) event }
+{}
+
+/// A list whose log is known has no other, and of two hosts' prefixes one begins the other.
+pub fn safe_lists_have_one_log()
+    ensures one { (c : Shape) (log : List Filled) (commands : List Command) →
+        IsSafe c log commands → HasOneLog c log }
+    ensures prefixes { (c : Shape) (log : List Filled) (commands : List Command) →
+        IsSafe c log commands → OneBeginsOther c log }
 {}

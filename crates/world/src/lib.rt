@@ -3,4 +3,4 @@
 
 mod law;
 
-pub use law::{changes_its_own, events_make_a_run, goes_on};
+pub use law::{changes_its_own, events_make_a_run, goes_on, safe_lists_have_one_log};
