@@ -12,7 +12,7 @@ use Rattle.agreement.proofs.Runs.{places}
 use Rattle.agreement.proofs.Agreeing.{one_chosen_at}
 use Rattle.agreement.proofs.Missing.{nothing_missed}
 use Rattle.attempt_safety.specs.Follows.{Agrees, Follows}
-use Rattle.attempt_safety.specs.Chosen.{Chooses}
+use Rattle.attempt.specs.Chosen.{Chooses}
 use Rattle.attempt_safety.specs.Leads.{Leads}
 use Rattle.attempt_safety.proofs.Choosing.{chosen}
 

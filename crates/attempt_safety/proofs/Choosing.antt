@@ -18,7 +18,7 @@ use Rattle.agreement.specs.Event.{Event, state_after}
 use Rattle.agreement.specs.Chosen.{IsChosenBy}
 use Rattle.agreement.proofs.Runs.{holds_reached}
 use Rattle.agreement.proofs.Agreeing.{commits_chosen}
-use Rattle.attempt_safety.specs.Chosen.{accepts_in, accepts, Chooses}
+use Rattle.attempt.specs.Chosen.{accepts_in, accepts, Chooses}
 use Rattle.attempt_safety.specs.Leads.{Leads}
 use Rattle.attempt_safety.proofs.Answering.{some_of}
 

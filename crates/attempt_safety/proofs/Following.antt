@@ -33,7 +33,7 @@ use Rattle.agreement.proofs.Runs.{holds_reached}
 use Rattle.attempt_safety.specs.Machine.{Machine, stage_at}
 use Rattle.attempt_safety.specs.Follows.{StandsIn, Agrees, Follows}
 use Rattle.attempt_safety.specs.Registers.{IsNext, RegistersAllow}
-use Rattle.attempt_safety.specs.Chosen.{accepts_in, accepts, Chooses}
+use Rattle.attempt.specs.Chosen.{accepts_in, accepts, Chooses}
 use Rattle.attempt_safety.specs.Leads.{IsOfAttempt, LeavesOthers, OwnBlock, Leads}
 use Rattle.attempt_safety.proofs.Stands.{mind_same}
 use Rattle.attempt_safety.proofs.Cells.{leaves_same, leaves_then}

@@ -28,7 +28,7 @@ use Rattle.agreement.specs.Chosen.{IsCommitted}
 use Rattle.agreement.proofs.Puts.{put_same, put_other, all_put}
 use Rattle.attempt_safety.specs.Machine.{Machine, stage_at, top, opened, asking, mind_in}
 use Rattle.attempt_safety.specs.Follows.{StandsIn, Agrees}
-use Rattle.attempt_safety.specs.Chosen.{accepts_in, accepts, Chooses}
+use Rattle.attempt.specs.Chosen.{accepts_in, accepts, Chooses}
 use Rattle.attempt_safety.specs.Leads.{IsOfAttempt}
 
 -- COUNTING

@@ -14,7 +14,7 @@ use Rattle.agreement.specs.Chosen.{PutsIn, IsCommitted}
 use Rattle.attempt_safety.specs.Machine.{Machine, block_said}
 use Rattle.attempt_safety.specs.Follows.{Follows}
 use Rattle.attempt_safety.specs.Registers.{IsNext}
-use Rattle.attempt_safety.specs.Chosen.{Chooses}
+use Rattle.attempt.specs.Chosen.{Chooses}
 
 -- WHOSE THE EVENTS ARE
 

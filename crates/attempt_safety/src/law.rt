@@ -18,7 +18,7 @@ ghost use Rattle.agreement.specs.Log.{Move, IsHistory as IsSlotsHistory, slots_a
 ghost use Rattle.attempt_safety.specs.Machine.{Machine, write_in};
 ghost use Rattle.attempt_safety.specs.Follows.{Follows, IsSameHost};
 ghost use Rattle.attempt_safety.specs.Registers.{IsNext, RegistersAllow};
-ghost use Rattle.attempt_safety.specs.Chosen.{Chooses};
+ghost use Rattle.attempt.specs.Chosen.{Chooses};
 ghost use Rattle.attempt_safety.specs.Leads.{Leads, LeavesOthers};
 ghost use Rattle.attempt_safety.specs.Slots.{in_slot};
 
