@@ -111,80 +111,80 @@ sees_vote c old new rest kept reached low same = record {
 }
 
 -- one guard, and the rest
-infixr 4 ◌⨾◌
-◌⨾◌ : {A B : Type 0} → A → B → A × B
-a ⨾ b = (a, b)
+infixr 4 ◌⨟◌
+◌⨟◌ : {A B : Type 0} → A → B → A × B
+a ⨟ b = (a, b)
 
 -- THE FIVE PARTS
 
 seven_allowed : AllAllowed 3 start seven_proposed
 seven_allowed =
     tt
-    ⨾ (refl, sees_no_vote _ _ _ refl refl refl refl refl)
-    ⨾ (refl, sees_no_vote _ _ _ refl refl refl refl refl)
-    ⨾ (refl, refl, lit< tt, lit< tt)
-    ⨾ (refl, refl, refl)
-    ⨾ (refl, refl, refl)
-    ⨾ (refl, refl, reads _ _ _ _ _ refl refl, keeps _ _ _ refl)
-    ⨾ (refl, refl, refl)
-    ⨾ (refl, refl, refl)
-    ⨾ (refl, refl, reads _ _ _ _ _ refl refl, keeps _ _ _ refl)
-    ⨾ (record { asking = refl; majority = lit< tt }, tt)
-    ⨾ tt
+    ⨟ (refl, sees_no_vote _ _ _ refl refl refl refl refl)
+    ⨟ (refl, sees_no_vote _ _ _ refl refl refl refl refl)
+    ⨟ (refl, refl, lit< tt, lit< tt)
+    ⨟ (refl, refl, refl)
+    ⨟ (refl, refl, refl)
+    ⨟ (refl, refl, reads _ _ _ _ _ refl refl, keeps _ _ _ refl)
+    ⨟ (refl, refl, refl)
+    ⨟ (refl, refl, refl)
+    ⨟ (refl, refl, reads _ _ _ _ _ refl refl, keeps _ _ _ refl)
+    ⨟ (record { asking = refl; majority = lit< tt }, tt)
+    ⨟ tt
 
 eight_allowed : AllAllowed 3 (state_after seven_proposed) eight_proposed
 eight_allowed =
     (refl, refl, refl)
-    ⨾ (refl, refl, refl)
-    ⨾ tt
-    ⨾ (refl, sees_no_vote _ _ _ refl refl refl refl refl)
-    ⨾ (refl, sees_no_vote _ _ _ refl refl refl refl refl)
-    ⨾ (refl, refl, lit< tt, lit< tt)
-    ⨾ (refl, refl, refl)
-    ⨾ (refl, refl, refl)
-    ⨾ (refl, refl, reads _ _ _ _ _ refl refl, keeps _ _ _ refl)
-    ⨾ (refl, refl, refl)
-    ⨾ (refl, refl, refl)
-    ⨾ (refl, refl, reads _ _ _ _ _ refl refl, keeps _ _ _ refl)
-    ⨾ (record { asking = refl; majority = lit< tt }, tt)
-    ⨾ tt
+    ⨟ (refl, refl, refl)
+    ⨟ tt
+    ⨟ (refl, sees_no_vote _ _ _ refl refl refl refl refl)
+    ⨟ (refl, sees_no_vote _ _ _ refl refl refl refl refl)
+    ⨟ (refl, refl, lit< tt, lit< tt)
+    ⨟ (refl, refl, refl)
+    ⨟ (refl, refl, refl)
+    ⨟ (refl, refl, reads _ _ _ _ _ refl refl, keeps _ _ _ refl)
+    ⨟ (refl, refl, refl)
+    ⨟ (refl, refl, refl)
+    ⨟ (refl, refl, reads _ _ _ _ _ refl refl, keeps _ _ _ refl)
+    ⨟ (record { asking = refl; majority = lit< tt }, tt)
+    ⨟ tt
 
 vanishing_allowed : AllAllowed 3 (state_after (seven_proposed ++ eight_proposed)) seven_vanishes
 vanishing_allowed =
     tt
-    ⨾ inl refl
-    ⨾ (refl, sees_no_vote _ _ _ refl refl refl refl refl)
-    ⨾ inr refl
-    ⨾ (refl, sees_vote _ _ _ refl refl refl refl refl)
-    ⨾ tt
+    ⨟ inl refl
+    ⨟ (refl, sees_no_vote _ _ _ refl refl refl refl refl)
+    ⨟ inr refl
+    ⨟ (refl, sees_vote _ _ _ refl refl refl refl refl)
+    ⨟ tt
 
 chosen_allowed : AllAllowed 3 (state_after until_vanished) eight_chosen
 chosen_allowed =
     (refl, refl, refl)
-    ⨾ (refl, refl, refl)
-    ⨾ (refl, refl, reads _ _ _ _ _ refl refl)
-    ⨾ (refl, refl, refl)
-    ⨾ (refl, refl, refl)
-    ⨾ (refl, refl, reads _ _ _ _ _ refl refl)
-    ⨾ tt
+    ⨟ (refl, refl, refl)
+    ⨟ (refl, refl, reads _ _ _ _ _ refl refl)
+    ⨟ (refl, refl, refl)
+    ⨟ (refl, refl, refl)
+    ⨟ (refl, refl, reads _ _ _ _ _ refl refl)
+    ⨟ tt
 
 again_allowed : AllAllowed 3 (state_after (until_vanished ++ eight_chosen)) eight_again
 again_allowed =
     (refl, refl, lit< tt, lit< tt)
-    ⨾ (refl, refl, refl)
-    ⨾ (refl, refl, refl)
-    ⨾ (refl, refl, reads _ _ _ _ _ refl refl, keeps _ _ _ refl)
-    ⨾ (refl, refl, refl)
-    ⨾ (refl, refl, refl)
-    ⨾ (refl, refl, reads _ _ _ _ _ refl refl, finds_that_of 1 _ _ _ (lit< tt) refl refl refl)
-    ⨾ (record { asking = refl; majority = lit< tt }, refl)
-    ⨾ (refl, refl, refl)
-    ⨾ (refl, refl, refl)
-    ⨾ (refl, refl, reads _ _ _ _ _ refl refl)
-    ⨾ (refl, refl, refl)
-    ⨾ (refl, refl, refl)
-    ⨾ (refl, refl, reads _ _ _ _ _ refl refl)
-    ⨾ tt
+    ⨟ (refl, refl, refl)
+    ⨟ (refl, refl, refl)
+    ⨟ (refl, refl, reads _ _ _ _ _ refl refl, keeps _ _ _ refl)
+    ⨟ (refl, refl, refl)
+    ⨟ (refl, refl, refl)
+    ⨟ (refl, refl, reads _ _ _ _ _ refl refl, finds_that_of 1 _ _ _ (lit< tt) refl refl refl)
+    ⨟ (record { asking = refl; majority = lit< tt }, refl)
+    ⨟ (refl, refl, refl)
+    ⨟ (refl, refl, refl)
+    ⨟ (refl, refl, reads _ _ _ _ _ refl refl)
+    ⨟ (refl, refl, refl)
+    ⨟ (refl, refl, refl)
+    ⨟ (refl, refl, reads _ _ _ _ _ refl refl)
+    ⨟ tt
 
 -- the parts one behind the other
 pub is_run : IsRun 3 race

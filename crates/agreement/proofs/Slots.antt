@@ -1,5 +1,5 @@
 -- Many slots: each is a run of its own, what is learned is chosen, and slots are proposed in order.
-use Rattle.std.proofs.Common.{ℕ, zero, suc, ◌<◌, ◌≤◌, ◌≡◌, ◌==◌, ◌⊎◌, inl, inr, Bool, true, false, cond, Some, List, [], ◌∷◌, ◌++◌, length, refl, sym, subst, ap, ◌∙◌, arith}
+use Rattle.std.proofs.Common.{ℕ, zero, suc, ◌<◌, ◌≡◌, ◌==◌, ◌⊎◌, inl, inr, Bool, true, false, cond, Some, List, [], ◌∷◌, ◌++◌, length, refl, sym, subst, ap, ◌∙◌, arith}
 use Rattle.std.specs.Prelude.{slice_get}
 use Rattle.std.proofs.lemmas.Bool.{eqb-true, cases_lt, cases_eq}
 use Rattle.agreement.specs.State.{Proposal, State}
@@ -8,7 +8,7 @@ use Rattle.agreement.specs.Event.Event.{Starts, Proposes}
 use Rattle.agreement.specs.Chosen.{IsChosen, HasChosen, IsEmpty}
 use Rattle.agreement.specs.Log.{Slots, Move, IsNextSlot, MayMove, moved, none_learned, moves, AllMayMove, IsHistory, slots_after, events_at, events_of_slot}
 use Rattle.agreement.specs.Log.Move.{At, Crash, Learn, Restart}
-use Rattle.agreement.specs.Claims.{IsInOrder, LearnsChosen, OneChosenEach, OneLog, LearnedBelow}
+use Rattle.agreement.specs.Claims.{IsInOrder, LearnsChosen, OneChosenEach, OneLog, ChosenBelow, LearnedBelow}
 use Rattle.agreement.proofs.Invariant.{Holds}
 use Rattle.agreement.proofs.Puts.{all_put, put_same}
 use Rattle.agreement.proofs.Growing.{Grows, value_stays, has_chosen_stays}
@@ -150,11 +150,14 @@ module _ {Value : Type 0} (disks : ℕ) (c : Slots Value) (i : HoldsAll disks c)
   pub same_entries : AllMayMove disks c late → OneLog c (moves c late)
   same_entries a h g k v u e f = same_chosen a k v u (i.learned h k v e) ((holds_all_moves disks c late i a).learned g k u f)
 
-  -- Host h begins an attempt on slot n, which finds no vote: what was learned before is below n.
-  pub learned_below : (n h : ℕ) → AllMayMove disks (moved c (At n (Starts h))) late → IsEmpty disks ((moves (moved c (At n (Starts h))) late).slot n) h → LearnedBelow c n
-  learned_below n h a empty g k v e = elim (cases_lt k n) [
+  -- Host h begins an attempt on slot n, which finds no vote: what was chosen before is below n, and so what was learned.
+  pub chosen_below : (n h : ℕ) → AllMayMove disks (moved c (At n (Starts h))) late → IsEmpty disks ((moves (moved c (At n (Starts h))) late).slot n) h → ChosenBelow disks c n
+  chosen_below n h a empty k v (b, chosen) = elim (cases_lt k n) [
     | inl below ↦ below
-    | inr above ↦ absurd (none (chosen_at above (i.learned g k v e)))
+    | inr above ↦ absurd (none (elim (cases_eq k n) [
+      | inl same ↦ subst (λ x. HasChosen disks (c.slot x)) same (v, (b, chosen))
+      | inr other ↦ i.order k b chosen.proposed.proposal chosen.proposed.is n (omega arith)
+    ]))
   ]
     where
       begun : State Value
@@ -170,13 +173,6 @@ module _ {Value : Type 0} (disks : ℕ) (c : Slots Value) (i : HoldsAll disks c)
       none = nothing_chosen disks (c.slot n) h events (i.slots n)
           (subst (λ s. AllAllowed disks s events) is_begun (allowed_moves n disks (moved c (At n (Starts h))) late a))
           (subst (λ s. IsEmpty disks (run s events) h) is_begun (subst (λ s. IsEmpty disks s h) (slot_moves n (moved c (At n (Starts h))) late) empty))
-
-      -- if slot k is chosen, behind n or n itself, then so is n
-      chosen_at : n ≤ k → IsChosen disks (c.slot k) v → HasChosen disks (c.slot n)
-      chosen_at above (b, chosen) = elim (cases_eq k n) [
-        | inl same ↦ subst (λ x. HasChosen disks (c.slot x)) same (v, (b, chosen))
-        | inr other ↦ i.order k b chosen.proposed.proposal chosen.proposed.is n (omega arith)
-      ]
 
 -- What holds of any slots and of those after some moves, holds at two places of a history.
 pub at_two_places : {Value : Type 0} (disks : ℕ) (P : Slots Value → Slots Value → Type 0) (early late : List (Move Value))
@@ -195,5 +191,7 @@ module _ {Value : Type 0} (disks : ℕ) (early late : List (Move Value)) where
   pub one_log : IsHistory disks (early ++ late) → OneLog (slots_after early) (slots_after (early ++ late))
   one_log = at_two_places disks OneLog early late (λ c i. same_entries disks c i late)
 
-  pub no_shorter : (n h : ℕ) → IsHistory disks (early ++ At n (Starts h) ∷ late) → IsEmpty disks ((slots_after (early ++ At n (Starts h) ∷ late)).slot n) h → LearnedBelow (slots_after early) n
-  no_shorter n h = at_two_places disks (λ c e. IsEmpty disks (e.slot n) h → LearnedBelow c n) early (At n (Starts h) ∷ late) (λ c i a. learned_below disks c i late n h a.1)
+  pub no_shorter : (n h : ℕ) → IsHistory disks (early ++ At n (Starts h) ∷ late) → IsEmpty disks ((slots_after (early ++ At n (Starts h) ∷ late)).slot n) h
+      → ChosenBelow disks (slots_after early) n × LearnedBelow (slots_after early) n
+  no_shorter n h = at_two_places disks (λ c e. IsEmpty disks (e.slot n) h → ChosenBelow disks c n × LearnedBelow c n) early (At n (Starts h) ∷ late)
+      (λ c i a empty. let below = chosen_below disks c i late n h a.1 empty in (below, λ g k v e. below k v (i.learned g k v e)))

@@ -96,6 +96,10 @@ LogGrows {Value} disks c e = (values longer : List Value) → IsLog disks c valu
 abbrev pub LearnsLog : {Value : Type 0} → ℕ → Slots Value → Type 0
 LearnsLog {Value} disks c = (h : ℕ) (values : List Value) → IsLog disks c values → BeginsWith (c.learned h) values
 
+-- what is chosen is of slots below n
+abbrev pub ChosenBelow : {Value : Type 0} → ℕ → Slots Value → ℕ → Type 0
+ChosenBelow {Value} disks c n = (k : ℕ) (v : Value) → IsChosen disks (c.slot k) v → k < n
+
 -- what any host has learned is of slots below n
 abbrev pub LearnedBelow : {Value : Type 0} → Slots Value → ℕ → Type 0
 LearnedBelow {Value} c n = (h k : ℕ) (v : Value) → slice_get (c.learned h) k ≡ Some v → k < n

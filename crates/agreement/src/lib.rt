@@ -10,7 +10,7 @@ ghost use Rattle.agreement.specs.Log.{Move, IsHistory, slots_after, events_of_sl
 ghost use Rattle.agreement.specs.Log.Move.{At};
 ghost use Rattle.agreement.specs.Race.{says, seven_proposed, eight_proposed, until_vanished, eight_chosen, race};
 ghost use Rattle.agreement.specs.Claims.{BindsGreater, StaysChosen, OneChosen, OnlyInputs, StaysProposed, OneProposal, CommitsChosen, Binds, NoneChosen, WritesAtRest};
-ghost use Rattle.agreement.specs.Claims.{IsInOrder, LearnsChosen, OneChosenEach, OneLog, HasLog, LogGrows, LearnsLog, LearnedBelow};
+ghost use Rattle.agreement.specs.Claims.{IsInOrder, LearnsChosen, OneChosenEach, OneLog, HasLog, LogGrows, LearnsLog, ChosenBelow, LearnedBelow};
 
 /// Agreement: what is chosen by a ballot is the value of each proposal of a greater one, and stays chosen; and at any two
 /// places of a run one value is chosen, whatever the ballots.
@@ -88,10 +88,14 @@ pub fn the_log<Value>()
     ensures learned { (disks : ℕ) (ms : List (Move Value)) → IsHistory disks ms → LearnsLog disks (slots_after ms) }
 {}
 
-/// No recovery is shorter than what had been learned before it began: where an attempt on slot n finds no vote, all that
-/// any host had learned when it began is of slots below n.
+/// No recovery is shorter than the log was when it began: where an attempt on slot n finds no vote, all that was chosen
+/// when it began, and all that any host had learned, is of slots below n.
 pub fn no_shorter<Value>()
-    ensures { (disks n h : ℕ) (early late : List (Move Value)) →
+    ensures chosen { (disks n h : ℕ) (early late : List (Move Value)) →
+        IsHistory disks (early ++ At n (Starts h) ∷ late) →
+        IsEmpty disks ((slots_after (early ++ At n (Starts h) ∷ late)).slot n) h →
+        ChosenBelow disks (slots_after early) n }
+    ensures learned { (disks n h : ℕ) (early late : List (Move Value)) →
         IsHistory disks (early ++ At n (Starts h) ∷ late) →
         IsEmpty disks ((slots_after (early ++ At n (Starts h) ∷ late)).slot n) h →
         LearnedBelow (slots_after early) n }

@@ -1,4 +1,3 @@
-pub mod Chosen
 pub mod Follows
 pub mod Leads
 pub mod Machine

@@ -8,6 +8,7 @@ ghost use Rattle.attempt.specs.Setup.{Setup};
 ghost use Rattle.attempt.specs.Proposal.{ballot};
 ghost use Rattle.attempt.specs.NextCall.{next_call};
 ghost use Rattle.attempt.specs.Status.{Due, Ended, Committed, Empty, status};
+ghost use Rattle.attempt.specs.Chosen.{Chooses};
 ghost use Rattle.attempt.specs.History.{IsAnswerTo, IsHistory};
 ghost use Rattle.agreement.specs.State.{Block};
 ghost use Rattle.agreement.specs.Event.{Event, IsRun, state_after, after};
@@ -19,7 +20,6 @@ ghost use Rattle.agreement.specs.Log.{slots_after, events_of_slot};
 ghost use Rattle.attempt_safety.specs.Machine.{Machine, write_in};
 ghost use Rattle.attempt_safety.specs.Follows.{Follows, IsSameHost};
 ghost use Rattle.attempt_safety.specs.Registers.{IsNext, RegistersAllow};
-ghost use Rattle.attempt_safety.specs.Chosen.{Chooses};
 ghost use Rattle.attempt_safety.specs.Leads.{IsSameBlock, LeavesOthers, Leads};
 ghost use Rattle.attempt_safety.specs.Slots.{in_slot};
 

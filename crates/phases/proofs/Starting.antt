@@ -1,5 +1,5 @@
 -- What an attempt keeps that has heard nothing.
-use Rattle.std.proofs.Common.{◌≡◌, ◌*◌, ◌<◌, ℕ, zero, suc, Bool, true, false, Option, Some, None, List, [], is_some, refl, sym, subst, ap, ◌∙◌, arith}
+use Rattle.std.proofs.Common.{◌≡◌, ◌*◌, ◌<◌, ℕ, zero, suc, true, Option, Some, None, List, [], is_some, refl, sym, subst, ap, ◌∙◌, arith}
 use Rattle.std.proofs.lemmas.Bool.{lt-ltb}
 use Rattle.paxos_block.specs.Saying.{zeros}
 use Rattle.paxos_block.specs.Row.{blank}

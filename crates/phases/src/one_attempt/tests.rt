@@ -163,14 +163,17 @@ fn latest_vote_is_adopted(rt: HostRuntime) -> Result<(), Fail> {
 
 #[test]
 fn damaged_row_drops_its_disk(rt: HostRuntime) -> Result<(), Fail> {
-    let mut damaged = VOTED_FOR_W;
-    damaged[1] = 3;
-    let mut disks = blank_disks(rt.alloc(), 3)?;
-    put(disks.get_mut(1), 1, &damaged)?;
-    let mut attempt = Attempt::new(0, 0, 3, 0, Some(V));
-    // Three openings, and two disks for the rest.
-    assert_eq!(rt; drive(&mut attempt, &mut disks, ENOUGH), 37);
-    assert_eq!(rt; attempt.end(), Some(End::Committed(V)));
+    // The version, the flag, the zeros behind it, and a ballot of host 1.
+    for (at, byte) in [(1, 3), (2, 2), (4, 1), (23, 2)] {
+        let mut damaged = VOTED_FOR_V;
+        damaged[at] = byte;
+        let mut disks = blank_disks(rt.alloc(), 3)?;
+        put(disks.get_mut(1), 0, &damaged)?;
+        let mut attempt = Attempt::new(0, 0, 3, 0, Some(W));
+        // Three openings, and two disks for the rest.
+        assert_eq!(rt; drive(&mut attempt, &mut disks, ENOUGH), 37);
+        assert_eq!(rt; attempt.end(), Some(End::Committed(W)));
+    }
     Ok(())
 }
 

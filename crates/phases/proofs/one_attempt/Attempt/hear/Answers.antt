@@ -1,7 +1,6 @@
-use Rattle.std.proofs.Common.{◌≡◌, ◌∙◌, ap, sym, subst, ◌++◌, ◌∷◌, [], List, Option, Some, None}
-use Rattle.attempt.specs.Answers.{Answered, on}
+use Rattle.std.proofs.Common.{◌≡◌, ◌∙◌, ap, sym, subst, ◌++◌, ◌∷◌, [], None}
+use Rattle.attempt.specs.Answers.{on}
 use Rattle.attempt.specs.History.{Fits}
-use Rattle.attempt.specs.Setup.{Setup}
 use Rattle.attempt.proofs.Ends.{bound, served}
 use Rattle.phases.specs.declared.notes.Notes.{Notes}
 use Rattle.phases.specs.Calls.{heard_of}

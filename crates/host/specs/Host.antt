@@ -1,0 +1,167 @@
+-- A host: what follows from its operations and the answers that it has heard since its start.
+use Rattle.std.specs.Prelude.{◌-◌, ℕ, Bool, true, false, List, [], ◌∷◌, ◌++◌, length, max, nat_lt, nat_le, Option, Some, None, if◌then◌else◌, bytes_eq}
+use Rattle.disk.specs.Disk as device
+use Rattle.attempt.specs.Answers.{Answered, on}
+use Rattle.attempt.specs.Setup.{Setup}
+use Rattle.attempt.specs.Status.{Status, Due, Ended, End, status, taken}
+use Rattle.attempt.specs.Status as attempt
+use Rattle.attempt.specs.NextCall.{next_call}
+use Rattle.lock_command.specs.declared.command.Command.{Command}
+use Rattle.lock_command.specs.Command.{spelling}
+use Rattle.lock_command.specs.Reading.{decoded}
+use Rattle.lock_table.specs.declared.reply.Reply.{Reply}
+use Rattle.lock_table.specs.Apply.{applied, table_after}
+use Rattle.slot_log.specs.Shape.{Shape}
+use Rattle.slot_log.specs.declared.outcome.Refusal.TheVariants as refusal
+use Rattle.host.specs.declared.answer.HostAnswer.{HostAnswer}
+use Rattle.host.specs.declared.answer.HostAnswer.TheVariants.{Ack, Recovered, Refused}
+
+-- COMMANDS
+
+-- the reply to a command after those before it
+abbrev pub reply_after : List Command → Command → Reply
+reply_after before command = (applied (table_after before) command).reply
+
+-- WHAT A HOST KNOWS
+
+pub data Operation : Type 0 where
+  Submitting : (command : Command) → Operation
+  Recovering : Operation
+
+-- an operation under way: its tries left, and what its attempt on the next slot has heard
+pub record Doing : Type 0 where
+  pub operation : Operation
+  pub tries : ℕ
+  pub heard : List Answered
+
+-- a running host: the commands that it has learned, by slot, its floor on the next slot, and what its last entry made it say
+pub record Memory : Type 0 where
+  pub learned : List Command
+  pub floor : ℕ
+  pub doing : Option Doing
+  pub said : Option HostAnswer
+
+pub data Host : Type 0 where
+  Stopped : Host
+  Running : (memory : Memory) → Host
+
+-- at its start a host knows nothing
+abbrev pub fresh : Memory
+fresh = record { learned = []; floor = 0; doing = None; said = None }
+
+abbrev pub says : Memory → HostAnswer → Memory
+says m said = record { learned = m.learned; floor = m.floor; doing = None; said = Some said }
+
+abbrev pub does : Memory → Doing → Memory
+does m t = record { learned = m.learned; floor = m.floor; doing = Some t; said = None }
+
+-- a ballot of the next slot counts from now on
+abbrev pub with_floor : Memory → ℕ → Memory
+with_floor m ballot = record { learned = m.learned; floor = max m.floor ballot; doing = None; said = None }
+
+abbrev pub learns : Memory → Command → Memory
+learns m command = record { learned = m.learned ++ command ∷ []; floor = 0; doing = None; said = None }
+
+-- AN OPERATION GOES ON
+
+-- what an operation's attempts propose
+abbrev pub input_of : Operation → Option (List ℕ)
+input_of (Submitting command) = Some (spelling command)
+input_of Recovering = None
+
+-- the attempt on the next slot
+abbrev pub setup_of : Shape → ℕ → Memory → Operation → Setup
+setup_of c h m operation = record { host = h; slot = length m.learned; disks = c.disks; floor = m.floor; input = input_of operation }
+
+-- an attempt on the next slot begins
+abbrev pub begins : Memory → Operation → ℕ → Memory
+begins m operation tries = does m (record { operation = operation; tries = tries; heard = [] })
+
+-- how an operation ends once all slots are learned
+abbrev pub full_answer : Operation → ℕ → HostAnswer
+full_answer (Submitting command) learned = Refused refusal.LogFull
+full_answer Recovering learned = Recovered learned
+
+-- the next slot is tried, where there is one
+abbrev pub goes_on : Shape → Memory → Operation → ℕ → Memory
+goes_on c m operation tries =
+    if nat_lt (length m.learned) c.slots then begins m operation tries else says m (full_answer operation (length m.learned))
+
+-- whether these are the bytes of the command that was submitted
+abbrev pub is_submitted : Operation → List ℕ → Bool
+is_submitted (Submitting command) value = bytes_eq (spelling command) value
+is_submitted Recovering value = false
+
+-- a submitted command that was learned is acknowledged; else the next slot is tried
+abbrev pub after_learning : Shape → Memory → Doing → Command → Bool → Memory
+after_learning c m t command true = says (learns m command) (Ack (length m.learned) (reply_after m.learned command))
+after_learning c m t command false = goes_on c (learns m command) t.operation t.tries
+
+-- a committed value that is no command is not learned
+abbrev pub takes : Shape → Memory → Doing → ℕ → List ℕ → Option Command → Memory
+takes c m t ballot value None = says (with_floor m ballot) (Refused refusal.NotACommand)
+takes c m t ballot value (Some command) = after_learning c m t command (is_submitted t.operation value)
+
+-- an outrun attempt uses one of the tries
+abbrev pub tries_again : Memory → Operation → ℕ → Memory
+tries_again m operation tries = if nat_le tries 1 then says m (Refused refusal.Outrun) else begins m operation (tries - 1)
+
+-- an attempt has ended, and its ballot counts
+abbrev pub ended : Shape → Memory → Doing → ℕ → End → Memory
+ended c m t ballot (attempt.Committed value) = takes c m t ballot value (decoded value)
+ended c m t ballot attempt.Empty = says (with_floor m ballot) (Recovered (length m.learned))
+ended c m t ballot (attempt.Outrun mbal) = tries_again (with_floor (with_floor m ballot) mbal) t.operation t.tries
+ended c m t ballot attempt.NoMajority = says (with_floor m ballot) (Refused refusal.NoMajority)
+ended c m t ballot attempt.BallotsSpent = says (with_floor m ballot) (Refused refusal.BallotsSpent)
+
+abbrev pub by_status : Shape → Memory → Doing → ℕ → Status → Memory
+by_status c m t ballot (Due phase disk) = does m t
+by_status c m t ballot (Ended end) = ended c m t ballot end
+
+abbrev pub with_heard : Doing → Answered → Doing
+with_heard t x = record { operation = t.operation; tries = t.tries; heard = t.heard ++ x ∷ [] }
+
+abbrev pub goes_by : Shape → Memory → Doing → Setup → Memory
+goes_by c m t s = by_status c m t (taken s (on t.heard)) (status s (on t.heard))
+
+-- the attempt under way hears one more answer
+abbrev pub hears : Shape → ℕ → Memory → Option Doing → Answered → Memory
+hears c h m None x = m
+hears c h m (Some t) x = goes_by c m (with_heard t x) (setup_of c h m t.operation)
+
+-- WHAT A HOST DOES NEXT
+
+abbrev pub is_idle_in : Option Doing → Bool
+is_idle_in None = true
+is_idle_in (Some t) = false
+
+abbrev pub is_idle : Memory → Bool
+is_idle m = is_idle_in m.doing
+
+abbrev pub next_doing : Shape → ℕ → Memory → Option Doing → Option (ℕ × device.Call)
+next_doing c h m None = None
+next_doing c h m (Some t) = next_call (setup_of c h m t.operation) (on t.heard)
+
+-- the disk and the device call that are due
+abbrev pub next_in : Shape → ℕ → Memory → Option (ℕ × device.Call)
+next_in c h m = next_doing c h m m.doing
+
+abbrev pub next_of : Shape → ℕ → Host → Option (ℕ × device.Call)
+next_of c h Stopped = None
+next_of c h (Running m) = next_in c h m
+
+abbrev pub is_stopped : Host → Bool
+is_stopped Stopped = true
+is_stopped (Running m) = false
+
+abbrev pub idles : Host → Bool
+idles Stopped = false
+idles (Running m) = is_idle m
+
+abbrev pub said_of : Host → Option HostAnswer
+said_of Stopped = None
+said_of (Running m) = m.said
+
+abbrev pub learned_of : Host → List Command
+learned_of Stopped = []
+learned_of (Running m) = m.learned

@@ -1,0 +1,31 @@
+use lock_table::Reply;
+use slot_log::{Outcome, Refusal};
+
+/// How an operation ended.
+#[derive(Clone, Copy, Debug, PartialEq, Eq)]
+pub enum HostAnswer {
+    /// The command is in the log, at this slot, and the lock table there replies so.
+    Ack { slot: u16, reply: Reply },
+    /// So many commands are learned, and they were all.
+    Recovered { length: u16 },
+    Refused(Refusal),
+}
+
+impl HostAnswer {
+    ghost use Rattle.std.specs.Prelude.{◌≡◌};
+    ghost use Rattle.host.specs.Kept.{answer_of};
+
+    // What an outcome is for a host, with the reply to the command that was learned with it.
+    pub(crate) fn of(outcome: Option<Outcome>, reply: Option<Reply>) -> Option<HostAnswer>
+        ensures { result ≡ answer_of outcome reply }
+    {
+        match outcome? {
+            Outcome::Placed { slot } => Some(HostAnswer::Ack {
+                slot,
+                reply: reply?,
+            }),
+            Outcome::Recovered { length } => Some(HostAnswer::Recovered { length }),
+            Outcome::Refused(refusal) => Some(HostAnswer::Refused(refusal)),
+        }
+    }
+}

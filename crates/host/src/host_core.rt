@@ -1,0 +1,209 @@
+ghost use Rattle.std.specs.Prelude.{◌≡◌, ◌≤◌, ◌<◌, ◌++◌, ◌∷◌, [], ℕ, true, false, IfOk, Option, Some, None, is_some, vec_len, vec_capacity};
+ghost use Rattle.std.specs.Option.{option_map};
+ghost use Rattle.paxos_block.specs.Places.{image_length};
+ghost use Rattle.attempt.specs.History.{Fits};
+ghost use Rattle.lock_command.specs.Command.{spelling};
+ghost use Rattle.lock_command.specs.Reading.{decoded};
+ghost use Rattle.lock_table.specs.Apply.{table_after};
+ghost use Rattle.lock_table.specs.Picture.{IsPictureOf};
+ghost use Rattle.phases.specs.Calls.{call_of_need, heard_of, IsWithin};
+ghost use Rattle.slot_log.specs.Kept as learners;
+ghost use Rattle.slot_log.specs.Kept.{offered_of};
+ghost use Rattle.slot_log.specs.Learning as log;
+ghost use Rattle.slot_log.specs.Shape.{Shape};
+ghost use Rattle.host.specs.Alone.{IsAnsweredAlone};
+ghost use Rattle.host.specs.Host.{Memory, Submitting, Recovering, fresh, goes_on, hears, is_idle_in, next_in, reply_after};
+ghost use Rattle.host.specs.Kept.{Kept, LeadsTo, is_idle, due_call, option_list};
+
+use crate::answer::HostAnswer;
+use disk::NoMemory;
+use lock_command::{Command, HostNumber, decode};
+use lock_table::{Reply, Table};
+use paxos_block::Value;
+use phases::{Heard, Need};
+use slot_log::{Config, Learner, Outcome};
+use std::alloc::Global;
+use std::marker::Model;
+
+/// A running host: what it has learned since its start, and the operation that it carries out, one device call at a time.
+///
+/// No call but `start` takes memory.
+#[derive(Drop)]
+pub struct HostCore {
+    host: HostNumber,
+    learner: Learner,
+    prefix: Vec<Command>,
+    table: Table,
+    said: Option<HostAnswer>,
+}
+
+impl Model for HostCore {
+    ghost use Rattle.std.specs.Prelude.{◌≡◌, ◌≤◌, None, map, vec_capacity};
+    ghost use Rattle.lock_command.specs.Command.{spelling};
+    ghost use Rattle.lock_table.specs.Apply.{table_after};
+    ghost use Rattle.lock_table.specs.Picture.{IsPictureOf};
+    ghost use Rattle.slot_log.specs.Kept.{offered_of};
+    ghost use Rattle.host.specs.Kept.{Kept};
+
+    ghost Value = { Kept };
+
+    ghost view = { λ core. record { learner = core.learner; prefix = core.prefix.items; said = core.said } };
+
+    ghost invariant = { λ core. record {
+      host : core.learner.host ≡ core.host;
+      judged : offered_of core.learner ≡ None;
+      prefix : core.learner.learned ≡ map spelling core.prefix.items;
+      room : core.learner.shape.slots ≤ vec_capacity core.prefix;
+      table : IsPictureOf core.table (table_after core.prefix.items);
+    } };
+}
+
+impl HostCore {
+    /// A host that has learned nothing, with room for all that it may learn.
+    pub fn start(alloc: Global, host: HostNumber, config: Config) -> Result<HostCore, NoMemory>
+        ensures { IfOk result (λ core. LeadsTo config host fresh core) }
+    {
+        let slots = usize::from(config.slots());
+        let learner = Learner::new(alloc, host.get(), config)?;
+        let prefix = Vec::with_capacity(alloc, slots)?;
+        let Ok(table) = Table::new(alloc) else {
+            return Err(NoMemory);
+        };
+        Ok(HostCore {
+            host,
+            learner,
+            prefix,
+            table,
+            said: None,
+        })
+    }
+
+    /// Whether an operation may begin.
+    pub fn idle(&self) -> bool
+        ensures known { (c : Shape) (h : ℕ) (m : Memory) → LeadsTo c h m self.now →
+            result ≡ is_idle_in m.doing }
+        ensures idle { result ≡ is_idle self.now }
+    {
+        self.learner.idle()
+    }
+
+    /// The host's number.
+    pub fn host(&self) -> HostNumber
+        ensures { result ≡ self.now.learner.host }
+    {
+        self.host
+    }
+
+    /// The commands learned: the first of the log, none left out.
+    pub fn prefix(&self) -> &[Command]
+        ensures { result.now ≡ self.now.prefix }
+    {
+        &self.prefix
+    }
+
+    /// The lock table after these commands.
+    pub fn table(&self) -> &Table
+        ensures { IsPictureOf result.now (table_after self.now.prefix) }
+    {
+        &self.table
+    }
+
+    /// What the last entry made the host say: how an operation ended, where one ended with it.
+    pub fn answer(&self) -> Option<HostAnswer>
+        ensures { result ≡ self.now.said }
+    {
+        self.said
+    }
+
+    /// Begins to put a command into the log. Up to `tries` attempts may be outrun, the last of which ends the operation.
+    pub fn submit(&mut self, command: Command, tries: u8)
+        requires idle { is_idle self.old ≡ true }
+        requires host { command.host ≡ self.old.learner.host }
+        requires tries { 1 ≤ tries }
+        ensures { (c : Shape) (h : ℕ) (m : Memory) → LeadsTo c h m self.old →
+            LeadsTo c h (goes_on c m (Submitting command) tries) self.new }
+    {
+        self.learner.place(command.encode(), tries);
+        self.said = HostAnswer::of(self.learner.said(), None);
+    }
+
+    /// Begins to learn all that is in the log. Up to `tries` attempts may be outrun, the last of which ends the operation.
+    pub fn recover(&mut self, tries: u8)
+        requires idle { is_idle self.old ≡ true }
+        requires tries { 1 ≤ tries }
+        ensures { (c : Shape) (h : ℕ) (m : Memory) → LeadsTo c h m self.old →
+            LeadsTo c h (goes_on c m Recovering tries) self.new }
+    {
+        self.learner.recover(tries);
+        self.said = HostAnswer::of(self.learner.said(), None);
+    }
+
+    /// The device call that is due.
+    pub fn call(&self) -> Need<'_>
+        requires { is_idle self.now ≡ false }
+        ensures next { (c : Shape) (h : ℕ) (m : Memory) → LeadsTo c h m self.now →
+            next_in c h m ≡ Some (call_of_need result) }
+        ensures due { call_of_need result ≡ due_call self.now }
+        ensures range { IsWithin (image_length self.now.learner.shape.slots) result.call }
+        ensures disk { result.disk < self.now.learner.shape.disks }
+    {
+        self.learner.call()
+    }
+
+    /// Hears the answer to the call that is due.
+    pub fn hear(&mut self, heard: &Heard<'_>)
+        requires busy { is_idle self.old ≡ false }
+        requires fits { Fits (due_call self.old).1 (heard_of heard.now) }
+        ensures leads { (c : Shape) (h : ℕ) (m : Memory) → LeadsTo c h m self.old →
+            LeadsTo c h (hears c h m m.doing (record { disk = (due_call self.old).0; heard = heard_of heard.now })) self.new }
+        // By Committed, Empty or BallotsSpent within 17 calls a disk, if no other host makes a call on the slot meanwhile.
+        ensures alone { (c : Shape) (h : ℕ) (m : Memory) → LeadsTo c h m self.old →
+            IsAnsweredAlone c h m m.doing (record { disk = (due_call self.old).0; heard = heard_of heard.now }) }
+    {
+        self.learner.hear(heard);
+        let Some(value) = self.learner.offered() else {
+            self.said = HostAnswer::of(self.learner.said(), None);
+            return;
+        };
+        let reply = judge(&mut self.learner, &mut self.prefix, &mut self.table, &value);
+        self.said = HostAnswer::of(self.learner.said(), reply);
+    }
+
+    /// Stops the host. What it knew is gone.
+    pub fn stop(self) {}
+}
+
+// A value that the learner offers is learned if it is a command, and then carried out. Gives the reply to it.
+fn judge(
+    learner: &mut Learner,
+    prefix: &mut Vec<Command>,
+    table: &mut Table,
+    value: &Value,
+) -> Option<Reply>
+    requires offered { offered_of learner.old ≡ Some value.now }
+    requires room { vec_len prefix.old < vec_capacity prefix.old }
+    requires table { IsPictureOf table.old (table_after prefix.old.items) }
+    ensures leads { (c : Shape) (h : ℕ) (m : log.Memory) → learners.LeadsTo c h m learner.old →
+        learners.LeadsTo c h (log.takes c h m m.doing (is_some (decoded value.now))) learner.new }
+    ensures judged { offered_of learner.new ≡ None }
+    ensures learned { learner.new.learned ≡ learner.old.learned ++ option_list (option_map spelling (decoded value.now)) }
+    ensures same { (learner.new.host ≡ learner.old.host) × (learner.new.shape ≡ learner.old.shape) }
+    ensures prefix { prefix.new.items ≡ prefix.old.items ++ option_list (decoded value.now) }
+    ensures room { vec_capacity prefix.new ≡ vec_capacity prefix.old }
+    ensures table { IsPictureOf table.new (table_after prefix.new.items) }
+    ensures reply { result ≡ option_map (reply_after prefix.old.items) (decoded value.now) }
+{
+    let Some(command) = decode(value) else {
+        learner.take(false);
+        return None;
+    };
+    // The check looks for the types within a command only where one of them is used.
+    let _action = &command.action;
+    let reply = table.apply(&command);
+    prefix.push_reserved(command);
+    learner.take(true);
+    Some(reply)
+}
+
+#[cfg(test)]
+mod tests;

@@ -1,0 +1,119 @@
+-- What a learner keeps while an operation goes on.
+use Rattle.std.proofs.Common.{◌≡◌, ◌<◌, ◌-◌, ℕ, true, false, List, [], ◌∷◌, ◌++◌, max, Option, Some, None, refl, sym, ◌∙◌, ap, subst}
+use Rattle.std.proofs.lemmas.Bool.{lt-leb}
+use Rattle.attempt.specs.Answers.{Answered, Heard, on}
+use Rattle.attempt.specs.Setup.{Setup}
+use Rattle.attempt.specs.Status as attempt
+use Rattle.attempt.specs.Status.{Status, Due, Ended, status, taken}
+use Rattle.phases.specs.declared.end.End.{End}
+use Rattle.phases.specs.declared.end.End.TheVariants as end
+use Rattle.phases.specs.declared.notes.Notes.{Notes}
+use Rattle.phases.specs.Calls.{end_of, end_in}
+use Rattle.phases.specs.Kept as attempts
+use Rattle.phases.specs.Kept.{end_of_status}
+use Rattle.attempt.proofs.Ends.{bound, served}
+use Rattle.slot_log.specs.Alone.{IsAnsweredAlone}
+use Rattle.slot_log.specs.Shape.{Shape}
+use Rattle.slot_log.specs.Learning.{Memory, Doing, setup_of, begins, ended, tries_again, with_floor, with_heard, by_status, hears, takes, judges, offered_in, after_learning, is_placed, learns, goes_on}
+use Rattle.slot_log.specs.Kept.{Kept, LeadsTo, AreDoing, IsDoing, IsOf, IsOver, is_idle, is_idle_with}
+use Rattle.slot_log.specs.declared.operation.Operation.{Operation}
+use Rattle.slot_log.specs.declared.operation.Task.{Task}
+
+-- where no operation is under way, nothing is asked of the attempt
+pub idle_doing : (c : Shape) (h : ℕ) (m : Memory) (task : Option Task) (a : Notes) → is_idle_with task ≡ true → AreDoing c h m None task a
+idle_doing c h m None a idle = tt
+idle_doing c h m (Some task) a idle = absurd (cc)
+
+-- an operation under way is known
+pub doing_is : (c : Shape) (h : ℕ) (m : Memory) (o : Option Doing) (task : Task) (a : Notes) → AreDoing c h m o (Some task) a → (t : Doing) × (o ≡ Some t) × IsDoing c h m t task a
+doing_is c h m None task a are = absurd are
+doing_is c h m (Some t) task a are = (t, refl, are)
+
+pub task_is : (c : Shape) (h : ℕ) (m : Memory) (k : Kept) (task : Task) → LeadsTo c h m k → k.task ≡ Some task → (t : Doing) × (m.doing ≡ Some t) × IsDoing c h m t task k.attempt
+task_is c h m k task leads is =
+    let P : Option Task → Type 0 = λ o. AreDoing c h m m.doing o k.attempt in
+    doing_is c h m m.doing task k.attempt (subst P is leads.doing)
+
+-- a ballot counts
+pub counted : (c : Shape) (h : ℕ) (m : Memory) (old new : Kept) (ballot : ℕ) → LeadsTo c h m old → is_idle new ≡ true → new.shape ≡ old.shape → new.host ≡ old.host → new.learned ≡ old.learned → new.floor ≡ max old.floor ballot → new.said ≡ None → LeadsTo c h (with_floor m ballot) new
+counted c h m old new ballot leads idle shape is_host learned floor said = record {
+  shape = shape ∙ leads.shape;
+  is_host = is_host ∙ leads.is_host;
+  learned = learned ∙ leads.learned;
+  floor = floor ∙ ap (λ (n : ℕ). max n ballot) leads.floor;
+  said = said;
+  doing = idle_doing c h (with_floor m ballot) new.task new.attempt idle;
+}
+
+-- with more tries left an attempt begins
+one_more_try : (m : Memory) (operation : Operation) (tries : ℕ) → 1 < tries → tries_again m operation tries ≡ begins m operation (tries - 1)
+one_more_try m operation tries more = rw (lt-leb tries 1 more) refl
+
+-- an outrun attempt is followed by the next
+pub outrun : (c : Shape) (h : ℕ) (m : Memory) (t : Doing) (task : Task) (ballot mbal : ℕ) (e : End) (new : Kept) → e ≡ end.Outrun mbal → IsOf t task → 1 < task.tries → LeadsTo c h (begins (with_floor (with_floor m ballot) mbal) task.operation (task.tries - 1)) new → LeadsTo c h (ended m t ballot (end_of e)) new
+outrun c h m t task ballot mbal e new is of more begun =
+    let m' : Memory = with_floor (with_floor m ballot) mbal in
+    let P : Memory → Type 0 = λ n. LeadsTo c h n new in
+    let known : tries_again m' t.operation t.tries ≡ begins m' task.operation (task.tries - 1) =
+    ap (λ (o : Operation). tries_again m' o t.tries) of.operation
+    ∙ ap (λ (n : ℕ). tries_again m' task.operation n) of.tries
+    ∙ one_more_try m' task.operation task.tries more in
+    let ends : ended m t ballot (end_of e) ≡ tries_again m' t.operation t.tries = ap (λ (x : End). ended m t ballot (end_of x)) is in
+    subst P (sym (ends ∙ known)) begun
+
+status_ended : (st : Status) (e : attempt.End) → end_of_status st ≡ Some e → st ≡ Ended e
+status_ended (Due p d) e is = absurd (cc)
+status_ended (Ended x) e is = cc
+
+-- an end without a value does not go by what the attempt heard before it
+ended_same : (m : Memory) (t : Doing) (x : Answered) (ballot : ℕ) (e : End) → IsOver e → ended m (with_heard t x) ballot (end_of e) ≡ ended m t ballot (end_of e)
+ended_same m t x ballot (end.Committed value) over = absurd over
+ended_same m t x ballot end.Empty over = refl
+ended_same m t x ballot (end.Outrun mbal) over = refl
+ended_same m t x ballot end.NoMajority over = refl
+ended_same m t x ballot end.BallotsSpent over = refl
+
+-- what is known once an attempt has ended without a value
+pub hears_end : (c : Shape) (h : ℕ) (m : Memory) (t : Doing) (x : Answered) (ballot : ℕ) (e : End) → m.doing ≡ Some t → IsOver e → end_in (Some e) ≡ end_of_status (status (setup_of c h m t.operation) (on (t.heard ++ x ∷ []))) → ballot ≡ taken (setup_of c h m t.operation) (on (t.heard ++ x ∷ [])) → hears c h m m.doing x ≡ ended m t ballot (end_of e)
+hears_end c h m t x ballot e is over ends took =
+    let s = setup_of c h m t.operation in
+    let heard = t.heard ++ x ∷ [] in
+    ap (λ (o : Option Doing). hears c h m o x) is
+    ∙ ap (λ (b : ℕ). by_status m (with_heard t x) b (status s (on heard))) (sym took)
+    ∙ ap (by_status m (with_heard t x) ballot) (status_ended (status s (on heard)) (end_of e) (sym ends))
+    ∙ ended_same m t x ballot e over
+
+-- a value that was not to be placed is followed by an attempt on the next slot
+pub other_learned : (c : Shape) (m : Memory) (t : Doing) (task : Task) (value : List ℕ) → IsOf t task → is_placed task.operation value ≡ false → after_learning c m t value ≡ goes_on c (learns m value) task.operation task.tries
+other_learned c m t task value of other =
+    let F : Operation → ℕ → Memory = λ o n. after_learning c m (record { operation = o; tries = n; heard = t.heard }) value in
+    ap (λ (o : Operation). F o t.tries) of.operation
+    ∙ ap (F task.operation) of.tries
+    ∙ rw other refl
+
+-- a value is judged
+pub takes_value : (c : Shape) (h : ℕ) (m : Memory) (t : Doing) (value : List ℕ) → m.doing ≡ Some t → Some value ≡ offered_in c h m m.doing → takes c h m m.doing true ≡ after_learning c m t value
+takes_value c h m t value is offered =
+    let s = setup_of c h m t.operation in
+    let F : Option (List ℕ) → Memory = λ o. judges c m t (taken s (on t.heard)) o true in
+    ap (λ (o : Option Doing). takes c h m o true) is
+    ∙ ap F (sym (offered ∙ ap (offered_in c h m) is))
+
+-- LEFT ALONE
+
+alone_with : (c : Shape) (h : ℕ) (m : Memory) (o : Option Doing) (task : Option Task) (old new : Notes) (x : Answered) → AreDoing c h m o task old → ((s : Setup) (answers : List Answered) → attempts.LeadsTo s answers old → attempts.LeadsTo s (answers ++ x ∷ []) new) → IsAnsweredAlone c h m o x
+alone_with c h m None task old new x are hear = tt
+alone_with c h m (Some t) None old new x are hear = absurd are
+alone_with c h m (Some t) (Some task) old new x are hear =
+    let s = setup_of c h m t.operation in
+    let heard = t.heard ++ x ∷ [] in
+    let history = (hear s t.heard are.heard).history in
+    record { bound = bound s heard history; served = served s heard history }
+
+-- what an attempt hears is a history, of which the laws speak
+pub alone : (c : Shape) (h : ℕ) (m : Memory) (old now : Kept) (new : Notes) (answer : Heard) → old ≡ now → LeadsTo c h m now → ((s : Setup) (answers : List Answered) → attempts.LeadsTo s answers old.attempt → attempts.LeadsTo s (answers ++ record { disk = old.attempt.disk; heard = answer } ∷ []) new) → IsAnsweredAlone c h m m.doing (record { disk = now.attempt.disk; heard = answer })
+alone c h m old now new answer is leads hear =
+    let Known : Kept → Type 0 = λ k. LeadsTo c h m k in
+    let By : Kept → Type 0 = λ k. IsAnsweredAlone c h m m.doing (record { disk = k.attempt.disk; heard = answer }) in
+    let known : LeadsTo c h m old = subst Known (sym is) leads in
+    subst By is (alone_with c h m m.doing old.task old.attempt new (record { disk = old.attempt.disk; heard = answer }) known.doing hear)

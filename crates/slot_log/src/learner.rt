@@ -1,0 +1,321 @@
+ghost use Rattle.std.specs.Prelude.{◌≡◌, ◌≤◌, ◌<◌, ◌+◌, ◌++◌, ◌∷◌, [], ℕ, true, false, IsTrue, ◌↔◌, IsSome, IfOk, IfSome, Option, Some, None, length, max, if◌then◌else◌};
+ghost use Rattle.torn_block.specs.declared.layout.TheConstants.{HOSTS, ROW_LENGTH};
+ghost use Rattle.paxos_block.specs.Places.{image_length};
+ghost use Rattle.attempt.specs.History.{Fits};
+ghost use Rattle.phases.specs.Calls.{call_of_need, heard_of, end_of, IsWithin};
+ghost use Rattle.slot_log.specs.Alone.{IsAnsweredAlone};
+ghost use Rattle.slot_log.specs.Kept.{Kept, LeadsTo, IsSameLog, is_idle, offered_of, due_call, IsOf, IsOver, KeepsLearned};
+ghost use Rattle.slot_log.specs.Learning.{Memory, Doing, fresh, says, does, begins, goes_on, tries_again, ended, hears, takes, with_floor, learns, after_learning, is_idle_in, next_in, offered_in};
+ghost use Rattle.slot_log.specs.Shape.{Shape};
+
+use crate::config::Config;
+use crate::operation::{Operation, Task};
+use crate::outcome::{Outcome, Refusal};
+use disk::NoMemory;
+use paxos_block::Value;
+use phases::{Attempt, End, Heard, Need};
+use std::alloc::Global;
+use std::marker::Model;
+
+/// What one host learns of the log: the values of its first slots, none left out.
+///
+/// An operation makes one attempt after the other, each on the next slot. Where an attempt committed a value, no call is
+/// due until its caller has said whether the value is a command.
+#[derive(Drop)]
+pub struct Learner {
+    host: u8,
+    config: Config,
+    learned: Vec<Value>,
+    floor: u64,
+    task: Option<Task>,
+    /// The attempt of the operation under way.
+    attempt: Attempt,
+    said: Option<Outcome>,
+}
+
+impl Model for Learner {
+    ghost use Rattle.std.specs.Prelude.{◌≤◌, vec_capacity};
+    ghost use Rattle.slot_log.specs.Kept.{Kept, IsSound};
+
+    ghost Value = { Kept };
+
+    ghost view = { λ l. record {
+      host = l.host;
+      shape = l.config;
+      learned = l.learned.items;
+      floor = l.floor;
+      task = l.task;
+      attempt = l.attempt;
+      said = l.said;
+    } };
+
+    ghost invariant = { λ l. record {
+      sound : IsSound (record {
+        host = l.host;
+        shape = l.config;
+        learned = l.learned.items;
+        floor = l.floor;
+        task = l.task;
+        attempt = l.attempt;
+        said = l.said;
+      });
+      room : l.config.slots ≤ vec_capacity l.learned;
+    } };
+}
+
+impl Learner {
+    /// A learner that has learned nothing, with room for all slots.
+    pub fn new(alloc: Global, host: u8, config: Config) -> Result<Learner, NoMemory>
+        requires { host < HOSTS }
+        ensures { IfOk result (λ learner. LeadsTo config host fresh learner) }
+    {
+        let slots = usize::from(config.slots());
+        Ok(Learner {
+            host,
+            config,
+            learned: Vec::with_capacity(alloc, slots)?,
+            floor: 0,
+            task: None,
+            attempt: Attempt::new(host, 0, config.disks(), 0, None),
+            said: None,
+        })
+    }
+
+    /// Whether an operation may begin.
+    pub fn idle(&self) -> bool
+        ensures known { (c : Shape) (h : ℕ) (m : Memory) → LeadsTo c h m self.now →
+            result ≡ is_idle_in m.doing }
+        ensures idle { result ≡ is_idle self.now }
+    {
+        self.task.is_none()
+    }
+
+    /// The values of the first slots.
+    pub fn learned(&self) -> &[Value]
+        ensures learned { result.now ≡ self.now.learned }
+        ensures few { length result.now ≤ self.now.shape.slots }
+    {
+        &self.learned
+    }
+
+    /// How an operation ended, where the last call ended one.
+    pub fn said(&self) -> Option<Outcome>
+        ensures { result ≡ self.now.said }
+    {
+        self.said
+    }
+
+    /// Begins to learn all that is in the log. Up to `tries` attempts may be outrun, the last of which ends the operation.
+    pub fn recover(&mut self, tries: u8)
+        requires idle { is_idle self.old ≡ true }
+        requires tries { 1 ≤ tries }
+        ensures leads { (c : Shape) (h : ℕ) (m : Memory) → LeadsTo c h m self.old →
+            LeadsTo c h (goes_on c m Operation.Recovering tries) self.new }
+        ensures same { IsSameLog self.old self.new }
+        ensures judged { offered_of self.new ≡ None }
+    {
+        self.go_on(Operation::Recovering, tries);
+    }
+
+    /// Begins to put a value into the log. Up to `tries` attempts may be outrun, the last of which ends the operation.
+    pub fn place(&mut self, value: Value, tries: u8)
+        requires idle { is_idle self.old ≡ true }
+        requires tries { 1 ≤ tries }
+        ensures leads { (c : Shape) (h : ℕ) (m : Memory) → LeadsTo c h m self.old →
+            LeadsTo c h (goes_on c m (Operation.Placing value) tries) self.new }
+        ensures same { IsSameLog self.old self.new }
+        ensures judged { offered_of self.new ≡ None }
+    {
+        self.go_on(Operation::Placing(value), tries);
+    }
+
+    /// The device call that is due.
+    pub fn call(&self) -> Need<'_>
+        requires busy { is_idle self.now ≡ false }
+        requires judged { offered_of self.now ≡ None }
+        ensures next { (c : Shape) (h : ℕ) (m : Memory) → LeadsTo c h m self.now →
+            next_in c h m m.doing ≡ Some (call_of_need result) }
+        ensures due { call_of_need result ≡ due_call self.now }
+        ensures range { IsWithin (image_length self.now.shape.slots) result.call }
+        ensures disk { result.disk < self.now.shape.disks }
+    {
+        self.attempt.call()
+    }
+
+    /// Hears the answer to the call that is due.
+    pub fn hear(&mut self, heard: &Heard<'_>)
+        requires busy { is_idle self.old ≡ false }
+        requires judged { offered_of self.old ≡ None }
+        requires fits { Fits (due_call self.old).1 (heard_of heard.now) }
+        ensures leads { (c : Shape) (h : ℕ) (m : Memory) → LeadsTo c h m self.old →
+            LeadsTo c h (hears c h m m.doing (record { disk = (due_call self.old).0; heard = heard_of heard.now })) self.new }
+        // By Committed, Empty or BallotsSpent within 17 calls a disk, if no other host makes a call on the slot meanwhile.
+        ensures alone { (c : Shape) (h : ℕ) (m : Memory) → LeadsTo c h m self.old →
+            IsAnsweredAlone c h m m.doing (record { disk = (due_call self.old).0; heard = heard_of heard.now }) }
+        ensures same { IsSameLog self.old self.new }
+    {
+        self.attempt.hear(heard);
+        match self.attempt.end() {
+            // A committed value waits until it is judged.
+            None | Some(End::Committed(_)) => self.said = None,
+            Some(end) => {
+                let Some(task) = self.task.take() else {
+                    unreachable!()
+                };
+                let ballot = self.attempt.ballot();
+                self.count_ballot(ballot);
+                self.end(end, task);
+            }
+        }
+    }
+
+    /// The value that an attempt committed, until it is judged.
+    pub fn offered(&self) -> Option<Value>
+        ensures value { (c : Shape) (h : ℕ) (m : Memory) → LeadsTo c h m self.now →
+            result ≡ offered_in c h m m.doing }
+        ensures waits { result ≡ offered_of self.now }
+        ensures room { IsSome result → length self.now.learned < self.now.shape.slots }
+    {
+        if self.task.is_none() {
+            return None;
+        }
+        match self.attempt.end() {
+            Some(End::Committed(value)) => Some(value),
+            _ => None,
+        }
+    }
+
+    /// Says whether the value that is offered is a command. If so it is learned, and the operation goes on or has placed
+    /// its value; else the operation ends.
+    pub fn take(&mut self, is_command: bool)
+        requires { IsSome (offered_of self.old) }
+        ensures leads { (c : Shape) (h : ℕ) (m : Memory) → LeadsTo c h m self.old →
+            LeadsTo c h (takes c h m m.doing is_command) self.new }
+        ensures learned { IfSome (offered_of self.old) (λ value.
+            self.new.learned ≡ self.old.learned ++ (if is_command then value ∷ [] else [])) }
+        ensures same { (self.new.host ≡ self.old.host) × (self.new.shape ≡ self.old.shape) }
+        ensures judged { offered_of self.new ≡ None }
+    {
+        let Some(value) = self.offered() else {
+            unreachable!()
+        };
+        let Some(task) = self.task.take() else {
+            unreachable!()
+        };
+        if is_command {
+            self.learn(value, task);
+        } else {
+            let ballot = self.attempt.ballot();
+            self.count_ballot(ballot);
+            self.finish(Outcome::Refused(Refusal::NotACommand));
+        }
+    }
+}
+
+impl Learner {
+    // Tries the next slot, where there is one.
+    fn go_on(&mut self, operation: Operation, tries: u8)
+        requires idle { is_idle self.old ≡ true }
+        requires tries { 1 ≤ tries }
+        ensures leads { (c : Shape) (h : ℕ) (m : Memory) → LeadsTo c h m self.old →
+            LeadsTo c h (goes_on c m operation tries) self.new }
+        ensures same { IsSameLog self.old self.new }
+        ensures judged { offered_of self.new ≡ None }
+    {
+        let slot = self.learned.len() as u16;
+        if slot < self.config.slots() {
+            self.begin(operation, tries);
+        } else {
+            self.finish(operation.outcome_when_full(slot));
+        }
+    }
+
+    // Begins an attempt on the next slot.
+    fn begin(&mut self, operation: Operation, tries: u8)
+        requires slot { length self.old.learned < self.old.shape.slots }
+        requires tries { 1 ≤ tries }
+        ensures leads { (c : Shape) (h : ℕ) (m : Memory) → LeadsTo c h m self.old →
+            LeadsTo c h (begins m operation tries) self.new }
+        ensures same { IsSameLog self.old self.new }
+        ensures judged { offered_of self.new ≡ None }
+    {
+        let slot = self.learned.len() as u16;
+        let input = operation.input();
+        self.attempt = Attempt::new(self.host, slot, self.config.disks(), self.floor, input);
+        self.task = Some(Task { operation, tries });
+        self.said = None;
+    }
+
+    // The operation ends.
+    fn finish(&mut self, outcome: Outcome)
+        ensures { self.new ≡ record self.old { task = None; said = Some outcome } }
+    {
+        self.task = None;
+        self.said = Some(outcome);
+    }
+
+    // A ballot of the next slot counts from now on.
+    fn count_ballot(&mut self, ballot: u64)
+        requires { is_idle self.old ≡ true }
+        ensures { self.new ≡ record self.old { floor = max self.old.floor ballot; said = None } }
+    {
+        self.floor = self.floor.max(ballot);
+        self.said = None;
+    }
+
+    // An attempt has ended, without a value.
+    fn end(&mut self, end: End, task: Task)
+        requires idle { is_idle self.old ≡ true }
+        requires tries { 1 ≤ task.tries }
+        requires slot { length self.old.learned < self.old.shape.slots }
+        requires over { IsOver end }
+        ensures leads { (c : Shape) (h : ℕ) (m : Memory) (t : Doing) (ballot : ℕ) → IsOf t task →
+            LeadsTo c h (with_floor m ballot) self.old → LeadsTo c h (ended m t ballot (end_of end)) self.new }
+        ensures same { IsSameLog self.old self.new }
+        // What was asked for, so that a proof finds it behind the call.
+        ensures valueless { IsOver end }
+    {
+        match end {
+            End::Committed(_) => unreachable!(),
+            End::Empty => {
+                let length = self.learned.len() as u16;
+                self.finish(Outcome::Recovered { length });
+            }
+            End::Outrun(mbal) => {
+                self.count_ballot(mbal);
+                if task.tries <= 1 {
+                    self.finish(Outcome::Refused(Refusal::Outrun));
+                } else {
+                    self.begin(task.operation, task.tries - 1);
+                }
+            }
+            End::NoMajority => self.finish(Outcome::Refused(Refusal::NoMajority)),
+            End::BallotsSpent => self.finish(Outcome::Refused(Refusal::BallotsSpent)),
+        }
+    }
+
+    // Learns the next slot's value.
+    fn learn(&mut self, value: Value, task: Task)
+        requires idle { is_idle self.old ≡ true }
+        requires tries { 1 ≤ task.tries }
+        requires slot { length self.old.learned < self.old.shape.slots }
+        ensures leads { (c : Shape) (h : ℕ) (m : Memory) (t : Doing) → IsOf t task → KeepsLearned c h m self.old →
+            LeadsTo c h (after_learning c m t value) self.new }
+        ensures learned { self.new.learned ≡ self.old.learned ++ value ∷ [] }
+        ensures same { (self.new.host ≡ self.old.host) × (self.new.shape ≡ self.old.shape) }
+        ensures judged { offered_of self.new ≡ None }
+    {
+        let slot = self.learned.len() as u16;
+        self.learned.push_reserved(value);
+        self.floor = 0;
+        self.said = None;
+        if task.operation.is_placed_by(&value) {
+            self.finish(Outcome::Placed { slot });
+        } else {
+            self.go_on(task.operation, task.tries);
+        }
+    }
+}
+
+#[cfg(test)]
+mod tests;

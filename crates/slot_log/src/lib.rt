@@ -1,0 +1,11 @@
+//! The slots of the log in their order: values are learned, placed and recovered by one attempt after the other.
+#![tactic(auto)]
+
+mod config;
+mod learner;
+mod operation;
+mod outcome;
+
+pub use config::Config;
+pub use learner::Learner;
+pub use outcome::{Outcome, Refusal};
