@@ -4,6 +4,7 @@ use Rattle.attempt.specs.Answers.{Answered, on}
 use Rattle.attempt.specs.Setup.{Setup}
 use Rattle.attempt.specs.Proposal.{ballot}
 use Rattle.attempt.specs.Status.{Ended, Empty, status}
+use Rattle.attempt.specs.Chosen.{Chooses}
 use Rattle.agreement.specs.Event.{Event, IsRun, state_after}
 use Rattle.agreement.specs.Event.Event.{Starts}
 use Rattle.agreement.specs.Chosen.{IsChosenBy, IsChosen, IsEmpty}
@@ -12,7 +13,6 @@ use Rattle.agreement.proofs.Runs.{places}
 use Rattle.agreement.proofs.Agreeing.{one_chosen_at}
 use Rattle.agreement.proofs.Missing.{nothing_missed}
 use Rattle.attempt_safety.specs.Follows.{Agrees, Follows}
-use Rattle.attempt.specs.Chosen.{Chooses}
 use Rattle.attempt_safety.specs.Leads.{Leads}
 use Rattle.attempt_safety.proofs.Choosing.{chosen}
 

@@ -11,6 +11,7 @@ use Rattle.attempt.specs.Visits.{visited, is_left}
 use Rattle.attempt.specs.Proposal.{ballot, others_top, others_mbal}
 use Rattle.attempt.specs.Status.{Ended, Committed, status}
 use Rattle.attempt.specs.History.{IsHistory}
+use Rattle.attempt.specs.Chosen.{accepts_in, accepts, Chooses}
 use Rattle.attempt.proofs.Visitors.{left_is, left_over}
 use Rattle.attempt.proofs.Statuses.{HasChosen, told_by, enough_more}
 use Rattle.attempt.proofs.Histories.{IsReached, history_reached}
@@ -18,7 +19,6 @@ use Rattle.agreement.specs.Event.{Event, state_after}
 use Rattle.agreement.specs.Chosen.{IsChosenBy}
 use Rattle.agreement.proofs.Runs.{holds_reached}
 use Rattle.agreement.proofs.Agreeing.{commits_chosen}
-use Rattle.attempt.specs.Chosen.{accepts_in, accepts, Chooses}
 use Rattle.attempt_safety.specs.Leads.{Leads}
 use Rattle.attempt_safety.proofs.Answering.{some_of}
 

@@ -17,6 +17,7 @@ use Rattle.attempt.specs.NextCall.{next_call}
 use Rattle.attempt.specs.Standing.{IsIn}
 use Rattle.attempt.specs.Status.{Ended, Outrun, status}
 use Rattle.attempt.specs.History.{IsAnswerTo, IsHistory}
+use Rattle.attempt.specs.Chosen.{accepts_in, accepts, Chooses}
 use Rattle.attempt.proofs.Lists.{length_more, row_last}
 use Rattle.attempt.proofs.More.{more_here, more_there, by_disk, on_more}
 use Rattle.attempt.proofs.Replies.{history_more, IsAnswer, answer_is}
@@ -33,7 +34,6 @@ use Rattle.agreement.proofs.Runs.{holds_reached}
 use Rattle.attempt_safety.specs.Machine.{Machine, stage_at}
 use Rattle.attempt_safety.specs.Follows.{StandsIn, Agrees, Follows}
 use Rattle.attempt_safety.specs.Registers.{IsNext, RegistersAllow}
-use Rattle.attempt.specs.Chosen.{accepts_in, accepts, Chooses}
 use Rattle.attempt_safety.specs.Leads.{IsOfAttempt, LeavesOthers, OwnBlock, Leads}
 use Rattle.attempt_safety.proofs.Stands.{mind_same}
 use Rattle.attempt_safety.proofs.Cells.{leaves_same, leaves_then}

@@ -13,6 +13,7 @@ use Rattle.attempt.specs.Visits.{takes_part, visited, is_left, are_enough}
 use Rattle.attempt.specs.Proposal.{highest, ballot, own, best, or_else, proposal}
 use Rattle.attempt.specs.Standing.{IsIn, HasBallot, HasProposal}
 use Rattle.attempt.specs.Status.{Status, Due, Ended, Committed, Empty, Outrun, NoMajority, BallotsSpent}
+use Rattle.attempt.specs.Chosen.{accepts_in, accepts, Chooses}
 use Rattle.attempt.proofs.Firsts.{count_below}
 use Rattle.attempt.proofs.Lists.{row_none}
 use Rattle.attempt.proofs.Rows.{best_none}
@@ -28,7 +29,6 @@ use Rattle.agreement.specs.Chosen.{IsCommitted}
 use Rattle.agreement.proofs.Puts.{put_same, put_other, all_put}
 use Rattle.attempt_safety.specs.Machine.{Machine, stage_at, top, opened, asking, mind_in}
 use Rattle.attempt_safety.specs.Follows.{StandsIn, Agrees}
-use Rattle.attempt.specs.Chosen.{accepts_in, accepts, Chooses}
 use Rattle.attempt_safety.specs.Leads.{IsOfAttempt}
 
 -- COUNTING

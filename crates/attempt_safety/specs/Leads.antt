@@ -7,6 +7,7 @@ use Rattle.attempt.specs.Answers.{Heard, Done, Answered, Answers, on}
 use Rattle.attempt.specs.Setup.{Setup}
 use Rattle.attempt.specs.Proposal.{ballot}
 use Rattle.attempt.specs.NextCall.{says_for}
+use Rattle.attempt.specs.Chosen.{Chooses}
 use Rattle.agreement.specs.State.{Block, Cell}
 use Rattle.agreement.specs.Event.{Event, IsRun, state_after}
 use Rattle.agreement.specs.Event.Event.{Sees, Takes, Begins, Confirms, ReadsOne, Proposes, ReadsTwo}
@@ -14,7 +15,6 @@ use Rattle.agreement.specs.Chosen.{PutsIn, IsCommitted}
 use Rattle.attempt_safety.specs.Machine.{Machine, block_said}
 use Rattle.attempt_safety.specs.Follows.{Follows}
 use Rattle.attempt_safety.specs.Registers.{IsNext}
-use Rattle.attempt.specs.Chosen.{Chooses}
 
 -- WHOSE THE EVENTS ARE
 

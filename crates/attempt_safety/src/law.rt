@@ -8,18 +8,19 @@ ghost use Rattle.attempt.specs.Setup.{Setup};
 ghost use Rattle.attempt.specs.Proposal.{ballot};
 ghost use Rattle.attempt.specs.NextCall.{next_call};
 ghost use Rattle.attempt.specs.Status.{Due, Ended, Committed, Empty, status};
+ghost use Rattle.attempt.specs.Chosen.{Chooses};
 ghost use Rattle.attempt.specs.History.{IsAnswerTo, IsHistory};
 ghost use Rattle.agreement.specs.State.{Block};
 ghost use Rattle.agreement.specs.Event.{Event, IsRun, state_after, after};
-ghost use Rattle.agreement.specs.Event.Event.{Starts, Begins, Settles, Crashes};
+ghost use Rattle.agreement.specs.Event.Event.{Stops, Starts, Begins, Settles, Crashes};
 ghost use Rattle.agreement.specs.Chosen.{IsChosenBy};
 ghost use Rattle.agreement.specs.Claims.{NoneChosen};
-ghost use Rattle.agreement.specs.Log.{Move, IsHistory as IsSlotsHistory, slots_after, events_of_slot};
+ghost use Rattle.agreement.specs.Log.{Move, IsHistory as IsSlotsHistory};
+ghost use Rattle.agreement.specs.Log.{slots_after, events_of_slot};
 ghost use Rattle.attempt_safety.specs.Machine.{Machine, write_in};
 ghost use Rattle.attempt_safety.specs.Follows.{Follows, IsSameHost};
 ghost use Rattle.attempt_safety.specs.Registers.{IsNext, RegistersAllow};
-ghost use Rattle.attempt.specs.Chosen.{Chooses};
-ghost use Rattle.attempt_safety.specs.Leads.{Leads, LeavesOthers};
+ghost use Rattle.attempt_safety.specs.Leads.{IsSameBlock, LeavesOthers, Leads};
 ghost use Rattle.attempt_safety.specs.Slots.{in_slot};
 
 /// Behind any run of the machine an attempt may begin, and with its start the machine follows it.
@@ -59,6 +60,16 @@ pub fn others_leave_it()
         IsSameHost h m (after m (Settles g d x)) }
     ensures crashing { (h d : ℕ) (left : ℕ → Block (List ℕ)) (m : Machine) →
         IsSameHost h m (after m (Crashes d left)) }
+    ensures stopping { (h g : ℕ) (m : Machine) → h ≢ g → IsSameHost h m (after m (Stops g)) }
+    ensures starting { (h g : ℕ) (m : Machine) → h ≢ g → IsSameHost h m (after m (Starts g)) }
+{}
+
+/// What stands in the blocks of all hosts outlasts each attempt.
+pub fn blocks_outlast_attempts()
+    ensures stopping { (h g d : ℕ) (m : Machine) →
+        IsSameBlock (m.cell h d) ((after m (Stops g)).cell h d) }
+    ensures starting { (h g d : ℕ) (m : Machine) →
+        IsSameBlock (m.cell h d) ((after m (Starts g)).cell h d) }
 {}
 
 /// What an attempt commits is chosen; and what is chosen, however the attempt ends, is chosen in
@@ -77,8 +88,9 @@ pub fn what_is_chosen()
 /// Attempts agree. What two of them choose, at any two places of a run, is one value; and where one
 /// ends empty, nothing had been chosen when it began.
 pub fn attempts_agree()
-    ensures one { (s t : Setup) (early middle : List (Event (List ℕ))) (heard before : List Answered)
-        (x y : Answered) (v u : List ℕ) (first : Leads s early heard x)
+    ensures one { (s t : Setup) (early middle : List (Event (List ℕ)))
+        (heard before : List Answered) (x y : Answered) (v u : List ℕ)
+        (first : Leads s early heard x)
         (second : Leads t ((early ++ first.events) ++ middle) before y) → t.disks ≡ s.disks →
         Chooses s (on (heard ++ x ∷ [])) v → Chooses t (on (before ++ y ∷ [])) u → u ≡ v }
     ensures none_missed { (s : Setup) (early late : List (Event (List ℕ))) (heard : List Answered) →
@@ -87,7 +99,7 @@ pub fn attempts_agree()
         status s (on heard) ≡ Ended Empty → NoneChosen s.disks (state_after early) }
 {}
 
-/// Among all slots an answer is as many moves of its own slot, where that is the next one of its host.
+/// Among all slots an answer is as many moves of its own slot, where that is the next of its host.
 pub fn answers_move()
     ensures history { (s : Setup) (ms : List (Move (List ℕ))) (heard : List Answered) (x : Answered)
         (leads : Leads s (events_of_slot s.slot ms) heard x) → IsSlotsHistory s.disks ms →

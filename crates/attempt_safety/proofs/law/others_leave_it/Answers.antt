@@ -1,4 +1,4 @@
-use Rattle.attempt_safety.proofs.Leaving.{follows_same, by_others, by_settling, by_crashing}
+use Rattle.attempt_safety.proofs.Leaving.{follows_same, by_others, by_settling, by_crashing, by_stopping, by_starting}
 use Rattle.attempt_safety.proofs.law.others_leave_it.Goals as goal
 
 pub returns-clause-same : goal.returns-clause-same
@@ -12,3 +12,9 @@ returns-clause-settling c = by_settling
 
 pub returns-clause-crashing : goal.returns-clause-crashing
 returns-clause-crashing c = by_crashing
+
+pub returns-clause-stopping : goal.returns-clause-stopping
+returns-clause-stopping c = by_stopping
+
+pub returns-clause-starting : goal.returns-clause-starting
+returns-clause-starting c = by_starting
