@@ -11,7 +11,7 @@ use Rattle.paxos_block.specs.Places.{image_length}
 use Rattle.slot_log.specs.Shape.{Shape}
 use Rattle.world.specs.Entry.{Filled, Start, Stop, Submit, Recover, Called, Torn, Crashed, Lost, is_on, torn_by, called_by, disk_step}
 use Rattle.world.specs.World.{World, world, MayFollow, IsRunFrom, IsRun}
-use Rattle.world.specs.Happens.{Event, entry_of, with_entry, happens, happen, run}
+use Rattle.world.specs.Happens.{Event, entry_of, with_entry, happens, happen, run, Line, lines_at, answers_from, answers}
 use Rattle.world.proofs.Projections.{disk_here, disk_there}
 use Rattle.world.proofs.Follow.{may_follow}
 
@@ -151,3 +151,21 @@ happen_more c log (e ∷ es) event = happen_more c (happens c log e) es event
 
 pub one_more : (c : Shape) (events : List Event) (event : Event) → run c (events ++ event ∷ []) ≡ happens c (run c events) event
 one_more c events event = happen_more c [] events event
+
+answers_more : (c : Shape) (log : List Filled) (place : ℕ) (events : List Event) (event : Event)
+    → answers_from c log place (events ++ event ∷ []) ≡ answers_from c log place events ++ lines_at c (happen c log events) (place + length events) (entry_of c (world c (happen c log events)) event)
+answers_more c log place [] event =
+    let none : place ≡ place + 0 = omega arith in
+    append-nil _ ∙ ap (λ (n : ℕ). lines_at c log n (entry_of c (world c log) event)) none
+answers_more c log place (e ∷ es) event =
+    let here = lines_at c log place (entry_of c (world c log) e) in
+    let last = entry_of c (world c (happen c log (e ∷ es))) event in
+    let far : (place + 1) + length es ≡ place + suc (length es) = omega arith in
+    ap (λ (l : List Line). here ++ l) (answers_more c (happens c log e) (place + 1) es event)
+    ∙ sym (append_assoc here (answers_from c (happens c log e) (place + 1) es) _)
+    ∙ ap (λ (n : ℕ). (here ++ answers_from c (happens c log e) (place + 1) es) ++ lines_at c (happen c log (e ∷ es)) n last) far
+
+pub one_answer_more : (c : Shape) (events : List Event) (event : Event) → answers c (events ++ event ∷ []) ≡ answers c events ++ lines_at c (run c events) (length events) (entry_of c (world c (run c events)) event)
+one_answer_more c events event =
+    let none : 0 + length events ≡ length events = omega arith in
+    answers_more c [] 0 events event ∙ ap (λ (n : ℕ). answers c events ++ lines_at c (run c events) n (entry_of c (world c (run c events)) event)) none
