@@ -21,7 +21,7 @@ use Rattle.host.specs.declared.answer.HostAnswer.{HostAnswer}
 use Rattle.host.specs.declared.answer.HostAnswer.TheVariants.{Ack, Recovered, Refused}
 use Rattle.host.specs.Host.{Host, Stopped, Running, Memory, Doing, setup_of, said_of}
 use Rattle.attempt.specs.Answers.{on}
-use Rattle.world.specs.Chosen.{accepts}
+use Rattle.attempt.specs.Chosen.{accepts}
 use Rattle.std.specs.List.{range_with_len}
 use Rattle.world.specs.Entry.{Filled, is_on, is_of, disk_step, host_step}
 use Rattle.world.specs.World.{World, opening_disk}
