@@ -1,5 +1,5 @@
 -- What a learner keeps while an operation goes on.
-use Rattle.std.proofs.Common.{◌≡◌, ◌<◌, ◌-◌, ℕ, true, false, List, [], ◌∷◌, ◌++◌, max, Option, Some, None, refl, sym, ◌∙◌, ap, subst}
+use Rattle.std.proofs.Common.{◌≡◌, ◌<◌, ◌≤◌, ◌-◌, ◌*◌, ℕ, true, false, List, [], ◌∷◌, ◌++◌, length, max, Option, Some, None, refl, sym, ◌∙◌, ap, subst}
 use Rattle.std.proofs.lemmas.Bool.{lt-leb}
 use Rattle.attempt.specs.Answers.{Answered, Heard, on}
 use Rattle.attempt.specs.Setup.{Setup}
@@ -11,7 +11,7 @@ use Rattle.phases.specs.declared.notes.Notes.{Notes}
 use Rattle.phases.specs.Calls.{end_of, end_in}
 use Rattle.phases.specs.Kept as attempts
 use Rattle.phases.specs.Kept.{end_of_status}
-use Rattle.attempt.proofs.Ends.{bound, served}
+use Rattle.attempt.specs.Laws.{IsServedAlone}
 use Rattle.slot_log.specs.Alone.{IsAnsweredAlone}
 use Rattle.slot_log.specs.Shape.{Shape}
 use Rattle.slot_log.specs.Learning.{Memory, Doing, setup_of, begins, ended, tries_again, with_floor, with_heard, by_status, hears, takes, judges, offered_in, after_learning, is_placed, learns, goes_on}
@@ -101,19 +101,30 @@ takes_value c h m t value is offered =
 
 -- LEFT ALONE
 
-alone_with : (c : Shape) (h : ℕ) (m : Memory) (o : Option Doing) (task : Option Task) (old new : Notes) (x : Answered) → AreDoing c h m o task old → ((s : Setup) (answers : List Answered) → attempts.LeadsTo s answers old → attempts.LeadsTo s (answers ++ x ∷ []) new) → IsAnsweredAlone c h m o x
-alone_with c h m None task old new x are hear = tt
-alone_with c h m (Some t) None old new x are hear = absurd are
-alone_with c h m (Some t) (Some task) old new x are hear =
-    let s = setup_of c h m t.operation in
-    let heard = t.heard ++ x ∷ [] in
-    let history = (hear s t.heard are.heard).history in
-    record { bound = bound s heard history; served = served s heard history }
+-- what the attempt says of an answer to it
+pub record Says (old : Notes) (x : Answered) : Type 0 where
+  pub bound : (s : Setup) (answers : List Answered) → attempts.LeadsTo s answers old → length (answers ++ x ∷ []) ≤ 17 * s.disks
+  pub alone : (s : Setup) (answers : List Answered) → attempts.LeadsTo s answers old → IsServedAlone s (answers ++ x ∷ [])
 
--- what an attempt hears is a history, of which the laws speak
-pub alone : (c : Shape) (h : ℕ) (m : Memory) (old now : Kept) (new : Notes) (answer : Heard) → old ≡ now → LeadsTo c h m now → ((s : Setup) (answers : List Answered) → attempts.LeadsTo s answers old.attempt → attempts.LeadsTo s (answers ++ record { disk = old.attempt.disk; heard = answer } ∷ []) new) → IsAnsweredAlone c h m m.doing (record { disk = now.attempt.disk; heard = answer })
-alone c h m old now new answer is leads hear =
+alone_with : (c : Shape) (h : ℕ) (m : Memory) (o : Option Doing) (task : Option Task) (old : Notes) (x : Answered) → AreDoing c h m o task old → Says old x → IsAnsweredAlone c h m o x
+alone_with c h m None task old x are said = tt
+alone_with c h m (Some t) None old x are said = absurd are
+alone_with c h m (Some t) (Some task) old x are said =
+    let s = setup_of c h m t.operation in
+    record { bound = said.bound s t.heard are.heard; served = said.alone s t.heard are.heard }
+
+-- it is said of the attempt under way
+pub alone : (c : Shape) (h : ℕ) (m : Memory) (old now : Kept) (answer : Heard) → old ≡ now → LeadsTo c h m now → Says old.attempt (record { disk = old.attempt.disk; heard = answer }) → IsAnsweredAlone c h m m.doing (record { disk = now.attempt.disk; heard = answer })
+alone c h m old now answer is leads said =
     let Known : Kept → Type 0 = λ k. LeadsTo c h m k in
     let By : Kept → Type 0 = λ k. IsAnsweredAlone c h m m.doing (record { disk = k.attempt.disk; heard = answer }) in
     let known : LeadsTo c h m old = subst Known (sym is) leads in
-    subst By is (alone_with c h m m.doing old.task old.attempt new (record { disk = old.attempt.disk; heard = answer }) known.doing hear)
+    subst By is (alone_with c h m m.doing old.task old.attempt (record { disk = old.attempt.disk; heard = answer }) known.doing said)
+
+-- an end that is no committed value
+pub over : (e : End) → ((value : List ℕ) → e ≡ end.Committed value → ⊥) → IsOver e
+over (end.Committed value) other = absurd (other value refl)
+over end.Empty other = tt
+over (end.Outrun mbal) other = tt
+over end.NoMajority other = tt
+over end.BallotsSpent other = tt
