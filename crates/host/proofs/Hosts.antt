@@ -324,7 +324,7 @@ follows c h m l k reply leads is prefix said carries =
 alone_with : (c : Shape) (h : ℕ) (m : Memory) (o : Option Doing) (x : Answered) → log_alone.IsAnsweredAlone c h (values_of m) (option_map doing_of o) x → IsAnsweredAlone c h m o x
 alone_with c h m None x alone = tt
 alone_with c h m (Some t) x alone =
-    let Served : Setup → Type 0 = λ s. log_alone.IsServedAlone s (t.heard ++ x ∷ []) in
+    let Served : Setup → Type 0 = λ s. log_alone.IsAnsweredIn s (t.heard ++ x ∷ []) in
     subst Served (setup_same c h m t.operation) alone
 
 -- what the learner says of an attempt that is left alone holds for the host

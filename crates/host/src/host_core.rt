@@ -96,21 +96,28 @@ impl HostCore {
 
     /// The commands learned: the first of the log, none left out.
     pub fn prefix(&self) -> &[Command]
-        ensures { result.now ≡ self.now.prefix }
+        ensures known { (c : Shape) (h : ℕ) (m : Memory) → LeadsTo c h m self.now →
+            result.now ≡ m.learned }
+        ensures prefix { result.now ≡ self.now.prefix }
     {
         &self.prefix
     }
 
     /// The lock table after these commands.
     pub fn table(&self) -> &Table
-        ensures { IsPictureOf result.now (table_after self.now.prefix) }
+        ensures known { (c : Shape) (h : ℕ) (m : Memory) → LeadsTo c h m self.now →
+            IsPictureOf result.now (table_after m.learned) }
+        ensures table { IsPictureOf result.now (table_after self.now.prefix) }
     {
         &self.table
     }
 
     /// What the last entry made the host say: how an operation ended, where one ended with it.
     pub fn answer(&self) -> Option<HostAnswer>
-        ensures { result ≡ self.now.said }
+        // Of an acknowledgement the reply is the table's at that slot, by `reply_after`.
+        ensures known { (c : Shape) (h : ℕ) (m : Memory) → LeadsTo c h m self.now →
+            result ≡ m.said }
+        ensures said { result ≡ self.now.said }
     {
         self.said
     }

@@ -1,5 +1,5 @@
 -- What a learner keeps while an operation goes on.
-use Rattle.std.proofs.Common.{◌≡◌, ◌<◌, ◌-◌, ℕ, true, false, List, [], ◌∷◌, ◌++◌, max, Option, Some, None, refl, sym, ◌∙◌, ap, subst}
+use Rattle.std.proofs.Common.{◌≡◌, ◌<◌, ◌≤◌, ◌-◌, ◌*◌, ℕ, true, false, List, [], ◌∷◌, ◌++◌, length, max, Option, Some, None, refl, sym, ◌∙◌, ap, subst}
 use Rattle.std.proofs.lemmas.Bool.{lt-leb}
 use Rattle.attempt.specs.Answers.{Answered, Heard, on}
 use Rattle.attempt.specs.Setup.{Setup}
@@ -11,11 +11,11 @@ use Rattle.phases.specs.declared.notes.Notes.{Notes}
 use Rattle.phases.specs.Calls.{end_of, end_in}
 use Rattle.phases.specs.Kept as attempts
 use Rattle.phases.specs.Kept.{end_of_status}
-use Rattle.attempt.proofs.Ends.{bound, served}
+use Rattle.attempt.specs.Laws.{IsServedAlone}
 use Rattle.slot_log.specs.Alone.{IsAnsweredAlone}
 use Rattle.slot_log.specs.Shape.{Shape}
-use Rattle.slot_log.specs.Learning.{Memory, Doing, setup_of, begins, ended, tries_again, with_floor, with_heard, by_status, hears, takes, judges, offered_in, after_learning, is_placed, learns, goes_on}
-use Rattle.slot_log.specs.Kept.{Kept, LeadsTo, AreDoing, IsDoing, IsOf, IsOver, is_idle, is_idle_with}
+use Rattle.slot_log.specs.Learning.{Memory, Doing, setup_of, does, begins, ended, tries_again, with_floor, with_heard, by_status, hears, takes, judges, offered_in, after_learning, is_placed, learns, goes_on}
+use Rattle.slot_log.specs.Kept.{Kept, LeadsTo, GoesOn, AreDoing, IsDoing, IsOf, IsOver, is_idle, is_idle_with}
 use Rattle.slot_log.specs.declared.operation.Operation.{Operation}
 use Rattle.slot_log.specs.declared.operation.Task.{Task}
 
@@ -99,21 +99,80 @@ takes_value c h m t value is offered =
     ap (λ (o : Option Doing). takes c h m o true) is
     ∙ ap F (sym (offered ∙ ap (offered_in c h m) is))
 
+-- THE ATTEMPT GOES ON, OR ITS VALUE WAITS
+
+no_end : (m : Memory) (t : Doing) (ballot : ℕ) (st : Status) → None ≡ end_of_status st → by_status m t ballot st ≡ does m t
+no_end m t ballot (Due p d) is = refl
+no_end m t ballot (Ended e) is = absurd (cc)
+
+waiting_status : (m : Memory) (t : Doing) (ballot : ℕ) (st : Status) (e : Option End) → GoesOn e → end_in e ≡ end_of_status st → by_status m t ballot st ≡ does m t
+waiting_status m t ballot st None on is = no_end m t ballot st is
+waiting_status m t ballot st (Some (end.Committed value)) on is = ap (by_status m t ballot) (status_ended st (attempt.Committed value) (sym is))
+waiting_status m t ballot st (Some end.Empty) on is = absurd on
+waiting_status m t ballot st (Some (end.Outrun mbal)) on is = absurd on
+waiting_status m t ballot st (Some end.NoMajority) on is = absurd on
+waiting_status m t ballot st (Some end.BallotsSpent) on is = absurd on
+
+busy_task : (task : Option Task) → is_idle_with task ≡ false → (there : Task) × (task ≡ Some there)
+busy_task None busy = absurd (cc)
+busy_task (Some task) busy = (task, refl)
+
+-- what the attempt under way has become by an answer, without an end but a value
+pub record Goes (old new : Notes) (x : Answered) (e : Option End) : Type 0 where
+  pub leads : (s : Setup) (answers : List Answered) → attempts.LeadsTo s answers old → attempts.LeadsTo s (answers ++ x ∷ []) new
+  pub end_is : (s : Setup) (answers : List Answered) → attempts.LeadsTo s answers new → end_in e ≡ end_of_status (status s (on answers))
+  pub on : GoesOn e
+
+-- the operation then has heard one more answer
+pub waits_on : (c : Shape) (h : ℕ) (m : Memory) (k : Kept) (new : Notes) (x : Answered) (e : Option End) → LeadsTo c h m k → is_idle k ≡ false → Goes k.attempt new x e → LeadsTo c h (hears c h m m.doing x) (record { host = k.host; shape = k.shape; learned = k.learned; floor = k.floor; task = k.task; attempt = new; said = None })
+waits_on c h m k new x e leads busy goes =
+    let there = busy_task k.task busy in
+    let doing = task_is c h m k there.0 leads there.1 in
+    let t = doing.0 in
+    let s = setup_of c h m t.operation in
+    let told = with_heard t x in
+    let after : Kept = record { host = k.host; shape = k.shape; learned = k.learned; floor = k.floor; task = k.task; attempt = new; said = None } in
+    let heard = goes.leads s t.heard doing.2.heard in
+    let known : hears c h m m.doing x ≡ does m told =
+    ap (λ (o : Option Doing). hears c h m o x) doing.1
+    ∙ waiting_status m told (taken s (on told.heard)) (status s (on told.heard)) e goes.on (goes.end_is s told.heard heard) in
+    let Known : Memory → Type 0 = λ n. LeadsTo c h n after in
+    let Doing' : Option Task → Type 0 = λ o. AreDoing c h (does m told) (Some told) o new in
+    subst Known (sym known) (record {
+      shape = leads.shape;
+      is_host = leads.is_host;
+      learned = leads.learned;
+      floor = leads.floor;
+      said = refl;
+      doing = subst Doing' (sym there.1) (record { operation = doing.2.operation; tries = doing.2.tries; heard = heard });
+    })
+
 -- LEFT ALONE
 
-alone_with : (c : Shape) (h : ℕ) (m : Memory) (o : Option Doing) (task : Option Task) (old new : Notes) (x : Answered) → AreDoing c h m o task old → ((s : Setup) (answers : List Answered) → attempts.LeadsTo s answers old → attempts.LeadsTo s (answers ++ x ∷ []) new) → IsAnsweredAlone c h m o x
-alone_with c h m None task old new x are hear = tt
-alone_with c h m (Some t) None old new x are hear = absurd are
-alone_with c h m (Some t) (Some task) old new x are hear =
-    let s = setup_of c h m t.operation in
-    let heard = t.heard ++ x ∷ [] in
-    let history = (hear s t.heard are.heard).history in
-    record { bound = bound s heard history; served = served s heard history }
+-- what the attempt says of an answer to it
+pub record Says (old : Notes) (x : Answered) : Type 0 where
+  pub bound : (s : Setup) (answers : List Answered) → attempts.LeadsTo s answers old → length (answers ++ x ∷ []) ≤ 17 * s.disks
+  pub alone : (s : Setup) (answers : List Answered) → attempts.LeadsTo s answers old → IsServedAlone s (answers ++ x ∷ [])
 
--- what an attempt hears is a history, of which the laws speak
-pub alone : (c : Shape) (h : ℕ) (m : Memory) (old now : Kept) (new : Notes) (answer : Heard) → old ≡ now → LeadsTo c h m now → ((s : Setup) (answers : List Answered) → attempts.LeadsTo s answers old.attempt → attempts.LeadsTo s (answers ++ record { disk = old.attempt.disk; heard = answer } ∷ []) new) → IsAnsweredAlone c h m m.doing (record { disk = now.attempt.disk; heard = answer })
-alone c h m old now new answer is leads hear =
+alone_with : (c : Shape) (h : ℕ) (m : Memory) (o : Option Doing) (task : Option Task) (old : Notes) (x : Answered) → AreDoing c h m o task old → Says old x → IsAnsweredAlone c h m o x
+alone_with c h m None task old x are said = tt
+alone_with c h m (Some t) None old x are said = absurd are
+alone_with c h m (Some t) (Some task) old x are said =
+    let s = setup_of c h m t.operation in
+    record { bound = said.bound s t.heard are.heard; served = said.alone s t.heard are.heard }
+
+-- it is said of the attempt under way
+pub alone : (c : Shape) (h : ℕ) (m : Memory) (old now : Kept) (answer : Heard) → old ≡ now → LeadsTo c h m now → Says old.attempt (record { disk = old.attempt.disk; heard = answer }) → IsAnsweredAlone c h m m.doing (record { disk = now.attempt.disk; heard = answer })
+alone c h m old now answer is leads said =
     let Known : Kept → Type 0 = λ k. LeadsTo c h m k in
     let By : Kept → Type 0 = λ k. IsAnsweredAlone c h m m.doing (record { disk = k.attempt.disk; heard = answer }) in
     let known : LeadsTo c h m old = subst Known (sym is) leads in
-    subst By is (alone_with c h m m.doing old.task old.attempt new (record { disk = old.attempt.disk; heard = answer }) known.doing hear)
+    subst By is (alone_with c h m m.doing old.task old.attempt (record { disk = old.attempt.disk; heard = answer }) known.doing said)
+
+-- an end that is no committed value
+pub over : (e : End) → ((value : List ℕ) → e ≡ end.Committed value → ⊥) → IsOver e
+over (end.Committed value) other = absurd (other value refl)
+over end.Empty other = tt
+over (end.Outrun mbal) other = tt
+over end.NoMajority other = tt
+over end.BallotsSpent other = tt

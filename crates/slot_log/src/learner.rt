@@ -92,6 +92,8 @@ impl Learner {
 
     /// The values of the first slots.
     pub fn learned(&self) -> &[Value]
+        ensures known { (c : Shape) (h : ℕ) (m : Memory) → LeadsTo c h m self.now →
+            result.now ≡ m.learned }
         ensures learned { result.now ≡ self.now.learned }
         ensures few { length result.now ≤ self.now.shape.slots }
     {
@@ -100,7 +102,9 @@ impl Learner {
 
     /// How an operation ended, where the last call ended one.
     pub fn said(&self) -> Option<Outcome>
-        ensures { result ≡ self.now.said }
+        ensures known { (c : Shape) (h : ℕ) (m : Memory) → LeadsTo c h m self.now →
+            result ≡ m.said }
+        ensures said { result ≡ self.now.said }
     {
         self.said
     }
@@ -155,10 +159,14 @@ impl Learner {
         ensures same { IsSameLog self.old self.new }
     {
         self.attempt.hear(heard);
-        match self.attempt.end() {
-            // A committed value waits until it is judged.
-            None | Some(End::Committed(_)) => self.said = None,
-            Some(end) => {
+        let Some(end) = self.attempt.end() else {
+            self.said = None;
+            return;
+        };
+        match end {
+            // The value waits until it is judged.
+            End::Committed(_) => self.said = None,
+            _ => {
                 let Some(task) = self.task.take() else {
                     unreachable!()
                 };

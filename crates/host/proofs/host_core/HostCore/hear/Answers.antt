@@ -29,7 +29,7 @@ returns-in_default-clause-leads c c' h m leads =
     subst By c.self.view_is
     (follows c' h (hears c' h m m.doing x) l new None leads' after.0
     (known.prefix ∙ sym after.1)
-    (c.of-self-inside.ensures ∙ ap (λ (o : Option Outcome). answer_of o None) c.said.ensures)
+    (c.of-self-inside.ensures ∙ ap (λ (o : Option Outcome). answer_of o None) c.said.ensures.said)
     after.2)
 
 pub returns-clause-leads : goal.returns-clause-leads
@@ -53,7 +53,7 @@ returns-clause-leads c c' h m leads =
     subst By c.self.view_is
     (follows c' h (hears c' h m m.doing x) _ new c.judge-reply.result (c.judge-reply.ensures.leads c' h l leads') after.0
     (c.judge-reply.ensures.prefix ∙ ap (λ (before : List Command). before ++ option_list (decoded value)) known.prefix ∙ sym after.1)
-    (c.of-self-inside-2.ensures ∙ ap (λ (o : Option Outcome). answer_of o c.judge-reply.result) c.said-2.ensures)
+    (c.of-self-inside-2.ensures ∙ ap (λ (o : Option Outcome). answer_of o c.judge-reply.result) c.said-2.ensures.said)
     (subst IsCarried (sym reply) after.2))
 
 pub returns-in_default-clause-alone : goal.returns-in_default-clause-alone

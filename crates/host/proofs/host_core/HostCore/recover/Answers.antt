@@ -15,5 +15,5 @@ returns c c' h m leads =
     (c.recover.ensures.leads c' h (values_of m) known.learner)
     (values_of-goes_on c' m Recovering tries)
     (known.prefix ∙ sym (learned-goes_on c' m Recovering tries))
-    (c.of-self-inside.ensures ∙ ap (λ (o : Option Outcome). answer_of o None) c.said.ensures)
+    (c.of-self-inside.ensures ∙ ap (λ (o : Option Outcome). answer_of o None) c.said.ensures.said)
     (carries-goes_on None c' m Recovering tries)

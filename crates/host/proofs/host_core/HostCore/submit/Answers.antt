@@ -18,5 +18,5 @@ returns c c' h m leads =
     (c.place.ensures.leads c' h (values_of m) known.learner)
     (ap (λ (value : List ℕ). log.goes_on c' (values_of m) (operation.Placing value) tries) c.encode.ensures.spelling ∙ values_of-goes_on c' m submitted tries)
     (known.prefix ∙ sym (learned-goes_on c' m submitted tries))
-    (c.of-self-inside.ensures ∙ ap (λ (o : Option Outcome). answer_of o None) c.said.ensures)
+    (c.of-self-inside.ensures ∙ ap (λ (o : Option Outcome). answer_of o None) c.said.ensures.said)
     (carries-goes_on None c' m submitted tries)
