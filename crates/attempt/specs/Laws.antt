@@ -43,6 +43,10 @@ IsServed s heard (Ended BallotsSpent) = Unit {0}
 IsServed s heard (Ended (Outrun mbal)) = ⊥
 IsServed s heard (Ended NoMajority) = ⊥
 
+-- it is served where the other hosts rest and most disks answer well
+abbrev pub IsServedAlone : Setup → List Answered → Type 0
+IsServedAlone s heard = OthersRest s (on heard) → MostAnswerWell s (on heard) → IsServed s heard (status s (on heard))
+
 -- some history of the setup comes to an end over disks that answer well, with the other hosts at rest
 pub record CanEnd (s : Setup) : Type 0 where
   pub heard : List Answered

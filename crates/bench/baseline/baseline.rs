@@ -464,6 +464,133 @@ fn first_path(host: &mut Host, count: u32) -> Result<bool, Fault> {
     Ok(true)
 }
 
+// A WHOLE ATTEMPT: host 0 with an input, over seven disks. It gives up at the first fault.
+
+const DISKS: usize = 7;
+const SLOTS: usize = 4096;
+const INPUT: [u8; 32] = [7; 32];
+
+/// What is kept of a disk: its boot number, and the own block as it was read last.
+#[derive(Clone, Copy)]
+struct Visit {
+    boot: u64,
+    block: [u8; BLOCK],
+}
+
+struct Attempt {
+    disks: [Disk; DISKS],
+    row: [u8; ROW],
+}
+
+impl Attempt {
+    fn new() -> Attempt {
+        Attempt { disks: std::array::from_fn(|_| Disk::new(2048 + ROW * SLOTS)), row: [0; ROW] }
+    }
+
+    /// What the row of a disk says. The own block in it is kept.
+    fn read_row(&mut self, disk: usize, at: usize, visit: &mut Visit) -> Result<[Says; 8], Fault> {
+        self.disks[disk].read(visit.boot, at, &mut self.row)?;
+        visit.block.copy_from_slice(&self.row[..BLOCK]);
+        Ok(decode_row(&self.row))
+    }
+
+    fn write_own(&mut self, disk: usize, at: usize, visit: &mut Visit, says: &Says) -> Result<[Says; 8], Fault> {
+        write_over(&mut self.disks[disk], visit.boot, at, &visit.block, &body_of(says))?;
+        self.read_row(disk, at, visit)
+    }
+
+    /// Whether the input was committed.
+    fn commit(&mut self, slot: usize) -> Result<bool, Fault> {
+        let at = 2048 + ROW * slot;
+        let mut visits = [Visit { boot: 0, block: [0; BLOCK] }; DISKS];
+        let mut top = 0;
+        let mut best = Says::default();
+        for (disk, visit) in visits.iter_mut().enumerate() {
+            visit.boot = self.disks[disk].attach()?;
+            self.disks[disk].sync(visit.boot)?;
+            let cells = self.read_row(disk, at, visit)?;
+            top = cells.iter().map(|cell| cell.mbal).fold(top, u64::max);
+            if best.bal < cells[0].bal {
+                best = cells[0];
+            }
+        }
+        let ballot = top / 8 * 8 + if top % 8 < 1 { 1 } else { 9 };
+        let promise = Says { mbal: ballot, ..best };
+        for (disk, visit) in visits.iter_mut().enumerate() {
+            let cells = self.write_own(disk, at, visit, &promise)?;
+            if cells[1..].iter().any(|cell| cell.mbal > ballot) {
+                return Ok(false);
+            }
+            for cell in &cells[1..] {
+                if best.bal < cell.bal {
+                    best = *cell;
+                }
+            }
+        }
+        let vote = Says { mbal: ballot, bal: ballot, inp: Some(best.inp.unwrap_or(INPUT)) };
+        for (disk, visit) in visits.iter_mut().enumerate() {
+            let cells = self.write_own(disk, at, visit, &vote)?;
+            if cells[1..].iter().any(|cell| cell.mbal > ballot) {
+                return Ok(false);
+            }
+        }
+        Ok(vote.inp == Some(INPUT))
+    }
+}
+
+fn attempts(work: &mut Attempt, count: u32) -> Result<bool, Fault> {
+    for slot in 0..count {
+        if !work.commit(slot as usize)? {
+            return Ok(false);
+        }
+    }
+    Ok(true)
+}
+
+/// The bytes that an attempt moves, copied and nothing else.
+struct Copies {
+    buffers: [Vec<u8>; DISKS],
+    row: [u8; ROW],
+}
+
+impl Copies {
+    /// Each buffer is filled by one call, as the proved program does it; with ones, since the system puts zeros off.
+    fn new() -> Copies {
+        Copies { buffers: std::array::from_fn(|_| vec![black_box(1); 2048 + ROW * SLOTS]), row: [0; ROW] }
+    }
+
+    fn read(&mut self, disk: usize, at: usize) {
+        self.row.copy_from_slice(&self.buffers[disk][at..at + ROW]);
+        black_box(&self.row);
+    }
+
+    fn write(&mut self, disk: usize, at: usize) {
+        self.buffers[disk][at + 1..at + COPY].copy_from_slice(&[7; COPY - 1]);
+        self.buffers[disk][at..at + 1].copy_from_slice(&[7]);
+    }
+
+    /// Copies what an attempt on this blank slot reads and writes, in its order.
+    fn copy(&mut self, slot: usize) {
+        let at = 2048 + ROW * slot;
+        for disk in 0..DISKS {
+            self.read(disk, at);
+        }
+        for half in 0..2 {
+            for disk in 0..DISKS {
+                self.write(disk, at + COPY * half);
+                self.read(disk, at);
+            }
+        }
+    }
+}
+
+fn copies(work: &mut Copies, count: u32) -> bool {
+    (0..count).all(|slot| {
+        work.copy(slot as usize);
+        work.row[COPY] == 7
+    })
+}
+
 /// The shortest of twenty rounds, each from new, in nanoseconds; printed as nanoseconds an operation.
 fn timed<T>(name: &str, count: u32, new: impl Fn() -> T, run: impl Fn(&mut T, u32) -> bool) -> u64 {
     let mut best = u64::MAX;
@@ -494,4 +621,7 @@ fn main() {
     };
     let spent = timed("first_path", 4096, host, |host, count| first_path(host, count).unwrap_or(false));
     println!("first_path/second {}", 4096 * 1_000_000_000 / spent);
+    let these = timed("attempt", 4096, Attempt::new, |work, count| attempts(work, count).unwrap_or(false));
+    let those = timed("copies", 4096, Copies::new, copies);
+    println!("attempt/copies {:.2}", these as f64 / those as f64);
 }

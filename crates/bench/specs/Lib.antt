@@ -1,1 +1,2 @@
 pub mod FirstPath
+pub mod WholeAttempt

@@ -4,12 +4,15 @@
 mod apply;
 mod benchmark;
 mod block_write;
+mod copies;
 mod decode_row;
 mod disk_calls;
 mod failure;
 mod first_path;
+mod image;
 mod run;
 mod timing;
+mod whole_attempt;
 mod words;
 
 use failure::Failure;

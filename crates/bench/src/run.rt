@@ -1,11 +1,13 @@
 use crate::apply::Apply;
 use crate::benchmark::Benchmark;
 use crate::block_write::BlockWrite;
+use crate::copies::Copies;
 use crate::decode_row::DecodeRow;
 use crate::disk_calls::DiskCalls;
 use crate::failure::Failure;
 use crate::first_path::FirstPath;
 use crate::timing::{Ratio, Timing};
+use crate::whole_attempt::WholeAttempt;
 use crate::words::Task;
 use std::time::Clock;
 
@@ -16,10 +18,7 @@ const FEW: u32 = 48;
 pub fn run_all<R: Print + Clock + AllocGlobal>(rt: &R, task: Task) -> Result<(), Failure> {
     let small = run_one::<R, DiskCalls<0>>(rt, task, "disk_calls_2k", 1_000_000)?;
     let large = run_one::<R, DiskCalls<4094>>(rt, task, "disk_calls_4m", 1_000_000)?;
-    if let (Some(these), Some(those)) = (large, small) {
-        let ratio = Ratio { these, those };
-        println!(rt; "disk_calls_4m/disk_calls_2k {ratio}")?;
-    }
+    print_ratio(rt, "disk_calls_4m/disk_calls_2k", large, small)?;
     run_one::<R, BlockWrite>(rt, task, "block_write", 200_000)?;
     run_one::<R, DecodeRow>(rt, task, "decode_row", 200_000)?;
     run_one::<R, Apply>(rt, task, "apply", 1_000_000)?;
@@ -27,6 +26,9 @@ pub fn run_all<R: Print + Clock + AllocGlobal>(rt: &R, task: Task) -> Result<(),
         let rate = timing.rate();
         println!(rt; "first_path/second {rate}")?;
     }
+    let whole = run_one::<R, WholeAttempt>(rt, task, "attempt", 4096)?;
+    let copies = run_one::<R, Copies>(rt, task, "copies", 4096)?;
+    print_ratio(rt, "attempt/copies", whole, copies)?;
     Ok(())
 }
 
@@ -49,4 +51,18 @@ fn run_one<R: Print + Clock + AllocGlobal, B: Benchmark>(
             Ok(Some(timing))
         }
     }
+}
+
+/// Prints how two figures compare, where both were measured.
+fn print_ratio<R: Print>(
+    rt: &R,
+    name: &str,
+    these: Option<Timing>,
+    those: Option<Timing>,
+) -> Result<(), Failure> {
+    if let (Some(these), Some(those)) = (these, those) {
+        let ratio = Ratio { these, those };
+        println!(rt; "{name} {ratio}")?;
+    }
+    Ok(())
 }

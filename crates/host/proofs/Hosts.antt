@@ -1,5 +1,5 @@
 -- What a host knows is what its learner knows, once each value that it offers is judged by its spelling.
-use Rattle.std.proofs.Common.{◌≡◌, ◌-◌, ◌*◌, ℕ, Bool, true, false, zero, suc, List, [], ◌∷◌, ◌++◌, length, map, max, Option, Some, None, refl, sym, ◌∙◌, ap, subst, if◌then◌else◌}
+use Rattle.std.proofs.Common.{◌≡◌, ◌-◌, ◌*◌, ℕ, Bool, true, false, zero, suc, List, [], ◌∷◌, ◌++◌, length, map, Option, Some, None, refl, sym, ◌∙◌, ap, subst, if◌then◌else◌}
 use Rattle.std.specs.Prelude.{bytes_eq, is_some, nat_lt, nat_le}
 use Rattle.std.specs.Option.{option_map}
 use Rattle.std.proofs.lemmas.List.{length-map, map-append, append-nil}
@@ -17,6 +17,7 @@ use Rattle.lock_command.specs.Reading.{decoded, checked, command_at}
 use Rattle.lock_table.specs.declared.reply.Reply.{Reply}
 use Rattle.phases.specs.declared.notes.Notes.{Notes}
 use Rattle.slot_log.specs.Shape.{Shape}
+use Rattle.slot_log.specs.Alone as log_alone
 use Rattle.slot_log.specs.Kept as learners
 use Rattle.slot_log.specs.Kept.{AreDoing, is_idle_with}
 use Rattle.slot_log.specs.Learning as log
@@ -28,7 +29,8 @@ use Rattle.slot_log.specs.declared.outcome.Outcome.TheVariants as outcome
 use Rattle.slot_log.specs.declared.outcome.Refusal.TheVariants as refusal
 use Rattle.host.specs.declared.answer.HostAnswer.{HostAnswer}
 use Rattle.host.specs.declared.answer.HostAnswer.TheVariants.{Ack, Recovered, Refused}
-use Rattle.host.specs.Host.{Memory, Doing, Operation, Submitting, Recovering, input_of, setup_of, says, does, begins, goes_on, full_answer, learns, takes, after_learning, is_submitted, tries_again, with_floor, ended, by_status, hears, with_heard, reply_after}
+use Rattle.host.specs.Alone.{IsAnsweredAlone}
+use Rattle.host.specs.Host.{Memory, Doing, Operation, Submitting, Recovering, input_of, setup_of, says, begins, goes_on, full_answer, learns, takes, after_learning, is_submitted, with_floor, by_status, hears, with_heard, reply_after}
 use Rattle.host.specs.Kept.{Kept, LeadsTo, operation_of, outcome_of, doing_of, values_of, answer_of, option_list}
 
 -- ANSWERS
@@ -316,3 +318,19 @@ follows c h m l k reply leads is prefix said carries =
       prefix = prefix;
       said = said ∙ ap (λ (o : Option Outcome). answer_of o reply) known.said ∙ answer_of-outcome_of reply m.said carries;
     }
+
+-- LEFT ALONE
+
+alone_with : (c : Shape) (h : ℕ) (m : Memory) (o : Option Doing) (x : Answered) → log_alone.IsAnsweredAlone c h (values_of m) (option_map doing_of o) x → IsAnsweredAlone c h m o x
+alone_with c h m None x alone = tt
+alone_with c h m (Some t) x alone =
+    let Served : Setup → Type 0 = λ s. log_alone.IsServedAlone s (t.heard ++ x ∷ []) in
+    subst Served (setup_same c h m t.operation) alone
+
+-- what the learner says of an attempt that is left alone holds for the host
+pub alone : (c : Shape) (h : ℕ) (m : Memory) (old now : Kept) (answer : Heard) → old ≡ now → LeadsTo c h m now → ((n : log.Memory) → learners.LeadsTo c h n old.learner → log_alone.IsAnsweredAlone c h n n.doing (record { disk = old.learner.attempt.disk; heard = answer })) → IsAnsweredAlone c h m m.doing (record { disk = now.learner.attempt.disk; heard = answer })
+alone c h m old now answer is leads served =
+    let Known : Kept → Type 0 = λ k. LeadsTo c h m k in
+    let By : Kept → Type 0 = λ k. IsAnsweredAlone c h m m.doing (record { disk = k.learner.attempt.disk; heard = answer }) in
+    let known : LeadsTo c h m old = subst Known (sym is) leads in
+    subst By is (alone_with c h m m.doing (record { disk = old.learner.attempt.disk; heard = answer }) (served (values_of m) known.learner))

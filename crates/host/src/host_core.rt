@@ -11,7 +11,8 @@ ghost use Rattle.slot_log.specs.Kept as learners;
 ghost use Rattle.slot_log.specs.Kept.{offered_of};
 ghost use Rattle.slot_log.specs.Learning as log;
 ghost use Rattle.slot_log.specs.Shape.{Shape};
-ghost use Rattle.host.specs.Host.{Memory, Submitting, Recovering, fresh, goes_on, hears, next_in, reply_after};
+ghost use Rattle.host.specs.Alone.{IsAnsweredAlone};
+ghost use Rattle.host.specs.Host.{Memory, Submitting, Recovering, fresh, goes_on, hears, is_idle_in, next_in, reply_after};
 ghost use Rattle.host.specs.Kept.{Kept, LeadsTo, is_idle, due_call, option_list};
 
 use crate::answer::HostAnswer;
@@ -79,7 +80,9 @@ impl HostCore {
 
     /// Whether an operation may begin.
     pub fn idle(&self) -> bool
-        ensures { result ≡ is_idle self.now }
+        ensures known { (c : Shape) (h : ℕ) (m : Memory) → LeadsTo c h m self.now →
+            result ≡ is_idle_in m.doing }
+        ensures idle { result ≡ is_idle self.now }
     {
         self.learner.idle()
     }
@@ -151,8 +154,11 @@ impl HostCore {
     pub fn hear(&mut self, heard: &Heard<'_>)
         requires busy { is_idle self.old ≡ false }
         requires fits { Fits (due_call self.old).1 (heard_of heard.now) }
-        ensures { (c : Shape) (h : ℕ) (m : Memory) → LeadsTo c h m self.old →
+        ensures leads { (c : Shape) (h : ℕ) (m : Memory) → LeadsTo c h m self.old →
             LeadsTo c h (hears c h m m.doing (record { disk = (due_call self.old).0; heard = heard_of heard.now })) self.new }
+        // By Committed, Empty or BallotsSpent within 17 calls a disk, if no other host makes a call on the slot meanwhile.
+        ensures alone { (c : Shape) (h : ℕ) (m : Memory) → LeadsTo c h m self.old →
+            IsAnsweredAlone c h m m.doing (record { disk = (due_call self.old).0; heard = heard_of heard.now }) }
     {
         self.learner.hear(heard);
         let Some(value) = self.learner.offered() else {

@@ -1,7 +1,7 @@
 -- What follows from each kind of answer, by where the attempt stands.
-use Rattle.std.specs.Prelude.{nat_lt, nat_le, if◌then◌else◌, slice_set}
-use Rattle.std.proofs.Common.{◌≡◌, ◌≢◌, ◌+◌, ◌*◌, ◌<◌, ◌≤◌, ◌&&◌, not, max, ℕ, zero, suc, pred, Bool, true, false, Option, Some, None, List, [], ◌∷◌, ◌++◌, length, is_some, inl, inr, refl, sym, subst, ap, ap₂, ◌∙◌, arith, true≢false}
-use Rattle.std.proofs.lemmas.Bool.{cases_eq, cases_lt, le-ltb}
+use Rattle.std.specs.Prelude.{slice_set}
+use Rattle.std.proofs.Common.{◌≡◌, ◌≢◌, ◌+◌, ◌<◌, ◌≤◌, ℕ, pred, Bool, true, false, Option, Some, None, List, [], ◌∷◌, ◌++◌, length, is_some, inl, inr, refl, sym, subst, ap, ◌∙◌, arith, true≢false}
+use Rattle.std.proofs.lemmas.Bool.{cases_lt}
 use Rattle.std.proofs.lemmas.List.{get_or-set_same, get_or-set_other}
 use Rattle.disk.specs.declared.boot.Boot.{Boot}
 use Rattle.torn_block.specs.declared.write_steps.WriteCall.{WriteCall}
@@ -9,10 +9,11 @@ use Rattle.torn_block.specs.declared.write_steps.WriteCall.TheVariants.{CloseGat
 use Rattle.torn_block.specs.Plan.{Plan, IsReading, plan_by, next_after}
 use Rattle.paxos_block.specs.Saying.{body_saying}
 use Rattle.attempt.specs.Calls.{Phase, Opening, One, Two, start, goal}
-use Rattle.attempt.specs.Answers.{Heard, Booted, Done, Told, Fault, Answers, more, is_bad, all_good, row_in, told, boot_of, last_row, later_row, block_in}
+use Rattle.attempt.specs.Answers.{Heard, Booted, Done, Told, Answers, more, is_bad, all_good, row_in, boot_of, last_row, block_in}
 use Rattle.attempt.specs.Setup.{Setup}
 use Rattle.attempt.specs.Standing.{NotOutrun}
 use Rattle.attempt.proofs.Lists.{last_more, row_none, positive}
+use Rattle.attempt.proofs.Replies.{bad_tells}
 use Rattle.attempt.proofs.Rows.{IsLast, highest_same, best_same, rows_stay}
 use Rattle.attempt.proofs.Visitors.{part_if}
 use Rattle.paxos_block.specs.declared.cell.Cell.{Cell}
@@ -28,7 +29,7 @@ use Rattle.phases.specs.declared.visit.Visit.{Visit}
 use Rattle.phases.specs.Calls.{phase_in}
 use Rattle.phases.specs.Kept.{ReadsAs, phase_of, visit_at, boot_in, made, answered, Suits, Remembers, KeepsRows, IsVisiting, IsWriting, Writes, Follows}
 use Rattle.phases.specs.Moves.{IsInOrder, IsPassed}
-use Rattle.phases.proofs.Hearing.{IsDue, KeepsAll, keeps_not_outrun, Ending, Dropped, Read, passes, Stays, visiting, due_there, moved, some_now, stays_there, boot_stays, remembers_more}
+use Rattle.phases.proofs.Hearing.{IsDue, KeepsAll, keeps_not_outrun, Dropped, Read, passes, visiting, due_there, moved, some_now, stays_there, boot_stays, remembers_more}
 
 -- what a row was read as
 reads_by : (bytes : List ℕ) (row : Row) (o : Option (List SeenBlock)) → row_said bytes ≡ o → IsSomeAnd o (λ seen. AreSeenAs seen row) → ReadsAs bytes row
@@ -37,6 +38,11 @@ reads_by bytes row (Some seen) is so = record { seen = seen; said = is; so = so 
 
 pub reads_as : (bytes : List ℕ) (row : Row) → IsSomeAnd (row_said bytes) (λ seen. AreSeenAs seen row) → ReadsAs bytes row
 reads_as bytes row so = reads_by bytes row (row_said bytes) refl so
+
+-- what is kept of a disk, where something is
+pub found : (o : Option Visit) → is_some o ≡ true → (w : Visit) × (o ≡ Some w)
+found None none = absurd (cc)
+found (Some w) some = (w, refl)
 
 -- THE DISK WAS ATTACHED
 
@@ -53,7 +59,6 @@ module _ (s : Setup) (f : Answers) (n : Notes) (is : Follows s f n) (going : n.e
   -- something is kept of the disk that is visited
   pub kept_here : visit_at n.visits n.disk ≡ None → ⊥
   kept_here none = true≢false (sym (some_now s f n is going order) ∙ ap is_some none)
-
 
   pub attaches : n.stage ≡ stage.Attaching → (boot : Boot) (visit : Visit) → visit_at n.visits n.disk ≡ Some visit → n.disk < length n.visits
       → Follows s (more f n.disk (Booted boot.number)) (moved s f n is going order (slice_set n.visits n.disk (Some (record { boot = boot; block = visit.block }))) stage.Syncing n.steps)
@@ -74,13 +79,13 @@ module _ (s : Setup) (f : Answers) (n : Notes) (is : Follows s f n) (going : n.e
       (λ e off. get_or-set_other n.visits d e (Some new) None off)
       (ap is_some set)
       (λ w at. (let same : Some w ≡ Some new = sym at ∙ set in let w_is : new ≡ w = cc in
-        subst (Remembers s.host (f d ++ Booted boot.number ∷ [])) w_is (
-        let last : last_row (f d ++ Booted boot.number ∷ []) ≡ last_row (f d) = last_more (f d) (Booted boot.number) in
-        record {
-          boot = ap (λ (a : List Heard). boot_of (a ++ Booted boot.number ∷ [])) (no_answers (f d) none);
-          read = subst (λ o. IsReading (block_in o s.host).bytes visit.block) (sym last) old.read;
-          sequence = old.sequence ∙ ap (λ o. (block_in o s.host).sequence) (sym last);
-        })))
+      subst (Remembers s.host (f d ++ Booted boot.number ∷ [])) w_is (
+      let last : last_row (f d ++ Booted boot.number ∷ []) ≡ last_row (f d) = last_more (f d) (Booted boot.number) in
+      record {
+        boot = ap (λ (a : List Heard). boot_of (a ++ Booted boot.number ∷ [])) (no_answers (f d) none);
+        read = subst (λ o. IsReading (block_in o s.host).bytes visit.block) (sym last) old.read;
+        sequence = old.sequence ∙ ap (λ o. (block_in o s.host).sequence) (sym last);
+      })))
       tt
 
 -- THE DISK WAS SYNCED
@@ -115,7 +120,7 @@ module _ (s : Setup) (f : Answers) (n : Notes) (is : Follows s f n) (going : n.e
       (kept_still (omega (arith, one)))
       tt
 
--- A CALL OF A WRITE SUCCEEDED
+  -- A CALL OF A WRITE SUCCEEDED
 
   -- the phase writes, so it has seven calls
   writing : n.stage ≡ stage.Writing → goal (phase_of n) ≡ start (phase_of n) + 7
@@ -221,13 +226,6 @@ module _ (s : Setup) (f : Answers) (n : Notes) (is : Follows s f n) (going : n.e
 
 -- THE DISK IS DROPPED
 
-bad_tells : (x : Heard) → is_bad x ≡ true → told x ≡ None
-bad_tells (Booted boot) bad = refl
-bad_tells Done bad = refl
-bad_tells (Told None) bad = refl
-bad_tells (Told (Some row)) bad = absurd (cc)
-bad_tells (Fault fault) bad = refl
-
 module _ (s : Setup) (f : Answers) (n : Notes) (is : Follows s f n) (going : n.end ≡ None) (order : IsInOrder s (phase_of n) n.disk f) (room : n.disk < length n.visits) where
   abbrev d : ℕ
   d = n.disk
@@ -268,7 +266,7 @@ module _ (s : Setup) (f : Answers) (n : Notes) (is : Follows s f n) (going : n.e
       (ap is_some (set_is None))
       (λ w at. (let none : None ≡ Some w = sym (set_is None) ∙ at in absurd (cc)))
 
--- A ROW WAS READ
+  -- A ROW WAS READ
 
   module _ (at : n.stage ≡ stage.Reading) (row : List SeenBlock) (cell : Cell) (shows : IsSeenAs (seen_at row n.host) cell) where
     abbrev x : Heard
@@ -307,10 +305,6 @@ module _ (s : Setup) (f : Answers) (n : Notes) (is : Follows s f n) (going : n.e
     pub is_last : IsLast s (phase_of n) n.disk f
     is_last = record { below = due.first.below; last = last; behind = behind }
 
-    old : (o : Option Visit) → is_some o ≡ true → (w : Visit) × (o ≡ Some w)
-    old None none = absurd (cc)
-    old (Some w) some = (w, refl)
-
     some_answers : 1 ≤ length (f n.disk)
     some_answers = go (phase_of n) last
       where
@@ -321,7 +315,7 @@ module _ (s : Setup) (f : Answers) (n : Notes) (is : Follows s f n) (going : n.e
 
     remembers : Remembers s.host (f n.disk ++ x ∷ []) new_visit
     remembers =
-        let one = old (visit_at n.visits n.disk) (some_now s f n is going order) in
+        let one = found (visit_at n.visits n.disk) (some_now s f n is going order) in
         let before = v.visits.each n.disk one.0 due.first.below one.1 in
         let row_is : last_row (f n.disk ++ x ∷ []) ≡ Some row = last_more (f n.disk) x in
         let host_is : n.host ≡ s.host = v.rows.is_host in
@@ -339,5 +333,5 @@ module _ (s : Setup) (f : Answers) (n : Notes) (is : Follows s f n) (going : n.e
         (λ e off. ap (λ (l : List (Option Visit)). visit_at l e) visits ∙ others (Some new_visit) e off)
         (ap (λ (l : List (Option Visit)). is_some (visit_at l n.disk)) visits ∙ ap is_some (set_is (Some new_visit)))
         (λ w here. (let same_visit : Some new_visit ≡ Some w = sym (set_is (Some new_visit)) ∙ ap (λ (l : List (Option Visit)). visit_at l n.disk) (sym visits) ∙ here in
-          let is_w : new_visit ≡ w = cc in
-          subst (Remembers s.host (f n.disk ++ x ∷ [])) is_w remembers))
+        let is_w : new_visit ≡ w = cc in
+        subst (Remembers s.host (f n.disk ++ x ∷ [])) is_w remembers))

@@ -1,32 +1,29 @@
 -- What follows once a phase is over: the next one begins, or the attempt ends.
 use Rattle.std.specs.Prelude.{nat_lt, nat_le, if◌then◌else◌}
-use Rattle.std.proofs.Common.{◌≡◌, ◌+◌, ◌*◌, ◌<◌, ◌≤◌, ◌&&◌, not, max, ℕ, zero, suc, Bool, true, false, Option, Some, None, List, length, is_some, inl, inr, refl, sym, subst, ap, ap₂, ◌∙◌, arith}
-use Rattle.std.proofs.lemmas.Bool.{cases_lt, le-ltb, lt-ltb, ltb-true, and_from, and_parts, leb-true, le-leb, not-true, both_ways}
+use Rattle.std.proofs.Common.{◌≡◌, ◌<◌, ◌≤◌, ◌&&◌, not, ℕ, zero, suc, Bool, true, false, Option, Some, None, List, length, refl, sym, ap, ap₂, ◌∙◌, arith}
+use Rattle.std.proofs.lemmas.Bool.{le-ltb, lt-ltb, and_from, le-leb}
 use Rattle.paxos_block.specs.declared.ballot.TheConstants.{LAST_BALLOT}
 use Rattle.paxos_block.specs.declared.block.PBlock.{PBlock}
 use Rattle.paxos_block.specs.Votes.{greatest, ballot_above}
 use Rattle.paxos_block.proofs.VoteLemmas.{greatest_same}
 use Rattle.attempt.specs.Calls.{Phase, Opening, One, Two, start, goal}
 use Rattle.attempt.specs.Answers.{Answers, all_good, row_in}
-use Rattle.attempt.specs.Numbers.{count}
 use Rattle.attempt.specs.Setup.{Setup}
-use Rattle.attempt.specs.Visits.{is_stuck, takes_part, waits, visited, is_left, is_left_at, are_enough}
-use Rattle.attempt.specs.Proposal.{highest, ballot, own, best, or_else, proposal, others_top, others_mbal}
-use Rattle.attempt.specs.Status.{Due, Ended, Committed, Empty, BallotsSpent, status, is_opened, taken, taken_by}
-use Rattle.attempt.specs.Standing.{IsIn, NotOutrun, HasBallot, HasProposal}
-use Rattle.attempt.specs.NextCall.{says_for, some_value}
-use Rattle.attempt.proofs.Firsts.{count_below}
+use Rattle.attempt.specs.Visits.{is_stuck, takes_part, visited, is_left, is_left_at, are_enough}
+use Rattle.attempt.specs.Proposal.{ballot, own, or_else, proposal, others_top, others_mbal}
+use Rattle.attempt.specs.Status.{is_opened, taken, taken_by}
+use Rattle.attempt.specs.NextCall.{some_value}
 use Rattle.attempt.proofs.Lists.{row_none}
 use Rattle.attempt.proofs.Rows.{best_none}
-use Rattle.attempt.proofs.Visitors.{IsPart, part_is, part_if, waiting_if, left_is, left_if, not_stuck, left_over}
+use Rattle.attempt.proofs.Visitors.{part_is, part_if, left_is, left_if, not_stuck, left_over}
 use Rattle.attempt.proofs.Statuses as statuses
 use Rattle.phases.specs.declared.end.End.TheVariants as end
 use Rattle.phases.specs.declared.notes.Notes.{Notes}
 use Rattle.phases.specs.declared.phase.Phase as code_phase
 use Rattle.phases.specs.declared.phase.Phase.TheVariants as phase
-use Rattle.phases.specs.Calls.{phase_in}
-use Rattle.phases.specs.Kept.{phase_of, visit_at, KeepsVisits, KeepsRows, Follows}
-use Rattle.phases.specs.Moves.{IsOpenedIn, IsPassed, IsOver}
+use Rattle.phases.specs.Kept.{phase_of, KeepsVisits, Follows}
+use Rattle.phases.specs.Moves.{IsPassed, IsOver}
+use Rattle.phases.proofs.Visiting.{never}
 use Rattle.phases.proofs.Ending.{none_waits, left_kept}
 
 -- A PHASE WITHOUT ROWS
@@ -49,11 +46,6 @@ both true true to back = refl
 both true false to back = sym (to refl)
 both false true to back = back refl
 both false false to back = refl
-
-never : (t k : Bool) → (t && not (k && false)) ≡ t
-never true true = refl
-never true false = refl
-never false k = refl
 
 -- no disk is below the first
 left_at_first : (s : Setup) (p : Phase) (f : Answers) (e : ℕ) → is_left_at (Some 0) s p f e ≡ takes_part p (f e)
@@ -78,8 +70,8 @@ module _ (s : Setup) (f : Answers) (n : Notes) (q : Phase) (next : AreNext (phas
   left_next e l = both (is_left s p f e) (takes_part q (f e))
       (λ left. part_if q (f e) (record { good = (left_is s p (visited s p f) f e left).good; come = (let over = left_over s p f e none l left in omega (arith, next.joined)) }))
       (λ takes. (let part = part_is q (f e) takes in
-        let less = next.later in
-        left_if s p (visited s p f) f e (record { good = part.good; come = omega (arith, part.come) }) (not_stuck s p (f e) (omega (arith, part.come)))))
+      let less = next.later in
+      left_if s p (visited s p f) f e (record { good = part.good; come = omega (arith, part.come) }) (not_stuck s p (f e) (omega (arith, part.come)))))
 
   -- none of which is passed yet
   pub visits_next : KeepsVisits s f (is_left_at (Some 0) s q f) n.visits
@@ -96,12 +88,6 @@ in_phase q n is = ap (λ (x : code_phase.Phase). record n { phase = x }) is
 
 opened_by : (good : Bool) (k : ℕ) → good ≡ true → 3 ≤ k → (good && nat_le 3 k) ≡ true
 opened_by good k is long = and_from good (nat_le 3 k) is (le-leb 3 k long)
-
-enough_more : (s : Setup) (g h : ℕ → Bool) → ((e : ℕ) → e < s.disks → g e ≡ true → h e ≡ true) → are_enough s g ≡ true → are_enough s h ≡ true
-enough_more s g h more enough =
-    let less = count_below s.disks g h more in
-    let half : s.disks < 2 * count s.disks g = ltb-true s.disks (2 * count s.disks g) enough in
-    lt-ltb s.disks (2 * count s.disks h) (omega arith)
 
 next_one : AreNext Opening One
 next_one = record { later = omega arith; joined = refl }
@@ -123,7 +109,7 @@ module _ (s : Setup) (f : Answers) (n : Notes) (is : IsOver s f (record n { phas
   left_opened e l left = is.passed.opened e ∙ opened_by (all_good (f e)) (length (f e)) (left_is s Opening (visited s Opening f) f e left).good (left_over s Opening f e over l left)
 
   enough_opened : are_enough s (is_opened f) ≡ true
-  enough_opened = enough_more s (is_left s Opening f) (is_opened f) left_opened is.enough
+  enough_opened = statuses.enough_more s (is_left s Opening f) (is_opened f) left_opened is.enough
 
   taken_is : taken s f ≡ (if nat_lt LAST_BALLOT (ballot s f) then 0 else ballot s f)
   taken_is = ap₂ (taken_by (ballot s f)) over enough_opened

@@ -1,7 +1,7 @@
 -- The call that is due by what is kept is the one that is due by what was heard; and what a history is like then.
 use Rattle.std.specs.Prelude.{nat_le, slice_get}
 use Rattle.std.specs.Option.{option_map}
-use Rattle.std.proofs.Common.{◌≡◌, ◌+◌, ◌<◌, ◌≤◌, ◌&&◌, ℕ, Bool, true, false, Option, Some, None, List, [], ◌∷◌, ◌++◌, length, is_some, inl, inr, refl, sym, subst, ap, ap₂, ◌∙◌, arith}
+use Rattle.std.proofs.Common.{◌≡◌, ◌+◌, ◌<◌, ◌≤◌, ◌&&◌, ℕ, Bool, true, false, Option, Some, None, List, [], ◌∷◌, ◌++◌, length, is_some, inl, inr, refl, sym, subst, ap, ap₂, ◌∙◌}
 use Rattle.std.proofs.lemmas.Bool.{cases_lt, le-leb, lt-leb, and_from, and_left, and_right}
 use Rattle.disk.specs.Disk as device
 use Rattle.torn_block.specs.declared.layout.TheConstants.{ROW_LENGTH}
@@ -12,12 +12,11 @@ use Rattle.torn_block.specs.Plan.{Plan, IsReading, plan_by, plan_calls, need_at,
 use Rattle.paxos_block.specs.Places.{place_of, VoteOf, row_place}
 use Rattle.paxos_block.specs.Saying.{body_saying}
 use Rattle.paxos_block.specs.declared.block.PBlock.{PBlock}
-use Rattle.attempt.specs.Calls.{Phase, Opening, One, Two, Kind, Attaching, Syncing, Reading, Putting, seventeen, start, goal}
-use Rattle.attempt.specs.Answers.{Heard, Answered, Answers, on, more, all_good, row_in, last_row, block_in, boot_of}
+use Rattle.attempt.specs.Calls.{Phase, Opening, Kind, Attaching, Syncing, Reading, Putting, seventeen, start}
+use Rattle.attempt.specs.Answers.{Heard, Answered, Answers, on, more, all_good, row_in, boot_of}
 use Rattle.attempt.specs.Setup.{Setup}
-use Rattle.attempt.specs.History.{IsHistory, IsAnswerTo, Fits}
-use Rattle.attempt.specs.Status.{Due, status, is_opened, taken}
-use Rattle.attempt.specs.Proposal.{ballot}
+use Rattle.attempt.specs.History.{IsAnswerTo, Fits}
+use Rattle.attempt.specs.Status.{is_opened}
 use Rattle.attempt.specs.NextCall.{says_for, write_on, call_by, call_on, with_disk, next_in, next_call}
 use Rattle.attempt.proofs.Histories.{orderly}
 use Rattle.attempt.proofs.Lists.{row_none}
@@ -28,12 +27,11 @@ use Rattle.phases.specs.declared.phase.Phase as code_phase
 use Rattle.phases.specs.declared.phase.Phase.TheVariants as phase
 use Rattle.phases.specs.declared.phase.Stage.{Stage}
 use Rattle.phases.specs.declared.phase.Stage.TheVariants as stage
-use Rattle.phases.specs.declared.heard.Heard as code_heard
-use Rattle.phases.specs.declared.heard.Heard.TheVariants as answer
 use Rattle.phases.specs.declared.visit.Visit.{Visit}
-use Rattle.phases.specs.Calls.{phase_in, heard_of}
-use Rattle.phases.specs.Kept.{phase_of, visit_at, boot_in, made, answered, Suits, FitsStage, write_due, call_at, call_due, Remembers, IsWriting, Writes, IsVisiting, Stands, Follows, LeadsTo}
+use Rattle.phases.specs.Calls.{phase_in}
+use Rattle.phases.specs.Kept.{phase_of, visit_at, boot_in, made, answered, Suits, write_due, call_at, call_due, Remembers, Writes, IsVisiting, Stands, Follows, LeadsTo}
 use Rattle.phases.specs.Moves.{IsOpenedIn, IsInOrder}
+use Rattle.phases.proofs.Answering.{found}
 use Rattle.phases.proofs.Hearing.{due_there, some_now}
 
 -- THE KIND OF THE CALL THAT IS DUE
@@ -104,9 +102,9 @@ module _ (s : Setup) (f : Answers) (n : Notes) (v : IsVisiting s f n) (visit : V
       let said : body_saying n.says ≡ w.body = ap body_saying v.says in
       let place : place_of (VoteOf n.slot n.host) ≡ w.place = ap₂ (λ (a b : ℕ). place_of (VoteOf a b)) v.rows.is_slot v.rows.is_host in
       let need : need_at n.steps writes.call ≡ need_at (plan_by writes.visit.block w.body) writes.call =
-        ap (λ (p : Plan). need_at p writes.call) writes.plan
-        ∙ same_need (plan_by writes.visit.block (body_saying n.says)) (Some writes.call) writes.call
-        ∙ ap (λ (b : List ℕ). need_at (plan_by writes.visit.block b) writes.call) said in
+      ap (λ (p : Plan). need_at p writes.call) writes.plan
+      ∙ same_need (plan_by writes.visit.block (body_saying n.says)) (Some writes.call) writes.call
+      ∙ ap (λ (b : List ℕ). need_at (plan_by writes.visit.block b) writes.call) said in
       ap (λ (k : ℕ). option_map (call_by s n.disk f) (slice_get seventeen k)) (so ∙ ap (λ (due : Option WriteCall). start (phase_of n) + made due) due_is)
       ∙ ap (option_map (call_by s n.disk f)) (kind_of_write n.phase suits writes.call)
       ∙ ap (λ (b : ℕ). Some (call_of writes.call w b)) boot_is
@@ -147,10 +145,6 @@ module _ (s : Setup) (heard : List Answered) (n : Notes) (leads : LeadsTo s hear
           (λ bad. subst (λ (q : code_phase.Phase). row_in (phase_in q) (f e) ≡ None) is (unread e bad)))
       opened phase.One is unread = subst (λ (q : code_phase.Phase). IsOpenedIn s (phase_in q) f) (sym is) (sym leads.follows.ballot ∙ ap (λ (x : PBlock). x.mbal) (subst (λ (q : code_phase.Phase). n.says ≡ says_for s (phase_in q) f) is visits.says))
       opened phase.Two is unread = subst (λ (q : code_phase.Phase). IsOpenedIn s (phase_in q) f) (sym is) (sym leads.follows.ballot ∙ ap (λ (x : PBlock). x.mbal) (subst (λ (q : code_phase.Phase). n.says ≡ says_for s (phase_in q) f) is visits.says))
-
-  found : (o : Option Visit) → is_some o ≡ true → (w : Visit) × (o ≡ Some w)
-  found None none = absurd (cc)
-  found (Some w) some = (w, refl)
 
   -- the call that is due by what is kept
   pub call_is : next_call s f ≡ Some (call_due n)

@@ -1,24 +1,22 @@
 -- What follows once a disk of a phase was begun on, or all were done with.
 use Rattle.std.specs.Prelude.{nat_lt, nat_le}
-use Rattle.std.proofs.Common.{◌≡◌, ◌≢◌, ◌+◌, ◌*◌, ◌<◌, ◌≤◌, ◌&&◌, not, ℕ, Bool, true, false, Option, Some, None, List, length, is_some, inl, inr, refl, sym, subst, ap, ap₂, ◌∙◌, arith}
-use Rattle.std.proofs.lemmas.Bool.{cases_lt, le-ltb, lt-ltb, ltb-true, and_from, and_parts, leb-true}
-use Rattle.torn_block.specs.Plan.{Plan}
+use Rattle.std.proofs.Common.{◌≡◌, ◌*◌, ◌<◌, ◌≤◌, ◌&&◌, not, ℕ, Bool, true, false, Option, Some, None, length, is_some, inl, inr, refl, sym, subst, ap, ◌∙◌, arith}
+use Rattle.std.proofs.lemmas.Bool.{cases_lt, le-ltb, lt-ltb, and_parts, leb-true}
 use Rattle.paxos_block.specs.declared.block.PBlock.{PBlock}
-use Rattle.attempt.specs.Calls.{Phase, Opening, One, Two, start, goal}
+use Rattle.attempt.specs.Calls.{Phase, Opening, One, Two}
 use Rattle.attempt.specs.Answers.{Answers, all_good}
-use Rattle.attempt.specs.Numbers.{count, first_below}
+use Rattle.attempt.specs.Numbers.{count}
 use Rattle.attempt.specs.Setup.{Setup}
-use Rattle.attempt.specs.Visits.{is_stuck, takes_part, waits, visited, is_past, is_left, is_left_at, are_enough}
+use Rattle.attempt.specs.Visits.{is_stuck, takes_part, waits, visited, is_left, is_left_at, are_enough}
 use Rattle.attempt.specs.Proposal.{ballot}
-use Rattle.attempt.specs.Status.{Due, Ended, NoMajority, status, is_opened, taken, taken_by}
-use Rattle.attempt.specs.Standing.{IsIn, NotOutrun}
+use Rattle.attempt.specs.Status.{is_opened, taken, taken_by}
 use Rattle.attempt.specs.NextCall.{says_for}
-use Rattle.attempt.proofs.Firsts.{IsFirst, below_none, below_some, count_same, count_below}
-use Rattle.attempt.proofs.Visitors.{part_is, waiting_is, left_if, part_if, not_stuck}
+use Rattle.attempt.proofs.Firsts.{below_none, below_some, count_same, count_below}
+use Rattle.attempt.proofs.Visitors.{waiting_is, left_if, part_if, not_stuck}
 use Rattle.attempt.proofs.Statuses as statuses
 use Rattle.phases.specs.declared.end.End.TheVariants as end
 use Rattle.phases.specs.declared.notes.Notes.{Notes}
-use Rattle.phases.specs.Kept.{phase_of, visit_at, KeepsVisits, KeepsRows, IsVisiting, Stands, Follows}
+use Rattle.phases.specs.Kept.{phase_of, visit_at, KeepsRows, Stands, Follows}
 use Rattle.phases.specs.Moves.{IsOpenedIn, IsPassed, IsBegun, IsOver}
 
 -- HOW MANY ARE LEFT
@@ -58,7 +56,8 @@ passed_at s f n is = record {
 
 -- THE BALLOT TAKEN
 
-not_taken : (b d : ℕ) (enough : Bool) → taken_by b (Some d) enough ≡ 0
+-- no ballot is taken while the opening goes on
+pub not_taken : (b d : ℕ) (enough : Bool) → taken_by b (Some d) enough ≡ 0
 not_taken b d true = refl
 not_taken b d false = refl
 

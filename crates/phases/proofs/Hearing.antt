@@ -1,31 +1,28 @@
 -- What one answer more changes on the disk that is visited: it stays there, or is done with it.
-use Rattle.std.specs.Prelude.{nat_lt, nat_le, if◌then◌else◌}
-use Rattle.std.proofs.Common.{◌≡◌, ◌≢◌, ◌+◌, ◌*◌, ◌<◌, ◌≤◌, ◌&&◌, not, max, ℕ, zero, suc, Bool, true, false, Option, Some, None, List, [], ◌∷◌, ◌++◌, length, is_some, inl, inr, refl, sym, subst, ap, ap₂, ◌∙◌, arith, true≢false}
-use Rattle.std.proofs.lemmas.Bool.{cases_eq, cases_lt, le-ltb, lt-ltb, ltb-false, and_from, and_left, and_right, le-leb}
-use Rattle.paxos_block.specs.declared.block.PBlock.{PBlock}
+use Rattle.std.specs.Prelude.{nat_lt, nat_le}
+use Rattle.std.proofs.Common.{◌≡◌, ◌≢◌, ◌+◌, ◌*◌, ◌<◌, ◌≤◌, ◌&&◌, not, ℕ, Bool, true, false, Option, Some, None, List, [], ◌∷◌, ◌++◌, length, is_some, inl, inr, refl, sym, subst, ap, ap₂, ◌∙◌, arith}
+use Rattle.std.proofs.lemmas.Bool.{cases_eq, and_from, and_left, le-leb}
 use Rattle.paxos_block.specs.Row.{SeenBlock}
-use Rattle.paxos_block.specs.Votes.{says_in, top_of, others_top_of, later_of, latest_in}
 use Rattle.attempt.specs.Calls.{Phase, Opening, One, Two, start, goal}
-use Rattle.attempt.specs.Answers.{Heard, Booted, Done, Told, Answers, more, is_bad, all_good, told, row_in, last_row, later_row, block_in, boot_of}
-use Rattle.attempt.specs.Numbers.{count}
+use Rattle.attempt.specs.Answers.{Heard, Told, Answers, more, is_bad, all_good, told, row_in, last_row, later_row, block_in, boot_of}
 use Rattle.attempt.specs.Setup.{Setup}
 use Rattle.attempt.specs.Visits.{is_stuck, takes_part, waits, visited, is_left, is_left_at, are_enough}
-use Rattle.attempt.specs.Proposal.{highest, ballot, own, best, proposal, others_mbal}
-use Rattle.attempt.specs.Status.{Due, Ended, Outrun, status, is_opened, taken, taken_by}
+use Rattle.attempt.specs.Proposal.{ballot}
+use Rattle.attempt.specs.Status.{Due, status, is_opened, taken, taken_by}
 use Rattle.attempt.specs.Standing.{IsIn, NotOutrun}
 use Rattle.attempt.specs.NextCall.{says_for, some_value}
 use Rattle.attempt.proofs.Firsts.{IsFirst, some_below, below_some, count_same}
-use Rattle.attempt.proofs.Lists.{length_more, last_more, boot_more, good_more, row_kept, row_last, row_none, row_same}
+use Rattle.attempt.proofs.Lists.{length_more, last_more, boot_more, row_last, row_none, row_same}
 use Rattle.attempt.proofs.More.{more_here, more_there, by_disk}
-use Rattle.attempt.proofs.Rows.{AreSameRows, highest_same, ballot_same, own_same, best_same, proposal_same, others_same, opened_same, rows_stay, rows_kept, rows_early}
-use Rattle.attempt.proofs.Visitors.{IsPart, part_is, part_if, part_more, bad_more, bad_part, IsWaiting, waiting_is, waiting_if, waits_over, not_stuck, visited_kept, left_if}
+use Rattle.attempt.proofs.Rows.{AreSameRows, highest_same, ballot_same, own_same, best_same, proposal_same, others_same, opened_same, rows_stay, rows_kept}
+use Rattle.attempt.proofs.Visitors.{IsPart, part_if, part_more, bad_more, bad_part, IsWaiting, waiting_is, waiting_if, waits_over, not_stuck, visited_kept}
 use Rattle.attempt.proofs.Statuses as statuses
 use Rattle.phases.specs.declared.notes.Notes.{Notes}
 use Rattle.phases.specs.declared.phase.Phase as code_phase
 use Rattle.phases.specs.declared.phase.Stage.{Stage}
 use Rattle.phases.specs.declared.visit.Visit.{Visit}
 use Rattle.torn_block.specs.Plan.{Plan, IsReading}
-use Rattle.phases.specs.Kept.{phase_of, visit_at, answered, Suits, Remembers, KeepsVisits, KeepsRows, Writes, IsVisiting, Stands, Follows}
+use Rattle.phases.specs.Kept.{phase_of, visit_at, answered, Suits, Remembers, KeepsRows, Writes, IsVisiting, Stands, Follows}
 use Rattle.phases.specs.Moves.{IsOpenedIn, IsInOrder, IsPassed}
 use Rattle.phases.proofs.Visiting.{left_here, left_then, left_there}
 
@@ -152,10 +149,10 @@ module _ (s : Setup) (p : Phase) (d : ℕ) (f : Answers) (x : Heard) (due : IsDu
   left_at_still e = elim (cases_eq e d) [
     | inl here ↦
         (let at : is_left_at (Some d) s p (more f d x) d ≡ is_left_at (Some d) s p f d =
-          left_here s p (more f d x) d
-          ∙ ap (takes_part p) (more_here f d x)
-          ∙ part_if p (f d ++ x ∷ []) (part_more p (f d) x stays.good due.waiting.part)
-          ∙ sym (left_here s p f d ∙ part_if p (f d) due.waiting.part) in
+        left_here s p (more f d x) d
+        ∙ ap (takes_part p) (more_here f d x)
+        ∙ part_if p (f d ++ x ∷ []) (part_more p (f d) x stays.good due.waiting.part)
+        ∙ sym (left_here s p f d ∙ part_if p (f d) due.waiting.part) in
         ap (is_left_at (Some d) s p (more f d x)) here ∙ at ∙ ap (is_left_at (Some d) s p f) (sym here))
     | inr off ↦ ap (λ (a : List Heard). takes_part p a && not (is_stuck s p a && nat_lt e d)) (more_there f d x e off)
   ]

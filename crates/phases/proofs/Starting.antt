@@ -1,6 +1,5 @@
 -- What an attempt keeps that has heard nothing.
-use Rattle.std.specs.Prelude.{nat_lt}
-use Rattle.std.proofs.Common.{◌≡◌, ◌*◌, ◌+◌, ◌<◌, ◌≤◌, max, ℕ, zero, suc, Bool, true, false, Option, Some, None, List, [], length, is_some, refl, sym, subst, ap, ◌∙◌, arith}
+use Rattle.std.proofs.Common.{◌≡◌, ◌*◌, ◌<◌, ℕ, zero, suc, true, Option, Some, None, List, [], is_some, refl, sym, subst, ap, ◌∙◌, arith}
 use Rattle.std.proofs.lemmas.Bool.{lt-ltb}
 use Rattle.paxos_block.specs.Saying.{zeros}
 use Rattle.paxos_block.specs.Row.{blank}
@@ -9,14 +8,12 @@ use Rattle.attempt.specs.Calls.{Opening}
 use Rattle.attempt.specs.Answers.{Answers}
 use Rattle.attempt.specs.Numbers.{count}
 use Rattle.attempt.specs.Setup.{Setup}
-use Rattle.attempt.specs.Visits.{waits, visited, is_left, are_enough}
-use Rattle.attempt.specs.Proposal.{ballot, own_below, best_below}
-use Rattle.attempt.specs.Status.{is_opened, taken, taken_by}
-use Rattle.attempt.specs.NextCall.{says_for}
+use Rattle.attempt.specs.Visits.{waits, visited, are_enough}
+use Rattle.attempt.specs.Proposal.{ballot, own_below}
+use Rattle.attempt.specs.Status.{is_opened, taken_by}
 use Rattle.attempt.proofs.Firsts.{below_some}
 use Rattle.attempt.proofs.Rows.{best_none}
 use Rattle.attempt.proofs.Statuses as statuses
-use Rattle.phases.specs.declared.notes.Notes.{Notes}
 use Rattle.phases.specs.declared.phase.Phase.TheVariants as phase
 use Rattle.phases.specs.declared.phase.Stage.TheVariants as stage
 use Rattle.phases.specs.declared.visit.Visit.{Visit}
@@ -24,6 +21,7 @@ use Rattle.phases.specs.declared.visit.TheConstants.{UNSEEN}
 use Rattle.torn_block.specs.Plan.{Plan}
 use Rattle.phases.specs.Kept.{visit_at, Remembers, Follows}
 use Rattle.phases.proofs.Beginning.{greatest_zero}
+use Rattle.phases.proofs.Ending.{not_taken}
 
 -- nothing was heard of any disk
 abbrev nothing : Answers
@@ -46,18 +44,26 @@ all_count : (n : ℕ) → count n (λ d. true) ≡ n
 all_count zero = refl
 all_count (suc n) = let before : count n (λ d. true) ≡ n = all_count n in omega arith
 
-no_ballot : (b d : ℕ) (enough : Bool) → taken_by b (Some d) enough ≡ 0
-no_ballot b d true = refl
-no_ballot b d false = refl
-
 pub starts : (s : Setup) (visits : List (Option Visit)) (steps : Plan) → 0 < s.disks → ((e : ℕ) → e < s.disks → visit_at visits e ≡ Some UNSEEN)
     → Follows s nothing (record {
-        host = s.host; slot = s.slot; disks = s.disks; input = s.input; highest = s.floor; best = blank; says = blank; visits = visits;
-        phase = phase.Opening; disk = 0; stage = stage.Attaching; steps = steps; end = None })
+      host = s.host;
+      slot = s.slot;
+      disks = s.disks;
+      input = s.input;
+      highest = s.floor;
+      best = blank;
+      says = blank;
+      visits = visits;
+      phase = phase.Opening;
+      disk = 0;
+      stage = stage.Attaching;
+      steps = steps;
+      end = None;
+    })
 starts s visits steps some unseen_all =
     let first : visited s Opening nothing ≡ Some 0 = below_some s.disks (λ d. waits s Opening []) 0 (record { below = some; passes = refl; none = λ e l. absurd (omega arith) }) in
     record {
-      ballot = sym (ap (λ (o : Option ℕ). taken_by (ballot s nothing) o (are_enough s (is_opened nothing))) first ∙ no_ballot (ballot s nothing) 0 (are_enough s (is_opened nothing)));
+      ballot = sym (ap (λ (o : Option ℕ). taken_by (ballot s nothing) o (are_enough s (is_opened nothing))) first ∙ not_taken (ballot s nothing) 0 (are_enough s (is_opened nothing)));
       stands = record {
         rows = record {
           is_host = refl;

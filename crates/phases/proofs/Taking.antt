@@ -1,6 +1,6 @@
 -- What follows from the row of each phase.
 use Rattle.std.specs.Prelude.{nat_lt}
-use Rattle.std.proofs.Common.{◌≡◌, ◌+◌, ◌<◌, ◌≤◌, max, ℕ, Bool, true, false, Option, Some, None, List, [], ◌∷◌, ◌++◌, length, refl, sym, subst, ap, ap₂, ◌∙◌, arith}
+use Rattle.std.proofs.Common.{◌≡◌, ◌+◌, ◌<◌, ◌≤◌, max, ℕ, true, false, Option, Some, None, List, [], ◌∷◌, ◌++◌, length, refl, sym, subst, ap, ap₂, ◌∙◌, arith}
 use Rattle.std.proofs.lemmas.Bool.{le-ltb, lt-ltb, ltb-false}
 use Rattle.torn_block.specs.declared.layout.TheConstants.{HOSTS}
 use Rattle.torn_block.specs.Block.{value_of}
@@ -12,10 +12,10 @@ use Rattle.paxos_block.specs.Votes.{says_in, top_of, others_top_of, later_of, la
 use Rattle.paxos_block.proofs.RowLemmas.{said_is_said}
 use Rattle.paxos_block.proofs.VoteLemmas.{greatest_is_greatest, vote_at, vote_in, later_vote}
 use Rattle.attempt.specs.Calls.{Phase, Opening, One, Two, start, goal}
-use Rattle.attempt.specs.Answers.{Heard, Told, Answers, more, row_in}
+use Rattle.attempt.specs.Answers.{Told, Answers, more, row_in}
 use Rattle.attempt.specs.Setup.{Setup}
 use Rattle.attempt.specs.Visits.{takes_part, are_enough}
-use Rattle.attempt.specs.Proposal.{highest, ballot, best, others_mbal}
+use Rattle.attempt.specs.Proposal.{ballot, others_mbal}
 use Rattle.attempt.specs.Status.{Ended, Outrun, status, taken}
 use Rattle.attempt.specs.Standing.{IsIn, NotOutrun}
 use Rattle.attempt.specs.NextCall.{says_for}
@@ -31,9 +31,9 @@ use Rattle.phases.specs.declared.phase.Phase as code_phase
 use Rattle.phases.specs.declared.phase.Phase.TheVariants as phase
 use Rattle.phases.specs.declared.phase.Stage.TheVariants as stage
 use Rattle.phases.specs.Calls.{phase_in}
-use Rattle.phases.specs.Kept.{phase_of, visit_at, IsSound, SaysWell, KeepsRows, IsVisiting, Follows}
+use Rattle.phases.specs.Kept.{phase_of, IsSound, SaysWell, IsVisiting, Follows}
 use Rattle.phases.specs.Moves.{IsOpenedIn, IsInOrder, IsPassed}
-use Rattle.phases.proofs.Hearing.{IsDue, visiting, due_there, come_kept, opened_then, taken_later}
+use Rattle.phases.proofs.Hearing.{IsDue, visiting, due_there, come_kept, taken_later}
 use Rattle.phases.proofs.Answering.{kept_block, is_last, reads}
 
 -- WHAT A ROW SAYS OF ITS HOST
@@ -57,8 +57,8 @@ opening_sound bytes seen n h top b says is first said says_is top_is h_is b_is v
   visits_one = is.visits_one;
   few = is.few;
   said = subst (λ (q : code_phase.Phase). SaysWell q (record n { highest = h; best = b; visits = visits })) (sym first) (
-    subst (λ (x : PBlock). IsVoteOf n.host h x.bal x.inp) (sym b_is)
-    (own_vote bytes seen n.host n.highest h n.best says is.is_host said says_is (subst (λ (q : code_phase.Phase). SaysWell q n) first is.said) (h_is ∙ ap (max n.highest) top_is)));
+      subst (λ (x : PBlock). IsVoteOf n.host h x.bal x.inp) (sym b_is)
+      (own_vote bytes seen n.host n.highest h n.best says is.is_host said says_is (subst (λ (q : code_phase.Phase). SaysWell q n) first is.said) (h_is ∙ ap (max n.highest) top_is)));
 }
 
 -- THE ROW OF EACH PHASE
@@ -178,9 +178,9 @@ module _ (s : Setup) (f : Answers) (n : Notes) (is : Follows s f n) (going : n.e
   enough_part : are_enough s (λ e. takes_part (phase_of n) (f' e)) ≡ true
   enough_part = statuses.enough_more s (λ e. takes_part (phase_of n) (f e)) (λ e. takes_part (phase_of n) (f' e))
       (λ e l takes. by_disk f n.disk (Told (Some row)) (λ k a. takes_part (phase_of n) (f k) ≡ true → takes_part (phase_of n) a ≡ true)
-        (λ here. part_if (phase_of n) (f n.disk ++ Told (Some row) ∷ []) (part_more (phase_of n) (f n.disk) (Told (Some row)) refl (part_is (phase_of n) (f n.disk) here)))
-        (λ k off there. there)
-        e takes)
+      (λ here. part_if (phase_of n) (f n.disk ++ Told (Some row) ∷ []) (part_more (phase_of n) (f n.disk) (Told (Some row)) refl (part_is (phase_of n) (f n.disk) here)))
+      (λ k off there. there)
+      e takes)
       (statuses.enough_part s (phase_of n) f due.at.enough)
 
   enough_before : statuses.EnoughBefore s (phase_of n) f'

@@ -1,8 +1,7 @@
 -- What becomes of the disks of a phase where one is passed over, dropped, or begun on.
 use Rattle.std.specs.Prelude.{nat_lt, nat_le}
-use Rattle.std.proofs.Common.{◌≡◌, ◌≢◌, ◌+◌, ◌<◌, ◌≤◌, ◌==◌, ◌&&◌, not, ℕ, Bool, true, false, Option, Some, None, List, [], ◌∷◌, length, is_some, inl, inr, refl, sym, subst, ap, ◌∙◌, arith, slice_set, slice_index_or, true≢false}
-use Rattle.std.proofs.lemmas.Bool.{cases_eq, cases_lt, le-ltb, lt-ltb, le-leb, and_from, and_parts, and_left, and_right, eq-eqb}
-use Rattle.std.proofs.lemmas.Bool.Decides.{nat_tests}
+use Rattle.std.proofs.Common.{◌≡◌, ◌≢◌, ◌+◌, ◌<◌, ◌≤◌, ◌&&◌, not, ℕ, Bool, true, false, Option, Some, None, List, [], ◌∷◌, length, is_some, inl, inr, refl, sym, subst, ap, ◌∙◌, arith, slice_set}
+use Rattle.std.proofs.lemmas.Bool.{cases_eq, cases_lt, le-ltb, lt-ltb, and_left, and_right, eq-eqb}
 use Rattle.std.proofs.lemmas.List.{get_or-set_same, get_or-set_other}
 use Rattle.torn_block.specs.declared.layout.TheConstants.{LAST_SEQUENCE}
 use Rattle.torn_block.specs.declared.write_steps.WriteCall.TheVariants.{CloseGate}
@@ -10,18 +9,18 @@ use Rattle.torn_block.specs.Block.{next_sequence_at}
 use Rattle.torn_block.specs.Plan.{Plan, plan_by, told_value}
 use Rattle.paxos_block.specs.Saying.{body_saying}
 use Rattle.paxos_block.proofs.VoteLemmas.{spent, unspent}
-use Rattle.attempt.specs.Calls.{Phase, Opening, One, Two, start, goal}
+use Rattle.attempt.specs.Calls.{Phase, start, goal}
 use Rattle.attempt.specs.Answers.{Heard, Answers, last_row, block_in}
 use Rattle.attempt.specs.Setup.{Setup}
 use Rattle.attempt.specs.Visits.{is_stuck, takes_part, waits, is_left_at}
-use Rattle.attempt.proofs.Visitors.{IsPart, part_is, waiting_if}
+use Rattle.attempt.proofs.Visitors.{part_is, waiting_if}
 use Rattle.phases.specs.declared.notes.Notes.{Notes}
 use Rattle.phases.specs.declared.phase.Phase as code_phase
 use Rattle.phases.specs.declared.phase.Phase.TheVariants as phase
 use Rattle.phases.specs.declared.phase.Stage.TheVariants as stage
 use Rattle.phases.specs.declared.visit.Visit.{Visit}
 use Rattle.phases.specs.Calls.{phase_in}
-use Rattle.phases.specs.Kept.{phase_of, visit_at, answered, Suits, Remembers, KeepsVisits, KeepsRows, IsWriting, Writes}
+use Rattle.phases.specs.Kept.{phase_of, visit_at, answered, Suits, Remembers, KeepsVisits, KeepsRows}
 use Rattle.phases.specs.Moves.{IsPassed, IsBegun}
 
 -- WHICH DISKS ARE LEFT
@@ -39,7 +38,8 @@ same_less d e off =
       | inr high ↦ le-ltb e (d + 1) (omega arith) ∙ sym (le-ltb e d high)
     ]
 
-never : (t k : Bool) → (t && not (k && false)) ≡ t
+-- what never comes changes nothing
+pub never : (t k : Bool) → (t && not (k && false)) ≡ t
 never true true = refl
 never true false = refl
 never false k = refl

@@ -1,5 +1,5 @@
 -- Calls and answers of the code, as the definitions of an attempt see them.
-use Rattle.std.specs.Prelude.{◌+◌, ◌≤◌, ℕ, length, Option, Some, None}
+use Rattle.std.specs.Prelude.{◌+◌, ◌≤◌, ℕ, length, Option}
 use Rattle.std.specs.Option.{option_map}
 use Rattle.disk.specs.Disk as device
 use Rattle.torn_block.specs.declared.layout.TheConstants.{ROW_LENGTH}

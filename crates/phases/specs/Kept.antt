@@ -1,5 +1,5 @@
 -- What an attempt keeps, and when that is what follows from a list of answers.
-use Rattle.std.specs.Prelude.{◌≡◌, ◌<◌, ◌≤◌, ◌+◌, ◌&&◌, ℕ, pred, Bool, true, List, [], ◌∷◌, length, nat_le, slice_index_or, Option, Some, None, is_some}
+use Rattle.std.specs.Prelude.{◌≡◌, ◌<◌, ◌≤◌, ◌+◌, ℕ, pred, Bool, List, length, slice_index_or, Option, Some, None, is_some}
 use Rattle.disk.specs.Disk as device
 use Rattle.disk.specs.declared.boot.Boot.{Boot}
 use Rattle.torn_block.specs.declared.layout.TheConstants.{HOSTS, DISKS, ROW_LENGTH}
@@ -10,16 +10,15 @@ use Rattle.paxos_block.specs.declared.row.Row.{Row}
 use Rattle.paxos_block.specs.Row.{SeenBlock, AreSeenAs, row_said, sequence_in}
 use Rattle.paxos_block.specs.Saying.{IsVoteOf, MaySay, body_saying}
 use Rattle.paxos_block.specs.Places.{place_of, VoteOf, row_place}
-use Rattle.attempt.specs.Calls.{Phase, Opening, One, Two, start, goal}
-use Rattle.attempt.specs.Answers.{Heard, Answered, Answers, on, all_good, last_row, block_in, boot_of}
+use Rattle.attempt.specs.Calls.{Phase, start, goal}
+use Rattle.attempt.specs.Answers.{Heard, Answered, Answers, on, last_row, block_in, boot_of}
 use Rattle.attempt.specs.Setup.{Setup}
-use Rattle.attempt.specs.Visits.{takes_part, waits, is_left, is_left_at, are_enough}
+use Rattle.attempt.specs.Visits.{is_left}
 use Rattle.attempt.specs.Proposal.{highest, best}
 use Rattle.attempt.specs.Status.{End, Status, Due, Ended, status, taken}
-use Rattle.attempt.specs.Standing.{IsIn, NotOutrun}
 use Rattle.attempt.specs.NextCall.{says_for}
 use Rattle.attempt.specs.History.{IsHistory}
-use Rattle.phases.specs.Calls.{phase_in, end_of}
+use Rattle.phases.specs.Calls.{phase_in, heard_of, end_of}
 use Rattle.phases.specs.declared.end.End as code_end
 use Rattle.phases.specs.declared.heard.Heard as code_heard
 use Rattle.phases.specs.declared.heard.Heard.TheVariants as answer
@@ -99,6 +98,10 @@ call_at stage.Reading boot n = device.Read boot (row_place n.slot) ROW_LENGTH
 -- on the disk that is visited
 abbrev pub call_due : Notes → ℕ × device.Call
 call_due n = (n.disk, call_at n.stage (boot_in (visit_at n.visits n.disk)).number n)
+
+-- an answer to it
+abbrev pub answer_of : Notes → code_heard.Heard → Answered
+answer_of n heard = record { disk = n.disk; heard = heard_of heard }
 
 -- WHAT IS KEPT AT ANY TIME
 

@@ -19,9 +19,7 @@ use crate::need::DeviceCall;
 use crate::phase::{Phase, Stage};
 use crate::visit::{UNSEEN, Visit};
 use disk::Boot;
-use paxos_block::{
-    PBlock, Row, Value, ballot_above, block_place, decode_row, encode, row_place,
-};
+use paxos_block::{PBlock, Row, Value, ballot_above, block_place, decode_row, encode, row_place};
 use torn_block::{Block128, BlockNeed, DISKS, WriteSteps};
 
 /// As many as there may be disks.
@@ -59,6 +57,7 @@ impl Notes {
         requires few { disks ≤ DISKS }
         ensures sound { IsSound result }
         ensures going { result.end ≡ None }
+        ensures of { (result.host ≡ host) × (result.slot ≡ slot) × (result.disks ≡ disks) }
         ensures follows { Follows (record { host = host; slot = slot; disks = disks; floor = floor; input = input }) (λ d. []) result }
     {
         let mut visits = [None; PLACES];
@@ -289,9 +288,9 @@ impl Notes {
             Follows s (more f self.old.disk (answers.Told (row_said bytes))) self.new }
     {
         let cell = row.cell(self.host);
-        let others = row.others_mbal(self.host);
-        if self.says.mbal < others {
-            self.end = Some(End::Outrun(others));
+        let faster = row.others_mbal(self.host);
+        if self.says.mbal < faster {
+            self.end = Some(End::Outrun(faster));
             return;
         }
         self.keep_block(&cell.block);

@@ -1,14 +1,15 @@
-ghost use Rattle.std.specs.Prelude.{◌≡◌, ◌<◌, ◌≤◌, ◌+◌, ◌++◌, ◌∷◌, [], List, Some, None, length};
+ghost use Rattle.std.specs.Prelude.{◌≡◌, ◌<◌, ◌≤◌, ◌+◌, ◌*◌, ◌++◌, ◌∷◌, [], List, Some, None, length};
 ghost use Rattle.std.specs.Option.{option_map};
 ghost use Rattle.torn_block.specs.declared.layout.TheConstants.{HOSTS, DISKS, ROW_LENGTH};
 ghost use Rattle.paxos_block.specs.Places.{row_place};
 ghost use Rattle.attempt.specs.Answers.{Answered, on};
 ghost use Rattle.attempt.specs.History.{Fits};
+ghost use Rattle.attempt.specs.Laws.{IsServedAlone};
 ghost use Rattle.attempt.specs.NextCall.{next_call};
 ghost use Rattle.attempt.specs.Setup.{Setup};
 ghost use Rattle.attempt.specs.Status.{status, taken};
 ghost use Rattle.phases.specs.Calls.{call_of_need, heard_of, end_in, IsWithin};
-ghost use Rattle.phases.specs.Kept.{IsSameAttempt, LeadsTo, call_due, end_of_status};
+ghost use Rattle.phases.specs.Kept.{answer_of, IsSameAttempt, LeadsTo, call_due, end_of_status};
 
 use crate::end::End;
 use crate::heard::Heard;
@@ -28,7 +29,7 @@ pub struct Attempt {
 
 impl Model for Attempt {
     ghost use Rattle.phases.specs.declared.notes.Notes.{Notes};
-    ghost use Rattle.phases.specs.Kept.{IsSound};
+    ghost use Rattle.phases.specs.Kept.{answer_of, IsSound};
 
     ghost Value = { Notes };
 
@@ -45,6 +46,7 @@ impl Attempt {
         requires few { disks ≤ DISKS }
         ensures leads { LeadsTo (record { host = host; slot = slot; disks = disks; floor = floor; input = input }) [] result }
         ensures going { result.end ≡ None }
+        ensures of { (result.host ≡ host) × (result.slot ≡ slot) × (result.disks ≡ disks) }
     {
         Attempt {
             notes: Notes::new(host, slot, disks, floor, input),
@@ -72,7 +74,11 @@ impl Attempt {
         requires going { self.old.end ≡ None }
         requires fits { Fits (call_due self.old).1 (heard_of heard.now) }
         ensures leads { (s : Setup) (answers : List Answered) → LeadsTo s answers self.old →
-            LeadsTo s (answers ++ record { disk = self.old.disk; heard = heard_of heard.now } ∷ []) self.new }
+            LeadsTo s (answers ++ answer_of self.old heard.now ∷ []) self.new }
+        ensures bound { (s : Setup) (answers : List Answered) → LeadsTo s answers self.old →
+            length (answers ++ answer_of self.old heard.now ∷ []) ≤ 17 * s.disks }
+        ensures alone { (s : Setup) (answers : List Answered) → LeadsTo s answers self.old →
+            IsServedAlone s (answers ++ answer_of self.old heard.now ∷ []) }
         ensures same { IsSameAttempt self.old self.new }
     {
         self.notes.hear(heard);

@@ -1,7 +1,7 @@
 -- What a learner keeps while an operation goes on.
-use Rattle.std.proofs.Common.{◌≡◌, ◌<◌, ◌-◌, ℕ, Bool, true, false, List, [], ◌∷◌, ◌++◌, length, max, nat_le, Option, Some, None, refl, sym, ◌∙◌, ap, subst, arith, if◌then◌else◌}
+use Rattle.std.proofs.Common.{◌≡◌, ◌<◌, ◌-◌, ℕ, true, false, List, [], ◌∷◌, ◌++◌, max, Option, Some, None, refl, sym, ◌∙◌, ap, subst}
 use Rattle.std.proofs.lemmas.Bool.{lt-leb}
-use Rattle.attempt.specs.Answers.{Answered, on}
+use Rattle.attempt.specs.Answers.{Answered, Heard, on}
 use Rattle.attempt.specs.Setup.{Setup}
 use Rattle.attempt.specs.Status as attempt
 use Rattle.attempt.specs.Status.{Status, Due, Ended, status, taken}
@@ -11,9 +11,11 @@ use Rattle.phases.specs.declared.notes.Notes.{Notes}
 use Rattle.phases.specs.Calls.{end_of, end_in}
 use Rattle.phases.specs.Kept as attempts
 use Rattle.phases.specs.Kept.{end_of_status}
+use Rattle.attempt.proofs.Ends.{bound, served}
+use Rattle.slot_log.specs.Alone.{IsAnsweredAlone}
 use Rattle.slot_log.specs.Shape.{Shape}
-use Rattle.slot_log.specs.Learning.{Memory, Doing, setup_of, begins, ended, tries_again, with_floor, with_heard, goes_by, by_status, hears, takes, judges, offered_by, offered_in, after_learning, is_placed, learns, goes_on}
-use Rattle.slot_log.specs.Kept.{Kept, LeadsTo, AreDoing, IsDoing, IsOf, IsOver, KeepsLearned, is_idle, is_idle_with}
+use Rattle.slot_log.specs.Learning.{Memory, Doing, setup_of, begins, ended, tries_again, with_floor, with_heard, by_status, hears, takes, judges, offered_in, after_learning, is_placed, learns, goes_on}
+use Rattle.slot_log.specs.Kept.{Kept, LeadsTo, AreDoing, IsDoing, IsOf, IsOver, is_idle, is_idle_with}
 use Rattle.slot_log.specs.declared.operation.Operation.{Operation}
 use Rattle.slot_log.specs.declared.operation.Task.{Task}
 
@@ -53,9 +55,9 @@ outrun c h m t task ballot mbal e new is of more begun =
     let m' : Memory = with_floor (with_floor m ballot) mbal in
     let P : Memory → Type 0 = λ n. LeadsTo c h n new in
     let known : tries_again m' t.operation t.tries ≡ begins m' task.operation (task.tries - 1) =
-      ap (λ (o : Operation). tries_again m' o t.tries) of.operation
-      ∙ ap (λ (n : ℕ). tries_again m' task.operation n) of.tries
-      ∙ one_more_try m' task.operation task.tries more in
+    ap (λ (o : Operation). tries_again m' o t.tries) of.operation
+    ∙ ap (λ (n : ℕ). tries_again m' task.operation n) of.tries
+    ∙ one_more_try m' task.operation task.tries more in
     let ends : ended m t ballot (end_of e) ≡ tries_again m' t.operation t.tries = ap (λ (x : End). ended m t ballot (end_of x)) is in
     subst P (sym (ends ∙ known)) begun
 
@@ -96,3 +98,22 @@ takes_value c h m t value is offered =
     let F : Option (List ℕ) → Memory = λ o. judges c m t (taken s (on t.heard)) o true in
     ap (λ (o : Option Doing). takes c h m o true) is
     ∙ ap F (sym (offered ∙ ap (offered_in c h m) is))
+
+-- LEFT ALONE
+
+alone_with : (c : Shape) (h : ℕ) (m : Memory) (o : Option Doing) (task : Option Task) (old new : Notes) (x : Answered) → AreDoing c h m o task old → ((s : Setup) (answers : List Answered) → attempts.LeadsTo s answers old → attempts.LeadsTo s (answers ++ x ∷ []) new) → IsAnsweredAlone c h m o x
+alone_with c h m None task old new x are hear = tt
+alone_with c h m (Some t) None old new x are hear = absurd are
+alone_with c h m (Some t) (Some task) old new x are hear =
+    let s = setup_of c h m t.operation in
+    let heard = t.heard ++ x ∷ [] in
+    let history = (hear s t.heard are.heard).history in
+    record { bound = bound s heard history; served = served s heard history }
+
+-- what an attempt hears is a history, of which the laws speak
+pub alone : (c : Shape) (h : ℕ) (m : Memory) (old now : Kept) (new : Notes) (answer : Heard) → old ≡ now → LeadsTo c h m now → ((s : Setup) (answers : List Answered) → attempts.LeadsTo s answers old.attempt → attempts.LeadsTo s (answers ++ record { disk = old.attempt.disk; heard = answer } ∷ []) new) → IsAnsweredAlone c h m m.doing (record { disk = now.attempt.disk; heard = answer })
+alone c h m old now new answer is leads hear =
+    let Known : Kept → Type 0 = λ k. LeadsTo c h m k in
+    let By : Kept → Type 0 = λ k. IsAnsweredAlone c h m m.doing (record { disk = k.attempt.disk; heard = answer }) in
+    let known : LeadsTo c h m old = subst Known (sym is) leads in
+    subst By is (alone_with c h m m.doing old.task old.attempt new (record { disk = old.attempt.disk; heard = answer }) known.doing hear)

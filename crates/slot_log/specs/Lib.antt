@@ -1,3 +1,4 @@
+pub mod Alone
 pub mod Kept
 pub mod Learning
 pub mod Shape

@@ -3,8 +3,9 @@ ghost use Rattle.torn_block.specs.declared.layout.TheConstants.{HOSTS, ROW_LENGT
 ghost use Rattle.paxos_block.specs.Places.{image_length};
 ghost use Rattle.attempt.specs.History.{Fits};
 ghost use Rattle.phases.specs.Calls.{call_of_need, heard_of, end_of, IsWithin};
+ghost use Rattle.slot_log.specs.Alone.{IsAnsweredAlone};
 ghost use Rattle.slot_log.specs.Kept.{Kept, LeadsTo, IsSameLog, is_idle, offered_of, due_call, IsOf, IsOver, KeepsLearned};
-ghost use Rattle.slot_log.specs.Learning.{Memory, Doing, fresh, says, does, begins, goes_on, tries_again, ended, hears, takes, with_floor, learns, after_learning, next_in, offered_in};
+ghost use Rattle.slot_log.specs.Learning.{Memory, Doing, fresh, says, does, begins, goes_on, tries_again, ended, hears, takes, with_floor, learns, after_learning, is_idle_in, next_in, offered_in};
 ghost use Rattle.slot_log.specs.Shape.{Shape};
 
 use crate::config::Config;
@@ -82,7 +83,9 @@ impl Learner {
 
     /// Whether an operation may begin.
     pub fn idle(&self) -> bool
-        ensures { result ≡ is_idle self.now }
+        ensures known { (c : Shape) (h : ℕ) (m : Memory) → LeadsTo c h m self.now →
+            result ≡ is_idle_in m.doing }
+        ensures idle { result ≡ is_idle self.now }
     {
         self.task.is_none()
     }
@@ -146,6 +149,9 @@ impl Learner {
         requires fits { Fits (due_call self.old).1 (heard_of heard.now) }
         ensures leads { (c : Shape) (h : ℕ) (m : Memory) → LeadsTo c h m self.old →
             LeadsTo c h (hears c h m m.doing (record { disk = (due_call self.old).0; heard = heard_of heard.now })) self.new }
+        // By Committed, Empty or BallotsSpent within 17 calls a disk, if no other host makes a call on the slot meanwhile.
+        ensures alone { (c : Shape) (h : ℕ) (m : Memory) → LeadsTo c h m self.old →
+            IsAnsweredAlone c h m m.doing (record { disk = (due_call self.old).0; heard = heard_of heard.now }) }
         ensures same { IsSameLog self.old self.new }
     {
         self.attempt.hear(heard);
@@ -266,6 +272,8 @@ impl Learner {
         ensures leads { (c : Shape) (h : ℕ) (m : Memory) (t : Doing) (ballot : ℕ) → IsOf t task →
             LeadsTo c h (with_floor m ballot) self.old → LeadsTo c h (ended m t ballot (end_of end)) self.new }
         ensures same { IsSameLog self.old self.new }
+        // What was asked for, so that a proof finds it behind the call.
+        ensures valueless { IsOver end }
     {
         match end {
             End::Committed(_) => unreachable!(),

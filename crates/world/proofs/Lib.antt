@@ -1,4 +1,5 @@
 pub mod Follow
+pub mod Histories
 pub mod Projections
 pub mod Rows
 pub mod Runs

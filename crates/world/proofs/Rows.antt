@@ -1,5 +1,5 @@
 -- Runs of events, computed by the definitions alone: a world kept beside the list, so that each event costs one step.
-use Rattle.std.specs.Prelude.{◌≡◌, ◌+◌, ℕ, false, List, [], ◌∷◌, ◌++◌, replicate, set, slice_index_or, Option, Some, None}
+use Rattle.std.specs.Prelude.{◌≡◌, ◌+◌, ℕ, Bool, true, false, List, [], ◌∷◌, ◌++◌, map, replicate, set, slice_index_or, Option, Some, None}
 use Rattle.std.proofs.Common.{refl}
 use Rattle.disk.specs.Disk.{DiskState}
 use Rattle.disk.specs.Simulated.{fresh_disk}
@@ -19,7 +19,10 @@ use Rattle.slot_log.specs.Shape.{Shape}
 use Rattle.slot_log.specs.declared.outcome.Refusal.TheVariants as refusal
 use Rattle.host.specs.declared.answer.HostAnswer.{HostAnswer}
 use Rattle.host.specs.declared.answer.HostAnswer.TheVariants.{Ack, Recovered, Refused}
-use Rattle.host.specs.Host.{Host, Stopped, said_of}
+use Rattle.host.specs.Host.{Host, Stopped, Running, Memory, Doing, setup_of, said_of}
+use Rattle.attempt.specs.Answers.{on}
+use Rattle.world.specs.Chosen.{accepts}
+use Rattle.std.specs.List.{range_with_len}
 use Rattle.world.specs.Entry.{Filled, Called, Torn, Crashed, Lost, disk_step, host_step}
 use Rattle.world.specs.World.{World, opening_disk}
 use Rattle.world.specs.Happens.{Event, Start, Stop, Submit, Recover, Step, Tear, FailCall, DiskCrash, DiskGone, entry_of, host_of, Line, line, answers}
@@ -125,3 +128,30 @@ nothing_applies = refl
 first_reply_by_the_list : answers (record { disks = 1; slots = 4 }) (Start 0 ∷ Submit 0 (asks 0) 1 ∷ steps 0 17) ≡ at 18 0 (Ack 0 reply.Granted) ∷ []
 unfolding fresh_disk sequence_of body_of number_bytes tail_with copy_in row_said zeros heading body_saying number_at claim_of is_said number lock_at request_at mode_of name_at enqueue_at action_at command_at applied
 first_reply_by_the_list = refl
+
+-- WHAT IS CHOSEN
+
+abbrev host_at_end : Shape → Kept → ℕ → List Event → Host
+host_at_end c k h [] = slice_index_or k.hosts h Stopped
+host_at_end c k h (e ∷ es) = elim (entry_of c (as_world k) e) [ None ↦ host_at_end c k h es | Some x ↦ host_at_end c (kept_step c k x) h es ]
+
+-- on which of the disks the answers that its attempt has heard accept its proposal
+abbrev accepting_in : Shape → ℕ → Memory → Option Doing → List Bool
+accepting_in c h m None = []
+accepting_in c h m (Some t) = map (accepts (setup_of c h m t.operation) (on t.heard)) (range_with_len 0 c.disks)
+
+abbrev accepting_of : Shape → ℕ → Host → List Bool
+accepting_of c h Stopped = []
+accepting_of c h (Running m) = accepting_in c h m m.doing
+
+abbrev accepting : ℕ → List Event → List Bool
+accepting disks events = let c : Shape = record { disks = disks; slots = 2 } in accepting_of c 0 (host_at_end c (kept_first c) 0 events)
+
+-- over three disks the 44th answer is one with which the command is chosen; its host hears of that with the 51st
+not_yet_chosen : accepting 3 (Start 0 ∷ Submit 0 (asks 0) 1 ∷ steps 0 43) ≡ true ∷ false ∷ false ∷ []
+unfolding fresh_disk sequence_of body_of number_bytes tail_with copy_in row_said zeros heading body_saying number_at claim_of is_said number lock_at request_at mode_of name_at enqueue_at action_at command_at applied
+not_yet_chosen = refl
+
+chosen_unheard : accepting 3 (Start 0 ∷ Submit 0 (asks 0) 1 ∷ steps 0 44) ≡ true ∷ true ∷ false ∷ []
+unfolding fresh_disk sequence_of body_of number_bytes tail_with copy_in row_said zeros heading body_saying number_at claim_of is_said number lock_at request_at mode_of name_at enqueue_at action_at command_at applied
+chosen_unheard = refl

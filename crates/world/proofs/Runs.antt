@@ -1,6 +1,6 @@
 -- The list that events make is a run, and the disks of a run keep a flag for each byte.
 use Rattle.std.specs.Prelude.{take, drop, replicate, min, ◌-◌}
-use Rattle.std.proofs.Common.{ℕ, ◌+◌, ◌≡◌, true, false, Option, Some, None, List, [], ◌∷◌, ◌++◌, length, refl, sym, subst, ap, ◌∙◌, arith, length-append, length-drop, append_assoc, append-nil, inl, inr}
+use Rattle.std.proofs.Common.{ℕ, zero, suc, slice_get, ◌+◌, ◌≡◌, true, false, Option, Some, None, List, [], ◌∷◌, ◌++◌, length, refl, sym, subst, ap, ◌∙◌, arith, length-append, length-drop, append_assoc, append-nil, inl, inr}
 use Rattle.std.proofs.lemmas.List.{length-take, length-replicate}
 use Rattle.std.proofs.lemmas.Bool.{cases_Bool, eqb-true}
 use Rattle.disk.specs.declared.fault.DiskFault.TheVariants.{Reset, Failed, Gone}
@@ -11,7 +11,7 @@ use Rattle.paxos_block.specs.Places.{image_length}
 use Rattle.slot_log.specs.Shape.{Shape}
 use Rattle.world.specs.Entry.{Filled, Start, Stop, Submit, Recover, Called, Torn, Crashed, Lost, is_on, torn_by, called_by, disk_step}
 use Rattle.world.specs.World.{World, world, MayFollow, IsRunFrom, IsRun}
-use Rattle.world.specs.Happens.{Event, entry_of, with_entry, happens, happen, run}
+use Rattle.world.specs.Happens.{Event, entry_of, with_entry, happens, happen, run, Line, lines_at, answers_from, answers}
 use Rattle.world.proofs.Projections.{disk_here, disk_there}
 use Rattle.world.proofs.Follow.{may_follow}
 
@@ -76,13 +76,17 @@ whole_next c log e m is k = elim (cases_Bool (is_on k e)) [
   | inr off ↦ subst IsWhole (sym (disk_there c log e k off)) (is k)
 ]
 
-whole_from : (c : Shape) (before log : List Filled) → AreWhole c before → IsRunFrom c before log → AreWhole c (before ++ log)
-whole_from c before [] is r = subst (AreWhole c) (sym (append-nil before)) is
-whole_from c before (x ∷ log) is r =
-    subst (AreWhole c) (append_assoc before (x ∷ []) log) (whole_from c (before ++ x ∷ []) log (whole_next c before x r.0 is) r.1)
+-- what holds at first, and with each entry that may follow, holds after every run
+module _ (c : Shape) (P : List Filled → Type 0) (first : P []) (next : (log : List Filled) (e : Filled) → MayFollow c (world c log) e → P log → P (log ++ e ∷ [])) where
+  by_run_from : (before log : List Filled) → P before → IsRunFrom c before log → P (before ++ log)
+  by_run_from before [] is r = subst P (sym (append-nil before)) is
+  by_run_from before (x ∷ log) is r = subst P (append_assoc before (x ∷ []) log) (by_run_from (before ++ x ∷ []) log (next before x r.0 is) r.1)
+
+  pub by_run : (log : List Filled) → IsRun c log → P log
+  by_run log r = by_run_from [] log first r
 
 pub run_whole : (c : Shape) (log : List Filled) → IsRun c log → AreWhole c log
-run_whole c log r = whole_from c [] log (whole_first c) r
+run_whole c log r = by_run c (AreWhole c) (whole_first c) (whole_next c) log r
 
 -- ONE ENTRY MORE
 
@@ -101,6 +105,26 @@ more c log e is m = run_more c [] log e is m
 
 pub less : (c : Shape) (log : List Filled) (e : Filled) → IsRun c (log ++ e ∷ []) → IsRun c log × MayFollow c (world c log) e
 less c log e is = run_less c [] log e is
+
+-- every beginning of a run is one
+take_from : (c : Shape) (before log : List Filled) (i : ℕ) → IsRunFrom c before log → IsRunFrom c before (take i log)
+take_from c before [] zero r = tt
+take_from c before [] (suc i) r = tt
+take_from c before (x ∷ log) zero r = tt
+take_from c before (x ∷ log) (suc i) r = (r.0, take_from c (before ++ x ∷ []) log i r.1)
+
+pub beginning : (c : Shape) (log : List Filled) (i : ℕ) → IsRun c log → IsRun c (take i log)
+beginning c log i r = take_from c [] log i r
+
+-- each entry of a run may follow those before it
+each_from : (c : Shape) (before log : List Filled) (i : ℕ) (e : Filled) → IsRunFrom c before log → slice_get log i ≡ Some e → MayFollow c (world c (before ++ take i log)) e
+each_from c before [] i e r at = absurd (cc)
+each_from c before (x ∷ log) zero e r at = let same : x ≡ e = cc in subst (MayFollow c (world c (before ++ []))) same (subst (λ l. MayFollow c (world c l) x) (sym (append-nil before)) r.0)
+each_from c before (x ∷ log) (suc i) e r at =
+    subst (λ l. MayFollow c (world c l) e) (append_assoc before (x ∷ []) (take i log)) (each_from c (before ++ x ∷ []) log i e r.1 at)
+
+pub each : (c : Shape) (log : List Filled) (i : ℕ) (e : Filled) → IsRun c log → slice_get log i ≡ Some e → MayFollow c (world c (take i log)) e
+each c log i e r at = each_from c [] log i e r at
 
 -- EVENTS
 
@@ -127,3 +151,21 @@ happen_more c log (e ∷ es) event = happen_more c (happens c log e) es event
 
 pub one_more : (c : Shape) (events : List Event) (event : Event) → run c (events ++ event ∷ []) ≡ happens c (run c events) event
 one_more c events event = happen_more c [] events event
+
+answers_more : (c : Shape) (log : List Filled) (place : ℕ) (events : List Event) (event : Event)
+    → answers_from c log place (events ++ event ∷ []) ≡ answers_from c log place events ++ lines_at c (happen c log events) (place + length events) (entry_of c (world c (happen c log events)) event)
+answers_more c log place [] event =
+    let none : place ≡ place + 0 = omega arith in
+    append-nil _ ∙ ap (λ (n : ℕ). lines_at c log n (entry_of c (world c log) event)) none
+answers_more c log place (e ∷ es) event =
+    let here = lines_at c log place (entry_of c (world c log) e) in
+    let last = entry_of c (world c (happen c log (e ∷ es))) event in
+    let far : (place + 1) + length es ≡ place + suc (length es) = omega arith in
+    ap (λ (l : List Line). here ++ l) (answers_more c (happens c log e) (place + 1) es event)
+    ∙ sym (append_assoc here (answers_from c (happens c log e) (place + 1) es) _)
+    ∙ ap (λ (n : ℕ). (here ++ answers_from c (happens c log e) (place + 1) es) ++ lines_at c (happen c log (e ∷ es)) n last) far
+
+pub one_answer_more : (c : Shape) (events : List Event) (event : Event) → answers c (events ++ event ∷ []) ≡ answers c events ++ lines_at c (run c events) (length events) (entry_of c (world c (run c events)) event)
+one_answer_more c events event =
+    let none : 0 + length events ≡ length events = omega arith in
+    answers_more c [] 0 events event ∙ ap (λ (n : ℕ). answers c events ++ lines_at c (run c events) n (entry_of c (world c (run c events)) event)) none

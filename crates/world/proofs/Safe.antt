@@ -9,7 +9,7 @@ use Rattle.lock_command.specs.Command.{spelling}
 use Rattle.slot_log.specs.Shape.{Shape}
 use Rattle.world.specs.Entry.{Filled}
 use Rattle.world.specs.Chosen.{IsLog}
-use Rattle.world.specs.Headline.{Begins, prefix_at, IsSafe, HasOneLog, OneBeginsOther}
+use Rattle.world.specs.Headline.{Begins, prefix_at, IsSafe, HasNoSecondLog, OneBeginsOther}
 
 -- of two beginnings of one list, the shorter begins the longer
 shorter_begins : {A : Type 0} (a b l : List A) → Begins a l → Begins b l → length a ≤ length b → Begins a b
@@ -38,7 +38,7 @@ module _ (c : Shape) (log : List Filled) (commands : List Command) (safe : IsSaf
         ext_get_or [] values all as_many (λ k within.
         sym (get_or_from_slice_get all k (get_or values k []) [] (its k _ (slice_get-get_or values k [] within))))
 
-  pub one_log : HasOneLog c log
+  pub one_log : HasNoSecondLog c log
   one_log first second is_first is_second = its_log first is_first ∙ sym (its_log second is_second)
 
   pub one_begins_other : OneBeginsOther c log

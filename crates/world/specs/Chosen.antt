@@ -1,13 +1,9 @@
 -- What is chosen for a slot, the log of a list of entries, and what hosts acknowledge and recover.
-use Rattle.std.specs.Prelude.{◌≡◌, ◌+◌, ◌<◌, ◌≤◌, ℕ, Bool, true, false, not, List, length, take, nat_lt, slice_get, Option, Some, None}
+use Rattle.std.specs.Prelude.{◌≡◌, ◌+◌, ◌<◌, ◌≤◌, ℕ, true, List, length, take, slice_get, Some}
 use Rattle.disk.specs.Disk.{Call, Answer}
-use Rattle.paxos_block.specs.Row.{SeenBlock}
-use Rattle.attempt.specs.Calls.{Two}
-use Rattle.attempt.specs.Answers.{Answered, Answers, on, heard_as, row_in}
+use Rattle.attempt.specs.Answers.{Answered, on, heard_as}
 use Rattle.attempt.specs.Setup.{Setup}
-use Rattle.attempt.specs.Visits.{are_enough}
-use Rattle.attempt.specs.Proposal.{ballot, others_top}
-use Rattle.attempt.specs.Standing.{HasProposal}
+use Rattle.attempt.specs.Chosen.{Chooses}
 use Rattle.lock_command.specs.declared.command.Command.{Command}
 use Rattle.lock_command.specs.Command.{spelling}
 use Rattle.lock_table.specs.declared.reply.Reply.{Reply}
@@ -23,20 +19,6 @@ abbrev pub at : Shape → List Filled → ℕ → World
 at c log i = world c (take i log)
 
 -- CHOSEN
-
--- a row of phase 2 was read, and nobody else in it is above the ballot
-abbrev pub accepts_in : ℕ → ℕ → Option (List SeenBlock) → Bool
-accepts_in host ballot None = false
-accepts_in host ballot (Some row) = not (nat_lt ballot (others_top host (Some row)))
-
--- on this disk the vote was written, and the row read behind it accepts it
-abbrev pub accepts : Setup → Answers → ℕ → Bool
-accepts s f d = accepts_in s.host (ballot s f) (row_in Two (f d))
-
--- with these answers the attempt has a proposal, and more than half of its disks accept it
-pub record Chooses (s : Setup) (f : Answers) (value : List ℕ) : Type 0 where
-  pub proposal : HasProposal s f value
-  pub majority : are_enough s (accepts s f) ≡ true
 
 -- At entry i a host's attempt hears an answer, and has heard these then.
 pub record Hears (c : Shape) (log : List Filled) (i : ℕ) (s : Setup) (heard : List Answered) : Type 0 where

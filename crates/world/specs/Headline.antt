@@ -54,8 +54,8 @@ pub record IsSafe (c : Shape) (log : List Filled) (commands : List Command) : Ty
   pub holds : (i j host n slot : ℕ) (command : Command) → IsRecovery c log i j host n → IsAcknowledgedBefore c log i slot command → slot < n
 
 -- a list has no second log
-abbrev pub HasOneLog : Shape → List Filled → Type 0
-HasOneLog c log = (first second : List (List ℕ)) → IsLog c log first → IsLog c log second → first ≡ second
+abbrev pub HasNoSecondLog : Shape → List Filled → Type 0
+HasNoSecondLog c log = (first second : List (List ℕ)) → IsLog c log first → IsLog c log second → first ≡ second
 
 -- of two hosts' prefixes, at any two places of a list, one begins the other
 abbrev pub OneBeginsOther : Shape → List Filled → Type 0
@@ -66,11 +66,11 @@ OneBeginsOther c log =
 -- EVERY LIST OF EVENTS
 
 -- It has a log, by which all goes; it has no other; and of two prefixes one begins the other.
-pub record IsOneLog (c : Shape) (events : List Event) : Type 0 where
+pub record HasOneLog (c : Shape) (events : List Event) : Type 0 where
   pub commands : List Command
   pub is_safe : IsSafe c (run c events) commands
-  pub no_other : HasOneLog c (run c events)
+  pub no_other : HasNoSecondLog c (run c events)
   pub prefixes : OneBeginsOther c (run c events)
 
 abbrev pub Headline : Type 0
-Headline = (c : Shape) (events : List Event) → IsOneLog c events
+Headline = (c : Shape) (events : List Event) → HasOneLog c events

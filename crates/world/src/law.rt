@@ -1,12 +1,18 @@
 // What an entry changes, and that events make runs.
-ghost use Rattle.std.specs.Prelude.{◌≡◌, ◌++◌, ◌∷◌, [], ℕ, true, false, List, Some};
+ghost use Rattle.std.specs.Prelude.{◌≡◌, ◌++◌, ◌∷◌, [], ℕ, true, false, List, length, take, slice_get, Some};
 ghost use Rattle.disk.specs.Crash.{IsWhole};
+ghost use Rattle.attempt.specs.Answers.{Answered, on};
+ghost use Rattle.attempt.specs.History.{IsHistory};
+ghost use Rattle.attempt.specs.Setup.{Setup};
+ghost use Rattle.attempt.specs.Status.{Ended, Committed, status};
 ghost use Rattle.lock_command.specs.declared.command.Command.{Command};
 ghost use Rattle.slot_log.specs.Shape.{Shape};
+ghost use Rattle.host.specs.Host.{Doing, Memory, Running, setup_of};
 ghost use Rattle.world.specs.Entry.{Filled, is_on, is_of, disk_step, host_step};
 ghost use Rattle.world.specs.World.{world, MayFollow, IsRun};
-ghost use Rattle.world.specs.Happens.{Event, entry_of, happens, run};
-ghost use Rattle.world.specs.Headline.{IsSafe, HasOneLog, OneBeginsOther};
+ghost use Rattle.world.specs.Happens.{Event, entry_of, happens, run, lines_at, answers};
+ghost use Rattle.world.specs.Chosen.{at, Hears, IsChosenAt};
+ghost use Rattle.world.specs.Headline.{IsSafe, HasNoSecondLog, OneBeginsOther};
 
 /// An entry is a step of its own disk and of its own host, and changes no other.
 pub fn changes_its_own()
@@ -20,32 +26,49 @@ pub fn changes_its_own()
         (world c (log ++ e ∷ [])).host h ≡ (world c log).host h }
 {}
 
-/// A run goes on by any entry that may follow it.
+/// A run goes on by any entry that may follow it. Each beginning of a run is one, and each entry
+/// may follow those before it.
 pub fn goes_on()
     ensures empty { (c : Shape) → IsRun c [] }
     ensures more { (c : Shape) (log : List Filled) (e : Filled) →
         IsRun c log → MayFollow c (world c log) e → IsRun c (log ++ e ∷ []) }
-    ensures before { (c : Shape) (log : List Filled) (e : Filled) →
-        IsRun c (log ++ e ∷ []) → IsRun c log }
-    ensures last { (c : Shape) (log : List Filled) (e : Filled) →
-        IsRun c (log ++ e ∷ []) → MayFollow c (world c log) e }
+    ensures beginnings { (c : Shape) (log : List Filled) (i : ℕ) →
+        IsRun c log → IsRun c (take i log) }
+    ensures each { (c : Shape) (log : List Filled) (i : ℕ) (e : Filled) →
+        IsRun c log → slice_get log i ≡ Some e → MayFollow c (at c log i) e }
     ensures whole { (c : Shape) (log : List Filled) (k : ℕ) →
         IsRun c log → IsWhole ((world c log).disk k) }
 {}
 
-/// The entry that an event brings may follow, so every list of events makes a run.
+/// The entry that an event brings may follow, so every list of events makes a run. One event more
+/// appends its entry, and what the host of that says then.
 pub fn events_make_a_run()
     ensures follows { (c : Shape) (log : List Filled) (event : Event) (e : Filled) → IsRun c log →
         entry_of c (world c log) event ≡ Some e → MayFollow c (world c log) e }
     ensures run { (c : Shape) (events : List Event) → IsRun c (run c events) }
     ensures one_more { (c : Shape) (events : List Event) (event : Event) →
         run c (events ++ event ∷ []) ≡ happens c (run c events) event }
+    ensures one_answer_more { (c : Shape) (events : List Event) (event : Event) →
+        answers c (events ++ event ∷ []) ≡ answers c events
+        ++ lines_at c (run c events) (length events) (entry_of c (world c (run c events)) event) }
+{}
+
+/// What a host's attempt has heard in a run is a history of it, and what it commits is chosen then.
+pub fn attempts_hear_histories()
+    ensures now { (c : Shape) (log : List Filled) (h : ℕ) (m : Memory) (t : Doing) → IsRun c log →
+        (world c log).host h ≡ Running m → m.doing ≡ Some t →
+        IsHistory (setup_of c h m t.operation) t.heard }
+    ensures at_entries { (c : Shape) (log : List Filled) (i : ℕ) (s : Setup)
+        (heard : List Answered) → IsRun c log → Hears c log i s heard → IsHistory s heard }
+    ensures committed { (c : Shape) (log : List Filled) (i : ℕ) (s : Setup)
+        (heard : List Answered) (value : List ℕ) → IsRun c log → Hears c log i s heard →
+        status s (on heard) ≡ Ended (Committed value) → IsChosenAt c log i s.slot value }
 {}
 
 /// A list whose log is known has no other, and of two hosts' prefixes one begins the other.
 pub fn safe_lists_have_one_log()
     ensures one { (c : Shape) (log : List Filled) (commands : List Command) →
-        IsSafe c log commands → HasOneLog c log }
+        IsSafe c log commands → HasNoSecondLog c log }
     ensures prefixes { (c : Shape) (log : List Filled) (commands : List Command) →
         IsSafe c log commands → OneBeginsOther c log }
 {}

@@ -3,4 +3,6 @@
 
 mod law;
 
-pub use law::{changes_its_own, events_make_a_run, goes_on, safe_lists_have_one_log};
+pub use law::{
+    attempts_hear_histories, changes_its_own, events_make_a_run, goes_on, safe_lists_have_one_log,
+};

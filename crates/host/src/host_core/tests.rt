@@ -6,7 +6,7 @@ ghost use Rattle.phases.specs.Calls.{device_call_of, heard_of};
 
 use super::HostCore;
 use crate::answer::HostAnswer;
-use disk::{Disk, DiskFault, NoMemory, SimDisk};
+use disk::{Disk, DiskFault, SimDisk};
 use lock_command::{
     Action, ClientNumber, Command, HostNumber, LockName, LockNumber, RequestNumber,
 };
@@ -15,34 +15,171 @@ use lock_table::Reply;
 use phases::{DeviceCall, Heard};
 use slot_log::{Config, Refusal};
 use std::alloc::{AllocError, Global};
+use std::process::Abort;
 use std::test::Fail;
 use torn_block::ROW_LENGTH;
 
-const FIRST: HostAnswer = HostAnswer::Ack {
-    slot: 0,
-    reply: Reply::Granted,
-};
+/// What is done or seen next. Hosts that run are counted in the order of their starts, from 0; disks by number.
+#[derive(Clone, Copy)]
+enum Step {
+    Start {
+        number: u8,
+    },
+    /// The host that was started last stops.
+    Stop,
+    /// A client's first request: an exclusive lock on "db".
+    Submit {
+        at: usize,
+        client: u8,
+        lock: u16,
+        tries: u8,
+    },
+    Recover {
+        at: usize,
+    },
+    /// The host makes so many calls.
+    Make {
+        at: usize,
+        calls: usize,
+    },
+    /// The host makes calls until its operation ends, and these are so many.
+    End {
+        at: usize,
+        calls: usize,
+    },
+    Says {
+        at: usize,
+        answer: HostAnswer,
+    },
+    /// The host has learned so many commands, and its table so many locks.
+    Knows {
+        at: usize,
+        commands: usize,
+        locks: usize,
+    },
+    /// The next call on the disk fails.
+    Fail {
+        disk: usize,
+    },
+    Crash {
+        disk: usize,
+    },
+    Lose {
+        disk: usize,
+    },
+}
 
-fn blank_disks(alloc: Global, config: Config) -> Result<Vec<SimDisk>, NoMemory> {
-    let mut disks = Vec::new(alloc);
-    for _ in 0..config.disks() {
-        disks
-            .push(SimDisk::new(alloc, config.image_length())?)
-            .map_err(|failed| NoMemory::from(AllocError::from(failed)))?;
+/// The disks, and the hosts that run.
+#[derive(Drop)]
+struct Scene {
+    config: Config,
+    disks: Vec<SimDisk>,
+    hosts: Vec<HostCore>,
+}
+
+impl Scene {
+    fn new(alloc: Global, disks: u8, slots: u16) -> Result<Scene, Fail> {
+        let config = Config::new(disks, slots).ok_or("config")?;
+        let mut blank = Vec::new(alloc);
+        for _ in 0..disks {
+            let disk = SimDisk::new(alloc, config.image_length())?;
+            blank.push(disk).map_err(AllocError::from)?;
+        }
+        Ok(Scene {
+            config,
+            disks: blank,
+            hosts: Vec::new(alloc),
+        })
     }
-    Ok(disks)
+
+    fn start(&mut self, alloc: Global, number: u8) -> Result<(), Fail> {
+        let number = HostNumber::new(number).ok_or("host")?;
+        let host = HostCore::start(alloc, number, self.config)?;
+        self.hosts.push(host).map_err(AllocError::from)?;
+        Ok(())
+    }
+
+    fn stop(&mut self) {
+        if let Some(host) = self.hosts.pop() {
+            host.stop();
+        }
+    }
+
+    fn fault(&mut self, alloc: Global, step: &Step) -> Result<(), Fail> {
+        match step {
+            Step::Fail { disk } => {
+                let disk = self.disks.get_mut(*disk).ok_or("disk")?;
+                disk.fail_next(vec![in alloc; 0]?);
+            }
+            Step::Crash { disk } => {
+                let disk = self.disks.get_mut(*disk).ok_or("disk")?;
+                if disk.attach()?.number < 2 {
+                    disk.crash(&[0]);
+                }
+            }
+            Step::Lose { disk } => {
+                let disk = self.disks.get_mut(*disk).ok_or("disk")?;
+                disk.lose();
+            }
+            _ => {}
+        }
+        Ok(())
+    }
+
+    fn play(&mut self, rt: &impl Abort, alloc: Global, step: &Step) -> Result<(), Fail> {
+        match step {
+            Step::Start { number } => self.start(alloc, *number)?,
+            Step::Stop => self.stop(),
+            Step::Submit {
+                at,
+                client,
+                lock,
+                tries,
+            } => {
+                let host = self.hosts.get_mut(*at).ok_or("host")?;
+                submit(host, *client, *lock, *tries)?;
+            }
+            Step::Recover { at } => recover(self.hosts.get_mut(*at).ok_or("host")?)?,
+            Step::Make { at, calls } => {
+                let host = self.hosts.get_mut(*at).ok_or("host")?;
+                assert_eq!(rt; drive(host, &mut self.disks, *calls), *calls);
+            }
+            Step::End { at, calls } => {
+                let host = self.hosts.get_mut(*at).ok_or("host")?;
+                assert_eq!(rt; drive(host, &mut self.disks, 1000), *calls);
+            }
+            Step::Says { at, answer } => {
+                let host = self.hosts.get(*at).ok_or("host")?;
+                assert_eq!(rt; host.answer(), Some(*answer));
+            }
+            Step::Knows {
+                at,
+                commands,
+                locks,
+            } => {
+                let host = self.hosts.get(*at).ok_or("host")?;
+                let picture = host.table().picture(alloc)?;
+                assert_eq!(rt;
+                    (host.prefix().len(), picture.locks().len()),
+                    (*commands, *locks)
+                );
+            }
+            other => self.fault(alloc, other)?,
+        }
+        Ok(())
+    }
 }
 
-fn start(alloc: Global, number: u8, config: Config) -> Result<HostCore, Fail> {
-    let number = HostNumber::new(number).ok_or("host")?;
-    Ok(HostCore::start(alloc, number, config)?)
+fn play(rt: &impl Abort, alloc: Global, disks: u8, slots: u16, steps: &[Step]) -> Result<(), Fail> {
+    let mut scene = Scene::new(alloc, disks, slots)?;
+    for step in steps {
+        scene.play(rt, alloc, step)?;
+    }
+    Ok(())
 }
 
-// The first request of a client: an exclusive lock on "db".
-fn submit(host: &mut HostCore, client: u8, lock: u16, tries: u8) -> Result<(), Fail>
-    requires { 1 ≤ tries }
-{
-    if !host.idle() {
+fn submit(host: &mut HostCore, client: u8, lock: u16, tries: u8) -> Result<(), Fail> {
+    if !host.idle() || tries == 0 {
         return Err(Fail::from("busy"));
     }
     let command = Command {
@@ -126,173 +263,248 @@ fn drive(host: &mut HostCore, disks: &mut [SimDisk], calls: usize) -> usize {
     calls
 }
 
-fn lose(disks: &mut [SimDisk], number: usize) {
-    if let Some(disk) = disks.get_mut(number) {
-        disk.lose();
+const fn ack(slot: u16, reply: Reply) -> HostAnswer {
+    HostAnswer::Ack { slot, reply }
+}
+
+const fn first_submission(at: usize, tries: u8) -> Step {
+    Step::Submit {
+        at,
+        client: 1,
+        lock: 1,
+        tries,
     }
 }
 
-fn fail_next(alloc: Global, disks: &mut [SimDisk], number: usize) -> Result<(), AllocError> {
-    if let Some(disk) = disks.get_mut(number) {
-        disk.fail_next(vec![in alloc; 0]?);
+const fn second_submission(at: usize) -> Step {
+    Step::Submit {
+        at,
+        client: 2,
+        lock: 2,
+        tries: 1,
     }
-    Ok(())
 }
 
-const fn recovered(length: u16) -> Option<HostAnswer> {
-    Some(HostAnswer::Recovered { length })
+const fn recovered(length: u16) -> HostAnswer {
+    HostAnswer::Recovered { length }
 }
 
 #[test]
 fn a_log_of_one_slot(rt: HostRuntime) -> Result<(), Fail> {
-    let config = Config::new(1, 1).ok_or("config")?;
-    let mut disks = blank_disks(rt.alloc(), config)?;
-    let mut host = start(rt.alloc(), 0, config)?;
-    submit(&mut host, 1, 1, 1)?;
-    assert_eq!(rt; drive(&mut host, &mut disks, 1000), 17);
-    assert_eq!(rt; host.answer(), Some(FIRST));
-    assert_eq!(rt; host.prefix().len(), 1);
-    assert_eq!(rt; host.table().picture(rt.alloc())?.locks().len(), 1);
-    submit(&mut host, 1, 2, 1)?;
     let full = HostAnswer::Refused(Refusal::LogFull);
-    assert_eq!(rt; host.answer(), Some(full));
-    recover(&mut host)?;
-    assert_eq!(rt; host.answer(), recovered(1));
-    host.stop();
-    Ok(())
+    let steps = [
+        Step::Start { number: 0 },
+        first_submission(0, 1),
+        Step::End { at: 0, calls: 17 },
+        Step::Says {
+            at: 0,
+            answer: ack(0, Reply::Granted),
+        },
+        Step::Knows {
+            at: 0,
+            commands: 1,
+            locks: 1,
+        },
+        first_submission(0, 1),
+        Step::Says {
+            at: 0,
+            answer: full,
+        },
+        Step::Recover { at: 0 },
+        Step::Says {
+            at: 0,
+            answer: recovered(1),
+        },
+        Step::Stop,
+    ];
+    play(&rt, rt.alloc(), 1, 1, &steps)
 }
 
 #[test]
-fn three_disks(rt: HostRuntime) -> Result<(), Fail> {
-    let config = Config::new(3, 4).ok_or("config")?;
-    let mut disks = blank_disks(rt.alloc(), config)?;
-    let mut host = start(rt.alloc(), 0, config)?;
-    recover(&mut host)?;
-    assert_eq!(rt; drive(&mut host, &mut disks, 1000), 30);
-    assert_eq!(rt; host.answer(), recovered(0));
-    submit(&mut host, 1, 1, 1)?;
-    assert_eq!(rt; drive(&mut host, &mut disks, 1000), 51);
-    assert_eq!(rt; host.answer(), Some(FIRST));
-    lose(&mut disks, 0);
-    lose(&mut disks, 2);
-    recover(&mut host)?;
-    assert_eq!(rt; drive(&mut host, &mut disks, 1000), 5);
+fn two_of_three_disks_lost(rt: HostRuntime) -> Result<(), Fail> {
     let refusal = HostAnswer::Refused(Refusal::NoMajority);
-    assert_eq!(rt; host.answer(), Some(refusal));
-    assert_eq!(rt; host.prefix().len(), 1);
-    Ok(())
+    let steps = [
+        Step::Start { number: 0 },
+        Step::Recover { at: 0 },
+        Step::End { at: 0, calls: 30 },
+        Step::Says {
+            at: 0,
+            answer: recovered(0),
+        },
+        first_submission(0, 1),
+        Step::End { at: 0, calls: 51 },
+        Step::Says {
+            at: 0,
+            answer: ack(0, Reply::Granted),
+        },
+        Step::Lose { disk: 0 },
+        Step::Lose { disk: 2 },
+        Step::Recover { at: 0 },
+        Step::End { at: 0, calls: 5 },
+        Step::Says {
+            at: 0,
+            answer: refusal,
+        },
+        Step::Knows {
+            at: 0,
+            commands: 1,
+            locks: 1,
+        },
+    ];
+    play(&rt, rt.alloc(), 3, 4, &steps)
 }
 
-// What a stopped host had voted for alone is found by who reads it, and by nobody else.
+// What a stopped host had voted for on one disk is found by who reads that disk, and by nobody else.
 #[test]
 fn recovery_after_a_failed_first_write(rt: HostRuntime) -> Result<(), Fail> {
-    let config = Config::new(3, 2).ok_or("config")?;
-    let mut disks = blank_disks(rt.alloc(), config)?;
-    let mut first = start(rt.alloc(), 0, config)?;
-    submit(&mut first, 1, 1, 1)?;
-    assert_eq!(rt; drive(&mut first, &mut disks, 36), 36);
-    first.stop();
-    let mut second = start(rt.alloc(), 1, config)?;
-    recover(&mut second)?;
-    fail_next(rt.alloc(), &mut disks, 0)?;
-    assert_eq!(rt; drive(&mut second, &mut disks, 1000), 21);
-    assert_eq!(rt; second.answer(), recovered(0));
-    let mut first = start(rt.alloc(), 0, config)?;
-    recover(&mut first)?;
-    assert_eq!(rt; drive(&mut first, &mut disks, 1000), 81);
-    assert_eq!(rt; first.answer(), recovered(1));
-    recover(&mut second)?;
-    assert_eq!(rt; drive(&mut second, &mut disks, 1000), 81);
-    assert_eq!(rt; second.answer(), recovered(1));
-    Ok(())
+    let steps = [
+        Step::Start { number: 0 },
+        first_submission(0, 1),
+        Step::Make { at: 0, calls: 36 },
+        Step::Stop,
+        Step::Start { number: 1 },
+        Step::Recover { at: 0 },
+        Step::Fail { disk: 0 },
+        Step::End { at: 0, calls: 21 },
+        Step::Says {
+            at: 0,
+            answer: recovered(0),
+        },
+        Step::Start { number: 0 },
+        Step::Recover { at: 1 },
+        Step::End { at: 1, calls: 81 },
+        Step::Says {
+            at: 1,
+            answer: recovered(1),
+        },
+        Step::Recover { at: 0 },
+        Step::End { at: 0, calls: 81 },
+        Step::Says {
+            at: 0,
+            answer: recovered(1),
+        },
+    ];
+    play(&rt, rt.alloc(), 3, 2, &steps)
 }
 
 #[test]
 fn recovery_after_a_crash(rt: HostRuntime) -> Result<(), Fail> {
-    let config = Config::new(1, 2).ok_or("config")?;
-    let mut disks = blank_disks(rt.alloc(), config)?;
-    let mut host = start(rt.alloc(), 0, config)?;
-    submit(&mut host, 1, 1, 1)?;
-    assert_eq!(rt; drive(&mut host, &mut disks, 15), 15);
-    let mut host = start(rt.alloc(), 0, config)?;
-    recover(&mut host)?;
-    assert_eq!(rt; drive(&mut host, &mut disks, 4), 4);
-    for disk in disks.iter_mut() {
-        if disk.attach()?.number < 2 {
-            disk.crash(&[0]);
-        }
-    }
-    let mut host = start(rt.alloc(), 0, config)?;
-    recover(&mut host)?;
-    assert_eq!(rt; drive(&mut host, &mut disks, 1000), 27);
-    assert_eq!(rt; host.answer(), recovered(1));
-    Ok(())
+    let steps = [
+        Step::Start { number: 0 },
+        first_submission(0, 1),
+        Step::Make { at: 0, calls: 15 },
+        Step::Stop,
+        Step::Start { number: 0 },
+        Step::Recover { at: 0 },
+        Step::Make { at: 0, calls: 4 },
+        Step::Stop,
+        Step::Crash { disk: 0 },
+        Step::Start { number: 0 },
+        Step::Recover { at: 0 },
+        Step::End { at: 0, calls: 27 },
+        Step::Says {
+            at: 0,
+            answer: recovered(1),
+        },
+        Step::Knows {
+            at: 0,
+            commands: 1,
+            locks: 1,
+        },
+    ];
+    play(&rt, rt.alloc(), 1, 2, &steps)
 }
 
 #[test]
 fn a_disk_fails_and_another_is_lost(rt: HostRuntime) -> Result<(), Fail> {
-    let config = Config::new(3, 2).ok_or("config")?;
-    let mut disks = blank_disks(rt.alloc(), config)?;
-    let mut first = start(rt.alloc(), 0, config)?;
-    submit(&mut first, 1, 1, 1)?;
-    fail_next(rt.alloc(), &mut disks, 0)?;
-    assert_eq!(rt; drive(&mut first, &mut disks, 1000), 35);
-    assert_eq!(rt; first.answer(), Some(FIRST));
-    lose(&mut disks, 2);
-    let mut second = start(rt.alloc(), 1, config)?;
-    recover(&mut second)?;
-    assert_eq!(rt; drive(&mut second, &mut disks, 1000), 56);
-    assert_eq!(rt; second.answer(), recovered(1));
-    Ok(())
+    let steps = [
+        Step::Start { number: 0 },
+        first_submission(0, 1),
+        Step::Fail { disk: 0 },
+        Step::End { at: 0, calls: 35 },
+        Step::Says {
+            at: 0,
+            answer: ack(0, Reply::Granted),
+        },
+        Step::Lose { disk: 2 },
+        Step::Start { number: 1 },
+        Step::Recover { at: 1 },
+        Step::End { at: 1, calls: 56 },
+        Step::Says {
+            at: 1,
+            answer: recovered(1),
+        },
+    ];
+    play(&rt, rt.alloc(), 3, 2, &steps)
 }
 
 #[test]
 fn the_first_command_before_the_own(rt: HostRuntime) -> Result<(), Fail> {
-    let config = Config::new(1, 4).ok_or("config")?;
-    let mut disks = blank_disks(rt.alloc(), config)?;
-    let mut first = start(rt.alloc(), 0, config)?;
-    let mut second = start(rt.alloc(), 1, config)?;
-    submit(&mut first, 1, 1, 1)?;
-    assert_eq!(rt; drive(&mut first, &mut disks, 1000), 17);
-    assert_eq!(rt; first.answer(), Some(FIRST));
-    submit(&mut second, 1, 1, 1)?;
-    assert_eq!(rt; drive(&mut second, &mut disks, 1000), 34);
-    let reply = Reply::Granted;
-    assert_eq!(rt; second.answer(), Some(HostAnswer::Ack { slot: 1, reply }));
-    assert_eq!(rt; second.prefix().len(), 2);
-    Ok(())
+    let steps = [
+        Step::Start { number: 0 },
+        Step::Start { number: 1 },
+        first_submission(0, 1),
+        Step::End { at: 0, calls: 17 },
+        Step::Says {
+            at: 0,
+            answer: ack(0, Reply::Granted),
+        },
+        first_submission(1, 1),
+        Step::End { at: 1, calls: 34 },
+        Step::Says {
+            at: 1,
+            answer: ack(1, Reply::Granted),
+        },
+        Step::Knows {
+            at: 1,
+            commands: 2,
+            locks: 1,
+        },
+    ];
+    play(&rt, rt.alloc(), 1, 4, &steps)
 }
 
 #[test]
 fn outrun_by_a_later_host(rt: HostRuntime) -> Result<(), Fail> {
-    let config = Config::new(1, 2).ok_or("config")?;
-    let mut disks = blank_disks(rt.alloc(), config)?;
-    let mut first = start(rt.alloc(), 0, config)?;
-    let mut second = start(rt.alloc(), 1, config)?;
-    submit(&mut first, 1, 1, 1)?;
-    assert_eq!(rt; drive(&mut first, &mut disks, 4), 4);
-    submit(&mut second, 2, 2, 1)?;
-    assert_eq!(rt; drive(&mut second, &mut disks, 1000), 17);
-    assert_eq!(rt; second.answer(), Some(FIRST));
-    assert_eq!(rt; drive(&mut first, &mut disks, 1000), 6);
     let refusal = HostAnswer::Refused(Refusal::Outrun);
-    assert_eq!(rt; first.answer(), Some(refusal));
-    Ok(())
+    let steps = [
+        Step::Start { number: 0 },
+        Step::Start { number: 1 },
+        first_submission(0, 1),
+        Step::Make { at: 0, calls: 4 },
+        second_submission(1),
+        Step::End { at: 1, calls: 17 },
+        Step::Says {
+            at: 1,
+            answer: ack(0, Reply::Granted),
+        },
+        Step::End { at: 0, calls: 6 },
+        Step::Says {
+            at: 0,
+            answer: refusal,
+        },
+    ];
+    play(&rt, rt.alloc(), 1, 2, &steps)
 }
 
 #[test]
 fn outrun_once_and_tried_again(rt: HostRuntime) -> Result<(), Fail> {
-    let config = Config::new(3, 4).ok_or("config")?;
-    let mut disks = blank_disks(rt.alloc(), config)?;
-    let mut first = start(rt.alloc(), 0, config)?;
-    let mut second = start(rt.alloc(), 1, config)?;
-    submit(&mut first, 1, 1, 2)?;
-    assert_eq!(rt; drive(&mut first, &mut disks, 16), 16);
-    submit(&mut second, 2, 2, 1)?;
-    assert_eq!(rt; drive(&mut second, &mut disks, 1000), 51);
-    assert_eq!(rt; second.answer(), Some(FIRST));
-    assert_eq!(rt; drive(&mut first, &mut disks, 1000), 109);
-    let reply = Reply::Queued;
-    assert_eq!(rt; first.answer(), Some(HostAnswer::Ack { slot: 1, reply }));
-    Ok(())
+    let steps = [
+        Step::Start { number: 0 },
+        Step::Start { number: 1 },
+        first_submission(0, 2),
+        Step::Make { at: 0, calls: 16 },
+        second_submission(1),
+        Step::End { at: 1, calls: 51 },
+        Step::Says {
+            at: 1,
+            answer: ack(0, Reply::Granted),
+        },
+        Step::End { at: 0, calls: 109 },
+        Step::Says {
+            at: 0,
+            answer: ack(1, Reply::Queued),
+        },
+    ];
+    play(&rt, rt.alloc(), 3, 4, &steps)
 }

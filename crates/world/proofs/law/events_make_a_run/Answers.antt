@@ -9,3 +9,6 @@ returns-clause-run c = runs.run_is_run
 
 pub returns-clause-one_more : goal.returns-clause-one_more
 returns-clause-one_more c = runs.one_more
+
+pub returns-clause-one_answer_more : goal.returns-clause-one_answer_more
+returns-clause-one_answer_more c = runs.one_answer_more

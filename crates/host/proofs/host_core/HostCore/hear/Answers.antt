@@ -1,4 +1,4 @@
-use Rattle.std.proofs.Common.{◌≡◌, ℕ, Bool, List, ◌++◌, Option, Some, None, sym, ◌∙◌, ap, subst}
+use Rattle.std.proofs.Common.{◌≡◌, List, ◌++◌, Option, None, sym, ◌∙◌, ap, subst}
 use Rattle.std.specs.Option.{option_map}
 use Rattle.attempt.specs.Answers.{Answered}
 use Rattle.lock_command.specs.declared.command.Command.{Command}
@@ -9,11 +9,11 @@ use Rattle.slot_log.specs.Learning as log
 use Rattle.slot_log.specs.declared.outcome.Outcome.{Outcome}
 use Rattle.host.specs.Host.{hears, reply_after}
 use Rattle.host.specs.Kept.{Kept, LeadsTo, is_idle, values_of, answer_of, option_list}
-use Rattle.host.proofs.Hosts.{Carries, busy_doing, heard_none, heard_value, follows}
+use Rattle.host.proofs.Hosts.{Carries, busy_doing, heard_none, heard_value, follows, alone}
 use Rattle.host.proofs.host_core.HostCore.hear.Goals as goal
 
-pub returns-in_default : goal.returns-in_default
-returns-in_default c c' h m leads =
+pub returns-in_default-clause-leads : goal.returns-in_default-clause-leads
+returns-in_default-clause-leads c c' h m leads =
     let s = c.self.inside in
     let k : Kept = record { learner = s.learner; prefix = s.prefix.items; said = s.said } in
     let new : Kept = record { learner = c.hear.new.self; prefix = s.prefix.items; said = c.of-self-inside.result } in
@@ -32,8 +32,8 @@ returns-in_default c c' h m leads =
     (c.of-self-inside.ensures ∙ ap (λ (o : Option Outcome). answer_of o None) c.said.ensures)
     after.2)
 
-pub returns : goal.returns
-returns c c' h m leads =
+pub returns-clause-leads : goal.returns-clause-leads
+returns-clause-leads c c' h m leads =
     let s = c.self.inside in
     let k : Kept = record { learner = s.learner; prefix = s.prefix.items; said = s.said } in
     let new : Kept = record { learner = c.judge-reply.new.learner; prefix = c.judge-reply.new.prefix.items; said = c.of-self-inside-2.result } in
@@ -55,3 +55,15 @@ returns c c' h m leads =
     (c.judge-reply.ensures.prefix ∙ ap (λ (before : List Command). before ++ option_list (decoded value)) known.prefix ∙ sym after.1)
     (c.of-self-inside-2.ensures ∙ ap (λ (o : Option Outcome). answer_of o c.judge-reply.result) c.said-2.ensures)
     (subst IsCarried (sym reply) after.2))
+
+pub returns-in_default-clause-alone : goal.returns-in_default-clause-alone
+returns-in_default-clause-alone c c' h m leads =
+    let s = c.self.inside in
+    let k : Kept = record { learner = s.learner; prefix = s.prefix.items; said = s.said } in
+    alone c' h m k c.args.self.now (heard_of c.args.heard.now) c.self.view_is leads (c.hear.ensures.alone c' h)
+
+pub returns-clause-alone : goal.returns-clause-alone
+returns-clause-alone c c' h m leads =
+    let s = c.self.inside in
+    let k : Kept = record { learner = s.learner; prefix = s.prefix.items; said = s.said } in
+    alone c' h m k c.args.self.now (heard_of c.args.heard.now) c.self.view_is leads (c.hear.ensures.alone c' h)

@@ -1,4 +1,4 @@
-use Rattle.std.proofs.Common.{◌≡◌, ◌+◌, ◌<◌, ◌≤◌, refl, length, subst, sym, slice_set, None, ℕ, arith, ◌∙◌, ap}
+use Rattle.std.proofs.Common.{◌≡◌, ◌+◌, ◌<◌, refl, length, subst, slice_set, None, ℕ, arith, ◌∙◌, ap}
 use Rattle.torn_block.specs.Plan.{plan_by}
 use Rattle.phases.specs.Moves.{IsPassed}
 use Rattle.phases.proofs.Visiting.{passes_spent, begins_write}

@@ -1,4 +1,4 @@
-use Rattle.std.proofs.Common.{◌≡◌, ◌∙◌, sym, subst, ap, Option, Some, None, true, false, refl, true≢false}
+use Rattle.std.proofs.Common.{◌≡◌, ◌∙◌, sym, Option, Some, None, refl, true≢false}
 use Rattle.torn_block.specs.declared.write_steps.WriteCall.{WriteCall}
 use Rattle.attempt.specs.Answers.{Done, more}
 use Rattle.phases.specs.Kept.{Follows}

@@ -1,4 +1,4 @@
-use Rattle.std.proofs.Common.{◌≡◌, sym, subst}
+use Rattle.std.proofs.Common.{sym, subst}
 use Rattle.attempt.specs.Answers.{more}
 use Rattle.phases.specs.declared.heard.Heard as code_heard
 use Rattle.phases.specs.Calls.{heard_of}

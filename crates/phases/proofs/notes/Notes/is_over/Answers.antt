@@ -1,4 +1,4 @@
-use Rattle.std.proofs.Common.{◌≡◌, true, false, Bool, not, refl, sym, ap, ◌∙◌}
+use Rattle.std.proofs.Common.{◌≡◌, true, false, Bool, not, refl, sym, ◌∙◌}
 use Rattle.std.proofs.lemmas.Bool.{OnTrue_at, OnFalse_at, OnTrue_from, OnFalse_from}
 use Rattle.phases.proofs.Ending.{few_by, is_over, majority_is, visits_one}
 use Rattle.phases.proofs.notes.Notes.is_over.Goals as goal

@@ -1,5 +1,4 @@
-use Rattle.std.proofs.Common.{◌≡◌, ◌∙◌, sym, subst, ap, Some, None, arith}
-use Rattle.attempt.specs.Setup.{Setup}
+use Rattle.std.proofs.Common.{sym, subst, Some}
 use Rattle.phases.specs.declared.end.End.TheVariants as end
 use Rattle.phases.specs.declared.notes.Notes.{Notes}
 use Rattle.phases.specs.declared.phase.Phase as code_phase

@@ -1,4 +1,4 @@
-use Rattle.std.proofs.Common.{◌≡◌, ◌<◌, ap, sym, ◌∙◌, ℕ, None, arith}
+use Rattle.std.proofs.Common.{◌≡◌, ◌<◌, ap, ◌∙◌, arith}
 use Rattle.phases.specs.Kept.{visit_at}
 use Rattle.phases.proofs.Visiting.{passes_none}
 use Rattle.phases.proofs.notes.Notes.visit.Goals as goal

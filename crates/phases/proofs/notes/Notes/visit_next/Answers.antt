@@ -1,4 +1,4 @@
-use Rattle.std.proofs.Common.{◌≡◌, subst, ℕ, arith}
+use Rattle.std.proofs.Common.{◌≡◌, subst, arith}
 use Rattle.phases.specs.Moves.{IsPassed}
 use Rattle.phases.proofs.notes.Notes.visit_next.Goals as goal
 

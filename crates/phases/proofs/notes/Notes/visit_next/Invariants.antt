@@ -1,4 +1,4 @@
-use Rattle.std.proofs.Common.{◌≡◌, ◌≤◌}
+use Rattle.std.proofs.Common.{◌≡◌}
 use Rattle.attempt.specs.Answers.{Answers}
 use Rattle.attempt.specs.Setup.{Setup}
 use Rattle.phases.specs.Kept.{IsSound, IsSameAttempt}

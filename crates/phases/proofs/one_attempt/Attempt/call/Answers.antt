@@ -1,5 +1,4 @@
-use Rattle.std.proofs.Common.{◌≡◌, ◌∙◌, ap, sym, subst, Option, Some, None}
-use Rattle.phases.specs.declared.end.End as code_end
+use Rattle.std.proofs.Common.{◌≡◌, ◌∙◌, ap, sym, subst, Some, None}
 use Rattle.phases.specs.declared.notes.Notes.{Notes}
 use Rattle.phases.specs.Kept.{LeadsTo}
 use Rattle.phases.proofs.Calling.{call_is}

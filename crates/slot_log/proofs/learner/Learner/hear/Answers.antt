@@ -1,9 +1,9 @@
-use Rattle.std.proofs.Common.{ℕ, List, [], ◌∷◌, ◌++◌, Option, Some, rules, refl, sym, ◌∙◌, ap, subst}
+use Rattle.std.proofs.Common.{[], ◌∷◌, ◌++◌, rules, sym, ◌∙◌, ap, subst}
 use Rattle.attempt.specs.Answers.{Answered}
 use Rattle.phases.specs.Calls.{heard_of}
-use Rattle.slot_log.specs.Learning.{Memory, setup_of, with_floor, hears}
+use Rattle.slot_log.specs.Learning.{Memory, setup_of, hears}
 use Rattle.slot_log.specs.Kept.{Kept, LeadsTo, IsOver, is_idle, is_idle_with}
-use Rattle.slot_log.proofs.Learners.{task_is, counted, hears_end}
+use Rattle.slot_log.proofs.Learners.{task_is, counted, hears_end, alone}
 use Rattle.slot_log.proofs.learner.Learner.hear.Goals as goal
 
 pub returns-in-Some-take-clause-leads : goal.returns-in-Some-take-clause-leads
@@ -19,7 +19,7 @@ returns-in-Some-take-clause-leads c c' h m leads =
     let doing = task_is c' h m k task leads' (sym c.take.ensures.value ∙ c.in-Some-take.is) in
     let t = doing.0 in
     let heard = c.hear.ensures.leads (setup_of c' h m t.operation) t.heard doing.2.heard in
-    let over : IsOver e = search rules in
+    let over : IsOver e = c.end-in-Some.ensures.valueless in
     let ends = c.in-Some.ensures.end (setup_of c' h m t.operation) (t.heard ++ x ∷ []) heard in
     let took = c.ballot-ballot.ensures (setup_of c' h m t.operation) (t.heard ++ x ∷ []) heard in
     let is = c.count_ballot.ensures in
@@ -36,3 +36,15 @@ returns-in-Some-take-clause-leads c c' h m leads =
     (ap (λ (k : Kept). k.learned) is)
     (ap (λ (k : Kept). k.floor) is)
     (ap (λ (k : Kept). k.said) is))))
+
+pub returns-in-Some-take-clause-alone : goal.returns-in-Some-take-clause-alone
+returns-in-Some-take-clause-alone c c' h m leads =
+    let s = c.self.inside in
+    let k : Kept = record { host = s.host; shape = s.config; learned = s.learned.items; floor = s.floor; task = s.task; attempt = s.attempt; said = s.said } in
+    alone c' h m k c.args.self.now c.hear.new.self (heard_of c.args.heard.now) c.self.view_is leads c.hear.ensures.leads
+
+pub returns-in-None-clause-alone : goal.returns-in-None-clause-alone
+returns-in-None-clause-alone c c' h m leads =
+    let s = c.self.inside in
+    let k : Kept = record { host = s.host; shape = s.config; learned = s.learned.items; floor = s.floor; task = s.task; attempt = s.attempt; said = s.said } in
+    alone c' h m k c.args.self.now c.hear.new.self (heard_of c.args.heard.now) c.self.view_is leads c.hear.ensures.leads

@@ -1,4 +1,4 @@
-use Rattle.std.proofs.Common.{ℕ, Bool, List, Option, Some, sym, ◌∙◌, ap, subst}
+use Rattle.std.proofs.Common.{sym, ◌∙◌, ap, subst}
 use Rattle.slot_log.specs.Learning.{Memory, takes}
 use Rattle.slot_log.specs.Kept.{Kept, LeadsTo}
 use Rattle.slot_log.proofs.Learners.{task_is, takes_value}

@@ -1,0 +1,52 @@
+ghost use Rattle.std.specs.Prelude.{◌≡◌, length};
+ghost use Rattle.torn_block.specs.declared.layout.TheConstants.{SLOTS};
+ghost use Rattle.paxos_block.specs.Places;
+ghost use Rattle.attempt.specs.History.{Fits};
+ghost use Rattle.phases.specs.Calls.{IsWithin, device_call_of, heard_of};
+
+use disk::{Disk, NoMemory, SimDisk};
+use paxos_block::image_length;
+use phases::{DeviceCall, Heard};
+use std::alloc::Global;
+use torn_block::{ROW_LENGTH, SLOTS};
+
+/// A simulated disk with rows for all slots.
+#[derive(Drop)]
+pub struct Image {
+    disk: SimDisk,
+    ghost whole: { length disk.disk.bytes ≡ Places.image_length SLOTS },
+}
+
+impl Image {
+    /// All rows are blank.
+    pub fn new(alloc: Global) -> Result<Image, NoMemory> {
+        Ok(Image {
+            disk: SimDisk::new(alloc, image_length(SLOTS))?,
+        })
+    }
+
+    /// Makes the call. A read goes to `row`.
+    pub fn answer<'a>(&mut self, call: &DeviceCall<'_>, row: &'a mut [u8; ROW_LENGTH]) -> Heard<'a>
+        requires { IsWithin (Places.image_length SLOTS) call.now }
+        ensures { Fits (device_call_of call.now) (heard_of result) }
+    {
+        match call {
+            DeviceCall::Attach => match self.disk.attach() {
+                Ok(boot) => Heard::Booted(boot),
+                Err(fault) => Heard::Fault(fault),
+            },
+            DeviceCall::Sync { boot } => match self.disk.sync(*boot) {
+                Ok(()) => Heard::Done,
+                Err(fault) => Heard::Fault(fault),
+            },
+            DeviceCall::Read { boot, at } => match self.disk.read(*boot, *at, row) {
+                Ok(()) => Heard::Told(row),
+                Err(fault) => Heard::Fault(fault),
+            },
+            DeviceCall::Write { boot, at, bytes } => match self.disk.write(*boot, *at, bytes) {
+                Ok(()) => Heard::Done,
+                Err(fault) => Heard::Fault(fault),
+            },
+        }
+    }
+}

@@ -1,0 +1,198 @@
+-- In a run each host's attempt has heard a history, and what it ends committed with is chosen.
+use Rattle.std.specs.Prelude.{not, nat_lt, nat_le, is_some, if◌then◌else◌}
+use Rattle.std.proofs.Common.{ℕ, ◌-◌, ◌<◌, ◌≤◌, ◌≡◌, Bool, true, false, Option, Some, None, List, [], ◌∷◌, ◌++◌, length, take, refl, sym, subst, ap, ◌∙◌, arith}
+use Rattle.std.proofs.lemmas.Bool.{eqb-true, cases_Bool, ltb-false, le-ltb}
+use Rattle.std.proofs.Common.{inl, inr}
+use Rattle.disk.specs.Disk.{DiskState, Call, Attach, Read, Write, Sync, Answer, Booted, Told, Done, Fault, Step, success_of}
+use Rattle.attempt.specs.Answers.{Answered, on, heard_as, row_in}
+use Rattle.attempt.specs.Setup.{Setup}
+use Rattle.attempt.specs.Status.{Status, Due, Ended, End, Committed, Empty, Outrun, NoMajority, BallotsSpent, status, taken}
+use Rattle.attempt.specs.History.{Fits, IsAnswerTo, IsHistory}
+use Rattle.attempt.specs.Standing.{HasProposal}
+use Rattle.attempt.specs.Visits.{visited, is_left}
+use Rattle.attempt.specs.Proposal.{ballot, others_top, others_mbal}
+use Rattle.attempt.specs.Calls.{Two}
+use Rattle.attempt.proofs.Replies.{history_more}
+use Rattle.attempt.proofs.Statuses.{HasChosen, told_by, enough_more}
+use Rattle.attempt.proofs.Visitors.{left_is, left_over}
+use Rattle.attempt.proofs.Histories.{history_reached}
+use Rattle.paxos_block.specs.Row.{SeenBlock}
+use Rattle.paxos_block.proofs.VoteLemmas.{greatest_is_greatest}
+use Rattle.lock_command.specs.declared.command.Command.{Command}
+use Rattle.lock_command.specs.Reading.{decoded}
+use Rattle.slot_log.specs.Shape.{Shape}
+use Rattle.slot_log.specs.declared.outcome.Refusal.TheVariants as refusal
+use Rattle.host.specs.declared.answer.HostAnswer.TheVariants.{Refused}
+use Rattle.host.specs.Host.{Operation, Submitting, Recovering, Doing, Memory, Host, Stopped, Running, setup_of, says, begins, full_answer, goes_on, is_submitted, after_learning, learns, takes, tries_again, ended, by_status, with_heard, with_floor, hears, next_doing, next_of}
+use Rattle.world.specs.Entry.{Filled, Start, Stop, Submit, Recover, Called, Torn, Crashed, Lost, is_of, host_step, started, begins as begins_on}
+use Rattle.world.specs.World.{World, world, MayFollow, IsRun}
+use Rattle.world.proofs.Projections.{host_here, host_there}
+use Rattle.world.specs.Chosen.{at, accepts_in, accepts, Chooses, Hears, IsChosenAt}
+use Rattle.world.proofs.Runs.{by_run, beginning, each}
+
+-- A STEP'S ANSWER FITS ITS CALL
+
+fits_success : (disk : DiskState) (call : Call) → Fits call (heard_as (success_of disk call))
+fits_success disk Attach = tt
+fits_success disk (Read boot at len) = tt
+fits_success disk (Write boot at from) = tt
+fits_success disk (Sync boot) = tt
+
+fits_by : (disk : DiskState) (call : Call) (answer : Answer) → answer ≡ success_of disk call → Fits call (heard_as answer)
+fits_by disk call answer is = subst (λ (a : Answer). Fits call (heard_as a)) (sym is) (fits_success disk call)
+
+pub step_fits : (disk new : DiskState) (call : Call) (answer : Answer) → Step disk call answer new → Fits call (heard_as answer)
+step_fits disk new call (Booted boot) step = fits_by disk call (Booted boot) step.2.0
+step_fits disk new call (Told bytes) step = fits_by disk call (Told bytes) step.2.0
+step_fits disk new call Done step = fits_by disk call Done step.2.0
+step_fits disk new call (Fault fault) step = tt
+
+-- WHAT A HOST HAS HEARD
+
+module _ (c : Shape) (h : ℕ) where
+  -- the attempt under way has heard a history
+  abbrev pub IsHeardIn : Memory → Option Doing → Type 0
+  IsHeardIn m None = Unit {0}
+  IsHeardIn m (Some t) = IsHistory (setup_of c h m t.operation) t.heard
+
+  abbrev pub IsHeard : Host → Type 0
+  IsHeard Stopped = Unit {0}
+  IsHeard (Running m) = IsHeardIn m m.doing
+
+  one_of : (b : Bool) (first other : Memory) → IsHeard (Running first) → IsHeard (Running other) → IsHeard (Running (if b then first else other))
+  one_of true first other is_first is_other = is_first
+  one_of false first other is_first is_other = is_other
+
+  -- so it is where an attempt begins, or none is under way
+  begun : (m : Memory) (operation : Operation) (tries : ℕ) → IsHeard (Running (goes_on c m operation tries))
+  begun m operation tries = one_of (nat_lt (length m.learned) c.slots) (begins m operation tries) (says m (full_answer operation (length m.learned))) tt tt
+
+  tried : (m : Memory) (operation : Operation) (tries : ℕ) → IsHeard (Running (tries_again m operation tries))
+  tried m operation tries = one_of (nat_le tries 1) (says m (Refused refusal.Outrun)) (begins m operation (tries - 1)) tt tt
+
+  learned : (m : Memory) (t : Doing) (command : Command) (b : Bool) → IsHeard (Running (after_learning c m t command b))
+  learned m t command true = tt
+  learned m t command false = begun (learns m command) t.operation t.tries
+
+  took : (m : Memory) (t : Doing) (ballot : ℕ) (value : List ℕ) (o : Option Command) → IsHeard (Running (takes c m t ballot value o))
+  took m t ballot value None = tt
+  took m t ballot value (Some command) = learned m t command (is_submitted t.operation value)
+
+  over : (m : Memory) (t : Doing) (ballot : ℕ) (end : End) → IsHeard (Running (ended c m t ballot end))
+  over m t ballot (Committed value) = took m t ballot value (decoded value)
+  over m t ballot Empty = tt
+  over m t ballot (Outrun mbal) = tried (with_floor (with_floor m ballot) mbal) t.operation t.tries
+  over m t ballot NoMajority = tt
+  over m t ballot BallotsSpent = tt
+
+  goes : (m : Memory) (t : Doing) (ballot : ℕ) (st : Status) → IsHistory (setup_of c h m t.operation) t.heard → IsHeard (Running (by_status c m t ballot st))
+  goes m t ballot (Due phase disk) is = is
+  goes m t ballot (Ended end) is = over m t ballot end
+
+  -- and behind an answer to the call that was due
+  heard_more : (m : Memory) (o : Option Doing) (x : Answered) → IsHeardIn m o → IsAnswerTo (next_doing c h m o) x → IsHeard (Running (hears c h m o x))
+  heard_more m None x is answers = absurd answers
+  heard_more m (Some t) x is answers =
+      let s = setup_of c h m t.operation in
+      goes m (with_heard t x) (taken s (on (t.heard ++ x ∷ []))) (status s (on (t.heard ++ x ∷ []))) (history_more s t.heard x is answers)
+
+  heard_on : (old : Host) (k : ℕ) (call : Call) (answer : Answer) → next_of c h old ≡ Some (k, call) → Fits call (heard_as answer) → IsHeard old → (left : List ℕ) → IsHeard (host_step c h old (Called h k call answer left))
+  heard_on Stopped k call answer next fits is left = tt
+  heard_on (Running m) k call answer next fits is left =
+      heard_more m m.doing (record { disk = k; heard = heard_as answer }) is
+      (subst (λ (o : Option (ℕ × Call)). IsAnswerTo o (record { disk = k; heard = heard_as answer })) (sym next) (refl, fits))
+
+  operated : (old : Host) (operation : Operation) (tries : ℕ) (e : Filled) → host_step c h old e ≡ begins_on c old operation tries → IsHeard (host_step c h old e)
+  operated Stopped operation tries e is = subst IsHeard (sym is) tt
+  operated (Running m) operation tries e is = subst IsHeard (sym is) (begun m operation tries)
+
+  start_heard : (old : Host) → IsHeard old → IsHeard (started old)
+  start_heard Stopped is = tt
+  start_heard (Running m) is = is
+
+  -- an entry of the host keeps it so
+  step_heard : (w : World) (e : Filled) → is_of h e ≡ true → MayFollow c w e → IsHeard (w.host h) → IsHeard (host_step c h (w.host h) e)
+  step_heard w (Start g) of m is = start_heard (w.host h) is
+  step_heard w (Stop g) of m is = tt
+  step_heard w (Submit g command tries) of m is = operated (w.host h) (Submitting command) tries (Submit g command tries) refl
+  step_heard w (Recover g tries) of m is = operated (w.host h) Recovering tries (Recover g tries) refl
+  step_heard w (Called g k call answer left) of m is =
+      let next : next_of c h (w.host h) ≡ Some (k, call) = subst (λ (i : ℕ). next_of c i (w.host i) ≡ Some (k, call)) (eqb-true g h of) m.0 in
+      heard_on (w.host h) k call answer next (step_fits (w.disk k) _ call answer m.1) is left
+  step_heard w (Torn g k call left) of m is = tt
+  step_heard w (Crashed k left) of m is = absurd (cc)
+  step_heard w (Lost k) of m is = absurd (cc)
+
+-- every host of a run has heard histories
+pub run_heard : (c : Shape) (log : List Filled) → IsRun c log → (h : ℕ) → IsHeard c h ((world c log).host h)
+run_heard c log run =
+    by_run c (λ (l : List Filled). (h : ℕ) → IsHeard c h ((world c l).host h)) (λ h. tt)
+    (λ l e may is h. elim (cases_Bool (is_of h e)) [
+      | inl of ↦ subst (IsHeard c h) (sym (host_here c l e h of)) (step_heard c h (world c l) e of may (is h))
+      | inr off ↦ subst (IsHeard c h) (sym (host_there c l e h off)) (is h)
+    ])
+    log run
+
+pub history : (c : Shape) (log : List Filled) (h : ℕ) (m : Memory) (t : Doing) → IsRun c log → (world c log).host h ≡ Running m → m.doing ≡ Some t → IsHistory (setup_of c h m t.operation) t.heard
+history c log h m t run running does =
+    subst (IsHeardIn c h m) does (subst (IsHeard c h) running (run_heard c log run h))
+
+-- AT AN ENTRY
+
+module _ (c : Shape) (log : List Filled) (i : ℕ) (s : Setup) (heard : List Answered) (run : IsRun c log) (hears : Hears c log i s heard) where
+  -- the call was due
+  due : next_doing c hears.host hears.memory (Some hears.doing) ≡ Some (hears.disk, hears.call)
+  due =
+      subst (λ (o : Option Doing). next_doing c hears.host hears.memory o ≡ Some (hears.disk, hears.call)) hears.does
+      (subst (λ (h : Host). next_of c hears.host h ≡ Some (hears.disk, hears.call)) hears.running (each c log i _ run hears.entry).0)
+
+  answered : IsAnswerTo (next_doing c hears.host hears.memory (Some hears.doing)) (record { disk = hears.disk; heard = heard_as hears.answer })
+  answered =
+      let fits = step_fits ((at c log i).disk hears.disk) _ hears.call hears.answer (each c log i _ run hears.entry).1 in
+      subst (λ (o : Option (ℕ × Call)). IsAnswerTo o (record { disk = hears.disk; heard = heard_as hears.answer })) (sym due) (refl, fits)
+
+  -- what the attempt has heard with this answer is a history
+  pub heard_then : IsHistory s heard
+  heard_then =
+      let before = history c (take i log) hears.host hears.memory hears.doing (beginning c log i run) hears.running hears.does in
+      let t = hears.doing in
+      let x : Answered = record { disk = hears.disk; heard = heard_as hears.answer } in
+      let more = history_more (setup_of c hears.host hears.memory t.operation) t.heard x before answered in
+      subst (λ (xs : List Answered). IsHistory s xs) (sym hears.is_heard) (subst (λ (r : Setup). IsHistory r (t.heard ++ x ∷ [])) (sym hears.is_setup) more)
+
+-- WHAT IS COMMITTED
+
+-- a row in which nobody else is above the ballot accepts it
+accepted_row : (host ballot : ℕ) (o : Option (List SeenBlock)) → is_some o ≡ true → others_top host o ≤ ballot → accepts_in host ballot o ≡ true
+accepted_row host ballot None read below = absurd (cc)
+accepted_row host ballot (Some row) read below = ap not (le-ltb ballot (others_top host (Some row)) below)
+
+module _ (s : Setup) (heard : List Answered) (value : List ℕ) (is : IsHistory s heard) (ended : status s (on heard) ≡ Ended (Committed value)) where
+  chosen : HasChosen s value (on heard)
+  chosen = told_by s (on heard) (Ended (Committed value)) ended
+
+  proposed : HasProposal s (on heard) value
+  proposed =
+      let both : Some chosen.over.come.0 ≡ Some value = sym chosen.over.come.1.is ∙ chosen.proposal_is in
+      let same : chosen.over.come.0 ≡ value = cc in
+      subst (HasProposal s (on heard)) same chosen.over.come.1
+
+  accepted_on : (d : ℕ) → d < s.disks → is_left s Two (on heard) d ≡ true → accepts s (on heard) d ≡ true
+  accepted_on d l left =
+      let good = (left_is s Two (visited s Two (on heard)) (on heard) d left).good in
+      let read = ((history_reached s heard is).disk d).read Two good (left_over s Two (on heard) d chosen.over.visits l left) in
+      let most = greatest_is_greatest s.disks (λ e. others_top s.host (row_in Two (on heard e))) d l in
+      let calm = ltb-false (ballot s (on heard)) (others_mbal s Two (on heard)) chosen.over.not_outrun in
+      accepted_row s.host (ballot s (on heard)) (row_in Two (on heard d)) read (omega (arith, most, calm))
+
+  -- a committed value is chosen
+  pub committed_chooses : Chooses s (on heard) value
+  committed_chooses =
+      record {
+        proposal = proposed;
+        majority = enough_more s (is_left s Two (on heard)) (accepts s (on heard)) accepted_on chosen.over.enough;
+      }
+
+pub committed : (c : Shape) (log : List Filled) (i : ℕ) (s : Setup) (heard : List Answered) (value : List ℕ) → IsRun c log → Hears c log i s heard → status s (on heard) ≡ Ended (Committed value) → IsChosenAt c log i s.slot value
+committed c log i s heard value run hears ended =
+    record { setup = s; heard = heard; hears = hears; on_slot = refl; chooses = committed_chooses s heard value (heard_then c log i s heard run hears) ended }

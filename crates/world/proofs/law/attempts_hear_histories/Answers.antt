@@ -1,0 +1,11 @@
+use Rattle.world.proofs.Histories as histories
+use Rattle.world.proofs.law.attempts_hear_histories.Goals as goal
+
+pub returns-clause-now : goal.returns-clause-now
+returns-clause-now c = histories.history
+
+pub returns-clause-at_entries : goal.returns-clause-at_entries
+returns-clause-at_entries c = histories.heard_then
+
+pub returns-clause-committed : goal.returns-clause-committed
+returns-clause-committed c = histories.committed
