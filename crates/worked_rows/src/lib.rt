@@ -2,12 +2,17 @@
 #![tactic(auto)]
 
 mod answered;
+mod attempts;
 mod faults;
 mod stops;
 
 pub use answered::{
     first_command_before_the_own, first_reply, log_of_one_slot, outrun_by_a_later_host,
     outrun_once_and_tried_again, recovery_of_blank_disks,
+};
+pub use attempts::{
+    adopted_value, seventeen_calls_with_an_input, some_disks_lost, spent_blocks,
+    ten_calls_without_an_input,
 };
 pub use faults::{
     crash_between_two_calls, disk_fails_and_another_is_lost, floor_of_a_ballot_never_written,
