@@ -9,6 +9,7 @@ use Rattle.attempt.specs.Setup.{Setup}
 use Rattle.attempt.specs.Status.{Status, Due, Ended, End, Committed, Empty, Outrun, NoMajority, BallotsSpent, status, taken}
 use Rattle.attempt.specs.History.{Fits, IsAnswerTo, IsHistory}
 use Rattle.attempt.specs.Standing.{HasProposal}
+use Rattle.attempt.specs.Chosen.{accepts_in, accepts, Chooses}
 use Rattle.attempt.specs.Visits.{visited, is_left}
 use Rattle.attempt.specs.Proposal.{ballot, others_top, others_mbal}
 use Rattle.attempt.specs.Calls.{Two}
@@ -27,7 +28,7 @@ use Rattle.host.specs.Host.{Operation, Submitting, Recovering, Doing, Memory, Ho
 use Rattle.world.specs.Entry.{Filled, Start, Stop, Submit, Recover, Called, Torn, Crashed, Lost, is_of, host_step, started, begins as begins_on}
 use Rattle.world.specs.World.{World, world, MayFollow, IsRun}
 use Rattle.world.proofs.Projections.{host_here, host_there}
-use Rattle.world.specs.Chosen.{at, accepts_in, accepts, Chooses, Hears, IsChosenAt}
+use Rattle.world.specs.Chosen.{at, Hears, IsChosenAt}
 use Rattle.world.proofs.Runs.{by_run, beginning, each}
 
 -- A STEP'S ANSWER FITS ITS CALL
@@ -189,7 +190,7 @@ module _ (s : Setup) (heard : List Answered) (value : List ℕ) (is : IsHistory 
   pub committed_chooses : Chooses s (on heard) value
   committed_chooses =
       record {
-        proposal = proposed;
+        proposes = proposed;
         majority = enough_more s (is_left s Two (on heard)) (accepts s (on heard)) accepted_on chosen.over.enough;
       }
 

@@ -1,5 +1,5 @@
 -- Runs of events, computed by the definitions alone: a world kept beside the list, so that each event costs one step.
-use Rattle.std.specs.Prelude.{◌≡◌, ◌+◌, ℕ, Bool, true, false, List, [], ◌∷◌, ◌++◌, map, replicate, set, slice_index_or, Option, Some, None}
+use Rattle.std.specs.Prelude.{◌≡◌, ◌+◌, ℕ, Bool, true, false, List, [], ◌∷◌, ◌++◌, map, replicate, slice_index_or, Option, Some, None}
 use Rattle.std.proofs.Common.{refl}
 use Rattle.disk.specs.Disk.{DiskState}
 use Rattle.disk.specs.Simulated.{fresh_disk}
@@ -21,14 +21,15 @@ use Rattle.host.specs.declared.answer.HostAnswer.{HostAnswer}
 use Rattle.host.specs.declared.answer.HostAnswer.TheVariants.{Ack, Recovered, Refused}
 use Rattle.host.specs.Host.{Host, Stopped, Running, Memory, Doing, setup_of, said_of}
 use Rattle.attempt.specs.Answers.{on}
-use Rattle.world.specs.Chosen.{accepts}
+use Rattle.attempt.specs.Chosen.{accepts}
 use Rattle.std.specs.List.{range_with_len}
-use Rattle.world.specs.Entry.{Filled, Called, Torn, Crashed, Lost, disk_step, host_step}
+use Rattle.world.specs.Entry.{Filled, is_on, is_of, disk_step, host_step}
 use Rattle.world.specs.World.{World, opening_disk}
 use Rattle.world.specs.Happens.{Event, Start, Stop, Submit, Recover, Step, Tear, FailCall, DiskCrash, DiskGone, entry_of, host_of, Line, line, answers}
 
 -- A WORLD BESIDE THE LIST
 
+-- the disks, and the hosts
 record Kept : Type 0 where
   pub disks : List DiskState
   pub hosts : List Host
@@ -36,22 +37,17 @@ record Kept : Type 0 where
 abbrev as_world : Kept → World
 as_world k = record { disk = λ d. slice_index_or k.disks d (fresh_disk 0); host = λ h. slice_index_or k.hosts h Stopped }
 
-abbrev disk_after : List DiskState → ℕ → Filled → List DiskState
-disk_after disks d e = set disks d (disk_step (slice_index_or disks d (fresh_disk 0)) e)
+-- an entry is a step of its own disk and of its own host alone; both lists are numbered from here on
+abbrev disks_after : Filled → ℕ → List DiskState → List DiskState
+disks_after e k [] = []
+disks_after e k (disk ∷ disks) = (elim (is_on k e) [ true ↦ disk_step disk e | false ↦ disk ]) ∷ disks_after e (k + 1) disks
 
-abbrev disks_after : List DiskState → Filled → List DiskState
-disks_after disks (Called h d call answer left) = disk_after disks d (Called h d call answer left)
-disks_after disks (Torn h d call left) = disk_after disks d (Torn h d call left)
-disks_after disks (Crashed d left) = disk_after disks d (Crashed d left)
-disks_after disks (Lost d) = disk_after disks d (Lost d)
-disks_after disks other = disks
-
-abbrev hosts_after : Shape → List Host → Filled → Option ℕ → List Host
-hosts_after c hosts e None = hosts
-hosts_after c hosts e (Some h) = set hosts h (host_step c h (slice_index_or hosts h Stopped) e)
+abbrev hosts_after : Shape → Filled → ℕ → List Host → List Host
+hosts_after c e h [] = []
+hosts_after c e h (host ∷ hosts) = (elim (is_of h e) [ true ↦ host_step c h host e | false ↦ host ]) ∷ hosts_after c e (h + 1) hosts
 
 abbrev kept_step : Shape → Kept → Filled → Kept
-kept_step c k e = record { disks = disks_after k.disks e; hosts = hosts_after c k.hosts e (host_of e) }
+kept_step c k e = record { disks = disks_after e 0 k.disks; hosts = hosts_after c e 0 k.hosts }
 
 abbrev kept_first : Shape → Kept
 kept_first c = record { disks = replicate c.disks (opening_disk c); hosts = replicate HOSTS Stopped }
