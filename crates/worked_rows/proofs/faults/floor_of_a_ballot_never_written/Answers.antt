@@ -1,0 +1,20 @@
+use Rattle.std.proofs.Common.{refl}
+use Rattle.worked_rows.specs.Answers.{vote_on}
+use Rattle.worked_rows.proofs.Beside.{played, said_by, stands}
+use Rattle.worked_rows.proofs.faults.floor_of_a_ballot_never_written.Goals as goal
+
+pub returns-clause-unwritten : goal.returns-clause-unwritten
+unfolding played
+returns-clause-unwritten c = stands (λ w. vote_on w 0 0 0) _ _ _ _ refl
+
+pub returns-clause-promised : goal.returns-clause-promised
+unfolding played
+returns-clause-promised c = stands (λ w. vote_on w 0 0 0) _ _ _ _ refl
+
+pub returns-clause-voted : goal.returns-clause-voted
+unfolding played
+returns-clause-voted c = stands (λ w. vote_on w 0 0 0) _ _ _ _ refl
+
+pub returns-clause-answers : goal.returns-clause-answers
+unfolding played
+returns-clause-answers c = said_by _ _ _ _ refl

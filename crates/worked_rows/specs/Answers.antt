@@ -1,0 +1,71 @@
+-- What the hosts of a cluster answer at events, the lines in which they do, and what is known and written then.
+use Rattle.std.specs.Prelude.{ℕ, List, [], ◌∷◌, Option, option_map}
+use Rattle.lock_modes.specs.declared.mode.Mode.TheVariants.{Exclusive}
+use Rattle.lock_table.specs.declared.record.LockRecord.{LockRecord}
+use Rattle.lock_table.specs.declared.record.LockState.{LockState}
+use Rattle.lock_table.specs.declared.record.LockState.TheVariants.{Granted}
+use Rattle.lock_table.specs.declared.reply.Reply.{Reply}
+use Rattle.lock_table.specs.declared.reply.Reply.TheVariants as reply
+use Rattle.lock_table.specs.Apply.{table_after}
+use Rattle.paxos_block.specs.declared.block.PBlock.{PBlock}
+use Rattle.paxos_block.specs.Places.{row_of}
+use Rattle.paxos_block.specs.Row.{row_said}
+use Rattle.paxos_block.specs.Votes.{says_in}
+use Rattle.slot_log.specs.Shape.{Shape}
+use Rattle.slot_log.specs.declared.outcome.Refusal.{Refusal}
+use Rattle.host.specs.declared.answer.HostAnswer.TheVariants.{Ack, Recovered, Refused}
+use Rattle.host.specs.Host.{learned_of}
+use Rattle.world.specs.World.{World, world}
+use Rattle.world.specs.Happens.{Event, Line, run, answers}
+
+-- a cluster of so many disks and slots
+abbrev pub sized : ℕ → ℕ → Shape
+sized disks slots = record { disks = disks; slots = slots }
+
+-- what its hosts answer at these events, one after the other
+unfoldable pub said_over : ℕ → ℕ → List Event → List Line
+said_over disks slots events = answers (sized disks slots) events
+
+-- its disks and hosts behind these events
+unfoldable pub world_over : ℕ → ℕ → List Event → World
+world_over disks slots events = world (sized disks slots) (run (sized disks slots) events)
+
+-- LINES
+
+-- at this event the host acknowledges its command, with a slot and a reply
+abbrev pub replied : ℕ → ℕ → ℕ → Reply → Line
+replied place host slot reply = record { place = place; host = host; said = Ack slot reply }
+
+-- the lock is granted
+abbrev pub granted : ℕ → ℕ → ℕ → Line
+granted place host slot = replied place host slot reply.Granted
+
+-- the lock has to wait
+abbrev pub queued : ℕ → ℕ → ℕ → Line
+queued place host slot = replied place host slot reply.Queued
+
+-- at this event the host has recovered so many commands
+abbrev pub recovered : ℕ → ℕ → ℕ → Line
+recovered place host commands = record { place = place; host = host; said = Recovered commands }
+
+-- at this event the host is refused
+abbrev pub refused : ℕ → ℕ → Refusal → Line
+refused place host why = record { place = place; host = host; said = Refused why }
+
+-- WHAT IS KNOWN AND WRITTEN
+
+-- the locks in a host's table
+abbrev pub locks_of : World → ℕ → List LockRecord
+locks_of w host = (table_after (learned_of (w.host host))).locks
+
+-- a lock of a client, asked for through a host
+abbrev pub lock_on : List ℕ → (lock client host : ℕ) → LockState → LockRecord
+lock_on name lock client host state = record { lock = lock; client = client; host = host; name = name; state = state }
+
+-- client 1 has lock 1 on db through host 0, exclusively, and there is no other
+abbrev pub db_is_held : List LockRecord
+db_is_held = lock_on (100 ∷ 98 ∷ []) 1 1 0 (Granted Exclusive) ∷ []
+
+-- what a host's block of a slot says on a disk, where the row is sound
+abbrev pub vote_on : World → (disk slot host : ℕ) → Option PBlock
+vote_on w disk slot host = option_map (λ row. says_in row host) (row_said (row_of slot (w.disk disk).bytes))

@@ -1,0 +1,86 @@
+-- Attempts by themselves: what they end with over disks that answer in some plain way, and after how many answers.
+use Rattle.std.specs.Prelude.{ℕ, zero, suc, List, [], ◌∷◌, ◌++◌, map, replicate, length, nat_lt, Option, Some, None, slice_get, if◌then◌else◌}
+use Rattle.disk.specs.declared.fault.DiskFault.TheVariants.{Gone}
+use Rattle.torn_block.specs.declared.layout.TheConstants.{LAST_SEQUENCE}
+use Rattle.paxos_block.specs.Row.{SeenBlock, blank_seen}
+use Rattle.attempt.specs.Calls.{Kind, Attaching, Syncing, Reading, Putting, seventeen}
+use Rattle.attempt.specs.Answers.{Heard, Booted, Done, Told, Fault, Answered, on}
+use Rattle.attempt.specs.Setup.{Setup}
+use Rattle.attempt.specs.Proposal.{ballot}
+use Rattle.attempt.specs.Status.{Status, Due, Ended, End, status}
+
+-- DISKS
+
+-- how a disk answers a host that has heard this
+abbrev pub Disks : Type 0
+Disks = List Answered → ℕ → Heard
+
+-- a call of a kind is answered well, and a read of a row with this one
+abbrev pub well : List SeenBlock → Option Kind → Heard
+well row None = Done
+well row (Some Attaching) = Booted 1
+well row (Some Syncing) = Done
+well row (Some Reading) = Told (Some row)
+well row (Some (Putting phase call)) = Done
+
+-- each disk answers well, and its row stays as it is
+abbrev pub showing : List SeenBlock → Disks
+showing row heard d = well row (slice_get seventeen (length (on heard d)))
+
+-- a row in which nothing was written
+abbrev pub blank_row : List SeenBlock
+blank_row = replicate 8 blank_seen
+
+abbrev pub blanks : Disks
+blanks = showing blank_row
+
+-- the first n disks are lost
+abbrev pub lost_below : ℕ → Disks
+lost_below n heard d = if nat_lt d n then Fault Gone else blanks heard d
+
+-- the first n disks show one row, and the others another
+abbrev pub showing_below : ℕ → List SeenBlock → List SeenBlock → Disks
+showing_below n low high heard d = if nat_lt d n then showing low heard d else showing high heard d
+
+-- AN ATTEMPT
+
+-- an attempt for slot 0 with this input, over so many disks
+abbrev pub attempt_of : (host disks : ℕ) → Option (List ℕ) → Setup
+attempt_of host disks input = record { host = host; slot = 0; disks = disks; floor = 0; input = input }
+
+-- an attempt's end, and after how many answers
+pub record Ending : Type 0 where
+  pub calls : ℕ
+  pub end : Option End
+
+abbrev pub goes : Disks → Setup → ℕ → List Answered → Status → Ending
+goes disks s fuel heard (Ended end) = record { calls = length heard; end = Some end }
+goes disks s zero heard (Due phase d) = record { calls = length heard; end = None }
+goes disks s (suc fuel) heard (Due phase d) =
+    let new = heard ++ record { disk = d; heard = disks heard d } ∷ [] in goes disks s fuel new (status s (on new))
+
+-- how an attempt ends, if it does within 200 calls
+unfoldable pub ending : Disks → Setup → Ending
+ending disks s = goes disks s 200 [] (status s (on []))
+
+-- it ends so after so many calls
+abbrev pub ends : ℕ → End → Ending
+ends calls end = record { calls = calls; end = Some end }
+
+-- the ballot that it takes where one disk shows this row
+unfoldable pub ballot_seeing : List SeenBlock → Setup → ℕ
+ballot_seeing row s = ballot s (on (map (λ heard. record { disk = 0; heard = heard }) (Booted 1 ∷ Done ∷ Told (Some row) ∷ [])))
+
+-- ROWS OF BLOCKS
+
+-- a host's block after so many writes
+abbrev pub saying : (sequence mbal bal : ℕ) → Option (List ℕ) → SeenBlock
+saying sequence mbal bal inp = record { bytes = blank_seen.bytes; sequence = sequence; says = record { mbal = mbal; bal = bal; inp = inp } }
+
+-- host 0 has promised ballot 9 and voted for 1 at ballot 1; host 1 has voted for 2 at ballot 2
+abbrev pub two_votes : List SeenBlock
+two_votes = saying 2 9 1 (Some (1 ∷ [])) ∷ saying 2 2 2 (Some (2 ∷ [])) ∷ replicate 6 blank_seen
+
+-- the block of host 0 can be written no more
+abbrev pub spent_row : List SeenBlock
+spent_row = saying LAST_SEQUENCE 1 0 None ∷ replicate 7 blank_seen

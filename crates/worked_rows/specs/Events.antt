@@ -1,0 +1,115 @@
+-- The events of the rows, each under the row's name.
+use Rattle.std.specs.Prelude.{ℕ, false, List, [], ◌∷◌, ◌++◌, replicate}
+use Rattle.lock_modes.specs.declared.mode.Mode.{Mode}
+use Rattle.lock_modes.specs.declared.mode.Mode.TheVariants.{Exclusive}
+use Rattle.lock_command.specs.declared.command.Command.{Command}
+use Rattle.lock_command.specs.declared.command.Action.{Action}
+use Rattle.lock_command.specs.declared.command.Action.TheVariants.{Enqueue, Release}
+use Rattle.world.specs.Happens.{Event, Start, Stop, Submit, Recover, Step, Tear, FailCall, DiskCrash, DiskGone}
+
+-- COMMANDS
+
+-- through a host a client asks this as its request of that number
+abbrev pub asks : (host client request : ℕ) → Action → Command
+asks host client request action = record { host = host; client = client; request = request; action = action }
+
+-- for this lock on this name, in this mode
+abbrev pub lock : ℕ → List ℕ → Mode → Action
+lock number name mode = Enqueue number name mode false
+
+-- db
+abbrev pub db : List ℕ
+db = 100 ∷ 98 ∷ []
+
+-- client 1 asks first for lock 1 on db, exclusively, through the host
+abbrev pub takes_db : ℕ → Command
+takes_db host = asks host 1 1 (lock 1 db Exclusive)
+
+-- SEVERAL EVENTS
+
+-- so many device calls of a host
+abbrev pub steps : ℕ → ℕ → List Event
+steps host calls = replicate calls (Step host)
+
+-- host 0 starts and submits that, with one try
+abbrev pub submits : List Event
+submits = Start 0 ∷ Submit 0 (takes_db 0) 1 ∷ []
+
+-- a host starts and recovers the log, with one try
+abbrev pub recovers : ℕ → List Event
+recovers host = Start host ∷ Recover host 1 ∷ []
+
+-- EVERY CALL SUCCEEDS
+
+-- 30 calls find nothing on three disks
+abbrev pub recovery_of_blank_disks : List Event
+recovery_of_blank_disks = recovers 0 ++ steps 0 30
+
+-- 17 calls are a submit on one disk
+abbrev pub first_reply : List Event
+first_reply = submits ++ steps 0 17
+
+-- behind it nothing fits into a log of one slot
+abbrev pub log_of_one_slot : List Event
+log_of_one_slot = first_reply ++ Submit 0 (asks 0 1 2 (Release 1)) 1 ∷ []
+
+-- host 1 asks the same as host 0 did before
+abbrev pub first_command_before_the_own : List Event
+first_command_before_the_own = Start 0 ∷ Start 1 ∷ Submit 0 (takes_db 0) 1 ∷ steps 0 17 ++ Submit 1 (takes_db 1) 1 ∷ steps 1 34
+
+-- host 1 begins when host 0 has made four calls, and has a greater ballot
+abbrev pub outrun_by_a_later_host : List Event
+outrun_by_a_later_host = Start 0 ∷ Start 1 ∷ Submit 0 (takes_db 0) 1 ∷ steps 0 4 ++ Submit 1 (asks 1 2 1 (lock 2 db Exclusive)) 1 ∷ steps 1 17 ++ steps 0 6
+
+-- host 0 has two tries, and host 1 comes in between on three disks
+abbrev pub outrun_once_and_tried_again : List Event
+outrun_once_and_tried_again = Start 0 ∷ Start 1 ∷ Submit 0 (takes_db 0) 2 ∷ steps 0 16 ++ Submit 1 (asks 1 2 1 (lock 2 db Exclusive)) 1 ∷ steps 1 51 ++ steps 0 109
+
+-- HOSTS STOP
+
+-- a body is torn, and its gate was not opened
+abbrev pub torn_body : List Event
+torn_body = submits ++ steps 0 5 ++ Tear 0 (255 ∷ []) ∷ recovers 0 ++ steps 0 10
+
+-- then the gate before the next body is torn to the byte of an open one, where no gate has to be closed
+abbrev pub torn_body_stays_closed : List Event
+torn_body_stays_closed = submits ++ steps 0 5 ++ Tear 0 (255 ∷ []) ∷ recovers 0 ++ steps 0 3 ++ Tear 0 (165 ∷ []) ∷ recovers 0 ++ steps 0 10
+
+-- the gate of the vote is torn to a byte that does not open it
+abbrev pub torn_gate : List Event
+torn_gate = submits ++ steps 0 14 ++ Tear 0 (255 ∷ []) ∷ recovers 0 ++ steps 0 10
+
+-- the gate of the vote is opened and not synced; a recovery syncs it and closes the other one; then the disk crashes
+abbrev pub torn_gate_then_crash : List Event
+torn_gate_then_crash = submits ++ steps 0 15 ++ Stop 0 ∷ recovers 0 ++ steps 0 4 ++ Stop 0 ∷ DiskCrash 0 (0 ∷ []) ∷ recovers 0 ++ steps 0 27
+
+-- the same where the recovery writes nothing before the crash
+abbrev pub torn_gate_then_crash_before_a_write : List Event
+torn_gate_then_crash_before_a_write = submits ++ steps 0 15 ++ Stop 0 ∷ recovers 0 ++ steps 0 3 ++ Stop 0 ∷ DiskCrash 0 (0 ∷ []) ∷ recovers 0 ++ steps 0 27
+
+-- CALLS FAIL, DISKS CRASH OR ARE LOST
+
+-- host 0 stops after its first vote on one disk of three; host 1 loses that disk for its attempt and finds nothing; then
+-- host 0 finds its vote, and has it chosen
+abbrev pub recovery_after_a_failed_first_write : List Event
+recovery_after_a_failed_first_write = submits ++ steps 0 36 ++ Stop 0 ∷ recovers 1 ++ FailCall 1 (0 ∷ []) ∷ steps 1 20 ++ recovers 0 ++ steps 0 81 ++ Recover 1 1 ∷ steps 1 81
+
+-- one disk fails a call, and another is lost behind the reply
+abbrev pub disk_fails_and_another_is_lost : List Event
+disk_fails_and_another_is_lost = submits ++ FailCall 0 (0 ∷ []) ∷ steps 0 34 ++ Stop 0 ∷ DiskGone 2 ∷ recovers 1 ++ steps 1 56
+
+-- two of three disks are lost
+abbrev pub two_disks_lost : List Event
+two_disks_lost = submits ++ steps 0 51 ++ DiskGone 0 ∷ DiskGone 2 ∷ Recover 0 1 ∷ steps 0 5
+
+-- a disk of three crashes between two calls of a write
+abbrev pub crash_between_two_calls : List Event
+crash_between_two_calls = submits ++ steps 0 14 ++ DiskCrash 0 (0 ∷ []) ∷ steps 0 29
+
+-- two of three disks fail when all were read and none was written
+abbrev pub loses_its_majority : List Event
+loses_its_majority = submits ++ steps 0 9 ++ FailCall 0 (0 ∷ []) ∷ FailCall 0 (0 ∷ []) ∷ []
+
+-- and the host tries again
+abbrev pub tries_again : ℕ → List Event
+tries_again calls = loses_its_majority ++ Submit 0 (takes_db 0) 1 ∷ steps 0 calls

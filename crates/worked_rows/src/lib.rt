@@ -1,0 +1,24 @@
+//! Runs of a cluster, worked out by the definitions of its world alone: which events, and what each host answers.
+#![tactic(auto)]
+
+mod answered;
+mod attempts;
+mod faults;
+mod stops;
+
+pub use answered::{
+    first_command_before_the_own, first_reply, log_of_one_slot, outrun_by_a_later_host,
+    outrun_once_and_tried_again, recovery_of_blank_disks,
+};
+pub use attempts::{
+    adopted_value, seventeen_calls_with_an_input, some_disks_lost, spent_blocks,
+    ten_calls_without_an_input,
+};
+pub use faults::{
+    crash_between_two_calls, disk_fails_and_another_is_lost, floor_of_a_ballot_never_written,
+    recovery_after_a_failed_first_write, two_disks_lost,
+};
+pub use stops::{
+    torn_body, torn_body_stays_closed, torn_gate, torn_gate_then_crash,
+    torn_gate_then_crash_before_a_write,
+};
