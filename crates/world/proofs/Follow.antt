@@ -11,8 +11,10 @@ use Rattle.disk.specs.Simulated.{refusal_under, refusal_of}
 use Rattle.disk.proofs.FillingLemmas.{length-spread, filled_keeps}
 use Rattle.torn_block.specs.declared.layout.TheConstants.{HOSTS}
 use Rattle.lock_command.specs.declared.command.Command.{Command}
-use Rattle.lock_command.specs.Command.{spelling}
-use Rattle.lock_command.specs.Reading.{decoded}
+use Rattle.lock_command.specs.Command.{spelling, Fits as FitsCommand}
+use Rattle.lock_command.specs.Reading.{checked, decoded}
+use Rattle.lock_command.proofs.Readings.{command_at-spelling}
+use Rattle.std.proofs.lemmas.Slice.Eq.{bytes_eq-Decides}
 use Rattle.slot_log.specs.Shape.{Shape}
 use Rattle.host.specs.Host.{is_stopped, idles, next_of}
 use Rattle.host.proofs.Hosts.{decoded_spelled}
@@ -157,3 +159,14 @@ module _ (c : Shape) (w : World) (whole : (k : ℕ) → IsWhole (w.disk k)) wher
   may_follow (FailCall h given) e is = given_if _ _ e (MayFollow c w e) is (λ t s. failing h given (next_of c h (w.host h)) e refl s)
   may_follow (DiskCrash k given) e is = crashing k given e is
   may_follow (DiskGone k) e is = some_if _ _ e (MayFollow c w) is (λ t. there k t)
+
+-- A COMMAND MAY BE SUBMITTED
+
+checked_same : (c : Command) (b : Bool) → b ≡ true → (if b then Some c else None) ≡ Some c
+checked_same c true is = refl
+checked_same c false is = absurd (cc)
+
+-- one whose numbers are in their ranges reads back
+pub command_reads_back : (command : Command) → FitsCommand command → ReadsBack command
+command_reads_back command fits =
+    ap (checked (spelling command)) (command_at-spelling command fits) ∙ checked_same command _ ((bytes_eq-Decides (spelling command) (spelling command)).1 refl)

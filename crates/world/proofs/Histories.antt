@@ -1,22 +1,26 @@
 -- In a run each host's attempt has heard a history, and what it ends committed with is chosen.
 use Rattle.std.specs.Prelude.{not, nat_lt, nat_le, is_some, if◌then◌else◌}
-use Rattle.std.proofs.Common.{ℕ, ◌-◌, ◌<◌, ◌≤◌, ◌≡◌, Bool, true, false, Option, Some, None, List, [], ◌∷◌, ◌++◌, length, take, refl, sym, subst, ap, ◌∙◌, arith}
-use Rattle.std.proofs.lemmas.Bool.{eqb-true, cases_Bool, ltb-false, le-ltb}
+use Rattle.std.proofs.Common.{ℕ, zero, suc, ◌*◌, ◌-◌, ◌<◌, ◌≤◌, ◌≡◌, Bool, true, false, Option, Some, None, List, [], ◌∷◌, ◌++◌, length, take, refl, sym, subst, ap, ◌∙◌, arith}
+use Rattle.std.proofs.lemmas.Bool.{eqb-true, cases_Bool, ltb-false, lt-ltb, le-ltb}
 use Rattle.std.proofs.Common.{inl, inr}
 use Rattle.disk.specs.Disk.{DiskState, Call, Attach, Read, Write, Sync, Answer, Booted, Told, Done, Fault, Step, success_of}
-use Rattle.attempt.specs.Answers.{Answered, on, heard_as, row_in}
+use Rattle.attempt.specs.Answers.{Answered, Answers, on, heard_as, row_in}
 use Rattle.attempt.specs.Setup.{Setup}
 use Rattle.attempt.specs.Status.{Status, Due, Ended, End, Committed, Empty, Outrun, NoMajority, BallotsSpent, status, taken}
 use Rattle.attempt.specs.History.{Fits, IsAnswerTo, IsHistory}
 use Rattle.attempt.specs.Standing.{HasProposal}
 use Rattle.attempt.specs.Chosen.{accepts_in, accepts, Chooses}
-use Rattle.attempt.specs.Visits.{visited, is_left}
+use Rattle.attempt.specs.Visits.{waits, visited, is_left}
 use Rattle.attempt.specs.Proposal.{ballot, others_top, others_mbal}
-use Rattle.attempt.specs.Calls.{Two}
-use Rattle.attempt.proofs.Replies.{history_more}
-use Rattle.attempt.proofs.Statuses.{HasChosen, told_by, enough_more}
-use Rattle.attempt.proofs.Visitors.{left_is, left_over}
-use Rattle.attempt.proofs.Histories.{history_reached}
+use Rattle.attempt.specs.Calls.{Phase, Opening, One, Two, goal, seventeen}
+use Rattle.attempt.proofs.Replies.{history_more, next_is}
+use Rattle.attempt.specs.Numbers.{count}
+use Rattle.attempt.specs.NextCall.{call_by, next_call}
+use Rattle.attempt.proofs.Firsts.{below_some}
+use Rattle.attempt.proofs.Moments.{get_some}
+use Rattle.attempt.proofs.Statuses.{due_is, due_if, HasChosen, told_by, enough_more}
+use Rattle.attempt.proofs.Visitors.{waiting_is, left_is, left_over}
+use Rattle.attempt.proofs.Histories.{visit, history_reached}
 use Rattle.paxos_block.specs.Row.{SeenBlock}
 use Rattle.paxos_block.proofs.VoteLemmas.{greatest_is_greatest}
 use Rattle.lock_command.specs.declared.command.Command.{Command}
@@ -48,13 +52,59 @@ step_fits disk new call (Told bytes) step = fits_by disk call (Told bytes) step.
 step_fits disk new call Done step = fits_by disk call Done step.2.0
 step_fits disk new call (Fault fault) step = tt
 
+-- A CALL IS DUE
+
+all_count : (n : ℕ) → count n (λ d. true) ≡ n
+all_count zero = refl
+all_count (suc n) = let before : count n (λ d. true) ≡ n = all_count n in omega arith
+
+-- each phase is over with the last of the calls
+last_call : (p : Phase) → goal p ≤ 17
+last_call Opening = omega arith
+last_call One = omega arith
+last_call Two = omega arith
+
+-- an attempt that has heard nothing has the opening's first call to make
+starts : (s : Setup) → 1 ≤ s.disks → status s (on []) ≡ Due Opening 0
+starts s some =
+    due_if s (on []) Opening 0
+    (record {
+      come = tt;
+      not_outrun = tt;
+      visits = below_some s.disks (λ d. waits s Opening []) 0 (record { below = omega arith; passes = refl; none = λ e l. absurd (omega arith) });
+      enough = lt-ltb s.disks (2 * count s.disks (λ d. true)) (let all = all_count s.disks in omega arith);
+    })
+
+-- what a call that is due is, and that its disk is one of the cluster's
+pub record HasCall (s : Setup) (f : Answers) : Type 0 where
+  pub disk : ℕ
+  pub call : Call
+  pub below : disk < s.disks
+  pub next : next_call s f ≡ Some (disk, call)
+
+due_call : (s : Setup) (f : Answers) (p : Phase) (d : ℕ) → status s f ≡ Due p d → HasCall s f
+due_call s f p d due =
+    let first = visit s p d f (due_is s f p d due) in
+    let waiting = waiting_is s p (f d) first.passes in
+    let kind = get_some seventeen (length (f d)) (omega (arith, waiting.short, last_call p)) in
+    record { disk = d; call = call_by s d f kind.0; below = first.below; next = next_is s f p d kind.0 due kind.1 }
+
 -- WHAT A HOST HAS HEARD
 
+-- an attempt under way has heard a history, and has a call to make
+pub record IsUnderWay (s : Setup) (heard : List Answered) : Type 0 where
+  pub history : IsHistory s heard
+  pub due : 1 ≤ s.disks → HasCall s (on heard)
+
+-- at its beginning
+begins_so : (s : Setup) → IsUnderWay s []
+begins_so s = record { history = tt; due = λ some. due_call s (on []) Opening 0 (starts s some) }
+
 module _ (c : Shape) (h : ℕ) where
-  -- the attempt under way has heard a history
+  -- so is that of a busy host
   abbrev pub IsHeardIn : Memory → Option Doing → Type 0
   IsHeardIn m None = Unit {0}
-  IsHeardIn m (Some t) = IsHistory (setup_of c h m t.operation) t.heard
+  IsHeardIn m (Some t) = IsUnderWay (setup_of c h m t.operation) t.heard
 
   abbrev pub IsHeard : Host → Type 0
   IsHeard Stopped = Unit {0}
@@ -66,10 +116,10 @@ module _ (c : Shape) (h : ℕ) where
 
   -- so it is where an attempt begins, or none is under way
   begun : (m : Memory) (operation : Operation) (tries : ℕ) → IsHeard (Running (goes_on c m operation tries))
-  begun m operation tries = one_of (nat_lt (length m.learned) c.slots) (begins m operation tries) (says m (full_answer operation (length m.learned))) tt tt
+  begun m operation tries = one_of (nat_lt (length m.learned) c.slots) (begins m operation tries) (says m (full_answer operation (length m.learned))) (begins_so (setup_of c h m operation)) tt
 
   tried : (m : Memory) (operation : Operation) (tries : ℕ) → IsHeard (Running (tries_again m operation tries))
-  tried m operation tries = one_of (nat_le tries 1) (says m (Refused refusal.Outrun)) (begins m operation (tries - 1)) tt tt
+  tried m operation tries = one_of (nat_le tries 1) (says m (Refused refusal.Outrun)) (begins m operation (tries - 1)) tt (begins_so (setup_of c h m operation))
 
   learned : (m : Memory) (t : Doing) (command : Command) (b : Bool) → IsHeard (Running (after_learning c m t command b))
   learned m t command true = tt
@@ -86,16 +136,16 @@ module _ (c : Shape) (h : ℕ) where
   over m t ballot NoMajority = tt
   over m t ballot BallotsSpent = tt
 
-  goes : (m : Memory) (t : Doing) (ballot : ℕ) (st : Status) → IsHistory (setup_of c h m t.operation) t.heard → IsHeard (Running (by_status c m t ballot st))
-  goes m t ballot (Due phase disk) is = is
-  goes m t ballot (Ended end) is = over m t ballot end
+  goes : (m : Memory) (t : Doing) (ballot : ℕ) (st : Status) → status (setup_of c h m t.operation) (on t.heard) ≡ st → IsHistory (setup_of c h m t.operation) t.heard → IsHeard (Running (by_status c m t ballot st))
+  goes m t ballot (Due phase disk) now is = record { history = is; due = λ some. due_call (setup_of c h m t.operation) (on t.heard) phase disk now }
+  goes m t ballot (Ended end) now is = over m t ballot end
 
   -- and behind an answer to the call that was due
   heard_more : (m : Memory) (o : Option Doing) (x : Answered) → IsHeardIn m o → IsAnswerTo (next_doing c h m o) x → IsHeard (Running (hears c h m o x))
   heard_more m None x is answers = absurd answers
   heard_more m (Some t) x is answers =
       let s = setup_of c h m t.operation in
-      goes m (with_heard t x) (taken s (on (t.heard ++ x ∷ []))) (status s (on (t.heard ++ x ∷ []))) (history_more s t.heard x is answers)
+      goes m (with_heard t x) (taken s (on (t.heard ++ x ∷ []))) (status s (on (t.heard ++ x ∷ []))) refl (history_more s t.heard x is.history answers)
 
   heard_on : (old : Host) (k : ℕ) (call : Call) (answer : Answer) → next_of c h old ≡ Some (k, call) → Fits call (heard_as answer) → IsHeard old → (left : List ℕ) → IsHeard (host_step c h old (Called h k call answer left))
   heard_on Stopped k call answer next fits is left = tt
@@ -134,9 +184,18 @@ run_heard c log run =
     ])
     log run
 
+-- so the attempt under way has heard a history, and has a call to make
+pub busy : (c : Shape) (log : List Filled) (h : ℕ) (m : Memory) (t : Doing) → IsRun c log → (world c log).host h ≡ Running m → m.doing ≡ Some t → IsUnderWay (setup_of c h m t.operation) t.heard
+busy c log h m t run running does = subst (IsHeardIn c h m) does (subst (IsHeard c h) running (run_heard c log run h))
+
 pub history : (c : Shape) (log : List Filled) (h : ℕ) (m : Memory) (t : Doing) → IsRun c log → (world c log).host h ≡ Running m → m.doing ≡ Some t → IsHistory (setup_of c h m t.operation) t.heard
-history c log h m t run running does =
-    subst (IsHeardIn c h m) does (subst (IsHeard c h) running (run_heard c log run h))
+history c log h m t run running does = (busy c log h m t run running does).history
+
+pub has_call : (c : Shape) (log : List Filled) (h : ℕ) (m : Memory) (t : Doing) → 1 ≤ c.disks → IsRun c log → (world c log).host h ≡ Running m → m.doing ≡ Some t
+    → (k : ℕ) × (call : Call) × (k < c.disks) × (next_of c h (Running m) ≡ Some (k, call))
+has_call c log h m t some run running does =
+    let due = (busy c log h m t run running does).due some in
+    (due.disk, due.call, due.below, subst (λ (o : Option Doing). next_doing c h m o ≡ Some (due.disk, due.call)) (sym does) due.next)
 
 -- AT AN ENTRY
 

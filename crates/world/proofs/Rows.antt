@@ -19,11 +19,11 @@ use Rattle.slot_log.specs.Shape.{Shape}
 use Rattle.slot_log.specs.declared.outcome.Refusal.TheVariants as refusal
 use Rattle.host.specs.declared.answer.HostAnswer.{HostAnswer}
 use Rattle.host.specs.declared.answer.HostAnswer.TheVariants.{Ack, Recovered, Refused}
-use Rattle.host.specs.Host.{Host, Stopped, Running, Memory, Doing, setup_of, said_of}
-use Rattle.attempt.specs.Answers.{on}
+use Rattle.host.specs.Host.{Host, Stopped, Running, Memory, Doing, setup_of, with_heard, said_of}
+use Rattle.attempt.specs.Answers.{on, heard_as}
 use Rattle.attempt.specs.Chosen.{accepts}
 use Rattle.std.specs.List.{range_with_len}
-use Rattle.world.specs.Entry.{Filled, is_on, is_of, disk_step, host_step}
+use Rattle.world.specs.Entry.{Filled, Called, is_on, is_of, disk_step, host_step}
 use Rattle.world.specs.World.{World, opening_disk}
 use Rattle.world.specs.Happens.{Event, Start, Stop, Submit, Recover, Step, Tear, FailCall, DiskCrash, DiskGone, entry_of, host_of, Line, line, answers}
 
@@ -114,11 +114,38 @@ failed_and_lost : says 3 2 (Start 0 ∷ Submit 0 (asks 0) 1 ∷ FailCall 0 (0 �
 unfolding fresh_disk sequence_of body_of number_bytes tail_with copy_in row_said zeros heading body_saying number_at claim_of is_said number lock_at request_at mode_of name_at enqueue_at action_at command_at applied
 failed_and_lost = refl
 
--- what does not apply changes nothing, but is counted: a step of an idle host, another host's command, no tries, no bytes
-nothing_applies : says 1 4 (Start 0 ∷ Step 0 ∷ Start 0 ∷ Submit 0 (asks 1) 1 ∷ Submit 0 (asks 0) 0 ∷ DiskCrash 0 [] ∷ DiskCrash 1 (0 ∷ []) ∷ Stop 1 ∷ Submit 0 (asks 0) 1 ∷ Recover 0 1 ∷ Tear 0 (1 ∷ []) ∷ FailCall 0 [] ∷ steps 0 17)
-    ≡ at 28 0 (Ack 0 reply.Granted) ∷ []
+-- what does not apply changes nothing, but is counted: a step of an idle host, another host's command, no tries, no bytes to
+-- fill with, a disk that there is not, a stop of a stopped host, an operation beside the one under way, a read that is torn
+nothing_applies : says 1 4 (Start 0 ∷ Step 0 ∷ Start 0 ∷ Submit 0 (asks 1) 1 ∷ Submit 0 (asks 0) 0 ∷ Recover 0 0 ∷ DiskCrash 1 (0 ∷ []) ∷ DiskGone 1 ∷ Stop 1 ∷ Start 8 ∷ Submit 0 (asks 0) 1 ∷ Recover 0 1 ∷ Tear 0 (1 ∷ [])
+    ∷ (steps 0 5 ++ DiskCrash 0 [] ∷ Tear 0 [] ∷ FailCall 0 [] ∷ steps 0 12)) ≡ at 32 0 (Ack 0 reply.Granted) ∷ []
 unfolding fresh_disk sequence_of body_of number_bytes tail_with copy_in row_said zeros heading body_saying number_at claim_of is_said number lock_at request_at mode_of name_at enqueue_at action_at command_at applied
 nothing_applies = refl
+
+-- start 0; submit 0; step 0 3; crash 0; tear 0; fail 0; step 0: under an old boot number a write is refused, so it is neither
+-- torn nor fails, and the refusal drops the only disk
+refused_write : says 1 4 (Start 0 ∷ Submit 0 (asks 0) 1 ∷ (steps 0 3 ++ DiskCrash 0 (0 ∷ []) ∷ Tear 0 (1 ∷ []) ∷ FailCall 0 (1 ∷ []) ∷ steps 0 1)) ≡ at 8 0 (Refused refusal.NoMajority) ∷ []
+unfolding fresh_disk sequence_of body_of number_bytes tail_with copy_in row_said zeros heading body_saying number_at claim_of is_said number lock_at request_at mode_of name_at enqueue_at action_at command_at applied
+refused_write = refl
+
+-- start 0; submit 0; step 0 14; tear 0 a500; start 0; recover 0; step 0 27: the gate takes the first byte, and the vote stands
+gate_torn_open : says 1 2 (Start 0 ∷ Submit 0 (asks 0) 1 ∷ (steps 0 14 ++ Tear 0 (165 ∷ 0 ∷ []) ∷ Start 0 ∷ Recover 0 1 ∷ steps 0 27)) ≡ at 45 0 (Recovered 1) ∷ []
+unfolding fresh_disk sequence_of body_of number_bytes tail_with copy_in row_said zeros heading body_saying number_at claim_of is_said number lock_at request_at mode_of name_at enqueue_at action_at command_at applied
+gate_torn_open = refl
+
+-- the same with tear 0 00a5: there is no vote
+gate_torn_closed : says 1 2 (Start 0 ∷ Submit 0 (asks 0) 1 ∷ (steps 0 14 ++ Tear 0 (0 ∷ 165 ∷ []) ∷ Start 0 ∷ Recover 0 1 ∷ steps 0 10)) ≡ at 28 0 (Recovered 0) ∷ []
+unfolding fresh_disk sequence_of body_of number_bytes tail_with copy_in row_said zeros heading body_saying number_at claim_of is_said number lock_at request_at mode_of name_at enqueue_at action_at command_at applied
+gate_torn_closed = refl
+
+-- start 0; submit 0; step 0 15; stop 0; crash 0 a500; start 0; recover 0; step 0 27: the crash leaves the gate open
+gate_left_open : says 1 2 (Start 0 ∷ Submit 0 (asks 0) 1 ∷ (steps 0 15 ++ Stop 0 ∷ DiskCrash 0 (165 ∷ 0 ∷ []) ∷ Start 0 ∷ Recover 0 1 ∷ steps 0 27)) ≡ at 47 0 (Recovered 1) ∷ []
+unfolding fresh_disk sequence_of body_of number_bytes tail_with copy_in row_said zeros heading body_saying number_at claim_of is_said number lock_at request_at mode_of name_at enqueue_at action_at command_at applied
+gate_left_open = refl
+
+-- the same with crash 0 00a5: it leaves the gate closed
+gate_left_closed : says 1 2 (Start 0 ∷ Submit 0 (asks 0) 1 ∷ (steps 0 15 ++ Stop 0 ∷ DiskCrash 0 (0 ∷ 165 ∷ []) ∷ Start 0 ∷ Recover 0 1 ∷ steps 0 10)) ≡ at 30 0 (Recovered 0) ∷ []
+unfolding fresh_disk sequence_of body_of number_bytes tail_with copy_in row_said zeros heading body_saying number_at claim_of is_said number lock_at request_at mode_of name_at enqueue_at action_at command_at applied
+gate_left_closed = refl
 
 -- the same as the first reply, by the list and its projections alone
 first_reply_by_the_list : answers (record { disks = 1; slots = 4 }) (Start 0 ∷ Submit 0 (asks 0) 1 ∷ steps 0 17) ≡ at 18 0 (Ack 0 reply.Granted) ∷ []
@@ -127,27 +154,40 @@ first_reply_by_the_list = refl
 
 -- WHAT IS CHOSEN
 
-abbrev host_at_end : Shape → Kept → ℕ → List Event → Host
-host_at_end c k h [] = slice_index_or k.hosts h Stopped
-host_at_end c k h (e ∷ es) = elim (entry_of c (as_world k) e) [ None ↦ host_at_end c k h es | Some x ↦ host_at_end c (kept_step c k x) h es ]
+abbrev kept_after : Shape → Kept → List Event → Kept
+kept_after c k [] = k
+kept_after c k (e ∷ es) = elim (entry_of c (as_world k) e) [ None ↦ kept_after c k es | Some x ↦ kept_after c (kept_step c k x) es ]
 
--- on which of the disks the answers that its attempt has heard accept its proposal
-abbrev accepting_in : Shape → ℕ → Memory → Option Doing → List Bool
-accepting_in c h m None = []
-accepting_in c h m (Some t) = map (accepts (setup_of c h m t.operation) (on t.heard)) (range_with_len 0 c.disks)
+-- on which of the disks the answers that an attempt has heard, with that of an entry, accept its proposal
+abbrev accepting_in : Shape → ℕ → Memory → Option Doing → Option Filled → List Bool
+accepting_in c h m (Some t) (Some (Called g d call answer left)) =
+    map (accepts (setup_of c h m t.operation) (on (with_heard t (record { disk = d; heard = heard_as answer })).heard)) (range_with_len 0 c.disks)
+accepting_in c h m doing entry = []
 
-abbrev accepting_of : Shape → ℕ → Host → List Bool
-accepting_of c h Stopped = []
-accepting_of c h (Running m) = accepting_in c h m m.doing
+abbrev accepting_of : Shape → ℕ → Host → Option Filled → List Bool
+accepting_of c h Stopped entry = []
+accepting_of c h (Running m) entry = accepting_in c h m m.doing entry
 
+-- the same at host 0's next answer behind these events
 abbrev accepting : ℕ → List Event → List Bool
-accepting disks events = let c : Shape = record { disks = disks; slots = 2 } in accepting_of c 0 (host_at_end c (kept_first c) 0 events)
+accepting disks events = let c : Shape = record { disks = disks; slots = 2 } in let k = kept_after c (kept_first c) events in
+    accepting_of c 0 ((as_world k).host 0) (entry_of c (as_world k) (Step 0))
 
--- over three disks the 44th answer is one with which the command is chosen; its host hears of that with the 51st
-not_yet_chosen : accepting 3 (Start 0 ∷ Submit 0 (asks 0) 1 ∷ steps 0 43) ≡ true ∷ false ∷ false ∷ []
+-- over three disks the 44th answer is the one with which the command is chosen; its host hears of that with the 51st
+not_yet_chosen : accepting 3 (Start 0 ∷ Submit 0 (asks 0) 1 ∷ steps 0 42) ≡ true ∷ false ∷ false ∷ []
 unfolding fresh_disk sequence_of body_of number_bytes tail_with copy_in row_said zeros heading body_saying number_at claim_of is_said number lock_at request_at mode_of name_at enqueue_at action_at command_at applied
 not_yet_chosen = refl
 
-chosen_unheard : accepting 3 (Start 0 ∷ Submit 0 (asks 0) 1 ∷ steps 0 44) ≡ true ∷ true ∷ false ∷ []
+chosen_unheard : accepting 3 (Start 0 ∷ Submit 0 (asks 0) 1 ∷ steps 0 43) ≡ true ∷ true ∷ false ∷ []
 unfolding fresh_disk sequence_of body_of number_bytes tail_with copy_in row_said zeros heading body_saying number_at claim_of is_said number lock_at request_at mode_of name_at enqueue_at action_at command_at applied
 chosen_unheard = refl
+
+-- over one disk the answer with which it is chosen ends the attempt too
+chosen_at_the_end : accepting 1 (Start 0 ∷ Submit 0 (asks 0) 1 ∷ steps 0 16) ≡ true ∷ []
+unfolding fresh_disk sequence_of body_of number_bytes tail_with copy_in row_said zeros heading body_saying number_at claim_of is_said number lock_at request_at mode_of name_at enqueue_at action_at command_at applied
+chosen_at_the_end = refl
+
+-- and it is not chosen where another host has written a greater ballot there before
+outrun_vote : accepting 1 (Start 0 ∷ Start 1 ∷ Submit 0 (asks 0) 1 ∷ (steps 0 16 ++ Submit 1 (asks 1) 1 ∷ steps 1 9)) ≡ false ∷ []
+unfolding fresh_disk sequence_of body_of number_bytes tail_with copy_in row_said zeros heading body_saying number_at claim_of is_said number lock_at request_at mode_of name_at enqueue_at action_at command_at applied
+outrun_vote = refl

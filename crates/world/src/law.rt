@@ -1,15 +1,17 @@
-// What an entry changes, and that events make runs.
-ghost use Rattle.std.specs.Prelude.{◌≡◌, ◌++◌, ◌∷◌, [], ℕ, true, false, List, length, take, slice_get, Some};
+// What an entry changes, that events make runs, and what follows of hosts and of a log that is known.
+ghost use Rattle.std.specs.Prelude.{◌≡◌, ◌++◌, ◌∷◌, ◌<◌, ◌≤◌, [], ℕ, true, false, List, length, take, slice_get, Some};
+ghost use Rattle.disk.specs.Disk.{Call};
 ghost use Rattle.disk.specs.Crash.{IsWhole};
 ghost use Rattle.attempt.specs.Answers.{Answered, on};
 ghost use Rattle.attempt.specs.History.{IsHistory};
 ghost use Rattle.attempt.specs.Setup.{Setup};
 ghost use Rattle.attempt.specs.Status.{Ended, Committed, status};
 ghost use Rattle.lock_command.specs.declared.command.Command.{Command};
+ghost use Rattle.lock_command.specs.Command.{Fits as FitsCommand};
 ghost use Rattle.slot_log.specs.Shape.{Shape};
-ghost use Rattle.host.specs.Host.{Doing, Memory, Running, setup_of};
+ghost use Rattle.host.specs.Host.{Doing, Memory, Running, setup_of, next_of};
 ghost use Rattle.world.specs.Entry.{Filled, is_on, is_of, disk_step, host_step};
-ghost use Rattle.world.specs.World.{world, MayFollow, IsRun};
+ghost use Rattle.world.specs.World.{world, ReadsBack, MayFollow, IsRun};
 ghost use Rattle.world.specs.Happens.{Event, entry_of, happens, run, lines_at, answers};
 ghost use Rattle.world.specs.Chosen.{at, Hears, IsChosenAt};
 ghost use Rattle.world.specs.Headline.{IsSafe, HasNoSecondLog, OneBeginsOther};
@@ -53,11 +55,20 @@ pub fn events_make_a_run()
         ++ lines_at c (run c events) (length events) (entry_of c (world c (run c events)) event) }
 {}
 
-/// What a host's attempt has heard in a run is a history of it, and what it commits is chosen then.
+/// A command whose numbers are in their ranges is what its spelling reads as, so it may be submitted.
+pub fn commands_read_back()
+    ensures { (command : Command) → FitsCommand command → ReadsBack command }
+{}
+
+/// What a busy host's attempt has heard in a run is a history of it, and a call on some disk is
+/// due. What it ends committed with is chosen then.
 pub fn attempts_hear_histories()
     ensures now { (c : Shape) (log : List Filled) (h : ℕ) (m : Memory) (t : Doing) → IsRun c log →
         (world c log).host h ≡ Running m → m.doing ≡ Some t →
         IsHistory (setup_of c h m t.operation) t.heard }
+    ensures due { (c : Shape) (log : List Filled) (h : ℕ) (m : Memory) (t : Doing) → 1 ≤ c.disks →
+        IsRun c log → (world c log).host h ≡ Running m → m.doing ≡ Some t →
+        (k : ℕ) × (call : Call) × (k < c.disks) × (next_of c h (Running m) ≡ Some (k, call)) }
     ensures at_entries { (c : Shape) (log : List Filled) (i : ℕ) (s : Setup)
         (heard : List Answered) → IsRun c log → Hears c log i s heard → IsHistory s heard }
     ensures committed { (c : Shape) (log : List Filled) (i : ℕ) (s : Setup)

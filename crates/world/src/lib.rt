@@ -4,5 +4,6 @@
 mod law;
 
 pub use law::{
-    attempts_hear_histories, changes_its_own, events_make_a_run, goes_on, safe_lists_have_one_log,
+    attempts_hear_histories, changes_its_own, commands_read_back, events_make_a_run, goes_on,
+    safe_lists_have_one_log,
 };

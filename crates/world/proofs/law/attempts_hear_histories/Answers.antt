@@ -9,3 +9,6 @@ returns-clause-at_entries c = histories.heard_then
 
 pub returns-clause-committed : goal.returns-clause-committed
 returns-clause-committed c = histories.committed
+
+pub returns-clause-due : goal.returns-clause-due
+returns-clause-due c = histories.has_call
