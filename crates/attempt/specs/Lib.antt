@@ -1,5 +1,6 @@
 pub mod Answers
 pub mod Calls
+pub mod Chosen
 pub mod History
 pub mod Laws
 pub mod NextCall

@@ -1,0 +1,297 @@
+-- What follows an answer: the attempt goes on, comes to its next phase, or ends; and so does the machine.
+use Rattle.std.specs.List.{All}
+use Rattle.std.proofs.Common.{ℕ, zero, suc, ◌+◌, ◌*◌, ◌<◌, ◌≤◌, ◌≡◌, ◌≢◌, inl, inr, Bool, true, false, cond, Option, Some, None, List, [], ◌∷◌, length, refl, sym, ap, ◌∙◌, arith}
+use Rattle.std.proofs.lemmas.Bool.{cases_lt, cases_Bool, both_ways, ltb-true, eq-eqb}
+use Rattle.std.proofs.lemmas.List.Elements.{All-nil, All-cons}
+use Rattle.torn_block.specs.declared.layout.TheConstants.{HOSTS}
+use Rattle.paxos_block.proofs.VoteLemmas.{above, owned}
+use Rattle.attempt.specs.Calls.{Phase, Opening, One, Two, start, goal}
+use Rattle.attempt.specs.Answers.{Answers, all_good, row_in}
+use Rattle.attempt.specs.Setup.{Setup}
+use Rattle.attempt.specs.Numbers.{count as passing}
+use Rattle.attempt.specs.Visits.{takes_part, visited, is_left, are_enough}
+use Rattle.attempt.specs.Proposal.{highest, ballot, own, best, or_else, proposal}
+use Rattle.attempt.specs.Standing.{IsIn, HasBallot, HasProposal}
+use Rattle.attempt.specs.Status.{Status, Due, Ended, Committed, Empty, Outrun, NoMajority, BallotsSpent}
+use Rattle.attempt.proofs.Firsts.{count_below}
+use Rattle.attempt.proofs.Lists.{row_none}
+use Rattle.attempt.proofs.Rows.{best_none}
+use Rattle.attempt.proofs.Visitors.{IsPart, part_is, part_if, part_before, left_is, left_over}
+use Rattle.attempt.proofs.Statuses.{IsDueAt, IsOver, HasNone, HasChosen, Tells, enough_before, enough_part}
+use Rattle.attempt.proofs.OneDisk.{IsDisk}
+use Rattle.agreement.specs.Majority.{count, IsMajority}
+use Rattle.agreement.specs.State.{Cell, put, seen, read_one, read_two, first_asking}
+use Rattle.agreement.specs.State.Mind.{One as OneMind, Two as TwoMind}
+use Rattle.agreement.specs.Event.{Event, is_at, MayPropose, AllAllowed, after, run}
+use Rattle.agreement.specs.Event.Event.{Takes, Proposes}
+use Rattle.agreement.specs.Chosen.{IsCommitted}
+use Rattle.agreement.proofs.Puts.{put_same, put_other, all_put}
+use Rattle.attempt_safety.specs.Machine.{Machine, stage_at, top, opened, asking, mind_in}
+use Rattle.attempt_safety.specs.Follows.{StandsIn, Agrees}
+use Rattle.attempt.specs.Chosen.{accepts_in, accepts, Chooses}
+use Rattle.attempt_safety.specs.Leads.{IsOfAttempt}
+
+-- COUNTING
+
+-- the attempt's way to count is the machine's
+count_is : (n : ℕ) (passes : ℕ → Bool) → passing n passes ≡ count n passes
+count_is zero passes = refl
+count_is (suc n) passes = rw (count_is n passes) refl
+
+-- where as many pass, there is a majority of them
+majority_more : (s : Setup) (g h : ℕ → Bool) → ((d : ℕ) → d < s.disks → g d ≡ true → h d ≡ true) → are_enough s g ≡ true → IsMajority s.disks h
+majority_more s g h more enough =
+    let most : s.disks < 2 * passing s.disks g = ltb-true s.disks (2 * passing s.disks g) enough in
+    let less = count_below s.disks g h more in
+    let same = count_is s.disks h in
+    omega arith
+
+-- one of the first n passes
+pub record IsOne (n : ℕ) (g : ℕ → Bool) : Type 0 where
+  pub disk : ℕ
+  pub below : disk < n
+  pub passes : g disk ≡ true
+
+-- there is one where the count is positive
+one_of : (n : ℕ) (g : ℕ → Bool) → 0 < passing n g → IsOne n g
+one_of zero g some = absurd (omega arith)
+one_of (suc n) g some = go (g n) refl some (one_of n g)
+  where
+    go : (t : Bool) → g n ≡ t → 0 < passing n g + cond t 1 0 → (0 < passing n g → IsOne n g) → IsOne (suc n) g
+    go true is some before = record { disk = n; below = omega arith; passes = is }
+    go false is some before = (let one = before (omega arith) in record { disk = one.disk; below = omega (arith, one.below); passes = one.passes })
+
+-- of enough disks there is one
+enough_one : (s : Setup) (passes : ℕ → Bool) → are_enough s passes ≡ true → IsOne s.disks passes
+enough_one s passes enough =
+    let most : s.disks < 2 * passing s.disks passes = ltb-true s.disks (2 * passing s.disks passes) enough in
+    one_of s.disks passes (omega arith)
+
+-- THE TURN
+
+-- at most one event of the attempt, after which the machine agrees with the status
+pub record Turns (s : Setup) (g : Answers) (m : Machine) (st : Status) : Type 0 where
+  pub events : List (Event (List ℕ))
+  pub few : length events ≤ 1
+  pub own : All (IsOfAttempt s) events
+  pub allowed : AllAllowed s.disks m events
+  pub agrees : Agrees s g (run m events) st
+  pub commits : (value : List ℕ) → Chooses s g value → IsCommitted s.disks (run m events) s.host (ballot s g) value
+  pub minds : (h : ℕ) → h ≢ s.host → (run m events).mind h ≡ m.mind h
+  pub cells : (h d : ℕ) → (run m events).cell h d ≡ m.cell h d
+
+-- what is proposed is the value of the vote that was found, if one was
+or_found : (found input : Option (List ℕ)) (value : List ℕ) → or_else found input ≡ Some value → MayPropose found value
+or_found None input value is = tt
+or_found (Some found) input value is = cc
+
+-- where nothing was found, it is the input
+or_input : (found input : Option (List ℕ)) (value v : List ℕ) → or_else found input ≡ Some value → found ≡ None → value ≡ v → input ≡ Some v
+or_input None input value v is none same = cc
+or_input (Some found) input value v is none same = absurd (cc)
+
+-- where nothing is proposed, none was
+or_none : (found input : Option (List ℕ)) → or_else found input ≡ None → found ≡ None
+or_none None input is = refl
+or_none (Some found) input is = absurd (cc)
+
+module _ (s : Setup) (g : Answers) (disk : (e : ℕ) → IsDisk (g e)) where
+  -- a disk that accepts the ballot has given all its answers, good ones
+  pub record Accepted (e : ℕ) : Type 0 where
+    pub good : all_good (g e) ≡ true
+    pub all : 17 ≤ length (g e)
+
+  accepted : (e : ℕ) → length (g e) ≤ 17 → accepts s g e ≡ true → Accepted e
+  accepted e most is =
+      record {
+        good = elim (cases_Bool (all_good (g e))) [
+          | inl good ↦ good
+          | inr bad ↦ absurd (no_row ((disk e).unread Two bad most))
+        ];
+        all = elim (cases_lt (length (g e)) 17) [
+          | inl short ↦ absurd (no_row (row_none Two (g e) short))
+          | inr all ↦ all
+        ];
+      }
+    where
+      no_row : row_in Two (g e) ≡ None → ⊥
+      no_row none = both_ways (accepts s g e) (ap (accepts_in s.host (ballot s g)) none) is
+
+  module _ (m : Machine) where
+    -- in phase 2, where the machine has come as far on each disk that accepts
+    pub commits_by : (behind : (e : ℕ) → length (g e) ≤ 17) → m.mind s.host ≡ mind_in s Two g
+        → ((e : ℕ) → e < s.disks → Accepted e → accepts s g e ≡ true → (m.cell s.host e).stage ≡ read_two)
+        → (value : List ℕ) → Chooses s g value → IsCommitted s.disks m s.host (ballot s g) value
+    commits_by behind knows stages value chooses =
+        let is = chooses.proposes.is in
+        let mind : mind_in s Two g ≡ TwoMind (record { ballot = ballot s g; value = value }) = rw is refl in
+        record {
+          proposing = knows ∙ mind;
+          majority = majority_more s (accepts s g) (is_at read_two (m.cell s.host))
+              (λ e l is. eq-eqb (m.cell s.host e).stage read_two (stages e l (accepted e (behind e) is) is)) chooses.majority;
+        }
+
+    -- before phase 2 nothing is chosen
+    pub not_yet : ((e : ℕ) → length (g e) < 17) → (value : List ℕ) → ¬ Chooses s g value
+    not_yet short value chooses =
+        let one = enough_one s (accepts s g) chooses.majority in
+        let all = (accepted one.disk (let l = short one.disk in omega arith) one.passes).all in
+        let l = short one.disk in absurd (omega arith)
+
+-- THE END OF A PHASE
+
+module _ (s : Setup) (g : Answers) (m : Machine) (p : Phase) (stands : StandsIn s p g m) (behind : (e : ℕ) → length (g e) ≤ goal p) where
+  -- a phase is over where it has come to that many answers on the disks left
+  majority_at : (stage : ℕ) → stage_at (goal p) ≡ stage → visited s p g ≡ None → are_enough s (is_left s p g) ≡ true → IsMajority s.disks (is_at stage (m.cell s.host))
+  majority_at stage is none enough =
+      majority_more s (is_left s p g) (is_at stage (m.cell s.host))
+      (λ e l left. (
+      let part : IsPart p (g e) = left_is s p (visited s p g) g e left in
+      let all = left_over s p g e none l left in
+      let exact : length (g e) ≡ goal p = (let most = behind e in omega arith) in
+      eq-eqb (m.cell s.host e).stage stage (stands.stages e (part_if p (g e) part) ∙ ap stage_at exact ∙ is)))
+      enough
+
+  -- no later phase has disks
+  none_later : (q : Phase) → goal p < start q → ¬ (are_enough s (λ e. takes_part q (g e)) ≡ true)
+  none_later q later enough =
+      let one = enough_one s (λ e. takes_part q (g e)) enough in
+      let come = (part_is q (g one.disk) one.passes).come in
+      let most = behind one.disk in
+      absurd (omega arith)
+
+  -- nor is one over
+  pub none_over : (q : Phase) → goal p < goal q → ¬ IsOver s q g
+  none_over q later over =
+      let one = enough_one s (is_left s q g) over.enough in
+      let all = left_over s q g one.disk over.visits one.below one.passes in
+      let most = behind one.disk in
+      absurd (omega arith)
+
+module _ (s : Setup) (g : Answers) (disk : (e : ℕ) → IsDisk (g e)) (host_below : s.host < HOSTS) (m : Machine) where
+  module _ (p : Phase) (stands : StandsIn s p g m) (behind : (e : ℕ) → length (g e) ≤ goal p) where
+    -- nothing happens
+    stays : (st : Status) → Agrees s g m st → ((value : List ℕ) → Chooses s g value → IsCommitted s.disks m s.host (ballot s g) value) → Turns s g m st
+    stays st agrees commits =
+        record {
+          events = [];
+          few = omega arith;
+          own = All-nil (IsOfAttempt s);
+          allowed = tt;
+          agrees = agrees;
+          commits = commits;
+          minds = λ h off. refl;
+          cells = λ h d. refl;
+        }
+
+  early : (p : Phase) → goal p < 17 → ((e : ℕ) → length (g e) ≤ goal p) → (value : List ℕ) → (n : Machine) → Chooses s g value → IsCommitted s.disks n s.host (ballot s g) value
+  early p less behind value n chooses = absurd (not_yet s g disk n (λ e. (let most = behind e in omega arith)) value chooses)
+
+  -- a host's cells put where they were
+  put_again : (h d : ℕ) → put m.cell s.host (m.cell s.host) h d ≡ m.cell h d
+  put_again h d =
+      all_put (λ k (row : ℕ → Cell (List ℕ)). row d ≡ m.cell k d) m.cell s.host (m.cell s.host) refl (λ k off. refl) h
+
+  -- the opening is over: the ballot is taken
+  takes : StandsIn s Opening g m → ((e : ℕ) → length (g e) ≤ goal Opening) → HasBallot s g → are_enough s (is_left s Opening g) ≡ true → (st : Status) → ((n : Machine) → StandsIn s One g n → Agrees s g n st) → Turns s g m st
+  takes stands behind come enough st agrees =
+      let e : Event (List ℕ) = Takes s.host (opened s g) (ballot s g) in
+      let none : best s g ≡ own s g = best_none s g s.disks (λ e l. row_none One (g e) (let most = behind e in omega arith)) in
+      let knows : OneMind (first_asking (opened s g) (ballot s g)) ≡ mind_in s One g = rw none refl in
+      let over : highest s g < ballot s g = above s.host (highest s g) in
+      let less : top s g < ballot s g = omega arith in
+      let stands_one : StandsIn s One g (after m e) =
+      record {
+        mind = put_same m.mind s.host (OneMind (first_asking (opened s g) (ballot s g))) ∙ knows;
+        stages = λ d takes. ap (λ (c : Cell (List ℕ)). c.stage) (put_again s.host d)
+            ∙ stands.stages d (part_if Opening (g d) (part_before One Opening (g d) (omega arith) (part_is One (g d) takes)));
+      } in
+      record {
+        events = e ∷ [];
+        few = omega arith;
+        own = All-cons (IsOfAttempt s) e [] (record { host = refl; input = λ value puts. absurd puts }) (All-nil (IsOfAttempt s));
+        allowed = ((stands.mind, owned s.host (highest s g) host_below, less, majority_at s g m Opening stands behind seen refl come.over enough), tt);
+        agrees = agrees (after m e) stands_one;
+        commits = λ value. early Opening (omega arith) behind value (after m e);
+        minds = λ h off. put_other m.mind s.host (OneMind (first_asking (opened s g) (ballot s g))) h off;
+        cells = λ h d. put_again h d;
+      }
+
+  -- phase 1 is over: the proposal is made
+  proposes : StandsIn s One g m → ((e : ℕ) → length (g e) ≤ goal One) → (value : List ℕ) → HasProposal s g value → are_enough s (is_left s One g) ≡ true → (st : Status) → ((n : Machine) → StandsIn s Two g n → Agrees s g n st) → Turns s g m st
+  proposes stands behind value come enough st agrees =
+      let e : Event (List ℕ) = Proposes s.host (asking s g) value in
+      let is : proposal s g ≡ Some value = come.is in
+      let knows : mind_in s Two g ≡ TwoMind (record { ballot = ballot s g; value = value }) = rw is refl in
+      let stands_two : StandsIn s Two g (after m e) =
+      record {
+        mind = put_same m.mind s.host (TwoMind (record { ballot = ballot s g; value = value })) ∙ sym knows;
+        stages = λ d takes. stands.stages d (part_if One (g d) (part_before Two One (g d) (omega arith) (part_is Two (g d) takes)));
+      } in
+      record {
+        events = e ∷ [];
+        few = omega arith;
+        own = All-cons (IsOfAttempt s) e [] (record { host = refl; input = λ v puts. or_input (best s g).inp s.input value v is puts.0 puts.1 }) (All-nil (IsOfAttempt s));
+        allowed = ((record { asking = stands.mind; majority = majority_at s g m One stands behind read_one refl come.over enough }, or_found (best s g).inp s.input value is), tt);
+        agrees = agrees (after m e) stands_two;
+        commits = λ value. early One (omega arith) behind value (after m e);
+        minds = λ h off. put_other m.mind s.host (TwoMind (record { ballot = ballot s g; value = value })) h off;
+        cells = λ h d. refl;
+      }
+
+  -- in phase 2 the machine commits what is chosen
+  chosen : StandsIn s Two g m → ((e : ℕ) → length (g e) ≤ goal Two) → (value : List ℕ) → Chooses s g value → IsCommitted s.disks m s.host (ballot s g) value
+  chosen stands behind =
+      commits_by s g disk m behind stands.mind
+      (λ e l all is. (let exact : length (g e) ≡ 17 = (let most = behind e in omega (arith, all.all)) in
+      stands.stages e (part_if Two (g e) (record { good = all.good; come = omega arith })) ∙ ap stage_at exact))
+
+  chosen_in : (p : Phase) → StandsIn s p g m → ((e : ℕ) → length (g e) ≤ goal p) → (value : List ℕ) → Chooses s g value → IsCommitted s.disks m s.host (ballot s g) value
+  chosen_in Opening stands behind value = early Opening (omega arith) behind value m
+  chosen_in One stands behind value = early One (omega arith) behind value m
+  chosen_in Two stands behind value = chosen stands behind value
+
+  at_once : (p : Phase) → StandsIn s p g m → ((e : ℕ) → length (g e) ≤ goal p) → (st : Status) → Agrees s g m st → Turns s g m st
+  at_once p stands behind st agrees = stays p stands behind st agrees (chosen_in p stands behind)
+
+  -- FROM A PHASE TO A STATUS
+
+  to_due : (p q : Phase) (e : ℕ) → StandsIn s p g m → ((e : ℕ) → length (g e) ≤ goal p) → IsIn s p g → IsDueAt s q e g → Turns s g m (Due q e)
+  to_due Opening Opening e stands behind come due = at_once Opening stands behind (Due Opening e) stands
+  to_due Opening One e stands behind come due = takes stands behind due.come (enough_before s One g (enough_part s One g due.enough)) (Due One e) (λ n next. next)
+  to_due Opening Two e stands behind come due = absurd (none_later s g m Opening stands behind Two (omega arith) (enough_part s Two g due.enough))
+  to_due One Opening e stands behind come due = let over = come.over in let visits = due.visits in absurd (cc)
+  to_due One One e stands behind come due = at_once One stands behind (Due One e) stands
+  to_due One Two e stands behind come due = proposes stands behind (due.come).0 (due.come).1 (enough_before s Two g (enough_part s Two g due.enough)).1 (Due Two e) (λ n next. next)
+  to_due Two Opening e stands behind come due = let over = (come.1).taken.over in let visits = due.visits in absurd (cc)
+  to_due Two One e stands behind come due = let over = (come.1).over in let visits = due.visits in absurd (cc)
+  to_due Two Two e stands behind come due = at_once Two stands behind (Due Two e) stands
+
+  to_committed : (p : Phase) (value : List ℕ) → StandsIn s p g m → ((e : ℕ) → length (g e) ≤ goal p) → HasChosen s value g → Turns s g m (Ended (Committed value))
+  to_committed Opening value stands behind is = absurd (none_over s g m Opening stands behind Two (omega arith) is.over)
+  to_committed One value stands behind is = absurd (none_over s g m One stands behind Two (omega arith) is.over)
+  to_committed Two value stands behind is =
+      let proposed : proposal s g ≡ Some value = is.proposal_is in
+      let knows : mind_in s Two g ≡ TwoMind (record { ballot = ballot s g; value = value }) = rw proposed refl in
+      at_once Two stands behind (Ended (Committed value))
+      (record { proposing = stands.mind ∙ knows; majority = majority_at s g m Two stands behind read_two refl is.over.visits is.over.enough })
+
+  to_empty : (p : Phase) → StandsIn s p g m → ((e : ℕ) → length (g e) ≤ goal p) → IsIn s p g → HasNone s g → Turns s g m (Ended Empty)
+  to_empty Opening stands behind come is = absurd (none_over s g m Opening stands behind One (omega arith) is.over)
+  to_empty One stands behind come is =
+      at_once One stands behind (Ended Empty)
+      (record {
+        asking = asking s g;
+        prepared = record { asking = stands.mind; majority = majority_at s g m One stands behind read_one refl is.over.visits is.over.enough };
+        no_input = or_none (best s g).inp s.input is.none;
+      })
+  to_empty Two stands behind come is = let some = (come.1).is in let none = is.none in absurd (cc)
+
+  -- the machine comes to whatever status the attempt has
+  pub turn : (p : Phase) (st : Status) → StandsIn s p g m → ((e : ℕ) → length (g e) ≤ goal p) → IsIn s p g → Tells s g st → Turns s g m st
+  turn p (Due q e) stands behind come tells = to_due p q e stands behind come tells
+  turn p (Ended (Committed value)) stands behind come tells = to_committed p value stands behind tells
+  turn p (Ended Empty) stands behind come tells = to_empty p stands behind come tells
+  turn p (Ended (Outrun mbal)) stands behind come tells = at_once p stands behind (Ended (Outrun mbal)) tt
+  turn p (Ended NoMajority) stands behind come tells = at_once p stands behind (Ended NoMajority) tt
+  turn p (Ended BallotsSpent) stands behind come tells = at_once p stands behind (Ended BallotsSpent) tt

@@ -1,0 +1,5 @@
+pub mod Follows
+pub mod Leads
+pub mod Machine
+pub mod Registers
+pub mod Slots

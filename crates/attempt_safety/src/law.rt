@@ -1,0 +1,102 @@
+// What an attempt does is what agreement allows.
+ghost use Rattle.std.specs.Prelude.{◌≡◌, ◌≢◌, ◌∷◌, ◌++◌, ◌<◌, ℕ, List, [], length};
+ghost use Rattle.torn_block.specs.declared.layout.TheConstants.{HOSTS};
+ghost use Rattle.torn_block.specs.declared.write_steps.WriteCall.TheVariants.{CloseGate};
+ghost use Rattle.attempt.specs.Calls.{Phase, Putting};
+ghost use Rattle.attempt.specs.Answers.{Answered, on};
+ghost use Rattle.attempt.specs.Setup.{Setup};
+ghost use Rattle.attempt.specs.Proposal.{ballot};
+ghost use Rattle.attempt.specs.NextCall.{next_call};
+ghost use Rattle.attempt.specs.Status.{Due, Ended, Committed, Empty, status};
+ghost use Rattle.attempt.specs.History.{IsAnswerTo, IsHistory};
+ghost use Rattle.agreement.specs.State.{Block};
+ghost use Rattle.agreement.specs.Event.{Event, IsRun, state_after, after};
+ghost use Rattle.agreement.specs.Event.Event.{Starts, Begins, Settles, Crashes};
+ghost use Rattle.agreement.specs.Chosen.{IsChosenBy};
+ghost use Rattle.agreement.specs.Claims.{NoneChosen};
+ghost use Rattle.agreement.specs.Log.{Move, IsHistory as IsSlotsHistory, slots_after, events_of_slot};
+ghost use Rattle.attempt_safety.specs.Machine.{Machine, write_in};
+ghost use Rattle.attempt_safety.specs.Follows.{Follows, IsSameHost};
+ghost use Rattle.attempt_safety.specs.Registers.{IsNext, RegistersAllow};
+ghost use Rattle.attempt.specs.Chosen.{Chooses};
+ghost use Rattle.attempt_safety.specs.Leads.{Leads, LeavesOthers};
+ghost use Rattle.attempt_safety.specs.Slots.{in_slot};
+
+/// Behind any run of the machine an attempt may begin, and with its start the machine follows it.
+pub fn attempt_begins()
+    ensures runs { (s : Setup) (early : List (Event (List ℕ))) →
+        IsRun s.disks early → IsRun s.disks (early ++ Starts s.host ∷ []) }
+    ensures follows { (s : Setup) (early : List (Event (List ℕ))) →
+        Follows s [] (state_after (early ++ Starts s.host ∷ [])) }
+{}
+
+/// Whatever is answered to the call due, where the registers allow it, is at most two events of the
+/// machine, each of them allowed, behind which the machine follows the attempt with that answer.
+pub fn answers_lead()
+    ensures { (s : Setup) (early : List (Event (List ℕ))) (heard : List Answered) (x : Answered) →
+        s.host < HOSTS → IsRun s.disks early → Follows s heard (state_after early) →
+        IsAnswerTo (next_call s (on heard)) x →
+        RegistersAllow s.host x.disk (on heard x.disk) x.heard (state_after early) →
+        Leads s early heard x }
+{}
+
+/// Where a host stops in the first call of a write, which then has no answer, the write may begin.
+pub fn torn_writes_begin()
+    ensures { (s : Setup) (early : List (Event (List ℕ))) (heard : List Answered)
+        (p : Phase) (d : ℕ) → IsRun s.disks early → Follows s heard (state_after early) →
+        status s (on heard) ≡ Due p d → IsNext (on heard d) (Putting p CloseGate) →
+        IsRun s.disks (early ++ Begins s.host d (write_in s p (on heard)) ∷ []) }
+{}
+
+/// The machine goes on to follow an attempt, whatever other hosts do and whatever blocks settle to.
+pub fn others_leave_it()
+    // All that counts is the own host's mind, and how far it has come.
+    ensures same { (s : Setup) (heard : List Answered) (old new : Machine) →
+        IsSameHost s.host old new → Follows s heard old → Follows s heard new }
+    ensures others { (h g d : ℕ) (old new : Machine) → h ≢ g →
+        LeavesOthers g d old new → IsSameHost h old new }
+    ensures settling { (h g d : ℕ) (x : Block (List ℕ)) (m : Machine) →
+        IsSameHost h m (after m (Settles g d x)) }
+    ensures crashing { (h d : ℕ) (left : ℕ → Block (List ℕ)) (m : Machine) →
+        IsSameHost h m (after m (Crashes d left)) }
+{}
+
+/// What an attempt commits is chosen; and what is chosen, however the attempt ends, is chosen in
+/// the machine.
+pub fn what_is_chosen()
+    ensures committed { (s : Setup) (heard : List Answered) (value : List ℕ) →
+        IsHistory s heard → status s (on heard) ≡ Ended (Committed value) →
+        Chooses s (on heard) value }
+    ensures chosen { (s : Setup) (early : List (Event (List ℕ))) (heard : List Answered)
+        (x : Answered) (value : List ℕ) (leads : Leads s early heard x) →
+        Chooses s (on (heard ++ x ∷ [])) value →
+        IsChosenBy s.disks (state_after (early ++ leads.events))
+        (ballot s (on (heard ++ x ∷ []))) value }
+{}
+
+/// Attempts agree. What two of them choose, at any two places of a run, is one value; and where one
+/// ends empty, nothing had been chosen when it began.
+pub fn attempts_agree()
+    ensures one { (s t : Setup) (early middle : List (Event (List ℕ))) (heard before : List Answered)
+        (x y : Answered) (v u : List ℕ) (first : Leads s early heard x)
+        (second : Leads t ((early ++ first.events) ++ middle) before y) → t.disks ≡ s.disks →
+        Chooses s (on (heard ++ x ∷ [])) v → Chooses t (on (before ++ y ∷ [])) u → u ≡ v }
+    ensures none_missed { (s : Setup) (early late : List (Event (List ℕ))) (heard : List Answered) →
+        IsRun s.disks (early ++ Starts s.host ∷ late) →
+        Follows s heard (state_after (early ++ Starts s.host ∷ late)) →
+        status s (on heard) ≡ Ended Empty → NoneChosen s.disks (state_after early) }
+{}
+
+/// Among all slots an answer is as many moves of its own slot, where that is the next one of its host.
+pub fn answers_move()
+    ensures history { (s : Setup) (ms : List (Move (List ℕ))) (heard : List Answered) (x : Answered)
+        (leads : Leads s (events_of_slot s.slot ms) heard x) → IsSlotsHistory s.disks ms →
+        s.slot ≡ length ((slots_after ms).learned s.host) →
+        IsSlotsHistory s.disks (ms ++ in_slot s.slot leads.events) }
+    ensures here { (k : ℕ) (ms : List (Move (List ℕ))) (events : List (Event (List ℕ))) →
+        events_of_slot k (ms ++ in_slot k events) ≡ events_of_slot k ms ++ events }
+    ensures elsewhere { (j k : ℕ) (ms : List (Move (List ℕ))) (events : List (Event (List ℕ))) →
+        j ≢ k → events_of_slot j (ms ++ in_slot k events) ≡ events_of_slot j ms }
+    ensures learned { (k : ℕ) (ms : List (Move (List ℕ))) (events : List (Event (List ℕ))) →
+        (slots_after (ms ++ in_slot k events)).learned ≡ (slots_after ms).learned }
+{}

@@ -1,0 +1,159 @@
+-- The entry that an event brings may follow.
+use Rattle.std.specs.Prelude.{not, nat_lt, ◌^◌, if◌then◌else◌, option_map, option_and_then}
+use Rattle.std.proofs.Common.{ℕ, ◌<◌, ◌≡◌, ◌==◌, ◌&&◌, Bool, true, false, Option, Some, None, List, [], length, refl, sym, ap, ◌∙◌, subst}
+use Rattle.std.proofs.lemmas.Bool.{eqb-true, eqb-false, ltb-true, and_parts}
+use Rattle.disk.specs.declared.fault.DiskFault.{DiskFault}
+use Rattle.disk.specs.declared.fault.DiskFault.TheVariants.{Reset, Failed, Gone}
+use Rattle.disk.specs.Disk.{DiskState, Call, Attach, Read, Write, Sync, Fault, IsUnder, Step as DiskStep, Torn as TearsWrite, written, success_of}
+use Rattle.disk.specs.Crash.{IsWhole}
+use Rattle.disk.specs.Filling.{spread, filled}
+use Rattle.disk.specs.Simulated.{refusal_under, refusal_of}
+use Rattle.disk.proofs.FillingLemmas.{length-spread, filled_keeps}
+use Rattle.torn_block.specs.declared.layout.TheConstants.{HOSTS}
+use Rattle.lock_command.specs.declared.command.Command.{Command}
+use Rattle.lock_command.specs.Command.{spelling}
+use Rattle.lock_command.specs.Reading.{decoded}
+use Rattle.slot_log.specs.Shape.{Shape}
+use Rattle.host.specs.Host.{is_stopped, idles, next_of}
+use Rattle.host.proofs.Hosts.{decoded_spelled}
+use Rattle.world.specs.Entry as entries
+use Rattle.world.specs.Entry.{Filled, Called, Torn, Crashed, Lost, called_by}
+use Rattle.world.specs.World.{World, MayFollow, ReadsBack, HasDisk}
+use Rattle.world.specs.Happens.{Event, Start, Stop, Submit, Recover, Step, Tear, FailCall, DiskCrash, DiskGone, answer_by, answer_of, taken_by, stepped, failed_by, failed, torn_by, torn, brings_if, are_some, has_disk, submitted, entry_of}
+
+-- WHAT A TEST TELLS
+
+given_if : (test : Bool) (o : Option Filled) (e : Filled) (P : Type 0) → brings_if test o ≡ Some e → (test ≡ true → o ≡ Some e → P) → P
+given_if true o e P is p = p refl is
+given_if false o e P is p = absurd (cc)
+
+some_if : (test : Bool) (x e : Filled) (P : Filled → Type 0) → brings_if test (Some x) ≡ Some e → (test ≡ true → P x) → P e
+some_if true x e P is p = let same : x ≡ e = cc in subst P same (p refl)
+some_if false x e P is p = absurd (cc)
+
+not_true : (b : Bool) → not b ≡ true → b ≡ false
+not_true true e = absurd (cc)
+not_true false e = refl
+
+-- A CALL
+
+succeeds : (disk : DiskState) (call : Call) → disk.gone ≡ false → IsUnder call disk.boot → DiskStep disk call (success_of disk call) (called_by disk call (success_of disk call) [])
+succeeds disk Attach here under = (here, under, (refl, refl))
+succeeds disk (Read boot at len) here under = (here, under, (refl, refl))
+succeeds disk (Write boot at from) here under = (here, under, (refl, refl))
+succeeds disk (Sync boot) here under = (here, under, (refl, refl))
+
+-- the call is under this boot number
+pub record IsBy (call : Call) (boot now : ℕ) : Type 0 where
+  pub under : boot ≡ now → IsUnder call now
+  pub only : IsUnder call now → boot ≡ now
+
+module _ (disk : DiskState) (call : Call) (boot : ℕ) (by : IsBy call boot disk.boot) where
+  -- the answer of a disk that does not fail is a step of it
+  answers_by : let a = answer_by disk call (refusal_under disk boot) in DiskStep disk call a (called_by disk call a [])
+  answers_by = go disk.gone refl (boot == disk.boot) refl
+    where
+      go : (g : Bool) → disk.gone ≡ g → (u : Bool) → (boot == disk.boot) ≡ u
+          → let a = answer_by disk call (if g then Some Gone else if u then None else Some Reset) in DiskStep disk call a (called_by disk call a [])
+      go true eg u eu = (eg, refl)
+      go false eg true eu = succeeds disk call eg (by.under (eqb-true boot disk.boot eu))
+      go false eg false eu = (eg, λ under. eqb-false boot disk.boot eu (by.only under), refl)
+
+  -- where nothing is in the way, the disk is there and the call is under its boot number
+  open_by : refusal_under disk boot ≡ None → (disk.gone ≡ false) × IsUnder call disk.boot
+  open_by none = go disk.gone refl (boot == disk.boot) refl none
+    where
+      go : (g : Bool) → disk.gone ≡ g → (u : Bool) → (boot == disk.boot) ≡ u → (if g then Some Gone else if u then None else Some Reset) ≡ None → (disk.gone ≡ false) × IsUnder call disk.boot
+      go true eg u eu is = absurd (cc)
+      go false eg true eu is = (eg, by.under (eqb-true boot disk.boot eu))
+      go false eg false eu is = absurd (cc)
+
+answers : (disk : DiskState) (call : Call) → DiskStep disk call (answer_of disk call) (called_by disk call (answer_of disk call) [])
+answers disk Attach = answers_by disk Attach disk.boot (record { under = λ e. tt; only = λ u. refl })
+answers disk (Read boot at len) = answers_by disk (Read boot at len) boot (record { under = λ e. e; only = λ u. u })
+answers disk (Write boot at from) = answers_by disk (Write boot at from) boot (record { under = λ e. e; only = λ u. u })
+answers disk (Sync boot) = answers_by disk (Sync boot) boot (record { under = λ e. e; only = λ u. u })
+
+open_of : (disk : DiskState) (call : Call) → refusal_of disk call ≡ None → (disk.gone ≡ false) × IsUnder call disk.boot
+open_of disk Attach = open_by disk Attach disk.boot (record { under = λ e. tt; only = λ u. refl })
+open_of disk (Read boot at len) = open_by disk (Read boot at len) boot (record { under = λ e. e; only = λ u. u })
+open_of disk (Write boot at from) = open_by disk (Write boot at from) boot (record { under = λ e. e; only = λ u. u })
+open_of disk (Sync boot) = open_by disk (Sync boot) boot (record { under = λ e. e; only = λ u. u })
+
+-- and so is its failure
+fails : (disk : DiskState) (call : Call) (given : List ℕ) → (disk.gone ≡ false) × IsUnder call disk.boot → DiskStep disk call (Fault Failed) (called_by disk call (Fault Failed) (taken_by call given))
+fails disk Attach given o = (o.0, o.1, refl)
+fails disk (Read boot at len) given o = (o.0, o.1, refl)
+fails disk (Write boot at from) given o = (o.0, o.1, record { left = spread given 0 (length from); as_many = length-spread given 0 (length from); leaves = refl })
+fails disk (Sync boot) given o = (o.0, o.1, refl)
+
+-- A COMMAND
+
+-- what bytes read as reads back
+reads_back : (bytes : List ℕ) (found : Command) → decoded bytes ≡ Some found → ReadsBack found
+reads_back bytes found is = ap decoded (sym (decoded_spelled bytes found is)) ∙ is
+
+-- EVENTS
+
+module _ (c : Shape) (w : World) (whole : (k : ℕ) → IsWhole (w.disk k)) where
+  there : (k : ℕ) → has_disk c w k ≡ true → HasDisk c w k
+  there k is = let p = and_parts (nat_lt k c.disks) (not (w.disk k).gone) is in (ltb-true _ _ p.0, not_true (w.disk k).gone p.1)
+
+  submitting : (h tries : ℕ) (o : Option Command) (bytes : List ℕ) (e : Filled) → (idles (w.host h) ≡ true) → (0 < tries) → decoded bytes ≡ o → submitted h tries o ≡ Some e → MayFollow c w e
+  submitting h tries None bytes e idle some reads is = absurd (cc)
+  submitting h tries (Some command) bytes e idle some reads is =
+      some_if (command.host == h) (entries.Submit h command tries) e (MayFollow c w) is (λ own. (idle, reads_back bytes command reads, eqb-true command.host h own, some))
+
+  stepping : (h : ℕ) (o : Option (ℕ × Call)) (e : Filled) → next_of c h (w.host h) ≡ o → option_map (stepped w h) o ≡ Some e → MayFollow c w e
+  stepping h None e is s = absurd (cc)
+  stepping h (Some next) e is s =
+      let same : stepped w h next ≡ e = cc in
+      subst (MayFollow c w) same (is, answers (w.disk next.0) next.1)
+
+  failing : (h : ℕ) (given : List ℕ) (o : Option (ℕ × Call)) (e : Filled) → next_of c h (w.host h) ≡ o → option_and_then (failed w h given) o ≡ Some e → MayFollow c w e
+  failing h given None e is s = absurd (cc)
+  failing h given (Some next) e is s = go (refusal_of (w.disk next.0) next.1) refl s
+    where
+      go : (r : Option DiskFault) → refusal_of (w.disk next.0) next.1 ≡ r → failed_by h given next r ≡ Some e → MayFollow c w e
+      go (Some fault) er s' = absurd (cc)
+      go None er s' =
+          let same : Called h next.0 next.1 (Fault Failed) (taken_by next.1 given) ≡ e = cc in
+          subst (MayFollow c w) same (is, fails (w.disk next.0) next.1 given (open_of (w.disk next.0) next.1 er))
+
+  tearing : (h : ℕ) (given : List ℕ) (o : Option (ℕ × Call)) (e : Filled) → next_of c h (w.host h) ≡ o → option_and_then (torn w h given) o ≡ Some e → MayFollow c w e
+  tearing h given None e is s = absurd (cc)
+  tearing h given (Some (k, call)) e is s = go call is (refusal_of (w.disk k) call) refl s
+    where
+      go : (call' : Call) → next_of c h (w.host h) ≡ Some (k, call') → (r : Option DiskFault) → refusal_of (w.disk k) call' ≡ r → torn_by h given k call' r ≡ Some e → MayFollow c w e
+      go Attach is' r er s' = absurd (cc)
+      go (Read boot at len) is' r er s' = absurd (cc)
+      go (Sync boot) is' r er s' = absurd (cc)
+      go (Write boot at from) is' (Some fault) er s' = absurd (cc)
+      go (Write boot at from) is' None er s' =
+          let o = open_of (w.disk k) (Write boot at from) er in
+          let same : Torn h k (Write boot at from) (spread given 0 (length from)) ≡ e = cc in
+          let tears : TearsWrite at (length from) (w.disk k) (written (w.disk k) at (spread given 0 (length from))) = record { left = spread given 0 (length from); as_many = length-spread given 0 (length from); leaves = refl } in
+          subst (MayFollow c w) same (is', (o.0, o.1, tears))
+
+  crashing : (k : ℕ) (given : List ℕ) (e : Filled) → entry_of c w (DiskCrash k given) ≡ Some e → MayFollow c w e
+  crashing k given e is =
+      let disk = w.disk k in
+      some_if _ (Crashed k (filled given 0 disk.unsynced disk.bytes)) e (MayFollow c w) is (λ t.
+      let p = and_parts (are_some given && has_disk c w k) (nat_lt disk.boot (2 ^ 62)) t in
+      let q = and_parts (are_some given) (has_disk c w k) p.0 in (
+        there k q.1,
+        ltb-true _ _ p.1,
+        record { bytes = filled_keeps given 0 disk.unsynced disk.bytes (whole k); unsynced = refl; boot = refl; gone = refl },
+      ))
+
+  pub may_follow : (event : Event) (e : Filled) → entry_of c w event ≡ Some e → MayFollow c w e
+  may_follow (Start h) e is = some_if _ _ e (MayFollow c w) is (λ t. let p = and_parts (nat_lt h HOSTS) (is_stopped (w.host h)) t in (ltb-true _ _ p.0, p.1))
+  may_follow (Stop h) e is = some_if _ _ e (MayFollow c w) is (λ t. not_true (is_stopped (w.host h)) t)
+  may_follow (Submit h command tries) e is =
+      given_if _ _ e (MayFollow c w e) is (λ t s. let p = and_parts (idles (w.host h)) (nat_lt 0 tries) t in submitting h tries (decoded (spelling command)) (spelling command) e p.0 (ltb-true _ _ p.1) refl s)
+  may_follow (Recover h tries) e is = some_if _ _ e (MayFollow c w) is (λ t. let p = and_parts (idles (w.host h)) (nat_lt 0 tries) t in (p.0, ltb-true _ _ p.1))
+  may_follow (Step h) e is = stepping h (next_of c h (w.host h)) e refl is
+  may_follow (Tear h given) e is = given_if _ _ e (MayFollow c w e) is (λ t s. tearing h given (next_of c h (w.host h)) e refl s)
+  may_follow (FailCall h given) e is = given_if _ _ e (MayFollow c w e) is (λ t s. failing h given (next_of c h (w.host h)) e refl s)
+  may_follow (DiskCrash k given) e is = crashing k given e is
+  may_follow (DiskGone k) e is = some_if _ _ e (MayFollow c w) is (λ t. there k t)

@@ -1,0 +1,5 @@
+pub mod Follow
+pub mod Projections
+pub mod Rows
+pub mod Runs
+pub mod Safe

@@ -1,0 +1,129 @@
+-- The list that events make is a run, and the disks of a run keep a flag for each byte.
+use Rattle.std.specs.Prelude.{take, drop, replicate, min, ◌-◌}
+use Rattle.std.proofs.Common.{ℕ, ◌+◌, ◌≡◌, true, false, Option, Some, None, List, [], ◌∷◌, ◌++◌, length, refl, sym, subst, ap, ◌∙◌, arith, length-append, length-drop, append_assoc, append-nil, inl, inr}
+use Rattle.std.proofs.lemmas.List.{length-take, length-replicate}
+use Rattle.std.proofs.lemmas.Bool.{cases_Bool, eqb-true}
+use Rattle.disk.specs.declared.fault.DiskFault.TheVariants.{Reset, Failed, Gone}
+use Rattle.disk.specs.Disk.{DiskState, Call, Attach, Read, Write, Sync, Answer, Booted, Told, Done, Fault, written, done_by, put_at}
+use Rattle.disk.specs.Crash.{IsWhole}
+use Rattle.disk.specs.Simulated.{fresh_disk}
+use Rattle.paxos_block.specs.Places.{image_length}
+use Rattle.slot_log.specs.Shape.{Shape}
+use Rattle.world.specs.Entry.{Filled, Start, Stop, Submit, Recover, Called, Torn, Crashed, Lost, is_on, torn_by, called_by, disk_step}
+use Rattle.world.specs.World.{World, world, MayFollow, IsRunFrom, IsRun}
+use Rattle.world.specs.Happens.{Event, entry_of, with_entry, happens, happen, run}
+use Rattle.world.proofs.Projections.{disk_here, disk_there}
+use Rattle.world.proofs.Follow.{may_follow}
+
+-- A FLAG FOR EACH BYTE
+
+length_put : {X : Type 0} (old : List X) (at n : ℕ) (items : List X) → length items ≡ n → length (put_at old at items) ≡ min at (length old) + n + (length old - (at + n))
+length_put old at n items e =
+    let a = length-append (take at old ++ items) (drop (at + length items) old) in
+    let b = length-append (take at old) items in
+    omega (arith, a, b, length-take at old, length-drop (at + length items) old, e)
+
+put_whole : (old : DiskState) (at : ℕ) (from : List ℕ) → IsWhole old → IsWhole (written old at from)
+put_whole old at from is =
+    let a = length_put old.unsynced at (length from) (replicate (length from) true) (length-replicate (length from) true) in
+    let b = length_put old.bytes at (length from) from refl in
+    omega (arith, a, b, is)
+
+torn_whole : (old : DiskState) (call : Call) (left : List ℕ) → IsWhole old → IsWhole (torn_by old call left)
+torn_whole old Attach left is = is
+torn_whole old (Read boot at len) left is = is
+torn_whole old (Write boot at from) left is = put_whole old at left is
+torn_whole old (Sync boot) left is = is
+
+done_whole : (old : DiskState) (call : Call) → IsWhole old → IsWhole (done_by old call)
+done_whole old Attach is = is
+done_whole old (Read boot at len) is = is
+done_whole old (Write boot at from) is = put_whole old at from is
+done_whole old (Sync boot) is = length-replicate (length old.bytes) false
+
+called_whole : (old : DiskState) (call : Call) (answer : Answer) (left : List ℕ) → IsWhole old → IsWhole (called_by old call answer left)
+called_whole old call (Fault Failed) left is = torn_whole old call left is
+called_whole old call (Fault Reset) left is = is
+called_whole old call (Fault Gone) left is = is
+called_whole old call (Booted boot) left is = done_whole old call is
+called_whole old call (Told bytes) left is = done_whole old call is
+called_whole old call Done left is = done_whole old call is
+
+step_whole : (c : Shape) (w : World) (k : ℕ) (e : Filled) → is_on k e ≡ true → MayFollow c w e → ((j : ℕ) → IsWhole (w.disk j)) → IsWhole (disk_step (w.disk k) e)
+step_whole c w k (Start h) on m is = absurd (cc)
+step_whole c w k (Stop h) on m is = absurd (cc)
+step_whole c w k (Submit h command tries) on m is = absurd (cc)
+step_whole c w k (Recover h tries) on m is = absurd (cc)
+step_whole c w k (Called h d call answer left) on m is = called_whole (w.disk k) call answer left (is k)
+step_whole c w k (Torn h d call left) on m is = torn_whole (w.disk k) call left (is k)
+step_whole c w k (Crashed d left) on m is =
+    let same : d ≡ k = eqb-true d k on in
+    let long : length left ≡ length (w.disk d).bytes = m.2.bytes.as_many in
+    length-replicate (length (w.disk k).bytes) false ∙ sym (long ∙ ap (λ j. length (w.disk j).bytes) same)
+step_whole c w k (Lost d) on m is = is k
+
+-- each disk of the world has a flag for each byte
+abbrev pub AreWhole : Shape → List Filled → Type 0
+AreWhole c log = (k : ℕ) → IsWhole ((world c log).disk k)
+
+whole_first : (c : Shape) → AreWhole c []
+unfolding fresh_disk
+whole_first c k = length-replicate (image_length c.slots) false ∙ sym (length-replicate (image_length c.slots) 0)
+
+whole_next : (c : Shape) (log : List Filled) (e : Filled) → MayFollow c (world c log) e → AreWhole c log → AreWhole c (log ++ e ∷ [])
+whole_next c log e m is k = elim (cases_Bool (is_on k e)) [
+  | inl on ↦ subst IsWhole (sym (disk_here c log e k on)) (step_whole c (world c log) k e on m is)
+  | inr off ↦ subst IsWhole (sym (disk_there c log e k off)) (is k)
+]
+
+whole_from : (c : Shape) (before log : List Filled) → AreWhole c before → IsRunFrom c before log → AreWhole c (before ++ log)
+whole_from c before [] is r = subst (AreWhole c) (sym (append-nil before)) is
+whole_from c before (x ∷ log) is r =
+    subst (AreWhole c) (append_assoc before (x ∷ []) log) (whole_from c (before ++ x ∷ []) log (whole_next c before x r.0 is) r.1)
+
+pub run_whole : (c : Shape) (log : List Filled) → IsRun c log → AreWhole c log
+run_whole c log r = whole_from c [] log (whole_first c) r
+
+-- ONE ENTRY MORE
+
+run_more : (c : Shape) (before log : List Filled) (e : Filled) → IsRunFrom c before log → MayFollow c (world c (before ++ log)) e → IsRunFrom c before (log ++ e ∷ [])
+run_more c before [] e is m = (subst (λ l. MayFollow c (world c l) e) (append-nil before) m, tt)
+run_more c before (x ∷ log) e is m = (is.0, run_more c (before ++ x ∷ []) log e is.1 (subst (λ l. MayFollow c (world c l) e) (sym (append_assoc before (x ∷ []) log)) m))
+
+run_less : (c : Shape) (before log : List Filled) (e : Filled) → IsRunFrom c before (log ++ e ∷ []) → IsRunFrom c before log × MayFollow c (world c (before ++ log)) e
+run_less c before [] e is = (tt, subst (λ l. MayFollow c (world c l) e) (sym (append-nil before)) is.0)
+run_less c before (x ∷ log) e is =
+    let rest = run_less c (before ++ x ∷ []) log e is.1 in
+    ((is.0, rest.0), subst (λ l. MayFollow c (world c l) e) (append_assoc before (x ∷ []) log) rest.1)
+
+pub more : (c : Shape) (log : List Filled) (e : Filled) → IsRun c log → MayFollow c (world c log) e → IsRun c (log ++ e ∷ [])
+more c log e is m = run_more c [] log e is m
+
+pub less : (c : Shape) (log : List Filled) (e : Filled) → IsRun c (log ++ e ∷ []) → IsRun c log × MayFollow c (world c log) e
+less c log e is = run_less c [] log e is
+
+-- EVENTS
+
+pub follows : (c : Shape) (log : List Filled) (event : Event) (e : Filled) → IsRun c log → entry_of c (world c log) event ≡ Some e → MayFollow c (world c log) e
+follows c log event e r is = may_follow c (world c log) (run_whole c log r) event e is
+
+happens_run : (c : Shape) (log : List Filled) (event : Event) → IsRun c log → IsRun c (happens c log event)
+happens_run c log event r = go (entry_of c (world c log) event) refl
+  where
+    go : (o : Option Filled) → entry_of c (world c log) event ≡ o → IsRun c (with_entry log o)
+    go None e = r
+    go (Some x) e = more c log x r (follows c log event x r e)
+
+happen_run : (c : Shape) (log : List Filled) (events : List Event) → IsRun c log → IsRun c (happen c log events)
+happen_run c log [] r = r
+happen_run c log (e ∷ es) r = happen_run c (happens c log e) es (happens_run c log e r)
+
+pub run_is_run : (c : Shape) (events : List Event) → IsRun c (run c events)
+run_is_run c events = happen_run c [] events tt
+
+happen_more : (c : Shape) (log : List Filled) (events : List Event) (event : Event) → happen c log (events ++ event ∷ []) ≡ happens c (happen c log events) event
+happen_more c log [] event = refl
+happen_more c log (e ∷ es) event = happen_more c (happens c log e) es event
+
+pub one_more : (c : Shape) (events : List Event) (event : Event) → run c (events ++ event ∷ []) ≡ happens c (run c events) event
+one_more c events event = happen_more c [] events event

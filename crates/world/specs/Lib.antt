@@ -1,0 +1,5 @@
+pub mod Entry
+pub mod World
+pub mod Happens
+pub mod Chosen
+pub mod Headline

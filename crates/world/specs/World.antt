@@ -1,0 +1,70 @@
+-- The world after a list of entries, which entry may follow, and what a run is.
+use Rattle.std.specs.Prelude.{◌≡◌, ◌<◌, ◌^◌, ℕ, false, IsTrue, List, [], ◌∷◌, ◌++◌, length, Some}
+use Rattle.disk.specs.Disk.{DiskState, Call, Attach, Read, Write, Sync, Step, Crashes}
+use Rattle.disk.specs.Disk as device
+use Rattle.disk.specs.Simulated.{fresh_disk}
+use Rattle.torn_block.specs.declared.layout.TheConstants.{HOSTS}
+use Rattle.paxos_block.specs.Places.{image_length}
+use Rattle.lock_command.specs.declared.command.Command.{Command}
+use Rattle.lock_command.specs.Command.{spelling}
+use Rattle.lock_command.specs.Reading.{decoded}
+use Rattle.slot_log.specs.Shape.{Shape}
+use Rattle.host.specs.Host.{Host, Stopped, next_of, is_stopped, idles}
+use Rattle.world.specs.Entry.{Filled, Start, Stop, Submit, Recover, Called, Torn, Crashed, Lost, on_disk, of_host, disk_step, disk_after, host_after}
+
+-- THE WORLD
+
+pub record World : Type 0 where
+  pub disk : ℕ → DiskState
+  pub host : ℕ → Host
+
+-- at first each disk is an image of zeros
+abbrev pub opening_disk : Shape → DiskState
+opening_disk c = fresh_disk (image_length c.slots)
+
+-- Each disk is what the entries on it alone make of the opening one; each host what its own make of a stopped one.
+abbrev pub world : Shape → List Filled → World
+world c log =
+    record { disk = λ k. disk_after (opening_disk c) (on_disk k log); host = λ h. host_after c h Stopped (of_host h log) }
+
+-- WHAT MAY FOLLOW
+
+-- there is such a disk, and it is not lost
+abbrev pub HasDisk : Shape → World → ℕ → Type 0
+HasDisk c w k = (k < c.disks) × ((w.disk k).gone ≡ false)
+
+-- the command is what its spelling reads as
+abbrev pub ReadsBack : Command → Type 0
+ReadsBack command = decoded (spelling command) ≡ Some command
+
+-- the call is the host's next, on this disk
+abbrev pub IsNext : Shape → World → ℕ → ℕ → Call → Type 0
+IsNext c w h k call = next_of c h (w.host h) ≡ Some (k, call)
+
+-- a write that the disk does not refuse is torn
+abbrev pub Tears : Call → DiskState → DiskState → Type 0
+Tears Attach old new = ⊥
+Tears (Read boot at len) old new = ⊥
+Tears (Write boot at from) old new = (old.gone ≡ false) × (boot ≡ old.boot) × device.Torn at (length from) old new
+Tears (Sync boot) old new = ⊥
+
+-- The entry may follow in this world.
+abbrev pub MayFollow : Shape → World → Filled → Type 0
+MayFollow c w (Start h) = (h < HOSTS) × IsTrue (is_stopped (w.host h))
+MayFollow c w (Stop h) = is_stopped (w.host h) ≡ false
+MayFollow c w (Submit h command tries) = IsTrue (idles (w.host h)) × ReadsBack command × (command.host ≡ h) × (0 < tries)
+MayFollow c w (Recover h tries) = IsTrue (idles (w.host h)) × (0 < tries)
+MayFollow c w (Called h k call answer left) =
+    IsNext c w h k call × Step (w.disk k) call answer (disk_step (w.disk k) (Called h k call answer left))
+MayFollow c w (Torn h k call left) = IsNext c w h k call × Tears call (w.disk k) (disk_step (w.disk k) (Torn h k call left))
+MayFollow c w (Crashed k left) =
+    HasDisk c w k × ((w.disk k).boot < 2 ^ 62) × Crashes (w.disk k) (disk_step (w.disk k) (Crashed k left))
+MayFollow c w (Lost k) = HasDisk c w k
+
+-- each of the entries may follow those before it
+abbrev pub IsRunFrom : Shape → List Filled → List Filled → Type 0
+IsRunFrom c before [] = Unit {0}
+IsRunFrom c before (e ∷ es) = MayFollow c (world c before) e × IsRunFrom c (before ++ e ∷ []) es
+
+abbrev pub IsRun : Shape → List Filled → Type 0
+IsRun c log = IsRunFrom c [] log
