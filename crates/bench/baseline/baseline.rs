@@ -464,11 +464,12 @@ fn first_path(host: &mut Host, count: u32) -> Result<bool, Fault> {
     Ok(true)
 }
 
-// A WHOLE ATTEMPT: host 0 with an input, over seven disks. It gives up at the first fault.
+// A WHOLE ATTEMPT: host 0 with an input, over some disks. It gives up at the first fault.
 
 const DISKS: usize = 7;
 const SLOTS: usize = 4096;
-const INPUT: [u8; 32] = [7; 32];
+
+type Value = [u8; 32];
 
 /// What is kept of a disk: its boot number, and the own block as it was read last.
 #[derive(Clone, Copy)]
@@ -477,13 +478,13 @@ struct Visit {
     block: [u8; BLOCK],
 }
 
-struct Attempt {
-    disks: [Disk; DISKS],
+struct Attempt<const N: usize> {
+    disks: [Disk; N],
     row: [u8; ROW],
 }
 
-impl Attempt {
-    fn new() -> Attempt {
+impl<const N: usize> Attempt<N> {
+    fn new() -> Attempt<N> {
         Attempt { disks: std::array::from_fn(|_| Disk::new(2048 + ROW * SLOTS)), row: [0; ROW] }
     }
 
@@ -500,9 +501,9 @@ impl Attempt {
     }
 
     /// Whether the input was committed.
-    fn commit(&mut self, slot: usize) -> Result<bool, Fault> {
+    fn commit(&mut self, slot: usize, input: Value) -> Result<bool, Fault> {
         let at = 2048 + ROW * slot;
-        let mut visits = [Visit { boot: 0, block: [0; BLOCK] }; DISKS];
+        let mut visits = [Visit { boot: 0, block: [0; BLOCK] }; N];
         let mut top = 0;
         let mut best = Says::default();
         for (disk, visit) in visits.iter_mut().enumerate() {
@@ -527,20 +528,20 @@ impl Attempt {
                 }
             }
         }
-        let vote = Says { mbal: ballot, bal: ballot, inp: Some(best.inp.unwrap_or(INPUT)) };
+        let vote = Says { mbal: ballot, bal: ballot, inp: Some(best.inp.unwrap_or(input)) };
         for (disk, visit) in visits.iter_mut().enumerate() {
             let cells = self.write_own(disk, at, visit, &vote)?;
             if cells[1..].iter().any(|cell| cell.mbal > ballot) {
                 return Ok(false);
             }
         }
-        Ok(vote.inp == Some(INPUT))
+        Ok(vote.inp == Some(input))
     }
 }
 
-fn attempts(work: &mut Attempt, count: u32) -> Result<bool, Fault> {
+fn attempts(work: &mut Attempt<DISKS>, count: u32) -> Result<bool, Fault> {
     for slot in 0..count {
-        if !work.commit(slot as usize)? {
+        if !work.commit(slot as usize, [7; 32])? {
             return Ok(false);
         }
     }
@@ -591,6 +592,42 @@ fn copies(work: &mut Copies, count: u32) -> bool {
     })
 }
 
+// A LOG THAT IS LEARNED: host 0 alone, over one disk
+
+struct Learner {
+    attempt: Attempt<1>,
+    learned: Vec<Value>,
+}
+
+impl Learner {
+    /// So many slots are learned already.
+    fn new(learned: u32) -> Learner {
+        let mut log = Learner { attempt: Attempt::new(), learned: Vec::with_capacity(SLOTS) };
+        assert!(learn(&mut log, learned).unwrap());
+        log
+    }
+
+    /// Whether the value was put at the next slot.
+    fn place(&mut self, value: Value) -> Result<bool, Fault> {
+        let is_placed = self.attempt.commit(self.learned.len(), value)?;
+        if is_placed {
+            self.learned.push(value);
+        }
+        Ok(is_placed)
+    }
+}
+
+fn learn(log: &mut Learner, count: u32) -> Result<bool, Fault> {
+    for _ in 0..count {
+        let mut value = [7; 32];
+        value[..2].copy_from_slice(&(log.learned.len() as u16).to_be_bytes());
+        if !log.place(value)? {
+            return Ok(false);
+        }
+    }
+    Ok(true)
+}
+
 /// The shortest of twenty rounds, each from new, in nanoseconds; printed as nanoseconds an operation.
 fn timed<T>(name: &str, count: u32, new: impl Fn() -> T, run: impl Fn(&mut T, u32) -> bool) -> u64 {
     let mut best = u64::MAX;
@@ -624,4 +661,9 @@ fn main() {
     let these = timed("attempt", 4096, Attempt::new, |work, count| attempts(work, count).unwrap_or(false));
     let those = timed("copies", 4096, Copies::new, copies);
     println!("attempt/copies {:.2}", these as f64 / those as f64);
+    let learning = |log: &mut Learner, count| learn(log, count).unwrap_or(false);
+    timed("learn", 4096, || Learner::new(0), learning);
+    let those = timed("learn_first", 512, || Learner::new(0), learning);
+    let these = timed("learn_last", 512, || Learner::new(3584), learning);
+    println!("learn_last/learn_first {:.2}", these as f64 / those as f64);
 }

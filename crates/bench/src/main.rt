@@ -10,6 +10,7 @@ mod disk_calls;
 mod failure;
 mod first_path;
 mod image;
+mod learn;
 mod run;
 mod timing;
 mod whole_attempt;

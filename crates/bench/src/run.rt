@@ -6,6 +6,7 @@ use crate::decode_row::DecodeRow;
 use crate::disk_calls::DiskCalls;
 use crate::failure::Failure;
 use crate::first_path::FirstPath;
+use crate::learn::Learn;
 use crate::timing::{Ratio, Timing};
 use crate::whole_attempt::WholeAttempt;
 use crate::words::Task;
@@ -29,6 +30,10 @@ pub fn run_all<R: Print + Clock + AllocGlobal>(rt: &R, task: Task) -> Result<(),
     let whole = run_one::<R, WholeAttempt>(rt, task, "attempt", 4096)?;
     let copies = run_one::<R, Copies>(rt, task, "copies", 4096)?;
     print_ratio(rt, "attempt/copies", whole, copies)?;
+    run_one::<R, Learn<0>>(rt, task, "learn", 4096)?;
+    let first = run_one::<R, Learn<0>>(rt, task, "learn_first", 512)?;
+    let last = run_one::<R, Learn<3584>>(rt, task, "learn_last", 512)?;
+    print_ratio(rt, "learn_last/learn_first", last, first)?;
     Ok(())
 }
 
