@@ -280,8 +280,6 @@ impl Learner {
         ensures leads { (c : Shape) (h : ℕ) (m : Memory) (t : Doing) (ballot : ℕ) → IsOf t task →
             LeadsTo c h (with_floor m ballot) self.old → LeadsTo c h (ended m t ballot (end_of end)) self.new }
         ensures same { IsSameLog self.old self.new }
-        // What was asked for, so that a proof finds it behind the call.
-        ensures valueless { IsOver end }
     {
         match end {
             End::Committed(_) => unreachable!(),
