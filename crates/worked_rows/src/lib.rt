@@ -4,6 +4,7 @@
 mod answered;
 mod attempts;
 mod faults;
+mod locks;
 mod stops;
 
 pub use answered::{
@@ -17,6 +18,10 @@ pub use attempts::{
 pub use faults::{
     crash_between_two_calls, disk_fails_and_another_is_lost, floor_of_a_ballot_never_written,
     recovery_after_a_failed_first_write, two_disks_lost,
+};
+pub use locks::{
+    conversion_before_those_that_wait, deadlock_of_two_conversions, nobody_overtakes,
+    one_has_to_wait, purge_of_a_host, refused_where_it_would_queue,
 };
 pub use stops::{
     torn_body, torn_body_stays_closed, torn_gate, torn_gate_then_crash,
