@@ -156,3 +156,33 @@ loses_its_majority = submits ++ steps 0 9 ++ FailCall 0 (0 ∷ []) ∷ FailCall 
 -- and the host tries again
 abbrev pub tries_again : ℕ → List Event
 tries_again calls = loses_its_majority ++ Submit 0 (takes_db 0) 1 ∷ steps 0 calls
+
+-- two of three disks fail before all were read
+abbrev pub loses_its_majority_early : List Event
+loses_its_majority_early = submits ++ steps 0 4 ++ FailCall 0 (0 ∷ []) ∷ FailCall 0 (0 ∷ []) ∷ Submit 0 (takes_db 0) 1 ∷ steps 0 15
+
+-- host 1 takes ballot 2, loses its majority, and promises ballot 10 on disk 0; there it outruns host 0, whose second try
+-- finds that disk lost
+abbrev pub outrun_on_a_lost_disk : List Event
+outrun_on_a_lost_disk = Start 0 ∷ Start 1 ∷ Submit 0 (takes_db 0) 2 ∷ steps 0 9
+    ++ Submit 1 (takes_db 1) 1 ∷ steps 1 9 ++ FailCall 1 (0 ∷ []) ∷ FailCall 1 (0 ∷ []) ∷ Submit 1 (takes_db 1) 1 ∷ steps 1 15
+    ++ steps 0 7 ++ DiskGone 0 ∷ steps 0 13
+
+-- EVENTS THAT DO NOT APPLY
+
+-- to a stopped host, a host or a disk that there is not, or without bytes
+abbrev pub before_a_start : List Event
+before_a_start = Stop 0 ∷ Submit 0 (takes_db 0) 1 ∷ Recover 0 1 ∷ Step 0 ∷ Tear 0 (0 ∷ []) ∷ FailCall 0 (0 ∷ []) ∷ Start 8 ∷ DiskCrash 1 (0 ∷ []) ∷ DiskGone 1 ∷ DiskCrash 0 [] ∷ []
+
+-- to a running host that is idle: a second start, a call, a command of another host or without a try
+abbrev pub while_idle : List Event
+while_idle = Start 0 ∷ Step 0 ∷ Submit 0 (takes_db 1) 1 ∷ Submit 0 (takes_db 0) 0 ∷ Recover 0 0 ∷ []
+
+-- to one that is busy: another operation, the tear of a call that is no write, bytes that are none
+abbrev pub while_busy : List Event
+while_busy = Submit 0 (takes_db 0) 1 ∷ Recover 0 1 ∷ Tear 0 (0 ∷ []) ∷ FailCall 0 [] ∷ []
+
+-- among these a host submits, and the disk is lost afterwards, and lost again
+abbrev pub events_that_do_not_apply : List Event
+events_that_do_not_apply = before_a_start ++ Start 0 ∷ while_idle ++ Submit 0 (takes_db 0) 1 ∷ while_busy ++ steps 0 17
+    ++ DiskGone 0 ∷ DiskGone 0 ∷ DiskCrash 0 (0 ∷ []) ∷ []
