@@ -73,6 +73,10 @@ pub fn chosen_before_the_end()
 /// A host whose attempt commits a value that is no command does not learn it. It says so, is idle,
 /// and its ballot counts.
 pub fn value_that_is_no_command()
-    ensures { knows_then 2 (takes_db 2) two_votes ≡ record { learned = []; floor = 11;
-        doing = None; said = Some (Refused refusal.NotACommand) } }
+    ensures { knows_then 2 (takes_db 2) two_votes ≡ record {
+      learned = [];
+      floor = 11;
+      doing = None;
+      said = Some (Refused refusal.NotACommand);
+    } }
 {}
