@@ -1,10 +1,14 @@
 -- Attempts by themselves: what they end with over disks that answer in some plain way, and after how many answers.
-use Rattle.std.specs.Prelude.{ℕ, zero, suc, List, [], ◌∷◌, ◌++◌, map, replicate, length, nat_lt, Option, Some, None, slice_get, if◌then◌else◌}
+use Rattle.std.specs.Prelude.{◌-◌, ℕ, zero, suc, List, [], ◌∷◌, ◌++◌, map, replicate, length, nat_lt, Option, Some, None, slice_get, if◌then◌else◌}
 use Rattle.disk.specs.declared.fault.DiskFault.TheVariants.{Gone}
 use Rattle.torn_block.specs.declared.layout.TheConstants.{LAST_SEQUENCE}
 use Rattle.paxos_block.specs.Row.{SeenBlock, blank_seen}
+use Rattle.paxos_block.specs.declared.ballot.TheConstants.{LAST_BALLOT}
+use Rattle.lock_command.specs.declared.command.Command.{Command}
+use Rattle.slot_log.specs.Shape.{Shape}
+use Rattle.host.specs.Host.{Submitting, Memory, fresh, goes_on, hears}
 use Rattle.attempt.specs.Calls.{Kind, Attaching, Syncing, Reading, Putting, seventeen}
-use Rattle.attempt.specs.Answers.{Heard, Booted, Done, Told, Fault, Answered, on}
+use Rattle.attempt.specs.Answers.{Heard, Booted, Done, Told, Fault, Answered, Answers, on}
 use Rattle.attempt.specs.Setup.{Setup}
 use Rattle.attempt.specs.Proposal.{ballot}
 use Rattle.attempt.specs.Status.{Status, Due, Ended, End, status}
@@ -59,6 +63,16 @@ goes disks s zero heard (Due phase d) = record { calls = length heard; end = Non
 goes disks s (suc fuel) heard (Due phase d) =
     let new = heard ++ record { disk = d; heard = disks heard d } ∷ [] in goes disks s fuel new (status s (on new))
 
+-- what an attempt has heard after so many answers
+abbrev hears_for : Disks → Setup → ℕ → List Answered → Status → List Answered
+hears_for disks s fuel heard (Ended end) = heard
+hears_for disks s zero heard (Due phase d) = heard
+hears_for disks s (suc fuel) heard (Due phase d) =
+    let new = heard ++ record { disk = d; heard = disks heard d } ∷ [] in hears_for disks s fuel new (status s (on new))
+
+unfoldable pub heard_after : ℕ → Disks → Setup → Answers
+heard_after calls disks s = on (hears_for disks s calls [] (status s (on [])))
+
 -- how an attempt ends, if it does within 200 calls
 unfoldable pub ending : Disks → Setup → Ending
 ending disks s = goes disks s 200 [] (status s (on []))
@@ -84,3 +98,22 @@ two_votes = saying 2 9 1 (Some (1 ∷ [])) ∷ saying 2 2 2 (Some (2 ∷ [])) �
 -- the block of host 0 can be written no more
 abbrev pub spent_row : List SeenBlock
 spent_row = saying LAST_SEQUENCE 1 0 None ∷ replicate 7 blank_seen
+
+-- host 0 has promised the last ballot that it may take, 2 to the 62 less 7
+abbrev pub last_of_host_0 : List SeenBlock
+last_of_host_0 = saying 2 (LAST_BALLOT - 7) 0 None ∷ replicate 7 blank_seen
+
+-- A HOST
+
+-- the seventeen answers of one disk that shows this row throughout
+abbrev answers_showing : List SeenBlock → List Answered
+answers_showing row = map (λ kind. record { disk = 0; heard = well row (Some kind) }) seventeen
+
+abbrev hears_all : Shape → ℕ → Memory → List Answered → Memory
+hears_all c host m [] = m
+hears_all c host m (x ∷ xs) = hears_all c host (hears c host m m.doing x) xs
+
+-- what a host of one disk and two slots knows that submits a command, with one try, and hears these
+unfoldable pub knows_then : (host : ℕ) → Command → List SeenBlock → Memory
+knows_then host command row = let c : Shape = record { disks = 1; slots = 2 } in
+    hears_all c host (goes_on c fresh (Submitting command) 1) (answers_showing row)

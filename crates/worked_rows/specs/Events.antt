@@ -1,10 +1,10 @@
 -- The events of the rows, each under the row's name.
-use Rattle.std.specs.Prelude.{ℕ, false, List, [], ◌∷◌, ◌++◌, replicate}
+use Rattle.std.specs.Prelude.{ℕ, true, false, List, [], ◌∷◌, ◌++◌, replicate}
 use Rattle.lock_modes.specs.declared.mode.Mode.{Mode}
-use Rattle.lock_modes.specs.declared.mode.Mode.TheVariants.{Exclusive}
+use Rattle.lock_modes.specs.declared.mode.Mode.TheVariants.{Null, ConcurrentRead, ConcurrentWrite, ProtectedRead, ProtectedWrite, Exclusive}
 use Rattle.lock_command.specs.declared.command.Command.{Command}
 use Rattle.lock_command.specs.declared.command.Action.{Action}
-use Rattle.lock_command.specs.declared.command.Action.TheVariants.{Enqueue, Release}
+use Rattle.lock_command.specs.declared.command.Action.TheVariants.{Enqueue, Convert, Release, Status, Purge}
 use Rattle.world.specs.Happens.{Event, Start, Stop, Submit, Recover, Step, Tear, FailCall, DiskCrash, DiskGone}
 
 -- COMMANDS
@@ -65,6 +65,49 @@ outrun_by_a_later_host = Start 0 ∷ Start 1 ∷ Submit 0 (takes_db 0) 1 ∷ ste
 abbrev pub outrun_once_and_tried_again : List Event
 outrun_once_and_tried_again = Start 0 ∷ Start 1 ∷ Submit 0 (takes_db 0) 2 ∷ steps 0 16 ++ Submit 1 (asks 1 2 1 (lock 2 db Exclusive)) 1 ∷ steps 1 51 ++ steps 0 109
 
+-- THE LOCK TABLE BEHIND THE LOG
+
+-- each is submitted through its host with one try, and takes 17 calls
+abbrev pub in_turn : List Command → List Event
+in_turn [] = []
+in_turn (command ∷ commands) = Submit command.host command 1 ∷ steps command.host 17 ++ in_turn commands
+
+-- a lock on the name a
+abbrev pub on_a : ℕ → Mode → Action
+on_a number mode = lock number (97 ∷ []) mode
+
+-- a granted lock is to have another mode, and waits for it where it must
+abbrev pub changed : ℕ → Mode → Action
+changed number mode = Convert number mode false
+
+-- the third client asks for what the second one's mode forbids
+abbrev pub one_has_to_wait : List Event
+one_has_to_wait = Start 0 ∷ in_turn (asks 0 1 1 (on_a 1 ConcurrentRead) ∷ asks 0 2 1 (on_a 2 ConcurrentWrite) ∷ asks 0 3 1 (on_a 3 ProtectedRead) ∷ [])
+
+-- two that read both want to be alone
+abbrev pub deadlock_of_two_conversions : List Event
+deadlock_of_two_conversions = Start 0 ∷ in_turn (asks 0 1 1 (on_a 1 ProtectedRead) ∷ asks 0 2 1 (on_a 2 ProtectedRead) ∷ asks 0 1 2 (changed 1 Exclusive) ∷ asks 0 2 2 (changed 2 Exclusive) ∷ [])
+
+-- a conversion and two locks wait for a release
+abbrev pub conversion_before_those_that_wait : List Event
+conversion_before_those_that_wait = Start 0 ∷ in_turn (asks 0 1 1 (on_a 1 Null) ∷ asks 0 2 1 (on_a 2 Exclusive) ∷ asks 0 1 2 (changed 1 ProtectedWrite) ∷ asks 0 3 1 (on_a 3 ConcurrentRead) ∷ asks 0 4 1 (on_a 4 ProtectedRead) ∷ asks 0 2 2 (Release 2) ∷ [])
+
+-- the fourth client's mode would be admitted, and the third one's is not
+abbrev pub nobody_overtakes : List Event
+nobody_overtakes = Start 0 ∷ in_turn (asks 0 1 1 (on_a 1 ConcurrentRead) ∷ asks 0 2 1 (on_a 2 ProtectedRead) ∷ asks 0 3 1 (on_a 3 ProtectedWrite) ∷ asks 0 4 1 (on_a 4 ConcurrentRead) ∷ [])
+
+-- a conversion that must not queue
+abbrev pub refused_where_it_would_queue : List Event
+refused_where_it_would_queue = Start 0 ∷ in_turn (asks 0 1 1 (on_a 1 ConcurrentRead) ∷ asks 0 2 1 (on_a 2 ConcurrentRead) ∷ asks 0 1 2 (Convert 1 Exclusive true) ∷ asks 0 1 3 (Status 1) ∷ [])
+
+-- two hosts' clients wait for each other, and what came through host 1 is purged
+abbrev pub purge_of_a_host : List Event
+purge_of_a_host = Start 0 ∷ Start 1 ∷ in_turn (asks 0 2 1 (lock 2 (98 ∷ []) Exclusive) ∷ [])
+    ++ Submit 1 (asks 1 1 1 (on_a 1 Exclusive)) 1 ∷ steps 1 34
+    ++ in_turn (asks 1 1 2 (lock 3 (98 ∷ []) ProtectedRead) ∷ [])
+    ++ Submit 0 (asks 0 2 2 (on_a 4 ProtectedRead)) 1 ∷ steps 0 51
+    ++ in_turn (asks 0 3 1 (Purge 1) ∷ asks 0 2 1 (Status 4) ∷ [])
+
 -- HOSTS STOP
 
 -- a body is torn, and its gate was not opened
@@ -113,3 +156,33 @@ loses_its_majority = submits ++ steps 0 9 ++ FailCall 0 (0 ∷ []) ∷ FailCall 
 -- and the host tries again
 abbrev pub tries_again : ℕ → List Event
 tries_again calls = loses_its_majority ++ Submit 0 (takes_db 0) 1 ∷ steps 0 calls
+
+-- two of three disks fail before all were read
+abbrev pub loses_its_majority_early : List Event
+loses_its_majority_early = submits ++ steps 0 4 ++ FailCall 0 (0 ∷ []) ∷ FailCall 0 (0 ∷ []) ∷ Submit 0 (takes_db 0) 1 ∷ steps 0 15
+
+-- host 1 takes ballot 2, loses its majority, and promises ballot 10 on disk 0; there it outruns host 0, whose second try
+-- finds that disk lost
+abbrev pub outrun_on_a_lost_disk : List Event
+outrun_on_a_lost_disk = Start 0 ∷ Start 1 ∷ Submit 0 (takes_db 0) 2 ∷ steps 0 9
+    ++ Submit 1 (takes_db 1) 1 ∷ steps 1 9 ++ FailCall 1 (0 ∷ []) ∷ FailCall 1 (0 ∷ []) ∷ Submit 1 (takes_db 1) 1 ∷ steps 1 15
+    ++ steps 0 7 ++ DiskGone 0 ∷ steps 0 13
+
+-- EVENTS THAT DO NOT APPLY
+
+-- to a stopped host, a host or a disk that there is not, or without bytes
+abbrev pub before_a_start : List Event
+before_a_start = Stop 0 ∷ Submit 0 (takes_db 0) 1 ∷ Recover 0 1 ∷ Step 0 ∷ Tear 0 (0 ∷ []) ∷ FailCall 0 (0 ∷ []) ∷ Start 8 ∷ DiskCrash 1 (0 ∷ []) ∷ DiskGone 1 ∷ DiskCrash 0 [] ∷ []
+
+-- to a running host that is idle: a second start, a call, a command of another host or without a try
+abbrev pub while_idle : List Event
+while_idle = Start 0 ∷ Step 0 ∷ Submit 0 (takes_db 1) 1 ∷ Submit 0 (takes_db 0) 0 ∷ Recover 0 0 ∷ []
+
+-- to one that is busy: another operation, the tear of a call that is no write, bytes that are none
+abbrev pub while_busy : List Event
+while_busy = Submit 0 (takes_db 0) 1 ∷ Recover 0 1 ∷ Tear 0 (0 ∷ []) ∷ FailCall 0 [] ∷ []
+
+-- among these a host submits, and the disk is lost afterwards, and lost again
+abbrev pub events_that_do_not_apply : List Event
+events_that_do_not_apply = before_a_start ++ Start 0 ∷ while_idle ++ Submit 0 (takes_db 0) 1 ∷ while_busy ++ steps 0 17
+    ++ DiskGone 0 ∷ DiskGone 0 ∷ DiskCrash 0 (0 ∷ []) ∷ []

@@ -1,7 +1,8 @@
 // Rows in which every device call succeeds and no host stops.
 ghost use Rattle.std.specs.Prelude.{◌≡◌, ◌∷◌, []};
 ghost use Rattle.slot_log.specs.declared.outcome.Refusal.TheVariants as refusal;
-ghost use Rattle.worked_rows.specs.Answers.{said_over, granted, queued, recovered, refused};
+ghost use Rattle.world.specs.Happens.{run};
+ghost use Rattle.worked_rows.specs.Answers.{sized, said_over, granted, queued, recovered, refused};
 ghost use Rattle.worked_rows.specs.Events as events;
 
 /// Three disks of zeros are an empty log, found by ten calls on each.
@@ -52,4 +53,12 @@ pub fn outrun_by_a_later_host()
 pub fn outrun_once_and_tried_again()
     ensures { said_over 3 4 events.outrun_once_and_tried_again ≡
         granted 70 1 0 ∷ queued 179 0 1 ∷ [] }
+{}
+
+/// Events that do not apply bring no entry, and change no answer but its place.
+///
+/// `cluster 1 1 | stop 0 | submit 0 1 enqueue 1 1 1 EX db | recover 0 1 | step 0 1 | tear 0 00 | ..`
+pub fn events_that_do_not_apply()
+    ensures none { run (sized 1 1) events.before_a_start ≡ [] }
+    ensures answers { said_over 1 1 events.events_that_do_not_apply ≡ granted 37 0 0 ∷ [] }
 {}

@@ -1,7 +1,12 @@
 // Attempts by themselves: how they end, and after how many answers.
-ghost use Rattle.std.specs.Prelude.{◌≡◌, ◌∷◌, [], Some, None};
-ghost use Rattle.attempt.specs.Status.{Committed, Empty, NoMajority};
-ghost use Rattle.worked_rows.specs.Attempts.{ending, ends, attempt_of, blanks, lost_below, showing, showing_below, blank_row, spent_row, two_votes, ballot_seeing};
+ghost use Rattle.std.specs.Prelude.{◌≡◌, ◌∷◌, [], ℕ, List, Some, None};
+ghost use Rattle.paxos_block.specs.declared.ballot.TheConstants.{LAST_BALLOT};
+ghost use Rattle.attempt.specs.Chosen.{Chooses};
+ghost use Rattle.attempt.specs.Status.{Committed, Empty, NoMajority, BallotsSpent};
+ghost use Rattle.slot_log.specs.declared.outcome.Refusal.TheVariants as refusal;
+ghost use Rattle.host.specs.declared.answer.HostAnswer.TheVariants.{Refused};
+ghost use Rattle.worked_rows.specs.Events.{takes_db};
+ghost use Rattle.worked_rows.specs.Attempts.{ending, ends, attempt_of, blanks, lost_below, showing, showing_below, blank_row, spent_row, two_votes, last_of_host_0, heard_after, ballot_seeing, knows_then};
 
 /// With an input an attempt takes 17 calls a disk.
 pub fn seventeen_calls_with_an_input()
@@ -44,4 +49,34 @@ pub fn spent_blocks()
         (attempt_of 0 3 (Some (7 ∷ []))) ≡ ends 9 NoMajority }
     ensures last_two { ending (showing_below 1 blank_row spent_row)
         (attempt_of 0 3 (Some (7 ∷ []))) ≡ ends 16 NoMajority }
+{}
+
+/// Ballots end at 2 to the 62. Host 0, whose last one is promised, has no other; host 7 takes the
+/// very last.
+pub fn last_ballots()
+    ensures spent { ending (showing last_of_host_0) (attempt_of 0 1 (Some (7 ∷ []))) ≡
+        ends 3 BallotsSpent }
+    ensures last { ballot_seeing last_of_host_0 (attempt_of 7 1 (Some (7 ∷ []))) ≡ LAST_BALLOT }
+    ensures taken { ending (showing last_of_host_0) (attempt_of 7 1 (Some (7 ∷ []))) ≡
+        ends 17 (Committed (7 ∷ [])) }
+{}
+
+/// A value is chosen with the answer by which more than half of the disks accept it. Over three
+/// disks that is the 44th, and the attempt ends with the 51st.
+pub fn chosen_before_the_end()
+    ensures not_yet { (value : List ℕ) → ¬ Chooses (attempt_of 0 3 (Some (7 ∷ [])))
+        (heard_after 43 blanks (attempt_of 0 3 (Some (7 ∷ [])))) value }
+    ensures chosen { Chooses (attempt_of 0 3 (Some (7 ∷ [])))
+        (heard_after 44 blanks (attempt_of 0 3 (Some (7 ∷ [])))) (7 ∷ []) }
+{}
+
+/// A host whose attempt commits a value that is no command does not learn it. It says so, is idle,
+/// and its ballot counts.
+pub fn value_that_is_no_command()
+    ensures { knows_then 2 (takes_db 2) two_votes ≡ record {
+      learned = [];
+      floor = 11;
+      doing = None;
+      said = Some (Refused refusal.NotACommand);
+    } }
 {}

@@ -58,3 +58,31 @@ pub fn floor_of_a_ballot_never_written()
     ensures answers { said_over 3 2 (events.tries_again 51) ≡
         refused 12 0 refusal.NoMajority ∷ granted 64 0 0 ∷ [] }
 {}
+
+/// Where not all disks left were read no ballot was taken, and the next one is the first.
+///
+/// `cluster 3 2 | start 0 | submit 0 1 enqueue 1 1 1 EX db | step 0 4 | fail 0 00 | fail 0 00 |`
+/// `submit 0 1 enqueue 1 1 1 EX db | step 0 15`
+pub fn no_floor_without_a_ballot()
+    ensures answers { said_over 3 2 events.loses_its_majority_early ≡
+        refused 7 0 refusal.NoMajority ∷ [] }
+    ensures promised { vote_on (world_over 3 2 events.loses_its_majority_early) 0 0 0 ≡
+        Some (record { mbal = 1; bal = 0; inp = None }) }
+{}
+
+/// The ballot that outran a host counts for it, also where the disk that showed it is lost: host 0
+/// was outrun by ballot 10, and takes 17.
+///
+/// `cluster 3 2 | start 0 | start 1 | submit 0 2 enqueue 1 1 1 EX db | step 0 9 |`
+/// `submit 1 1 enqueue 1 1 1 EX db | step 1 9 | fail 1 00 | fail 1 00 |`
+/// `submit 1 1 enqueue 1 1 1 EX db | step 1 15 | step 0 7 | gone 0 | step 0 13`
+pub fn floor_of_an_outrun()
+    ensures answers { said_over 3 2 events.outrun_on_a_lost_disk ≡
+        refused 23 1 refusal.NoMajority ∷ [] }
+    ensures outran { vote_on (world_over 3 2 events.outrun_on_a_lost_disk) 0 0 1 ≡
+        Some (record { mbal = 10; bal = 0; inp = None }) }
+    ensures unseen { vote_on (world_over 3 2 events.outrun_on_a_lost_disk) 1 0 1 ≡
+        Some (record { mbal = 0; bal = 0; inp = None }) }
+    ensures promised { vote_on (world_over 3 2 events.outrun_on_a_lost_disk) 1 0 0 ≡
+        Some (record { mbal = 17; bal = 0; inp = None }) }
+{}

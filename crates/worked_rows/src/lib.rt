@@ -4,19 +4,25 @@
 mod answered;
 mod attempts;
 mod faults;
+mod locks;
 mod stops;
 
 pub use answered::{
-    first_command_before_the_own, first_reply, log_of_one_slot, outrun_by_a_later_host,
-    outrun_once_and_tried_again, recovery_of_blank_disks,
+    events_that_do_not_apply, first_command_before_the_own, first_reply, log_of_one_slot,
+    outrun_by_a_later_host, outrun_once_and_tried_again, recovery_of_blank_disks,
 };
 pub use attempts::{
-    adopted_value, seventeen_calls_with_an_input, some_disks_lost, spent_blocks,
-    ten_calls_without_an_input,
+    adopted_value, chosen_before_the_end, last_ballots, seventeen_calls_with_an_input,
+    some_disks_lost, spent_blocks, ten_calls_without_an_input, value_that_is_no_command,
 };
 pub use faults::{
     crash_between_two_calls, disk_fails_and_another_is_lost, floor_of_a_ballot_never_written,
-    recovery_after_a_failed_first_write, two_disks_lost,
+    floor_of_an_outrun, no_floor_without_a_ballot, recovery_after_a_failed_first_write,
+    two_disks_lost,
+};
+pub use locks::{
+    conversion_before_those_that_wait, deadlock_of_two_conversions, nobody_overtakes,
+    one_has_to_wait, purge_of_a_host, refused_where_it_would_queue,
 };
 pub use stops::{
     torn_body, torn_body_stays_closed, torn_gate, torn_gate_then_crash,
