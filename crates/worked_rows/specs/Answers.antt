@@ -14,7 +14,7 @@ use Rattle.paxos_block.specs.Votes.{says_in}
 use Rattle.slot_log.specs.Shape.{Shape}
 use Rattle.slot_log.specs.declared.outcome.Refusal.{Refusal}
 use Rattle.host.specs.declared.answer.HostAnswer.TheVariants.{Ack, Recovered, Refused}
-use Rattle.host.specs.Host.{learned_of}
+use Rattle.host.specs.Host.{Host, Stopped, Running, learned_of}
 use Rattle.world.specs.World.{World, world}
 use Rattle.world.specs.Happens.{Event, Line, run, answers}
 
@@ -65,6 +65,14 @@ lock_on name lock client host state = record { lock = lock; client = client; hos
 -- client 1 has lock 1 on db through host 0, exclusively, and there is no other
 abbrev pub db_is_held : List LockRecord
 db_is_held = lock_on (100 ∷ 98 ∷ []) 1 1 0 (Granted Exclusive) ∷ []
+
+-- the number that a host's next ballot has to be above, whatever it reads
+abbrev pub floor_in : Host → ℕ
+floor_in Stopped = 0
+floor_in (Running m) = m.floor
+
+abbrev pub floor_of : World → ℕ → ℕ
+floor_of w host = floor_in (w.host host)
 
 -- what a host's block of a slot says on a disk, where the row is sound
 abbrev pub vote_on : World → (disk slot host : ℕ) → Option PBlock

@@ -46,6 +46,19 @@ lost_below n heard d = if nat_lt d n then Fault Gone else blanks heard d
 abbrev pub showing_below : ℕ → List SeenBlock → List SeenBlock → Disks
 showing_below n low high heard d = if nat_lt d n then showing low heard d else showing high heard d
 
+-- a call of a kind is answered well, but each row has a damaged block
+abbrev pub damaged : Option Kind → Heard
+damaged (Some Reading) = Told None
+damaged kind = well blank_row kind
+
+-- the first n disks show damaged rows
+abbrev pub damaged_below : ℕ → Disks
+damaged_below n heard d = if nat_lt d n then damaged (slice_get seventeen (length (on heard d))) else blanks heard d
+
+-- each disk shows one row in the opening, and another from then on
+abbrev pub showing_then : List SeenBlock → List SeenBlock → Disks
+showing_then first later heard d = if nat_lt (length (on heard d)) 3 then showing first heard d else showing later heard d
+
 -- AN ATTEMPT
 
 -- an attempt for slot 0 with this input, over so many disks
@@ -94,6 +107,14 @@ saying sequence mbal bal inp = record { bytes = blank_seen.bytes; sequence = seq
 -- host 0 has promised ballot 9 and voted for 1 at ballot 1; host 1 has voted for 2 at ballot 2
 abbrev pub two_votes : List SeenBlock
 two_votes = saying 2 9 1 (Some (1 ∷ [])) ∷ saying 2 2 2 (Some (2 ∷ [])) ∷ replicate 6 blank_seen
+
+-- hosts 0 and 1 have voted at the same ballot, which no run shows
+abbrev pub equal_votes : List SeenBlock
+equal_votes = saying 2 2 2 (Some (1 ∷ [])) ∷ saying 2 2 2 (Some (2 ∷ [])) ∷ replicate 6 blank_seen
+
+-- host 0 has promised ballot 17
+abbrev pub promise_of_17 : List SeenBlock
+promise_of_17 = saying 2 17 0 None ∷ replicate 7 blank_seen
 
 -- the block of host 0 can be written no more
 abbrev pub spent_row : List SeenBlock

@@ -65,6 +65,14 @@ outrun_by_a_later_host = Start 0 ∷ Start 1 ∷ Submit 0 (takes_db 0) 1 ∷ ste
 abbrev pub outrun_once_and_tried_again : List Event
 outrun_once_and_tried_again = Start 0 ∷ Start 1 ∷ Submit 0 (takes_db 0) 2 ∷ steps 0 16 ++ Submit 1 (asks 1 2 1 (lock 2 db Exclusive)) 1 ∷ steps 1 51 ++ steps 0 109
 
+-- host 1 begins when host 0 has written its promise and read behind it, so host 0 hears of the greater ballot behind its vote
+abbrev pub outrun_in_phase_two : List Event
+outrun_in_phase_two = Start 0 ∷ Start 1 ∷ Submit 0 (takes_db 0) 1 ∷ steps 0 10 ++ Submit 1 (asks 1 2 1 (lock 2 db Exclusive)) 1 ∷ steps 1 17 ++ steps 0 7
+
+-- host 0 has two tries, and host 1 recovers in both of them
+abbrev pub outrun_on_both_tries : List Event
+outrun_on_both_tries = Start 0 ∷ Start 1 ∷ Submit 0 (takes_db 0) 2 ∷ steps 0 4 ++ Recover 1 1 ∷ steps 1 10 ++ steps 0 10 ++ Recover 1 1 ∷ steps 1 10 ++ steps 0 6
+
 -- THE LOCK TABLE BEHIND THE LOG
 
 -- each is submitted through its host with one try, and takes 17 calls

@@ -46,6 +46,24 @@ pub fn outrun_by_a_later_host()
         granted 24 1 0 ∷ refused 30 0 refusal.Outrun ∷ [] }
 {}
 
+/// So it is where it hears of the ballot behind its vote.
+///
+/// `cluster 1 2 | start 0 | start 1 | submit 0 1 enqueue 1 1 1 EX db | step 0 10 |`
+/// `submit 1 1 enqueue 2 1 2 EX db | step 1 17 | step 0 7`
+pub fn outrun_in_phase_two()
+    ensures { said_over 1 2 events.outrun_in_phase_two ≡
+        granted 30 1 0 ∷ refused 37 0 refusal.Outrun ∷ [] }
+{}
+
+/// Each try that is outrun counts, and with the last one the host is refused.
+///
+/// `cluster 1 2 | start 0 | start 1 | submit 0 2 enqueue 1 1 1 EX db | step 0 4 | recover 1 1 |`
+/// `step 1 10 | step 0 10 | recover 1 1 | step 1 10 | step 0 6`
+pub fn outrun_on_both_tries()
+    ensures { said_over 1 2 events.outrun_on_both_tries ≡
+        recovered 17 1 0 ∷ recovered 38 1 0 ∷ refused 44 0 refusal.Outrun ∷ [] }
+{}
+
 /// With a try left it takes a greater ballot, learns the other's command, and queues behind it.
 ///
 /// `cluster 3 4 | start 0 | start 1 | submit 0 2 enqueue 1 1 1 EX db | step 0 16 |`

@@ -6,7 +6,7 @@ ghost use Rattle.attempt.specs.Status.{Committed, Empty, NoMajority, BallotsSpen
 ghost use Rattle.slot_log.specs.declared.outcome.Refusal.TheVariants as refusal;
 ghost use Rattle.host.specs.declared.answer.HostAnswer.TheVariants.{Refused};
 ghost use Rattle.worked_rows.specs.Events.{takes_db};
-ghost use Rattle.worked_rows.specs.Attempts.{ending, ends, attempt_of, blanks, lost_below, showing, showing_below, blank_row, spent_row, two_votes, last_of_host_0, heard_after, ballot_seeing, knows_then};
+ghost use Rattle.worked_rows.specs.Attempts.{ending, ends, attempt_of, blanks, lost_below, showing, showing_below, blank_row, spent_row, two_votes, last_of_host_0, heard_after, ballot_seeing, knows_then, damaged_below, showing_then, equal_votes, promise_of_17};
 
 /// With an input an attempt takes 17 calls a disk.
 pub fn seventeen_calls_with_an_input()
@@ -24,11 +24,20 @@ pub fn ten_calls_without_an_input()
     ensures seven_disks { ending blanks (attempt_of 0 7 None) ≡ ends 70 Empty }
 {}
 
-/// Of seven disks four are enough; with four lost the fourth refusal ends the attempt.
+/// Of seven disks four are enough; with four lost the fourth refusal ends the attempt. Two of four
+/// are not enough.
 pub fn some_disks_lost()
     ensures three { ending (lost_below 3) (attempt_of 0 7 (Some (7 ∷ []))) ≡
         ends 71 (Committed (7 ∷ [])) }
     ensures four { ending (lost_below 4) (attempt_of 0 7 (Some (7 ∷ []))) ≡ ends 4 NoMajority }
+    ensures half { ending (lost_below 2) (attempt_of 0 4 (Some (7 ∷ []))) ≡ ends 2 NoMajority }
+{}
+
+/// A disk whose row is damaged is left out when it is read. One of three does no harm.
+pub fn damaged_rows()
+    ensures one { ending (damaged_below 1) (attempt_of 0 3 (Some (7 ∷ []))) ≡
+        ends 37 (Committed (7 ∷ [])) }
+    ensures two { ending (damaged_below 2) (attempt_of 0 3 (Some (7 ∷ []))) ≡ ends 6 NoMajority }
 {}
 
 /// Host 2 sees ballot 9, promised by host 0 with a vote for 1 at ballot 1, and a vote of host 1
@@ -37,6 +46,19 @@ pub fn adopted_value()
     ensures ballot { ballot_seeing two_votes (attempt_of 2 1 (Some (3 ∷ []))) ≡ 11 }
     ensures end { ending (showing two_votes) (attempt_of 2 1 (Some (3 ∷ []))) ≡
         ends 17 (Committed (2 ∷ [])) }
+{}
+
+/// Where two votes are of one ballot, the one of the lower host number is taken. Since a ballot is
+/// of one host, no run shows that.
+pub fn first_of_equal_votes()
+    ensures { ending (showing equal_votes) (attempt_of 2 1 (Some (3 ∷ []))) ≡
+        ends 17 (Committed (1 ∷ [])) }
+{}
+
+/// The own block does not outrun, whatever its mbal. No run shows another one than was written.
+pub fn own_mbal_does_not_outrun()
+    ensures { ending (showing_then blank_row promise_of_17) (attempt_of 0 1 (Some (7 ∷ []))) ≡
+        ends 17 (Committed (7 ∷ [])) }
 {}
 
 /// A disk on which the own block's sequence number is spent is left out when a write to it is due.

@@ -2,7 +2,7 @@
 ghost use Rattle.std.specs.Prelude.{◌≡◌, ◌∷◌, [], Some, None};
 ghost use Rattle.lock_command.specs.Command.{spelling};
 ghost use Rattle.slot_log.specs.declared.outcome.Refusal.TheVariants as refusal;
-ghost use Rattle.worked_rows.specs.Answers.{said_over, world_over, locks_of, vote_on, granted, recovered, refused, db_is_held};
+ghost use Rattle.worked_rows.specs.Answers.{said_over, world_over, locks_of, vote_on, floor_of, granted, recovered, refused, db_is_held};
 ghost use Rattle.worked_rows.specs.Events as events;
 
 /// A vote that one disk alone has is not chosen. A recovery that does not see it finds nothing;
@@ -44,15 +44,17 @@ pub fn crash_between_two_calls()
 {}
 
 /// A ballot that was taken counts, though it was written nowhere: the host's next one is greater.
-/// The first is 1, and host 0's next is 9.
+/// The first is 1, and host 0's next is 9. On the next slot it counts no more.
 ///
 /// `cluster 3 2 | start 0 | submit 0 1 enqueue 1 1 1 EX db | step 0 9 | fail 0 00 | fail 0 00 |`
 /// `submit 0 1 enqueue 1 1 1 EX db | step 0 51`
 pub fn floor_of_a_ballot_never_written()
     ensures unwritten { vote_on (world_over 3 2 events.loses_its_majority) 0 0 0 ≡
         Some (record { mbal = 0; bal = 0; inp = None }) }
+    ensures kept { floor_of (world_over 3 2 events.loses_its_majority) 0 ≡ 1 }
     ensures promised { vote_on (world_over 3 2 (events.tries_again 15)) 0 0 0 ≡
         Some (record { mbal = 9; bal = 0; inp = None }) }
+    ensures next_slot { floor_of (world_over 3 2 (events.tries_again 51)) 0 ≡ 0 }
     ensures voted { vote_on (world_over 3 2 (events.tries_again 51)) 0 0 0 ≡
         Some (record { mbal = 9; bal = 9; inp = Some (spelling (events.takes_db 0)) }) }
     ensures answers { said_over 3 2 (events.tries_again 51) ≡

@@ -9,11 +9,13 @@ mod stops;
 
 pub use answered::{
     events_that_do_not_apply, first_command_before_the_own, first_reply, log_of_one_slot,
-    outrun_by_a_later_host, outrun_once_and_tried_again, recovery_of_blank_disks,
+    outrun_by_a_later_host, outrun_in_phase_two, outrun_on_both_tries, outrun_once_and_tried_again,
+    recovery_of_blank_disks,
 };
 pub use attempts::{
-    adopted_value, chosen_before_the_end, last_ballots, seventeen_calls_with_an_input,
-    some_disks_lost, spent_blocks, ten_calls_without_an_input, value_that_is_no_command,
+    adopted_value, chosen_before_the_end, damaged_rows, first_of_equal_votes, last_ballots,
+    own_mbal_does_not_outrun, seventeen_calls_with_an_input, some_disks_lost, spent_blocks,
+    ten_calls_without_an_input, value_that_is_no_command,
 };
 pub use faults::{
     crash_between_two_calls, disk_fails_and_another_is_lost, floor_of_a_ballot_never_written,

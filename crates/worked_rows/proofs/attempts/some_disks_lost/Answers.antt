@@ -9,3 +9,7 @@ returns-clause-three c = refl
 pub returns-clause-four : goal.returns-clause-four
 unfolding ending
 returns-clause-four c = refl
+
+pub returns-clause-half : goal.returns-clause-half
+unfolding ending
+returns-clause-half c = refl

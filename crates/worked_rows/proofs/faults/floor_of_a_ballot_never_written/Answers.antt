@@ -1,5 +1,5 @@
 use Rattle.std.proofs.Common.{refl}
-use Rattle.worked_rows.specs.Answers.{vote_on}
+use Rattle.worked_rows.specs.Answers.{vote_on, floor_of}
 use Rattle.worked_rows.proofs.Beside.{played, said_by, stands}
 use Rattle.worked_rows.proofs.faults.floor_of_a_ballot_never_written.Goals as goal
 
@@ -18,3 +18,11 @@ returns-clause-voted c = stands (λ w. vote_on w 0 0 0) _ _ _ _ refl
 pub returns-clause-answers : goal.returns-clause-answers
 unfolding played
 returns-clause-answers c = said_by _ _ _ _ refl
+
+pub returns-clause-kept : goal.returns-clause-kept
+unfolding played
+returns-clause-kept c = stands (λ w. floor_of w 0) _ _ _ _ refl
+
+pub returns-clause-next_slot : goal.returns-clause-next_slot
+unfolding played
+returns-clause-next_slot c = stands (λ w. floor_of w 0) _ _ _ _ refl
