@@ -1,0 +1,155 @@
+-- A device call, and one that is torn, is a few moves.
+use Rattle.std.proofs.Common.{ℕ, ◌≡◌, ◌==◌, inl, inr, true, cond, Option, Some, None, List, [], ◌∷◌, ◌++◌, length, append_assoc, refl, sym, subst, ap, ◌∙◌}
+use Rattle.std.proofs.lemmas.Bool.{eq-eqb}
+use Rattle.disk.specs.declared.fault.DiskFault.TheVariants.{Failed}
+use Rattle.disk.specs.Disk.{DiskState, Call, Attach, Read, Write, Sync, Answer, Fault, Step}
+use Rattle.attempt.specs.Answers.{Answered, on, heard_as}
+use Rattle.attempt.specs.Chosen.{Chooses}
+use Rattle.attempt.specs.Proposal.{ballot}
+use Rattle.attempt.specs.Setup.{Setup}
+use Rattle.attempt.specs.Status.{status, taken}
+use Rattle.slot_log.specs.Shape.{Shape}
+use Rattle.host.specs.Host.{Doing, Memory, Host, Stopped, Running, input_of, setup_of, by_status, hears as hears_more, next_doing, next_of}
+use Rattle.world.specs.Entry.{Filled, Called, Torn, is_of, disk_step, host_step}
+use Rattle.world.specs.World.{World, Tears}
+use Rattle.agreement.specs.Event.{Event}
+use Rattle.agreement.specs.Chosen.{IsInput, IsChosenBy}
+use Rattle.agreement.specs.Log.{events_of_slot, IsHistory}
+use Rattle.agreement.specs.Log.Move.{Restart}
+use Rattle.world_safety.specs.Goes.{IsTryingAt, IsInputAt, HostGoes, Goes}
+use Rattle.world_safety.specs.Next.{next_world}
+use Rattle.world_safety.specs.Tied.{Moves, machine, IsTrying, IsDoing, IsRunning, Tied}
+use Rattle.world_safety.proofs.Called.{Hears, hears, input_append}
+use Rattle.world_safety.proofs.Ending.{answered_late}
+use Rattle.world_safety.proofs.Hosts.{Late, tied_with, but_stops, stops_learned}
+use Rattle.world_safety.proofs.Machines.{events_append}
+use Rattle.world_safety.proofs.OneBlock.{with_disks}
+use Rattle.world_safety.proofs.Moving.{chosen_by_later, for_host, late_goes, late_tied, stopped_goes, running_at}
+
+module _ (c : Shape) (w : World) (ms : Moves) (tied : Tied c w ms) where
+  -- A DEVICE CALL
+
+  -- who has a call to make is running, and tries a slot
+  pub busy : (h k : ℕ) (call : Call) (host : Host) → w.host h ≡ host → next_of c h host ≡ Some (k, call) → (m : Memory) × (t : Doing) × (w.host h ≡ Running m) × (m.doing ≡ Some t)
+  busy h k call Stopped is next = absurd (cc)
+  busy h k call (Running m) is next = go m.doing refl next
+    where
+      go : (o : Option Doing) → m.doing ≡ o → next_doing c h m o ≡ Some (k, call) → (m : Memory) × (t : Doing) × (w.host h ≡ Running m) × (m.doing ≡ Some t)
+      go None does due = absurd (cc)
+      go (Some t) does due = (m, t, is, does)
+
+  module _ (h k : ℕ) (call : Call) (answer : Answer) (left : List ℕ) (next : next_of c h (w.host h) ≡ Some (k, call)) (step : Step (w.disk k) call answer (disk_step (w.disk k) (Called h k call answer left)))
+      (m : Memory) (t : Doing) (running : w.host h ≡ Running m) (does : m.doing ≡ Some t) where
+    abbrev x : Answered
+    x = record { disk = k; heard = heard_as answer }
+
+    abbrev heard : List Answered
+    heard = t.heard ++ x ∷ []
+
+    abbrev s : Setup
+    s = setup_of c h m t.operation
+
+    abbrev disks : ℕ → DiskState
+    disks d = cond (k == d) (disk_step (w.disk d) (Called h k call answer left)) (w.disk d)
+
+    abbrev w2 : World
+    w2 = with_disks w disks
+
+    run : IsRunning c w ms h m
+    run = running_at c w ms tied h m running
+
+    trying : IsTrying c w ms h m t
+    trying = subst (IsDoing c w ms h m) does run.doing
+
+    hears_it : Hears c w w2 ms h m t heard
+    hears_it = hears c w ms tied h k call answer left m t running does next step
+
+    abbrev new : Memory
+    new = by_status c m (record { operation = t.operation; tries = t.tries; heard = heard }) (taken s (on heard)) (status s (on heard))
+
+    late : Late c w2 (ms ++ hears_it.early) h (Some (length m.learned)) new
+    late = answered_late c w2 (ms ++ hears_it.early) h m t heard hears_it.tied run.below trying.fits trying.input hears_it.learned hears_it.follows hears_it.knows hears_it.votes
+
+    now : host_step c h (w.host h) (Called h k call answer left) ≡ Running new
+    now = ap (λ (host : Host). host_step c h host (Called h k call answer left)) running ∙ ap (λ (o : Option Doing). Running (hears_more c h m o x)) does
+
+    was : (n : ℕ) → Some (length m.learned) ≡ Some n → IsTryingAt w h n
+    was n same = record { memory = m; doing = t; running = running; does = does; is = (let one : length m.learned ≡ n = cc in one) }
+
+    input_at : (e : Filled) → is_of h e ≡ true → (v : List ℕ) → input_of t.operation ≡ Some v → IsInputAt w e v
+    input_at e of v input = record { host = h; memory = m; doing = t; of = of; running = running; does = does; input = input }
+
+    called_input : (j : ℕ) (v : List ℕ) → IsInput (events_of_slot j (hears_it.early ++ late.late)) v → input_of t.operation ≡ Some v
+    called_input j v input =
+        elim (input_append (events_of_slot j hears_it.early) (events_of_slot j late.late) v (subst (λ (es : List (Event (List ℕ))). IsInput es v) (events_append j hears_it.early late.late) input)) [
+          | inl early ↦ hears_it.inputs j v early
+          | inr later ↦ absurd (late.quiet j v later)
+        ]
+
+    called_tied : Tied c (next_world c w (Called h k call answer left)) (ms ++ (hears_it.early ++ late.late))
+    called_tied = late_tied c w w2 (Called h k call answer left) ms hears_it.early h (Some (length m.learned)) new late now was (λ g. host_step c g (w.host g) (Called h k call answer left)) now
+
+    abbrev IsChosenAs : Memory → Doing → Type 0
+    IsChosenAs m' t' =
+        (v : List ℕ) → Chooses (setup_of c h m' t'.operation) (on (t'.heard ++ x ∷ [])) v
+        → IsChosenBy c.disks (machine (ms ++ (hears_it.early ++ late.late)) (length m'.learned)) (ballot (setup_of c h m' t'.operation) (on (t'.heard ++ x ∷ []))) v
+
+    chosen_here : IsChosenAs m t
+    chosen_here v chooses =
+        let regroup = append_assoc ms hears_it.early late.late in
+        subst (λ (l : Moves). IsChosenBy c.disks (machine l (length m.learned)) (ballot s (on heard)) v) regroup
+        (chosen_by_later c.disks (ms ++ hears_it.early) late.late (length m.learned) (ballot s (on heard)) v (subst (λ (l : Moves). IsHistory c.disks l) (sym regroup) called_tied.history) (hears_it.chosen v chooses))
+
+    called_chosen : (m' : Memory) (t' : Doing) (v : List ℕ) → w.host h ≡ Running m' → m'.doing ≡ Some t' → Chooses (setup_of c h m' t'.operation) (on (t'.heard ++ x ∷ [])) v
+        → IsChosenBy c.disks (machine (ms ++ (hears_it.early ++ late.late)) (length m'.learned)) (ballot (setup_of c h m' t'.operation) (on (t'.heard ++ x ∷ []))) v
+    called_chosen m' t' v is does' chooses =
+        let both : Running m' ≡ Running m = sym is ∙ running in
+        let same : m' ≡ m = cc in
+        let ones : Some t' ≡ Some t = sym does' ∙ ap (λ (k : Memory). k.doing) same ∙ does in
+        let one : t' ≡ t = cc in
+        let there : IsChosenAs m' t' = subst (λ (q : Memory). IsChosenAs q t') (sym same) (subst (IsChosenAs m) (sym one) chosen_here) in
+        there v chooses
+
+    pub called_goes : Goes c w (Called h k call answer left) ms
+    called_goes =
+        record {
+          more = hears_it.early ++ late.late;
+          tied = called_tied;
+          inputs = λ j v input. input_at (Called h k call answer left) (eq-eqb h h refl) v (called_input j v input);
+          host = λ g of. for_host (λ i. HostGoes c w (Called h k call answer left) ms (hears_it.early ++ late.late) i) h g of
+              (late_goes c w w2 (Called h k call answer left) ms hears_it.early h (Some (length m.learned)) new late now was);
+          chosen = called_chosen;
+        }
+
+  -- A TORN WRITE: the call fails, and its host stops
+
+  module _ (h k : ℕ) (call : Call) (left : List ℕ) (next : next_of c h (w.host h) ≡ Some (k, call)) (step : Step (w.disk k) call (Fault Failed) (disk_step (w.disk k) (Called h k call (Fault Failed) left)))
+      (m : Memory) (t : Doing) (running : w.host h ≡ Running m) (does : m.doing ≡ Some t) where
+    torn_input : (it : Hears c w (with_disks w (λ d. cond (k == d) (disk_step (w.disk d) (Torn h k call left)) (w.disk d))) ms h m t (t.heard ++ record { disk = k; heard = heard_as (Fault Failed) } ∷ [])) (j : ℕ) (v : List ℕ)
+        → IsInput (events_of_slot j (it.early ++ Restart h ∷ [])) v → input_of t.operation ≡ Some v
+    torn_input it j v input =
+        elim (input_append (events_of_slot j it.early) (events_of_slot j (Restart h ∷ [])) v (subst (λ (es : List (Event (List ℕ))). IsInput es v) (events_append j it.early (Restart h ∷ [])) input)) [
+          | inl early ↦ it.inputs j v early
+          | inr later ↦ absurd (elim later [ inl puts ↦ puts | inr rest ↦ rest ])
+        ]
+
+    pub torn_goes : Goes c w (Torn h k call left) ms
+    torn_goes =
+        let it = hears c w ms tied h k call (Fault Failed) left m t running does next step in
+        let disks = (λ (d : ℕ). cond (k == d) (disk_step (w.disk d) (Torn h k call left)) (w.disk d)) in
+        let w2 = with_disks w disks in
+        let regroup = append_assoc ms it.early (Restart h ∷ []) in
+        record {
+          more = it.early ++ Restart h ∷ [];
+          tied = subst (λ (l : Moves). Tied c (next_world c w (Torn h k call left)) l) regroup
+              (tied_with c w2 ((ms ++ it.early) ++ Restart h ∷ []) h (λ g. Stopped) (but_stops c w2 (ms ++ it.early) h it.tied) (stops_learned c w2 (ms ++ it.early) h it.tied));
+          inputs = λ j v input. record { host = h; memory = m; doing = t; of = eq-eqb h h refl; running = running; does = does; input = torn_input it j v input };
+          host = λ g of. for_host (λ i. HostGoes c w (Torn h k call left) ms (it.early ++ Restart h ∷ []) i) h g of (stopped_goes c w (Torn h k call left) ms (it.early ++ Restart h ∷ []) h refl);
+          chosen = tt;
+        }
+
+  pub tears : (h k : ℕ) (call : Call) (left : List ℕ) → Tears call (w.disk k) (disk_step (w.disk k) (Torn h k call left)) → Step (w.disk k) call (Fault Failed) (disk_step (w.disk k) (Called h k call (Fault Failed) left))
+  tears h k Attach left is = absurd is
+  tears h k (Read boot at len) left is = absurd is
+  tears h k (Write boot at from) left is = is
+  tears h k (Sync boot) left is = absurd is

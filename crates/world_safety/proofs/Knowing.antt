@@ -1,0 +1,182 @@
+-- What a running host has learned was chosen, and what it submits was submitted.
+use Rattle.std.specs.Prelude.{nat_lt, nat_le, max, slice_get, ◌-◌, cond, if◌then◌else◌}
+use Rattle.std.proofs.Common.{ℕ, suc, ◌≡◌, inl, inr, Bool, true, false, Option, Some, None, List, [], ◌∷◌, ◌++◌, length, refl, sym, subst, ap, ◌∙◌, arith}
+use Rattle.std.proofs.lemmas.Bool.{eqb-true}
+use Rattle.disk.specs.Disk.{Call, Answer}
+use Rattle.attempt.specs.Answers.{Answered, on, heard_as}
+use Rattle.attempt.specs.Status as attempt
+use Rattle.attempt.specs.Status.{Status, Due, Ended, End, status, taken}
+use Rattle.lock_command.specs.declared.command.Command.{Command}
+use Rattle.lock_command.specs.Command.{spelling}
+use Rattle.lock_command.specs.Reading.{decoded}
+use Rattle.slot_log.specs.Shape.{Shape}
+use Rattle.slot_log.specs.declared.outcome.Refusal.TheVariants as refusal
+use Rattle.host.specs.declared.answer.HostAnswer.{HostAnswer}
+use Rattle.host.specs.declared.answer.HostAnswer.TheVariants.{Ack, Recovered, Refused}
+use Rattle.host.specs.Host.{Operation, Submitting, Recovering, Doing, Memory, Host, Stopped, Running, setup_of, says, does, begins, full_answer, goes_on, with_floor, learns, reply_after, is_submitted, after_learning, takes, tries_again, ended, by_status, with_heard, hears}
+use Rattle.host.proofs.Hosts.{decoded_spelled}
+use Rattle.world.specs.Entry.{Filled, Start, Stop, Submit, Recover, Called, Torn, Crashed, Lost, is_of, started, host_step}
+use Rattle.world.specs.World.{ReadsBack, MayFollow, IsRun}
+use Rattle.world.specs.Chosen.{at, Hears}
+use Rattle.world.proofs.Histories.{committed}
+use Rattle.agreement.proofs.Slots.{pushed}
+use Rattle.world_safety.specs.Tracks.{IsChosenBefore, AreChosen, IsSubmittedBy, IsBegun, IsTrue, IsTrueOf}
+use Rattle.world_safety.proofs.Places.{by_place}
+
+-- a value that spells a command reads as it
+pub reads_back : (value : List ℕ) (command : Command) → decoded value ≡ Some command → ReadsBack command
+reads_back value command is = ap decoded (sym (decoded_spelled value command is)) ∙ is
+
+module _ (c : Shape) (log : List Filled) where
+  -- IT STAYS TRUE
+
+  later_chosen : (i k : ℕ) (value : List ℕ) → IsChosenBefore c log i k value → IsChosenBefore c log (suc i) k value
+  later_chosen i k value is = record { place = is.place; before = (let b = is.before in omega arith); is = is.is }
+
+  later_learned : (i : ℕ) (learned : List Command) → AreChosen c log i learned → AreChosen c log (suc i) learned
+  later_learned i learned are k command is = let known = are k command is in (known.0, later_chosen i k (spelling command) known.1)
+
+  later_begun : (i h : ℕ) (operation : Operation) → IsBegun log i h operation → IsBegun log (suc i) h operation
+  later_begun i h operation is command same =
+      let by = is command same in
+      record { place = by.place; tries = by.tries; before = (let b = by.before in omega arith); entry = by.entry; reads = by.reads }
+
+  later : (i h : ℕ) (host : Host) → IsTrueOf c log i h host → IsTrueOf c log (suc i) h host
+  later i h Stopped is = tt
+  later i h (Running m) is = record { learned = later_learned i m.learned is.learned; begun = λ t does. later_begun i h t.operation (is.begun t does); recovered = is.recovered }
+
+  -- WHAT A HOST COMES TO
+
+  module _ (i h : ℕ) where
+    says_true : (m : Memory) (floor : ℕ) (said : HostAnswer) → AreChosen c log i m.learned → ((n : ℕ) → said ≡ Recovered n → n ≡ length m.learned) → IsTrue c log i h (record { learned = m.learned; floor = floor; doing = None; said = Some said })
+    says_true m floor said are recovered = record { learned = are; begun = λ t is. absurd (cc); recovered = λ n is. recovered n (let same : said ≡ Recovered n = cc in same) }
+
+    does_true : (m : Memory) (t : Doing) → AreChosen c log i m.learned → IsBegun log i h t.operation → IsTrue c log i h (does m t)
+    does_true m t are begun =
+        record {
+          learned = are;
+          begun = λ other is. (let same : t ≡ other = cc in subst (λ (q : Doing). IsBegun log i h q.operation) same begun);
+          recovered = λ n is. absurd (cc);
+        }
+
+    full_true : (m : Memory) (operation : Operation) (n : ℕ) → full_answer operation (length m.learned) ≡ Recovered n → n ≡ length m.learned
+    full_true m (Submitting command) n is = absurd (cc)
+    full_true m Recovering n is = let same : length m.learned ≡ n = cc in sym same
+
+    goes_on_true : (m : Memory) (operation : Operation) (tries : ℕ) → AreChosen c log i m.learned → IsBegun log i h operation → IsTrue c log i h (goes_on c m operation tries)
+    goes_on_true m operation tries are begun = go (nat_lt (length m.learned) c.slots)
+      where
+        go : (b : Bool) → IsTrue c log i h (if b then begins m operation tries else says m (full_answer operation (length m.learned)))
+        go true = does_true m (record { operation = operation; tries = tries; heard = [] }) are begun
+        go false = says_true m m.floor (full_answer operation (length m.learned)) are (full_true m operation)
+
+    module _ (m : Memory) (t : Doing) (are : AreChosen c log i m.learned) (begun : IsBegun log i h t.operation) where
+      learned_true : (command : Command) → AreChosen c log i (m.learned ++ command ∷ []) → (own : Bool) → IsTrue c log i h (after_learning c m t command own)
+      learned_true command all true = says_true (learns m command) 0 (Ack (length m.learned) (reply_after m.learned command)) all (λ n is. absurd (cc))
+      learned_true command all false = goes_on_true (learns m command) t.operation t.tries all begun
+
+      one_more : (command : Command) → ReadsBack command → IsChosenBefore c log i (length m.learned) (spelling command) → AreChosen c log i (m.learned ++ command ∷ [])
+      one_more command reads chosen k found is = elim (pushed m.learned command k found is) [
+        | inl old ↦ are k found old
+        | inr new ↦ subst (λ (d : Command). ReadsBack d × IsChosenBefore c log i k (spelling d)) new.1 (reads, subst (λ (j : ℕ). IsChosenBefore c log i j (spelling command)) (sym new.0) chosen)
+      ]
+
+      takes_true : (b : ℕ) (value : List ℕ) → IsChosenBefore c log i (length m.learned) value → (o : Option Command) → decoded value ≡ o → IsTrue c log i h (takes c m t b value o)
+      takes_true b value chosen None reads = says_true m (max m.floor b) (Refused refusal.NotACommand) are (λ n is. absurd (cc))
+      takes_true b value chosen (Some command) reads =
+          learned_true command (one_more command (reads_back value command reads) (subst (IsChosenBefore c log i (length m.learned)) (decoded_spelled value command reads) chosen)) (is_submitted t.operation value)
+
+      tries_true : (b mbal : ℕ) → IsTrue c log i h (tries_again (with_floor (with_floor m b) mbal) t.operation t.tries)
+      tries_true b mbal = go (nat_le t.tries 1)
+        where
+          go : (last : Bool) → IsTrue c log i h (if last then says (with_floor (with_floor m b) mbal) (Refused refusal.Outrun) else begins (with_floor (with_floor m b) mbal) t.operation (t.tries - 1))
+          go true = says_true m (max (max m.floor b) mbal) (Refused refusal.Outrun) are (λ n is. absurd (cc))
+          go false = does_true (with_floor (with_floor m b) mbal) (record { operation = t.operation; tries = t.tries - 1; heard = [] }) are begun
+
+      status_true : (b : ℕ) (st : Status) → ((value : List ℕ) → st ≡ Ended (attempt.Committed value) → IsChosenBefore c log i (length m.learned) value) → IsTrue c log i h (by_status c m t b st)
+      status_true b (Due p d) chosen = does_true m t are begun
+      status_true b (Ended (attempt.Committed value)) chosen = takes_true b value (chosen value refl) (decoded value) refl
+      status_true b (Ended attempt.Empty) chosen = says_true m (max m.floor b) (Recovered (length m.learned)) are (λ n is. (let same : length m.learned ≡ n = cc in sym same))
+      status_true b (Ended (attempt.Outrun mbal)) chosen = tries_true b mbal
+      status_true b (Ended attempt.NoMajority) chosen = says_true m (max m.floor b) (Refused refusal.NoMajority) are (λ n is. absurd (cc))
+      status_true b (Ended attempt.BallotsSpent) chosen = says_true m (max m.floor b) (Refused refusal.BallotsSpent) are (λ n is. absurd (cc))
+
+  -- WITH EACH ENTRY
+
+  module _ (run : IsRun c log) (i : ℕ) (h : ℕ) where
+    -- what an attempt commits with an answer is chosen then
+    commits : (k : ℕ) (call : Call) (answer : Answer) (left : List ℕ) → slice_get log i ≡ Some (Called h k call answer left) → (m : Memory) (t : Doing) → (at c log i).host h ≡ Running m → m.doing ≡ Some t → (value : List ℕ)
+        → status (setup_of c h m t.operation) (on (t.heard ++ record { disk = k; heard = heard_as answer } ∷ [])) ≡ Ended (attempt.Committed value) → IsChosenBefore c log (suc i) (length m.learned) value
+    commits k call answer left is m t running does value ended =
+        let x : Answered = record { disk = k; heard = heard_as answer } in
+        let s = setup_of c h m t.operation in
+        let hears : Hears c log i s (t.heard ++ x ∷ []) = record {
+          host = h;
+          disk = k;
+          call = call;
+          answer = answer;
+          left = left;
+          entry = is;
+          memory = m;
+          running = running;
+          doing = t;
+          does = does;
+          is_setup = refl;
+          is_heard = refl;
+        } in
+        record { place = i; before = omega arith; is = committed c log i s (t.heard ++ x ∷ []) value run hears ended }
+
+    hears_true : (k : ℕ) (call : Call) (answer : Answer) (left : List ℕ) → slice_get log i ≡ Some (Called h k call answer left) → (m : Memory) → (at c log i).host h ≡ Running m → (o : Option Doing) → m.doing ≡ o → IsTrue c log (suc i) h m
+        → IsTrue c log (suc i) h (hears c h m o (record { disk = k; heard = heard_as answer }))
+    hears_true k call answer left is m running None does known = known
+    hears_true k call answer left is m running (Some t) does known =
+        let s = setup_of c h m t.operation in
+        let x : Answered = record { disk = k; heard = heard_as answer } in
+        status_true (suc i) h m (with_heard t x) known.learned (known.begun t does) (taken s (on (t.heard ++ x ∷ []))) (status s (on (t.heard ++ x ∷ []))) (commits k call answer left is m t running does)
+
+    called_true : (k : ℕ) (call : Call) (answer : Answer) (left : List ℕ) → slice_get log i ≡ Some (Called h k call answer left) → (host : Host) → (at c log i).host h ≡ host → IsTrueOf c log (suc i) h host
+        → IsTrueOf c log (suc i) h (host_step c h host (Called h k call answer left))
+    called_true k call answer left is Stopped running known = tt
+    called_true k call answer left is (Running m) running known = hears_true k call answer left is m running m.doing refl known
+
+    operated_true : (e : Filled) (operation : Operation) (tries : ℕ) → ((m : Memory) → host_step c h (Running m) e ≡ Running (goes_on c m operation tries)) → (host_step c h Stopped e ≡ Stopped) → IsBegun log (suc i) h operation
+        → (host : Host) → IsTrueOf c log (suc i) h host → IsTrueOf c log (suc i) h (host_step c h host e)
+    operated_true e operation tries goes stays begun Stopped known = subst (IsTrueOf c log (suc i) h) (sym stays) tt
+    operated_true e operation tries goes stays begun (Running m) known = subst (IsTrueOf c log (suc i) h) (sym (goes m)) (goes_on_true (suc i) h m operation tries known.learned begun)
+
+    started_true : (host : Host) → IsTrueOf c log (suc i) h host → IsTrueOf c log (suc i) h (started host)
+    started_true Stopped known = record { learned = λ k command is. absurd (cc); begun = λ t is. absurd (cc); recovered = λ n is. absurd (cc) }
+    started_true (Running m) known = known
+
+    step_true : (e : Filled) → slice_get log i ≡ Some e → MayFollow c (at c log i) e → is_of h e ≡ true → IsTrueOf c log (suc i) h ((at c log i).host h) → IsTrueOf c log (suc i) h (host_step c h ((at c log i).host h) e)
+    step_true (Start g) is may of known = started_true ((at c log i).host h) known
+    step_true (Stop g) is may of known = tt
+    step_true (Submit g command tries) is may of known =
+        operated_true (Submit g command tries) (Submitting command) tries (λ m. refl) refl
+        (λ found same. (let one : command ≡ found = cc in
+        subst (IsSubmittedBy log (suc i) h) one (record { place = i; tries = tries; before = omega arith; entry = is ∙ ap (λ (j : ℕ). Some (Submit j command tries)) (eqb-true g h of); reads = may.1 })))
+        ((at c log i).host h) known
+    step_true (Recover g tries) is may of known =
+        operated_true (Recover g tries) Recovering tries (λ m. refl) refl (λ found same. absurd (cc)) ((at c log i).host h) known
+    step_true (Called g k call answer left) is may of known =
+        called_true k call answer left (is ∙ ap (λ (j : ℕ). Some (Called j k call answer left)) (eqb-true g h of)) ((at c log i).host h) refl known
+    step_true (Torn g k call left) is may of known = tt
+    step_true (Crashed k left) is may of known = absurd (cc)
+    step_true (Lost k) is may of known = absurd (cc)
+
+  -- at each place each host knows what is true
+  pub all_true : IsRun c log → (i h : ℕ) → IsTrueOf c log i h ((at c log i).host h)
+  all_true run i h =
+      by_place c log run (λ j w. IsTrueOf c log j h (w.host h)) tt
+      (λ j e is may before.
+      (let known = later j h ((at c log j).host h) before in
+      by_own h e (λ host. IsTrueOf c log (suc j) h host) ((at c log j).host h) (λ of. step_true run j h e is may of known) known))
+      (λ j before. later j h ((at c log j).host h) before)
+      i
+    where
+      by_own : (h : ℕ) (e : Filled) (P : Host → Type 0) (old : Host) → (is_of h e ≡ true → P (host_step c h old e)) → P old → P (cond (is_of h e) (host_step c h old e) old)
+      by_own h e P old own other = go (is_of h e) refl
+        where
+          go : (b : Bool) → is_of h e ≡ b → P (cond b (host_step c h old e) old)
+          go true of = own of
+          go false off = other

@@ -1,0 +1,55 @@
+-- The machines of the slots, and what is learned, after one move more.
+use Rattle.std.proofs.Common.{ℕ, ◌≡◌, ◌≢◌, List, [], ◌∷◌, ◌++◌, append_assoc, refl, sym, ap, ◌∙◌}
+use Rattle.agreement.specs.State.{Block, start}
+use Rattle.agreement.specs.Event.{Event, after, run, state_after, IsRun}
+use Rattle.agreement.specs.Event.Event.{Crashes, Stops}
+use Rattle.agreement.specs.Log.{Slots, Move, MayMove, moved, none_learned, IsHistory, slots_after, events_at, events_of_slot}
+use Rattle.agreement.specs.Log.Move.{Crash, Learn, Restart}
+use Rattle.agreement.proofs.Steps.{state_by-append, may_both}
+use Rattle.agreement.proofs.Slots.{slot_moves, allowed_moves}
+use Rattle.attempt_safety.specs.Slots.{in_slot}
+use Rattle.attempt_safety.proofs.Slotting.{events_here, events_there}
+use Rattle.world_safety.specs.Tied.{Moves, machine}
+
+-- a slot sees the moves one after another
+pub events_append : (k : ℕ) (ms late : Moves) → events_of_slot k (ms ++ late) ≡ events_of_slot k ms ++ events_of_slot k late
+events_append k [] late = refl
+events_append k (m ∷ ms) late = ap (λ (es : List (Event (List ℕ))). events_at k m ++ es) (events_append k ms late) ∙ sym (append_assoc (events_at k m) (events_of_slot k ms) (events_of_slot k late))
+
+-- the machine of a slot is the slot's state
+pub machine_is : (ms : Moves) (k : ℕ) → (slots_after ms).slot k ≡ machine ms k
+machine_is ms k = slot_moves k none_learned ms
+
+-- and its events are a run
+pub machine_runs : (disks : ℕ) (ms : Moves) (k : ℕ) → IsHistory disks ms → IsRun disks (events_of_slot k ms)
+machine_runs disks ms k history = allowed_moves k disks none_learned ms history
+
+-- SOME MOVES MORE
+
+pub machine_more : (ms late : Moves) (k : ℕ) → machine (ms ++ late) k ≡ run (machine ms k) (events_of_slot k late)
+machine_more ms late k = ap state_after (events_append k ms late) ∙ state_by-append after start (events_of_slot k ms) (events_of_slot k late)
+
+pub history_more : (disks : ℕ) (ms : Moves) (m : Move (List ℕ)) → IsHistory disks ms → MayMove disks (slots_after ms) m → IsHistory disks (ms ++ m ∷ [])
+history_more disks ms m history may = may_both moved (MayMove disks) none_learned ms (m ∷ []) history (may, tt)
+
+pub learned_more : (ms : Moves) (m : Move (List ℕ)) → (slots_after (ms ++ m ∷ [])).learned ≡ (moved (slots_after ms) m).learned
+learned_more ms m = ap (λ (c : Slots (List ℕ)). c.learned) (state_by-append moved none_learned ms (m ∷ []))
+
+-- events of one slot
+pub machine_here : (k : ℕ) (ms : Moves) (events : List (Event (List ℕ))) → machine (ms ++ in_slot k events) k ≡ run (machine ms k) events
+machine_here k ms events = ap state_after (events_here k ms events) ∙ state_by-append after start (events_of_slot k ms) events
+
+pub machine_there : (j k : ℕ) (ms : Moves) (events : List (Event (List ℕ))) → j ≢ k → machine (ms ++ in_slot k events) j ≡ machine ms j
+machine_there j k ms events off = ap state_after (events_there j k ms events off)
+
+-- a crash
+pub machine_crash : (ms : Moves) (d : ℕ) (left : ℕ → ℕ → Block (List ℕ)) (k : ℕ) → machine (ms ++ Crash d left ∷ []) k ≡ after (machine ms k) (Crashes d (left k))
+machine_crash ms d left k = machine_more ms (Crash d left ∷ []) k
+
+-- a value that is learned
+pub machine_learn : (ms : Moves) (h j ballot : ℕ) (v : List ℕ) (k : ℕ) → machine (ms ++ Learn h j ballot v ∷ []) k ≡ machine ms k
+machine_learn ms h j ballot v k = machine_more ms (Learn h j ballot v ∷ []) k
+
+-- a host that stops
+pub machine_restart : (ms : Moves) (h k : ℕ) → machine (ms ++ Restart h ∷ []) k ≡ after (machine ms k) (Stops h)
+machine_restart ms h k = machine_more ms (Restart h ∷ []) k

@@ -1,0 +1,82 @@
+-- What the moves of an entry tell of its host, and that what is chosen stays so.
+use Rattle.std.proofs.Common.{ℕ, ◌≤◌, ◌≡◌, ◌==◌, ◌⊎◌, inl, inr, true, Option, Some, List, ◌∷◌, ◌++◌, length, append_assoc, sym, subst, ap, ◌∙◌}
+use Rattle.std.proofs.lemmas.Bool.{eqb-true}
+use Rattle.slot_log.specs.Shape.{Shape}
+use Rattle.host.specs.Host.{Doing, Memory, Host, Stopped, Running}
+use Rattle.world.specs.Entry.{Filled, host_step}
+use Rattle.world.specs.World.{World}
+use Rattle.agreement.specs.Event.{Event, IsRun, state_after}
+use Rattle.agreement.specs.Event.Event.{Starts}
+use Rattle.agreement.specs.Chosen.{IsChosenBy, IsChosen, IsEmpty}
+use Rattle.agreement.specs.Log.{events_of_slot, IsHistory}
+use Rattle.agreement.specs.Log.Move.{At}
+use Rattle.agreement.proofs.Growing.{chosen_stays}
+use Rattle.agreement.proofs.Runs.{places}
+use Rattle.world_safety.specs.Goes.{Has, IsTryingAt, HostGoes}
+use Rattle.world_safety.specs.Next.{with_host}
+use Rattle.world_safety.specs.Tied.{Moves, machine, IsRunning, HostAt, Tied}
+use Rattle.world_safety.proofs.Hosts.{Late, tied_with}
+use Rattle.world_safety.proofs.Machines.{machine_runs, events_append}
+
+-- WHAT IS CHOSEN STAYS SO
+
+pub chosen_by_later : (disks : ℕ) (ms late : Moves) (k b : ℕ) (v : List ℕ) → IsHistory disks (ms ++ late) → IsChosenBy disks (machine ms k) b v → IsChosenBy disks (machine (ms ++ late) k) b v
+chosen_by_later disks ms late k b v history is =
+    let run = subst (λ (es : List (Event (List ℕ))). IsRun disks es) (events_append k ms late) (machine_runs disks (ms ++ late) k history) in
+    let both = places disks (events_of_slot k ms) (events_of_slot k late) run in
+    subst (λ (es : List (Event (List ℕ))). IsChosenBy disks (state_after es) b v) (sym (events_append k ms late))
+    (chosen_stays disks (state_after (events_of_slot k ms)) (state_after (events_of_slot k ms ++ events_of_slot k late)) both.grows b v is)
+
+pub chosen_later : (disks : ℕ) (ms late : Moves) (k : ℕ) (v : List ℕ) → IsHistory disks (ms ++ late) → IsChosen disks (machine ms k) v → IsChosen disks (machine (ms ++ late) k) v
+chosen_later disks ms late k v history is = (is.0, chosen_by_later disks ms late k is.0 v history is.1)
+
+-- THE HOST OF AN ENTRY
+
+pub for_host : (P : ℕ → Type 0) (h g : ℕ) → (h == g) ≡ true → P h → P g
+for_host P h g of is = subst P (eqb-true h g of) is
+
+-- by the moves of its host, behind some before them
+module _ (c : Shape) (w w2 : World) (e : Filled) (ms early : Moves) (h : ℕ) (trying : Option ℕ) (new : Memory) (late : Late c w2 (ms ++ early) h trying new) (is : host_step c h (w.host h) e ≡ Running new)
+    (was : (n : ℕ) → trying ≡ Some n → IsTryingAt w h n) where
+  all_moves : (ms ++ early) ++ late.late ≡ ms ++ (early ++ late.late)
+  all_moves = append_assoc ms early late.late
+
+  memory_is : (m : Memory) → host_step c h (w.host h) e ≡ Running m → new ≡ m
+  memory_is m now = let both : Running new ≡ Running m = sym is ∙ now in cc
+
+  begun_by : (m : Memory) (t : Doing) → new ≡ m → m.doing ≡ Some t → IsTryingAt w h (length m.learned) ⊎ Has (early ++ late.late) (At (length m.learned) (Starts h))
+  begun_by m t same does =
+      subst (λ (k : Memory). IsTryingAt w h (length k.learned) ⊎ Has (early ++ late.late) (At (length k.learned) (Starts h))) same
+      (elim (late.begun t (ap (λ (k : Memory). k.doing) same ∙ does)) [
+        | inl before ↦ inl (was (length new.learned) before)
+        | inr has ↦ inr (early ++ has.0, has.1, ap (λ (l : Moves). early ++ l) has.2 ∙ sym (append_assoc early has.0 (At (length new.learned) (Starts h) ∷ has.1)))
+      ])
+
+  pub late_goes : HostGoes c w e ms (early ++ late.late) h
+  late_goes =
+      record {
+        begun = λ m t now does. begun_by m t (memory_is m now) does;
+        empty = λ m n now said. (let same = memory_is m now in
+            subst (λ (k : Memory). (c.slots ≤ length k.learned) ⊎ (IsTryingAt w h (length k.learned) × IsEmpty c.disks (machine (ms ++ (early ++ late.late)) (length k.learned)) h)) same
+            (elim (late.empty n (ap (λ (k : Memory). k.said) same ∙ said)) [
+              | inl full ↦ inl full
+              | inr found ↦ inr (was (length new.learned) found.tried, subst (λ (l : Moves). IsEmpty c.disks (machine l (length new.learned)) h) all_moves found.empty)
+            ]));
+      }
+
+  pub late_tied : (becomes : ℕ → Host) → becomes h ≡ Running new → Tied c (with_host w2 h becomes) (ms ++ (early ++ late.late))
+  late_tied becomes now =
+      subst (λ (l : Moves). Tied c (with_host w2 h becomes) l) all_moves
+      (tied_with c w2 ((ms ++ early) ++ late.late) h becomes late.tied (subst (HostAt c w2 ((ms ++ early) ++ late.late) h) (sym now) late.running))
+
+-- a host that is not running after the entry has nothing to tell
+pub stopped_goes : (c : Shape) (w : World) (e : Filled) (ms more : Moves) (h : ℕ) → host_step c h (w.host h) e ≡ Stopped → HostGoes c w e ms more h
+stopped_goes c w e ms more h is =
+    record {
+      begun = λ m t now does. absurd (let both : Stopped ≡ Running m = sym is ∙ now in cc);
+      empty = λ m n now said. absurd (let both : Stopped ≡ Running m = sym is ∙ now in cc);
+    }
+
+module _ (c : Shape) (w : World) (ms : Moves) (tied : Tied c w ms) where
+  pub running_at : (h : ℕ) (m : Memory) → w.host h ≡ Running m → IsRunning c w ms h m
+  running_at h m is = subst (HostAt c w ms h) is (tied.hosts h)

@@ -1,0 +1,181 @@
+-- Every run has a log, by which all that hosts choose, learn and say goes.
+use Rattle.std.specs.Prelude.{slice_get, map, take}
+use Rattle.std.proofs.Common.{ℕ, ◌+◌, ◌<◌, ◌≤◌, ◌≡◌, Some, List, [], ◌∷◌, ◌++◌, length, refl, sym, subst, ap, ◌∙◌, arith}
+use Rattle.std.proofs.lemmas.List.{length-take}
+use Rattle.lock_command.specs.declared.command.Command.{Command}
+use Rattle.lock_command.specs.Command.{spelling}
+use Rattle.lock_table.specs.declared.reply.Reply.{Reply}
+use Rattle.lock_table.specs.Apply.{table_after}
+use Rattle.slot_log.specs.Shape.{Shape}
+use Rattle.host.specs.declared.answer.HostAnswer.TheVariants.{Ack, Recovered}
+use Rattle.host.specs.Host.{Submitting, Doing, Memory, Host, Stopped, Running, learned_of, reply_after, said_of}
+use Rattle.world.specs.Entry.{Filled}
+use Rattle.world.specs.World.{IsRun}
+use Rattle.world.specs.Happens.{Event, run}
+use Rattle.world.specs.Chosen.{at, IsChosenAt, IsLog, SaysAt, IsAcknowledgedAt, IsRecovery}
+use Rattle.world.specs.Headline.{Begins, prefix_at, IsAcknowledgedBefore, IsSafe, HasOneLog}
+use Rattle.world.proofs.Runs.{each, run_is_run}
+use Rattle.world.proofs.Safe.{one_log, one_begins_other}
+use Rattle.world_safety.specs.Acks.{AcksAt}
+use Rattle.world_safety.specs.Log.{IsLogBefore}
+use Rattle.world_safety.specs.Tracks.{IsChosenBefore, AreChosen, IsTrue, IsTrueOf}
+use Rattle.world_safety.proofs.Acknowledging.{acks_at}
+use Rattle.world_safety.proofs.Commands.{IsSpelling, AreSpelled, commands_of, one_command, stands_where, begins_by}
+use Rattle.world_safety.proofs.Knowing.{all_true}
+use Rattle.world_safety.proofs.OneLog.{get_last, log_before, log_is, log_one}
+use Rattle.world_safety.proofs.Recovering.{misses_nothing}
+use Rattle.world_safety.proofs.Tracks.{submitted_before}
+
+module _ (c : Shape) (log : List Filled) (run : IsRun c log) where
+  -- THE COMMANDS OF THE LOG
+
+  abbrev pub values : List (List ℕ)
+  values = (log_before c log run (length log)).0
+
+  abbrev logged : IsLogBefore c log (length log) values
+  logged = (log_before c log run (length log)).1
+
+  -- each value is the spelling of a command that was submitted
+  value_spells : (k : ℕ) (v : List ℕ) → slice_get values k ≡ Some v → IsSpelling v
+  value_spells k v found =
+      let chosen = logged.chosen k v found in
+      let submitted = submitted_before c log run chosen.place k v chosen.is in
+      record { command = submitted.command; reads = (each c log submitted.place _ run submitted.entry).1; is = submitted.spelled }
+
+  pub spelled : AreSpelled values
+  spelled = commands_of values value_spells
+
+  abbrev pub commands : List Command
+  commands = spelled.commands
+
+  is_log : IsLog c log (map spelling commands)
+  is_log = subst (IsLog c log) (sym spelled.spelled) (log_is c log run values logged)
+
+  one : (i slot : ℕ) (value : List ℕ) → IsChosenAt c log i slot value → slice_get (map spelling commands) slot ≡ Some value
+  one i slot value chosen = subst (λ (l : List (List ℕ)). slice_get l slot ≡ Some value) (sym spelled.spelled) (log_one c log run values logged i slot value chosen)
+
+  -- WHAT HOSTS LEARN
+
+  -- what was chosen before, of a command, is that command
+  stands : (i : ℕ) (learned : List Command) → AreChosen c log i learned → (k : ℕ) (command : Command) → slice_get learned k ≡ Some command → slice_get commands k ≡ Some command
+  stands i learned are k command found =
+      let known = are k command found in
+      stands_where commands spelled.reads k command known.0 (one known.1.place k (spelling command) known.1.is)
+
+  pub learned_true : (i : ℕ) (host : Host) (h : ℕ) → IsTrueOf c log i h host → AreChosen c log i (learned_of host)
+  learned_true i Stopped h is = λ k command found. absurd (cc)
+  learned_true i (Running m) h is = is.learned
+
+  pub prefix : (i host : ℕ) → Begins (prefix_at c log i host) commands
+  prefix i host = begins_by (prefix_at c log i host) commands (stands i (prefix_at c log i host) (learned_true i ((at c log i).host host) host (all_true c log run i host)))
+
+  -- WHAT THEY ACKNOWLEDGE
+
+  placed : (i host slot : ℕ) (reply : Reply) → SaysAt c log i host (Ack slot reply) → (command : Command) × IsAcknowledgedAt c log i host slot command reply
+  placed i host slot reply says =
+      let is = acks_at c log i host slot reply run says in
+      (is.acks.command, record { says = says; memory = is.memory; running = is.running; doing = is.doing; does = is.does; submitting = is.acks.submitting })
+
+  module _ (i host slot : ℕ) (command : Command) (reply : Reply) (acked : IsAcknowledgedAt c log i host slot command reply) where
+    is : AcksAt c log i host slot reply
+    is = acks_at c log i host slot reply run acked.says
+
+    -- it is what the host was submitting
+    same_memory : acked.memory ≡ is.memory
+    same_memory = let both : Running acked.memory ≡ Running is.memory = sym acked.running ∙ is.running in cc
+
+    same_command : is.acks.command ≡ command
+    same_command =
+        let doing : Some acked.doing ≡ Some is.doing = sym acked.does ∙ ap (λ (m : Memory). m.doing) same_memory ∙ is.does in
+        let one_doing : acked.doing ≡ is.doing = cc in
+        let both : Submitting is.acks.command ≡ Submitting command = sym is.acks.submitting ∙ ap (λ (t : Doing). t.operation) (sym one_doing) ∙ acked.submitting in
+        cc
+
+    known : IsTrue c log i host is.memory
+    known = subst (IsTrueOf c log i host) is.running (all_true c log run i host)
+
+    -- and so what it has learned
+    read_is : is.acks.read ≡ command
+    read_is =
+        let begun = known.begun is.doing is.does is.acks.command is.acks.submitting in
+        sym (one_command is.acks.command is.acks.read begun.reads is.acks.reads is.acks.same) ∙ same_command
+
+    learned_then : learned_of ((at c log (i + 1)).host host) ≡ is.memory.learned ++ is.acks.read ∷ []
+    learned_then = ap learned_of is.runs_on ∙ is.acks.learned
+
+    acknowledged : slice_get commands slot ≡ Some command
+    acknowledged =
+        let last : slice_get (learned_of ((at c log (i + 1)).host host)) slot ≡ Some is.acks.read =
+        ap (λ (l : List Command). slice_get l slot) learned_then ∙ ap (slice_get (is.memory.learned ++ is.acks.read ∷ [])) is.acks.slot_is ∙ get_last is.memory.learned is.acks.read in
+        stands (i + 1) (learned_of ((at c log (i + 1)).host host)) (learned_true (i + 1) ((at c log (i + 1)).host host) host (all_true c log run (i + 1) host)) slot is.acks.read last ∙ ap Some read_is
+
+    reply_is : reply ≡ reply_after (take slot commands) command
+    reply_is =
+        let before : is.memory.learned ≡ take (length is.memory.learned) commands =
+        subst (λ (h : Host). learned_of h ≡ take (length (learned_of h)) commands) is.running (prefix i host) in
+        is.acks.reply_is ∙ ap (λ (l : List Command). reply_after l is.acks.read) (before ∙ ap (λ (n : ℕ). take n commands) (sym is.acks.slot_is)) ∙ ap (reply_after (take slot commands)) read_is
+
+  -- WHAT THEY RECOVER
+
+  said_by : (host : Host) (n : ℕ) → said_of host ≡ Some (Recovered n) → (m : Memory) × (host ≡ Running m) × (m.said ≡ Some (Recovered n))
+  said_by Stopped n is = absurd (cc)
+  said_by (Running m) n is = (m, refl, is)
+
+  pub as_many : (i host n : ℕ) → SaysAt c log i host (Recovered n) → n ≡ length (prefix_at c log (i + 1) host)
+  as_many i host n says =
+      let who = said_by ((at c log (i + 1)).host host) n says.says in
+      let known : IsTrue c log (i + 1) host who.0 = subst (IsTrueOf c log (i + 1) host) who.1 (all_true c log run (i + 1) host) in
+      known.recovered n who.2 ∙ ap (λ (h : Host). length (learned_of h)) (sym who.1)
+
+  recovered : (i host n : ℕ) → SaysAt c log i host (Recovered n) → (n ≤ length commands) × (prefix_at c log (i + 1) host ≡ take n commands)
+  recovered i host n says =
+      let many = as_many i host n says in
+      let begins = prefix (i + 1) host in
+      let size = ap length begins in
+      (omega (arith, many, size, length-take (length (prefix_at c log (i + 1) host)) commands), begins ∙ ap (λ (k : ℕ). take k commands) (sym many))
+
+  -- what was acknowledged was chosen then
+  acked_chosen : (place host slot : ℕ) (reply : Reply) → SaysAt c log place host (Ack slot reply) → (value : List ℕ) × IsChosenBefore c log (place + 1) slot value
+  acked_chosen place host slot reply says =
+      let by = acks_at c log place host slot reply run says in
+      let learned = learned_of ((at c log (place + 1)).host host) in
+      let known = learned_true (place + 1) ((at c log (place + 1)).host host) host (all_true c log run (place + 1) host) in
+      let last : slice_get learned slot ≡ Some by.acks.read =
+      ap (λ (h : Host). slice_get (learned_of h) slot) by.runs_on ∙ ap (λ (l : List Command). slice_get l slot) by.acks.learned
+      ∙ ap (slice_get (by.memory.learned ++ by.acks.read ∷ [])) by.acks.slot_is ∙ get_last by.memory.learned by.acks.read in
+      (spelling by.acks.read, (known slot by.acks.read last).1)
+
+  holds : (i j host n slot : ℕ) (command : Command) → IsRecovery c log i j host n → IsAcknowledgedBefore c log i slot command → slot < n
+  holds i j host n slot command recovery acked =
+      let chosen = acked_chosen acked.place acked.host slot acked.reply acked.is.says in
+      let before = acked.before in
+      let then_before = chosen.1.before in
+      misses_nothing c log run i j host n chosen.1.place slot chosen.0 recovery (omega arith) chosen.1.is
+
+  -- THE RUN IS SAFE
+
+  pub is_safe : IsSafe c log commands
+  is_safe =
+      record {
+        is_log = is_log;
+        one = one;
+        submitted = λ i slot value chosen. submitted_before c log run i slot value chosen;
+        prefix = λ i host within. prefix i host;
+        placed = placed;
+        acknowledged = acknowledged;
+        reply = reply_is;
+        recovered = recovered;
+        table = λ i host n says. ap table_after (recovered i host n says).1;
+        holds = holds;
+      }
+
+-- Every list of events has one log, and nothing that was acknowledged is lost.
+pub has_one_log : (c : Shape) (events : List Event) → HasOneLog c events
+has_one_log c events =
+    let safe = is_safe c (run c events) (run_is_run c events) in
+    record {
+      commands = _;
+      is_safe = safe;
+      no_other = one_log c (run c events) _ safe;
+      prefixes = one_begins_other c (run c events) _ safe;
+    }

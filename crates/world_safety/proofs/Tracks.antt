@@ -1,0 +1,213 @@
+-- The machines at each place of a run, and what is chosen there.
+use Rattle.std.specs.Prelude.{slice_get, ◌-◌}
+use Rattle.std.proofs.Common.{ℕ, zero, suc, ◌+◌, ◌≤◌, ◌≡◌, inl, inr, Option, Some, None, List, [], ◌∷◌, ◌++◌, length, append-nil, append_assoc, refl, sym, subst, ap, ◌∙◌, arith}
+use Rattle.disk.specs.Steps.{shape_fresh}
+use Rattle.paxos_block.specs.Places.{image_length}
+use Rattle.attempt.specs.Answers.{Answered, on, heard_as}
+use Rattle.attempt.specs.Chosen.{Chooses}
+use Rattle.attempt.specs.Proposal.{ballot}
+use Rattle.attempt.specs.Setup.{Setup}
+use Rattle.lock_command.specs.declared.command.Command.{Command}
+use Rattle.lock_command.specs.Command.{spelling}
+use Rattle.slot_log.specs.Shape.{Shape}
+use Rattle.host.specs.Host.{Operation, Submitting, Recovering, input_of, setup_of}
+use Rattle.world.specs.Entry.{Filled}
+use Rattle.world.specs.World.{World, IsRun}
+use Rattle.world.specs.Chosen.{at, IsChosenAt, IsSubmittedBefore}
+use Rattle.world.proofs.Runs.{each}
+use Rattle.agreement.specs.Event.{Event}
+use Rattle.agreement.specs.Chosen.{IsInput, IsChosen, IsChosenBy}
+use Rattle.agreement.specs.Log.{IsHistory, events_of_slot}
+use Rattle.agreement.proofs.Agreeing.{one_chosen}
+use Rattle.agreement.proofs.Inputs.{only_inputs}
+use Rattle.agreement.proofs.Runs.{holds_reached}
+use Rattle.world_safety.specs.Goes.{IsInputAt, Goes}
+use Rattle.world_safety.specs.Tied.{Moves, machine, Tied}
+use Rattle.world_safety.specs.Tracks.{IsTrue, IsTrueOf}
+use Rattle.world_safety.proofs.Called.{input_append}
+use Rattle.world_safety.proofs.Entries.{goes}
+use Rattle.world_safety.proofs.Moving.{chosen_by_later, chosen_later}
+use Rattle.world_safety.proofs.Knowing.{all_true}
+use Rattle.world_safety.proofs.Machines.{machine_runs, events_append}
+use Rattle.world_safety.proofs.Places.{at_next, at_end}
+use Rattle.world_safety.proofs.Standing.{stands_fresh}
+
+-- at first
+tied_first : (c : Shape) → Tied c (at c [] zero) []
+tied_first c =
+    record {
+      history = tt;
+      images = λ d. (let shape = shape_fresh (image_length c.slots) in record { whole = shape.0; long = shape.1 });
+      stands = λ slot h d slot_below below. stands_fresh (image_length c.slots) slot h;
+      hosts = λ h. refl;
+    }
+
+-- Some moves are behind others.
+pub record Later (early late : Moves) : Type 0 where
+  pub more : Moves
+  pub is : late ≡ early ++ more
+
+pub later_none : (ms : Moves) → Later ms ms
+later_none ms = record { more = []; is = sym (append-nil ms) }
+
+pub later_more : (early late : Moves) (more : Moves) → Later early late → Later early (late ++ more)
+later_more early late more is = record { more = is.more ++ more; is = ap (λ (l : Moves). l ++ more) is.is ∙ append_assoc early is.more more }
+
+module _ (c : Shape) (log : List Filled) (run : IsRun c log) where
+  -- one place further
+  record Further (i : ℕ) (ms : Moves) : Type 0 where
+    pub more : Moves
+    pub tied : Tied c (at c log (suc i)) (ms ++ more)
+    pub goes_by : (e : Filled) → slice_get log i ≡ Some e → (g : Goes c (at c log i) e ms) × (g.more ≡ more)
+
+  further_by : (i : ℕ) (ms : Moves) → Tied c (at c log i) ms → (o : Option Filled) → slice_get log i ≡ o → Further i ms
+  further_by i ms tied None is =
+      record {
+        more = [];
+        tied = subst (λ (w : World). Tied c w (ms ++ [])) (sym (at_end c log i is)) (subst (λ (l : Moves). Tied c (at c log i) l) (sym (append-nil ms)) tied);
+        goes_by = λ e found. absurd (let both : None ≡ Some e = sym is ∙ found in cc);
+      }
+  further_by i ms tied (Some e) is =
+      let g = goes c (at c log i) ms tied e (each c log i e run is) in
+      record {
+        more = g.more;
+        tied = subst (λ (w : World). Tied c w (ms ++ g.more)) (sym (at_next c log i e is)) g.tied;
+        goes_by = λ other found. (let both : Some e ≡ Some other = sym is ∙ found in let same : e ≡ other = cc in
+            subst (λ (x : Filled). (y : Goes c (at c log i) x ms) × (y.more ≡ g.more)) same (g, refl));
+      }
+
+  -- the moves before each place
+  track : (i : ℕ) → (ms : Moves) × Tied c (at c log i) ms
+  track zero = ([], tied_first c)
+  track (suc i) = let before = track i in let next = further_by i before.0 before.1 (slice_get log i) refl in (before.0 ++ next.more, next.tied)
+
+  pub moves_at : ℕ → Moves
+  moves_at i = (track i).0
+
+  pub tied_at : (i : ℕ) → Tied c (at c log i) (moves_at i)
+  unfolding moves_at
+  tied_at i = (track i).1
+
+  -- an entry is the moves between its place and the next
+  pub record Step (i : ℕ) (e : Filled) : Type 0 where
+    pub goes : Goes c (at c log i) e (moves_at i)
+    pub is : moves_at (suc i) ≡ moves_at i ++ goes.more
+
+  pub step_at : (i : ℕ) (e : Filled) → slice_get log i ≡ Some e → Step i e
+  unfolding moves_at track
+  step_at i e found =
+      let next = further_by i (track i).0 (track i).1 (slice_get log i) refl in
+      let by = next.goes_by e found in
+      record { goes = by.0; is = ap (λ (l : Moves). (track i).0 ++ l) (sym by.1) }
+
+  later_next : (i : ℕ) → Later (moves_at i) (moves_at (suc i))
+  unfolding moves_at track
+  later_next i = record { more = (further_by i (track i).0 (track i).1 (slice_get log i) refl).more; is = refl }
+
+  -- at later places there are more
+  pub later_at : (i n : ℕ) → Later (moves_at i) (moves_at (n + i))
+  later_at i zero = let none : i ≡ zero + i = omega arith in subst (λ (j : ℕ). Later (moves_at i) (moves_at j)) none (later_none (moves_at i))
+  later_at i (suc n) =
+      let before = later_at i n in
+      let next = later_next (n + i) in
+      let number : suc (n + i) ≡ suc n + i = omega arith in
+      subst (λ (j : ℕ). Later (moves_at i) (moves_at j)) number (subst (Later (moves_at i)) (sym next.is) (later_more (moves_at i) (moves_at (n + i)) next.more before))
+
+  pub later_places : (i j : ℕ) → i ≤ j → Later (moves_at i) (moves_at j)
+  later_places i j le = let number : (j - i) + i ≡ j = omega arith in subst (λ (k : ℕ). Later (moves_at i) (moves_at k)) number (later_at i (j - i))
+
+  -- WHAT IS CHOSEN
+
+  pub stays_by : (i j k b : ℕ) (v : List ℕ) → i ≤ j → IsChosenBy c.disks (machine (moves_at i) k) b v → IsChosenBy c.disks (machine (moves_at j) k) b v
+  stays_by i j k b v le is =
+      let later = later_places i j le in
+      subst (λ (l : Moves). IsChosenBy c.disks (machine l k) b v) (sym later.is)
+      (chosen_by_later c.disks (moves_at i) later.more k b v (subst (IsHistory c.disks) later.is (tied_at j).history) is)
+
+  pub stays_at : (i j k : ℕ) (v : List ℕ) → i ≤ j → IsChosen c.disks (machine (moves_at i) k) v → IsChosen c.disks (machine (moves_at j) k) v
+  stays_at i j k v le is =
+      let later = later_places i j le in
+      subst (λ (l : Moves). IsChosen c.disks (machine l k) v) (sym later.is)
+      (chosen_later c.disks (moves_at i) later.more k v (subst (IsHistory c.disks) later.is (tied_at j).history) is)
+
+  -- what is chosen with an entry is chosen in the machine, by the attempt's ballot
+  pub chosen_by_then : (i slot : ℕ) (v : List ℕ) (is : IsChosenAt c log i slot v) → IsChosenBy c.disks (machine (moves_at (suc i)) slot) (ballot is.setup (on is.heard)) v
+  chosen_by_then i slot v is =
+      let hears = is.hears in
+      let step = step_at i _ hears.entry in
+      let heard : List Answered = hears.doing.heard ++ record { disk = hears.disk; heard = heard_as hears.answer } ∷ [] in
+      let chooses : Chooses (setup_of c hears.host hears.memory hears.doing.operation) (on heard) v =
+      subst (λ (s : Setup). Chooses s (on heard) v) hears.is_setup (subst (λ (xs : List Answered). Chooses is.setup (on xs) v) hears.is_heard is.chooses) in
+      let here : length hears.memory.learned ≡ slot = ap (λ (s : Setup). s.slot) (sym hears.is_setup) ∙ is.on_slot in
+      let same : ballot (setup_of c hears.host hears.memory hears.doing.operation) (on heard) ≡ ballot is.setup (on is.heard) =
+      ap (λ (s : Setup). ballot s (on heard)) (sym hears.is_setup) ∙ ap (λ (xs : List Answered). ballot is.setup (on xs)) (sym hears.is_heard) in
+      subst (λ (b : ℕ). IsChosenBy c.disks (machine (moves_at (suc i)) slot) b v) same
+      (subst (λ (l : Moves). IsChosenBy c.disks (machine l slot) (ballot (setup_of c hears.host hears.memory hears.doing.operation) (on heard)) v) (sym step.is)
+      (subst (λ (k : ℕ). IsChosenBy c.disks (machine (moves_at i ++ step.goes.more) k) (ballot (setup_of c hears.host hears.memory hears.doing.operation) (on heard)) v) here
+      (step.goes.chosen hears.memory hears.doing v hears.running hears.does chooses)))
+
+  pub chosen_then : (i slot : ℕ) (v : List ℕ) → IsChosenAt c log i slot v → IsChosen c.disks (machine (moves_at (suc i)) slot) v
+  chosen_then i slot v is = (ballot is.setup (on is.heard), chosen_by_then i slot v is)
+
+  -- so at any two entries it is one value
+  pub one_value : (i j slot : ℕ) (v u : List ℕ) → IsChosenAt c log i slot v → IsChosenAt c log j slot u → u ≡ v
+  one_value i j slot v u first second =
+      let n = suc (i + j) in
+      let events = events_of_slot slot (moves_at n) in
+      one_chosen c.disks (machine (moves_at n) slot) (holds_reached c.disks events (machine_runs c.disks (moves_at n) slot (tied_at n).history)) v u
+      (stays_at (suc i) n slot v (omega arith) (chosen_then i slot v first))
+      (stays_at (suc j) n slot u (omega arith) (chosen_then j slot u second))
+
+  -- INPUTS
+
+  input_is : (operation : Operation) (v : List ℕ) → input_of operation ≡ Some v → (command : Command) × (operation ≡ Submitting command) × (v ≡ spelling command)
+  input_is (Submitting command) v is = (command, refl, (let same : spelling command ≡ v = cc in sym same))
+  input_is Recovering v is = absurd (cc)
+
+  -- what a host puts in was submitted
+  put_before : (i : ℕ) (e : Filled) (v : List ℕ) → IsInputAt (at c log i) e v → IsSubmittedBefore log i v
+  put_before i e v put =
+      let by = input_is put.doing.operation v put.input in
+      let known : IsTrue c log i put.host put.memory = subst (IsTrueOf c log i put.host) put.running (all_true c log run i put.host) in
+      let submitted = known.begun put.doing put.does by.0 by.1 in
+      record { place = submitted.place; host = put.host; command = by.0; tries = submitted.tries; before = submitted.before; entry = submitted.entry; spelled = by.2 }
+
+  later_submitted : (i : ℕ) (v : List ℕ) → IsSubmittedBefore log i v → IsSubmittedBefore log (suc i) v
+  later_submitted i v is = record { place = is.place; host = is.host; command = is.command; tries = is.tries; before = (let b = is.before in omega arith); entry = is.entry; spelled = is.spelled }
+
+  no_first : (j : ℕ) (v : List ℕ) → ¬ IsInput (events_of_slot j (moves_at zero)) v
+  unfolding moves_at track
+  no_first j v input = input
+
+  -- so it is with all that was put in before a place
+  inputs_next : (i j : ℕ) (v : List ℕ) → (IsInput (events_of_slot j (moves_at i)) v → IsSubmittedBefore log i v) → (e : Filled) → slice_get log i ≡ Some e → IsInput (events_of_slot j (moves_at (suc i))) v → IsSubmittedBefore log i v
+  inputs_next i j v before e is input =
+      let step = step_at i e is in
+      elim (input_append (events_of_slot j (moves_at i)) (events_of_slot j step.goes.more) v (subst (λ (es : List (Event (List ℕ))). IsInput es v) (ap (events_of_slot j) step.is ∙ events_append j (moves_at i) step.goes.more) input)) [
+        | inl old ↦ before old
+        | inr new ↦ put_before i e v (step.goes.inputs j v new)
+      ]
+
+  nothing_more : (i : ℕ) → slice_get log i ≡ None → moves_at (suc i) ≡ moves_at i
+  unfolding moves_at further_by track
+  nothing_more i is = go (slice_get log i) refl
+    where
+      go : (o : Option Filled) (same : slice_get log i ≡ o) → (track i).0 ++ (further_by i (track i).0 (track i).1 o same).more ≡ (track i).0
+      go None same = append-nil (track i).0
+      go (Some e) same = absurd (let both : None ≡ Some e = sym is ∙ same in cc)
+
+  all_submitted : (i j : ℕ) (v : List ℕ) → IsInput (events_of_slot j (moves_at i)) v → IsSubmittedBefore log i v
+  all_submitted zero j v input = absurd (no_first j v input)
+  all_submitted (suc i) j v input = later_submitted i v (by_entry i j v (all_submitted i j v) (slice_get log i) refl input)
+    where
+      by_entry : (i j : ℕ) (v : List ℕ) → (IsInput (events_of_slot j (moves_at i)) v → IsSubmittedBefore log i v) → (o : Option Filled) → slice_get log i ≡ o → IsInput (events_of_slot j (moves_at (suc i))) v → IsSubmittedBefore log i v
+      by_entry i j v before None is input = before (subst (λ (l : Moves). IsInput (events_of_slot j l) v) (nothing_more i is) input)
+      by_entry i j v before (Some e) is input = inputs_next i j v before e is input
+
+  -- what is chosen with an entry was submitted before it
+  pub submitted_before : (i slot : ℕ) (v : List ℕ) → IsChosenAt c log i slot v → IsSubmittedBefore log i v
+  submitted_before i slot v is =
+      let chosen = chosen_then i slot v is in
+      let events = events_of_slot slot (moves_at (suc i)) in
+      let put = only_inputs c.disks events (machine_runs c.disks (moves_at (suc i)) slot (tied_at (suc i)).history) chosen.0 v chosen.1.proposed in
+      inputs_next i slot v (all_submitted i slot v) _ is.hears.entry put

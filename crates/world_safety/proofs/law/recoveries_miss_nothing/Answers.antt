@@ -1,0 +1,12 @@
+use Rattle.world_safety.proofs.Growing.{none_shorter}
+use Rattle.world_safety.proofs.Recovering.{empty_shows, misses_nothing}
+use Rattle.world_safety.proofs.law.recoveries_miss_nothing.Goals as goal
+
+pub returns-clause-empty : goal.returns-clause-empty
+returns-clause-empty c = empty_shows
+
+pub returns-clause-nothing : goal.returns-clause-nothing
+returns-clause-nothing c = misses_nothing
+
+pub returns-clause-no_shorter : goal.returns-clause-no_shorter
+returns-clause-no_shorter c = none_shorter

@@ -1,0 +1,78 @@
+-- What else is claimed of every run: of its ballots, of its log as it grows, and of its recoveries.
+use Rattle.std.specs.Prelude.{◌≡◌, ◌<◌, ◌≤◌, ℕ, List, take, Some}
+use Rattle.attempt.specs.Answers.{Answered, on}
+use Rattle.attempt.specs.Calls.{Two}
+use Rattle.attempt.specs.Proposal.{ballot, proposal}
+use Rattle.attempt.specs.Setup.{Setup}
+use Rattle.attempt.specs.Status.{Due, status}
+use Rattle.lock_command.specs.declared.command.Command.{Command}
+use Rattle.slot_log.specs.Shape.{Shape}
+use Rattle.world.specs.Entry.{Filled}
+use Rattle.host.specs.declared.answer.HostAnswer.TheVariants.{Recovered}
+use Rattle.world.specs.Chosen.{at, Hears, IsChosenAt, IsLog, SaysAt, IsRecovery}
+use Rattle.world_safety.specs.Goes.{IsTryingAt}
+use Rattle.world.specs.Headline.{Begins, IsSafe, HasNoSecondLog, OneBeginsOther}
+use Rattle.world_safety.specs.Tracks.{IsChosenBefore}
+
+-- BALLOTS
+
+-- with the answer of entry i a value is chosen for a slot, in this ballot
+pub record IsChosenIn (c : Shape) (log : List Filled) (i slot b : ℕ) (value : List ℕ) : Type 0 where
+  pub is : IsChosenAt c log i slot value
+  pub in_ballot : ballot is.setup (on is.heard) ≡ b
+
+-- behind the answer of entry i a host's attempt on a slot votes for its proposal, in this ballot: a call of phase 2 is due
+pub record IsVotedAt (c : Shape) (log : List Filled) (i slot b : ℕ) (value : List ℕ) : Type 0 where
+  pub setup : Setup
+  pub heard : List Answered
+  pub hears : Hears c log i setup heard
+  pub on_slot : setup.slot ≡ slot
+  pub disk : ℕ
+  pub votes : status setup (on heard) ≡ Due Two disk
+  pub in_ballot : ballot setup (on heard) ≡ b
+  pub proposed : proposal setup (on heard) ≡ Some value
+
+-- What is chosen in a ballot is what is voted for in it, and in each greater one: before and after, by whatever host.
+abbrev pub BindsGreater : Shape → List Filled → Type 0
+BindsGreater c log = (i j slot b d : ℕ) (value other : List ℕ) → IsChosenIn c log i slot b value → b ≤ d → IsVotedAt c log j slot d other → other ≡ value
+
+-- In a ballot one host votes, for one value, over all its incarnations.
+pub record IsOneVote {c : Shape} {log : List Filled} {i j slot b : ℕ} {value other : List ℕ} (first : IsVotedAt c log i slot b value) (second : IsVotedAt c log j slot b other) : Type 0 where
+  pub same_host : second.hears.host ≡ first.hears.host
+  pub same_value : other ≡ value
+
+abbrev pub OneVote : Shape → List Filled → Type 0
+OneVote c log = (i j slot b : ℕ) (value other : List ℕ) (first : IsVotedAt c log i slot b value) (second : IsVotedAt c log j slot b other) → IsOneVote first second
+
+-- A slot is voted on only once each earlier slot has a chosen value.
+abbrev pub VotesInOrder : Shape → List Filled → Type 0
+VotesInOrder c log = (i slot b k : ℕ) (value : List ℕ) → IsVotedAt c log i slot b value → k < slot → (other : List ℕ) × IsChosenBefore c log i k other
+
+-- THE LOG
+
+-- The log so far begins the log of the whole.
+abbrev pub LogGrows : Shape → List Filled → Type 0
+LogGrows c log = (i : ℕ) (values longer : List (List ℕ)) → IsLog c (take i log) values → IsLog c log longer → Begins values longer
+
+-- The list has one log, by which all goes.
+pub record IsOneLog (c : Shape) (log : List Filled) : Type 0 where
+  pub commands : List Command
+  pub is_safe : IsSafe c log commands
+  pub no_other : HasNoSecondLog c log
+  pub prefixes : OneBeginsOther c log
+
+-- RECOVERIES
+
+-- Where a host answers that it has recovered n commands, nothing had been chosen for slot n, nor for a later one, before it began to try slot n.
+abbrev pub EmptyShows : Shape → List Filled → Type 0
+EmptyShows c log =
+    (i j host n place slot : ℕ) (value : List ℕ) → ¬ IsTryingAt (at c log i) host n → i ≤ j → SaysAt c log j host (Recovered n) → place < i → IsChosenAt c log place slot value → slot < n
+
+-- A recovery of any host that answers holds whatever was chosen before it began, for any host: what it has learned is longer.
+abbrev pub MissesNothing : Shape → List Filled → Type 0
+MissesNothing c log =
+    (i j host n place slot : ℕ) (value : List ℕ) → IsRecovery c log i j host n → place < i → IsChosenAt c log place slot value → slot < n
+
+-- No recovery is shorter than one that had answered before it began.
+abbrev pub NoneShorter : Shape → List Filled → Type 0
+NoneShorter c log = (i j k l host other n m : ℕ) → IsRecovery c log i j host n → IsRecovery c log k l other m → j < k → n ≤ m

@@ -1,0 +1,61 @@
+-- What an entry is in the machines: a few moves, and what they tell of it.
+use Rattle.std.specs.Prelude.{◌≡◌, ◌≤◌, ◌⊎◌, ℕ, true, List, [], ◌∷◌, ◌++◌, length, Some}
+use Rattle.attempt.specs.Answers.{on, heard_as}
+use Rattle.attempt.specs.Chosen.{Chooses}
+use Rattle.attempt.specs.Proposal.{ballot}
+use Rattle.slot_log.specs.Shape.{Shape}
+use Rattle.host.specs.declared.answer.HostAnswer.TheVariants.{Recovered}
+use Rattle.host.specs.Host.{Doing, Memory, Running, input_of, setup_of}
+use Rattle.world.specs.Entry.{Filled, Called, is_of, host_step}
+use Rattle.world.specs.World.{World}
+use Rattle.agreement.specs.Chosen.{IsInput, IsChosenBy, IsEmpty}
+use Rattle.agreement.specs.Event.Event.{Starts}
+use Rattle.agreement.specs.Log.{Move, events_of_slot}
+use Rattle.agreement.specs.Log.Move.{At}
+use Rattle.world_safety.specs.Next.{next_world}
+use Rattle.world_safety.specs.Tied.{Moves, machine, Tied}
+
+-- among the moves is this one
+abbrev pub Has : Moves → Move (List ℕ) → Type 0
+Has late m = (before : Moves) × (behind : Moves) × (late ≡ before ++ m ∷ behind)
+
+-- the host is trying this slot
+pub record IsTryingAt (w : World) (h slot : ℕ) : Type 0 where
+  pub memory : Memory
+  pub doing : Doing
+  pub running : w.host h ≡ Running memory
+  pub does : memory.doing ≡ Some doing
+  pub is : length memory.learned ≡ slot
+
+-- the host of the entry is trying to place this value
+pub record IsInputAt (w : World) (e : Filled) (v : List ℕ) : Type 0 where
+  pub host : ℕ
+  pub memory : Memory
+  pub doing : Doing
+  pub of : is_of host e ≡ true
+  pub running : w.host host ≡ Running memory
+  pub does : memory.doing ≡ Some doing
+  pub input : input_of doing.operation ≡ Some v
+
+-- With the entry its host tries a slot that it was trying, or it begins an attempt there. And where a recovery ends, it has all slots, or the
+-- slot that it was trying, behind those that it has learned, was found empty.
+pub record HostGoes (c : Shape) (w : World) (e : Filled) (ms more : Moves) (h : ℕ) : Type 0 where
+  pub begun : (m : Memory) (t : Doing) → host_step c h (w.host h) e ≡ Running m → m.doing ≡ Some t → IsTryingAt w h (length m.learned) ⊎ Has more (At (length m.learned) (Starts h))
+  pub empty : (m : Memory) (n : ℕ) → host_step c h (w.host h) e ≡ Running m → m.said ≡ Some (Recovered n)
+      → (c.slots ≤ length m.learned) ⊎ (IsTryingAt w h (length m.learned) × IsEmpty c.disks (machine (ms ++ more) (length m.learned)) h)
+
+-- what an attempt chooses with an answer is chosen in the machine, by its ballot
+abbrev pub ChoosesIn : Shape → World → Moves → Filled → Type 0
+ChoosesIn c w ms (Called h k call answer left) =
+    (m : Memory) (t : Doing) (v : List ℕ) → w.host h ≡ Running m → m.doing ≡ Some t
+    → Chooses (setup_of c h m t.operation) (on (t.heard ++ record { disk = k; heard = heard_as answer } ∷ [])) v
+    → IsChosenBy c.disks (machine ms (length m.learned)) (ballot (setup_of c h m t.operation) (on (t.heard ++ record { disk = k; heard = heard_as answer } ∷ []))) v
+ChoosesIn c w ms other = Unit {0}
+
+-- The entry is a few moves.
+pub record Goes (c : Shape) (w : World) (e : Filled) (ms : Moves) : Type 0 where
+  pub more : Moves
+  pub tied : Tied c (next_world c w e) (ms ++ more)
+  pub inputs : (j : ℕ) (v : List ℕ) → IsInput (events_of_slot j more) v → IsInputAt w e v
+  pub host : (h : ℕ) → is_of h e ≡ true → HostGoes c w e ms more h
+  pub chosen : ChoosesIn c w (ms ++ more) e

@@ -1,0 +1,10 @@
+pub mod Acks
+pub mod Blocks
+pub mod Claims
+pub mod Goes
+pub mod Knows
+pub mod Log
+pub mod Next
+pub mod Tied
+pub mod Tracks
+pub mod Votes

@@ -1,0 +1,43 @@
+-- What stands at each place of a list of entries.
+use Rattle.std.specs.Prelude.{◌≡◌, ◌<◌, ℕ, List, length, slice_get, Some}
+use Rattle.lock_command.specs.declared.command.Command.{Command}
+use Rattle.lock_command.specs.Command.{spelling}
+use Rattle.slot_log.specs.Shape.{Shape}
+use Rattle.host.specs.declared.answer.HostAnswer.TheVariants.{Recovered}
+use Rattle.host.specs.Host.{Operation, Submitting, Doing, Memory, Host, Stopped, Running}
+use Rattle.world.specs.Entry.{Filled, Submit}
+use Rattle.world.specs.World.{ReadsBack}
+use Rattle.world.specs.Chosen.{IsChosenAt}
+
+-- the value was chosen for the slot before place i
+pub record IsChosenBefore (c : Shape) (log : List Filled) (i slot : ℕ) (value : List ℕ) : Type 0 where
+  pub place : ℕ
+  pub before : place < i
+  pub is : IsChosenAt c log place slot value
+
+-- each command that was learned is one that reads back, and was chosen before for its slot
+abbrev pub AreChosen : Shape → List Filled → ℕ → List Command → Type 0
+AreChosen c log i learned =
+    (k : ℕ) (command : Command) → slice_get learned k ≡ Some command → ReadsBack command × IsChosenBefore c log i k (spelling command)
+
+-- the command was submitted through the host before, and reads back
+pub record IsSubmittedBy (log : List Filled) (i h : ℕ) (command : Command) : Type 0 where
+  pub place : ℕ
+  pub tries : ℕ
+  pub before : place < i
+  pub entry : slice_get log place ≡ Some (Submit h command tries)
+  pub reads : ReadsBack command
+
+-- so is the one that an operation submits
+abbrev pub IsBegun : List Filled → ℕ → ℕ → Operation → Type 0
+IsBegun log i h operation = (command : Command) → operation ≡ Submitting command → IsSubmittedBy log i h command
+
+-- What a running host knows is true.
+pub record IsTrue (c : Shape) (log : List Filled) (i h : ℕ) (m : Memory) : Type 0 where
+  pub learned : AreChosen c log i m.learned
+  pub begun : (t : Doing) → m.doing ≡ Some t → IsBegun log i h t.operation
+  pub recovered : (n : ℕ) → m.said ≡ Some (Recovered n) → n ≡ length m.learned
+
+abbrev pub IsTrueOf : Shape → List Filled → ℕ → ℕ → Host → Type 0
+IsTrueOf c log i h Stopped = Unit {0}
+IsTrueOf c log i h (Running m) = IsTrue c log i h m

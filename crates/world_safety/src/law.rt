@@ -1,0 +1,32 @@
+// What holds of every list of events, and of every run.
+ghost use Rattle.std.specs.Prelude.{List};
+ghost use Rattle.slot_log.specs.Shape.{Shape};
+ghost use Rattle.world.specs.Entry.{Filled};
+ghost use Rattle.world.specs.World.{IsRun};
+ghost use Rattle.world.specs.Headline.{Headline};
+ghost use Rattle.world_safety.specs.Claims.{BindsGreater, OneVote, VotesInOrder, LogGrows, IsOneLog, EmptyShows, MissesNothing, NoneShorter};
+
+/// One log, whatever happens, and nothing that was acknowledged is lost: so it is with every list
+/// of events, and with every run, however it came about. The log only grows.
+pub fn one_log_and_nothing_lost()
+    ensures headline { Headline }
+    ensures runs { (c : Shape) (log : List Filled) → IsRun c log → IsOneLog c log }
+    ensures grows { (c : Shape) (log : List Filled) → IsRun c log → LogGrows c log }
+{}
+
+/// What is chosen in a ballot is what is voted for in it and in each greater one. A ballot has one
+/// vote, over all incarnations of its host, and a slot none before each earlier slot is chosen.
+pub fn ballots_agree()
+    ensures greater { (c : Shape) (log : List Filled) → IsRun c log → BindsGreater c log }
+    ensures one { (c : Shape) (log : List Filled) → IsRun c log → OneVote c log }
+    ensures in_order { (c : Shape) (log : List Filled) → IsRun c log → VotesInOrder c log }
+{}
+
+/// A slot that a recovery found empty had no chosen value when its host began to try it. So a
+/// recovery that answers has missed nothing that was chosen before it began, for whatever host, and
+/// is no shorter than one that had answered by then.
+pub fn recoveries_miss_nothing()
+    ensures empty { (c : Shape) (log : List Filled) → IsRun c log → EmptyShows c log }
+    ensures nothing { (c : Shape) (log : List Filled) → IsRun c log → MissesNothing c log }
+    ensures no_shorter { (c : Shape) (log : List Filled) → IsRun c log → NoneShorter c log }
+{}

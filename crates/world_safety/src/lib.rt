@@ -1,0 +1,6 @@
+//! Why every list of events has one log, and nothing that was acknowledged is lost.
+#![tactic(auto)]
+
+mod law;
+
+pub use law::{ballots_agree, one_log_and_nothing_lost, recoveries_miss_nothing};
