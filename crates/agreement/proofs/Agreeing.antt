@@ -13,7 +13,7 @@ use Rattle.agreement.proofs.Growing.{proposed_stays, chosen_stays, value_stays}
 use Rattle.agreement.proofs.Runs.{Places}
 
 -- a ballot has one proposal
-one_proposed : {Value : Type 0} (proposed : Proposals Value) (b : ℕ) (v u : Value) → IsProposed proposed b v → IsProposed proposed b u → u ≡ v
+pub one_proposed : {Value : Type 0} (proposed : Proposals Value) (b : ℕ) (v u : Value) → IsProposed proposed b v → IsProposed proposed b u → u ≡ v
 one_proposed proposed b v u k l =
     let one : Some k.proposal ≡ Some l.proposal = sym k.is ∙ l.is in
     let same : k.proposal ≡ l.proposal = cc in
@@ -51,7 +51,7 @@ module _ {Value : Type 0} (disks : ℕ) (s : State Value) (i : Holds disks s) wh
     bound c u above k = binds_below (suc c) c u (omega arith) above k
 
   -- what a host proposes is the proposal of its ballot, which is its own
-  telling : (h b : ℕ) (v : Value) → IsProposing s h b v → IsTelling s.proposed h (record { ballot = b; value = v })
+  pub telling : (h b : ℕ) (v : Value) → IsProposing s h b v → IsTelling s.proposed h (record { ballot = b; value = v })
   telling h b v proposing = mind_at disks s i h (Two (record { ballot = b; value = v })) proposing
 
   -- agreement, as it is claimed of one place

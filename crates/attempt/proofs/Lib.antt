@@ -14,3 +14,5 @@ pub mod Moments
 pub mod Confirmed
 pub mod Preparing
 pub mod Possible
+pub mod Calls
+pub mod Votes

@@ -11,3 +11,4 @@ pub mod Setup
 pub mod Standing
 pub mod Status
 pub mod Visits
+pub mod Votes

@@ -1,5 +1,5 @@
 -- What an attempt has done once it proposes and once its proposal is chosen, told by the places of its history.
-use Rattle.std.specs.Prelude.{◌≡◌, ◌≢◌, ◌⊎◌, ◌<◌, ◌≤◌, ℕ, List, take, slice_get, Some, None}
+use Rattle.std.specs.Prelude.{◌≡◌, ◌≢◌, ◌⊎◌, ◌<◌, ◌≤◌, ℕ, true, List, take, slice_get, Some, None}
 use Rattle.disk.specs.Disk as device
 use Rattle.torn_block.specs.declared.layout.TheConstants.{HOSTS, ROW_LENGTH}
 use Rattle.torn_block.specs.declared.write_steps.WriteCall.{WriteCall}
@@ -13,8 +13,9 @@ use Rattle.paxos_block.specs.Votes.{says_in}
 use Rattle.attempt.specs.Calls.{Phase, Opening, One, Two}
 use Rattle.attempt.specs.Answers.{Heard, Done, Told, Answered, Answers, on, row_in}
 use Rattle.attempt.specs.Setup.{Setup}
-use Rattle.attempt.specs.Proposal.{ballot, own, proposal}
-use Rattle.attempt.specs.Status.{Due, Ended, Committed, status}
+use Rattle.attempt.specs.Visits.{is_left, are_enough}
+use Rattle.attempt.specs.Proposal.{ballot, own}
+use Rattle.attempt.specs.Standing.{HasProposal}
 use Rattle.attempt.specs.NextCall.{next_call}
 use Rattle.attempt.specs.Laws.{OnMost}
 
@@ -59,10 +60,10 @@ IsAccepted s heard value = OnMost s (IsConfirmedOn s heard Two (record { mbal = 
 
 -- THE PROPOSAL
 
--- a call of phase 2 is due, or the proposal is chosen, and it is this value
+-- phase 1 is complete on more than half of the disks, and the proposal is this value
 pub record Proposes (s : Setup) (f : Answers) (value : List ℕ) : Type 0 where
-  pub is : proposal s f ≡ Some value
-  pub now : ((d : ℕ) × (status s f ≡ Due Two d)) ⊎ (status s f ≡ Ended (Committed value))
+  pub has : HasProposal s f value
+  pub majority : are_enough s (is_left s One f) ≡ true
 
 -- what the host's own block said in the opening's row of a disk
 pub record IsOwnVote (s : Setup) (f : Answers) (vote : PBlock) : Type 0 where

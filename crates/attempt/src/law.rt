@@ -1,7 +1,7 @@
 // What bounds an attempt's device calls, how one ends that its disks answer, and what one has done that proposes.
 ghost use Rattle.std.specs.Prelude.{◌≡◌, ◌≢◌, ◌*◌, ◌<◌, ◌≤◌, ℕ, List, length};
 ghost use Rattle.torn_block.specs.declared.layout.TheConstants.{HOSTS};
-ghost use Rattle.attempt.specs.Calls.{Phase};
+ghost use Rattle.attempt.specs.Calls.{Phase, Two};
 ghost use Rattle.attempt.specs.Answers.{Answered, on};
 ghost use Rattle.attempt.specs.Setup.{Setup};
 ghost use Rattle.attempt.specs.Status.{Due, Ended, Committed, Empty, NoMajority, status};
@@ -36,14 +36,22 @@ pub fn alone_answered()
     ensures possible { (s : Setup) → CanEnd s }
 {}
 
-/// An attempt that proposes has its ballot and its latest vote confirmed on more than half of the
-/// disks, and proposes what the votes that it saw ask for. One whose proposal is chosen has its
-/// vote for it confirmed on more than half.
+/// An attempt that proposes, be it with a vote to make or without a block left to make it in, has
+/// its ballot and its latest vote confirmed on more than half of the disks, and proposes what the
+/// votes that it saw ask for. So has one that ends empty. One whose proposal is chosen has its vote
+/// for it confirmed on more than half.
 pub fn prepared_and_proposed()
     ensures prepared { (s : Setup) (heard : List Answered) (value : List ℕ) →
         IsHistory s heard → Proposes s (on heard) value → IsPrepared s heard }
     ensures proposal { (s : Setup) (heard : List Answered) (value : List ℕ) → s.host < HOSTS →
         AreVotes (on heard) → Proposes s (on heard) value → IsProposal s (on heard) value }
+    // Whoever votes proposes, and so does whoever has committed.
+    ensures voting { (s : Setup) (heard : List Answered) (d : ℕ) →
+        status s (on heard) ≡ Due Two d → (value : List ℕ) × Proposes s (on heard) value }
+    ensures committed { (s : Setup) (heard : List Answered) (value : List ℕ) →
+        status s (on heard) ≡ Ended (Committed value) → Proposes s (on heard) value }
+    ensures empty { (s : Setup) (heard : List Answered) → IsHistory s heard →
+        status s (on heard) ≡ Ended Empty → IsPrepared s heard }
     ensures none { (s : Setup) (heard : List Answered) → s.host < HOSTS → AreVotes (on heard) →
         status s (on heard) ≡ Ended Empty → HasNoInput s (on heard) }
     ensures accepted { (s : Setup) (heard : List Answered) (value : List ℕ) → IsHistory s heard →

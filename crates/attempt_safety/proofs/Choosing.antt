@@ -12,13 +12,14 @@ use Rattle.attempt.specs.Proposal.{ballot, others_top, others_mbal}
 use Rattle.attempt.specs.Status.{Ended, Committed, status}
 use Rattle.attempt.specs.History.{IsHistory}
 use Rattle.attempt.specs.Chosen.{accepts_in, accepts, Chooses}
+use Rattle.attempt.specs.Prepared.{Proposes}
 use Rattle.attempt.proofs.Visitors.{left_is, left_over}
 use Rattle.attempt.proofs.Statuses.{HasChosen, told_by, enough_more}
 use Rattle.attempt.proofs.Histories.{IsReached, history_reached}
 use Rattle.agreement.specs.Event.{Event, state_after}
-use Rattle.agreement.specs.Chosen.{IsChosenBy}
+use Rattle.agreement.specs.Chosen.{IsProposed, IsChosenBy}
 use Rattle.agreement.proofs.Runs.{holds_reached}
-use Rattle.agreement.proofs.Agreeing.{commits_chosen}
+use Rattle.agreement.proofs.Agreeing.{telling, commits_chosen}
 use Rattle.attempt_safety.specs.Leads.{Leads}
 use Rattle.attempt_safety.proofs.Answering.{some_of}
 
@@ -54,3 +55,10 @@ pub chosen : (s : Setup) (early : List (Event (List ℕ))) (heard : List Answere
 chosen s early heard x value leads chooses =
     commits_chosen s.disks (state_after (early ++ leads.events)) (holds_reached s.disks (early ++ leads.events) leads.is_run)
     s.host (ballot s (on (heard ++ x ∷ []))) value (leads.arrives.commits value chooses)
+
+-- and what is proposed is proposed there, by its ballot
+pub proposed : (s : Setup) (early : List (Event (List ℕ))) (heard : List Answered) (x : Answered) (value : List ℕ) (leads : Leads s early heard x) → Proposes s (on (heard ++ x ∷ [])) value
+    → IsProposed (state_after (early ++ leads.events)).proposed (ballot s (on (heard ++ x ∷ []))) value
+proposed s early heard x value leads proposes =
+    (telling s.disks (state_after (early ++ leads.events)) (holds_reached s.disks (early ++ leads.events) leads.is_run)
+    s.host (ballot s (on (heard ++ x ∷ []))) value (leads.arrives.proposing value proposes)).proposal

@@ -18,6 +18,7 @@ use Rattle.attempt.specs.Standing.{IsIn}
 use Rattle.attempt.specs.Status.{Ended, Outrun, status}
 use Rattle.attempt.specs.History.{IsAnswerTo, IsHistory}
 use Rattle.attempt.specs.Chosen.{accepts_in, accepts, Chooses}
+use Rattle.attempt.specs.Prepared.{Proposes}
 use Rattle.attempt.proofs.Lists.{length_more, row_last}
 use Rattle.attempt.proofs.More.{more_here, more_there, by_disk, on_more}
 use Rattle.attempt.proofs.Replies.{history_more, IsAnswer, answer_is}
@@ -27,7 +28,7 @@ use Rattle.attempt.proofs.Statuses.{IsDueAt, due_is, status_tells, in_kept, Enou
 use Rattle.attempt.proofs.Histories.{IsReached, history_reached, visit, behind_due}
 use Rattle.agreement.specs.State.{Cell, start as beginning}
 use Rattle.agreement.specs.Event.{Event, Allowed, AllAllowed, after, run, IsRun, state_after}
-use Rattle.agreement.specs.Chosen.{IsCommitted}
+use Rattle.agreement.specs.Chosen.{IsProposing, IsCommitted}
 use Rattle.agreement.proofs.Steps.{state_by-append, may_both}
 use Rattle.agreement.proofs.Invariant.{Holds}
 use Rattle.agreement.proofs.Runs.{holds_reached}
@@ -38,11 +39,12 @@ use Rattle.attempt_safety.specs.Leads.{IsOfAttempt, LeavesOthers, OwnBlock, Lead
 use Rattle.attempt_safety.proofs.Stands.{mind_same}
 use Rattle.attempt_safety.proofs.Cells.{leaves_same, leaves_then}
 use Rattle.attempt_safety.proofs.Answering.{Moves, IsFaster, answered}
-use Rattle.attempt_safety.proofs.Turning.{Turns, Accepted, commits_by, not_yet, turn}
+use Rattle.attempt_safety.proofs.Turning.{Turns, Accepted, commits_by, not_yet, knows_two, turn}
 
 -- with an answer the machine m has come to n, which agrees with the attempt
 pub record Goes (s : Setup) (f : Answers) (d : ℕ) (x : Heard) (g : Answers) (m n : Machine) : Type 0 where
   pub agrees : Agrees s g n (status s g)
+  pub proposing : (value : List ℕ) → Proposes s g value → IsProposing n s.host (ballot s g) value
   pub commits : (value : List ℕ) → Chooses s g value → IsCommitted s.disks n s.host (ballot s g) value
   pub others : LeavesOthers s.host d m n
   pub block : (kind : Kind) → IsNext (f d) kind → OwnBlock s f kind x (m.cell s.host d) (n.cell s.host d)
@@ -79,6 +81,7 @@ module _ (s : Setup) (f : Answers) (d : ℕ) (x : Heard) (m : Machine) (p : Phas
         allowed = may_both after (Allowed s.disks) m one.events two.events one.allowed two.allowed;
         goes = subst (Goes s f d x g m) (sym (state_by-append after m one.events two.events)) (record {
           agrees = two.agrees;
+          proposing = two.proposing;
           commits = two.commits;
           others = leaves_then s.host d m (run m one.events) (run (run m one.events) two.events) one.others two.minds two.cells;
           block = λ kind is. subst (λ (k : Cell (List ℕ)). OwnBlock s f kind x (m.cell s.host d) k) (sym (two.cells s.host d)) (one.block kind is);
@@ -147,6 +150,16 @@ module _ (s : Setup) (f : Answers) (d : ℕ) (x : Heard) (m : Machine) where
           ∙ ap (λ (b : ℕ). not (nat_lt b (others_top_of s.host row))) (ballot_then s f d x m Two due reached stands reached_then host_below row is last later above)
           ∙ ap not above
 
+  -- as is what was proposed before it
+  faster_proposes : (p : Phase) (due : IsDueAt s p d f) (reached : IsReached s f) (stands : StandsIn s p f m) (reached_then : IsReached s then) (host_below : s.host < HOSTS)
+      (row : List SeenBlock) (is : x ≡ Told (Some row)) (last : length (f d) + 1 ≡ goal p) (later : start One ≤ length (f d)) (above : nat_lt (ballot s f) (others_top_of s.host row) ≡ true)
+      → (value : List ℕ) → Proposes s then value → IsProposing m s.host (ballot s then) value
+  faster_proposes Opening due reached stands reached_then host_below row is last later above value p = absurd (omega arith)
+  faster_proposes One due reached stands reached_then host_below row is last later above value p =
+      absurd (both_ways (nat_lt (ballot s then) (others_mbal s One then)) p.has.not_outrun (above_then s f d x m One due reached stands reached_then host_below row is last later above))
+  faster_proposes Two due reached stands reached_then host_below row is last later above value p =
+      stands.mind ∙ sym (mind_same s then f (rows_kept f d x Opening later) (rows_kept f d x One (omega (arith, last))) Two) ∙ knows_two s then value p.has.is
+
 module _ (s : Setup) (f : Answers) (d : ℕ) (x : Heard) (m : Machine) (p : Phase) (due : IsDueAt s p d f) (reached : IsReached s f) (stands : StandsIn s p f m) (reached_then : IsReached s (more f d x)) (host_below : s.host < HOSTS) where
   by_faster : IsFaster s p f d x m → Comes s f d x (more f d x) m
   by_faster k =
@@ -160,6 +173,7 @@ module _ (s : Setup) (f : Answers) (d : ℕ) (x : Heard) (m : Machine) (p : Phas
         allowed = tt;
         goes = record {
           agrees = subst (Agrees s (more f d x) m) (sym ended) tt;
+          proposing = faster_proposes s f d x m p due reached stands reached_then host_below k.row k.is k.last k.later k.above;
           commits = faster_commits s f d x m p due reached stands reached_then host_below k.row k.is k.last k.later k.above;
           others = leaves_same s.host d m;
           block = k.block;
@@ -190,6 +204,7 @@ module _ (s : Setup) (early : List (Event (List ℕ))) (heard : List Answered) (
         is_run = may_both after (Allowed s.disks) beginning early k.events is_run k.allowed;
         arrives = record {
           follows = record { history = history; agrees = there.agrees };
+          proposing = there.proposing;
           commits = there.commits;
           others = there.others;
           block = there.block;

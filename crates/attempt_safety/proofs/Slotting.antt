@@ -20,7 +20,7 @@ use Rattle.attempt_safety.specs.Slots.{in_slot}
 -- WHAT THE SLOTS SEE
 
 -- a slot sees the moves one after another
-events_append : (k : ℕ) (ms late : List (Move (List ℕ))) → events_of_slot k (ms ++ late) ≡ events_of_slot k ms ++ events_of_slot k late
+pub events_append : (k : ℕ) (ms late : List (Move (List ℕ))) → events_of_slot k (ms ++ late) ≡ events_of_slot k ms ++ events_of_slot k late
 events_append k [] late = refl
 events_append k (m ∷ ms) late = ap (λ (es : List (Event (List ℕ))). events_at k m ++ es) (events_append k ms late) ∙ sym (append_assoc (events_at k m) (events_of_slot k ms) (events_of_slot k late))
 

@@ -8,10 +8,11 @@ use Rattle.attempt.specs.Setup.{Setup}
 use Rattle.attempt.specs.Proposal.{ballot}
 use Rattle.attempt.specs.NextCall.{says_for}
 use Rattle.attempt.specs.Chosen.{Chooses}
+use Rattle.attempt.specs.Prepared.{Proposes}
 use Rattle.agreement.specs.State.{Block, Cell}
 use Rattle.agreement.specs.Event.{Event, IsRun, state_after}
-use Rattle.agreement.specs.Event.Event.{Sees, Takes, Begins, Confirms, ReadsOne, Proposes, ReadsTwo}
-use Rattle.agreement.specs.Chosen.{PutsIn, IsCommitted}
+use Rattle.agreement.specs.Event.Event.{Sees, Takes, Begins, Confirms, ReadsOne, Proposes as MakesProposal, ReadsTwo}
+use Rattle.agreement.specs.Chosen.{PutsIn, IsProposing, IsCommitted}
 use Rattle.attempt_safety.specs.Machine.{Machine, block_said}
 use Rattle.attempt_safety.specs.Follows.{Follows}
 use Rattle.attempt_safety.specs.Registers.{IsNext}
@@ -25,7 +26,7 @@ IsOfHost host (Takes h o b) = h ≡ host
 IsOfHost host (Begins h d w) = h ≡ host
 IsOfHost host (Confirms h d w) = h ≡ host
 IsOfHost host (ReadsOne h d row a best) = h ≡ host
-IsOfHost host (Proposes h a value) = h ≡ host
+IsOfHost host (MakesProposal h a value) = h ≡ host
 IsOfHost host (ReadsTwo h d row t) = h ≡ host
 IsOfHost host other = ⊥
 
@@ -70,6 +71,9 @@ pub record LeavesOthers (h d : ℕ) (old new : Machine) : Type 0 where
 pub record Arrives (s : Setup) (heard : List Answered) (x : Answered) (old new : Machine) : Type 0 where
   -- it follows the attempt with the answer
   pub follows : Follows s (heard ++ x ∷ []) new
+  -- what the attempt proposes with the answer its host proposes, also where it has no block left to vote in
+  pub proposing : (value : List ℕ) → Proposes s (on (heard ++ x ∷ [])) value
+      → IsProposing new s.host (ballot s (on (heard ++ x ∷ []))) value
   -- what is chosen with the answer is committed, however the attempt ends
   pub commits : (value : List ℕ) → Chooses s (on (heard ++ x ∷ [])) value
       → IsCommitted s.disks new s.host (ballot s (on (heard ++ x ∷ []))) value

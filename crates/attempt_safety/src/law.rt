@@ -9,11 +9,12 @@ ghost use Rattle.attempt.specs.Proposal.{ballot};
 ghost use Rattle.attempt.specs.NextCall.{next_call};
 ghost use Rattle.attempt.specs.Status.{Due, Ended, Committed, Empty, status};
 ghost use Rattle.attempt.specs.Chosen.{Chooses};
+ghost use Rattle.attempt.specs.Prepared.{Proposes};
 ghost use Rattle.attempt.specs.History.{IsAnswerTo, IsHistory};
 ghost use Rattle.agreement.specs.State.{Block};
 ghost use Rattle.agreement.specs.Event.{Event, IsRun, state_after, after};
 ghost use Rattle.agreement.specs.Event.Event.{Stops, Starts, Begins, Settles, Crashes};
-ghost use Rattle.agreement.specs.Chosen.{IsChosenBy};
+ghost use Rattle.agreement.specs.Chosen.{IsProposed, IsChosenBy};
 ghost use Rattle.agreement.specs.Claims.{NoneChosen};
 ghost use Rattle.agreement.specs.Log.{Move, IsHistory as IsSlotsHistory};
 ghost use Rattle.agreement.specs.Log.{slots_after, events_of_slot};
@@ -72,8 +73,8 @@ pub fn blocks_outlast_attempts()
         IsSameBlock (m.cell h d) ((after m (Starts g)).cell h d) }
 {}
 
-/// What an attempt commits is chosen; and what is chosen, however the attempt ends, is chosen in
-/// the machine.
+/// What an attempt commits is chosen; what is chosen, however the attempt ends, is chosen in the
+/// machine; and what it proposes, also with no block left to vote in, is proposed there.
 pub fn what_is_chosen()
     ensures committed { (s : Setup) (heard : List Answered) (value : List ℕ) →
         IsHistory s heard → status s (on heard) ≡ Ended (Committed value) →
@@ -82,6 +83,11 @@ pub fn what_is_chosen()
         (x : Answered) (value : List ℕ) (leads : Leads s early heard x) →
         Chooses s (on (heard ++ x ∷ [])) value →
         IsChosenBy s.disks (state_after (early ++ leads.events))
+        (ballot s (on (heard ++ x ∷ []))) value }
+    ensures proposed { (s : Setup) (early : List (Event (List ℕ))) (heard : List Answered)
+        (x : Answered) (value : List ℕ) (leads : Leads s early heard x) →
+        Proposes s (on (heard ++ x ∷ [])) value →
+        IsProposed (state_after (early ++ leads.events)).proposed
         (ballot s (on (heard ++ x ∷ []))) value }
 {}
 

@@ -1,4 +1,5 @@
 pub mod HeaderLemmas
+pub mod Outcomes
 pub mod PlaceLemmas
 pub mod RowLemmas
 pub mod SayingLemmas

@@ -19,6 +19,7 @@ use Rattle.std.specs.List.{HoldsAt}
 use Rattle.torn_block.specs.Plan.{told_value}
 use Rattle.paxos_block.specs.declared.row.Row.{Row}
 use Rattle.paxos_block.specs.Row.{IsRow, says_of, SeenBlock, seen_in, seen_at, row_said}
+use Rattle.paxos_block.proofs.Outcomes.{Outcomes}
 use Rattle.paxos_block.proofs.RowLemmas.{said_sees}
 use Rattle.torn_block.specs.Damage.{block_of}
 use Rattle.paxos_block.specs.Places.{Shows, Tells, Spot, BeatOf, VoteOf, place_of, row_place, area_place, image_length, IsSpot, IsImage, IsWithin, Holds, row_of, area_of}
@@ -55,11 +56,6 @@ spot_fits slots (BeatOf h) is = omega arith
 spot_fits slots (VoteOf s h) is = omega arith
 
 -- ---- what a call within one block leaves
-
--- whatever a crash may make of this block on the new disk, it may on the old one
-abbrev Outcomes : DiskState → ℕ → DiskState → Type 0
-Outcomes old place new =
-    (bytes : List ℕ) → MayLeave new bytes → (before : List ℕ) × MayLeave old before × (block_in place bytes ≡ block_in place before)
 
 module _ (slots : ℕ) (mine : Spot) (is_mine : IsSpot slots mine) (disk : DiskState) (image : IsImage slots disk) where
   pub writes_on : (call : Call) → IsWithin mine call → WritesOn disk call

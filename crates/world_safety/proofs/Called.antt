@@ -52,16 +52,17 @@ use Rattle.attempt_safety.specs.Leads.{IsOfAttempt, LeavesOthers, Arrives, Leads
 use Rattle.attempt_safety.specs.Slots.{in_slot}
 use Rattle.attempt_safety.proofs.Beginning.{write_begins}
 use Rattle.attempt_safety.proofs.Cells.{changed_here, changed_leaves}
-use Rattle.attempt_safety.proofs.Choosing.{chosen as chosen_by}
+use Rattle.attempt_safety.proofs.Choosing.{chosen as chosen_by, proposed as proposed_by}
 use Rattle.attempt_safety.proofs.Following.{leads}
 use Rattle.attempt_safety.proofs.Leaving.{follows_same, by_settling}
 use Rattle.attempt_safety.proofs.Slotting.{moves_on, events_here, learned_same}
 use Rattle.attempt_safety.proofs.Stages.{putting}
 use Rattle.world_safety.specs.Blocks.{said, Stands}
+use Rattle.world_safety.specs.Goes.{Carries}
 use Rattle.world_safety.specs.Knows.{own_place, KnowsFor, Knows}
 use Rattle.world_safety.specs.Tied.{Moves, machine, IsTrying, IsDoing, IsRunning, HostAt, TiedBut, Tied}
-use Rattle.world_safety.specs.Votes.{TellsVotes, ShowsVotes}
-use Rattle.world_safety.proofs.Calls.{first_number}
+use Rattle.attempt.specs.Votes.{TellsVotes, ShowsVotes}
+use Rattle.attempt.proofs.Calls.{first_number}
 use Rattle.world_safety.proofs.Hosts.{tied_but}
 use Rattle.world_safety.proofs.Keeping.{Spares, spares_others, spares_same, knows_spared, knows_elsewhere}
 use Rattle.world_safety.proofs.Machines.{machine_is, machine_runs, machine_here, machine_there, history_more, events_append}
@@ -69,7 +70,7 @@ use Rattle.world_safety.proofs.OneBlock.{with_disks, IsOther, other_blocks, othe
 use Rattle.world_safety.proofs.Owned.{After, own_after}
 use Rattle.world_safety.proofs.Settled.{told_or_not, allows_none, current, is_next_read, row_is, allows_row}
 use Rattle.world_safety.proofs.Standing.{stands_resting, cell_reads}
-use Rattle.world_safety.proofs.Votes.{MayWrite, votes_more, row_shows}
+use Rattle.attempt.proofs.Votes.{MayWrite, votes_more, row_shows}
 use Rattle.world_safety.proofs.Within.{within, may_write}
 
 -- puts nothing in
@@ -94,7 +95,7 @@ pub record Hears (c : Shape) (w w' : World) (ms : Moves) (h : ℕ) (m : Memory) 
   pub knows : (d : ℕ) → Knows (w'.disk d) (setup_of c h m t.operation) (on heard) d ((machine (ms ++ early) (length m.learned)).cell h d)
   pub votes : (d : ℕ) → TellsVotes (on heard d)
   pub inputs : (j : ℕ) (v : List ℕ) → IsInput (events_of_slot j early) v → input_of t.operation ≡ Some v
-  pub chosen : (v : List ℕ) → Chooses (setup_of c h m t.operation) (on heard) v → IsChosenBy c.disks (machine (ms ++ early) (length m.learned)) (ballot (setup_of c h m t.operation) (on heard)) v
+  pub carries : Carries (machine (ms ++ early) (length m.learned)) (setup_of c h m t.operation) (on heard)
 
 -- an input of two lists of events is one of either
 pub input_append : (first second : List (Event (List ℕ))) (v : List ℕ) → IsInput (first ++ second) v → IsInput first v ⊎ IsInput second v
@@ -432,8 +433,10 @@ module _ (c : Shape) (w : World) (ms : Moves) (tied : Tied c w ms) (h k : ℕ) (
           knows = subst (λ (l : Moves). (d : ℕ) → Knows (disks d) s (on heard) d ((machine l slot).cell h d)) regroup (subst (λ (g : Answers). (d : ℕ) → Knows (disks d) s g d ((machine ms2 slot).cell h d)) (sym (on_more t.heard x)) known_then);
           votes = subst (λ (g : Answers). (d : ℕ) → TellsVotes (g d)) (sym (on_more t.heard x)) votes_then;
           inputs = input_then;
-          chosen = λ v chooses. subst (λ (l : Moves). IsChosenBy c.disks (machine l slot) (ballot s (on heard)) v) regroup (subst (λ (n : Machine). IsChosenBy c.disks n (ballot s (on heard)) v) (sym here_then)
-              (chosen_by s (events_of_slot slot ms1) t.heard x v lead chooses));
+          carries = subst (λ (l : Moves). Carries (machine l slot) s (on heard)) regroup (subst (λ (n : Machine). Carries n s (on heard)) (sym here_then) (record {
+            proposed = λ v proposes. proposed_by s (events_of_slot slot ms1) t.heard x v lead proposes;
+            chosen = λ v chooses. chosen_by s (events_of_slot slot ms1) t.heard x v lead chooses;
+          }));
         }
 
   pub hears : Hears c w (with_disks w disks) ms h m t (t.heard ++ x ∷ [])

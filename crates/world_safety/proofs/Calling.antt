@@ -16,7 +16,7 @@ use Rattle.agreement.specs.Event.{Event}
 use Rattle.agreement.specs.Chosen.{IsInput, IsChosenBy}
 use Rattle.agreement.specs.Log.{events_of_slot, IsHistory}
 use Rattle.agreement.specs.Log.Move.{Restart}
-use Rattle.world_safety.specs.Goes.{IsTryingAt, IsInputAt, HostGoes, Goes}
+use Rattle.world_safety.specs.Goes.{IsTryingAt, IsInputAt, HostGoes, Carries, Goes}
 use Rattle.world_safety.specs.Next.{next_world}
 use Rattle.world_safety.specs.Tied.{Moves, machine, IsTrying, IsDoing, IsRunning, Tied}
 use Rattle.world_safety.proofs.Called.{Hears, hears, input_append}
@@ -24,7 +24,7 @@ use Rattle.world_safety.proofs.Ending.{answered_late}
 use Rattle.world_safety.proofs.Hosts.{Late, tied_with, but_stops, stops_learned}
 use Rattle.world_safety.proofs.Machines.{events_append}
 use Rattle.world_safety.proofs.OneBlock.{with_disks}
-use Rattle.world_safety.proofs.Moving.{chosen_by_later, for_host, late_goes, late_tied, stopped_goes, running_at}
+use Rattle.world_safety.proofs.Moving.{carries_later, for_host, late_goes, late_tied, stopped_goes, running_at}
 
 module _ (c : Shape) (w : World) (ms : Moves) (tied : Tied c w ms) where
   -- A DEVICE CALL
@@ -89,26 +89,25 @@ module _ (c : Shape) (w : World) (ms : Moves) (tied : Tied c w ms) where
     called_tied : Tied c (next_world c w (Called h k call answer left)) (ms ++ (hears_it.early ++ late.late))
     called_tied = late_tied c w w2 (Called h k call answer left) ms hears_it.early h (Some (length m.learned)) new late now was (λ g. host_step c g (w.host g) (Called h k call answer left)) now
 
-    abbrev IsChosenAs : Memory → Doing → Type 0
-    IsChosenAs m' t' =
-        (v : List ℕ) → Chooses (setup_of c h m' t'.operation) (on (t'.heard ++ x ∷ [])) v
-        → IsChosenBy c.disks (machine (ms ++ (hears_it.early ++ late.late)) (length m'.learned)) (ballot (setup_of c h m' t'.operation) (on (t'.heard ++ x ∷ []))) v
+    abbrev late_moves : Moves
+    late_moves = ms ++ (hears_it.early ++ late.late)
 
-    chosen_here : IsChosenAs m t
-    chosen_here v chooses =
+    abbrev CarriesAs : Memory → Doing → Type 0
+    CarriesAs m' t' = Carries (machine late_moves (length m'.learned)) (setup_of c h m' t'.operation) (on (t'.heard ++ x ∷ []))
+
+    carries_here : CarriesAs m t
+    carries_here =
         let regroup = append_assoc ms hears_it.early late.late in
-        subst (λ (l : Moves). IsChosenBy c.disks (machine l (length m.learned)) (ballot s (on heard)) v) regroup
-        (chosen_by_later c.disks (ms ++ hears_it.early) late.late (length m.learned) (ballot s (on heard)) v (subst (λ (l : Moves). IsHistory c.disks l) (sym regroup) called_tied.history) (hears_it.chosen v chooses))
+        subst (λ (l : Moves). Carries (machine l (length m.learned)) s (on heard)) regroup
+        (carries_later s (on heard) (ms ++ hears_it.early) late.late (length m.learned) (subst (λ (l : Moves). IsHistory c.disks l) (sym regroup) called_tied.history) hears_it.carries)
 
-    called_chosen : (m' : Memory) (t' : Doing) (v : List ℕ) → w.host h ≡ Running m' → m'.doing ≡ Some t' → Chooses (setup_of c h m' t'.operation) (on (t'.heard ++ x ∷ [])) v
-        → IsChosenBy c.disks (machine (ms ++ (hears_it.early ++ late.late)) (length m'.learned)) (ballot (setup_of c h m' t'.operation) (on (t'.heard ++ x ∷ []))) v
-    called_chosen m' t' v is does' chooses =
+    called_carries : (m' : Memory) (t' : Doing) → w.host h ≡ Running m' → m'.doing ≡ Some t' → CarriesAs m' t'
+    called_carries m' t' is does' =
         let both : Running m' ≡ Running m = sym is ∙ running in
         let same : m' ≡ m = cc in
         let ones : Some t' ≡ Some t = sym does' ∙ ap (λ (k : Memory). k.doing) same ∙ does in
         let one : t' ≡ t = cc in
-        let there : IsChosenAs m' t' = subst (λ (q : Memory). IsChosenAs q t') (sym same) (subst (IsChosenAs m) (sym one) chosen_here) in
-        there v chooses
+        subst (λ (q : Memory). CarriesAs q t') (sym same) (subst (CarriesAs m) (sym one) carries_here)
 
     pub called_goes : Goes c w (Called h k call answer left) ms
     called_goes =
@@ -118,7 +117,7 @@ module _ (c : Shape) (w : World) (ms : Moves) (tied : Tied c w ms) where
           inputs = λ j v input. input_at (Called h k call answer left) (eq-eqb h h refl) v (called_input j v input);
           host = λ g of. for_host (λ i. HostGoes c w (Called h k call answer left) ms (hears_it.early ++ late.late) i) h g of
               (late_goes c w w2 (Called h k call answer left) ms hears_it.early h (Some (length m.learned)) new late now was);
-          chosen = called_chosen;
+          carries = called_carries;
         }
 
   -- A TORN WRITE: the call fails, and its host stops
@@ -145,7 +144,7 @@ module _ (c : Shape) (w : World) (ms : Moves) (tied : Tied c w ms) where
               (tied_with c w2 ((ms ++ it.early) ++ Restart h ∷ []) h (λ g. Stopped) (but_stops c w2 (ms ++ it.early) h it.tied) (stops_learned c w2 (ms ++ it.early) h it.tied));
           inputs = λ j v input. record { host = h; memory = m; doing = t; of = eq-eqb h h refl; running = running; does = does; input = torn_input it j v input };
           host = λ g of. for_host (λ i. HostGoes c w (Torn h k call left) ms (it.early ++ Restart h ∷ []) i) h g of (stopped_goes c w (Torn h k call left) ms (it.early ++ Restart h ∷ []) h refl);
-          chosen = tt;
+          carries = tt;
         }
 
   pub tears : (h k : ℕ) (call : Call) (left : List ℕ) → Tears call (w.disk k) (disk_step (w.disk k) (Torn h k call left)) → Step (w.disk k) call (Fault Failed) (disk_step (w.disk k) (Called h k call (Fault Failed) left))

@@ -122,7 +122,7 @@ module _ (c : Shape) (w : World) (ms : Moves) (tied : Tied c w ms) where
           };
           inputs = λ j v input. absurd (elim input [ inl puts ↦ puts | inr rest ↦ rest ]);
           host = λ g of. absurd (cc);
-          chosen = tt;
+          carries = tt;
         }
 
   -- A DISK IS LOST
@@ -157,5 +157,5 @@ module _ (c : Shape) (w : World) (ms : Moves) (tied : Tied c w ms) where
           tied = subst (λ (l : Moves). Tied c (next_world c w (Lost k)) l) (sym (append-nil ms)) lost_tied;
           inputs = λ j v input. absurd input;
           host = λ g of. absurd (cc);
-          chosen = tt;
+          carries = tt;
         }

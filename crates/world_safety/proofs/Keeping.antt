@@ -12,6 +12,7 @@ use Rattle.paxos_block.specs.declared.block.PBlock.{PBlock}
 use Rattle.paxos_block.specs.Places.{Spot, place_of, IsSpot, IsImage, IsWithin}
 use Rattle.paxos_block.specs.Row.{seen_in}
 use Rattle.paxos_block.specs.Saying.{body_saying}
+use Rattle.paxos_block.proofs.Outcomes.{Outcomes, rests_by, same_outcomes}
 use Rattle.paxos_block.proofs.PlaceLemmas.{others_outcomes, others_stay_due}
 use Rattle.attempt.specs.Calls.{Phase, Opening, One, Two, Kind, Attaching, Syncing, Reading, Putting, start, goal}
 use Rattle.attempt.specs.Answers.{Heard, Answers, all_good, boot_of, last_row, more, block_in as seen_block}
@@ -23,10 +24,9 @@ use Rattle.agreement.specs.State.{Cell}
 use Rattle.attempt_safety.specs.Registers.{IsNext}
 use Rattle.attempt_safety.specs.Leads.{IsSameBlock}
 use Rattle.world_safety.specs.Knows.{own_place, IsWriting, Writes, KnowsFor, Knows}
-use Rattle.world_safety.proofs.Calls.{later_number}
-use Rattle.world_safety.proofs.Standing.{Outcomes, rests_by, same_outcomes}
+use Rattle.attempt.proofs.Calls.{later_number}
 use Rattle.world_safety.proofs.Owning.{placed, boot_kept}
-use Rattle.world_safety.proofs.Votes.{says_same}
+use Rattle.attempt.proofs.Votes.{says_same}
 
 -- BY THE CALL THAT IS NEXT
 

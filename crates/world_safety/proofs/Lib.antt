@@ -2,7 +2,6 @@ pub mod Acknowledging
 pub mod Ballots
 pub mod Called
 pub mod Calling
-pub mod Calls
 pub mod Commands
 pub mod Crashing
 pub mod Deciding
@@ -23,9 +22,7 @@ pub mod Places
 pub mod Recovering
 pub mod Safety
 pub mod Settled
-pub mod Spellings
 pub mod Standing
 pub mod Tracks
-pub mod Votes
 pub mod Within
 pub mod Worlds

@@ -1,18 +1,21 @@
 -- What the moves of an entry tell of its host, and that what is chosen stays so.
 use Rattle.std.proofs.Common.{ℕ, ◌≤◌, ◌≡◌, ◌==◌, ◌⊎◌, inl, inr, true, Option, Some, List, ◌∷◌, ◌++◌, length, append_assoc, sym, subst, ap, ◌∙◌}
 use Rattle.std.proofs.lemmas.Bool.{eqb-true}
+use Rattle.attempt.specs.Answers.{Answers}
+use Rattle.attempt.specs.Proposal.{ballot}
+use Rattle.attempt.specs.Setup.{Setup}
 use Rattle.slot_log.specs.Shape.{Shape}
 use Rattle.host.specs.Host.{Doing, Memory, Host, Stopped, Running}
 use Rattle.world.specs.Entry.{Filled, host_step}
 use Rattle.world.specs.World.{World}
 use Rattle.agreement.specs.Event.{Event, IsRun, state_after}
 use Rattle.agreement.specs.Event.Event.{Starts}
-use Rattle.agreement.specs.Chosen.{IsChosenBy, IsChosen, IsEmpty}
+use Rattle.agreement.specs.Chosen.{IsProposed, IsChosenBy, IsChosen, IsEmpty}
 use Rattle.agreement.specs.Log.{events_of_slot, IsHistory}
 use Rattle.agreement.specs.Log.Move.{At}
-use Rattle.agreement.proofs.Growing.{chosen_stays}
+use Rattle.agreement.proofs.Growing.{proposed_stays, chosen_stays}
 use Rattle.agreement.proofs.Runs.{places}
-use Rattle.world_safety.specs.Goes.{Has, IsTryingAt, HostGoes}
+use Rattle.world_safety.specs.Goes.{Has, IsTryingAt, HostGoes, Carries}
 use Rattle.world_safety.specs.Next.{with_host}
 use Rattle.world_safety.specs.Tied.{Moves, machine, IsRunning, HostAt, Tied}
 use Rattle.world_safety.proofs.Hosts.{Late, tied_with}
@@ -26,6 +29,20 @@ chosen_by_later disks ms late k b v history is =
     let both = places disks (events_of_slot k ms) (events_of_slot k late) run in
     subst (λ (es : List (Event (List ℕ))). IsChosenBy disks (state_after es) b v) (sym (events_append k ms late))
     (chosen_stays disks (state_after (events_of_slot k ms)) (state_after (events_of_slot k ms ++ events_of_slot k late)) both.grows b v is)
+
+-- and so is what is proposed
+pub proposed_by_later : (disks : ℕ) (ms late : Moves) (k b : ℕ) (v : List ℕ) → IsHistory disks (ms ++ late) → IsProposed (machine ms k).proposed b v → IsProposed (machine (ms ++ late) k).proposed b v
+proposed_by_later disks ms late k b v history is =
+    let run = subst (λ (es : List (Event (List ℕ))). IsRun disks es) (events_append k ms late) (machine_runs disks (ms ++ late) k history) in
+    let both = places disks (events_of_slot k ms) (events_of_slot k late) run in
+    subst (λ (es : List (Event (List ℕ))). IsProposed (state_after es).proposed b v) (sym (events_append k ms late)) (proposed_stays both.grows.proposed is)
+
+pub carries_later : (s : Setup) (f : Answers) (ms late : Moves) (k : ℕ) → IsHistory s.disks (ms ++ late) → Carries (machine ms k) s f → Carries (machine (ms ++ late) k) s f
+carries_later s f ms late k history is =
+    record {
+      proposed = λ v proposes. proposed_by_later s.disks ms late k (ballot s f) v history (is.proposed v proposes);
+      chosen = λ v chooses. chosen_by_later s.disks ms late k (ballot s f) v history (is.chosen v chooses);
+    }
 
 pub chosen_later : (disks : ℕ) (ms late : Moves) (k : ℕ) (v : List ℕ) → IsHistory disks (ms ++ late) → IsChosen disks (machine ms k) v → IsChosen disks (machine (ms ++ late) k) v
 chosen_later disks ms late k v history is = (is.0, chosen_by_later disks ms late k is.0 v history is.1)

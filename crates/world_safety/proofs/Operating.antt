@@ -15,9 +15,9 @@ use Rattle.agreement.specs.Log.Move.{Restart}
 use Rattle.world_safety.specs.Goes.{HostGoes, Goes}
 use Rattle.world_safety.specs.Next.{with_host, next_world}
 use Rattle.world_safety.specs.Tied.{Moves, IsRunning, HostAt, TiedBut, Tied}
-use Rattle.world_safety.specs.Votes.{IsLong}
+use Rattle.attempt.specs.Votes.{IsLong}
 use Rattle.world_safety.proofs.Hosts.{Late, goes_on_late, tied_but, tied_with, stopped, but_stops, stops_learned}
-use Rattle.world_safety.proofs.Spellings.{spelling_long}
+use Rattle.lock_command.proofs.Lengths.{spelling_long}
 use Rattle.world_safety.proofs.Moving.{for_host, late_goes, late_tied, stopped_goes, running_at}
 
 module _ (c : Shape) (w : World) (ms : Moves) (tied : Tied c w ms) where
@@ -39,7 +39,7 @@ module _ (c : Shape) (w : World) (ms : Moves) (tied : Tied c w ms) where
           begun = λ m t same does. absurd (let both : Running fresh ≡ Running m = sym now ∙ same in let one : fresh ≡ m = cc in let none_does : fresh.doing ≡ Some t = ap (λ (k : Memory). k.doing) one ∙ does in cc);
           empty = λ m n same said. absurd (let both : Running fresh ≡ Running m = sym now ∙ same in let one : fresh ≡ m = cc in let none_said : fresh.said ≡ Some (Recovered n) = ap (λ (k : Memory). k.said) one ∙ said in cc);
         });
-        chosen = tt;
+        carries = tt;
       }
 
   -- A HOST STOPS
@@ -51,7 +51,7 @@ module _ (c : Shape) (w : World) (ms : Moves) (tied : Tied c w ms) where
         tied = tied_with c w (ms ++ Restart h ∷ []) h (λ g. Stopped) (but_stops c w ms h (tied_but c w ms h tied)) (stops_learned c w ms h (tied_but c w ms h tied));
         inputs = λ j v input. absurd (elim input [ inl puts ↦ puts | inr rest ↦ rest ]);
         host = λ g of. for_host (λ i. HostGoes c w (Stop h) ms (Restart h ∷ []) i) h g of (stopped_goes c w (Stop h) ms (Restart h ∷ []) h refl);
-        chosen = tt;
+        carries = tt;
       }
 
   -- AN OPERATION BEGINS
@@ -80,7 +80,7 @@ module _ (c : Shape) (w : World) (ms : Moves) (tied : Tied c w ms) where
         tied = by.1;
         inputs = λ j v input. absurd (by.3 j v input);
         host = λ g of. for_host (λ i. HostGoes c w (Submit h command tries) ms by.0 i) h g of by.2;
-        chosen = tt;
+        carries = tt;
       }
 
   pub recovers_goes : (h tries : ℕ) → (host : Host) → w.host h ≡ host → IsTrue (idles host) → Goes c w (Recover h tries) ms
@@ -92,5 +92,5 @@ module _ (c : Shape) (w : World) (ms : Moves) (tied : Tied c w ms) where
         tied = by.1;
         inputs = λ j v input. absurd (by.3 j v input);
         host = λ g of. for_host (λ i. HostGoes c w (Recover h tries) ms by.0 i) h g of by.2;
-        chosen = tt;
+        carries = tt;
       }

@@ -17,6 +17,7 @@ use Rattle.paxos_block.specs.declared.block.PBlock.{PBlock}
 use Rattle.paxos_block.specs.Places.{row_place, row_of, IsImage}
 use Rattle.paxos_block.specs.Row.{SeenBlock, seen_in}
 use Rattle.paxos_block.specs.Saying.{MaySay, body_saying}
+use Rattle.paxos_block.proofs.Outcomes.{IsCalm, calm_outcomes}
 use Rattle.paxos_block.proofs.PlaceLemmas.{block_of-row_of}
 use Rattle.paxos_block.proofs.RowLemmas.{said_sees}
 use Rattle.paxos_block.proofs.WriteLemmas.{sound_when_done}
@@ -37,9 +38,9 @@ use Rattle.attempt_safety.specs.Registers.{IsNext}
 use Rattle.attempt_safety.specs.Leads.{IsSameBlock, IsBegun, IsConfirmed, OwnBlock}
 use Rattle.world_safety.specs.Blocks.{said, Stands}
 use Rattle.world_safety.specs.Knows.{own_place, CanWrite, IsWriting, Writes, KnowsFor, IsCurrent, Knows}
-use Rattle.world_safety.proofs.Calls.{Then, next_kind, has_answered}
-use Rattle.world_safety.proofs.Standing.{IsCalm, calm_outcomes, stands_by, stands_same}
-use Rattle.world_safety.proofs.Votes.{says_same}
+use Rattle.attempt.proofs.Calls.{Then, next_kind, has_answered}
+use Rattle.world_safety.proofs.Standing.{stands_by, stands_same}
+use Rattle.attempt.proofs.Votes.{says_same}
 use Rattle.world_safety.proofs.Owning.{boot_kept, booted_is, boot_at_most, row_told, done_is, under_is, stands_more, placed, new_says, due_stands, failed_stands, can_begin, begins_due, old_is}
 
 -- WHAT AN ANSWER LEAVES

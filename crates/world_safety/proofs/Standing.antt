@@ -14,48 +14,11 @@ use Rattle.torn_block.specs.Register.{Value, Reads, at_rest, IsAtRest}
 use Rattle.torn_block.specs.RegisterLaws.{rests_crashed, stands_at_rest, fresh_rests}
 use Rattle.paxos_block.specs.Places.{VoteOf, place_of}
 use Rattle.paxos_block.specs.Row.{IsSound}
+use Rattle.paxos_block.proofs.Outcomes.{Outcomes}
 use Rattle.agreement.specs.State.{Cell, blank, away}
 use Rattle.agreement.specs.Event.{IsReading}
 use Rattle.attempt_safety.specs.Leads.{IsSameBlock}
 use Rattle.world_safety.specs.Blocks.{said, said_if, Stands}
-
--- WHAT A CRASH MAY LEAVE
-
--- whatever a crash may make of the block on the new disk, it may on the old one
-abbrev pub Outcomes : DiskState → ℕ → DiskState → Type 0
-Outcomes old place new =
-    (bytes : List ℕ) → MayLeave new bytes → (before : List ℕ) × MayLeave old before × (block_in place bytes ≡ block_in place before)
-
-pub same_outcomes : (disk new : DiskState) (place : ℕ) → new ≡ disk → Outcomes disk place new
-same_outcomes disk new place is = subst (Outcomes disk place) (sym is) (λ bytes may. (bytes, may, refl))
-
--- the call writes nothing
-abbrev pub IsCalm : Call → Type 0
-IsCalm Attach = Unit {0}
-IsCalm (Read boot at len) = Unit {0}
-IsCalm (Write boot at from) = ⊥
-IsCalm (Sync boot) = Unit {0}
-
-no_write : (call : Call) (boot at : ℕ) (from : List ℕ) → IsCalm call → call ≡ Write boot at from → ⊥
-no_write call boot at from calm is = subst IsCalm is calm
-
--- and leaves no other outcome
-pub calm_outcomes : (disk new : DiskState) (place : ℕ) (call : Call) (answer : Answer) → IsCalm call → Step disk call answer new → Outcomes disk place new
-calm_outcomes disk new place call answer calm step =
-    step_keeps (Outcomes disk place) disk new call answer
-    (record {
-      writes = λ boot at from left is as_many. absurd (no_write call boot at from calm is);
-      syncs = λ bytes may. (disk.bytes, may_leave_now disk, ap (block_in place) (may_leave_synced disk bytes may));
-      stays = λ bytes may. (bytes, may, refl);
-    })
-    step
-
--- what is at rest stays so
-pub rests_by : (disk new : DiskState) (place : ℕ) → Outcomes disk place new → IsAtRest place disk → IsAtRest place new
-rests_by disk new place o rests bytes may =
-    let then = o bytes may in
-    let now = o new.bytes (may_leave_now new) in
-    then.2 ∙ rests then.0 then.1 ∙ sym (rests now.0 now.1) ∙ sym now.2
 
 -- WHAT A BLOCK STANDS FOR
 

@@ -13,20 +13,20 @@ use Rattle.slot_log.specs.Shape.{Shape}
 use Rattle.host.specs.Host.{Operation, Submitting, Recovering, input_of, setup_of}
 use Rattle.world.specs.Entry.{Filled}
 use Rattle.world.specs.World.{World, IsRun}
-use Rattle.world.specs.Chosen.{at, IsChosenAt, IsSubmittedBefore}
+use Rattle.world.specs.Chosen.{at, Hears, IsChosenAt, IsSubmittedBefore}
 use Rattle.world.proofs.Runs.{each}
 use Rattle.agreement.specs.Event.{Event}
-use Rattle.agreement.specs.Chosen.{IsInput, IsChosen, IsChosenBy}
+use Rattle.agreement.specs.Chosen.{IsInput, IsProposed, IsChosen, IsChosenBy}
 use Rattle.agreement.specs.Log.{IsHistory, events_of_slot}
 use Rattle.agreement.proofs.Agreeing.{one_chosen}
 use Rattle.agreement.proofs.Inputs.{only_inputs}
 use Rattle.agreement.proofs.Runs.{holds_reached}
-use Rattle.world_safety.specs.Goes.{IsInputAt, Goes}
+use Rattle.world_safety.specs.Goes.{IsInputAt, Carries, Goes}
 use Rattle.world_safety.specs.Tied.{Moves, machine, Tied}
 use Rattle.world_safety.specs.Tracks.{IsTrue, IsTrueOf}
 use Rattle.world_safety.proofs.Called.{input_append}
 use Rattle.world_safety.proofs.Entries.{goes}
-use Rattle.world_safety.proofs.Moving.{chosen_by_later, chosen_later}
+use Rattle.world_safety.proofs.Moving.{proposed_by_later, chosen_by_later, chosen_later}
 use Rattle.world_safety.proofs.Knowing.{all_true}
 use Rattle.world_safety.proofs.Machines.{machine_runs, events_append}
 use Rattle.world_safety.proofs.Places.{at_next, at_end}
@@ -124,27 +124,39 @@ module _ (c : Shape) (log : List Filled) (run : IsRun c log) where
       subst (λ (l : Moves). IsChosenBy c.disks (machine l k) b v) (sym later.is)
       (chosen_by_later c.disks (moves_at i) later.more k b v (subst (IsHistory c.disks) later.is (tied_at j).history) is)
 
+  -- so is what is proposed
+  pub proposed_by : (i j k b : ℕ) (v : List ℕ) → i ≤ j → IsProposed (machine (moves_at i) k).proposed b v → IsProposed (machine (moves_at j) k).proposed b v
+  proposed_by i j k b v le is =
+      let later = later_places i j le in
+      subst (λ (l : Moves). IsProposed (machine l k).proposed b v) (sym later.is)
+      (proposed_by_later c.disks (moves_at i) later.more k b v (subst (IsHistory c.disks) later.is (tied_at j).history) is)
+
   pub stays_at : (i j k : ℕ) (v : List ℕ) → i ≤ j → IsChosen c.disks (machine (moves_at i) k) v → IsChosen c.disks (machine (moves_at j) k) v
   stays_at i j k v le is =
       let later = later_places i j le in
       subst (λ (l : Moves). IsChosen c.disks (machine l k) v) (sym later.is)
       (chosen_later c.disks (moves_at i) later.more k v (subst (IsHistory c.disks) later.is (tied_at j).history) is)
 
-  -- what is chosen with an entry is chosen in the machine, by the attempt's ballot
+  -- what an attempt proposes and chooses with an entry is so in the machine, by its ballot
+  pub carries_then : (i : ℕ) (s : Setup) (heard : List Answered) (hears : Hears c log i s heard) → Carries (machine (moves_at (suc i)) s.slot) s (on heard)
+  carries_then i s heard hears =
+      let step = step_at i _ hears.entry in
+      let own = setup_of c hears.host hears.memory hears.doing.operation in
+      let all : List Answered = hears.doing.heard ++ record { disk = hears.disk; heard = heard_as hears.answer } ∷ [] in
+      let here : Carries (machine (moves_at (suc i)) own.slot) own (on all) =
+      subst (λ (l : Moves). Carries (machine l own.slot) own (on all)) (sym step.is) (step.goes.carries hears.memory hears.doing hears.running hears.does) in
+      subst (λ (xs : List Answered). Carries (machine (moves_at (suc i)) s.slot) s (on xs)) (sym hears.is_heard)
+      (subst (λ (t : Setup). Carries (machine (moves_at (suc i)) t.slot) t (on all)) (sym hears.is_setup) here)
+
+  -- the disks of an attempt are the cluster's
+  disks_are : (i : ℕ) (s : Setup) (heard : List Answered) → Hears c log i s heard → s.disks ≡ c.disks
+  disks_are i s heard hears = ap (λ (t : Setup). t.disks) hears.is_setup
+
   pub chosen_by_then : (i slot : ℕ) (v : List ℕ) (is : IsChosenAt c log i slot v) → IsChosenBy c.disks (machine (moves_at (suc i)) slot) (ballot is.setup (on is.heard)) v
   chosen_by_then i slot v is =
-      let hears = is.hears in
-      let step = step_at i _ hears.entry in
-      let heard : List Answered = hears.doing.heard ++ record { disk = hears.disk; heard = heard_as hears.answer } ∷ [] in
-      let chooses : Chooses (setup_of c hears.host hears.memory hears.doing.operation) (on heard) v =
-      subst (λ (s : Setup). Chooses s (on heard) v) hears.is_setup (subst (λ (xs : List Answered). Chooses is.setup (on xs) v) hears.is_heard is.chooses) in
-      let here : length hears.memory.learned ≡ slot = ap (λ (s : Setup). s.slot) (sym hears.is_setup) ∙ is.on_slot in
-      let same : ballot (setup_of c hears.host hears.memory hears.doing.operation) (on heard) ≡ ballot is.setup (on is.heard) =
-      ap (λ (s : Setup). ballot s (on heard)) (sym hears.is_setup) ∙ ap (λ (xs : List Answered). ballot is.setup (on xs)) (sym hears.is_heard) in
-      subst (λ (b : ℕ). IsChosenBy c.disks (machine (moves_at (suc i)) slot) b v) same
-      (subst (λ (l : Moves). IsChosenBy c.disks (machine l slot) (ballot (setup_of c hears.host hears.memory hears.doing.operation) (on heard)) v) (sym step.is)
-      (subst (λ (k : ℕ). IsChosenBy c.disks (machine (moves_at i ++ step.goes.more) k) (ballot (setup_of c hears.host hears.memory hears.doing.operation) (on heard)) v) here
-      (step.goes.chosen hears.memory hears.doing v hears.running hears.does chooses)))
+      subst (λ (k : ℕ). IsChosenBy c.disks (machine (moves_at (suc i)) k) (ballot is.setup (on is.heard)) v) is.on_slot
+      (subst (λ (n : ℕ). IsChosenBy n (machine (moves_at (suc i)) is.setup.slot) (ballot is.setup (on is.heard)) v) (disks_are i is.setup is.heard is.hears)
+      ((carries_then i is.setup is.heard is.hears).chosen v is.chooses))
 
   pub chosen_then : (i slot : ℕ) (v : List ℕ) → IsChosenAt c log i slot v → IsChosen c.disks (machine (moves_at (suc i)) slot) v
   chosen_then i slot v is = (ballot is.setup (on is.heard), chosen_by_then i slot v is)

@@ -18,8 +18,8 @@ use Rattle.attempt.specs.NextCall.{says_for, write_on, call_by}
 use Rattle.attempt.specs.Standing.{IsIn}
 use Rattle.attempt_safety.specs.Registers.{IsNext}
 use Rattle.attempt_safety.proofs.Stages.{writing}
-use Rattle.world_safety.specs.Votes.{IsLong, TellsVotes}
-use Rattle.world_safety.proofs.Votes.{MayWrite, may_write_one, may_write_two}
+use Rattle.attempt.specs.Votes.{IsLong, TellsVotes}
+use Rattle.attempt.proofs.Votes.{MayWrite, may_write_one, may_write_two}
 
 closing_short : (opened : Bool) → length {A = ℕ} (if opened then 0 ∷ [] else []) ≤ 1
 closing_short true = omega arith

@@ -1,10 +1,9 @@
 -- What else is claimed of every run: of its ballots, of its log as it grows, and of its recoveries.
-use Rattle.std.specs.Prelude.{◌≡◌, ◌<◌, ◌≤◌, ℕ, List, take, Some}
+use Rattle.std.specs.Prelude.{◌≡◌, ◌<◌, ◌≤◌, ℕ, List, take}
 use Rattle.attempt.specs.Answers.{Answered, on}
-use Rattle.attempt.specs.Calls.{Two}
-use Rattle.attempt.specs.Proposal.{ballot, proposal}
+use Rattle.attempt.specs.Prepared.{Proposes}
+use Rattle.attempt.specs.Proposal.{ballot}
 use Rattle.attempt.specs.Setup.{Setup}
-use Rattle.attempt.specs.Status.{Due, status}
 use Rattle.lock_command.specs.declared.command.Command.{Command}
 use Rattle.slot_log.specs.Shape.{Shape}
 use Rattle.world.specs.Entry.{Filled}
@@ -21,32 +20,30 @@ pub record IsChosenIn (c : Shape) (log : List Filled) (i slot b : ℕ) (value : 
   pub is : IsChosenAt c log i slot value
   pub in_ballot : ballot is.setup (on is.heard) ≡ b
 
--- behind the answer of entry i a host's attempt on a slot votes for its proposal, in this ballot: a call of phase 2 is due
-pub record IsVotedAt (c : Shape) (log : List Filled) (i slot b : ℕ) (value : List ℕ) : Type 0 where
+-- behind the answer of entry i a host's attempt on a slot has prepared this ballot, and this is the ballot's proposal, whether or not it has a block left to vote in
+pub record IsProposedAt (c : Shape) (log : List Filled) (i slot b : ℕ) (value : List ℕ) : Type 0 where
   pub setup : Setup
   pub heard : List Answered
   pub hears : Hears c log i setup heard
   pub on_slot : setup.slot ≡ slot
-  pub disk : ℕ
-  pub votes : status setup (on heard) ≡ Due Two disk
+  pub proposes : Proposes setup (on heard) value
   pub in_ballot : ballot setup (on heard) ≡ b
-  pub proposed : proposal setup (on heard) ≡ Some value
 
--- What is chosen in a ballot is what is voted for in it, and in each greater one: before and after, by whatever host.
+-- What is chosen in a ballot is the proposal of it, and of each greater one: before and after, by whatever host.
 abbrev pub BindsGreater : Shape → List Filled → Type 0
-BindsGreater c log = (i j slot b d : ℕ) (value other : List ℕ) → IsChosenIn c log i slot b value → b ≤ d → IsVotedAt c log j slot d other → other ≡ value
+BindsGreater c log = (i j slot b d : ℕ) (value other : List ℕ) → IsChosenIn c log i slot b value → b ≤ d → IsProposedAt c log j slot d other → other ≡ value
 
--- In a ballot one host votes, for one value, over all its incarnations.
-pub record IsOneVote {c : Shape} {log : List Filled} {i j slot b : ℕ} {value other : List ℕ} (first : IsVotedAt c log i slot b value) (second : IsVotedAt c log j slot b other) : Type 0 where
+-- A ballot has one proposal, of one host, over all its incarnations.
+pub record IsOneProposal {c : Shape} {log : List Filled} {i j slot b : ℕ} {value other : List ℕ} (first : IsProposedAt c log i slot b value) (second : IsProposedAt c log j slot b other) : Type 0 where
   pub same_host : second.hears.host ≡ first.hears.host
   pub same_value : other ≡ value
 
-abbrev pub OneVote : Shape → List Filled → Type 0
-OneVote c log = (i j slot b : ℕ) (value other : List ℕ) (first : IsVotedAt c log i slot b value) (second : IsVotedAt c log j slot b other) → IsOneVote first second
+abbrev pub OneProposal : Shape → List Filled → Type 0
+OneProposal c log = (i j slot b : ℕ) (value other : List ℕ) (first : IsProposedAt c log i slot b value) (second : IsProposedAt c log j slot b other) → IsOneProposal first second
 
--- A slot is voted on only once each earlier slot has a chosen value.
-abbrev pub VotesInOrder : Shape → List Filled → Type 0
-VotesInOrder c log = (i slot b k : ℕ) (value : List ℕ) → IsVotedAt c log i slot b value → k < slot → (other : List ℕ) × IsChosenBefore c log i k other
+-- A slot has a proposal only once each earlier slot has a chosen value.
+abbrev pub ProposesInOrder : Shape → List Filled → Type 0
+ProposesInOrder c log = (i slot b k : ℕ) (value : List ℕ) → IsProposedAt c log i slot b value → k < slot → (other : List ℕ) × IsChosenBefore c log i k other
 
 -- THE LOG
 

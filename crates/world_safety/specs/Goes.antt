@@ -1,17 +1,20 @@
 -- What an entry is in the machines: a few moves, and what they tell of it.
 use Rattle.std.specs.Prelude.{◌≡◌, ◌≤◌, ◌⊎◌, ℕ, true, List, [], ◌∷◌, ◌++◌, length, Some}
-use Rattle.attempt.specs.Answers.{on, heard_as}
+use Rattle.attempt.specs.Answers.{Answers, on, heard_as}
 use Rattle.attempt.specs.Chosen.{Chooses}
+use Rattle.attempt.specs.Prepared.{Proposes}
 use Rattle.attempt.specs.Proposal.{ballot}
+use Rattle.attempt.specs.Setup.{Setup}
 use Rattle.slot_log.specs.Shape.{Shape}
 use Rattle.host.specs.declared.answer.HostAnswer.TheVariants.{Recovered}
 use Rattle.host.specs.Host.{Doing, Memory, Running, input_of, setup_of}
 use Rattle.world.specs.Entry.{Filled, Called, is_of, host_step}
 use Rattle.world.specs.World.{World}
-use Rattle.agreement.specs.Chosen.{IsInput, IsChosenBy, IsEmpty}
+use Rattle.agreement.specs.Chosen.{IsInput, IsProposed, IsChosenBy, IsEmpty}
 use Rattle.agreement.specs.Event.Event.{Starts}
 use Rattle.agreement.specs.Log.{Move, events_of_slot}
 use Rattle.agreement.specs.Log.Move.{At}
+use Rattle.attempt_safety.specs.Machine.{Machine}
 use Rattle.world_safety.specs.Next.{next_world}
 use Rattle.world_safety.specs.Tied.{Moves, machine, Tied}
 
@@ -44,13 +47,17 @@ pub record HostGoes (c : Shape) (w : World) (e : Filled) (ms more : Moves) (h : 
   pub empty : (m : Memory) (n : ℕ) → host_step c h (w.host h) e ≡ Running m → m.said ≡ Some (Recovered n)
       → (c.slots ≤ length m.learned) ⊎ (IsTryingAt w h (length m.learned) × IsEmpty c.disks (machine (ms ++ more) (length m.learned)) h)
 
--- what an attempt chooses with an answer is chosen in the machine, by its ballot
-abbrev pub ChoosesIn : Shape → World → Moves → Filled → Type 0
-ChoosesIn c w ms (Called h k call answer left) =
-    (m : Memory) (t : Doing) (v : List ℕ) → w.host h ≡ Running m → m.doing ≡ Some t
-    → Chooses (setup_of c h m t.operation) (on (t.heard ++ record { disk = k; heard = heard_as answer } ∷ [])) v
-    → IsChosenBy c.disks (machine ms (length m.learned)) (ballot (setup_of c h m t.operation) (on (t.heard ++ record { disk = k; heard = heard_as answer } ∷ []))) v
-ChoosesIn c w ms other = Unit {0}
+-- By its ballot, what the attempt proposes is proposed in the machine, and what it chooses is chosen there.
+pub record Carries (m : Machine) (s : Setup) (f : Answers) : Type 0 where
+  pub proposed : (v : List ℕ) → Proposes s f v → IsProposed m.proposed (ballot s f) v
+  pub chosen : (v : List ℕ) → Chooses s f v → IsChosenBy s.disks m (ballot s f) v
+
+-- so it is with the attempt of a host that hears an answer
+abbrev pub CarriesOn : Shape → World → Moves → Filled → Type 0
+CarriesOn c w ms (Called h k call answer left) =
+    (m : Memory) (t : Doing) → w.host h ≡ Running m → m.doing ≡ Some t
+    → Carries (machine ms (length m.learned)) (setup_of c h m t.operation) (on (t.heard ++ record { disk = k; heard = heard_as answer } ∷ []))
+CarriesOn c w ms other = Unit {0}
 
 -- The entry is a few moves.
 pub record Goes (c : Shape) (w : World) (e : Filled) (ms : Moves) : Type 0 where
@@ -58,4 +65,4 @@ pub record Goes (c : Shape) (w : World) (e : Filled) (ms : Moves) : Type 0 where
   pub tied : Tied c (next_world c w e) (ms ++ more)
   pub inputs : (j : ℕ) (v : List ℕ) → IsInput (events_of_slot j more) v → IsInputAt w e v
   pub host : (h : ℕ) → is_of h e ≡ true → HostGoes c w e ms more h
-  pub chosen : ChoosesIn c w (ms ++ more) e
+  pub carries : CarriesOn c w (ms ++ more) e

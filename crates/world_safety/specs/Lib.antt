@@ -7,4 +7,3 @@ pub mod Log
 pub mod Next
 pub mod Tied
 pub mod Tracks
-pub mod Votes

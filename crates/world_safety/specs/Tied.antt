@@ -13,7 +13,7 @@ use Rattle.attempt_safety.specs.Machine.{Machine}
 use Rattle.attempt_safety.specs.Follows.{Follows}
 use Rattle.world_safety.specs.Blocks.{Stands}
 use Rattle.world_safety.specs.Knows.{Knows}
-use Rattle.world_safety.specs.Votes.{IsLong, TellsVotes}
+use Rattle.attempt.specs.Votes.{IsLong, TellsVotes}
 
 -- moves of all slots, and the machine of a slot after them
 abbrev pub Moves : Type 0

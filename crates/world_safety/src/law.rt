@@ -4,7 +4,7 @@ ghost use Rattle.slot_log.specs.Shape.{Shape};
 ghost use Rattle.world.specs.Entry.{Filled};
 ghost use Rattle.world.specs.World.{IsRun};
 ghost use Rattle.world.specs.Headline.{Headline};
-ghost use Rattle.world_safety.specs.Claims.{BindsGreater, OneVote, VotesInOrder, LogGrows, IsOneLog, EmptyShows, MissesNothing, NoneShorter};
+ghost use Rattle.world_safety.specs.Claims.{BindsGreater, OneProposal, ProposesInOrder, LogGrows, IsOneLog, EmptyShows, MissesNothing, NoneShorter};
 
 /// One log, whatever happens, and nothing that was acknowledged is lost: so it is with every list
 /// of events, and with every run, however it came about. The log only grows.
@@ -14,12 +14,13 @@ pub fn one_log_and_nothing_lost()
     ensures grows { (c : Shape) (log : List Filled) → IsRun c log → LogGrows c log }
 {}
 
-/// What is chosen in a ballot is what is voted for in it and in each greater one. A ballot has one
-/// vote, over all incarnations of its host, and a slot none before each earlier slot is chosen.
+/// What is chosen in a ballot is the proposal of it and of each greater one, voted for or not. A
+/// ballot has one proposal, over all incarnations of its host, and a slot none before each earlier
+/// slot has a chosen value.
 pub fn ballots_agree()
     ensures greater { (c : Shape) (log : List Filled) → IsRun c log → BindsGreater c log }
-    ensures one { (c : Shape) (log : List Filled) → IsRun c log → OneVote c log }
-    ensures in_order { (c : Shape) (log : List Filled) → IsRun c log → VotesInOrder c log }
+    ensures one { (c : Shape) (log : List Filled) → IsRun c log → OneProposal c log }
+    ensures in_order { (c : Shape) (log : List Filled) → IsRun c log → ProposesInOrder c log }
 {}
 
 /// A slot that a recovery found empty had no chosen value when its host began to try it. So a

@@ -1,10 +1,9 @@
--- A command that reads back has a spelling of 32 bytes.
+-- The spelling of a command that it reads as has 32 bytes.
 use Rattle.std.specs.Prelude.{nat_le, ◌-◌, replicate, slice_index, take, drop, bytes_eq, if◌then◌else◌}
 use Rattle.std.proofs.Common.{ℕ, ◌≤◌, ◌≡◌, Bool, true, false, Option, Some, None, List, ◌∷◌, ◌++◌, length, length-append, refl, ap, arith}
 use Rattle.std.proofs.lemmas.List.{length-replicate}
 use Rattle.std.proofs.lemmas.Bool.{leb-true}
 use Rattle.byteorder.specs.Numbers.{length-bytes_high_first}
-use Rattle.torn_block.specs.declared.layout.TheConstants.{VALUE_LENGTH}
 use Rattle.lock_modes.specs.declared.mode.Mode.{Mode}
 use Rattle.lock_command.specs.declared.command.Command.{Command}
 use Rattle.lock_command.specs.declared.command.Action.{Action}
@@ -12,14 +11,13 @@ use Rattle.lock_command.specs.declared.command.Action.TheVariants.{Enqueue, Conv
 use Rattle.lock_command.specs.Command.{Fields, fields_of, number, spelled, spelling}
 use Rattle.lock_command.specs.Name.{padded}
 use Rattle.lock_command.specs.Reading.{◌>>=◌, passed, host_of, lock_at, request_at, mode_of, name_of, name_at, flag_at, enqueue_at, action_at, command_at, checked, decoded}
-use Rattle.world.specs.World.{ReadsBack}
 
 number_long : (n x : ℕ) → length (number n x) ≡ n
 unfolding number
 number_long n x = length-bytes_high_first n x
 
 -- by the length of its name
-spelled_long : (host client request : ℕ) (f : Fields) → length f.name ≤ 15 → length (spelled host client request f) ≡ VALUE_LENGTH
+spelled_long : (host client request : ℕ) (f : Fields) → length f.name ≤ 15 → length (spelled host client request f) ≡ 32
 spelled_long host client request f short =
     omega (
       arith,
@@ -72,7 +70,7 @@ name_short bytes found is =
 
 module _ (host client request : ℕ) where
   long_by : (action : Action) → decoded (spelling (record { host = host; client = client; request = request; action = action })) ≡ Some (record { host = host; client = client; request = request; action = action })
-      → length (spelling (record { host = host; client = client; request = request; action = action })) ≡ VALUE_LENGTH
+      → length (spelling (record { host = host; client = client; request = request; action = action })) ≡ 32
   unfolding command_at action_at enqueue_at
   long_by (Enqueue lock name mode no_queue) is =
       let c : Command = record { host = host; client = client; request = request; action = Enqueue lock name mode no_queue } in
@@ -86,5 +84,5 @@ module _ (host client request : ℕ) where
   long_by (Status lock) is = spelled_long host client request (fields_of (Status lock)) (omega arith)
   long_by (Purge purged) is = spelled_long host client request (fields_of (Purge purged)) (omega arith)
 
-pub spelling_long : (command : Command) → ReadsBack command → length (spelling command) ≡ VALUE_LENGTH
+pub spelling_long : (command : Command) → decoded (spelling command) ≡ Some command → length (spelling command) ≡ 32
 spelling_long command is = long_by command.host command.client command.request command.action is

@@ -2,6 +2,7 @@
 use Rattle.std.specs.Prelude.{slice_get, nat_lt, is_some, option_and_then, if◌then◌else◌, pred}
 use Rattle.std.proofs.Common.{ℕ, zero, suc, ◌+◌, ◌<◌, ◌≤◌, ◌≡◌, ◌==◌, inl, inr, Bool, true, false, Option, Some, None, List, [], ◌∷◌, ◌++◌, length, length-append, refl, sym, subst, ap, ap₂, ◌∙◌, arith}
 use Rattle.std.proofs.lemmas.List.{length-take-le}
+use Rattle.std.proofs.lemmas.Bool.{cases_lt, cases_eq}
 use Rattle.std.proofs.Common.{length-drop}
 use Rattle.torn_block.specs.declared.layout.TheConstants.{HOSTS, BLOCK_LENGTH, BODY_LENGTH, COPY_LENGTH, ROW_LENGTH, VALUE_LENGTH, HEADING_LENGTH}
 use Rattle.torn_block.specs.declared.block.Half.TheVariants.{First, Second}
@@ -23,9 +24,9 @@ use Rattle.attempt.specs.Setup.{Setup}
 use Rattle.attempt.specs.Proposal.{top_in, highest, ballot, own_in, own_below, own, best_in, best_below, best, or_else, proposal}
 use Rattle.attempt.specs.NextCall.{some_value, says_for}
 use Rattle.attempt.specs.Standing.{HasBallot, IsIn}
+use Rattle.attempt.proofs.Lists.{length_more, get_front, get_last, get_none}
 use Rattle.attempt.proofs.Rows.{AreSameRows, ballot_same, own_same, proposal_same}
-use Rattle.agreement.proofs.Slots.{pushed}
-use Rattle.world_safety.specs.Votes.{IsLong, IsVoteBy, ShowsVotes, TellsVotes}
+use Rattle.attempt.specs.Votes.{IsLong, IsVoteBy, ShowsVotes, TellsVotes}
 
 -- A ROW
 
@@ -94,9 +95,13 @@ pub votes_none : TellsVotes []
 votes_none n row is = absurd (cc)
 
 pub votes_more : (a : List Heard) (x : Heard) → TellsVotes a → ((row : List SeenBlock) → x ≡ Told (Some row) → ShowsVotes row) → TellsVotes (a ++ x ∷ [])
-votes_more a x before last n row is = elim (pushed a x n (Told (Some row)) is) [
-  | inl old ↦ before n row old
-  | inr new ↦ last row new.1
+votes_more a x before last n row is = elim (cases_lt n (length a)) [
+  | inl old ↦ before n row (sym (get_front a x n old) ∙ is)
+  | inr new ↦
+      elim (cases_eq n (length a)) [
+        | inl end ↦ last row (let both : Some x ≡ Some (Told (Some row)) = sym (get_last a x n end) ∙ is in cc)
+        | inr over ↦ (let none : slice_get (a ++ x ∷ []) n ≡ None = get_none (a ++ x ∷ []) n (omega (arith, length_more a x, new, over)) in absurd (cc))
+      ]
 ]
 
 told_is : (o : Option Heard) (row : List SeenBlock) → option_and_then told o ≡ Some row → o ≡ Some (Told (Some row))

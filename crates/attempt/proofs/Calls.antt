@@ -7,7 +7,6 @@ use Rattle.torn_block.specs.declared.write_steps.WriteCall.TheVariants.{CloseGat
 use Rattle.attempt.specs.Calls.{Phase, One, Two, Kind, Attaching, Syncing, Reading, Putting, seventeen, start}
 use Rattle.attempt.specs.Answers.{Heard}
 use Rattle.attempt.proofs.Lists.{length_more}
-use Rattle.attempt_safety.specs.Registers.{IsNext}
 
 -- WHICH IS BEHIND WHICH
 
@@ -42,7 +41,7 @@ all_turn : InTurn Attaching (drop 1 seventeen)
 all_turn = (refl, (refl, ((One, refl), (refl, (refl, (refl, (refl, (refl, (refl, turn_two)))))))))
 
 -- with an answer the next call is behind the one that was answered
-pub next_kind : (a : List Heard) (x : Heard) (kind next : Kind) → IsNext a kind → IsNext (a ++ x ∷ []) next → Then kind next
+pub next_kind : (a : List Heard) (x : Heard) (kind next : Kind) → slice_get seventeen (length a) ≡ Some kind → slice_get seventeen (length (a ++ x ∷ [])) ≡ Some next → Then kind next
 next_kind a x kind next is then =
     let number : length (a ++ x ∷ []) ≡ suc (length a) = omega (arith, length_more a x) in
     turn_at Attaching (drop 1 seventeen) (length a) kind next all_turn is (subst (λ (n : ℕ). slice_get seventeen n ≡ Some next) number then)
@@ -94,6 +93,6 @@ later_number p OpenGate n later is = ltb-true (start p) n (numbered n (Putting p
 later_number p SyncOpened n later is = ltb-true (start p) n (numbered n (Putting p SyncOpened) is)
 
 -- only the first of all is made of a disk that has not answered
-pub has_answered : (a : List Heard) (kind : Kind) → kind ≢ Attaching → IsNext a kind → 1 ≤ length a
+pub has_answered : (a : List Heard) (kind : Kind) → kind ≢ Attaching → slice_get seventeen (length a) ≡ Some kind → 1 ≤ length a
 has_answered [] kind later is = absurd (later (let same : Attaching ≡ kind = cc in sym same))
 has_answered (y ∷ a) kind later is = omega arith
