@@ -42,9 +42,9 @@ module _ (c : Shape) (log : List Filled) (commands : List Command) (safe : IsSaf
   one_log first second is_first is_second = its_log first is_first ∙ sym (its_log second is_second)
 
   pub one_begins_other : OneBeginsOther c log
-  one_begins_other i j host other i_in j_in =
-      let a = safe.prefix i host i_in in
-      let b = safe.prefix j other j_in in
+  one_begins_other i j host other =
+      let a = safe.prefix i host in
+      let b = safe.prefix j other in
       elim (cases_lt (length (prefix_at c log i host)) (length (prefix_at c log j other))) [
         | inl less ↦ inl (shorter_begins _ _ commands a b (omega (arith, less)))
         | inr not_less ↦ inr (shorter_begins _ _ commands b a not_less)

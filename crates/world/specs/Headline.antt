@@ -8,6 +8,7 @@ use Rattle.slot_log.specs.Shape.{Shape}
 use Rattle.host.specs.declared.answer.HostAnswer.TheVariants.{Ack, Recovered}
 use Rattle.host.specs.Host.{learned_of, reply_after}
 use Rattle.world.specs.Entry.{Filled}
+use Rattle.world.specs.World.{IsRun}
 use Rattle.world.specs.Happens.{Event, run}
 use Rattle.world.specs.Chosen.{at, IsChosenAt, IsLog, IsSubmittedBefore, SaysAt, IsAcknowledgedAt, IsRecovery}
 
@@ -39,7 +40,7 @@ pub record IsSafe (c : Shape) (log : List Filled) (commands : List Command) : Ty
   -- and was submitted before
   pub submitted : (i slot : ℕ) (value : List ℕ) → IsChosenAt c log i slot value → IsSubmittedBefore log i value
   -- at every place each host has learned a beginning of the log
-  pub prefix : (i host : ℕ) → i ≤ length log → Begins (prefix_at c log i host) commands
+  pub prefix : (i host : ℕ) → Begins (prefix_at c log i host) commands
   -- every reply is to a command that the host was submitting,
   pub placed : (i host slot : ℕ) (reply : Reply) → SaysAt c log i host (Ack slot reply) → (command : Command) × IsAcknowledgedAt c log i host slot command reply
   -- which stands in the log at the slot,
@@ -60,17 +61,21 @@ HasNoSecondLog c log = (first second : List (List ℕ)) → IsLog c log first �
 -- of two hosts' prefixes, at any two places of a list, one begins the other
 abbrev pub OneBeginsOther : Shape → List Filled → Type 0
 OneBeginsOther c log =
-    (i j host other : ℕ) → i ≤ length log → j ≤ length log
-    → Begins (prefix_at c log i host) (prefix_at c log j other) ⊎ Begins (prefix_at c log j other) (prefix_at c log i host)
+    (i j host other : ℕ) → Begins (prefix_at c log i host) (prefix_at c log j other) ⊎ Begins (prefix_at c log j other) (prefix_at c log i host)
 
--- EVERY LIST OF EVENTS
-
--- It has a log, by which all goes; it has no other; and of two prefixes one begins the other.
-pub record HasOneLog (c : Shape) (events : List Event) : Type 0 where
+-- A list has a log, by which all goes; it has no other; and of two prefixes one begins the other.
+pub record HasOneLog (c : Shape) (log : List Filled) : Type 0 where
   pub commands : List Command
-  pub is_safe : IsSafe c (run c events) commands
-  pub no_other : HasNoSecondLog c (run c events)
-  pub prefixes : OneBeginsOther c (run c events)
+  pub is_safe : IsSafe c log commands
+  pub no_other : HasNoSecondLog c log
+  pub prefixes : OneBeginsOther c log
 
+-- EVERY RUN
+
+-- So it is with every run, however it came about,
 abbrev pub Headline : Type 0
-Headline = (c : Shape) (events : List Event) → HasOneLog c events
+Headline = (c : Shape) (log : List Filled) → IsRun c log → HasOneLog c log
+
+-- and so with the run that any list of events makes.
+abbrev pub HeadlineOfEvents : Type 0
+HeadlineOfEvents = (c : Shape) (events : List Event) → HasOneLog c (run c events)

@@ -14,7 +14,7 @@ ghost use Rattle.world.specs.Entry.{Filled, is_on, is_of, disk_step, host_step};
 ghost use Rattle.world.specs.World.{world, ReadsBack, MayFollow, IsRun};
 ghost use Rattle.world.specs.Happens.{Event, entry_of, happens, run, lines_at, answers};
 ghost use Rattle.world.specs.Chosen.{at, Hears, IsChosenAt};
-ghost use Rattle.world.specs.Headline.{IsSafe, HasNoSecondLog, OneBeginsOther};
+ghost use Rattle.world.specs.Headline.{IsSafe, HasNoSecondLog, OneBeginsOther, Headline, HeadlineOfEvents};
 
 /// An entry is a step of its own disk and of its own host, and changes no other.
 pub fn changes_its_own()
@@ -76,10 +76,12 @@ pub fn attempts_hear_histories()
         status s (on heard) ≡ Ended (Committed value) → IsChosenAt c log i s.slot value }
 {}
 
-/// A list whose log is known has no other, and of two hosts' prefixes one begins the other.
+/// A list whose log is known has no other, and of two hosts' prefixes one begins the other. What
+/// holds of every run holds of the run that any list of events makes.
 pub fn safe_lists_have_one_log()
     ensures one { (c : Shape) (log : List Filled) (commands : List Command) →
         IsSafe c log commands → HasNoSecondLog c log }
     ensures prefixes { (c : Shape) (log : List Filled) (commands : List Command) →
         IsSafe c log commands → OneBeginsOther c log }
+    ensures events { Headline → HeadlineOfEvents }
 {}

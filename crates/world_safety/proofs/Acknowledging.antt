@@ -88,7 +88,7 @@ acks_heard m t other new slot reply same is =
 -- AT AN ENTRY
 
 -- who has a call to make is running, and tries a slot
-busy : (c : Shape) (h k : ℕ) (call : Call) (host : Host) → next_of c h host ≡ Some (k, call) → (m : Memory) × (t : Doing) × (host ≡ Running m) × (m.doing ≡ Some t)
+pub busy : (c : Shape) (h k : ℕ) (call : Call) (host : Host) → next_of c h host ≡ Some (k, call) → (m : Memory) × (t : Doing) × (host ≡ Running m) × (m.doing ≡ Some t)
 busy c h k call Stopped next = absurd (cc)
 busy c h k call (Running m) next = go m.doing refl next
   where

@@ -10,9 +10,9 @@ use Rattle.host.specs.Host.{learned_of}
 use Rattle.world.specs.Entry.{Filled}
 use Rattle.world.specs.World.{World, world, IsRun}
 use Rattle.world.specs.Chosen.{at, IsChosenAt, SaysAt}
-use Rattle.world.proofs.Safe.{its_log, one_log, one_begins_other}
+use Rattle.world.proofs.Safe.{its_log}
 use Rattle.agreement.proofs.Slots.{value_below}
-use Rattle.world_safety.specs.Claims.{LogGrows, IsOneLog, NoneShorter}
+use Rattle.world_safety.specs.Claims.{LogGrows, NoneShorter}
 use Rattle.world_safety.specs.Tracks.{IsChosenBefore}
 use Rattle.world_safety.proofs.Commands.{begins_by}
 use Rattle.world_safety.proofs.Knowing.{all_true}
@@ -60,11 +60,6 @@ module _ (c : Shape) (log : List Filled) (run : IsRun c log) where
       let same = its_log c log (commands c log run) safe longer whole in
       begins_by values longer (λ k v found. (let chosen = is.chosen k v found in
       subst (λ (l : List (List ℕ)). slice_get l k ≡ Some v) (sym same) (safe.one chosen.0 k v (chosen_whole i chosen.0 k v chosen.1))))
-
-  pub is_one_log : IsOneLog c log
-  is_one_log =
-      let safe = is_safe c log run in
-      record { commands = commands c log run; is_safe = safe; no_other = one_log c log (commands c log run) safe; prefixes = one_begins_other c log (commands c log run) safe }
 
   -- RECOVERIES
 

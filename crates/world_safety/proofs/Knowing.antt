@@ -171,7 +171,7 @@ module _ (c : Shape) (log : List Filled) where
       (λ j e is may before.
       (let known = later j h ((at c log j).host h) before in
       by_own h e (λ host. IsTrueOf c log (suc j) h host) ((at c log j).host h) (λ of. step_true run j h e is may of known) known))
-      (λ j before. later j h ((at c log j).host h) before)
+      (λ j ended before. later j h ((at c log j).host h) before)
       i
     where
       by_own : (h : ℕ) (e : Filled) (P : Host → Type 0) (old : Host) → (is_of h e ≡ true → P (host_step c h old e)) → P old → P (cond (is_of h e) (host_step c h old e) old)

@@ -1,5 +1,6 @@
 pub mod Acknowledging
 pub mod Ballots
+pub mod Begun
 pub mod Called
 pub mod Calling
 pub mod Commands
@@ -12,6 +13,7 @@ pub mod Hosts
 pub mod Keeping
 pub mod Knowing
 pub mod Machines
+pub mod Majorities
 pub mod Moving
 pub mod OneBlock
 pub mod OneLog
@@ -21,6 +23,7 @@ pub mod Owning
 pub mod Places
 pub mod Recovering
 pub mod Safety
+pub mod Saying
 pub mod Settled
 pub mod Standing
 pub mod Tracks

@@ -37,12 +37,12 @@ module _ (c : Shape) (log : List Filled) where
   host_stays i e h is off = ap (λ (w : World). w.host h) (at_next i e is) ∙ ap (λ (b : Bool). cond b (host_step c h ((at c log i).host h) e) ((at c log i).host h)) off
 
   by_entry : IsRun c log → (P : ℕ → World → Type 0) → ((i : ℕ) (e : Filled) → slice_get log i ≡ Some e → MayFollow c (at c log i) e → P i (at c log i) → P (suc i) (next_world c (at c log i) e))
-      → ((i : ℕ) → P i (at c log i) → P (suc i) (at c log i)) → (i : ℕ) (o : Option Filled) → slice_get log i ≡ o → P i (at c log i) → P (suc i) (at c log (suc i))
-  by_entry run P next end i None is before = subst (P (suc i)) (sym (at_end i is)) (end i before)
+      → ((i : ℕ) → slice_get log i ≡ None → P i (at c log i) → P (suc i) (at c log i)) → (i : ℕ) (o : Option Filled) → slice_get log i ≡ o → P i (at c log i) → P (suc i) (at c log (suc i))
+  by_entry run P next end i None is before = subst (P (suc i)) (sym (at_end i is)) (end i is before)
   by_entry run P next end i (Some e) is before = subst (P (suc i)) (sym (at_next i e is)) (next i e is (each c log i e run is) before)
 
   -- What holds at first, and with each entry, holds at each place.
   pub by_place : IsRun c log → (P : ℕ → World → Type 0) → P zero (at c log zero) → ((i : ℕ) (e : Filled) → slice_get log i ≡ Some e → MayFollow c (at c log i) e → P i (at c log i) → P (suc i) (next_world c (at c log i) e))
-      → ((i : ℕ) → P i (at c log i) → P (suc i) (at c log i)) → (i : ℕ) → P i (at c log i)
+      → ((i : ℕ) → slice_get log i ≡ None → P i (at c log i) → P (suc i) (at c log i)) → (i : ℕ) → P i (at c log i)
   by_place run P first next end zero = first
   by_place run P first next end (suc i) = by_entry run P next end i (slice_get log i) refl (by_place run P first next end i)

@@ -11,9 +11,9 @@ use Rattle.host.specs.declared.answer.HostAnswer.TheVariants.{Ack, Recovered}
 use Rattle.host.specs.Host.{Submitting, Doing, Memory, Host, Stopped, Running, learned_of, reply_after, said_of}
 use Rattle.world.specs.Entry.{Filled}
 use Rattle.world.specs.World.{IsRun}
-use Rattle.world.specs.Happens.{Event, run}
+use Rattle.world.specs.Happens.{run as happened}
 use Rattle.world.specs.Chosen.{at, IsChosenAt, IsLog, SaysAt, IsAcknowledgedAt, IsRecovery}
-use Rattle.world.specs.Headline.{Begins, prefix_at, IsAcknowledgedBefore, IsSafe, HasOneLog}
+use Rattle.world.specs.Headline.{Begins, prefix_at, IsAcknowledgedBefore, IsSafe, Headline, HeadlineOfEvents}
 use Rattle.world.proofs.Runs.{each, run_is_run}
 use Rattle.world.proofs.Safe.{one_log, one_begins_other}
 use Rattle.world_safety.specs.Acks.{AcksAt}
@@ -160,7 +160,7 @@ module _ (c : Shape) (log : List Filled) (run : IsRun c log) where
         is_log = is_log;
         one = one;
         submitted = λ i slot value chosen. submitted_before c log run i slot value chosen;
-        prefix = λ i host within. prefix i host;
+        prefix = prefix;
         placed = placed;
         acknowledged = acknowledged;
         reply = reply_is;
@@ -169,13 +169,12 @@ module _ (c : Shape) (log : List Filled) (run : IsRun c log) where
         holds = holds;
       }
 
--- Every list of events has one log, and nothing that was acknowledged is lost.
-pub has_one_log : (c : Shape) (events : List Event) → HasOneLog c events
-has_one_log c events =
-    let safe = is_safe c (run c events) (run_is_run c events) in
-    record {
-      commands = _;
-      is_safe = safe;
-      no_other = one_log c (run c events) _ safe;
-      prefixes = one_begins_other c (run c events) _ safe;
-    }
+-- Every run has one log, and nothing that was acknowledged is lost.
+pub headline : Headline
+headline c log run =
+    let safe = is_safe c log run in
+    record { commands = commands c log run; is_safe = safe; no_other = one_log c log (commands c log run) safe; prefixes = one_begins_other c log (commands c log run) safe }
+
+-- So it is with every list of events.
+pub headline_of_events : HeadlineOfEvents
+headline_of_events c events = headline c (happened c events) (run_is_run c events)

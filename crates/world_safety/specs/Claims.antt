@@ -1,16 +1,16 @@
--- What else is claimed of every run: of its ballots, of its log as it grows, and of its recoveries.
-use Rattle.std.specs.Prelude.{◌≡◌, ◌<◌, ◌≤◌, ℕ, List, take}
+-- What else is claimed of every run: of its ballots, of its log as it grows, of its recoveries, and of the majorities behind its answers.
+use Rattle.std.specs.Prelude.{◌≡◌, ◌⊎◌, ◌<◌, ◌≤◌, ℕ, List, take, slice_get, Some}
 use Rattle.attempt.specs.Answers.{Answered, on}
-use Rattle.attempt.specs.Prepared.{Proposes}
+use Rattle.attempt.specs.Prepared.{Proposes, IsPrepared, IsAccepted}
 use Rattle.attempt.specs.Proposal.{ballot}
 use Rattle.attempt.specs.Setup.{Setup}
-use Rattle.lock_command.specs.declared.command.Command.{Command}
+use Rattle.lock_table.specs.declared.reply.Reply.{Reply}
 use Rattle.slot_log.specs.Shape.{Shape}
-use Rattle.world.specs.Entry.{Filled}
-use Rattle.host.specs.declared.answer.HostAnswer.TheVariants.{Recovered}
+use Rattle.world.specs.Entry.{Filled, Recover}
+use Rattle.host.specs.declared.answer.HostAnswer.TheVariants.{Ack, Recovered}
 use Rattle.world.specs.Chosen.{at, Hears, IsChosenAt, IsLog, SaysAt, IsRecovery}
 use Rattle.world_safety.specs.Goes.{IsTryingAt}
-use Rattle.world.specs.Headline.{Begins, IsSafe, HasNoSecondLog, OneBeginsOther}
+use Rattle.world.specs.Headline.{Begins}
 use Rattle.world_safety.specs.Tracks.{IsChosenBefore}
 
 -- BALLOTS
@@ -51,14 +51,11 @@ ProposesInOrder c log = (i slot b k : ℕ) (value : List ℕ) → IsProposedAt c
 abbrev pub LogGrows : Shape → List Filled → Type 0
 LogGrows c log = (i : ℕ) (values longer : List (List ℕ)) → IsLog c (take i log) values → IsLog c log longer → Begins values longer
 
--- The list has one log, by which all goes.
-pub record IsOneLog (c : Shape) (log : List Filled) : Type 0 where
-  pub commands : List Command
-  pub is_safe : IsSafe c log commands
-  pub no_other : HasNoSecondLog c log
-  pub prefixes : OneBeginsOther c log
-
 -- RECOVERIES
+
+-- Whoever says that it has recovered began a recovery, and has made device calls alone since then.
+abbrev pub AllBegun : Shape → List Filled → Type 0
+AllBegun c log = (j host n : ℕ) → SaysAt c log j host (Recovered n) → (i : ℕ) × IsRecovery c log i j host n
 
 -- Where a host answers that it has recovered n commands, nothing had been chosen for slot n, nor for a later one, before it began to try slot n.
 abbrev pub EmptyShows : Shape → List Filled → Type 0
@@ -73,3 +70,37 @@ MissesNothing c log =
 -- No recovery is shorter than one that had answered before it began.
 abbrev pub NoneShorter : Shape → List Filled → Type 0
 NoneShorter c log = (i j k l host other n m : ℕ) → IsRecovery c log i j host n → IsRecovery c log k l other m → j < k → n ≤ m
+
+-- MAJORITIES
+
+-- With the answer of entry i a host's attempt is prepared: on more than half of the disks the six calls that wrote its ballot, and the read of the row behind them, were answered well.
+pub record IsPreparedAt (c : Shape) (log : List Filled) (i host : ℕ) : Type 0 where
+  pub setup : Setup
+  pub heard : List Answered
+  pub hears : Hears c log i setup heard
+  pub of_host : hears.host ≡ host
+  pub prepared : IsPrepared setup heard
+
+-- With the answer of entry i a host's attempt on a slot is accepted: on more than half of the disks the six calls that wrote its vote, and the read of the row behind them, were answered well.
+pub record IsAcceptedAt (c : Shape) (log : List Filled) (i host slot : ℕ) : Type 0 where
+  pub setup : Setup
+  pub heard : List Answered
+  pub hears : Hears c log i setup heard
+  pub of_host : hears.host ≡ host
+  pub on_slot : setup.slot ≡ slot
+  pub value : List ℕ
+  pub accepted : IsAccepted setup heard value
+
+-- entry i begins a recovery of a host that has learned all slots
+pub record IsFullAt (c : Shape) (log : List Filled) (i host n : ℕ) : Type 0 where
+  pub tries : ℕ
+  pub begins : slice_get log i ≡ Some (Recover host tries)
+  pub full : c.slots ≤ n
+
+-- No acknowledgement without a majority that answered,
+abbrev pub AcknowledgesByMajority : Shape → List Filled → Type 0
+AcknowledgesByMajority c log = (i host slot : ℕ) (reply : Reply) → SaysAt c log i host (Ack slot reply) → IsAcceptedAt c log i host slot
+
+-- and no recovery, but for one that is answered where it begins, as all slots were learned.
+abbrev pub RecoversByMajority : Shape → List Filled → Type 0
+RecoversByMajority c log = (i host n : ℕ) → SaysAt c log i host (Recovered n) → IsPreparedAt c log i host ⊎ IsFullAt c log i host n

@@ -1,16 +1,18 @@
-// What holds of every list of events, and of every run.
+// What holds of every run, and so of every list of events.
 ghost use Rattle.std.specs.Prelude.{List};
 ghost use Rattle.slot_log.specs.Shape.{Shape};
 ghost use Rattle.world.specs.Entry.{Filled};
 ghost use Rattle.world.specs.World.{IsRun};
-ghost use Rattle.world.specs.Headline.{Headline};
-ghost use Rattle.world_safety.specs.Claims.{BindsGreater, OneProposal, ProposesInOrder, LogGrows, IsOneLog, EmptyShows, MissesNothing, NoneShorter};
+ghost use Rattle.world.specs.Headline.{Headline, HeadlineOfEvents};
+ghost use Rattle.world_safety.specs.Claims.{BindsGreater, OneProposal, ProposesInOrder};
+ghost use Rattle.world_safety.specs.Claims.{LogGrows, AllBegun, EmptyShows, MissesNothing, NoneShorter};
+ghost use Rattle.world_safety.specs.Claims.{AcknowledgesByMajority, RecoversByMajority};
 
-/// One log, whatever happens, and nothing that was acknowledged is lost: so it is with every list
-/// of events, and with every run, however it came about. The log only grows.
+/// One log, whatever happens, and nothing that was acknowledged is lost: so it is with every run,
+/// however it came about, and with every list of events. The log only grows.
 pub fn one_log_and_nothing_lost()
     ensures headline { Headline }
-    ensures runs { (c : Shape) (log : List Filled) → IsRun c log → IsOneLog c log }
+    ensures events { HeadlineOfEvents }
     ensures grows { (c : Shape) (log : List Filled) → IsRun c log → LogGrows c log }
 {}
 
@@ -23,11 +25,20 @@ pub fn ballots_agree()
     ensures in_order { (c : Shape) (log : List Filled) → IsRun c log → ProposesInOrder c log }
 {}
 
-/// A slot that a recovery found empty had no chosen value when its host began to try it. So a
-/// recovery that answers has missed nothing that was chosen before it began, for whatever host, and
-/// is no shorter than one that had answered by then.
+/// Whoever answers that it has recovered began to. A slot that a recovery found empty had no chosen
+/// value when its host began to try it. So a recovery that answers has missed nothing that was
+/// chosen before it began, for whatever host, and is no shorter than one that had answered by then.
 pub fn recoveries_miss_nothing()
+    ensures begun { (c : Shape) (log : List Filled) → IsRun c log → AllBegun c log }
     ensures empty { (c : Shape) (log : List Filled) → IsRun c log → EmptyShows c log }
     ensures nothing { (c : Shape) (log : List Filled) → IsRun c log → MissesNothing c log }
     ensures no_shorter { (c : Shape) (log : List Filled) → IsRun c log → NoneShorter c log }
+{}
+
+/// No command is acknowledged, and no recovery answers, without a majority of the disks that
+/// answered; but for a recovery that is answered where it begins, as all slots were learned.
+pub fn majorities_answer()
+    ensures acknowledged { (c : Shape) (log : List Filled) → IsRun c log →
+        AcknowledgesByMajority c log }
+    ensures recovered { (c : Shape) (log : List Filled) → IsRun c log → RecoversByMajority c log }
 {}

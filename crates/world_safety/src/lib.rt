@@ -3,4 +3,6 @@
 
 mod law;
 
-pub use law::{ballots_agree, one_log_and_nothing_lost, recoveries_miss_nothing};
+pub use law::{
+    ballots_agree, majorities_answer, one_log_and_nothing_lost, recoveries_miss_nothing,
+};

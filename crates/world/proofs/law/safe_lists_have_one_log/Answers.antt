@@ -1,3 +1,5 @@
+use Rattle.world.specs.Happens.{run}
+use Rattle.world.proofs.Runs.{run_is_run}
 use Rattle.world.proofs.Safe as safe
 use Rattle.world.proofs.law.safe_lists_have_one_log.Goals as goal
 
@@ -6,3 +8,6 @@ returns-clause-one c = safe.one_log
 
 pub returns-clause-prefixes : goal.returns-clause-prefixes
 returns-clause-prefixes c = safe.one_begins_other
+
+pub returns-clause-events : goal.returns-clause-events
+returns-clause-events c = λ headline shape events. headline shape (run shape events) (run_is_run shape events)

@@ -1,6 +1,10 @@
+use Rattle.world_safety.proofs.Begun.{all_begun}
 use Rattle.world_safety.proofs.Growing.{none_shorter}
 use Rattle.world_safety.proofs.Recovering.{empty_shows, misses_nothing}
 use Rattle.world_safety.proofs.law.recoveries_miss_nothing.Goals as goal
+
+pub returns-clause-begun : goal.returns-clause-begun
+returns-clause-begun c = all_begun
 
 pub returns-clause-empty : goal.returns-clause-empty
 returns-clause-empty c = empty_shows

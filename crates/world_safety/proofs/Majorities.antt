@@ -1,0 +1,83 @@
+-- No acknowledgement and no recovery without a majority of the disks that answered.
+use Rattle.std.specs.Prelude.{slice_get}
+use Rattle.std.proofs.Common.{ℕ, ◌≤◌, ◌≡◌, ◌⊎◌, inl, inr, Some, List, length, refl, arith}
+use Rattle.attempt.specs.Answers.{on, heard_as}
+use Rattle.attempt.specs.History.{IsHistory}
+use Rattle.attempt.specs.Prepared.{IsPrepared}
+use Rattle.attempt.specs.Setup.{Setup}
+use Rattle.attempt.specs.Status.{Ended, Committed, status, taken}
+use Rattle.attempt.proofs.Preparing as preparing
+use Rattle.slot_log.specs.Shape.{Shape}
+use Rattle.host.specs.declared.answer.HostAnswer.{HostAnswer}
+use Rattle.host.specs.declared.answer.HostAnswer.TheVariants.{Ack, Recovered}
+use Rattle.host.specs.Host.{Operation, Submitting, Recovering, setup_of, with_heard}
+use Rattle.world.specs.Entry.{Filled, Recover}
+use Rattle.world.specs.World.{IsRun}
+use Rattle.world.specs.Chosen.{SaysAt}
+use Rattle.world.proofs.Histories.{heard_then}
+use Rattle.world_safety.specs.Claims.{IsPreparedAt, IsAcceptedAt, IsFullAt, AcknowledgesByMajority, RecoversByMajority}
+use Rattle.world_safety.proofs.Saying.{full_recovers, full_acks, status_recovers, status_acks, beginning_of, AtItsBeginning, AtACall, heard_at, memory_at, hears_at, whence}
+
+module _ (c : Shape) (log : List Filled) (run : IsRun c log) (i h : ℕ) where
+  module _ (said : HostAnswer) (call : AtACall c log i h said) where
+    abbrev s : Setup
+    s = setup_of c h call.memory call.doing.operation
+
+    -- what the attempt has heard is a history of it
+    history_at : IsHistory s (heard_at c log i h said call)
+    history_at = heard_then c log i s (heard_at c log i h said call) run (hears_at c log i h said call)
+
+    prepared_at : IsPrepared s (heard_at c log i h said call) → IsPreparedAt c log i h
+    prepared_at is = record { setup = s; heard = heard_at c log i h said call; hears = hears_at c log i h said call; of_host = refl; prepared = is }
+
+  -- ACKNOWLEDGEMENTS
+
+  -- one comes behind a call with which a value is committed
+  pub acknowledged : (slot : ℕ) (reply : _) → SaysAt c log i h (Ack slot reply) → IsAcceptedAt c log i h slot
+  acknowledged slot reply says = elim (whence c log i h (Ack slot reply) run says).is [
+    | inl first ↦ absurd (full_acks first.operation (length first.memory.learned) slot reply first.says.0)
+    | inr later ↦
+        (let call = later.0 in
+        let heard = heard_at c log i h (Ack slot reply) call in
+        let own = s (Ack slot reply) call in
+        let by = status_acks c call.memory (with_heard call.doing (record { disk = call.disk; heard = heard_as call.answer })) (taken own (on heard)) (status own (on heard)) slot reply later.1 in
+        record {
+          setup = own;
+          heard = heard;
+          hears = hears_at c log i h (Ack slot reply) call;
+          of_host = refl;
+          on_slot = by.2;
+          value = by.0;
+          accepted = preparing.accepted own heard (history_at (Ack slot reply) call) by.0 by.1;
+        })
+  ]
+
+  -- RECOVERIES
+
+  full_at : (operation : Operation) (tries learned n : ℕ) → operation ≡ Recovering → learned ≡ n → c.slots ≤ learned → slice_get log i ≡ Some (beginning_of h operation tries) → IsFullAt c log i h n
+  full_at (Submitting command) tries learned n is same full entry = absurd (cc)
+  full_at Recovering tries learned n is same full entry = record { tries = tries; begins = entry; full = omega arith }
+
+  -- one comes behind a call with which its slot is found empty, or the last slot is learned; or where it begins
+  pub recovered : (n : ℕ) → SaysAt c log i h (Recovered n) → IsPreparedAt c log i h ⊎ IsFullAt c log i h n
+  recovered n says = elim (whence c log i h (Recovered n) run says).is [
+    | inl first ↦
+        (let is = full_recovers first.operation (length first.memory.learned) n first.says.0 in
+        inr (full_at first.operation first.tries (length first.memory.learned) n is.0 is.1 first.says.1 first.entry))
+    | inr later ↦
+        (let call = later.0 in
+        let heard = heard_at c log i h (Recovered n) call in
+        let own = s (Recovered n) call in
+        let over = status_recovers c call.memory (with_heard call.doing (record { disk = call.disk; heard = heard_as call.answer })) (taken own (on heard)) (status own (on heard)) n later.1 in
+        let history = history_at (Recovered n) call in
+        inl (prepared_at (Recovered n) call (elim over.ended [
+          | inl empty ↦ preparing.prepared_empty own heard history empty
+          | inr last ↦ preparing.prepared own heard history last.0 (preparing.committed own (on heard) last.0 last.1)
+        ])))
+  ]
+
+pub acknowledges_by_majority : (c : Shape) (log : List Filled) → IsRun c log → AcknowledgesByMajority c log
+acknowledges_by_majority c log run i h slot reply says = acknowledged c log run i h slot reply says
+
+pub recovers_by_majority : (c : Shape) (log : List Filled) → IsRun c log → RecoversByMajority c log
+recovers_by_majority c log run i h n says = recovered c log run i h n says

@@ -1,0 +1,199 @@
+-- Whence an answer comes: from the status of an attempt behind a device call, or from an operation that finds all slots learned.
+use Rattle.std.specs.Prelude.{IsTrue, nat_lt, nat_le, ◌-◌, slice_get, if◌then◌else◌}
+use Rattle.std.proofs.Common.{ℕ, suc, ◌+◌, ◌≤◌, ◌≡◌, ◌⊎◌, inl, inr, Bool, true, false, Option, Some, None, List, [], ◌∷◌, ◌++◌, length, refl, sym, subst, ap, ◌∙◌, arith}
+use Rattle.std.proofs.lemmas.Bool.{eqb-true, ltb-false}
+use Rattle.disk.specs.Disk.{Call, Answer}
+use Rattle.attempt.specs.Answers.{Answered, on, heard_as}
+use Rattle.attempt.specs.Status as attempt
+use Rattle.attempt.specs.Status.{Status, Due, Ended, status, taken}
+use Rattle.lock_command.specs.declared.command.Command.{Command}
+use Rattle.lock_command.specs.Reading.{decoded}
+use Rattle.lock_table.specs.declared.reply.Reply.{Reply}
+use Rattle.slot_log.specs.Shape.{Shape}
+use Rattle.slot_log.specs.declared.outcome.Refusal.TheVariants as refusal
+use Rattle.host.specs.declared.answer.HostAnswer.{HostAnswer}
+use Rattle.host.specs.declared.answer.HostAnswer.TheVariants.{Ack, Recovered, Refused}
+use Rattle.host.specs.Host.{Operation, Submitting, Recovering, Doing, Memory, Host, Stopped, Running, setup_of, says, begins, full_answer, goes_on, with_floor, learns, is_submitted, after_learning, takes, tries_again, by_status, with_heard, hears, is_stopped, said_of}
+use Rattle.world.specs.Entry.{Filled, Start, Stop, Submit, Recover, Called, Torn, Crashed, Lost, is_of, started, begins as begins_on, host_step}
+use Rattle.world.specs.World.{MayFollow, IsRun}
+use Rattle.world.specs.Chosen.{at, Hears, SaysAt}
+use Rattle.world.proofs.Runs.{each}
+use Rattle.world_safety.proofs.Acknowledging.{busy}
+use Rattle.world_safety.proofs.Places.{host_next}
+
+-- WHAT A STATUS MAKES A HOST SAY
+
+-- an operation that goes on says what it says with all slots learned, or nothing
+pub went_on : (c : Shape) (m : Memory) (operation : Operation) (tries : ℕ) (said : HostAnswer) → (goes_on c m operation tries).said ≡ Some said → (full_answer operation (length m.learned) ≡ said) × (c.slots ≤ length m.learned)
+went_on c m operation tries said = go (nat_lt (length m.learned) c.slots) refl
+  where
+    go : (b : Bool) → nat_lt (length m.learned) c.slots ≡ b → (if b then begins m operation tries else says m (full_answer operation (length m.learned))).said ≡ Some said
+        → (full_answer operation (length m.learned) ≡ said) × (c.slots ≤ length m.learned)
+    go true fits is = absurd (cc)
+    go false full is = ((let same : full_answer operation (length m.learned) ≡ said = cc in same), ltb-false (length m.learned) c.slots full)
+
+-- only a recovery recovers
+pub full_recovers : (operation : Operation) (learned n : ℕ) → full_answer operation learned ≡ Recovered n → (operation ≡ Recovering) × (learned ≡ n)
+full_recovers (Submitting command) learned n is = absurd (cc)
+full_recovers Recovering learned n is = (refl, cc)
+
+-- and it acknowledges nothing
+pub full_acks : (operation : Operation) (learned slot : ℕ) (reply : Reply) → full_answer operation learned ≡ Ack slot reply → ⊥
+full_acks (Submitting command) learned slot reply is = absurd (cc)
+full_acks Recovering learned slot reply is = absurd (cc)
+
+module _ (c : Shape) (m : Memory) (t : Doing) (b : ℕ) where
+  -- an outrun attempt brings neither
+  again : (k : Memory) (tries : ℕ) (said : HostAnswer) → (tries_again k t.operation tries).said ≡ Some said → said ≡ Refused refusal.Outrun
+  again k tries said = go (nat_le tries 1)
+    where
+      go : (last : Bool) → (if last then says k (Refused refusal.Outrun) else begins k t.operation (tries - 1)).said ≡ Some said → said ≡ Refused refusal.Outrun
+      go true is = let same : Refused refusal.Outrun ≡ said = cc in sym same
+      go false is = absurd (cc)
+
+  -- a recovery that answers found its slot empty, or learned the last slot
+  pub record IsOver (st : Status) (n : ℕ) : Type 0 where
+    pub ended : (st ≡ Ended attempt.Empty) ⊎ ((value : List ℕ) × (st ≡ Ended (attempt.Committed value)) × (t.operation ≡ Recovering))
+
+  learned_recovers : (n : ℕ) (command : Command) (own : Bool) → (after_learning c m t command own).said ≡ Some (Recovered n) → t.operation ≡ Recovering
+  learned_recovers n command true is = absurd (cc)
+  learned_recovers n command false is = (full_recovers t.operation (length (m.learned ++ command ∷ [])) n (went_on c (learns m command) t.operation t.tries (Recovered n) is).0).0
+
+  taken_recovers : (n : ℕ) (value : List ℕ) (o : Option Command) → (takes c m t b value o).said ≡ Some (Recovered n) → t.operation ≡ Recovering
+  taken_recovers n value None is = absurd (cc)
+  taken_recovers n value (Some command) is = learned_recovers n command (is_submitted t.operation value) is
+
+  pub status_recovers : (st : Status) (n : ℕ) → (by_status c m t b st).said ≡ Some (Recovered n) → IsOver st n
+  status_recovers (Due p d) n is = absurd (cc)
+  status_recovers (Ended (attempt.Committed value)) n is = record { ended = inr (value, refl, taken_recovers n value (decoded value) is) }
+  status_recovers (Ended attempt.Empty) n is = record { ended = inl refl }
+  status_recovers (Ended (attempt.Outrun mbal)) n is = absurd (let no = again (with_floor (with_floor m b) mbal) t.tries (Recovered n) is in cc)
+  status_recovers (Ended attempt.NoMajority) n is = absurd (cc)
+  status_recovers (Ended attempt.BallotsSpent) n is = absurd (cc)
+
+  -- an acknowledgement comes with a committed value, for the slot that was tried
+  learned_acks : (slot : ℕ) (reply : Reply) (command : Command) (own : Bool) → (after_learning c m t command own).said ≡ Some (Ack slot reply) → length m.learned ≡ slot
+  learned_acks slot reply command true is = cc
+  learned_acks slot reply command false is = absurd (full_acks t.operation (length (m.learned ++ command ∷ [])) slot reply (went_on c (learns m command) t.operation t.tries (Ack slot reply) is).0)
+
+  taken_acks : (slot : ℕ) (reply : Reply) (value : List ℕ) (o : Option Command) → (takes c m t b value o).said ≡ Some (Ack slot reply) → length m.learned ≡ slot
+  taken_acks slot reply value None is = absurd (cc)
+  taken_acks slot reply value (Some command) is = learned_acks slot reply command (is_submitted t.operation value) is
+
+  pub status_acks : (st : Status) (slot : ℕ) (reply : Reply) → (by_status c m t b st).said ≡ Some (Ack slot reply) → (value : List ℕ) × (st ≡ Ended (attempt.Committed value)) × (length m.learned ≡ slot)
+  status_acks (Due p d) slot reply is = absurd (cc)
+  status_acks (Ended (attempt.Committed value)) slot reply is = (value, refl, taken_acks slot reply value (decoded value) is)
+  status_acks (Ended attempt.Empty) slot reply is = absurd (cc)
+  status_acks (Ended (attempt.Outrun mbal)) slot reply is = absurd (let no = again (with_floor (with_floor m b) mbal) t.tries (Ack slot reply) is in cc)
+  status_acks (Ended attempt.NoMajority) slot reply is = absurd (cc)
+  status_acks (Ended attempt.BallotsSpent) slot reply is = absurd (cc)
+
+-- AT AN ENTRY
+
+-- the entry with which an operation begins
+abbrev pub beginning_of : ℕ → Operation → ℕ → Filled
+beginning_of h (Submitting command) tries = Submit h command tries
+beginning_of h Recovering tries = Recover h tries
+
+-- an operation begins, and says this at once, as all slots were learned
+pub record AtItsBeginning (c : Shape) (log : List Filled) (i h : ℕ) (said : HostAnswer) : Type 0 where
+  pub memory : Memory
+  pub operation : Operation
+  pub tries : ℕ
+  pub entry : slice_get log i ≡ Some (beginning_of h operation tries)
+  pub says : (full_answer operation (length memory.learned) ≡ said) × (c.slots ≤ length memory.learned)
+
+-- a device call is answered, and the status of the attempt makes its host say this
+pub record AtACall (c : Shape) (log : List Filled) (i h : ℕ) (said : HostAnswer) : Type 0 where
+  pub disk : ℕ
+  pub call : Call
+  pub answer : Answer
+  pub left : List ℕ
+  pub entry : slice_get log i ≡ Some (Called h disk call answer left)
+  pub memory : Memory
+  pub doing : Doing
+  pub running : (at c log i).host h ≡ Running memory
+  pub does : memory.doing ≡ Some doing
+
+module _ (c : Shape) (log : List Filled) (i h : ℕ) (said : HostAnswer) where
+  -- what the attempt has heard then
+  abbrev pub heard_at : AtACall c log i h said → List Answered
+  heard_at call = call.doing.heard ++ record { disk = call.disk; heard = heard_as call.answer } ∷ []
+
+  abbrev pub status_at : AtACall c log i h said → Status
+  status_at call = status (setup_of c h call.memory call.doing.operation) (on (heard_at call))
+
+  abbrev pub memory_at : AtACall c log i h said → Memory
+  memory_at call =
+      by_status c call.memory (with_heard call.doing (record { disk = call.disk; heard = heard_as call.answer })) (taken (setup_of c h call.memory call.doing.operation) (on (heard_at call))) (status_at call)
+
+  -- its attempt hears the answer there
+  abbrev pub hears_at : (call : AtACall c log i h said) → Hears c log i (setup_of c h call.memory call.doing.operation) (heard_at call)
+  hears_at call =
+      record {
+        host = h;
+        disk = call.disk;
+        call = call.call;
+        answer = call.answer;
+        left = call.left;
+        entry = call.entry;
+        memory = call.memory;
+        running = call.running;
+        doing = call.doing;
+        does = call.does;
+        is_setup = refl;
+        is_heard = refl;
+      }
+
+  -- one of the two
+  pub record Whence : Type 0 where
+    pub is : AtItsBeginning c log i h said ⊎ ((call : AtACall c log i h said) × ((memory_at call).said ≡ Some said))
+
+  operated : (old : Host) (operation : Operation) (tries : ℕ) → slice_get log i ≡ Some (beginning_of h operation tries) → said_of (begins_on c old operation tries) ≡ Some said → Whence
+  operated Stopped operation tries entry is = absurd (cc)
+  operated (Running m) operation tries entry is = record { is = inl (record { memory = m; operation = operation; tries = tries; entry = entry; says = went_on c m operation tries said is }) }
+
+  begun : (old : Host) → IsTrue (is_stopped old) → said_of (started old) ≡ Some said → Whence
+  begun Stopped stopped is = absurd (cc)
+  begun (Running m) stopped is = absurd (cc)
+
+  -- the entry in the words of its own host
+  by_host : (e other : Filled) → slice_get log i ≡ Some e → e ≡ other → slice_get log i ≡ Some other
+  by_host e other is same = is ∙ ap (λ (x : Filled). Some x) same
+
+  whence_by : (e : Filled) → slice_get log i ≡ Some e → MayFollow c (at c log i) e → is_of h e ≡ true → said_of (host_step c h ((at c log i).host h) e) ≡ Some said → Whence
+  whence_by (Start g) entry may of is = begun ((at c log i).host h) (subst (λ (j : ℕ). IsTrue (is_stopped ((at c log i).host j))) (eqb-true g h of) may.1) is
+  whence_by (Stop g) entry may of is = absurd (cc)
+  whence_by (Submit g command tries) entry may of is =
+      operated ((at c log i).host h) (Submitting command) tries (by_host (Submit g command tries) (Submit h command tries) entry (ap (λ (j : ℕ). Submit j command tries) (eqb-true g h of))) is
+  whence_by (Recover g tries) entry may of is =
+      operated ((at c log i).host h) Recovering tries (by_host (Recover g tries) (Recover h tries) entry (ap (λ (j : ℕ). Recover j tries) (eqb-true g h of))) is
+  whence_by (Called g k call answer left) entry may of is =
+      let who = busy c g k call ((at c log i).host g) may.0 in
+      let own : (at c log i).host h ≡ Running who.0 = subst (λ (j : ℕ). (at c log i).host j ≡ Running who.0) (eqb-true g h of) who.2 in
+      let here : AtACall c log i h said = record {
+        disk = k;
+        call = call;
+        answer = answer;
+        left = left;
+        entry = by_host (Called g k call answer left) (Called h k call answer left) entry (ap (λ (j : ℕ). Called j k call answer left) (eqb-true g h of));
+        memory = who.0;
+        doing = who.1;
+        running = own;
+        does = who.3;
+      } in
+      let x : Answered = record { disk = k; heard = heard_as answer } in
+      let goes : host_step c h ((at c log i).host h) (Called g k call answer left) ≡ Running (memory_at here) =
+      ap (λ (host : Host). host_step c h host (Called g k call answer left)) own ∙ ap (λ (o : Option Doing). Running (hears c h who.0 o x)) who.3 in
+      record { is = inr (here, ap said_of (sym goes) ∙ is) }
+  whence_by (Torn g k call left) entry may of is = absurd (cc)
+  whence_by (Crashed k left) entry may of is = absurd (cc)
+  whence_by (Lost k) entry may of is = absurd (cc)
+
+  -- each answer comes from one of the two
+  pub whence : IsRun c log → SaysAt c log i h said → Whence
+  whence run says =
+      let number : suc i ≡ i + 1 = omega arith in
+      let now : (at c log (i + 1)).host h ≡ host_step c h ((at c log i).host h) says.entry =
+      subst (λ (j : ℕ). (at c log j).host h ≡ host_step c h ((at c log i).host h) says.entry) number (host_next c log i says.entry h says.is says.of_host) in
+      whence_by says.entry says.is (each c log i says.entry run says.is) says.of_host (ap said_of (sym now) ∙ says.says)
