@@ -67,7 +67,8 @@ use Rattle.world_safety.proofs.Hosts.{tied_but}
 use Rattle.world_safety.proofs.Keeping.{Spares, spares_others, spares_same, knows_spared, knows_elsewhere}
 use Rattle.world_safety.proofs.Machines.{machine_is, machine_runs, machine_here, machine_there, history_more, events_append}
 use Rattle.world_safety.proofs.OneBlock.{with_disks, IsOther, other_blocks, other_hosts, but_one}
-use Rattle.world_safety.proofs.Owned.{After, own_after}
+use Rattle.world_safety.proofs.Owned.{After}
+use Rattle.world_safety.proofs.Putting.{own_after}
 use Rattle.world_safety.proofs.Settled.{told_or_not, allows_none, current, is_next_read, row_is, allows_row}
 use Rattle.world_safety.proofs.Standing.{stands_resting, cell_reads}
 use Rattle.attempt.proofs.Votes.{MayWrite, votes_more, row_shows}
@@ -369,7 +370,17 @@ module _ (c : Shape) (w : World) (ms : Moves) (tied : Tied c w ms) (h k : ℕ) (
 
     own : After s k (more f k (heard_as answer)) new cell
     own =
-        own_after c.slots s is.phase k f (w.disk k) new answer image image_then trying.fits run.below (reached.disk k) waiting.part.good waiting.part.come old cell (r.tied.stands slot h k trying.fits run.below) (r.trying.knows k)
+        own_after c.slots s is.phase k f (w.disk k) new answer old cell (record {
+          image = image;
+          image_then = image_then;
+          slot_below = trying.fits;
+          host_below = run.below;
+          is_disk = reached.disk k;
+          good = waiting.part.good;
+          come = waiting.part.come;
+          stands = r.tied.stands slot h k trying.fits run.below;
+          knows = r.trying.knows k;
+        })
         is.kind phase_is
         (λ there. record { may = (may CloseGate there).may_say; full = (may CloseGate there).fills; unspent = not_spent there; rests = nothing_written there })
         is.kind_is is.fits (arrives.block is.kind is.kind_is) step_by

@@ -21,6 +21,7 @@ pub mod Operating
 pub mod Owned
 pub mod Owning
 pub mod Places
+pub mod Putting
 pub mod Recovering
 pub mod Safety
 pub mod Saying
