@@ -19,10 +19,12 @@ use Rattle.agreement.specs.Log.Move.{Restart}
 use Rattle.world_safety.specs.Goes.{IsTryingAt, IsInputAt, HostGoes, Carries, Goes}
 use Rattle.world_safety.specs.Next.{next_world}
 use Rattle.world_safety.specs.Tied.{Moves, machine, IsTrying, IsDoing, IsRunning, Tied}
-use Rattle.world_safety.proofs.Called.{Hears, hears, input_append}
+use Rattle.world_safety.proofs.Due.{IsCall}
+use Rattle.world_safety.proofs.Hearing.{Hears, hears}
 use Rattle.world_safety.proofs.Ending.{answered_late}
 use Rattle.world_safety.proofs.Hosts.{Late, tied_with, but_stops, stops_learned}
-use Rattle.world_safety.proofs.Machines.{events_append}
+use Rattle.attempt_safety.proofs.Slotting.{events_append}
+use Rattle.world_safety.proofs.Machines.{input_append}
 use Rattle.world_safety.proofs.OneBlock.{with_disks}
 use Rattle.world_safety.proofs.Moving.{carries_later, for_host, late_goes, late_tied, stopped_goes, running_at}
 
@@ -62,7 +64,7 @@ module _ (c : Shape) (w : World) (ms : Moves) (tied : Tied c w ms) where
     trying = subst (IsDoing c w ms h m) does run.doing
 
     hears_it : Hears c w w2 ms h m t heard
-    hears_it = hears c w ms tied h k call answer left m t running does next step
+    hears_it = hears c w ms h k call answer left m t (record { tied = tied; running = running; does = does; next = next; step = step })
 
     abbrev new : Memory
     new = by_status c m (record { operation = t.operation; tries = t.tries; heard = heard }) (taken s (on heard)) (status s (on heard))
@@ -134,7 +136,7 @@ module _ (c : Shape) (w : World) (ms : Moves) (tied : Tied c w ms) where
 
     pub torn_goes : Goes c w (Torn h k call left) ms
     torn_goes =
-        let it = hears c w ms tied h k call (Fault Failed) left m t running does next step in
+        let it = hears c w ms h k call (Fault Failed) left m t (record { tied = tied; running = running; does = does; next = next; step = step }) in
         let disks = (λ (d : ℕ). cond (k == d) (disk_step (w.disk d) (Torn h k call left)) (w.disk d)) in
         let w2 = with_disks w disks in
         let regroup = append_assoc ms it.early (Restart h ∷ []) in

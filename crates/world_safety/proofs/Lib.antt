@@ -1,14 +1,15 @@
 pub mod Acknowledging
 pub mod Ballots
 pub mod Begun
-pub mod Called
 pub mod Calling
 pub mod Commands
 pub mod Crashing
 pub mod Deciding
+pub mod Due
 pub mod Ending
 pub mod Entries
 pub mod Growing
+pub mod Hearing
 pub mod Hosts
 pub mod Keeping
 pub mod Knowing
@@ -26,6 +27,7 @@ pub mod Recovering
 pub mod Safety
 pub mod Saying
 pub mod Settled
+pub mod Settling
 pub mod Standing
 pub mod Tracks
 pub mod Within

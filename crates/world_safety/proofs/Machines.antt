@@ -1,20 +1,16 @@
 -- The machines of the slots, and what is learned, after one move more.
-use Rattle.std.proofs.Common.{ℕ, ◌≡◌, ◌≢◌, List, [], ◌∷◌, ◌++◌, append_assoc, refl, sym, ap, ◌∙◌}
+use Rattle.std.proofs.Common.{ℕ, ◌≡◌, ◌≢◌, ◌==◌, ◌⊎◌, inl, inr, Bool, true, false, cond, List, [], ◌∷◌, ◌++◌, append_assoc, refl, sym, ap, ◌∙◌}
 use Rattle.agreement.specs.State.{Block, start}
 use Rattle.agreement.specs.Event.{Event, after, run, state_after, IsRun}
 use Rattle.agreement.specs.Event.Event.{Crashes, Stops}
+use Rattle.agreement.specs.Chosen.{IsInput}
 use Rattle.agreement.specs.Log.{Slots, Move, MayMove, moved, none_learned, IsHistory, slots_after, events_at, events_of_slot}
 use Rattle.agreement.specs.Log.Move.{Crash, Learn, Restart}
 use Rattle.agreement.proofs.Steps.{state_by-append, may_both}
 use Rattle.agreement.proofs.Slots.{slot_moves, allowed_moves}
 use Rattle.attempt_safety.specs.Slots.{in_slot}
-use Rattle.attempt_safety.proofs.Slotting.{events_here, events_there}
+use Rattle.attempt_safety.proofs.Slotting.{events_append, events_here, events_there}
 use Rattle.world_safety.specs.Tied.{Moves, machine}
-
--- a slot sees the moves one after another
-pub events_append : (k : ℕ) (ms late : Moves) → events_of_slot k (ms ++ late) ≡ events_of_slot k ms ++ events_of_slot k late
-events_append k [] late = refl
-events_append k (m ∷ ms) late = ap (λ (es : List (Event (List ℕ))). events_at k m ++ es) (events_append k ms late) ∙ sym (append_assoc (events_at k m) (events_of_slot k ms) (events_of_slot k late))
 
 -- the machine of a slot is the slot's state
 pub machine_is : (ms : Moves) (k : ℕ) → (slots_after ms).slot k ≡ machine ms k
@@ -53,3 +49,21 @@ machine_learn ms h j ballot v k = machine_more ms (Learn h j ballot v ∷ []) k
 -- a host that stops
 pub machine_restart : (ms : Moves) (h k : ℕ) → machine (ms ++ Restart h ∷ []) k ≡ after (machine ms k) (Stops h)
 machine_restart ms h k = machine_more ms (Restart h ∷ []) k
+
+-- INPUTS
+
+-- an input of two lists of events is one of either
+pub input_append : (first second : List (Event (List ℕ))) (v : List ℕ) → IsInput (first ++ second) v → IsInput first v ⊎ IsInput second v
+input_append [] second v input = inr input
+input_append (e ∷ first) second v (inl puts) = inl (inl puts)
+input_append (e ∷ first) second v (inr rest) = elim (input_append first second v rest) [ inl a ↦ inl (inr a) | inr b ↦ inr b ]
+
+-- an input of events made in a slot is one of the events
+pub input_in : (j k : ℕ) (events : List (Event (List ℕ))) (v : List ℕ) → IsInput (events_of_slot j (in_slot k events)) v → IsInput events v
+input_in j k [] v input = input
+input_in j k (e ∷ events) v input = go (j == k) (input_in j k events v) input
+  where
+    go : (b : Bool) → (IsInput (events_of_slot j (in_slot k events)) v → IsInput events v) → IsInput (cond b (e ∷ []) [] ++ events_of_slot j (in_slot k events)) v → IsInput (e ∷ events) v
+    go true rest (inl puts) = inl puts
+    go true rest (inr later) = inr (rest later)
+    go false rest later = inr (rest later)

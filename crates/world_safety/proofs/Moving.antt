@@ -19,7 +19,8 @@ use Rattle.world_safety.specs.Goes.{Has, IsTryingAt, HostGoes, Carries}
 use Rattle.world_safety.specs.Next.{with_host}
 use Rattle.world_safety.specs.Tied.{Moves, machine, IsRunning, HostAt, Tied}
 use Rattle.world_safety.proofs.Hosts.{Late, tied_with}
-use Rattle.world_safety.proofs.Machines.{machine_runs, events_append}
+use Rattle.attempt_safety.proofs.Slotting.{events_append}
+use Rattle.world_safety.proofs.Machines.{machine_runs}
 
 -- WHAT IS CHOSEN STAYS SO
 

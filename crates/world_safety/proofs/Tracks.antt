@@ -24,11 +24,11 @@ use Rattle.agreement.proofs.Runs.{holds_reached}
 use Rattle.world_safety.specs.Goes.{IsInputAt, Carries, Goes}
 use Rattle.world_safety.specs.Tied.{Moves, machine, Tied}
 use Rattle.world_safety.specs.Tracks.{IsTrue, IsTrueOf}
-use Rattle.world_safety.proofs.Called.{input_append}
 use Rattle.world_safety.proofs.Entries.{goes}
 use Rattle.world_safety.proofs.Moving.{proposed_by_later, chosen_by_later, chosen_later}
 use Rattle.world_safety.proofs.Knowing.{all_true}
-use Rattle.world_safety.proofs.Machines.{machine_runs, events_append}
+use Rattle.attempt_safety.proofs.Slotting.{events_append}
+use Rattle.world_safety.proofs.Machines.{machine_runs, input_append}
 use Rattle.world_safety.proofs.Places.{at_next, at_end}
 use Rattle.world_safety.proofs.Standing.{stands_fresh}
 

@@ -1,4 +1,4 @@
--- A device call of a host and its answer: the events of its attempt, and where all stands behind them.
+-- An answer to a device call: the events of the attempt, and where all stands behind them.
 use Rattle.std.specs.Prelude.{map, nat_le, ◌&&◌, take, drop, ◌-◌}
 use Rattle.std.specs.List.{All}
 use Rattle.std.proofs.Common.{ℕ, ◌+◌, ◌<◌, ◌≡◌, ◌≢◌, ◌==◌, ◌⊎◌, inl, inr, Bool, true, false, cond, Option, Some, None, List, [], ◌∷◌, ◌++◌, length, append-nil, append_assoc, refl, sym, subst, ap, ◌∙◌, arith}
@@ -55,7 +55,7 @@ use Rattle.attempt_safety.proofs.Cells.{changed_here, changed_leaves}
 use Rattle.attempt_safety.proofs.Choosing.{chosen as chosen_by, proposed as proposed_by}
 use Rattle.attempt_safety.proofs.Following.{leads}
 use Rattle.attempt_safety.proofs.Leaving.{follows_same, by_settling}
-use Rattle.attempt_safety.proofs.Slotting.{moves_on, events_here, learned_same}
+use Rattle.attempt_safety.proofs.Slotting.{events_append, moves_on, events_here, learned_same}
 use Rattle.attempt_safety.proofs.Stages.{putting}
 use Rattle.world_safety.specs.Blocks.{said, Stands}
 use Rattle.world_safety.specs.Goes.{Carries}
@@ -63,9 +63,11 @@ use Rattle.world_safety.specs.Knows.{own_place, KnowsFor, Knows}
 use Rattle.world_safety.specs.Tied.{Moves, machine, IsTrying, IsDoing, IsRunning, HostAt, TiedBut, Tied}
 use Rattle.attempt.specs.Votes.{TellsVotes, ShowsVotes}
 use Rattle.attempt.proofs.Calls.{first_number}
+use Rattle.world_safety.proofs.Due.{IsCall, Due, due_of}
+use Rattle.world_safety.proofs.Settling.{IsQuiet, Ready, ready}
 use Rattle.world_safety.proofs.Hosts.{tied_but}
 use Rattle.world_safety.proofs.Keeping.{Spares, spares_others, spares_same, knows_spared, knows_elsewhere}
-use Rattle.world_safety.proofs.Machines.{machine_is, machine_runs, machine_here, machine_there, history_more, events_append}
+use Rattle.world_safety.proofs.Machines.{machine_is, machine_runs, machine_here, machine_there, history_more, input_append, input_in}
 use Rattle.world_safety.proofs.OneBlock.{with_disks, IsOther, other_blocks, other_hosts, but_one}
 use Rattle.world_safety.proofs.Owned.{After}
 use Rattle.world_safety.proofs.Putting.{own_after}
@@ -73,19 +75,6 @@ use Rattle.world_safety.proofs.Settled.{told_or_not, allows_none, current, is_ne
 use Rattle.world_safety.proofs.Standing.{stands_resting, cell_reads}
 use Rattle.attempt.proofs.Votes.{MayWrite, votes_more, row_shows}
 use Rattle.world_safety.proofs.Within.{within, may_write}
-
--- puts nothing in
-abbrev pub IsQuiet : Moves → Type 0
-IsQuiet late = (k : ℕ) (v : List ℕ) → IsInput (events_of_slot k late) v → ⊥
-
--- The answer is one that the registers allow, where a few moves have settled the own block.
-pub record Ready (c : Shape) (w : World) (ms : Moves) (h k : ℕ) (m : Memory) (t : Doing) (x : Heard) : Type 0 where
-  pub pre : Moves
-  pub quiet : IsQuiet pre
-  pub tied : TiedBut c w (ms ++ pre) h
-  pub learned : (slots_after (ms ++ pre)).learned h ≡ map spelling m.learned
-  pub trying : IsTrying c w (ms ++ pre) h m t
-  pub allows : RegistersAllow h k (on t.heard k) x (machine (ms ++ pre) (length m.learned))
 
 -- The attempt has heard the answer: the machines have come to where hosts and disks stand, but for what the host does next.
 pub record Hears (c : Shape) (w w' : World) (ms : Moves) (h : ℕ) (m : Memory) (t : Doing) (heard : List Answered) : Type 0 where
@@ -98,24 +87,10 @@ pub record Hears (c : Shape) (w w' : World) (ms : Moves) (h : ℕ) (m : Memory) 
   pub inputs : (j : ℕ) (v : List ℕ) → IsInput (events_of_slot j early) v → input_of t.operation ≡ Some v
   pub carries : Carries (machine (ms ++ early) (length m.learned)) (setup_of c h m t.operation) (on heard)
 
--- an input of two lists of events is one of either
-pub input_append : (first second : List (Event (List ℕ))) (v : List ℕ) → IsInput (first ++ second) v → IsInput first v ⊎ IsInput second v
-input_append [] second v input = inr input
-input_append (e ∷ first) second v (inl puts) = inl (inl puts)
-input_append (e ∷ first) second v (inr rest) = elim (input_append first second v rest) [ inl a ↦ inl (inr a) | inr b ↦ inr b ]
+module _ (c : Shape) (w : World) (ms : Moves) (h k : ℕ) (call : Call) (answer : Answer) (left : List ℕ) (m : Memory) (t : Doing) (now : IsCall c w ms h k call answer left m t) (known : Due c w ms h k call answer left m t now) where
+  open now use {tied, step}
+  open known use {run, trying, answered, is, step_by, due_at, reached, waiting, phase_is, may, inside, image, image_then, shows}
 
--- an input of events made in a slot is one of the events
-pub input_in : (j k : ℕ) (events : List (Event (List ℕ))) (v : List ℕ) → IsInput (events_of_slot j (in_slot k events)) v → IsInput events v
-input_in j k [] v input = input
-input_in j k (e ∷ events) v input = go (j == k) (input_in j k events v) input
-  where
-    go : (b : Bool) → (IsInput (events_of_slot j (in_slot k events)) v → IsInput events v) → IsInput (cond b (e ∷ []) [] ++ events_of_slot j (in_slot k events)) v → IsInput (e ∷ events) v
-    go true rest (inl puts) = inl puts
-    go true rest (inr later) = inr (rest later)
-    go false rest later = inr (rest later)
-
-module _ (c : Shape) (w : World) (ms : Moves) (tied : Tied c w ms) (h k : ℕ) (call : Call) (answer : Answer) (left : List ℕ) (m : Memory) (t : Doing) (running : w.host h ≡ Running m) (does : m.doing ≡ Some t)
-    (next : next_of c h (w.host h) ≡ Some (k, call)) (step : Step (w.disk k) call answer (disk_step (w.disk k) (Called h k call answer left))) where
   abbrev s : Setup
   s = setup_of c h m t.operation
 
@@ -131,183 +106,6 @@ module _ (c : Shape) (w : World) (ms : Moves) (tied : Tied c w ms) (h k : ℕ) (
   abbrev new : DiskState
   new = disk_step (w.disk k) (Called h k call answer left)
 
-  -- WHAT IS DUE
-
-  run : IsRunning c w ms h m
-  run = subst (HostAt c w ms h) running (tied.hosts h)
-
-  trying : IsTrying c w ms h m t
-  trying = subst (IsDoing c w ms h m) does run.doing
-
-  due : next_call s f ≡ Some (k, call)
-  due = subst (λ (o : Option Doing). next_doing c h m o ≡ Some (k, call)) does (subst (λ (host : Host). next_of c h host ≡ Some (k, call)) running next)
-
-  pub answered : IsAnswerTo (next_call s f) x
-  answered = subst (λ (o : Option (ℕ × Call)). IsAnswerTo o x) (sym due) (refl, step_fits (w.disk k) new call answer step)
-
-  is : IsAnswer s f k (heard_as answer)
-  is = answer_is s f x answered
-
-  call_is : call ≡ call_by s k f is.kind
-  call_is =
-      let both : Some (k, call) ≡ Some (k, call_by s k f is.kind) = sym due ∙ next_is s f is.phase k is.kind is.due is.kind_is in
-      let pair : (k, call) ≡ (k, call_by s k f is.kind) = cc in
-      ap (λ (q : ℕ × Call). q.1) pair
-
-  step_by : Step (w.disk k) (call_by s k f is.kind) answer new
-  step_by = subst (λ (q : Call). Step (w.disk k) q answer new) call_is step
-
-  due_at : IsDueAt s is.phase k f
-  due_at = due_is s f is.phase k is.due
-
-  reached : IsReached s f
-  reached = history_reached s t.heard trying.follows.history
-
-  waiting : IsWaiting s is.phase (f k)
-  waiting = waiting_is s is.phase (f k) (visit s is.phase k f due_at).passes
-
-  phase_is : (q : Phase) (put : WriteCall) → is.kind ≡ Putting q put → q ≡ is.phase
-  phase_is q put same = putting is.phase (length (f k)) (record { come = waiting.part.come; short = waiting.short }) q put (subst (λ (kind : Kind). IsNext (f k) kind) same is.kind_is)
-
-  may : (put : WriteCall) → IsNext (f k) (Putting is.phase put) → MayWrite s f run.below trying.votes is.phase
-  may put there = may_write s f run.below trying.votes is.phase k put trying.input due_at.come there
-
-  full : (q : Phase) (put : WriteCall) → is.kind ≡ Putting q put → length (body_saying (says_for s q f)) ≡ BODY_LENGTH
-  full q put same =
-      subst (λ (p : Phase). length (body_saying (says_for s p f)) ≡ BODY_LENGTH) (sym (phase_is q put same))
-      (may put (subst (λ (p : Phase). IsNext (f k) (Putting p put)) (phase_is q put same) (subst (λ (kind : Kind). IsNext (f k) kind) same is.kind_is))).fills
-
-  inside : IsWithin (VoteOf slot h) (call_by s k f is.kind)
-  inside = within s k f is.kind full
-
-  image : IsImage c.slots (w.disk k)
-  image = tied.images k
-
-  image_then : IsImage c.slots new
-  image_then = stays_image c.slots (VoteOf slot h) (trying.fits, run.below) (w.disk k) image (call_by s k f is.kind) answer new inside step_by
-
-  -- THE OWN BLOCK SETTLES
-
-  ready_none : ((row : List SeenBlock) → heard_as answer ≡ answers.Told (Some row) → ⊥) → Ready c w ms h k m t (heard_as answer)
-  ready_none none =
-      let nil = sym (append-nil ms) in
-      record {
-        pre = [];
-        quiet = λ j v input. input;
-        tied = subst (λ (l : Moves). TiedBut c w l h) nil (tied_but c w ms h tied);
-        learned = subst (λ (l : Moves). (slots_after l).learned h ≡ map spelling m.learned) nil run.learned;
-        trying = subst (λ (l : Moves). IsTrying c w l h m t) nil trying;
-        allows = subst (λ (l : Moves). RegistersAllow h k (f k) (heard_as answer) (machine l slot)) nil
-            (allows_none s f k (w.disk k) new answer is.kind waiting.part.good is.kind_is is.fits step_by (machine ms slot) none (trying.knows k));
-      }
-
-  no_input_by : (j : ℕ) (e : Event (List ℕ)) (v : List ℕ) → (PutsIn e v → ⊥) → IsInput (events_of_slot j (At slot e ∷ [])) v → ⊥
-  no_input_by j e v none = go (j == slot)
-    where
-      go : (b : Bool) → IsInput (cond b (e ∷ []) [] ++ []) v → ⊥
-      go true input = elim input [ inl puts ↦ none puts | inr rest ↦ rest ]
-      go false input = input
-
-  module _ (row : List SeenBlock) (tells : heard_as answer ≡ answers.Told (Some row)) where
-    abbrev value : Value
-    value = value_of (block_in (own_place s) (w.disk k).bytes)
-
-    abbrev resting : Cell (List ℕ)
-    resting = at_rest (said value) ((machine ms slot).cell h k).stage
-
-    abbrev settling : Event (List ℕ)
-    settling = Settles h k (said value)
-
-    abbrev settled : Moves
-    settled = ms ++ At slot settling ∷ []
-
-    own_stands : Stands (w.disk k) slot h ((machine ms slot).cell h k)
-    own_stands = tied.stands slot h k trying.fits run.below
-
-    settled_here : machine settled slot ≡ after (machine ms slot) settling
-    settled_here = machine_here slot ms (settling ∷ [])
-
-    settled_there : (j : ℕ) → j ≢ slot → machine settled j ≡ machine ms j
-    settled_there j off = machine_there j slot ms (settling ∷ []) off
-
-    own_now : (machine settled slot).cell h k ≡ resting
-    own_now = ap (λ (n : Machine). n.cell h k) settled_here ∙ changed_here (machine ms slot) h k resting
-
-    others_now : LeavesOthers h k (machine ms slot) (machine settled slot)
-    others_now = subst (LeavesOthers h k (machine ms slot)) (sym settled_here) (changed_leaves (machine ms slot) h k resting (after (machine ms slot) settling) refl (λ g off. refl))
-
-    is_read : IsNext (f k) Reading
-    is_read = is_next_read s f k (w.disk k) new answer is.kind waiting.part.good is.kind_is is.fits step_by row tells run.below
-
-    rests_now : IsAtRest (own_place s) (w.disk k)
-    rests_now = (trying.knows k).next (current s f k (w.disk k) new answer is.kind waiting.part.good is.kind_is is.fits step_by row tells run.below) Reading is_read
-
-    reads_it : IsReading ((machine ms slot).cell h k) (said value)
-    reads_it = cell_reads (w.disk k) slot h ((machine ms slot).cell h k) own_stands value (own_stands.holds (w.disk k).bytes (may_leave_now (w.disk k)))
-
-    history_now : IsHistory c.disks settled
-    history_now = history_more c.disks ms (At slot settling) tied.history (subst (λ (n : Machine). IsReading (n.cell h k) (said value)) (sym (machine_is ms slot)) reads_it, tt)
-
-    confirmed_now : ((machine settled slot).cell h k).confirmed ≡ said value
-    confirmed_now = ap (λ (cell : Cell (List ℕ)). cell.confirmed) own_now
-
-    writing_now : ((machine settled slot).cell h k).writing ≡ None
-    writing_now = ap (λ (cell : Cell (List ℕ)). cell.writing) own_now
-
-    but_settled : TiedBut c w settled h
-    but_settled =
-        but_one c w w.disk ms settled slot h k (tied_but c w ms h tied) history_now tied.images
-        (λ g. ap (λ (l : ℕ → List (List ℕ)). l g) (learned_same slot ms (settling ∷ [])))
-        (other_hosts slot h k ms settled others_now settled_there)
-        (other_blocks slot h k ms settled others_now settled_there)
-        (λ j g d j_below g_below other. spares_same (place_of (VoteOf j g)) (w.disk d))
-        (λ slot_below host_below. stands_resting (w.disk k) slot h ((machine ms slot).cell h k) ((machine settled slot).cell h k) own_stands rests_now confirmed_now writing_now)
-
-    own_known : Knows (w.disk k) s f k ((machine settled slot).cell h k)
-    own_known =
-        record {
-          boot = (trying.knows k).boot;
-          next = λ now kind there.
-              (let both : Some Reading ≡ Some kind = sym is_read ∙ there in
-              let same : Reading ≡ kind = cc in
-              subst (λ (q : Kind). KnowsFor q (w.disk k) s f k ((machine settled slot).cell h k)) same rests_now);
-        }
-
-    known_now : (d : ℕ) → Knows (w.disk d) s f d ((machine settled slot).cell h d)
-    known_now d = elim (cases_eq d k) [
-      | inl same ↦ subst (λ (e : ℕ). Knows (w.disk e) s f e ((machine settled slot).cell h e)) (sym same) own_known
-      | inr off ↦ knows_spared c.slots s f d (w.disk d) (w.disk d) ((machine ms slot).cell h d) ((machine settled slot).cell h d) (tied.images d) trying.fits run.below
-          (spares_same (own_place s) (w.disk d)) (others_now.blocks d off) (trying.knows d)
-    ]
-
-    trying_now : IsTrying c w settled h m t
-    trying_now =
-        record {
-          fits = trying.fits;
-          follows = follows_same s (machine ms slot) (machine settled slot) (subst (IsSameHost h (machine ms slot)) (sym settled_here) (by_settling h h k (said value) (machine ms slot))) t.heard trying.follows;
-          knows = known_now;
-          votes = trying.votes;
-          input = trying.input;
-        }
-
-    ready_row : Ready c w ms h k m t (heard_as answer)
-    ready_row =
-        record {
-          pre = At slot settling ∷ [];
-          quiet = λ j v. no_input_by j settling v (λ puts. puts);
-          tied = but_settled;
-          learned = ap (λ (l : ℕ → List (List ℕ)). l h) (learned_same slot ms (settling ∷ [])) ∙ run.learned;
-          trying = trying_now;
-          allows = allows_row s f k (w.disk k) new answer is.kind waiting.part.good is.kind_is is.fits step_by row tells run.below (machine settled slot)
-              (λ g below off. but_settled.stands slot g k trying.fits below) confirmed_now writing_now;
-        }
-
-  pub ready : Ready c w ms h k m t (heard_as answer)
-  ready = elim (told_or_not (heard_as answer)) [
-    | inl row ↦ ready_row row.0 row.1
-    | inr none ↦ ready_none none
-  ]
-
   -- THE ATTEMPT'S EVENTS
 
   abbrev e : Filled
@@ -321,15 +119,6 @@ module _ (c : Shape) (w : World) (ms : Moves) (tied : Tied c w ms) (h k : ℕ) (
   at_disk P here there d = by_eq (λ b. P d (cond b (disk_step (w.disk d) e) (w.disk d))) k d
       (λ same. subst (λ (j : ℕ). P j (disk_step (w.disk j) e)) same here)
       (λ off. there d (λ same. off (sym same)))
-
-  row_long : length (row_of slot (w.disk k).bytes) ≡ ROW_LENGTH
-  row_long =
-      let n : (row_place slot + ROW_LENGTH) - row_place slot ≡ ROW_LENGTH = omega arith in
-      ap (λ (i : ℕ). length (take i (drop (row_place slot) (w.disk k).bytes))) n
-      ∙ length-take-le ROW_LENGTH (drop (row_place slot) (w.disk k).bytes) (let size = image.long in let below = trying.fits in omega (arith, length-drop (row_place slot) (w.disk k).bytes))
-
-  shows : (row : List SeenBlock) → heard_as answer ≡ answers.Told (Some row) → ShowsVotes row
-  shows row tells = row_shows (row_of slot (w.disk k).bytes) row row_long (row_is s f k (w.disk k) new answer is.kind waiting.part.good is.kind_is is.fits step_by row tells run.below)
 
   module _ (r : Ready c w ms h k m t (heard_as answer)) where
     abbrev ms1 : Moves
@@ -450,5 +239,9 @@ module _ (c : Shape) (w : World) (ms : Moves) (tied : Tied c w ms) (h k : ℕ) (
           }));
         }
 
-  pub hears : Hears c w (with_disks w disks) ms h m t (t.heard ++ x ∷ [])
-  hears = hears_by ready
+-- each answer is a few events of the attempt
+pub hears : (c : Shape) (w : World) (ms : Moves) (h k : ℕ) (call : Call) (answer : Answer) (left : List ℕ) (m : Memory) (t : Doing) → IsCall c w ms h k call answer left m t
+    → Hears c w (with_disks w (λ d. cond (k == d) (disk_step (w.disk d) (Called h k call answer left)) (w.disk d))) ms h m t (t.heard ++ record { disk = k; heard = heard_as answer } ∷ [])
+hears c w ms h k call answer left m t now =
+    let known = due_of c w ms h k call answer left m t now in
+    hears_by c w ms h k call answer left m t now known (ready c w ms h k call answer left m t now known)

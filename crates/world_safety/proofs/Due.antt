@@ -1,0 +1,201 @@
+-- What is known of a device call that is answered: of its host, of the attempt, and of the disk.
+use Rattle.std.specs.Prelude.{map, nat_le, ◌&&◌, take, drop, ◌-◌}
+use Rattle.std.specs.List.{All}
+use Rattle.std.proofs.Common.{ℕ, ◌+◌, ◌<◌, ◌≡◌, ◌≢◌, ◌==◌, ◌⊎◌, inl, inr, Bool, true, false, cond, Option, Some, None, List, [], ◌∷◌, ◌++◌, length, append-nil, append_assoc, refl, sym, subst, ap, ◌∙◌, arith}
+use Rattle.std.proofs.Common.{length-drop}
+use Rattle.std.proofs.lemmas.Bool.{cases_eq, eq-eqb}
+use Rattle.std.proofs.lemmas.List.{length-map, length-take-le}
+use Rattle.std.proofs.lemmas.List.Elements.{All-head, All-tail}
+use Rattle.disk.specs.Disk.{DiskState, Call, Answer, Step}
+use Rattle.disk.specs.Crash.{may_leave_now}
+use Rattle.torn_block.specs.declared.layout.TheConstants.{HOSTS, LAST_SEQUENCE, BODY_LENGTH, ROW_LENGTH}
+use Rattle.torn_block.specs.declared.write_steps.WriteCall.{WriteCall}
+use Rattle.torn_block.specs.declared.write_steps.WriteCall.TheVariants.{CloseGate}
+use Rattle.torn_block.specs.Block.{value_of}
+use Rattle.torn_block.specs.Place.{block_in}
+use Rattle.torn_block.specs.Register.{Value, IsAtRest}
+use Rattle.paxos_block.specs.Places.{VoteOf, place_of, row_of, row_place, IsImage, IsWithin}
+use Rattle.paxos_block.specs.Row.{SeenBlock}
+use Rattle.paxos_block.specs.Saying.{body_saying}
+use Rattle.paxos_block.proofs.PlaceLemmas.{stays_image}
+use Rattle.attempt.specs.Calls.{Phase, Kind, Reading, Putting, start}
+use Rattle.attempt.specs.Answers as answers
+use Rattle.attempt.specs.Answers.{Heard, Answered, Answers, on, heard_as, more, all_good, boot_of, last_row, block_in as seen_block}
+use Rattle.attempt.specs.Setup.{Setup}
+use Rattle.attempt.specs.History.{IsAnswerTo}
+use Rattle.attempt.specs.NextCall.{call_by, next_call, says_for}
+use Rattle.attempt.specs.Proposal.{ballot}
+use Rattle.attempt.specs.Chosen.{Chooses}
+use Rattle.attempt.proofs.Histories.{IsReached, history_reached, visit, behind_due}
+use Rattle.attempt.proofs.Lists.{by_eq}
+use Rattle.attempt.proofs.More.{on_more, by_disk}
+use Rattle.attempt.proofs.Replies.{IsAnswer, answer_is, next_is}
+use Rattle.attempt.proofs.Statuses.{IsDueAt, due_is}
+use Rattle.attempt.proofs.Visitors.{IsWaiting, waiting_is}
+use Rattle.lock_command.specs.Command.{spelling}
+use Rattle.slot_log.specs.Shape.{Shape}
+use Rattle.host.specs.Host.{Doing, Memory, Host, Running, input_of, setup_of, next_doing, next_of}
+use Rattle.world.specs.Entry.{Filled, Called, disk_step}
+use Rattle.world.specs.World.{World}
+use Rattle.world.proofs.Histories.{step_fits}
+use Rattle.agreement.specs.State.{Cell, put, start as beginning}
+use Rattle.agreement.specs.Event.{Event, IsReading, Allowed, at_rest, after, state_after}
+use Rattle.agreement.specs.Event.Event.{Settles, Begins}
+use Rattle.agreement.specs.Chosen.{PutsIn, IsInput, IsChosenBy}
+use Rattle.agreement.specs.Log.{IsHistory, slots_after, events_of_slot}
+use Rattle.agreement.specs.Log.Move.{At}
+use Rattle.agreement.proofs.Steps.{may_late}
+use Rattle.attempt_safety.specs.Machine.{Machine, write_in}
+use Rattle.attempt_safety.specs.Follows.{Follows, IsSameHost}
+use Rattle.attempt_safety.specs.Registers.{IsNext, RegistersAllow}
+use Rattle.attempt_safety.specs.Leads.{IsOfAttempt, LeavesOthers, Arrives, Leads}
+use Rattle.attempt_safety.specs.Slots.{in_slot}
+use Rattle.attempt_safety.proofs.Beginning.{write_begins}
+use Rattle.attempt_safety.proofs.Cells.{changed_here, changed_leaves}
+use Rattle.attempt_safety.proofs.Choosing.{chosen as chosen_by, proposed as proposed_by}
+use Rattle.attempt_safety.proofs.Following.{leads}
+use Rattle.attempt_safety.proofs.Leaving.{follows_same, by_settling}
+use Rattle.attempt_safety.proofs.Slotting.{events_append, moves_on, events_here, learned_same}
+use Rattle.attempt_safety.proofs.Stages.{putting}
+use Rattle.world_safety.specs.Blocks.{said, Stands}
+use Rattle.world_safety.specs.Goes.{Carries}
+use Rattle.world_safety.specs.Knows.{own_place, KnowsFor, Knows}
+use Rattle.world_safety.specs.Tied.{Moves, machine, IsTrying, IsDoing, IsRunning, HostAt, TiedBut, Tied}
+use Rattle.attempt.specs.Votes.{TellsVotes, ShowsVotes}
+use Rattle.attempt.proofs.Calls.{first_number}
+use Rattle.world_safety.proofs.Hosts.{tied_but}
+use Rattle.world_safety.proofs.Keeping.{Spares, spares_others, spares_same, knows_spared, knows_elsewhere}
+use Rattle.world_safety.proofs.Machines.{machine_is, machine_runs, machine_here, machine_there, history_more, input_append, input_in}
+use Rattle.world_safety.proofs.OneBlock.{with_disks, IsOther, other_blocks, other_hosts, but_one}
+use Rattle.world_safety.proofs.Owned.{After}
+use Rattle.world_safety.proofs.Settled.{told_or_not, allows_none, current, is_next_read, row_is, allows_row}
+use Rattle.world_safety.proofs.Standing.{stands_resting, cell_reads}
+use Rattle.attempt.proofs.Votes.{MayWrite, votes_more, row_shows}
+use Rattle.world_safety.proofs.Within.{within, may_write}
+
+-- A device call of a host that tries a slot is its next, and with the answer the disk makes a step.
+pub record IsCall (c : Shape) (w : World) (ms : Moves) (h k : ℕ) (call : Call) (answer : Answer) (left : List ℕ) (m : Memory) (t : Doing) : Type 0 where
+  pub tied : Tied c w ms
+  pub running : w.host h ≡ Running m
+  pub does : m.doing ≡ Some t
+  pub next : next_of c h (w.host h) ≡ Some (k, call)
+  pub step : Step (w.disk k) call answer (disk_step (w.disk k) (Called h k call answer left))
+
+module _ (c : Shape) (w : World) (ms : Moves) (h k : ℕ) (call : Call) (answer : Answer) (left : List ℕ) (m : Memory) (t : Doing) (now : IsCall c w ms h k call answer left m t) where
+  open now use {tied, running, does, next, step}
+
+  abbrev s : Setup
+  s = setup_of c h m t.operation
+
+  abbrev f : Answers
+  f = on t.heard
+
+  abbrev slot : ℕ
+  slot = length m.learned
+
+  abbrev x : Answered
+  x = record { disk = k; heard = heard_as answer }
+
+  abbrev new : DiskState
+  new = disk_step (w.disk k) (Called h k call answer left)
+
+  -- WHAT IS DUE
+
+  run : IsRunning c w ms h m
+  run = subst (HostAt c w ms h) running (tied.hosts h)
+
+  trying : IsTrying c w ms h m t
+  trying = subst (IsDoing c w ms h m) does run.doing
+
+  due : next_call s f ≡ Some (k, call)
+  due = subst (λ (o : Option Doing). next_doing c h m o ≡ Some (k, call)) does (subst (λ (host : Host). next_of c h host ≡ Some (k, call)) running next)
+
+  answered : IsAnswerTo (next_call s f) x
+  answered = subst (λ (o : Option (ℕ × Call)). IsAnswerTo o x) (sym due) (refl, step_fits (w.disk k) new call answer step)
+
+  is : IsAnswer s f k (heard_as answer)
+  is = answer_is s f x answered
+
+  call_is : call ≡ call_by s k f is.kind
+  call_is =
+      let both : Some (k, call) ≡ Some (k, call_by s k f is.kind) = sym due ∙ next_is s f is.phase k is.kind is.due is.kind_is in
+      let pair : (k, call) ≡ (k, call_by s k f is.kind) = cc in
+      ap (λ (q : ℕ × Call). q.1) pair
+
+  step_by : Step (w.disk k) (call_by s k f is.kind) answer new
+  step_by = subst (λ (q : Call). Step (w.disk k) q answer new) call_is step
+
+  due_at : IsDueAt s is.phase k f
+  due_at = due_is s f is.phase k is.due
+
+  reached : IsReached s f
+  reached = history_reached s t.heard trying.follows.history
+
+  waiting : IsWaiting s is.phase (f k)
+  waiting = waiting_is s is.phase (f k) (visit s is.phase k f due_at).passes
+
+  phase_is : (q : Phase) (put : WriteCall) → is.kind ≡ Putting q put → q ≡ is.phase
+  phase_is q put same = putting is.phase (length (f k)) (record { come = waiting.part.come; short = waiting.short }) q put (subst (λ (kind : Kind). IsNext (f k) kind) same is.kind_is)
+
+  may : (put : WriteCall) → IsNext (f k) (Putting is.phase put) → MayWrite s f run.below trying.votes is.phase
+  may put there = may_write s f run.below trying.votes is.phase k put trying.input due_at.come there
+
+  full : (q : Phase) (put : WriteCall) → is.kind ≡ Putting q put → length (body_saying (says_for s q f)) ≡ BODY_LENGTH
+  full q put same =
+      subst (λ (p : Phase). length (body_saying (says_for s p f)) ≡ BODY_LENGTH) (sym (phase_is q put same))
+      (may put (subst (λ (p : Phase). IsNext (f k) (Putting p put)) (phase_is q put same) (subst (λ (kind : Kind). IsNext (f k) kind) same is.kind_is))).fills
+
+  inside : IsWithin (VoteOf slot h) (call_by s k f is.kind)
+  inside = within s k f is.kind full
+
+  image : IsImage c.slots (w.disk k)
+  image = tied.images k
+
+  image_then : IsImage c.slots new
+  image_then = stays_image c.slots (VoteOf slot h) (trying.fits, run.below) (w.disk k) image (call_by s k f is.kind) answer new inside step_by
+
+  row_long : length (row_of slot (w.disk k).bytes) ≡ ROW_LENGTH
+  row_long =
+      let n : (row_place slot + ROW_LENGTH) - row_place slot ≡ ROW_LENGTH = omega arith in
+      ap (λ (i : ℕ). length (take i (drop (row_place slot) (w.disk k).bytes))) n
+      ∙ length-take-le ROW_LENGTH (drop (row_place slot) (w.disk k).bytes) (let size = image.long in let below = trying.fits in omega (arith, length-drop (row_place slot) (w.disk k).bytes))
+
+  shows : (row : List SeenBlock) → heard_as answer ≡ answers.Told (Some row) → ShowsVotes row
+  shows row tells = row_shows (row_of slot (w.disk k).bytes) row row_long (row_is s f k (w.disk k) new answer is.kind waiting.part.good is.kind_is is.fits step_by row tells run.below)
+
+  -- ALL OF IT
+
+  pub record Due : Type 0 where
+    pub run : IsRunning c w ms h m
+    pub trying : IsTrying c w ms h m t
+    pub answered : IsAnswerTo (next_call s f) x
+    pub is : IsAnswer s f k (heard_as answer)
+    pub step_by : Step (w.disk k) (call_by s k f is.kind) answer new
+    pub due_at : IsDueAt s is.phase k f
+    pub reached : IsReached s f
+    pub waiting : IsWaiting s is.phase (f k)
+    pub phase_is : (q : Phase) (put : WriteCall) → is.kind ≡ Putting q put → q ≡ is.phase
+    pub may : (put : WriteCall) → IsNext (f k) (Putting is.phase put) → MayWrite s f run.below trying.votes is.phase
+    pub inside : IsWithin (VoteOf slot h) (call_by s k f is.kind)
+    pub image : IsImage c.slots (w.disk k)
+    pub image_then : IsImage c.slots new
+    pub shows : (row : List SeenBlock) → heard_as answer ≡ answers.Told (Some row) → ShowsVotes row
+
+  pub due_of : Due
+  due_of =
+      record {
+        run = run;
+        trying = trying;
+        answered = answered;
+        is = is;
+        step_by = step_by;
+        due_at = due_at;
+        reached = reached;
+        waiting = waiting;
+        phase_is = phase_is;
+        may = may;
+        inside = inside;
+        image = image;
+        image_then = image_then;
+        shows = shows;
+      }
