@@ -31,15 +31,6 @@ use Rattle.world_safety.proofs.Moving.{carries_later, for_host, late_goes, late_
 module _ (c : Shape) (w : World) (ms : Moves) (tied : Tied c w ms) where
   -- A DEVICE CALL
 
-  -- who has a call to make is running, and tries a slot
-  pub busy : (h k : ℕ) (call : Call) (host : Host) → w.host h ≡ host → next_of c h host ≡ Some (k, call) → (m : Memory) × (t : Doing) × (w.host h ≡ Running m) × (m.doing ≡ Some t)
-  busy h k call Stopped is next = absurd (cc)
-  busy h k call (Running m) is next = go m.doing refl next
-    where
-      go : (o : Option Doing) → m.doing ≡ o → next_doing c h m o ≡ Some (k, call) → (m : Memory) × (t : Doing) × (w.host h ≡ Running m) × (m.doing ≡ Some t)
-      go None does due = absurd (cc)
-      go (Some t) does due = (m, t, is, does)
-
   module _ (h k : ℕ) (call : Call) (answer : Answer) (left : List ℕ) (next : next_of c h (w.host h) ≡ Some (k, call)) (step : Step (w.disk k) call answer (disk_step (w.disk k) (Called h k call answer left)))
       (m : Memory) (t : Doing) (running : w.host h ≡ Running m) (does : m.doing ≡ Some t) where
     abbrev x : Answered

@@ -34,7 +34,7 @@ use Rattle.attempt.proofs.Statuses.{IsDueAt, due_is}
 use Rattle.attempt.proofs.Visitors.{IsWaiting, waiting_is}
 use Rattle.lock_command.specs.Command.{spelling}
 use Rattle.slot_log.specs.Shape.{Shape}
-use Rattle.host.specs.Host.{Doing, Memory, Host, Running, input_of, setup_of, next_doing, next_of}
+use Rattle.host.specs.Host.{Doing, Memory, Host, Stopped, Running, input_of, setup_of, next_doing, next_of}
 use Rattle.world.specs.Entry.{Filled, Called, disk_step}
 use Rattle.world.specs.World.{World}
 use Rattle.world.proofs.Histories.{step_fits}
@@ -72,6 +72,15 @@ use Rattle.world_safety.proofs.Settled.{told_or_not, allows_none, current, is_ne
 use Rattle.world_safety.proofs.Standing.{stands_resting, cell_reads}
 use Rattle.attempt.proofs.Votes.{MayWrite, votes_more, row_shows}
 use Rattle.world_safety.proofs.Within.{within, may_write}
+
+-- who has a call to make is running, and tries a slot
+pub busy : (c : Shape) (h k : ℕ) (call : Call) (host : Host) → next_of c h host ≡ Some (k, call) → (m : Memory) × (t : Doing) × (host ≡ Running m) × (m.doing ≡ Some t)
+busy c h k call Stopped next = absurd (cc)
+busy c h k call (Running m) next = go m.doing refl next
+  where
+    go : (o : Option Doing) → m.doing ≡ o → next_doing c h m o ≡ Some (k, call) → (n : Memory) × (t : Doing) × (Running m ≡ Running n) × (n.doing ≡ Some t)
+    go None does due = absurd (cc)
+    go (Some t) does due = (m, t, refl, does)
 
 -- A device call of a host that tries a slot is its next, and with the answer the disk makes a step.
 pub record IsCall (c : Shape) (w : World) (ms : Moves) (h k : ℕ) (call : Call) (answer : Answer) (left : List ℕ) (m : Memory) (t : Doing) : Type 0 where

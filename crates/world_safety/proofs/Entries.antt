@@ -6,7 +6,8 @@ use Rattle.world.specs.World.{World, MayFollow}
 use Rattle.world_safety.specs.Goes.{Goes}
 use Rattle.world_safety.specs.Tied.{Moves, Tied}
 use Rattle.world_safety.proofs.Operating.{starts_goes, stops_goes, submits_goes, recovers_goes}
-use Rattle.world_safety.proofs.Calling.{busy, called_goes, torn_goes, tears}
+use Rattle.world_safety.proofs.Due.{busy}
+use Rattle.world_safety.proofs.Calling.{called_goes, torn_goes, tears}
 use Rattle.world_safety.proofs.Crashing.{crash_goes, lost_goes}
 
 module _ (c : Shape) (w : World) (ms : Moves) (tied : Tied c w ms) where
@@ -18,10 +19,10 @@ module _ (c : Shape) (w : World) (ms : Moves) (tied : Tied c w ms) where
   goes (Submit h command tries) may = submits_goes c w ms tied h command tries may.1 (w.host h) refl may.0
   goes (Recover h tries) may = recovers_goes c w ms tied h tries (w.host h) refl may.0
   goes (Called h k call answer left) may =
-      let who = busy c w ms tied h k call (w.host h) refl may.0 in
+      let who = busy c h k call (w.host h) may.0 in
       called_goes c w ms tied h k call answer left may.0 may.1 who.0 who.1 who.2 who.3
   goes (Torn h k call left) may =
-      let who = busy c w ms tied h k call (w.host h) refl may.0 in
+      let who = busy c h k call (w.host h) may.0 in
       torn_goes c w ms tied h k call left may.0 (tears c w ms tied h k call left may.1) who.0 who.1 who.2 who.3
   goes (Crashed k left) may = crash_goes c w ms tied k left may.2
   goes (Lost k) may = lost_goes c w ms tied k

@@ -16,7 +16,7 @@ use Rattle.world.specs.World.{IsRun}
 use Rattle.world.specs.Chosen.{SaysAt}
 use Rattle.world.proofs.Histories.{heard_then}
 use Rattle.world_safety.specs.Claims.{IsPreparedAt, IsAcceptedAt, IsFullAt, AcknowledgesByMajority, RecoversByMajority}
-use Rattle.world_safety.proofs.Saying.{full_recovers, full_acks, status_recovers, status_acks, beginning_of, AtItsBeginning, AtACall, heard_at, memory_at, hears_at, whence}
+use Rattle.world_safety.proofs.Saying.{full_recovers, full_acks, status_recovers, status_commits, beginning_of, AtItsBeginning, AtACall, heard_at, memory_at, hears_at, whence}
 
 module _ (c : Shape) (log : List Filled) (run : IsRun c log) (i h : ℕ) where
   module _ (said : HostAnswer) (call : AtACall c log i h said) where
@@ -40,7 +40,7 @@ module _ (c : Shape) (log : List Filled) (run : IsRun c log) (i h : ℕ) where
         (let call = later.0 in
         let heard = heard_at c log i h (Ack slot reply) call in
         let own = s (Ack slot reply) call in
-        let by = status_acks c call.memory (with_heard call.doing (record { disk = call.disk; heard = heard_as call.answer })) (taken own (on heard)) (status own (on heard)) slot reply later.1 in
+        let by = status_commits c call.memory (with_heard call.doing (record { disk = call.disk; heard = heard_as call.answer })) (taken own (on heard)) (status own (on heard)) slot reply later.1 in
         record {
           setup = own;
           heard = heard;

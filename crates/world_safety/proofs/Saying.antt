@@ -13,12 +13,12 @@ use Rattle.slot_log.specs.Shape.{Shape}
 use Rattle.slot_log.specs.declared.outcome.Refusal.TheVariants as refusal
 use Rattle.host.specs.declared.answer.HostAnswer.{HostAnswer}
 use Rattle.host.specs.declared.answer.HostAnswer.TheVariants.{Ack, Recovered, Refused}
-use Rattle.host.specs.Host.{Operation, Submitting, Recovering, Doing, Memory, Host, Stopped, Running, setup_of, says, begins, full_answer, goes_on, with_floor, learns, is_submitted, after_learning, takes, tries_again, by_status, with_heard, hears, is_stopped, said_of}
+use Rattle.host.specs.Host.{Operation, Submitting, Recovering, Doing, Memory, Host, Stopped, Running, setup_of, says, begins, full_answer, goes_on, with_floor, learns, is_submitted, after_learning, takes, tries_again, by_status, with_heard, goes_by, hears, is_stopped, said_of}
 use Rattle.world.specs.Entry.{Filled, Start, Stop, Submit, Recover, Called, Torn, Crashed, Lost, is_of, started, begins as begins_on, host_step}
 use Rattle.world.specs.World.{MayFollow, IsRun}
 use Rattle.world.specs.Chosen.{at, Hears, SaysAt}
 use Rattle.world.proofs.Runs.{each}
-use Rattle.world_safety.proofs.Acknowledging.{busy}
+use Rattle.world_safety.proofs.Due.{busy}
 use Rattle.world_safety.proofs.Places.{host_next}
 
 -- WHAT A STATUS MAKES A HOST SAY
@@ -44,10 +44,10 @@ full_acks Recovering learned slot reply is = absurd (cc)
 
 module _ (c : Shape) (m : Memory) (t : Doing) (b : ℕ) where
   -- an outrun attempt brings neither
-  again : (k : Memory) (tries : ℕ) (said : HostAnswer) → (tries_again k t.operation tries).said ≡ Some said → said ≡ Refused refusal.Outrun
-  again k tries said = go (nat_le tries 1)
+  pub again : (k : Memory) (said : HostAnswer) → (tries_again k t.operation t.tries).said ≡ Some said → said ≡ Refused refusal.Outrun
+  again k said = go (nat_le t.tries 1)
     where
-      go : (last : Bool) → (if last then says k (Refused refusal.Outrun) else begins k t.operation (tries - 1)).said ≡ Some said → said ≡ Refused refusal.Outrun
+      go : (last : Bool) → (if last then says k (Refused refusal.Outrun) else begins k t.operation (t.tries - 1)).said ≡ Some said → said ≡ Refused refusal.Outrun
       go true is = let same : Refused refusal.Outrun ≡ said = cc in sym same
       go false is = absurd (cc)
 
@@ -67,7 +67,7 @@ module _ (c : Shape) (m : Memory) (t : Doing) (b : ℕ) where
   status_recovers (Due p d) n is = absurd (cc)
   status_recovers (Ended (attempt.Committed value)) n is = record { ended = inr (value, refl, taken_recovers n value (decoded value) is) }
   status_recovers (Ended attempt.Empty) n is = record { ended = inl refl }
-  status_recovers (Ended (attempt.Outrun mbal)) n is = absurd (let no = again (with_floor (with_floor m b) mbal) t.tries (Recovered n) is in cc)
+  status_recovers (Ended (attempt.Outrun mbal)) n is = absurd (let no = again (with_floor (with_floor m b) mbal) (Recovered n) is in cc)
   status_recovers (Ended attempt.NoMajority) n is = absurd (cc)
   status_recovers (Ended attempt.BallotsSpent) n is = absurd (cc)
 
@@ -80,13 +80,13 @@ module _ (c : Shape) (m : Memory) (t : Doing) (b : ℕ) where
   taken_acks slot reply value None is = absurd (cc)
   taken_acks slot reply value (Some command) is = learned_acks slot reply command (is_submitted t.operation value) is
 
-  pub status_acks : (st : Status) (slot : ℕ) (reply : Reply) → (by_status c m t b st).said ≡ Some (Ack slot reply) → (value : List ℕ) × (st ≡ Ended (attempt.Committed value)) × (length m.learned ≡ slot)
-  status_acks (Due p d) slot reply is = absurd (cc)
-  status_acks (Ended (attempt.Committed value)) slot reply is = (value, refl, taken_acks slot reply value (decoded value) is)
-  status_acks (Ended attempt.Empty) slot reply is = absurd (cc)
-  status_acks (Ended (attempt.Outrun mbal)) slot reply is = absurd (let no = again (with_floor (with_floor m b) mbal) t.tries (Ack slot reply) is in cc)
-  status_acks (Ended attempt.NoMajority) slot reply is = absurd (cc)
-  status_acks (Ended attempt.BallotsSpent) slot reply is = absurd (cc)
+  pub status_commits : (st : Status) (slot : ℕ) (reply : Reply) → (by_status c m t b st).said ≡ Some (Ack slot reply) → (value : List ℕ) × (st ≡ Ended (attempt.Committed value)) × (length m.learned ≡ slot)
+  status_commits (Due p d) slot reply is = absurd (cc)
+  status_commits (Ended (attempt.Committed value)) slot reply is = (value, refl, taken_acks slot reply value (decoded value) is)
+  status_commits (Ended attempt.Empty) slot reply is = absurd (cc)
+  status_commits (Ended (attempt.Outrun mbal)) slot reply is = absurd (let no = again (with_floor (with_floor m b) mbal) (Ack slot reply) is in cc)
+  status_commits (Ended attempt.NoMajority) slot reply is = absurd (cc)
+  status_commits (Ended attempt.BallotsSpent) slot reply is = absurd (cc)
 
 -- AT AN ENTRY
 
@@ -114,6 +114,7 @@ pub record AtACall (c : Shape) (log : List Filled) (i h : ℕ) (said : HostAnswe
   pub doing : Doing
   pub running : (at c log i).host h ≡ Running memory
   pub does : memory.doing ≡ Some doing
+  pub runs_on : (at c log (i + 1)).host h ≡ Running (goes_by c memory (with_heard doing (record { disk = disk; heard = heard_as answer })) (setup_of c h memory doing.operation))
 
 module _ (c : Shape) (log : List Filled) (i h : ℕ) (said : HostAnswer) where
   -- what the attempt has heard then
@@ -124,8 +125,7 @@ module _ (c : Shape) (log : List Filled) (i h : ℕ) (said : HostAnswer) where
   status_at call = status (setup_of c h call.memory call.doing.operation) (on (heard_at call))
 
   abbrev pub memory_at : AtACall c log i h said → Memory
-  memory_at call =
-      by_status c call.memory (with_heard call.doing (record { disk = call.disk; heard = heard_as call.answer })) (taken (setup_of c h call.memory call.doing.operation) (on (heard_at call))) (status_at call)
+  memory_at call = goes_by c call.memory (with_heard call.doing (record { disk = call.disk; heard = heard_as call.answer })) (setup_of c h call.memory call.doing.operation)
 
   -- its attempt hears the answer there
   abbrev pub hears_at : (call : AtACall c log i h said) → Hears c log i (setup_of c h call.memory call.doing.operation) (heard_at call)
@@ -161,16 +161,19 @@ module _ (c : Shape) (log : List Filled) (i h : ℕ) (said : HostAnswer) where
   by_host : (e other : Filled) → slice_get log i ≡ Some e → e ≡ other → slice_get log i ≡ Some other
   by_host e other is same = is ∙ ap (λ (x : Filled). Some x) same
 
-  whence_by : (e : Filled) → slice_get log i ≡ Some e → MayFollow c (at c log i) e → is_of h e ≡ true → said_of (host_step c h ((at c log i).host h) e) ≡ Some said → Whence
-  whence_by (Start g) entry may of is = begun ((at c log i).host h) (subst (λ (j : ℕ). IsTrue (is_stopped ((at c log i).host j))) (eqb-true g h of) may.1) is
-  whence_by (Stop g) entry may of is = absurd (cc)
-  whence_by (Submit g command tries) entry may of is =
+  whence_by : (e : Filled) → slice_get log i ≡ Some e → MayFollow c (at c log i) e → is_of h e ≡ true → (at c log (i + 1)).host h ≡ host_step c h ((at c log i).host h) e → said_of (host_step c h ((at c log i).host h) e) ≡ Some said → Whence
+  whence_by (Start g) entry may of now is = begun ((at c log i).host h) (subst (λ (j : ℕ). IsTrue (is_stopped ((at c log i).host j))) (eqb-true g h of) may.1) is
+  whence_by (Stop g) entry may of now is = absurd (cc)
+  whence_by (Submit g command tries) entry may of now is =
       operated ((at c log i).host h) (Submitting command) tries (by_host (Submit g command tries) (Submit h command tries) entry (ap (λ (j : ℕ). Submit j command tries) (eqb-true g h of))) is
-  whence_by (Recover g tries) entry may of is =
+  whence_by (Recover g tries) entry may of now is =
       operated ((at c log i).host h) Recovering tries (by_host (Recover g tries) (Recover h tries) entry (ap (λ (j : ℕ). Recover j tries) (eqb-true g h of))) is
-  whence_by (Called g k call answer left) entry may of is =
+  whence_by (Called g k call answer left) entry may of now is =
       let who = busy c g k call ((at c log i).host g) may.0 in
       let own : (at c log i).host h ≡ Running who.0 = subst (λ (j : ℕ). (at c log i).host j ≡ Running who.0) (eqb-true g h of) who.2 in
+      let x : Answered = record { disk = k; heard = heard_as answer } in
+      let goes : host_step c h ((at c log i).host h) (Called g k call answer left) ≡ Running (goes_by c who.0 (with_heard who.1 x) (setup_of c h who.0 who.1.operation)) =
+      ap (λ (host : Host). host_step c h host (Called g k call answer left)) own ∙ ap (λ (o : Option Doing). Running (hears c h who.0 o x)) who.3 in
       let here : AtACall c log i h said = record {
         disk = k;
         call = call;
@@ -181,14 +184,12 @@ module _ (c : Shape) (log : List Filled) (i h : ℕ) (said : HostAnswer) where
         doing = who.1;
         running = own;
         does = who.3;
+        runs_on = now ∙ goes;
       } in
-      let x : Answered = record { disk = k; heard = heard_as answer } in
-      let goes : host_step c h ((at c log i).host h) (Called g k call answer left) ≡ Running (memory_at here) =
-      ap (λ (host : Host). host_step c h host (Called g k call answer left)) own ∙ ap (λ (o : Option Doing). Running (hears c h who.0 o x)) who.3 in
       record { is = inr (here, ap said_of (sym goes) ∙ is) }
-  whence_by (Torn g k call left) entry may of is = absurd (cc)
-  whence_by (Crashed k left) entry may of is = absurd (cc)
-  whence_by (Lost k) entry may of is = absurd (cc)
+  whence_by (Torn g k call left) entry may of now is = absurd (cc)
+  whence_by (Crashed k left) entry may of now is = absurd (cc)
+  whence_by (Lost k) entry may of now is = absurd (cc)
 
   -- each answer comes from one of the two
   pub whence : IsRun c log → SaysAt c log i h said → Whence
@@ -196,4 +197,4 @@ module _ (c : Shape) (log : List Filled) (i h : ℕ) (said : HostAnswer) where
       let number : suc i ≡ i + 1 = omega arith in
       let now : (at c log (i + 1)).host h ≡ host_step c h ((at c log i).host h) says.entry =
       subst (λ (j : ℕ). (at c log j).host h ≡ host_step c h ((at c log i).host h) says.entry) number (host_next c log i says.entry h says.is says.of_host) in
-      whence_by says.entry says.is (each c log i says.entry run says.is) says.of_host (ap said_of (sym now) ∙ says.says)
+      whence_by says.entry says.is (each c log i says.entry run says.is) says.of_host now (ap said_of (sym now) ∙ says.says)
