@@ -1,4 +1,4 @@
-use Rattle.world_safety.proofs.Ballots.{binds_greater, one_proposal, proposes_in_order}
+use Rattle.world_safety.proofs.Claims.Ballots.{binds_greater, one_proposal, proposes_in_order}
 use Rattle.world_safety.proofs.law.ballots_agree.Goals as goal
 
 pub returns-clause-greater : goal.returns-clause-greater

@@ -1,4 +1,4 @@
-use Rattle.world_safety.proofs.Majorities.{acknowledges_by_majority, recovers_by_majority}
+use Rattle.world_safety.proofs.Claims.Majorities.{acknowledges_by_majority, recovers_by_majority}
 use Rattle.world_safety.proofs.law.majorities_answer.Goals as goal
 
 pub returns-clause-acknowledged : goal.returns-clause-acknowledged

@@ -1,5 +1,5 @@
-use Rattle.world_safety.proofs.Growing.{log_grows}
-use Rattle.world_safety.proofs.Safety.{headline, headline_of_events}
+use Rattle.world_safety.proofs.Claims.Growing.{log_grows}
+use Rattle.world_safety.proofs.Claims.Safety.{headline, headline_of_events}
 use Rattle.world_safety.proofs.law.one_log_and_nothing_lost.Goals as goal
 
 pub returns-clause-headline : goal.returns-clause-headline

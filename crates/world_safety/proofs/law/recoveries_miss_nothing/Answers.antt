@@ -1,6 +1,6 @@
-use Rattle.world_safety.proofs.Begun.{all_begun}
-use Rattle.world_safety.proofs.Growing.{none_shorter}
-use Rattle.world_safety.proofs.Recovering.{empty_shows, misses_nothing}
+use Rattle.world_safety.proofs.Claims.Begun.{all_begun}
+use Rattle.world_safety.proofs.Claims.Growing.{none_shorter}
+use Rattle.world_safety.proofs.Claims.Recovering.{empty_shows, misses_nothing}
 use Rattle.world_safety.proofs.law.recoveries_miss_nothing.Goals as goal
 
 pub returns-clause-begun : goal.returns-clause-begun

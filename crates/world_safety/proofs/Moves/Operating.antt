@@ -16,9 +16,9 @@ use Rattle.world_safety.specs.Goes.{HostGoes, Goes}
 use Rattle.world_safety.specs.Next.{with_host, next_world}
 use Rattle.world_safety.specs.Tied.{Moves, IsRunning, HostAt, TiedBut, Tied}
 use Rattle.attempt.specs.Votes.{IsLong}
-use Rattle.world_safety.proofs.Hosts.{Late, goes_on_late, tied_but, tied_with, stopped, but_stops, stops_learned}
+use Rattle.world_safety.proofs.Moves.Hosts.{Late, goes_on_late, tied_but, tied_with, stopped, but_stops, stops_learned}
 use Rattle.lock_command.proofs.Lengths.{spelling_long}
-use Rattle.world_safety.proofs.Moving.{for_host, late_goes, late_tied, stopped_goes, running_at}
+use Rattle.world_safety.proofs.Moves.Moving.{for_host, late_goes, late_tied, stopped_goes, running_at}
 
 module _ (c : Shape) (w : World) (ms : Moves) (tied : Tied c w ms) where
   -- A HOST STARTS

@@ -18,8 +18,8 @@ use Rattle.world.specs.Entry.{Filled, Start, Stop, Submit, Recover, Called, Torn
 use Rattle.world.specs.World.{MayFollow, IsRun}
 use Rattle.world.specs.Chosen.{at, Hears, SaysAt}
 use Rattle.world.proofs.Runs.{each}
-use Rattle.world_safety.proofs.Due.{busy}
-use Rattle.world_safety.proofs.Places.{host_next}
+use Rattle.world_safety.proofs.Moves.Due.{busy}
+use Rattle.world_safety.proofs.Runs.Places.{host_next}
 
 -- WHAT A STATUS MAKES A HOST SAY
 

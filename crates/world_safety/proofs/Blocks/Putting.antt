@@ -39,10 +39,10 @@ use Rattle.attempt_safety.specs.Leads.{IsSameBlock, IsBegun, IsConfirmed, OwnBlo
 use Rattle.world_safety.specs.Blocks.{said, Stands}
 use Rattle.world_safety.specs.Knows.{own_place, CanWrite, IsWriting, Writes, KnowsFor, IsCurrent, Knows}
 use Rattle.attempt.proofs.Calls.{Then, next_kind, has_answered}
-use Rattle.world_safety.proofs.Standing.{stands_by, stands_same}
+use Rattle.world_safety.proofs.Blocks.Standing.{stands_by, stands_same}
 use Rattle.attempt.proofs.Votes.{says_same}
-use Rattle.world_safety.proofs.Owned.{After, IsOwnCall, then_is, boot_then, knows_none, says_then, write_then, attached, synced, read}
-use Rattle.world_safety.proofs.Owning.{boot_kept, booted_is, boot_at_most, row_told, done_is, under_is, stands_more, placed, new_says, due_stands, failed_stands, can_begin, begins_due, old_is}
+use Rattle.world_safety.proofs.Blocks.Owned.{After, IsOwnCall, then_is, boot_then, knows_none, says_then, write_then, attached, synced, read}
+use Rattle.world_safety.proofs.Blocks.Owning.{boot_kept, booted_is, boot_at_most, row_told, done_is, under_is, stands_more, placed, new_says, due_stands, failed_stands, can_begin, begins_due, old_is}
 
 module _ (slots : ℕ) (s : Setup) (p : Phase) (d : ℕ) (f : Answers) (disk new : DiskState) (answer : Answer) (old cell : Cell (List ℕ)) (own : IsOwnCall slots s p d f disk new old) where
   open own use {image, image_then, slot_below, host_below, good, stands, knows}

@@ -19,12 +19,12 @@ use Rattle.world.proofs.Safe.{one_log, one_begins_other}
 use Rattle.world_safety.specs.Acks.{AcksAt}
 use Rattle.world_safety.specs.Log.{IsLogBefore}
 use Rattle.world_safety.specs.Tracks.{IsChosenBefore, AreChosen, IsTrue, IsTrueOf}
-use Rattle.world_safety.proofs.Acknowledging.{acks_at}
-use Rattle.world_safety.proofs.Commands.{IsSpelling, AreSpelled, commands_of, one_command, stands_where, begins_by}
-use Rattle.world_safety.proofs.Knowing.{all_true}
-use Rattle.world_safety.proofs.OneLog.{get_last, log_before, log_is, log_one}
-use Rattle.world_safety.proofs.Recovering.{misses_nothing}
-use Rattle.world_safety.proofs.Tracks.{submitted_before}
+use Rattle.world_safety.proofs.Claims.Acknowledging.{acks_at}
+use Rattle.world_safety.proofs.Runs.Commands.{IsSpelling, AreSpelled, commands_of, one_command, stands_where, begins_by}
+use Rattle.world_safety.proofs.Runs.Knowing.{all_true}
+use Rattle.world_safety.proofs.Runs.OneLog.{get_last, log_before, log_is, log_one}
+use Rattle.world_safety.proofs.Claims.Recovering.{misses_nothing}
+use Rattle.world_safety.proofs.Runs.Tracks.{submitted_before}
 
 module _ (c : Shape) (log : List Filled) (run : IsRun c log) where
   -- THE COMMANDS OF THE LOG

@@ -28,11 +28,11 @@ use Rattle.world_safety.specs.Goes.{Goes}
 use Rattle.world_safety.specs.Knows.{Knows}
 use Rattle.world_safety.specs.Next.{next_world}
 use Rattle.world_safety.specs.Tied.{Moves, machine, Tied}
-use Rattle.world_safety.proofs.Hosts.{SameHosts, KeepsKnown, host_kept, same_host, host_by}
-use Rattle.world_safety.proofs.Keeping.{Spares, spares_same, spares_lost, knows_spared, knows_crashed}
-use Rattle.world_safety.proofs.Machines.{machine_is, machine_crash, history_more, learned_more}
-use Rattle.world_safety.proofs.OneBlock.{with_disks}
-use Rattle.world_safety.proofs.Standing.{cell_reads, stands_same, stands_crashed, stands_lost}
+use Rattle.world_safety.proofs.Moves.Hosts.{SameHosts, KeepsKnown, host_kept, same_host, host_by}
+use Rattle.world_safety.proofs.Blocks.Keeping.{Spares, spares_same, spares_lost, knows_spared, knows_crashed}
+use Rattle.world_safety.proofs.Moves.Machines.{machine_is, machine_crash, history_more, learned_more}
+use Rattle.world_safety.proofs.Moves.OneBlock.{with_disks}
+use Rattle.world_safety.proofs.Blocks.Standing.{cell_reads, stands_same, stands_crashed, stands_lost}
 
 module _ (c : Shape) (w : World) (ms : Moves) (tied : Tied c w ms) where
   -- A DISK CRASHES

@@ -14,10 +14,10 @@ use Rattle.world.proofs.Safe.{its_log}
 use Rattle.agreement.proofs.Slots.{value_below}
 use Rattle.world_safety.specs.Claims.{LogGrows, NoneShorter}
 use Rattle.world_safety.specs.Tracks.{IsChosenBefore}
-use Rattle.world_safety.proofs.Commands.{begins_by}
-use Rattle.world_safety.proofs.Knowing.{all_true}
-use Rattle.world_safety.proofs.Recovering.{misses_nothing}
-use Rattle.world_safety.proofs.Safety.{commands, is_safe, as_many, learned_true}
+use Rattle.world_safety.proofs.Runs.Commands.{begins_by}
+use Rattle.world_safety.proofs.Runs.Knowing.{all_true}
+use Rattle.world_safety.proofs.Claims.Recovering.{misses_nothing}
+use Rattle.world_safety.proofs.Claims.Safety.{commands, is_safe, as_many, learned_true}
 
 -- an item of a beginning is one of the whole
 get_taken : {A : Type 0} (l : List A) (i k : ℕ) (x : A) → slice_get (take i l) k ≡ Some x → (k < i) × (slice_get l k ≡ Some x)

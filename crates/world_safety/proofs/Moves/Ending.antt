@@ -22,7 +22,7 @@ use Rattle.attempt_safety.specs.Follows.{Agrees, Follows}
 use Rattle.world_safety.specs.Knows.{Knows}
 use Rattle.world_safety.specs.Tied.{Moves, machine, IsTrying, IsRunning, TiedBut}
 use Rattle.attempt.specs.Votes.{IsLong, TellsVotes}
-use Rattle.world_safety.proofs.Hosts.{Late, says_late, begins_late, goes_on_late, taught, but_learns, learned_then, learns_late}
+use Rattle.world_safety.proofs.Moves.Hosts.{Late, says_late, begins_late, goes_on_late, taught, but_learns, learned_then, learns_late}
 
 module _ (c : Shape) (w : World) (ms : Moves) (h : ℕ) (m : Memory) (t : Doing) (heard : List Answered) (tied : TiedBut c w ms h) (below : h < HOSTS) (fits : length m.learned < c.slots) (input : IsLong (input_of t.operation))
     (learned : (slots_after ms).learned h ≡ map spelling m.learned) (follows : Follows (setup_of c h m t.operation) heard (machine ms (length m.learned)))

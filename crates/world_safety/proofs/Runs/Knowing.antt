@@ -21,7 +21,7 @@ use Rattle.world.specs.Chosen.{at, Hears}
 use Rattle.world.proofs.Histories.{committed}
 use Rattle.agreement.proofs.Slots.{pushed}
 use Rattle.world_safety.specs.Tracks.{IsChosenBefore, AreChosen, IsSubmittedBy, IsBegun, IsTrue, IsTrueOf}
-use Rattle.world_safety.proofs.Places.{by_place}
+use Rattle.world_safety.proofs.Runs.Places.{by_place}
 
 -- a value that spells a command reads as it
 pub reads_back : (value : List ℕ) (command : Command) → decoded value ≡ Some command → ReadsBack command

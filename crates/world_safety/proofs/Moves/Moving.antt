@@ -18,9 +18,9 @@ use Rattle.agreement.proofs.Runs.{places}
 use Rattle.world_safety.specs.Goes.{Has, IsTryingAt, HostGoes, Carries}
 use Rattle.world_safety.specs.Next.{with_host}
 use Rattle.world_safety.specs.Tied.{Moves, machine, IsRunning, HostAt, Tied}
-use Rattle.world_safety.proofs.Hosts.{Late, tied_with}
+use Rattle.world_safety.proofs.Moves.Hosts.{Late, tied_with}
 use Rattle.attempt_safety.proofs.Slotting.{events_append}
-use Rattle.world_safety.proofs.Machines.{machine_runs}
+use Rattle.world_safety.proofs.Moves.Machines.{machine_runs}
 
 -- WHAT IS CHOSEN STAYS SO
 

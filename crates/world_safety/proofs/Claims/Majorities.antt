@@ -16,7 +16,7 @@ use Rattle.world.specs.World.{IsRun}
 use Rattle.world.specs.Chosen.{SaysAt}
 use Rattle.world.proofs.Histories.{heard_then}
 use Rattle.world_safety.specs.Claims.{IsPreparedAt, IsAcceptedAt, IsFullAt, AcknowledgesByMajority, RecoversByMajority}
-use Rattle.world_safety.proofs.Saying.{full_recovers, full_acks, status_recovers, status_commits, beginning_of, AtItsBeginning, AtACall, heard_at, memory_at, hears_at, whence}
+use Rattle.world_safety.proofs.Runs.Saying.{full_recovers, full_acks, status_recovers, status_commits, beginning_of, AtItsBeginning, AtACall, heard_at, memory_at, hears_at, whence}
 
 module _ (c : Shape) (log : List Filled) (run : IsRun c log) (i h : ℕ) where
   module _ (said : HostAnswer) (call : AtACall c log i h said) where

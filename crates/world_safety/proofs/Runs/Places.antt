@@ -7,7 +7,7 @@ use Rattle.world.specs.World.{World, world, MayFollow, IsRun}
 use Rattle.world.specs.Chosen.{at}
 use Rattle.world.proofs.Runs.{each}
 use Rattle.world_safety.specs.Next.{next_world}
-use Rattle.world_safety.proofs.Worlds.{world_next}
+use Rattle.world_safety.proofs.Runs.Worlds.{world_next}
 
 take_next : {A : Type 0} (l : List A) (i : ℕ) (x : A) → slice_get l i ≡ Some x → take (suc i) l ≡ take i l ++ x ∷ []
 take_next [] i x is = absurd (cc)

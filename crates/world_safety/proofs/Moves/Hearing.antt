@@ -63,18 +63,18 @@ use Rattle.world_safety.specs.Knows.{own_place, KnowsFor, Knows}
 use Rattle.world_safety.specs.Tied.{Moves, machine, IsTrying, IsDoing, IsRunning, HostAt, TiedBut, Tied}
 use Rattle.attempt.specs.Votes.{TellsVotes, ShowsVotes}
 use Rattle.attempt.proofs.Calls.{first_number}
-use Rattle.world_safety.proofs.Due.{IsCall, Due, due_of}
-use Rattle.world_safety.proofs.Settling.{IsQuiet, Ready, ready}
-use Rattle.world_safety.proofs.Hosts.{tied_but}
-use Rattle.world_safety.proofs.Keeping.{Spares, spares_others, spares_same, knows_spared, knows_elsewhere}
-use Rattle.world_safety.proofs.Machines.{machine_is, machine_runs, machine_here, machine_there, history_more, input_append, input_in}
-use Rattle.world_safety.proofs.OneBlock.{with_disks, IsOther, other_blocks, other_hosts, but_one}
-use Rattle.world_safety.proofs.Owned.{After}
-use Rattle.world_safety.proofs.Putting.{own_after}
-use Rattle.world_safety.proofs.Settled.{told_or_not, allows_none, current, is_next_read, row_is, allows_row}
-use Rattle.world_safety.proofs.Standing.{stands_resting, cell_reads}
+use Rattle.world_safety.proofs.Moves.Due.{IsCall, Due, due_of}
+use Rattle.world_safety.proofs.Moves.Settling.{IsQuiet, Ready, ready}
+use Rattle.world_safety.proofs.Moves.Hosts.{tied_but}
+use Rattle.world_safety.proofs.Blocks.Keeping.{Spares, spares_others, spares_same, knows_spared, knows_elsewhere}
+use Rattle.world_safety.proofs.Moves.Machines.{machine_is, machine_runs, machine_here, machine_there, history_more, input_append, input_in}
+use Rattle.world_safety.proofs.Moves.OneBlock.{with_disks, IsOther, other_blocks, other_hosts, but_one}
+use Rattle.world_safety.proofs.Blocks.Owned.{After}
+use Rattle.world_safety.proofs.Blocks.Putting.{own_after}
+use Rattle.world_safety.proofs.Blocks.Settled.{told_or_not, allows_none, current, is_next_read, row_is, allows_row}
+use Rattle.world_safety.proofs.Blocks.Standing.{stands_resting, cell_reads}
 use Rattle.attempt.proofs.Votes.{MayWrite, votes_more, row_shows}
-use Rattle.world_safety.proofs.Within.{within, may_write}
+use Rattle.world_safety.proofs.Blocks.Within.{within, may_write}
 
 -- The attempt has heard the answer: the machines have come to where hosts and disks stand, but for what the host does next.
 pub record Hears (c : Shape) (w w' : World) (ms : Moves) (h : ℕ) (m : Memory) (t : Doing) (heard : List Answered) : Type 0 where

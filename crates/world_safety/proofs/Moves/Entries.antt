@@ -5,10 +5,10 @@ use Rattle.world.specs.Entry.{Filled, Start, Stop, Submit, Recover, Called, Torn
 use Rattle.world.specs.World.{World, MayFollow}
 use Rattle.world_safety.specs.Goes.{Goes}
 use Rattle.world_safety.specs.Tied.{Moves, Tied}
-use Rattle.world_safety.proofs.Operating.{starts_goes, stops_goes, submits_goes, recovers_goes}
-use Rattle.world_safety.proofs.Due.{busy}
-use Rattle.world_safety.proofs.Calling.{called_goes, torn_goes, tears}
-use Rattle.world_safety.proofs.Crashing.{crash_goes, lost_goes}
+use Rattle.world_safety.proofs.Moves.Operating.{starts_goes, stops_goes, submits_goes, recovers_goes}
+use Rattle.world_safety.proofs.Moves.Due.{busy}
+use Rattle.world_safety.proofs.Moves.Calling.{called_goes, torn_goes, tears}
+use Rattle.world_safety.proofs.Moves.Crashing.{crash_goes, lost_goes}
 
 module _ (c : Shape) (w : World) (ms : Moves) (tied : Tied c w ms) where
   -- any of them

@@ -33,9 +33,9 @@ use Rattle.world_safety.specs.Knows.{Knows, KnowsFor}
 use Rattle.world_safety.specs.Next.{with_host}
 use Rattle.world_safety.specs.Tied.{Moves, machine, IsTrying, IsDoing, IsRunning, HostAt, TiedBut, Tied}
 use Rattle.attempt.specs.Votes.{IsLong}
-use Rattle.world_safety.proofs.Keeping.{spares_same, knows_spared}
-use Rattle.world_safety.proofs.Machines.{machine_is, machine_here, machine_there, machine_learn, machine_restart, history_more, learned_more}
-use Rattle.world_safety.proofs.Standing.{stands_same}
+use Rattle.world_safety.proofs.Blocks.Keeping.{spares_same, knows_spared}
+use Rattle.world_safety.proofs.Moves.Machines.{machine_is, machine_here, machine_there, machine_learn, machine_restart, history_more, learned_more}
+use Rattle.world_safety.proofs.Blocks.Standing.{stands_same}
 use Rattle.attempt.proofs.Votes.{votes_none}
 
 -- A HOST STAYS WHERE IT IS

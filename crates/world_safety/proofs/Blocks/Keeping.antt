@@ -25,7 +25,7 @@ use Rattle.attempt_safety.specs.Registers.{IsNext}
 use Rattle.attempt_safety.specs.Leads.{IsSameBlock}
 use Rattle.world_safety.specs.Knows.{own_place, IsWriting, Writes, KnowsFor, Knows}
 use Rattle.attempt.proofs.Calls.{later_number}
-use Rattle.world_safety.proofs.Owning.{placed, boot_kept}
+use Rattle.world_safety.proofs.Blocks.Owning.{placed, boot_kept}
 use Rattle.attempt.proofs.Votes.{says_same}
 
 -- BY THE CALL THAT IS NEXT

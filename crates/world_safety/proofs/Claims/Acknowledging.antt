@@ -22,8 +22,8 @@ use Rattle.world.specs.World.{MayFollow, IsRun}
 use Rattle.world.specs.Chosen.{at, SaysAt}
 use Rattle.world.proofs.Runs.{each}
 use Rattle.world_safety.specs.Acks.{Acks, AcksAt}
-use Rattle.world_safety.proofs.Knowing.{reads_back}
-use Rattle.world_safety.proofs.Saying.{went_on, full_acks, again, AtACall, heard_at, memory_at, whence}
+use Rattle.world_safety.proofs.Runs.Knowing.{reads_back}
+use Rattle.world_safety.proofs.Runs.Saying.{went_on, full_acks, again, AtACall, heard_at, memory_at, whence}
 
 -- WHAT A HOST SAYS
 

@@ -23,9 +23,9 @@ use Rattle.attempt_safety.specs.Machine.{Machine, block_said, blocks_said}
 use Rattle.attempt_safety.specs.Registers.{IsNext, RegistersAllow}
 use Rattle.world_safety.specs.Blocks.{said, Stands}
 use Rattle.world_safety.specs.Knows.{own_place, IsCurrent, Knows}
-use Rattle.world_safety.proofs.Owning.{row_told, under}
-use Rattle.world_safety.proofs.Standing.{cell_reads}
-use Rattle.world_safety.proofs.Within.{reading_kind}
+use Rattle.world_safety.proofs.Blocks.Owning.{row_told, under}
+use Rattle.world_safety.proofs.Blocks.Standing.{cell_reads}
+use Rattle.world_safety.proofs.Blocks.Within.{reading_kind}
 
 -- a row or none is told
 pub told_or_not : (x : Heard) → ((row : List SeenBlock) × (x ≡ answers.Told (Some row))) ⊎ ((row : List SeenBlock) → x ≡ answers.Told (Some row) → ⊥)

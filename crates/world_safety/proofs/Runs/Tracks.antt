@@ -24,13 +24,13 @@ use Rattle.agreement.proofs.Runs.{holds_reached}
 use Rattle.world_safety.specs.Goes.{IsInputAt, Carries, Goes}
 use Rattle.world_safety.specs.Tied.{Moves, machine, Tied}
 use Rattle.world_safety.specs.Tracks.{IsTrue, IsTrueOf}
-use Rattle.world_safety.proofs.Entries.{goes}
-use Rattle.world_safety.proofs.Moving.{proposed_by_later, chosen_by_later, chosen_later}
-use Rattle.world_safety.proofs.Knowing.{all_true}
+use Rattle.world_safety.proofs.Moves.Entries.{goes}
+use Rattle.world_safety.proofs.Moves.Moving.{proposed_by_later, chosen_by_later, chosen_later}
+use Rattle.world_safety.proofs.Runs.Knowing.{all_true}
 use Rattle.attempt_safety.proofs.Slotting.{events_append}
-use Rattle.world_safety.proofs.Machines.{machine_runs, input_append}
-use Rattle.world_safety.proofs.Places.{at_next, at_end}
-use Rattle.world_safety.proofs.Standing.{stands_fresh}
+use Rattle.world_safety.proofs.Moves.Machines.{machine_runs, input_append}
+use Rattle.world_safety.proofs.Runs.Places.{at_next, at_end}
+use Rattle.world_safety.proofs.Blocks.Standing.{stands_fresh}
 
 -- at first
 tied_first : (c : Shape) → Tied c (at c [] zero) []

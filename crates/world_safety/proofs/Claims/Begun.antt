@@ -20,8 +20,8 @@ use Rattle.world.specs.Entry.{Filled, Start, Stop, Submit, Recover, Called, Torn
 use Rattle.world.specs.World.{MayFollow, IsRun}
 use Rattle.world.specs.Chosen.{at, SaysAt, IsCallOf, IsRecovery}
 use Rattle.world_safety.specs.Claims.{AllBegun}
-use Rattle.world_safety.proofs.Places.{by_place}
-use Rattle.world_safety.proofs.Saying.{full_recovers, status_recovers, beginning_of, AtItsBeginning, AtACall, memory_at, heard_at, status_at, Whence, whence}
+use Rattle.world_safety.proofs.Runs.Places.{by_place}
+use Rattle.world_safety.proofs.Runs.Saying.{full_recovers, status_recovers, beginning_of, AtItsBeginning, AtACall, memory_at, heard_at, status_at, Whence, whence}
 
 -- AN OPERATION STAYS WHAT IT IS
 

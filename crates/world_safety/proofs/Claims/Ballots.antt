@@ -20,9 +20,9 @@ use Rattle.agreement.proofs.Slots.{value_below}
 use Rattle.world_safety.specs.Claims.{IsProposedAt, BindsGreater, OneProposal, ProposesInOrder}
 use Rattle.world_safety.specs.Tied.{machine, IsRunning, HostAt}
 use Rattle.world_safety.specs.Tracks.{IsChosenBefore, IsTrue, IsTrueOf}
-use Rattle.world_safety.proofs.Knowing.{all_true}
-use Rattle.world_safety.proofs.Machines.{machine_runs}
-use Rattle.world_safety.proofs.Tracks.{moves_at, tied_at, carries_then, proposed_by, chosen_by_then, stays_by}
+use Rattle.world_safety.proofs.Runs.Knowing.{all_true}
+use Rattle.world_safety.proofs.Moves.Machines.{machine_runs}
+use Rattle.world_safety.proofs.Runs.Tracks.{moves_at, tied_at, carries_then, proposed_by, chosen_by_then, stays_by}
 
 module _ (c : Shape) (log : List Filled) (run : IsRun c log) where
   -- the machine of a slot at a place is sound

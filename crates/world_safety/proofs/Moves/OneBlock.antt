@@ -14,9 +14,9 @@ use Rattle.attempt_safety.proofs.Cells.{block_same, block_by}
 use Rattle.attempt_safety.proofs.Leaving.{by_others}
 use Rattle.world_safety.specs.Blocks.{Stands}
 use Rattle.world_safety.specs.Tied.{Moves, machine, TiedBut}
-use Rattle.world_safety.proofs.Hosts.{SameHosts, host_kept, same_host, host_by, blocks_by}
-use Rattle.world_safety.proofs.Keeping.{Spares, knows_spared}
-use Rattle.world_safety.proofs.Standing.{stands_by, stands_same}
+use Rattle.world_safety.proofs.Moves.Hosts.{SameHosts, host_kept, same_host, host_by, blocks_by}
+use Rattle.world_safety.proofs.Blocks.Keeping.{Spares, knows_spared}
+use Rattle.world_safety.proofs.Blocks.Standing.{stands_by, stands_same}
 
 -- the disks have changed, and no host
 abbrev pub with_disks : World → (ℕ → DiskState) → World

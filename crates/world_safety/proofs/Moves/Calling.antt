@@ -19,14 +19,14 @@ use Rattle.agreement.specs.Log.Move.{Restart}
 use Rattle.world_safety.specs.Goes.{IsTryingAt, IsInputAt, HostGoes, Carries, Goes}
 use Rattle.world_safety.specs.Next.{next_world}
 use Rattle.world_safety.specs.Tied.{Moves, machine, IsTrying, IsDoing, IsRunning, Tied}
-use Rattle.world_safety.proofs.Due.{IsCall}
-use Rattle.world_safety.proofs.Hearing.{Hears, hears}
-use Rattle.world_safety.proofs.Ending.{answered_late}
-use Rattle.world_safety.proofs.Hosts.{Late, tied_with, but_stops, stops_learned}
+use Rattle.world_safety.proofs.Moves.Due.{IsCall}
+use Rattle.world_safety.proofs.Moves.Hearing.{Hears, hears}
+use Rattle.world_safety.proofs.Moves.Ending.{answered_late}
+use Rattle.world_safety.proofs.Moves.Hosts.{Late, tied_with, but_stops, stops_learned}
 use Rattle.attempt_safety.proofs.Slotting.{events_append}
-use Rattle.world_safety.proofs.Machines.{input_append}
-use Rattle.world_safety.proofs.OneBlock.{with_disks}
-use Rattle.world_safety.proofs.Moving.{carries_later, for_host, late_goes, late_tied, stopped_goes, running_at}
+use Rattle.world_safety.proofs.Moves.Machines.{input_append}
+use Rattle.world_safety.proofs.Moves.OneBlock.{with_disks}
+use Rattle.world_safety.proofs.Moves.Moving.{carries_later, for_host, late_goes, late_tied, stopped_goes, running_at}
 
 module _ (c : Shape) (w : World) (ms : Moves) (tied : Tied c w ms) where
   -- A DEVICE CALL

@@ -1,0 +1,8 @@
+-- What a block on a disk stands for, call by call: bytes and registers.
+pub mod Standing
+pub mod Keeping
+pub mod Within
+pub mod Owning
+pub mod Owned
+pub mod Putting
+pub mod Settled

@@ -1,0 +1,13 @@
+-- Each entry is a few moves of agreement's machines, behind which all stands as before.
+pub mod Machines
+pub mod Hosts
+pub mod OneBlock
+pub mod Due
+pub mod Settling
+pub mod Hearing
+pub mod Ending
+pub mod Moving
+pub mod Operating
+pub mod Calling
+pub mod Crashing
+pub mod Entries
