@@ -3,6 +3,7 @@ pub mod Answering
 pub mod Beginning
 pub mod Cells
 pub mod Choosing
+pub mod Counting
 pub mod Following
 pub mod Leaving
 pub mod Readings

@@ -1,28 +1,26 @@
 -- What follows an answer: the attempt goes on, comes to its next phase, or ends; and so does the machine.
 use Rattle.std.specs.List.{All}
-use Rattle.std.proofs.Common.{ℕ, zero, suc, ◌+◌, ◌*◌, ◌<◌, ◌≤◌, ◌≡◌, ◌≢◌, inl, inr, Bool, true, false, cond, Option, Some, None, List, [], ◌∷◌, length, refl, sym, ap, ◌∙◌, arith}
-use Rattle.std.proofs.lemmas.Bool.{cases_lt, cases_Bool, both_ways, ltb-true, eq-eqb}
+use Rattle.std.proofs.Common.{ℕ, ◌<◌, ◌≤◌, ◌≡◌, ◌≢◌, inl, inr, true, Option, Some, None, List, [], ◌∷◌, length, refl, sym, ap, ◌∙◌, arith}
+use Rattle.std.proofs.lemmas.Bool.{cases_lt, cases_Bool, both_ways, eq-eqb}
 use Rattle.std.proofs.lemmas.List.Elements.{All-nil, All-cons}
 use Rattle.torn_block.specs.declared.layout.TheConstants.{HOSTS}
 use Rattle.paxos_block.proofs.VoteLemmas.{above, owned}
 use Rattle.attempt.specs.Calls.{Phase, Opening, One, Two, start, goal}
 use Rattle.attempt.specs.Answers.{Answers, all_good, row_in}
 use Rattle.attempt.specs.Setup.{Setup}
-use Rattle.attempt.specs.Numbers.{count as passing}
 use Rattle.attempt.specs.Visits.{takes_part, visited, is_left, are_enough}
 use Rattle.attempt.specs.Proposal.{highest, ballot, own, best, or_else, proposal}
 use Rattle.attempt.specs.Standing.{IsIn, HasBallot}
 use Rattle.attempt.specs.Status.{Status, Due, Ended, Committed, Empty, Outrun, NoMajority, BallotsSpent}
 use Rattle.attempt.specs.Chosen.{accepts_in, accepts, Chooses}
 use Rattle.attempt.specs.Prepared.{Proposes}
-use Rattle.attempt.proofs.Firsts.{count_below}
 use Rattle.attempt.proofs.Lists.{row_none}
 use Rattle.attempt.proofs.Rows.{best_none}
 use Rattle.attempt.proofs.Visitors.{IsPart, part_is, part_if, part_before, left_is, left_over}
 use Rattle.attempt.proofs.Statuses.{IsDueAt, IsOver, HasNone, HasChosen, Tells, enough_before, enough_part}
 use Rattle.attempt.proofs.Preparing.{in_phase_two, one_is_over, proposes_or_not}
 use Rattle.attempt.proofs.OneDisk.{IsDisk}
-use Rattle.agreement.specs.Majority.{count, IsMajority}
+use Rattle.agreement.specs.Majority.{IsMajority}
 use Rattle.agreement.specs.State.{Cell, Mind, put, seen, read_one, read_two, first_asking}
 use Rattle.agreement.specs.State.Mind.{One as OneMind, Two as TwoMind}
 use Rattle.agreement.specs.Event.{Event, is_at, MayPropose, AllAllowed, after, run}
@@ -32,42 +30,7 @@ use Rattle.agreement.proofs.Puts.{put_same, put_other, all_put}
 use Rattle.attempt_safety.specs.Machine.{Machine, stage_at, top, opened, asking, mind_in}
 use Rattle.attempt_safety.specs.Follows.{StandsIn, Agrees}
 use Rattle.attempt_safety.specs.Leads.{IsOfAttempt}
-
--- COUNTING
-
--- the attempt's way to count is the machine's
-count_is : (n : ℕ) (passes : ℕ → Bool) → passing n passes ≡ count n passes
-count_is zero passes = refl
-count_is (suc n) passes = rw (count_is n passes) refl
-
--- where as many pass, there is a majority of them
-majority_more : (s : Setup) (g h : ℕ → Bool) → ((d : ℕ) → d < s.disks → g d ≡ true → h d ≡ true) → are_enough s g ≡ true → IsMajority s.disks h
-majority_more s g h more enough =
-    let most : s.disks < 2 * passing s.disks g = ltb-true s.disks (2 * passing s.disks g) enough in
-    let less = count_below s.disks g h more in
-    let same = count_is s.disks h in
-    omega arith
-
--- one of the first n passes
-pub record IsOne (n : ℕ) (g : ℕ → Bool) : Type 0 where
-  pub disk : ℕ
-  pub below : disk < n
-  pub passes : g disk ≡ true
-
--- there is one where the count is positive
-one_of : (n : ℕ) (g : ℕ → Bool) → 0 < passing n g → IsOne n g
-one_of zero g some = absurd (omega arith)
-one_of (suc n) g some = go (g n) refl some (one_of n g)
-  where
-    go : (t : Bool) → g n ≡ t → 0 < passing n g + cond t 1 0 → (0 < passing n g → IsOne n g) → IsOne (suc n) g
-    go true is some before = record { disk = n; below = omega arith; passes = is }
-    go false is some before = (let one = before (omega arith) in record { disk = one.disk; below = omega (arith, one.below); passes = one.passes })
-
--- of enough disks there is one
-enough_one : (s : Setup) (passes : ℕ → Bool) → are_enough s passes ≡ true → IsOne s.disks passes
-enough_one s passes enough =
-    let most : s.disks < 2 * passing s.disks passes = ltb-true s.disks (2 * passing s.disks passes) enough in
-    one_of s.disks passes (omega arith)
+use Rattle.attempt_safety.proofs.Counting.{majority_more, enough_one}
 
 -- THE TURN
 

@@ -4,7 +4,7 @@ use Rattle.std.proofs.Common.{refl, sym, ◌∙◌, ap, subst, arith, inl, inr}
 use Rattle.std.proofs.lemmas.List.{drop-drop, take-take, drop-take}
 use Rattle.std.proofs.lemmas.Bool.{cases_order}
 use Rattle.disk.specs.Disk.{DiskState, Call, Attach, Read, Write, Sync, Answer, Step}
-use Rattle.disk.specs.Crash.{MayLeave, may_leave_now, may_leave_synced, may_leave_written}
+use Rattle.disk.specs.Crash.{may_leave_now, may_leave_synced, may_leave_written}
 use Rattle.disk.specs.Steps.{WritesOn, shape_keeps, step_keeps}
 use Rattle.torn_block.specs.declared.layout.TheConstants.{BLOCK_LENGTH, HOSTS, ROW_LENGTH}
 use Rattle.torn_block.specs.declared.write_steps.WriteCall.{WriteCall}
