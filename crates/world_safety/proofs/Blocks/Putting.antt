@@ -1,48 +1,34 @@
 -- A call of an attempt's write is answered: what its own block stands for then, and what it knows of it; and so of any call.
-use Rattle.std.proofs.Common.{ℕ, ◌<◌, ◌≤◌, ◌≡◌, ◌≢◌, inl, true, false, true≢false, Bool, not, Option, Some, None, List, length, refl, sym, subst, ap, ap₂, ◌∙◌, arith}
-use Rattle.std.proofs.lemmas.Bool.{and_parts}
+use Rattle.std.proofs.Common.{ℕ, ◌≤◌, ◌≡◌, inl, true, false, Some, None, List, length, refl, sym, subst, ap, ◌∙◌}
 use Rattle.std.specs.Prelude.{nat_le}
 use Rattle.disk.specs.declared.fault.DiskFault.TheVariants.{Reset, Failed, Gone}
-use Rattle.disk.specs.Disk.{DiskState, Call, Attach, Read, Sync, Answer, Booted, Told, Done, Fault, IsUnder, Step}
-use Rattle.disk.specs.Crash.{MayLeave}
-use Rattle.torn_block.specs.declared.layout.TheConstants.{HOSTS, BODY_LENGTH, ROW_LENGTH, LAST_SEQUENCE}
+use Rattle.disk.specs.Disk.{DiskState, Call, Sync, Answer, Booted, Told, Done, Fault, IsUnder, Step}
+use Rattle.torn_block.specs.declared.layout.TheConstants.{BODY_LENGTH, LAST_SEQUENCE}
 use Rattle.torn_block.specs.declared.write_steps.WriteCall.{WriteCall}
 use Rattle.torn_block.specs.declared.write_steps.WriteCall.TheVariants.{CloseGate, SyncClosed, PutBody, SyncBody, OpenGate, SyncOpened}
-use Rattle.torn_block.specs.Place.{block_in}
-use Rattle.torn_block.specs.Register.{at_rest, IsAtRest}
+use Rattle.torn_block.specs.Register.{at_rest}
 use Rattle.torn_block.specs.RegisterLaws.{known_synced}
 use Rattle.torn_block.specs.Stage.{Write128, call_of, next_call, old_value, new_value, IsDue, Stands as Next}
 use Rattle.torn_block.specs.StageLaws.{done_reads, done_leads_on}
 use Rattle.paxos_block.specs.declared.block.PBlock.{PBlock}
-use Rattle.paxos_block.specs.Places.{row_place, row_of, IsImage}
-use Rattle.paxos_block.specs.Row.{SeenBlock, seen_in}
 use Rattle.paxos_block.specs.Saying.{MaySay, body_saying}
-use Rattle.paxos_block.proofs.Outcomes.{IsCalm, calm_outcomes}
-use Rattle.paxos_block.proofs.PlaceLemmas.{block_of-row_of}
-use Rattle.paxos_block.proofs.RowLemmas.{said_sees}
 use Rattle.paxos_block.proofs.WriteLemmas.{sound_when_done}
-use Rattle.attempt.specs.Calls.{Phase, Kind, Attaching, Syncing, Reading, Putting, start}
+use Rattle.attempt.specs.Calls.{Phase, Kind, Attaching, Syncing, Reading, Putting}
 use Rattle.attempt.specs.Answers as answers
 use Rattle.attempt.specs.Answers.{Heard, Answers, heard_as, is_bad, all_good, told, later_row, last_row, boot_of, more, block_in as seen_block}
 use Rattle.attempt.specs.Setup.{Setup}
 use Rattle.attempt.specs.History.{Fits}
 use Rattle.attempt.specs.NextCall.{says_for, write_on, call_by}
-use Rattle.attempt.proofs.Lists.{good_more, last_more, boot_more}
-use Rattle.attempt.proofs.More.{more_here}
-use Rattle.attempt.proofs.OneDisk.{IsDisk}
-use Rattle.attempt.proofs.Replies.{reading_tells}
-use Rattle.attempt.proofs.Rows.{rows_kept}
 use Rattle.agreement.specs.State.{Block, Cell}
 use Rattle.attempt_safety.specs.Machine.{block_said}
 use Rattle.attempt_safety.specs.Registers.{IsNext}
 use Rattle.attempt_safety.specs.Leads.{IsSameBlock, IsBegun, IsConfirmed, OwnBlock}
 use Rattle.world_safety.specs.Blocks.{said, Stands}
 use Rattle.world_safety.specs.Knows.{own_place, CanWrite, IsWriting, Writes, KnowsFor, IsCurrent, Knows}
-use Rattle.attempt.proofs.Calls.{Then, next_kind, has_answered}
-use Rattle.world_safety.proofs.Blocks.Standing.{stands_by, stands_same}
-use Rattle.attempt.proofs.Votes.{says_same}
+use Rattle.attempt.proofs.Calls.{Then}
+use Rattle.world_safety.proofs.Blocks.Standing.{stands_same}
 use Rattle.world_safety.proofs.Blocks.Owned.{After, IsOwnCall, then_is, boot_then, knows_none, says_then, write_then, attached, synced, read}
-use Rattle.world_safety.proofs.Blocks.Owning.{boot_kept, booted_is, boot_at_most, row_told, done_is, under_is, stands_more, placed, new_says, due_stands, failed_stands, can_begin, begins_due, old_is}
+use Rattle.world_safety.proofs.Blocks.Owning.{done_is, under_is, stands_more, placed, new_says, due_stands, failed_stands, can_begin, begins_due, old_is}
 
 module _ (slots : ℕ) (s : Setup) (p : Phase) (d : ℕ) (f : Answers) (disk new : DiskState) (answer : Answer) (old cell : Cell (List ℕ)) (own : IsOwnCall slots s p d f disk new old) where
   open own use {image, image_then, slot_below, host_below, good, stands, knows}

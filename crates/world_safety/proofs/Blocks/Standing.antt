@@ -1,10 +1,8 @@
 -- What a block on a disk stands for, through every step of a disk that does not write it.
 use Rattle.std.specs.Prelude.{nat_lt}
 use Rattle.std.proofs.Common.{ℕ, ◌≡◌, Bool, true, false, true≢false, None, List, inl, inr, refl, sym, subst, ap, ◌∙◌}
-use Rattle.disk.specs.Disk.{DiskState, Call, Attach, Read, Write, Sync, Answer, Step, Crashes, lost}
-use Rattle.disk.specs.Crash.{MayLeave, may_leave_now, may_leave_synced}
+use Rattle.disk.specs.Disk.{DiskState, Crashes, lost}
 use Rattle.disk.specs.Simulated.{fresh_disk}
-use Rattle.disk.specs.Steps.{step_keeps}
 use Rattle.torn_block.specs.declared.block.Half.{Half}
 use Rattle.torn_block.specs.declared.block.Half.TheVariants.{First, Second}
 use Rattle.torn_block.specs.Block.{is_open, sequence_of, copy_of, choice, value_at, value_of}

@@ -1,10 +1,7 @@
 -- An acknowledgement is of the command that was submitted, at its slot, with its reply.
-use Rattle.std.specs.Prelude.{bytes_eq}
-use Rattle.std.proofs.Common.{ℕ, ◌≡◌, inl, inr, Bool, true, false, Option, Some, None, List, [], ◌∷◌, ◌++◌, length, refl, sym, subst, ap, ◌∙◌, arith}
-use Rattle.std.proofs.lemmas.Bool.{eqb-true}
+use Rattle.std.proofs.Common.{ℕ, ◌≡◌, inl, inr, Bool, true, false, Option, Some, None, List, [], ◌∷◌, ◌++◌, length, refl, sym, ◌∙◌}
 use Rattle.std.proofs.lemmas.Slice.Eq.{bytes_eq-Decides}
-use Rattle.disk.specs.Disk.{Call, Answer}
-use Rattle.attempt.specs.Answers.{Answered, on, heard_as}
+use Rattle.attempt.specs.Answers.{on, heard_as}
 use Rattle.attempt.specs.Status as attempt
 use Rattle.attempt.specs.Status.{Status, Due, Ended, End, status, taken}
 use Rattle.lock_command.specs.declared.command.Command.{Command}
@@ -12,18 +9,15 @@ use Rattle.lock_command.specs.Command.{spelling}
 use Rattle.lock_command.specs.Reading.{decoded}
 use Rattle.lock_table.specs.declared.reply.Reply.{Reply}
 use Rattle.slot_log.specs.Shape.{Shape}
-use Rattle.slot_log.specs.declared.outcome.Refusal.TheVariants as refusal
-use Rattle.host.specs.declared.answer.HostAnswer.{HostAnswer}
-use Rattle.host.specs.declared.answer.HostAnswer.TheVariants.{Ack, Refused}
-use Rattle.host.specs.Host.{Operation, Submitting, Recovering, Doing, Memory, setup_of, with_heard, with_floor, learns, reply_after, is_submitted, after_learning, takes, tries_again, by_status, hears, next_doing, next_of, is_stopped, said_of}
+use Rattle.host.specs.declared.answer.HostAnswer.TheVariants.{Ack}
+use Rattle.host.specs.Host.{Operation, Submitting, Recovering, Doing, Memory, setup_of, with_heard, with_floor, learns, reply_after, is_submitted, after_learning, takes, by_status}
 use Rattle.host.proofs.Hosts.{decoded_spelled}
-use Rattle.world.specs.Entry.{Filled, Start, Stop, Submit, Recover, Called, Torn, Crashed, Lost, is_of, started, begins as begins_on, host_step}
-use Rattle.world.specs.World.{MayFollow, IsRun}
-use Rattle.world.specs.Chosen.{at, SaysAt}
-use Rattle.world.proofs.Runs.{each}
+use Rattle.world.specs.Entry.{Filled}
+use Rattle.world.specs.World.{IsRun}
+use Rattle.world.specs.Chosen.{SaysAt}
 use Rattle.world_safety.specs.Acks.{Acks, AcksAt}
 use Rattle.world_safety.proofs.Runs.Knowing.{reads_back}
-use Rattle.world_safety.proofs.Runs.Saying.{went_on, full_acks, again, AtACall, heard_at, memory_at, whence}
+use Rattle.world_safety.proofs.Runs.Saying.{went_on, full_acks, again, memory_at, whence}
 
 -- WHAT A HOST SAYS
 

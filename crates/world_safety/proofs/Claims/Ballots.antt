@@ -1,5 +1,5 @@
 -- What is chosen in a ballot binds the proposals of it and of greater ones; a ballot has one proposal; and slots get theirs in order.
-use Rattle.std.proofs.Common.{ℕ, suc, ◌+◌, ◌<◌, ◌≤◌, ◌≡◌, List, length, sym, subst, ap, ◌∙◌, arith}
+use Rattle.std.proofs.Common.{ℕ, suc, ◌+◌, ◌<◌, ◌≡◌, List, length, sym, subst, ap, ◌∙◌, arith}
 use Rattle.torn_block.specs.declared.layout.TheConstants.{HOSTS}
 use Rattle.paxos_block.proofs.VoteLemmas.{owned}
 use Rattle.attempt.specs.Answers.{on}

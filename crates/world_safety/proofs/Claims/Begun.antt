@@ -1,11 +1,10 @@
 -- Whoever answers that it has recovered began to, and has made device calls alone since then.
 use Rattle.std.specs.Prelude.{IsTrue, nat_lt, nat_le, ◌-◌, slice_get, cond, if◌then◌else◌}
-use Rattle.std.proofs.Common.{ℕ, zero, suc, ◌+◌, ◌<◌, ◌≤◌, ◌≡◌, inl, inr, Bool, true, false, Option, Some, None, List, [], ◌∷◌, ◌++◌, length, refl, sym, subst, ap, ◌∙◌, arith}
+use Rattle.std.proofs.Common.{ℕ, suc, ◌<◌, ◌≡◌, inl, inr, Bool, true, false, Option, Some, None, List, [], ◌∷◌, ◌++◌, length, refl, sym, subst, ap, ◌∙◌, arith}
 use Rattle.std.proofs.lemmas.Bool.{eqb-true, both_ways, cases_eq}
 use Rattle.disk.specs.Disk.{Call, Answer}
 use Rattle.attempt.specs.Answers.{Answered, on, heard_as}
-use Rattle.attempt.specs.Proposal.{best, or_else, proposal}
-use Rattle.attempt.specs.Setup.{Setup}
+use Rattle.attempt.specs.Proposal.{best, or_else}
 use Rattle.attempt.specs.Status as attempt
 use Rattle.attempt.specs.Status.{Status, Due, Ended, status, taken}
 use Rattle.attempt.proofs.Statuses.{HasNone, told_by}
@@ -15,13 +14,13 @@ use Rattle.lock_command.specs.Reading.{decoded}
 use Rattle.slot_log.specs.Shape.{Shape}
 use Rattle.slot_log.specs.declared.outcome.Refusal.TheVariants as refusal
 use Rattle.host.specs.declared.answer.HostAnswer.TheVariants.{Recovered, Refused}
-use Rattle.host.specs.Host.{Operation, Submitting, Recovering, Doing, Memory, Host, Stopped, Running, input_of, setup_of, says, begins, full_answer, goes_on, with_floor, learns, is_submitted, after_learning, takes, tries_again, by_status, with_heard, hears, is_stopped}
+use Rattle.host.specs.Host.{Operation, Submitting, Recovering, Doing, Memory, Host, Stopped, Running, setup_of, says, begins, full_answer, goes_on, with_floor, learns, is_submitted, after_learning, takes, tries_again, by_status, with_heard, hears, is_stopped}
 use Rattle.world.specs.Entry.{Filled, Start, Stop, Submit, Recover, Called, Torn, Crashed, Lost, is_of, started, begins as begins_on, host_step}
 use Rattle.world.specs.World.{MayFollow, IsRun}
 use Rattle.world.specs.Chosen.{at, SaysAt, IsCallOf, IsRecovery}
 use Rattle.world_safety.specs.Claims.{AllBegun}
 use Rattle.world_safety.proofs.Runs.Places.{by_place}
-use Rattle.world_safety.proofs.Runs.Saying.{full_recovers, status_recovers, beginning_of, AtItsBeginning, AtACall, memory_at, heard_at, status_at, Whence, whence}
+use Rattle.world_safety.proofs.Runs.Saying.{full_recovers, status_recovers, beginning_of, AtItsBeginning, AtACall, memory_at, heard_at, whence}
 
 -- AN OPERATION STAYS WHAT IT IS
 

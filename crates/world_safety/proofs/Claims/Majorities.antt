@@ -5,18 +5,18 @@ use Rattle.attempt.specs.Answers.{on, heard_as}
 use Rattle.attempt.specs.History.{IsHistory}
 use Rattle.attempt.specs.Prepared.{IsPrepared}
 use Rattle.attempt.specs.Setup.{Setup}
-use Rattle.attempt.specs.Status.{Ended, Committed, status, taken}
+use Rattle.attempt.specs.Status.{status, taken}
 use Rattle.attempt.proofs.Preparing as preparing
 use Rattle.slot_log.specs.Shape.{Shape}
 use Rattle.host.specs.declared.answer.HostAnswer.{HostAnswer}
 use Rattle.host.specs.declared.answer.HostAnswer.TheVariants.{Ack, Recovered}
 use Rattle.host.specs.Host.{Operation, Submitting, Recovering, setup_of, with_heard}
-use Rattle.world.specs.Entry.{Filled, Recover}
+use Rattle.world.specs.Entry.{Filled}
 use Rattle.world.specs.World.{IsRun}
 use Rattle.world.specs.Chosen.{SaysAt}
 use Rattle.world.proofs.Histories.{heard_then}
 use Rattle.world_safety.specs.Claims.{IsPreparedAt, IsAcceptedAt, IsFullAt, AcknowledgesByMajority, RecoversByMajority}
-use Rattle.world_safety.proofs.Runs.Saying.{full_recovers, full_acks, status_recovers, status_commits, beginning_of, AtItsBeginning, AtACall, heard_at, memory_at, hears_at, whence}
+use Rattle.world_safety.proofs.Runs.Saying.{full_recovers, full_acks, status_recovers, status_commits, beginning_of, AtACall, heard_at, hears_at, whence}
 
 module _ (c : Shape) (log : List Filled) (run : IsRun c log) (i h : ℕ) where
   module _ (said : HostAnswer) (call : AtACall c log i h said) where

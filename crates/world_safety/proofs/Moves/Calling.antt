@@ -1,25 +1,22 @@
 -- A device call, and one that is torn, is a few moves.
-use Rattle.std.proofs.Common.{ℕ, ◌≡◌, ◌==◌, inl, inr, true, cond, Option, Some, None, List, [], ◌∷◌, ◌++◌, length, append_assoc, refl, sym, subst, ap, ◌∙◌}
+use Rattle.std.proofs.Common.{ℕ, ◌≡◌, ◌==◌, inl, inr, true, cond, Option, Some, List, [], ◌∷◌, ◌++◌, length, append_assoc, refl, sym, subst, ap, ◌∙◌}
 use Rattle.std.proofs.lemmas.Bool.{eq-eqb}
 use Rattle.disk.specs.declared.fault.DiskFault.TheVariants.{Failed}
 use Rattle.disk.specs.Disk.{DiskState, Call, Attach, Read, Write, Sync, Answer, Fault, Step}
 use Rattle.attempt.specs.Answers.{Answered, on, heard_as}
-use Rattle.attempt.specs.Chosen.{Chooses}
-use Rattle.attempt.specs.Proposal.{ballot}
 use Rattle.attempt.specs.Setup.{Setup}
 use Rattle.attempt.specs.Status.{status, taken}
 use Rattle.slot_log.specs.Shape.{Shape}
-use Rattle.host.specs.Host.{Doing, Memory, Host, Stopped, Running, input_of, setup_of, by_status, hears as hears_more, next_doing, next_of}
+use Rattle.host.specs.Host.{Doing, Memory, Host, Stopped, Running, input_of, setup_of, by_status, hears as hears_more, next_of}
 use Rattle.world.specs.Entry.{Filled, Called, Torn, is_of, disk_step, host_step}
 use Rattle.world.specs.World.{World, Tears}
 use Rattle.agreement.specs.Event.{Event}
-use Rattle.agreement.specs.Chosen.{IsInput, IsChosenBy}
+use Rattle.agreement.specs.Chosen.{IsInput}
 use Rattle.agreement.specs.Log.{events_of_slot, IsHistory}
 use Rattle.agreement.specs.Log.Move.{Restart}
 use Rattle.world_safety.specs.Goes.{IsTryingAt, IsInputAt, HostGoes, Carries, Goes}
 use Rattle.world_safety.specs.Next.{next_world}
 use Rattle.world_safety.specs.Tied.{Moves, machine, IsTrying, IsDoing, IsRunning, Tied}
-use Rattle.world_safety.proofs.Moves.Due.{IsCall}
 use Rattle.world_safety.proofs.Moves.Hearing.{Hears, hears}
 use Rattle.world_safety.proofs.Moves.Ending.{answered_late}
 use Rattle.world_safety.proofs.Moves.Hosts.{Late, tied_with, but_stops, stops_learned}

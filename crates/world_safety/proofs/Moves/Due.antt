@@ -1,76 +1,37 @@
 -- What is known of a device call that is answered: of its host, of the attempt, and of the disk.
-use Rattle.std.specs.Prelude.{map, nat_le, ◌&&◌, take, drop, ◌-◌}
-use Rattle.std.specs.List.{All}
-use Rattle.std.proofs.Common.{ℕ, ◌+◌, ◌<◌, ◌≡◌, ◌≢◌, ◌==◌, ◌⊎◌, inl, inr, Bool, true, false, cond, Option, Some, None, List, [], ◌∷◌, ◌++◌, length, append-nil, append_assoc, refl, sym, subst, ap, ◌∙◌, arith}
+use Rattle.std.specs.Prelude.{take, drop, ◌-◌}
+use Rattle.std.proofs.Common.{ℕ, ◌+◌, ◌≡◌, Option, Some, None, List, length, refl, sym, subst, ap, ◌∙◌, arith}
 use Rattle.std.proofs.Common.{length-drop}
-use Rattle.std.proofs.lemmas.Bool.{cases_eq, eq-eqb}
-use Rattle.std.proofs.lemmas.List.{length-map, length-take-le}
-use Rattle.std.proofs.lemmas.List.Elements.{All-head, All-tail}
+use Rattle.std.proofs.lemmas.List.{length-take-le}
 use Rattle.disk.specs.Disk.{DiskState, Call, Answer, Step}
-use Rattle.disk.specs.Crash.{may_leave_now}
-use Rattle.torn_block.specs.declared.layout.TheConstants.{HOSTS, LAST_SEQUENCE, BODY_LENGTH, ROW_LENGTH}
+use Rattle.torn_block.specs.declared.layout.TheConstants.{BODY_LENGTH, ROW_LENGTH}
 use Rattle.torn_block.specs.declared.write_steps.WriteCall.{WriteCall}
-use Rattle.torn_block.specs.declared.write_steps.WriteCall.TheVariants.{CloseGate}
-use Rattle.torn_block.specs.Block.{value_of}
-use Rattle.torn_block.specs.Place.{block_in}
-use Rattle.torn_block.specs.Register.{Value, IsAtRest}
-use Rattle.paxos_block.specs.Places.{VoteOf, place_of, row_of, row_place, IsImage, IsWithin}
+use Rattle.paxos_block.specs.Places.{VoteOf, row_of, row_place, IsImage, IsWithin}
 use Rattle.paxos_block.specs.Row.{SeenBlock}
 use Rattle.paxos_block.specs.Saying.{body_saying}
 use Rattle.paxos_block.proofs.PlaceLemmas.{stays_image}
-use Rattle.attempt.specs.Calls.{Phase, Kind, Reading, Putting, start}
+use Rattle.attempt.specs.Calls.{Phase, Kind, Putting}
 use Rattle.attempt.specs.Answers as answers
 use Rattle.attempt.specs.Answers.{Heard, Answered, Answers, on, heard_as, more, all_good, boot_of, last_row, block_in as seen_block}
 use Rattle.attempt.specs.Setup.{Setup}
 use Rattle.attempt.specs.History.{IsAnswerTo}
 use Rattle.attempt.specs.NextCall.{call_by, next_call, says_for}
-use Rattle.attempt.specs.Proposal.{ballot}
-use Rattle.attempt.specs.Chosen.{Chooses}
-use Rattle.attempt.proofs.Histories.{IsReached, history_reached, visit, behind_due}
-use Rattle.attempt.proofs.Lists.{by_eq}
-use Rattle.attempt.proofs.More.{on_more, by_disk}
+use Rattle.attempt.proofs.Histories.{IsReached, history_reached, visit}
 use Rattle.attempt.proofs.Replies.{IsAnswer, answer_is, next_is}
 use Rattle.attempt.proofs.Statuses.{IsDueAt, due_is}
 use Rattle.attempt.proofs.Visitors.{IsWaiting, waiting_is}
-use Rattle.lock_command.specs.Command.{spelling}
 use Rattle.slot_log.specs.Shape.{Shape}
-use Rattle.host.specs.Host.{Doing, Memory, Host, Stopped, Running, input_of, setup_of, next_doing, next_of}
-use Rattle.world.specs.Entry.{Filled, Called, disk_step}
+use Rattle.host.specs.Host.{Doing, Memory, Host, Stopped, Running, setup_of, next_doing, next_of}
+use Rattle.world.specs.Entry.{Called, disk_step}
 use Rattle.world.specs.World.{World}
 use Rattle.world.proofs.Histories.{step_fits}
-use Rattle.agreement.specs.State.{Cell, put, start as beginning}
-use Rattle.agreement.specs.Event.{Event, IsReading, Allowed, at_rest, after, state_after}
-use Rattle.agreement.specs.Event.Event.{Settles, Begins}
-use Rattle.agreement.specs.Chosen.{PutsIn, IsInput, IsChosenBy}
-use Rattle.agreement.specs.Log.{IsHistory, slots_after, events_of_slot}
-use Rattle.agreement.specs.Log.Move.{At}
-use Rattle.agreement.proofs.Steps.{may_late}
-use Rattle.attempt_safety.specs.Machine.{Machine, write_in}
-use Rattle.attempt_safety.specs.Follows.{Follows, IsSameHost}
-use Rattle.attempt_safety.specs.Registers.{IsNext, RegistersAllow}
-use Rattle.attempt_safety.specs.Leads.{IsOfAttempt, LeavesOthers, Arrives, Leads}
-use Rattle.attempt_safety.specs.Slots.{in_slot}
-use Rattle.attempt_safety.proofs.Beginning.{write_begins}
-use Rattle.attempt_safety.proofs.Cells.{changed_here, changed_leaves}
-use Rattle.attempt_safety.proofs.Choosing.{chosen as chosen_by, proposed as proposed_by}
-use Rattle.attempt_safety.proofs.Following.{leads}
-use Rattle.attempt_safety.proofs.Leaving.{follows_same, by_settling}
-use Rattle.attempt_safety.proofs.Slotting.{events_append, moves_on, events_here, learned_same}
+use Rattle.agreement.specs.State.{put}
+use Rattle.attempt_safety.specs.Registers.{IsNext}
 use Rattle.attempt_safety.proofs.Stages.{putting}
-use Rattle.world_safety.specs.Blocks.{said, Stands}
-use Rattle.world_safety.specs.Goes.{Carries}
-use Rattle.world_safety.specs.Knows.{own_place, KnowsFor, Knows}
-use Rattle.world_safety.specs.Tied.{Moves, machine, IsTrying, IsDoing, IsRunning, HostAt, TiedBut, Tied}
-use Rattle.attempt.specs.Votes.{TellsVotes, ShowsVotes}
-use Rattle.attempt.proofs.Calls.{first_number}
-use Rattle.world_safety.proofs.Moves.Hosts.{tied_but}
-use Rattle.world_safety.proofs.Blocks.Keeping.{Spares, spares_others, spares_same, knows_spared, knows_elsewhere}
-use Rattle.world_safety.proofs.Moves.Machines.{machine_is, machine_runs, machine_here, machine_there, history_more, input_append, input_in}
-use Rattle.world_safety.proofs.Moves.OneBlock.{with_disks, IsOther, other_blocks, other_hosts, but_one}
-use Rattle.world_safety.proofs.Blocks.Owned.{After}
-use Rattle.world_safety.proofs.Blocks.Settled.{told_or_not, allows_none, current, is_next_read, row_is, allows_row}
-use Rattle.world_safety.proofs.Blocks.Standing.{stands_resting, cell_reads}
-use Rattle.attempt.proofs.Votes.{MayWrite, votes_more, row_shows}
+use Rattle.world_safety.specs.Tied.{Moves, IsTrying, IsDoing, IsRunning, HostAt, Tied}
+use Rattle.attempt.specs.Votes.{ShowsVotes}
+use Rattle.world_safety.proofs.Blocks.Settled.{row_is}
+use Rattle.attempt.proofs.Votes.{MayWrite, row_shows}
 use Rattle.world_safety.proofs.Blocks.Within.{within, may_write}
 
 -- who has a call to make is running, and tries a slot

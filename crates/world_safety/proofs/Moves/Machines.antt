@@ -1,10 +1,10 @@
 -- The machines of the slots, and what is learned, after one move more.
-use Rattle.std.proofs.Common.{ℕ, ◌≡◌, ◌≢◌, ◌==◌, ◌⊎◌, inl, inr, Bool, true, false, cond, List, [], ◌∷◌, ◌++◌, append_assoc, refl, sym, ap, ◌∙◌}
+use Rattle.std.proofs.Common.{ℕ, ◌≡◌, ◌≢◌, ◌==◌, ◌⊎◌, inl, inr, Bool, true, false, cond, List, [], ◌∷◌, ◌++◌, ap, ◌∙◌}
 use Rattle.agreement.specs.State.{Block, start}
 use Rattle.agreement.specs.Event.{Event, after, run, state_after, IsRun}
 use Rattle.agreement.specs.Event.Event.{Crashes, Stops}
 use Rattle.agreement.specs.Chosen.{IsInput}
-use Rattle.agreement.specs.Log.{Slots, Move, MayMove, moved, none_learned, IsHistory, slots_after, events_at, events_of_slot}
+use Rattle.agreement.specs.Log.{Slots, Move, MayMove, moved, none_learned, IsHistory, slots_after, events_of_slot}
 use Rattle.agreement.specs.Log.Move.{Crash, Learn, Restart}
 use Rattle.agreement.proofs.Steps.{state_by-append, may_both}
 use Rattle.agreement.proofs.Slots.{slot_moves, allowed_moves}

@@ -1,10 +1,9 @@
 -- The machines at each place of a run, and what is chosen there.
 use Rattle.std.specs.Prelude.{slice_get, ◌-◌}
-use Rattle.std.proofs.Common.{ℕ, zero, suc, ◌+◌, ◌≤◌, ◌≡◌, inl, inr, Option, Some, None, List, [], ◌∷◌, ◌++◌, length, append-nil, append_assoc, refl, sym, subst, ap, ◌∙◌, arith}
+use Rattle.std.proofs.Common.{ℕ, zero, suc, ◌+◌, ◌≤◌, ◌≡◌, inl, inr, Option, Some, None, List, [], ◌∷◌, ◌++◌, append-nil, append_assoc, refl, sym, subst, ap, ◌∙◌, arith}
 use Rattle.disk.specs.Steps.{shape_fresh}
 use Rattle.paxos_block.specs.Places.{image_length}
 use Rattle.attempt.specs.Answers.{Answered, on, heard_as}
-use Rattle.attempt.specs.Chosen.{Chooses}
 use Rattle.attempt.specs.Proposal.{ballot}
 use Rattle.attempt.specs.Setup.{Setup}
 use Rattle.lock_command.specs.declared.command.Command.{Command}
