@@ -1,0 +1,11 @@
+pub mod Commands
+pub mod GivenLemmas
+pub mod Givens
+pub mod LineLemmas
+pub mod Numbers
+pub mod Progress
+pub mod Readings
+pub mod Refusing
+pub mod Saying
+pub mod Spoken
+pub mod WordLemmas

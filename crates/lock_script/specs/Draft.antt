@@ -1,0 +1,59 @@
+-- What the lines of a script say so far.
+use Rattle.std.specs.Prelude.{◌≡◌, ℕ, ◌+◌, ◌<◌, nat_lt, nat_le, Bool, true, ◌&&◌, List, [], ◌∷◌, ◌++◌, length, replicate, Option, Some, None, MatchOption}
+use Rattle.std.specs.Option.{is_none}
+use Rattle.slot_log.specs.Shape.{Shape}
+use Rattle.lock_command.specs.Reading.{◌>>=◌, passed}
+use Rattle.lock_script.specs.declared.event.Event.{Event}
+use Rattle.lock_script.specs.declared.event.Event.TheVariants.{Start, Stop, Submit, Recover, Step, Tear, FailCall, DiskCrash, DiskGone}
+use Rattle.lock_script.specs.declared.line.Line.{Line}
+use Rattle.lock_script.specs.declared.line.Line.TheVariants.{Cluster, Once, Steps, Show}
+use Rattle.lock_script.specs.declared.show.Show as shown
+use Rattle.lock_script.specs.declared.draft.Draft.{Draft}
+use Rattle.lock_script.specs.Words.{words_of}
+use Rattle.lock_script.specs.Script.{Content, said_lines, IsScript}
+use Rattle.lock_script.specs.Reading.{line_at}
+
+-- the cluster, where its line was read, and what was read behind it
+pub record SoFar : Type 0 where
+  pub shape : Option Shape
+  pub events : List Event
+  pub shows : List shown.Show
+
+abbrev pub so_far : Draft → SoFar
+so_far draft = record { shape = draft.config; events = draft.events.items; shows = draft.shows.items }
+
+-- whether the event's disk, where it names one, is one of so many
+abbrev pub is_on_disk_of : ℕ → Event → Bool
+is_on_disk_of disks (Start host) = true
+is_on_disk_of disks (Stop host) = true
+is_on_disk_of disks (Submit command tries) = true
+is_on_disk_of disks (Recover host tries) = true
+is_on_disk_of disks (Step host) = true
+is_on_disk_of disks (Tear host given) = true
+is_on_disk_of disks (FailCall host given) = true
+is_on_disk_of disks (DiskCrash disk given) = nat_lt disk disks
+is_on_disk_of disks (DiskGone disk) = nat_lt disk disks
+
+-- one line more, if it may stand there
+abbrev pub added : SoFar → Line → Option SoFar
+added said (Cluster shape) = passed (is_none said.shape) (record said { shape = Some shape })
+added said (Once event) = do
+  shape ← said.shape
+  passed (nat_lt (length said.events) 1000000 && is_on_disk_of shape.disks event) (record said { events = said.events ++ event ∷ [] })
+added said (Steps host times) = do
+  shape ← said.shape
+  passed (nat_le (length said.events + times) 1000000) (record said { events = said.events ++ replicate times (Step host) })
+added said (Show host) = do
+  shape ← said.shape
+  Some (record said { shows = said.shows ++ record { place = length said.events; host = host } ∷ [] })
+
+-- the same of a line's bytes
+unfoldable pub read_line : SoFar → List ℕ → Option SoFar
+read_line said line = line_at (words_of line) >>= added said
+
+-- these lines say this: nothing before the cluster line, and then a script
+abbrev pub Says : List (List ℕ) → SoFar → Type 0
+Says lines said =
+    MatchOption said.shape
+    ((said_lines lines ≡ []) × (said.events ≡ []) × (said.shows ≡ []))
+    (λ shape. IsScript lines (record { shape = shape; events = said.events; shows = said.shows }))

@@ -1,0 +1,7 @@
+pub mod Draft
+pub mod Faults
+pub mod Lines
+pub mod Reading
+pub mod Script
+pub mod Spelling
+pub mod Words

@@ -1,0 +1,167 @@
+ghost use Rattle.std.specs.Prelude.{◌≡◌, ◌++◌, OnOk, Some, None, replicate};
+ghost use Rattle.lock_script.specs.Draft.{is_on_disk_of};
+ghost use Rattle.lock_script.specs.Faults.{fault_at};
+
+use crate::event::Event;
+use crate::line::{Line, line_of};
+use crate::script::ScriptFault;
+use crate::show::Show;
+use lock_command::HostNumber;
+use slot_log::Config;
+use std::alloc::{AllocError, Global};
+
+/// The most events of a script.
+pub const MOST_EVENTS: usize = 1_000_000;
+
+/// Why a line cannot be added.
+#[derive(Clone, Copy, Debug)]
+pub enum LineFault {
+    Bad,
+    NoMemory,
+}
+
+impl LineFault {
+    /// The fault of a script whose line of this number cannot be added.
+    pub fn at(self, number: usize) -> ScriptFault
+        ensures { result ≡ fault_at number self }
+    {
+        match self {
+            LineFault::Bad => ScriptFault::BadLine(number),
+            LineFault::NoMemory => ScriptFault::NoMemory,
+        }
+    }
+}
+
+impl From<AllocError> for LineFault {
+    ghost use Rattle.lock_script.specs.declared.draft.LineFault.TheVariants.{NoMemory};
+
+    ghost from_gives = { λ _ fault. fault ≡ NoMemory };
+
+    fn from(_: AllocError) -> Self {
+        LineFault::NoMemory
+    }
+}
+
+/// What stands in a script's lines so far.
+#[derive(Drop)]
+pub struct Draft {
+    pub config: Option<Config>,
+    pub events: Vec<Event>,
+    pub shows: Vec<Show>,
+}
+
+impl Draft {
+    ghost use Rattle.std.specs.Prelude.{[]};
+    ghost use Rattle.lock_script.specs.Draft.{so_far, added, read_line};
+
+    pub fn new(alloc: Global) -> Self
+        ensures { so_far result ≡ record { shape = None; events = []; shows = [] } }
+    {
+        Draft {
+            config: None,
+            events: Vec::new(alloc),
+            shows: Vec::new(alloc),
+        }
+    }
+
+    /// Adds the line with these bytes, which is not passed over.
+    #[tactic(auto, unfolding(crate::specs::Draft::read_line))]
+    pub fn add(&mut self, alloc: Global, line: &[u8]) -> Result<(), LineFault>
+        ensures added { OnOk result (Some (so_far self.new) ≡ read_line (so_far self.old) line.now) }
+        ensures bad { result ≡ Err LineFault.Bad → read_line (so_far self.old) line.now ≡ None }
+    {
+        let Some(line) = line_of(alloc, line)? else {
+            return Err(LineFault::Bad);
+        };
+        self.add_line(line)
+    }
+
+    fn add_line(&mut self, line: Line) -> Result<(), LineFault>
+        ensures added { OnOk result (Some (so_far self.new) ≡ added (so_far self.old) line) }
+        ensures bad { result ≡ Err LineFault.Bad → added (so_far self.old) line ≡ None }
+    {
+        match line {
+            Line::Cluster(config) => self.cluster(config),
+            Line::Once(event) => self.once(event),
+            Line::Steps { host, times } => self.steps(host, times),
+            Line::Show(host) => self.show(host),
+        }
+    }
+
+    fn cluster(&mut self, config: Config) -> Result<(), LineFault>
+        ensures added { OnOk result (Some (so_far self.new) ≡ added (so_far self.old) (Line.Cluster config)) }
+        ensures bad { result ≡ Err LineFault.Bad → added (so_far self.old) (Line.Cluster config) ≡ None }
+    {
+        if self.config.is_some() {
+            return Err(LineFault::Bad);
+        }
+        self.config = Some(config);
+        Ok(())
+    }
+
+    fn once(&mut self, event: Event) -> Result<(), LineFault>
+        ensures added { OnOk result (Some (so_far self.new) ≡ added (so_far self.old) (Line.Once event)) }
+        ensures bad { result ≡ Err LineFault.Bad → added (so_far self.old) (Line.Once event) ≡ None }
+    {
+        let Some(config) = self.config else {
+            return Err(LineFault::Bad);
+        };
+        if self.events.len() >= MOST_EVENTS || !is_on_disk_of(config, &event) {
+            return Err(LineFault::Bad);
+        }
+        match self.events.push(event) {
+            Ok(()) => Ok(()),
+            Err(_) => Err(LineFault::NoMemory),
+        }
+    }
+
+    fn steps(&mut self, host: HostNumber, times: u32) -> Result<(), LineFault>
+        ensures added { OnOk result (Some (so_far self.new) ≡ added (so_far self.old) (Line.Steps host times)) }
+        ensures bad { result ≡ Err LineFault.Bad → added (so_far self.old) (Line.Steps host times) ≡ None }
+    {
+        let times = times as usize;
+        if self.config.is_none() {
+            return Err(LineFault::Bad);
+        }
+        if self.events.len() > MOST_EVENTS || times > MOST_EVENTS - self.events.len() {
+            return Err(LineFault::Bad);
+        }
+        push_steps(&mut self.events, host, times)?;
+        Ok(())
+    }
+
+    fn show(&mut self, host: HostNumber) -> Result<(), LineFault>
+        ensures added { OnOk result (Some (so_far self.new) ≡ added (so_far self.old) (Line.Show host)) }
+        ensures bad { result ≡ Err LineFault.Bad → added (so_far self.old) (Line.Show host) ≡ None }
+    {
+        if self.config.is_none() {
+            return Err(LineFault::Bad);
+        }
+        let place = self.events.len();
+        match self.shows.push(Show { place, host }) {
+            Ok(()) => Ok(()),
+            Err(_) => Err(LineFault::NoMemory),
+        }
+    }
+}
+
+/// So many steps of the host, behind these events.
+fn push_steps(events: &mut Vec<Event>, host: HostNumber, times: usize) -> Result<(), AllocError>
+    ensures { OnOk result (events.new.items ≡ events.old.items ++ replicate times (Event.Step host)) }
+{
+    events.reserve(times)?;
+    for _ in 0..times {
+        events.push(Event::Step(host)).map_err(AllocError::from)?;
+    }
+    Ok(())
+}
+
+/// Whether the event's disk, where it names one, is one of the cluster's.
+fn is_on_disk_of(config: Config, event: &Event) -> bool
+    ensures { result ≡ is_on_disk_of config.disks event.now }
+{
+    match event {
+        Event::DiskCrash { disk, .. } | Event::DiskGone(disk) => *disk < config.disks(),
+        _ => true,
+    }
+}

@@ -1,0 +1,27 @@
+//! Scripts: what is to happen to a cluster, as events, and the lines that say it.
+#![tactic(auto)]
+
+mod bytes;
+mod command_words;
+mod digits;
+mod draft;
+mod event;
+mod fields;
+mod given;
+mod line;
+mod lines;
+mod mode_words;
+mod number;
+mod reading;
+mod script;
+mod show;
+mod words;
+
+pub use event::Event;
+pub use given::Given;
+pub use reading::read_script;
+pub use script::{Script, ScriptFault};
+pub use show::Show;
+
+#[cfg(test)]
+mod tests;

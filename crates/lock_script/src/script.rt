@@ -1,0 +1,23 @@
+use crate::event::Event;
+use crate::show::Show;
+use slot_log::Config;
+use thiserror::Error;
+
+/// What is to happen to a cluster, and when its tables are to be shown.
+#[derive(Drop)]
+pub struct Script {
+    pub config: Config,
+    pub events: Vec<Event>,
+    /// By rising place.
+    pub shows: Vec<Show>,
+}
+
+/// Why bytes are no script.
+#[derive(Clone, Copy, Debug, PartialEq, Eq, Error)]
+pub enum ScriptFault {
+    #[error("out of memory")]
+    NoMemory,
+    /// The number of the first bad line, from 1.
+    #[error("line {0} is bad")]
+    BadLine(usize),
+}
