@@ -12,7 +12,7 @@ use Rattle.lock_command.specs.Reading.{◌>>=◌, passed, name_of}
 use Rattle.lock_script.specs.Words.{first_word, words_behind, no_words, last_word}
 use Rattle.lock_script.specs.Reading.{mode_of, no_queue_at, enqueue_at, convert_at, action_at, command_at, number_in, lock_of, host_of, client_of, request_of}
 use Rattle.lock_script.specs.Spelling.{mode_word, no_queue_words, kind_word, action_words, command_words}
-use Rattle.lock_script.proofs.Readings.{bound, was_passed, is_passed, picked, one_read, first_read}
+use Rattle.lock_script.proofs.Readings.{bound, was_passed, is_passed, picked, one_read}
 use Rattle.lock_script.proofs.Numbers.{number_in-found, number_in-only}
 
 mode_of-found : (word : List ℕ) (mode : Mode) → mode_of word ≡ Some mode → word ≡ mode_word mode

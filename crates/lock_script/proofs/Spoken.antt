@@ -141,7 +141,7 @@ submit_found kind (a ∷ b ∷ rest) line named h =
     let s = number_in-found 1 255 b tries.0 tries.1 in
     let c = command_at-found host.0 rest command.0 command.1 in
     let e : Once (Submit command.0 tries.0) ≡ line = cc in
-    let is : kind ∷ a ∷ b ∷ rest ≡ codes "submit" ∷ decimal command.0.host ∷ decimal tries.0 ∷ command_words command.0 = cc (named, d.spelled, s.spelled, c.words_are, c.host_is, ap decimal c.host_is) in
+    let is : kind ∷ a ∷ b ∷ rest ≡ codes "submit" ∷ decimal command.0.host ∷ decimal tries.0 ∷ command_words command.0 = cc (named, d.spelled, s.spelled, c.words_are, ap decimal c.host_is) in
     let range : command.0.host < 8 = omega (arith, d.high, c.host_is) in
     let fits : FitsCommand command.0 = record { host = range; client = c.client; request = c.request; action = c.action } in
     subst (Spells (kind ∷ a ∷ b ∷ rest)) e (record { words_are = is; fits = (fits, (s.low, s.high)) })
