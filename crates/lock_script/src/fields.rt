@@ -7,6 +7,7 @@ use torn_block::DISKS;
 
 /// Hosts and disks are numbered from 0.
 const LAST_HOST: u64 = HOSTS as u64 - 1;
+
 const LAST_DISK: u64 = DISKS as u64 - 1;
 
 /// The most steps that one line asks for.

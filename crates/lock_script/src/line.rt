@@ -17,6 +17,7 @@ use torn_block::{DISKS, SLOTS};
 
 /// The most disks and slots of a cluster.
 const MOST_DISKS: u64 = DISKS as u64;
+
 const MOST_SLOTS: u64 = SLOTS as u64;
 
 /// What a line says that is not passed over.

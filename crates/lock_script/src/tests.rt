@@ -6,7 +6,10 @@ const GOOD: [(&[u8], usize); 24] = [
     (b"start 0", 1),
     (b"stop 7", 1),
     (b"submit 0 1 enqueue 1 1 1 EX db", 1),
-    (b"submit 7 255 enqueue 255 4611686018427387904 65535 NL 123456789012345 noqueue", 1),
+    (
+        b"submit 7 255 enqueue 255 4611686018427387904 65535 NL 123456789012345 noqueue",
+        1,
+    ),
     (b"submit 0 1 enqueue 0 1 1 CR noqueue", 1),
     (b"submit 0 1 convert 1 1 1 CW", 1),
     (b"submit 0 1 convert 1 1 1 PR noqueue", 1),
@@ -86,7 +89,10 @@ fn lines_behind_the_first(rt: HostRuntime) -> Result<(), Fail> {
     for (line, events) in GOOD {
         let mut script = b"cluster 3 16\n".to_vec(rt.alloc())?;
         script.extend_from_slice(line)?;
-        assert_eq!(rt; read_script(rt.alloc(), script.as_slice())?.events.len(), events);
+        assert_eq!(rt;
+            read_script(rt.alloc(), script.as_slice())?.events.len(),
+            events
+        );
     }
     for line in BAD {
         let mut script = b"cluster 3 16\n# a comment\n".to_vec(rt.alloc())?;
@@ -126,7 +132,10 @@ fn most_bytes(rt: HostRuntime) -> Result<(), Fail> {
     for _ in 0..64 {
         script.extend_from_slice(b"7f")?;
     }
-    match read_script(rt.alloc(), script.as_slice())?.events.as_slice() {
+    match read_script(rt.alloc(), script.as_slice())?
+        .events
+        .as_slice()
+    {
         [Event::Tear { given, .. }] => assert_eq!(rt; given.as_slice(), [127; 64].as_slice()),
         _ => assert!(rt; false),
     }
