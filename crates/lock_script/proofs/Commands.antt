@@ -1,6 +1,6 @@
 -- Words are read as a command exactly where they spell it.
-use Rattle.std.proofs.Common.{◌≡◌, ◌≤◌, ◌<◌, ◌+◌, ◌^◌, ◌∙◌, ◌⊎◌, inl, inr, ℕ, Bool, true, false, cond, List, [], ◌∷◌, Option, Some, None, arith, refl, sym, ap, subst}
-use Rattle.std.specs.Prelude.{codes, decimal, bytes_eq}
+use Rattle.std.proofs.Common.{◌≡◌, ◌≤◌, ◌<◌, ◌^◌, ◌∙◌, inl, inr, ℕ, Bool, true, false, List, [], ◌∷◌, Option, Some, None, arith, refl, sym, ap, subst}
+use Rattle.std.specs.Prelude.{codes, decimal}
 use Rattle.lock_modes.specs.declared.mode.Mode.{Mode}
 use Rattle.lock_modes.specs.declared.mode.Mode.TheVariants.{Null, ConcurrentRead, ConcurrentWrite, ProtectedRead, ProtectedWrite, Exclusive}
 use Rattle.lock_command.specs.declared.command.Command.{Command}
@@ -8,11 +8,11 @@ use Rattle.lock_command.specs.declared.command.Action.{Action}
 use Rattle.lock_command.specs.declared.command.Action.TheVariants.{Enqueue, Convert, Release, Cancel, Status, Purge}
 use Rattle.lock_command.specs.Name.{IsName, is_name}
 use Rattle.lock_command.specs.Command.{FitsAction, Fits}
-use Rattle.lock_command.specs.Reading.{◌>>=◌, passed, name_of}
-use Rattle.lock_script.specs.Words.{first_word, words_behind, no_words, last_word}
-use Rattle.lock_script.specs.Reading.{mode_of, no_queue_at, enqueue_at, convert_at, action_at, command_at, number_in, lock_of, host_of, client_of, request_of}
+use Rattle.lock_command.specs.Reading.{◌>>=◌, name_of}
+use Rattle.lock_script.specs.Words.{last_word}
+use Rattle.lock_script.specs.Reading.{mode_of, no_queue_at, enqueue_at, convert_at, action_at, command_at, lock_of, host_of, client_of, request_of}
 use Rattle.lock_script.specs.Spelling.{mode_word, no_queue_words, kind_word, action_words, command_words}
-use Rattle.lock_script.proofs.Readings.{bound, was_passed, is_passed, picked, one_read, first_read}
+use Rattle.lock_script.proofs.Readings.{bound, was_passed, is_passed, picked, one_read}
 use Rattle.lock_script.proofs.Numbers.{number_in-found, number_in-only}
 
 mode_of-found : (word : List ℕ) (mode : Mode) → mode_of word ≡ Some mode → word ≡ mode_word mode
@@ -21,24 +21,24 @@ mode_of-found word mode h =
     elim (picked word (codes "NL") _ _ mode h) [
       | inl p ↦ named Null p.0 p.1
       | inr other ↦ elim (picked word (codes "CR") _ _ mode other) [
-          | inl p ↦ named ConcurrentRead p.0 p.1
-          | inr other ↦ elim (picked word (codes "CW") _ _ mode other) [
-              | inl p ↦ named ConcurrentWrite p.0 p.1
-              | inr other ↦ elim (picked word (codes "PR") _ _ mode other) [
-                  | inl p ↦ named ProtectedRead p.0 p.1
-                  | inr other ↦ elim (picked word (codes "PW") _ _ mode other) [
-                      | inl p ↦ named ProtectedWrite p.0 p.1
-                      | inr other ↦ elim (picked word (codes "EX") _ _ mode other) [
-                          | inl p ↦ named Exclusive p.0 p.1
-                          | inr other ↦ absurd (cc)
-                        ]
-                    ]
-                ]
+        | inl p ↦ named ConcurrentRead p.0 p.1
+        | inr other ↦ elim (picked word (codes "CW") _ _ mode other) [
+          | inl p ↦ named ConcurrentWrite p.0 p.1
+          | inr other ↦ elim (picked word (codes "PR") _ _ mode other) [
+            | inl p ↦ named ProtectedRead p.0 p.1
+            | inr other ↦ elim (picked word (codes "PW") _ _ mode other) [
+              | inl p ↦ named ProtectedWrite p.0 p.1
+              | inr other ↦ elim (picked word (codes "EX") _ _ mode other) [
+                | inl p ↦ named Exclusive p.0 p.1
+                | inr other ↦ absurd (cc)
+              ]
             ]
+          ]
         ]
+      ]
     ] where
-  named : (m : Mode) → word ≡ mode_word m → Some m ≡ Some mode → word ≡ mode_word mode
-  named m same is = let e : m ≡ mode = cc in same ∙ ap mode_word e
+      named : (m : Mode) → word ≡ mode_word m → Some m ≡ Some mode → word ≡ mode_word mode
+      named m same is = let e : m ≡ mode = cc in same ∙ ap mode_word e
 
 mode_of-only : (mode : Mode) → mode_of (mode_word mode) ≡ Some mode
 unfolding mode_of
@@ -142,21 +142,21 @@ action_at-found kind words action h =
     elim (picked kind (codes "enqueue") _ _ action h) [
       | inl p ↦ enqueue_at-found kind words action p.0 p.1
       | inr other ↦ elim (picked kind (codes "convert") _ _ action other) [
-          | inl p ↦ convert_at-found kind words action p.0 p.1
-          | inr other ↦ elim (picked kind (codes "release") _ _ action other) [
-              | inl p ↦ lock_alone kind words Release action (λ lock. (p.0, refl, λ fits. fits)) p.1
-              | inr other ↦ elim (picked kind (codes "cancel") _ _ action other) [
-                  | inl p ↦ lock_alone kind words Cancel action (λ lock. (p.0, refl, λ fits. fits)) p.1
-                  | inr other ↦ elim (picked kind (codes "status") _ _ action other) [
-                      | inl p ↦ lock_alone kind words Status action (λ lock. (p.0, refl, λ fits. fits)) p.1
-                      | inr other ↦ elim (picked kind (codes "purge") _ _ action other) [
-                          | inl p ↦ host_alone kind words action p.0 p.1
-                          | inr other ↦ absurd (cc)
-                        ]
-                    ]
-                ]
+        | inl p ↦ convert_at-found kind words action p.0 p.1
+        | inr other ↦ elim (picked kind (codes "release") _ _ action other) [
+          | inl p ↦ lock_alone kind words Release action (λ lock. (p.0, refl, λ fits. fits)) p.1
+          | inr other ↦ elim (picked kind (codes "cancel") _ _ action other) [
+            | inl p ↦ lock_alone kind words Cancel action (λ lock. (p.0, refl, λ fits. fits)) p.1
+            | inr other ↦ elim (picked kind (codes "status") _ _ action other) [
+              | inl p ↦ lock_alone kind words Status action (λ lock. (p.0, refl, λ fits. fits)) p.1
+              | inr other ↦ elim (picked kind (codes "purge") _ _ action other) [
+                | inl p ↦ host_alone kind words action p.0 p.1
+                | inr other ↦ absurd (cc)
+              ]
             ]
+          ]
         ]
+      ]
     ]
 
 lock_of-only : (lock : ℕ) → (1 ≤ lock) × (lock < 2 ^ 16) → lock_of (decimal lock) ≡ Some lock

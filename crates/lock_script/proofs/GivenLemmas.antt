@@ -1,5 +1,5 @@
 -- Words that spell bytes, two digits each.
-use Rattle.std.proofs.Common.{◌≡◌, ◌≤◌, ◌<◌, ◌+◌, ◌-◌, ◌*◌, ◌∙◌, ◌⊎◌, inl, inr, ℕ, Bool, true, false, ◌&&◌, nat_le, List, [], ◌∷◌, ◌++◌, Option, Some, None, length, take, drop, get_or, leb-true, le-leb, length-append, append_assoc, append-nil, arith, refl, sym, ap, subst}
+use Rattle.std.proofs.Common.{◌≡◌, ◌≤◌, ◌<◌, ◌+◌, ◌-◌, ◌*◌, ◌∙◌, ◌⊎◌, inl, inr, ℕ, true, ◌&&◌, nat_le, List, [], ◌∷◌, ◌++◌, Option, Some, None, length, take, drop, get_or, leb-true, le-leb, length-append, append_assoc, append-nil, arith, refl, sym, ap, subst}
 use Rattle.lock_command.specs.Reading.{◌>>=◌, passed}
 use Rattle.std.specs.Cmp.Derive.{both_true}
 use Rattle.lock_script.proofs.Readings.{bound, both_are, not_passed}
@@ -33,10 +33,10 @@ one_more word bytes [] byte two read spelled = absurd (omega arith)
 one_more word bytes (high ∷ []) byte two read spelled = absurd (omega arith)
 one_more word bytes (high ∷ low ∷ rest) byte two read spelled =
     let now : IsRead word (bytes ++ byte ∷ []) rest =
-        record {
-          same = read.same ∙ ap (λ (found : Option ℕ). behind bytes (found >>= λ b. hex_bytes rest >>= λ more. Some (b ∷ more))) (sym spelled) ∙ joined byte bytes (hex_bytes rest);
-          long = let grown = length-append bytes (byte ∷ []) in let was = read.long in omega arith;
-        } in
+    record {
+      same = read.same ∙ ap (λ (found : Option ℕ). behind bytes (found >>= λ b. hex_bytes rest >>= λ more. Some (b ∷ more))) (sym spelled) ∙ joined byte bytes (hex_bytes rest);
+      long = let grown = length-append bytes (byte ∷ []) in let was = read.long in omega arith;
+    } in
     subst (IsRead word (bytes ++ byte ∷ [])) (sym (take_rest 2 (high ∷ low ∷ rest))) now
 
 -- no byte is spelled by other digits
@@ -87,7 +87,7 @@ other_length word long = refused (hex_bytes word) (hex_long word) where
   refused (Some bytes) is =
       let n : length word ≡ 2 * length bytes = is bytes refl in
       not_passed (nat_le 1 (length bytes) && nat_le (length bytes) 64) bytes (λ yes.
-        let both = both_are (nat_le 1 (length bytes)) (nat_le (length bytes) 64) yes in
-        let least = leb-true 1 (length bytes) both.0 in
-        let most = leb-true (length bytes) 64 both.1 in
-        elim long [ inl few ↦ omega arith | inr many ↦ omega arith ])
+      let both = both_are (nat_le 1 (length bytes)) (nat_le (length bytes) 64) yes in
+      let least = leb-true 1 (length bytes) both.0 in
+      let most = leb-true (length bytes) 64 both.1 in
+      elim long [ inl few ↦ omega arith | inr many ↦ omega arith ])

@@ -103,7 +103,7 @@ hex_bytes-found (high ∷ low ∷ rest) bytes h =
     let behind = hex_bytes-found rest more.0 more.1 in
     let e : one.0 ∷ more.0 ≡ bytes = cc in
     let is : high ∷ low ∷ rest ≡ hex_word (one.0 ∷ more.0) =
-        ap (λ x. x ∷ low ∷ rest) b.first ∙ ap (λ x. hex_digit (one.0 / 16) ∷ x ∷ rest) b.second ∙ ap (λ x. hex_digit (one.0 / 16) ∷ hex_digit (one.0 % 16) ∷ x) behind.spelled in
+    ap (λ x. x ∷ low ∷ rest) b.first ∙ ap (λ x. hex_digit (one.0 / 16) ∷ x ∷ rest) b.second ∙ ap (λ x. hex_digit (one.0 / 16) ∷ hex_digit (one.0 % 16) ∷ x) behind.spelled in
     subst (AreBytes (high ∷ low ∷ rest)) e (record { spelled = is; small = All-cons (λ byte. byte < 2 ^ 8) one.0 more.0 b.small behind.small })
 
 hex_bytes-only : (bytes : List ℕ) → All (λ byte. byte < 2 ^ 8) bytes → hex_bytes (hex_word bytes) ≡ Some bytes

@@ -1,5 +1,5 @@
 -- The first line, and those behind it.
-use Rattle.std.proofs.Common.{◌≡◌, ◌≤◌, ◌<◌, ◌+◌, ◌-◌, ◌∙◌, ℕ, suc, Bool, true, false, cond, not, nat_lt, nat_eq, List, [], ◌∷◌, length, drop, take, arith, refl, sym, subst, ap}
+use Rattle.std.proofs.Common.{◌≡◌, ◌<◌, ◌+◌, ◌∙◌, ℕ, suc, Bool, true, false, cond, not, nat_eq, List, [], ◌∷◌, length, drop, take, arith, refl, ap}
 use Rattle.std.specs.List.{onto_first, position_or_len, before_first, after_first}
 use Rattle.lock_script.specs.Lines.{lines_of}
 

@@ -1,5 +1,5 @@
 -- Words that spell numbers.
-use Rattle.std.proofs.Common.{◌≡◌, ◌≤◌, ◌<◌, ◌+◌, ◌-◌, ◌*◌, ◌^◌, ◌∙◌, ℕ, zero, suc, List, [], ◌∷◌, Bool, true, false, not, ◌&&◌, nat_eq, nat_lt, nat_le, eq-eqb, ne_eqb, ltb-true, lt-ltb, leb-true, le-leb, Option, Some, None, Ok, Err, Result, decimal, length, get_or, take, arith, rules, ap, sym, subst, refl, lit<, lit≤}
+use Rattle.std.proofs.Common.{◌≡◌, ◌≤◌, ◌<◌, ◌+◌, ◌-◌, ◌*◌, ◌^◌, ◌∙◌, ℕ, zero, suc, List, [], ◌∷◌, true, not, ◌&&◌, nat_eq, nat_lt, nat_le, eq-eqb, ne_eqb, ltb-true, lt-ltb, leb-true, le-leb, Option, Some, None, decimal, length, get_or, take, arith, rules, ap, sym, subst, refl, lit<, lit≤}
 use Rattle.std.specs.Char.{is_ascii_digit, digit_value}
 use Rattle.std.specs.Int.{IsInRange}
 use Rattle.std.specs.List.{list_all}

@@ -1,16 +1,13 @@
 -- Bytes that are read line by line.
-use Rattle.std.proofs.Common.{◌≡◌, ◌≤◌, ◌<◌, ◌+◌, ◌-◌, ◌∙◌, ◌⊎◌, inl, inr, ℕ, zero, suc, Bool, true, false, List, [], ◌∷◌, ◌++◌, Option, Some, None, length, length-drop, take, drop, arith, refl, sym, ap, subst, Result, Ok, Err}
+use Rattle.std.proofs.Common.{◌≡◌, ◌≤◌, ◌<◌, ◌+◌, ◌-◌, ◌∙◌, ℕ, zero, suc, true, false, List, [], ◌∷◌, ◌++◌, Option, Some, None, length, length-drop, take, drop, arith, refl, sym, ap, subst}
 use Rattle.std.proofs.Math.Seq.{take-length}
 use Rattle.slot_log.specs.Shape.{Shape}
-use Rattle.lock_script.specs.declared.event.Event.{Event}
-use Rattle.lock_script.specs.declared.show.Show as shown
-use Rattle.lock_script.specs.declared.script.ScriptFault.{ScriptFault}
-use Rattle.lock_script.specs.declared.script.ScriptFault.TheVariants.{NoMemory as OutOfMemory, BadLine}
+use Rattle.lock_script.specs.declared.script.ScriptFault.TheVariants.{BadLine}
 use Rattle.lock_script.specs.declared.draft.LineFault.{LineFault}
 use Rattle.lock_script.specs.declared.draft.LineFault.TheVariants.{Bad, NoMemory}
 use Rattle.lock_script.specs.Faults.{fault_at}
 use Rattle.lock_script.specs.Lines.{lines_of, is_passed_over}
-use Rattle.lock_script.specs.Script.{Content, said_lines, IsScript, AreGood, IsFirstBad}
+use Rattle.lock_script.specs.Script.{IsScript, AreGood, IsFirstBad}
 use Rattle.lock_script.specs.Draft.{SoFar, read_line, Says}
 use Rattle.lock_script.proofs.Saying.{added_says, passed_says, says_good}
 use Rattle.lock_script.proofs.Refusing.{refused_breaks}
@@ -106,7 +103,7 @@ module _ (bytes : List ℕ) (n : ℕ) (rest : List ℕ) (said : SoFar) (read : I
       let end = whole empty in
       let at_end : Says (lines_of bytes) said = subst (λ (l : List (List ℕ)). Says l said) end.1 read.says in
       let none : Says (lines_of bytes) (record { shape = None; events = said.events; shows = said.shows }) =
-          subst (λ (o : Option Shape). Says (lines_of bytes) (record { shape = o; events = said.events; shows = said.shows })) unopened at_end in
+      subst (λ (o : Option Shape). Says (lines_of bytes) (record { shape = o; events = said.events; shows = said.shows })) unopened at_end in
       let before : n + 1 - 1 ≡ n = omega arith in
       let all = end.0 in
       subst (IsFirstBad (lines_of bytes)) number (record {

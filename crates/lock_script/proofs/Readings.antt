@@ -1,9 +1,9 @@
 -- Readings one after the other.
-use Rattle.std.proofs.Common.{◌≡◌, ◌≤◌, ◌<◌, ◌∙◌, ◌⊎◌, inl, inr, ℕ, Bool, true, false, cond, ◌&&◌, List, [], ◌∷◌, Option, Some, None, refl, sym, ap}
+use Rattle.std.proofs.Common.{◌≡◌, ◌⊎◌, inl, inr, ℕ, Bool, true, false, cond, ◌&&◌, List, [], ◌∷◌, Option, Some, None, refl, ap}
 use Rattle.std.specs.Prelude.{bytes_eq}
 use Rattle.std.proofs.lemmas.Slice.Eq.{bytes_eq-Decides}
 use Rattle.lock_command.specs.Reading.{◌>>=◌, passed}
-use Rattle.lock_script.specs.Words.{first_word, words_behind, last_word}
+use Rattle.lock_script.specs.Words.{last_word}
 
 -- where two readings found something, each did
 pub bound : {A B : Type 0} (found : Option A) (f : A → Option B) (y : B) → (found >>= f) ≡ Some y → (x : A) × (found ≡ Some x) × (f x ≡ Some y)
@@ -42,13 +42,3 @@ pub one_read : {A : Type 0} (read : List ℕ → Option A) (words : List (List �
 one_read read [] x h = absurd (cc)
 one_read read (word ∷ []) x h = record { word = word; words_are = refl; reads = h }
 one_read read (word ∷ next ∷ words) x h = absurd (cc)
-
--- the first word, and those behind it
-pub record ReadFirst {A : Type 0} (read : List ℕ → Option A) (words : List (List ℕ)) (x : A) : Type 0 where
-  pub word : List ℕ
-  pub words_are : words ≡ word ∷ words_behind words
-  pub reads : read word ≡ Some x
-
-pub first_read : {A : Type 0} (read : List ℕ → Option A) (words : List (List ℕ)) (x : A) → (first_word words >>= read) ≡ Some x → ReadFirst read words x
-first_read read [] x h = absurd (cc)
-first_read read (word ∷ words) x h = record { word = word; words_are = refl; reads = h }

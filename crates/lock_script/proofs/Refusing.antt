@@ -1,14 +1,13 @@
 -- A line that is not added breaks a rule.
-use Rattle.std.proofs.Common.{◌≡◌, ◌≤◌, ◌<◌, ◌+◌, ◌∙◌, ◌⊎◌, inl, inr, ℕ, Bool, true, false, ◌&&◌, nat_lt, nat_le, List, [], ◌∷◌, ◌++◌, Option, Some, None, length, length-append, append_assoc, append-nil, arith, refl, sym, ap, subst, lt-ltb, le-leb}
+use Rattle.std.proofs.Common.{◌≡◌, ◌≤◌, ◌+◌, ◌∙◌, inl, inr, ℕ, true, false, ◌&&◌, nat_lt, nat_le, List, [], ◌∷◌, ◌++◌, Option, Some, None, length, length-append, append-nil, arith, refl, sym, ap, subst, lt-ltb, le-leb}
 use Rattle.std.specs.Prelude.{map, replicate, All}
 use Rattle.std.specs.List.{flat_map}
 use Rattle.std.specs.Cmp.Derive.{both_true}
 use Rattle.std.proofs.lemmas.List.{map-append, length-replicate}
-use Rattle.std.proofs.lemmas.List.Elements.{All-cons, All-nil, All-head, All-tail, All-append}
+use Rattle.std.proofs.lemmas.List.Elements.{All-cons, All-nil, All-head, All-tail}
 use Rattle.std.proofs.lemmas.Grind.{flat_map-append}
-use Rattle.torn_block.specs.declared.layout.TheConstants.{DISKS}
 use Rattle.slot_log.specs.Shape.{Shape}
-use Rattle.lock_command.specs.Reading.{◌>>=◌, passed}
+use Rattle.lock_command.specs.Reading.{◌>>=◌}
 use Rattle.lock_script.specs.declared.event.Event.{Event}
 use Rattle.lock_script.specs.declared.event.Event.TheVariants.{Step}
 use Rattle.lock_script.specs.declared.line.Line.{Line}
@@ -82,7 +81,7 @@ module _ (lines : List (List ℕ)) (line : List ℕ) (says : is_passed_over line
       → (l : Line) × (line_at (words_of line) ≡ Some l) × ((next : SoFar) × (added (record { shape = None; events = events; shows = shows }) l ≡ Some next))
   first_read events shows content none script =
       let one : words_of line ∷ [] ≡ map line_words (Cluster content.shape ∷ script.behind) =
-          ap (λ (s : List (List ℕ)). map words_of s ++ words_of line ∷ []) (sym none) ∙ sym words_with ∙ script.words in
+      ap (λ (s : List (List ℕ)). map words_of s ++ words_of line ∷ []) (sym none) ∙ sym words_with ∙ script.words in
       let is : words_of line ≡ line_words (Cluster content.shape) = cc in
       (Cluster content.shape, ap line_at is ∙ line_at-only (Cluster content.shape) script.first, (record { shape = Some content.shape; events = events; shows = shows }, refl))
 
@@ -92,7 +91,7 @@ module _ (lines : List (List ℕ)) (line : List ℕ) (says : is_passed_over line
   next_read shape events shows content so_far script =
       let mine = Cluster shape ∷ so_far.behind in
       let same : map line_words mine ++ words_of line ∷ [] ≡ map line_words (Cluster content.shape ∷ script.behind) =
-          ap (λ w. w ++ words_of line ∷ []) (sym so_far.words) ∙ sym words_with ∙ script.words in
+      ap (λ w. w ++ words_of line ∷ []) (sym so_far.words) ∙ sym words_with ∙ script.words in
       let front = same_front mine (Cluster content.shape ∷ script.behind) (words_of line) (all_fit shape so_far.behind so_far.first so_far.fits) (all_fit content.shape script.behind script.first script.fits) same in
       let l = front.0 in
       let whole : Cluster content.shape ∷ script.behind ≡ Cluster shape ∷ (so_far.behind ++ l ∷ []) = front.1 in
@@ -117,11 +116,12 @@ module _ (lines : List (List ℕ)) (line : List ℕ) (says : is_passed_over line
         | inl none ↦ let nothing : said_lines lines ++ line ∷ [] ≡ [] = sym (said_more lines line says) ∙ none in let n = length-append (said_lines lines) (line ∷ []) in let z = ap length nothing in omega arith
         | inr script ↦ by_shape said.shape said.events said.shows so_far script.0 script.1 refused
       ] where
-    clash : (before : SoFar) → ((l : Line) × (line_at (words_of line) ≡ Some l) × ((next : SoFar) × (added before l ≡ Some next))) → (line_at (words_of line) >>= added before) ≡ None → ⊥
-    clash before read none =
-        let found : (line_at (words_of line) >>= added before) ≡ Some read.2.0 = ap (λ (l : Option Line). l >>= added before) read.1 ∙ read.2.1 in
-        cc
-    by_shape : (shape : Option Shape) (events : List Event) (shows : List shown.Show) → Says lines (record { shape = shape; events = events; shows = shows }) → (content : Content) → IsScript (lines ++ line ∷ []) content
-        → (line_at (words_of line) >>= added (record { shape = shape; events = events; shows = shows })) ≡ None → ⊥
-    by_shape None events shows before content script none = clash (record { shape = None; events = events; shows = shows }) (first_read events shows content before.0 script) none
-    by_shape (Some shape) events shows before content script none = clash (record { shape = Some shape; events = events; shows = shows }) (next_read shape events shows content before script) none
+        clash : (before : SoFar) → ((l : Line) × (line_at (words_of line) ≡ Some l) × ((next : SoFar) × (added before l ≡ Some next))) → (line_at (words_of line) >>= added before) ≡ None → ⊥
+        clash before read none =
+            let found : (line_at (words_of line) >>= added before) ≡ Some read.2.0 = ap (λ (l : Option Line). l >>= added before) read.1 ∙ read.2.1 in
+            cc
+
+        by_shape : (shape : Option Shape) (events : List Event) (shows : List shown.Show) → Says lines (record { shape = shape; events = events; shows = shows }) → (content : Content) → IsScript (lines ++ line ∷ []) content
+            → (line_at (words_of line) >>= added (record { shape = shape; events = events; shows = shows })) ≡ None → ⊥
+        by_shape None events shows before content script none = clash (record { shape = None; events = events; shows = shows }) (first_read events shows content before.0 script) none
+        by_shape (Some shape) events shows before content script none = clash (record { shape = Some shape; events = events; shows = shows }) (next_read shape events shows content before script) none

@@ -1,14 +1,12 @@
 -- What lines say, line by line.
-use Rattle.std.proofs.Common.{◌≡◌, ◌≤◌, ◌<◌, ◌+◌, ◌-◌, ◌^◌, ◌∙◌, ◌⊎◌, inl, inr, ℕ, suc, Bool, true, false, not, ◌&&◌, nat_lt, nat_le, List, [], ◌∷◌, ◌++◌, Option, Some, None, length, length-append, append_assoc, append-nil, arith, refl, sym, ap, subst, ltb-true, lt-ltb, leb-true, le-leb}
-use Rattle.std.specs.Prelude.{map, filter, replicate, All}
+use Rattle.std.proofs.Common.{◌≡◌, ◌≤◌, ◌+◌, ◌∙◌, inl, inr, ℕ, true, false, not, ◌&&◌, nat_lt, nat_le, List, [], ◌∷◌, ◌++◌, Option, Some, None, length, length-append, append_assoc, append-nil, arith, refl, sym, ap, subst, ltb-true, lt-ltb, leb-true}
+use Rattle.std.specs.Prelude.{map, filter, replicate}
 use Rattle.std.specs.List.{flat_map}
-use Rattle.std.specs.Cmp.Derive.{both_true}
 use Rattle.std.proofs.lemmas.List.{map-append, length-replicate}
-use Rattle.std.proofs.lemmas.List.Elements.{All-cons, All-nil, All-head, All-tail, All-append, filter-append}
+use Rattle.std.proofs.lemmas.List.Elements.{All-cons, All-nil, All-append, filter-append}
 use Rattle.std.proofs.lemmas.Grind.{flat_map-append}
 use Rattle.torn_block.specs.declared.layout.TheConstants.{DISKS}
 use Rattle.slot_log.specs.Shape.{Shape}
-use Rattle.lock_command.specs.Reading.{◌>>=◌, passed}
 use Rattle.lock_script.specs.declared.event.Event.{Event}
 use Rattle.lock_script.specs.declared.event.Event.TheVariants.{Start, Stop, Submit, Recover, Step, Tear, FailCall, DiskCrash, DiskGone}
 use Rattle.lock_script.specs.declared.line.Line.{Line}
@@ -16,12 +14,12 @@ use Rattle.lock_script.specs.declared.line.Line.TheVariants.{Cluster, Once, Step
 use Rattle.lock_script.specs.declared.show.Show as shown
 use Rattle.lock_script.specs.Lines.{is_passed_over}
 use Rattle.lock_script.specs.Words.{words_of}
-use Rattle.lock_script.specs.Spelling.{line_words, FitsEvent, FitsFirst, FitsBehind}
+use Rattle.lock_script.specs.Spelling.{line_words, FitsEvent, FitsBehind}
 use Rattle.lock_script.specs.Script.{events_in, shows_at, shows_in, Content, said_lines, IsScript, AreGood}
 use Rattle.lock_script.specs.Reading.{line_at}
 use Rattle.lock_script.specs.Draft.{SoFar, is_on_disk_of, added, read_line, Says}
-use Rattle.lock_script.proofs.Readings.{bound, was_passed, is_passed, both_are}
-use Rattle.lock_script.proofs.Spoken.{FitsLine, Spells, line_at-found, line_at-only}
+use Rattle.lock_script.proofs.Readings.{bound, was_passed, both_are}
+use Rattle.lock_script.proofs.Spoken.{FitsLine, Spells, line_at-found}
 
 -- RANGES
 
@@ -100,20 +98,20 @@ longer lines content line l says script spells fits few =
     record {
       behind = script.behind ++ l ∷ [];
       words =
-        ap (map words_of) (said_more lines line says) ∙ map-append words_of (said_lines lines) (line ∷ [])
-        ∙ ap (λ w. w ++ words_of line ∷ []) script.words ∙ ap (λ w. front ++ w ∷ []) spells.words_are
-        ∙ ap (λ w. line_words (Cluster content.shape) ∷ w) (sym (map-append line_words script.behind (l ∷ [])));
+          ap (map words_of) (said_more lines line says) ∙ map-append words_of (said_lines lines) (line ∷ [])
+          ∙ ap (λ w. w ++ words_of line ∷ []) script.words ∙ ap (λ w. front ++ w ∷ []) spells.words_are
+          ∙ ap (λ w. line_words (Cluster content.shape) ∷ w) (sym (map-append line_words script.behind (l ∷ [])));
       first = script.first;
       fits = All-append (FitsBehind content.shape.disks) script.behind (l ∷ []) script.fits (All-cons (FitsBehind content.shape.disks) l [] fits (All-nil (FitsBehind content.shape.disks)));
       events =
-        ap (λ e. e ++ events_in l) script.events ∙ ap (λ e. flat_map events_in script.behind ++ e) (sym (append-nil (events_in l)))
-        ∙ sym (flat_map-append events_in script.behind (l ∷ []));
+          ap (λ e. e ++ events_in l) script.events ∙ ap (λ e. flat_map events_in script.behind ++ e) (sym (append-nil (events_in l)))
+          ∙ sym (flat_map-append events_in script.behind (l ∷ []));
       few = few;
       shows =
-        ap (λ s. s ++ shows_at (length content.events) l) script.shows
-        ∙ ap (λ (e : List Event). shows_in 0 script.behind ++ shows_at (length e) l) script.events
-        ∙ ap (λ p. shows_in 0 script.behind ++ shows_at p l) (let same : length (flat_map events_in script.behind) ≡ 0 + length (flat_map events_in script.behind) = omega arith in same)
-        ∙ sym (shows_in-push 0 script.behind l);
+          ap (λ s. s ++ shows_at (length content.events) l) script.shows
+          ∙ ap (λ (e : List Event). shows_in 0 script.behind ++ shows_at (length e) l) script.events
+          ∙ ap (λ p. shows_in 0 script.behind ++ shows_at p l) (let same : length (flat_map events_in script.behind) ≡ 0 + length (flat_map events_in script.behind) = omega arith in same)
+          ∙ sym (shows_in-push 0 script.behind l);
     }
 
 -- the first line that is not passed over
@@ -178,10 +176,10 @@ module _ (lines : List (List ℕ)) (line : List ℕ) (says : is_passed_over line
       let l = bound (line_at (words_of line)) (added said) next read in
       let spells = line_at-found (words_of line) l.0 l.1 in
       by_shape said.shape said.events said.shows so_far l.0 spells l.2 where
-    by_shape : (shape : Option Shape) (events : List Event) (shows : List shown.Show) → Says lines (record { shape = shape; events = events; shows = shows }) → (l : Line) → Spells (words_of line) l
-        → added (record { shape = shape; events = events; shows = shows }) l ≡ Some next → Says (lines ++ line ∷ []) next
-    by_shape None events shows so_far l spells h = first_added events shows l next so_far.0 so_far.1 so_far.2 spells h
-    by_shape (Some shape) events shows so_far l spells h = next_added shape events shows l next so_far spells h
+        by_shape : (shape : Option Shape) (events : List Event) (shows : List shown.Show) → Says lines (record { shape = shape; events = events; shows = shows }) → (l : Line) → Spells (words_of line) l
+            → added (record { shape = shape; events = events; shows = shows }) l ≡ Some next → Says (lines ++ line ∷ []) next
+        by_shape None events shows so_far l spells h = first_added events shows l next so_far.0 so_far.1 so_far.2 spells h
+        by_shape (Some shape) events shows so_far l spells h = next_added shape events shows l next so_far spells h
 
 -- a line that is passed over changes nothing
 script_passed : (lines : List (List ℕ)) (line : List ℕ) (content : Content) → is_passed_over line ≡ true → IsScript lines content → IsScript (lines ++ line ∷ []) content

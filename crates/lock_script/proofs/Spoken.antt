@@ -1,19 +1,17 @@
 -- Words are read as a line exactly where they spell it.
-use Rattle.std.proofs.Common.{◌≡◌, ◌≤◌, ◌<◌, ◌+◌, ◌^◌, ◌∙◌, ◌⊎◌, inl, inr, ℕ, Bool, true, false, cond, List, [], ◌∷◌, Option, Some, None, arith, refl, sym, ap, subst}
-use Rattle.std.specs.Prelude.{codes, decimal, bytes_eq}
+use Rattle.std.proofs.Common.{◌≡◌, ◌<◌, ◌∙◌, inl, inr, ℕ, List, [], ◌∷◌, Option, Some, arith, refl, sym, ap, subst}
+use Rattle.std.specs.Prelude.{codes, decimal}
 use Rattle.torn_block.specs.declared.layout.TheConstants.{DISKS}
-use Rattle.slot_log.specs.Shape.{Shape}
 use Rattle.lock_command.specs.declared.command.Command.{Command}
 use Rattle.lock_command.specs.Command.{Fits as FitsCommand}
-use Rattle.lock_command.specs.Reading.{◌>>=◌, passed}
-use Rattle.lock_script.specs.declared.event.Event.{Event}
+use Rattle.lock_command.specs.Reading.{◌>>=◌}
 use Rattle.lock_script.specs.declared.event.Event.TheVariants.{Start, Stop, Submit, Recover, Step, Tear, FailCall, DiskCrash, DiskGone}
 use Rattle.lock_script.specs.declared.line.Line.{Line}
 use Rattle.lock_script.specs.declared.line.Line.TheVariants.{Cluster, Once, Steps, Show}
-use Rattle.lock_script.specs.Words.{first_word, words_behind, no_words, last_word}
+use Rattle.lock_script.specs.Words.{first_word, words_behind, last_word}
 use Rattle.lock_script.specs.Reading.{number_in, host_of, disk_of, tries_of, times_of, given_of, command_at, cluster_at, submit_at, recover_at, step_at, tear_at, fail_at, crash_at, plain_at, said_at, line_at}
-use Rattle.lock_script.specs.Spelling.{hex_word, command_words, line_words, AreGiven, IsTries, FitsEvent, FitsFirst, FitsBehind}
-use Rattle.lock_script.proofs.Readings.{bound, was_passed, is_passed, picked, one_read}
+use Rattle.lock_script.specs.Spelling.{hex_word, command_words, line_words, IsTries, FitsEvent, FitsFirst, FitsBehind}
+use Rattle.lock_script.proofs.Readings.{bound, picked, one_read}
 use Rattle.lock_script.proofs.Numbers.{number_in-found, number_in-only}
 use Rattle.lock_script.proofs.Givens.{given_of-found, given_of-only}
 use Rattle.lock_script.proofs.Commands.{nothing, command_at-found, command_at-only}
@@ -141,7 +139,7 @@ submit_found kind (a ∷ b ∷ rest) line named h =
     let s = number_in-found 1 255 b tries.0 tries.1 in
     let c = command_at-found host.0 rest command.0 command.1 in
     let e : Once (Submit command.0 tries.0) ≡ line = cc in
-    let is : kind ∷ a ∷ b ∷ rest ≡ codes "submit" ∷ decimal command.0.host ∷ decimal tries.0 ∷ command_words command.0 = cc (named, d.spelled, s.spelled, c.words_are, c.host_is, ap decimal c.host_is) in
+    let is : kind ∷ a ∷ b ∷ rest ≡ codes "submit" ∷ decimal command.0.host ∷ decimal tries.0 ∷ command_words command.0 = cc (named, d.spelled, s.spelled, c.words_are, ap decimal c.host_is) in
     let range : command.0.host < 8 = omega (arith, d.high, c.host_is) in
     let fits : FitsCommand command.0 = record { host = range; client = c.client; request = c.request; action = c.action } in
     subst (Spells (kind ∷ a ∷ b ∷ rest)) e (record { words_are = is; fits = (fits, (s.low, s.high)) })
@@ -175,27 +173,27 @@ plain_found kind words line h =
     elim (picked kind (codes "step") _ _ line h) [
       | inl p ↦ step_found kind words line p.0 p.1
       | inr other ↦ elim (picked kind (codes "submit") _ _ line other) [
-          | inl p ↦ submit_found kind words line p.0 p.1
-          | inr other ↦ elim (picked kind (codes "recover") _ _ line other) [
-              | inl p ↦ recover_found kind words line p.0 p.1
-              | inr other ↦ elim (picked kind (codes "start") _ _ line other) [
-                  | inl p ↦ host_alone kind words (λ host. Once (Start host)) line (λ host. (ap (λ w. w ∷ decimal host ∷ []) (sym p.0), λ fits. fits)) p.1
-                  | inr other ↦ elim (picked kind (codes "stop") _ _ line other) [
-                      | inl p ↦ host_alone kind words (λ host. Once (Stop host)) line (λ host. (ap (λ w. w ∷ decimal host ∷ []) (sym p.0), λ fits. fits)) p.1
-                      | inr other ↦ elim (picked kind (codes "gone") _ _ line other) [
-                          | inl p ↦ gone_found kind words line p.0 p.1
-                          | inr other ↦ elim (picked kind (codes "show") _ _ line other) [
-                              | inl p ↦ host_alone kind words Show line (λ host. (ap (λ w. w ∷ decimal host ∷ []) (sym p.0), λ fits. fits)) p.1
-                              | inr other ↦ elim (picked kind (codes "cluster") _ _ line other) [
-                                  | inl p ↦ cluster_found kind words line p.0 p.1
-                                  | inr other ↦ absurd (cc)
-                                ]
-                            ]
-                        ]
-                    ]
+        | inl p ↦ submit_found kind words line p.0 p.1
+        | inr other ↦ elim (picked kind (codes "recover") _ _ line other) [
+          | inl p ↦ recover_found kind words line p.0 p.1
+          | inr other ↦ elim (picked kind (codes "start") _ _ line other) [
+            | inl p ↦ host_alone kind words (λ host. Once (Start host)) line (λ host. (ap (λ w. w ∷ decimal host ∷ []) (sym p.0), λ fits. fits)) p.1
+            | inr other ↦ elim (picked kind (codes "stop") _ _ line other) [
+              | inl p ↦ host_alone kind words (λ host. Once (Stop host)) line (λ host. (ap (λ w. w ∷ decimal host ∷ []) (sym p.0), λ fits. fits)) p.1
+              | inr other ↦ elim (picked kind (codes "gone") _ _ line other) [
+                | inl p ↦ gone_found kind words line p.0 p.1
+                | inr other ↦ elim (picked kind (codes "show") _ _ line other) [
+                  | inl p ↦ host_alone kind words Show line (λ host. (ap (λ w. w ∷ decimal host ∷ []) (sym p.0), λ fits. fits)) p.1
+                  | inr other ↦ elim (picked kind (codes "cluster") _ _ line other) [
+                    | inl p ↦ cluster_found kind words line p.0 p.1
+                    | inr other ↦ absurd (cc)
+                  ]
                 ]
+              ]
             ]
+          ]
         ]
+      ]
     ]
 
 pub line_at-found : (words : List (List ℕ)) (line : Line) → line_at words ≡ Some line → Spells words line
@@ -205,12 +203,12 @@ line_at-found (kind ∷ words) line h =
     elim (picked kind (codes "tear") _ _ line h) [
       | inl p ↦ tear_found kind words line p.0 p.1
       | inr other ↦ elim (picked kind (codes "fail") _ _ line other) [
-          | inl p ↦ fail_found kind words line p.0 p.1
-          | inr other ↦ elim (picked kind (codes "crash") _ _ line other) [
-              | inl p ↦ crash_found kind words line p.0 p.1
-              | inr other ↦ plain_found kind words line other
-            ]
+        | inl p ↦ fail_found kind words line p.0 p.1
+        | inr other ↦ elim (picked kind (codes "crash") _ _ line other) [
+          | inl p ↦ crash_found kind words line p.0 p.1
+          | inr other ↦ plain_found kind words line other
         ]
+      ]
     ]
 
 host_of-only : (host : ℕ) → host < 8 → host_of (decimal host) ≡ Some host

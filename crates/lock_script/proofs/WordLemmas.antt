@@ -1,9 +1,9 @@
 -- The words of a line, cut off one by one.
-use Rattle.std.proofs.Common.{◌≡◌, ◌≤◌, ◌<◌, ◌+◌, ◌-◌, ◌∙◌, ℕ, Bool, true, false, cond, not, rules, Bor, nat_lt, nat_eq, List, [], ◌∷◌, Option, Some, None, length, length-drop, subst, take, drop, get_or, arith, refl, sym, ap, ltb-true, ltb-false}
-use Rattle.std.specs.Prelude.{All, position}
+use Rattle.std.proofs.Common.{◌≡◌, ◌≤◌, ◌<◌, ◌+◌, ◌-◌, ◌∙◌, ℕ, Bool, true, false, cond, not, Bor, nat_lt, nat_eq, List, [], ◌∷◌, Option, Some, None, length, length-drop, subst, take, drop, arith, refl, sym, ap, ltb-true, ltb-false}
+use Rattle.std.specs.Prelude.{position}
 use Rattle.std.specs.Option.{option_copied, is_some}
 use Rattle.std.proofs.Math.Seq.{take-length}
-use Rattle.std.specs.List.{position_or_len, before_first, after_first}
+use Rattle.std.specs.List.{position_or_len}
 use Rattle.std.proofs.lemmas.List.Splits.{slice_split_first, slice_split_none, length-slice_split}
 use Rattle.std.proofs.lemmas.List.Sums.{fails_before_first}
 use Rattle.lock_script.specs.Words.{words_of, words_left, first_word, words_behind, no_words}

@@ -1,5 +1,5 @@
 -- What the lines of a script say so far.
-use Rattle.std.specs.Prelude.{◌≡◌, ℕ, ◌+◌, ◌<◌, nat_lt, nat_le, Bool, true, ◌&&◌, List, [], ◌∷◌, ◌++◌, length, replicate, Option, Some, None, MatchOption}
+use Rattle.std.specs.Prelude.{◌≡◌, ℕ, ◌+◌, nat_lt, nat_le, Bool, true, ◌&&◌, List, [], ◌∷◌, ◌++◌, length, replicate, Option, Some, MatchOption}
 use Rattle.std.specs.Option.{is_none}
 use Rattle.slot_log.specs.Shape.{Shape}
 use Rattle.lock_command.specs.Reading.{◌>>=◌, passed}
@@ -10,7 +10,7 @@ use Rattle.lock_script.specs.declared.line.Line.TheVariants.{Cluster, Once, Step
 use Rattle.lock_script.specs.declared.show.Show as shown
 use Rattle.lock_script.specs.declared.draft.Draft.{Draft}
 use Rattle.lock_script.specs.Words.{words_of}
-use Rattle.lock_script.specs.Script.{Content, said_lines, IsScript}
+use Rattle.lock_script.specs.Script.{said_lines, IsScript}
 use Rattle.lock_script.specs.Reading.{line_at}
 
 -- the cluster, where its line was read, and what was read behind it

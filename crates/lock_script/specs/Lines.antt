@@ -1,6 +1,6 @@
 -- The lines of a script.
-use Rattle.std.specs.Prelude.{ℕ, ◌==◌, ◌<◌, Bool, true, false, List, [], ◌∷◌, length, if◌then◌else◌}
-use Rattle.std.specs.List.{onto_first, before_first, after_first}
+use Rattle.std.specs.Prelude.{ℕ, ◌==◌, Bool, true, List, [], ◌∷◌, if◌then◌else◌}
+use Rattle.std.specs.List.{onto_first}
 
 -- a byte 0x0A ends a line; bytes behind the last one are a line too
 abbrev pub lines_of : List ℕ → List (List ℕ)

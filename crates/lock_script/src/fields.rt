@@ -2,7 +2,13 @@ ghost use Rattle.std.specs.Prelude.{◌≡◌};
 ghost use Rattle.lock_script.specs.Reading.{host_of, disk_of, tries_of, times_of, client_of, request_of, lock_of};
 
 use crate::number::number_in;
-use lock_command::{ClientNumber, HostNumber, LockNumber, RequestNumber};
+use lock_command::{ClientNumber, HOSTS, HostNumber, LockNumber, RequestNumber};
+use torn_block::DISKS;
+
+/// Hosts and disks are numbered from 0.
+const LAST_HOST: u64 = HOSTS as u64 - 1;
+
+const LAST_DISK: u64 = DISKS as u64 - 1;
 
 /// The most steps that one line asks for.
 const MOST_STEPS: u64 = 100_000;
@@ -11,14 +17,14 @@ const MOST_STEPS: u64 = 100_000;
 pub fn host_of(word: &[u8]) -> Option<HostNumber>
     ensures { result ≡ host_of word.now }
 {
-    HostNumber::new(number_in(word, 0, 7)? as u8)
+    HostNumber::new(number_in(word, 0, LAST_HOST)? as u8)
 }
 
 /// The number of a disk, 0 to 6. Whether the cluster has that disk is not looked at.
 pub fn disk_of(word: &[u8]) -> Option<u8>
     ensures { result ≡ disk_of word.now }
 {
-    Some(number_in(word, 0, 6)? as u8)
+    Some(number_in(word, 0, LAST_DISK)? as u8)
 }
 
 /// How many attempts may be outrun.

@@ -36,8 +36,9 @@ impl Given {
     }
 
     /// The same bytes again.
-    pub fn copy(&self) -> Result<Given, AllocError>
-    {
-        Ok(Given { bytes: self.bytes.clone()? })
+    pub fn copy(&self) -> Result<Given, AllocError> {
+        Ok(Given {
+            bytes: self.bytes.clone()?,
+        })
     }
 }

@@ -13,6 +13,12 @@ use crate::words::Words;
 use lock_command::HostNumber;
 use slot_log::Config;
 use std::alloc::{AllocError, Global};
+use torn_block::{DISKS, SLOTS};
+
+/// The most disks and slots of a cluster.
+const MOST_DISKS: u64 = DISKS as u64;
+
+const MOST_SLOTS: u64 = SLOTS as u64;
 
 /// What a line says that is not passed over.
 #[derive(Drop)]
@@ -73,8 +79,8 @@ fn plain_at(kind: &[u8], words: &mut Words<'_>) -> Option<Line>
 fn cluster_at(words: &mut Words<'_>) -> Option<Line>
     ensures { result ≡ Read.cluster_at words.old }
 {
-    let disks = number_in(words.next()?, 1, 7)? as u8;
-    let slots = number_in(words.last()?, 1, 4096)? as u16;
+    let disks = number_in(words.next()?, 1, MOST_DISKS)? as u8;
+    let slots = number_in(words.last()?, 1, MOST_SLOTS)? as u16;
     Some(Line::Cluster(Config::new(disks, slots)?))
 }
 

@@ -12,7 +12,11 @@ pub fn number_in(word: &[u8], least: u64, most: u64) -> Option<u64>
     ensures range { IfSome result (λ n. (least ≤ n) × (n ≤ most)) }
 {
     let n = number_of(word)?;
-    if least <= n && n <= most { Some(n) } else { None }
+    if least <= n && n <= most {
+        Some(n)
+    } else {
+        None
+    }
 }
 
 /// The number that the word spells: decimal digits, of which the first is 0 in `0` alone.
@@ -50,7 +54,9 @@ fn digits_value(digits: &[u8]) -> Option<u64>
 {
     let mut value = 0u64;
     for digit in digits {
-        value = value.checked_mul(10)?.checked_add(u64::from(*digit - b'0'))?;
+        value = value
+            .checked_mul(10)?
+            .checked_add(u64::from(*digit - b'0'))?;
     }
     Some(value)
 }

@@ -1,4 +1,4 @@
-use Rattle.std.proofs.Common.{◌≡◌, ◌≤◌, ◌<◌, inl, inr, length, arith}
+use Rattle.std.proofs.Common.{◌≡◌, inl, inr, length, arith}
 use Rattle.lock_script.proofs.GivenLemmas.{one_more, no_byte, whole_read, one_left, other_length}
 use Rattle.lock_script.proofs.digits.given_of.Goals.{then-word-lt2-via-then-word-lt2, then-word-lt2-via-else-word-lt2+then-word}
 use Rattle.lock_script.proofs.digits.given_of.Goals as goal

@@ -1,5 +1,5 @@
-use Rattle.std.proofs.Common.{◌≡◌, ◌∷◌, ◌∙◌, ℕ, List, sym, ap}
-use Rattle.std.specs.List.{before_first, after_first}
+use Rattle.std.proofs.Common.{◌∷◌, ◌∙◌, ℕ, List, sym, ap}
+use Rattle.std.specs.List.{after_first}
 use Rattle.lock_script.specs.Lines.{lines_of}
 use Rattle.lock_script.proofs.LineLemmas.{ends, first}
 use Rattle.lock_script.proofs.lines.first_line.Goals as goal

@@ -1,9 +1,9 @@
-use Rattle.std.proofs.Common.{◌≡◌, ◌+◌, ◌∙◌, Bool, true, false, length, arith, sym, ap, Err}
+use Rattle.std.proofs.Common.{◌≡◌, ◌+◌, ◌∙◌, true, false, length, arith, sym, ap, Err}
 use Rattle.lock_script.specs.declared.draft.LineFault.TheVariants.{Bad}
 use Rattle.lock_script.specs.declared.script.ScriptFault.TheVariants.{BadLine}
 use Rattle.lock_script.specs.Lines.{is_passed_over}
 use Rattle.lock_script.specs.Faults.{fault_at}
-use Rattle.lock_script.specs.Draft.{so_far, read_line}
+use Rattle.lock_script.specs.Draft.{so_far}
 use Rattle.lock_script.proofs.Progress.{one_passed, one_added, one_refused, is_script, no_cluster}
 use Rattle.lock_script.proofs.reading.read_script.Goals as goal
 
