@@ -6,7 +6,9 @@ mod device;
 mod fault;
 mod image;
 mod law;
+mod marks;
 mod simulated;
+mod word;
 
 pub use boot::Boot;
 pub use device::Disk;

@@ -2,7 +2,9 @@ ghost use Rattle.std.specs.Prelude.{◌≡◌, ◌+◌, ◌≤◌, ◌<◌, ◌^
 ghost use Rattle.disk.specs.Disk.{Torn, Crashes, written, lost};
 ghost use Rattle.disk.specs.Simulated.{fresh_disk, filling, crashed, items_of, refusal_under, TakesFailure};
 
-use crate::image::{fill_stamped, next_epoch, put, put_given, stamp};
+use crate::image::{fill_marked, put, put_given};
+use crate::marks::{mark, next_epoch};
+use crate::word::Word;
 use crate::{Boot, Disk, DiskFault, NoMemory};
 use std::alloc::Global;
 use std::marker::Model;
@@ -14,8 +16,8 @@ use std::marker::Model;
 #[derive(Drop)]
 pub struct SimDisk {
     bytes: Vec<u8>,
-    stamps: Vec<u32>,
-    epoch: u32,
+    words: Vec<Word>,
+    epoch: u64,
     boot: u64,
     gone: bool,
     failing: Option<Vec<u8>>,
@@ -23,8 +25,8 @@ pub struct SimDisk {
 }
 
 impl Model for SimDisk {
-    ghost use Rattle.std.specs.Prelude.{◌≡◌, ◌≤◌, length, All};
-    ghost use Rattle.disk.specs.Filling.{marks};
+    ghost use Rattle.std.specs.Prelude.{◌*◌, ◌≤◌, length, All};
+    ghost use Rattle.disk.specs.Marks.{marks};
     ghost use Rattle.disk.specs.Simulated.{SimState, IsGiven, items_of};
 
     ghost Value = { SimState };
@@ -32,7 +34,7 @@ impl Model for SimDisk {
     ghost view = { λ d. record {
       disk = record {
         bytes = d.bytes.items;
-        unsynced = marks d.epoch d.stamps.items;
+        unsynced = marks d.epoch d.words.items (length d.bytes.items);
         boot = d.boot;
         gone = d.gone;
       };
@@ -41,8 +43,8 @@ impl Model for SimDisk {
     } };
 
     ghost invariant = { λ d. record {
-      as_many : length d.stamps.items ≡ length d.bytes.items;
-      no_later : All (λ s. s ≤ d.epoch) d.stamps.items;
+      enough : length d.bytes.items ≤ 64 * length d.words.items;
+      no_later : All (λ w. w.stamp ≤ d.epoch) d.words.items;
       given : IsGiven (items_of d.failing);
     } };
 }
@@ -56,7 +58,7 @@ impl SimDisk {
     {
         Ok(SimDisk {
             bytes: vec![in alloc; 0; size as usize]?,
-            stamps: vec![in alloc; 0; size as usize]?,
+            words: vec![in alloc; Word { stamp: 0, bits: 0 }; size.div_ceil(64) as usize]?,
             epoch: 1,
             boot: 1,
             gone: false,
@@ -82,7 +84,7 @@ impl SimDisk {
         ensures size { length self.new.disk.bytes ≡ length self.old.disk.bytes }
     {
         put_given(&mut self.bytes, at as usize, len as usize, given);
-        stamp(&mut self.stamps, at as usize, len as usize, self.epoch);
+        mark(&mut self.words, at as usize, (at + len) as usize, self.epoch);
     }
 
     /// The disk loses power and comes up again: its unsynced positions take the given bytes.
@@ -93,8 +95,8 @@ impl SimDisk {
         ensures crashes { Crashes self.old.disk self.new.disk }
         ensures size { length self.new.disk.bytes ≡ length self.old.disk.bytes }
     {
-        fill_stamped(&mut self.bytes, &self.stamps, self.epoch, given);
-        self.epoch = next_epoch(&mut self.stamps, self.epoch);
+        fill_marked(&mut self.bytes, &self.words, self.epoch, given);
+        self.epoch = next_epoch(&mut self.words, self.epoch);
         self.boot += 1;
     }
 
@@ -126,7 +128,7 @@ impl SimDisk {
         ensures { self.new ≡ record self.old { disk = written self.old.disk at from.now } }
     {
         put(&mut self.bytes, at, from);
-        stamp(&mut self.stamps, at, from.len(), self.epoch);
+        mark(&mut self.words, at, at + from.len(), self.epoch);
     }
 
     // Takes the failure that was asked for, and counts it.
@@ -207,7 +209,7 @@ impl Disk for SimDisk {
         }
         match self.take_failure() {
             None => {
-                self.epoch = next_epoch(&mut self.stamps, self.epoch);
+                self.epoch = next_epoch(&mut self.words, self.epoch);
                 Ok(())
             }
             Some(_) => Err(DiskFault::Failed),

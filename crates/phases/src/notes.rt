@@ -20,7 +20,7 @@ use crate::phase::{Phase, Stage};
 use crate::visit::{UNSEEN, Visit};
 use disk::Boot;
 use paxos_block::{PBlock, Row, Value, ballot_above, block_place, decode_row, encode, row_place};
-use torn_block::{Block128, BlockNeed, DISKS, WriteSteps};
+use torn_block::{Block128, BlockNeed, DISKS, ROW_LENGTH, WriteSteps};
 
 /// As many as there may be disks.
 pub const PLACES: usize = DISKS as usize;
@@ -141,11 +141,26 @@ impl Notes {
         match heard {
             Heard::Booted(boot) => self.attach(*boot),
             Heard::Done => self.succeed(),
-            Heard::Told(bytes) => match decode_row(bytes) {
-                Ok(row) => self.take_row(&row),
-                Err(_) => self.drop_disk(),
-            },
+            Heard::Told(bytes) => self.hear_row(bytes),
             Heard::Fault(_) => self.drop_disk(),
+        }
+    }
+
+    // The bytes of a row were read. A function pays for the room of its rows at its start, so that room is here and not
+    // in `hear`, to which most answers bring no row.
+    #[inline(never)]
+    fn hear_row(&mut self, bytes: &[u8; ROW_LENGTH])
+        requires sound { IsSound self.old }
+        requires going { self.old.end ≡ None }
+        requires stage { self.old.stage ≡ Stage.Reading }
+        ensures sound { IsSound self.new }
+        ensures attempt { IsSameAttempt self.old self.new }
+        ensures follows { (s : Setup) (f : Answers) → IsInOrder s (phase_of self.old) self.old.disk f →
+            Follows s f self.old → Follows s (more f self.old.disk (answers.Told (row_said bytes.now))) self.new }
+    {
+        match decode_row(bytes) {
+            Ok(row) => self.take_row(&row),
+            Err(_) => self.drop_disk(),
         }
     }
 

@@ -1,0 +1,145 @@
+-- Which positions are marked after a write, and after a step of the epoch.
+use Rattle.std.proofs.Common.{◌≡◌, ℕ, ◌+◌, ◌-◌, ◌*◌, ◌/◌, ◌%◌, ◌<◌, ◌≤◌, ◌==◌, min, max, Bool, true, false, cond, List, length, get_or, set, replicate, refl, sym, ◌∙◌, ap, inl, inr, arith}
+use Rattle.std.proofs.lemmas.Bool.{cases_lt, cases_eq, ne_eqb}
+use Rattle.std.proofs.lemmas.List.{length-replicate, get_or-replicate, get_or-set_same, get_or-set_other, get_or_past, ext_get_or}
+use Rattle.std.proofs.lemmas.List.FromFn.{length-map-range_with_len, get_or-map-range_with_len}
+use Rattle.std.proofs.lemmas.Nat.Bits.{bit_at-zero}
+use Rattle.std.specs.Int.{bit_at}
+use Rattle.disk.specs.Disk.{put_at}
+use Rattle.disk.specs.Crash.{length-put, put-below, put-inside, put-above}
+use Rattle.disk.specs.declared.word.Word.{Word}
+use Rattle.disk.specs.Marks.{blank, is_marked_in, is_marked, marks}
+
+pub length-marks : (epoch : ℕ) (words : List Word) (size : ℕ) → length (marks epoch words size) ≡ size
+unfolding marks
+length-marks epoch words size = length-map-range_with_len (is_marked epoch words) 0 size
+
+pub get_or-marks : (epoch : ℕ) (words : List Word) (size k : ℕ) → k < size → get_or (marks epoch words size) k false ≡ is_marked epoch words k
+unfolding marks
+get_or-marks epoch words size k within = get_or-map-range_with_len (is_marked epoch words) 0 size k k false within (omega arith)
+
+-- between the two lists of words the range alone was marked
+pub record MarksRange (epoch at end : ℕ) (old new : List Word) : Type 0 where
+  pub below : (k : ℕ) → k < at → is_marked epoch new k ≡ is_marked epoch old k
+  pub inside : (k : ℕ) → at ≤ k → k < end → is_marked epoch new k ≡ true
+  pub above : (k : ℕ) → end ≤ k → is_marked epoch new k ≡ is_marked epoch old k
+
+-- an empty range
+pub marks_none : (epoch at : ℕ) (old : List Word) → MarksRange epoch at at old old
+marks_none epoch at old =
+    record { below = λ k b. refl; inside = λ k f b. absurd (omega arith); above = λ k a. refl }
+
+-- as a list of flags: the range is put into it
+pub marks_put : (epoch at end size : ℕ) (old new : List Word) → at ≤ end → end ≤ size → MarksRange epoch at end old new → marks epoch new size ≡ put_at (marks epoch old size) at (replicate (end - at) true)
+marks_put epoch at end size old new order fits range =
+    let flags = marks epoch old size in
+    let run = replicate (end - at) true in
+    let n : length run ≡ end - at = length-replicate (end - at) true in
+    let within : at + length run ≤ length flags = omega (arith, n, length-marks epoch old size) in
+    ext_get_or false (marks epoch new size) (put_at flags at run) (length-marks epoch new size ∙ sym (length-put flags at run within false ∙ length-marks epoch old size))
+    (λ k inside.
+      let k_in : k < size = omega (arith, length-marks epoch new size) in
+      let now = get_or-marks epoch new size k k_in in
+      let before = get_or-marks epoch old size k k_in in
+      elim (cases_lt k at) [
+        | inl below ↦ now ∙ range.below k below ∙ sym before ∙ sym (put-below flags at run within false k below)
+        | inr from ↦
+            elim (cases_lt k end) [
+              | inl under ↦
+                  (let j = k - at in
+                  let e : at + j ≡ k = omega arith in
+                  let put : get_or (put_at flags at run) k false ≡ true =
+                      ap (λ (i : ℕ). get_or (put_at flags at run) i false) (sym e)
+                      ∙ put-inside flags at run within false j (omega (arith, n))
+                      ∙ get_or-replicate (end - at) j true false (omega arith) in
+                  now ∙ range.inside k from under ∙ sym put)
+              | inr over ↦ now ∙ range.above k over ∙ sym before ∙ sym (put-above flags at run within false k (omega (arith, n)))
+            ]
+      ])
+
+-- ONE WORD MORE
+
+-- in this word the places from `from` up to `to` were marked
+pub record MarksPlaces (epoch from to : ℕ) (old new : Word) : Type 0 where
+  pub below : (k : ℕ) → k < from → is_marked_in epoch new k ≡ is_marked_in epoch old k
+  pub inside : (k : ℕ) → from ≤ k → k < to → is_marked_in epoch new k ≡ true
+  pub above : (k : ℕ) → to ≤ k → is_marked_in epoch new k ≡ is_marked_in epoch old k
+
+-- how far the range is marked before a word
+abbrev pub reached : ℕ → ℕ → ℕ → ℕ
+reached at end i = min end (max at (64 * i))
+
+module _ (epoch : ℕ) (words : List Word) (i : ℕ) (word : Word) (within : i < length words) (k : ℕ) where
+  in_word : k / 64 ≡ i → is_marked epoch (set words i word) k ≡ is_marked_in epoch word (k % 64)
+  in_word e =
+      ap (λ (j : ℕ). is_marked_in epoch (get_or (set words i word) j blank) (k % 64)) e
+      ∙ ap (λ (w : Word). is_marked_in epoch w (k % 64)) (get_or-set_same words i word blank within)
+
+  in_other : (k / 64 ≡ i → ⊥) → is_marked epoch (set words i word) k ≡ is_marked epoch words k
+  in_other other = ap (λ (w : Word). is_marked_in epoch w (k % 64)) (get_or-set_other words i (k / 64) word blank other)
+
+module _ (epoch at end i from to : ℕ) (old words : List Word) (cell word : Word) (within : i < length words) (is : cell ≡ get_or words i blank) (order : at ≤ end) (first : at / 64 ≤ i) (last : 64 * i < end) (low : from ≡ at - 64 * i) (high : to ≡ min (end - 64 * i) 64) where
+  was_in_word : (k : ℕ) → k / 64 ≡ i → is_marked_in epoch cell (k % 64) ≡ is_marked epoch words k
+  was_in_word k e =
+      ap (λ (w : Word). is_marked_in epoch w (k % 64)) is
+      ∙ ap (λ (j : ℕ). is_marked_in epoch (get_or words j blank) (k % 64)) (sym e)
+
+  pub marks_more : MarksRange epoch at (reached at end i) old words → MarksPlaces epoch from to cell word → MarksRange epoch at (reached at end (i + 1)) old (set words i word)
+  marks_more range places =
+      record {
+        below = λ k below.
+            elim (cases_eq (k / 64) i) [
+              | inl e ↦ in_word epoch words i word within k e ∙ places.below (k % 64) (omega arith) ∙ was_in_word k e ∙ range.below k below
+              | inr other ↦ in_other epoch words i word within k other ∙ range.below k below
+            ];
+        inside = λ k from under.
+            elim (cases_eq (k / 64) i) [
+              | inl e ↦ in_word epoch words i word within k e ∙ places.inside (k % 64) (omega arith) (omega arith)
+              | inr other ↦
+                  (let before : k < 64 * i = elim (cases_lt k (64 * i)) [ | inl l ↦ l | inr g ↦ (let e : k / 64 ≡ i = omega arith in absurd (other e)) ] in
+                  in_other epoch words i word within k other ∙ range.inside k from (omega arith))
+            ];
+        above = λ k over.
+            elim (cases_eq (k / 64) i) [
+              | inl e ↦ in_word epoch words i word within k e ∙ places.above (k % 64) (omega arith) ∙ was_in_word k e ∙ range.above k (omega arith)
+              | inr other ↦ in_other epoch words i word within k other ∙ range.above k (omega arith)
+            ];
+      }
+
+-- A NEW EPOCH
+
+-- no stamp is a later epoch
+pub marks_later : (later : ℕ) (words : List Word) (size : ℕ) → 0 < later → ((j : ℕ) → j < length words → (get_or words j blank).stamp < later) → marks later words size ≡ replicate size false
+marks_later later words size some below =
+    let n : length (replicate size false) ≡ size = length-replicate size false in
+    ext_get_or false (marks later words size) (replicate size false) (length-marks later words size ∙ sym n)
+    (λ k inside.
+      let k_in : k < size = omega (arith, length-marks later words size) in
+      let word = get_or words (k / 64) blank in
+      let earlier : word.stamp < later =
+          elim (cases_lt (k / 64) (length words)) [
+            | inl present ↦ below (k / 64) present
+            | inr past ↦ (let e : word.stamp ≡ 0 = ap (λ (w : Word). w.stamp) (get_or_past words (k / 64) blank past) in omega arith)
+          ] in
+      let other : (word.stamp == later) ≡ false = ne_eqb word.stamp later (λ e. omega arith) in
+      get_or-marks later words size k k_in
+      ∙ ap (λ (b : Bool). bit_at (cond b word.bits 0) (k % 64) == 1) other
+      ∙ ap (λ (n : ℕ). n == 1) (bit_at-zero (k % 64))
+      ∙ sym (get_or-replicate size k false false k_in))
+
+-- nothing is marked in blank words
+pub marks_blank : (n size : ℕ) → marks 1 (replicate n blank) size ≡ replicate size false
+marks_blank n size =
+    marks_later 1 (replicate n blank) size (omega arith) (λ j within.
+      let e : (get_or (replicate n blank) j blank).stamp ≡ 0 = ap (λ (w : Word). w.stamp) (get_or-replicate n j blank blank (omega (arith, length-replicate n blank))) in
+      omega arith)
+
+-- A WRITE
+
+-- as a list of flags, as long as the bytes are once some were put into them
+pub marks_written : (epoch at n : ℕ) (old new : List Word) (bytes left : List ℕ) → length left ≡ n → at + n ≤ length bytes → ((size : ℕ) → at + n ≤ size → marks epoch new size ≡ put_at (marks epoch old size) at (replicate ((at + n) - at) true)) → marks epoch new (length (put_at bytes at left)) ≡ put_at (marks epoch old (length bytes)) at (replicate (length left) true)
+marks_written epoch at n old new bytes left long within marked =
+    let run : (at + n) - at ≡ length left = omega arith in
+    ap (marks epoch new) (length-put bytes at left (omega arith) 0)
+    ∙ marked (length bytes) within
+    ∙ ap (λ (k : ℕ). put_at (marks epoch old (length bytes)) at (replicate k true)) run

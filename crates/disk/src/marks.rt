@@ -1,0 +1,41 @@
+// Which positions of a simulated disk are unsynced, a bit for each. The bits of a word count where its stamp is the
+// present epoch. So a write changes the words of its own range, and a sync is one step of the epoch, however large the
+// disk is and however much was written.
+ghost use Rattle.std.specs.Prelude.{◌≡◌, ◌-◌, ◌*◌, ◌≤◌, ℕ, true, false, length, replicate, All};
+ghost use Rattle.disk.specs.Disk.{put_at};
+ghost use Rattle.disk.specs.Marks.{marks};
+
+use crate::word::Word;
+
+/// The positions from `at` up to `end`, that one left out, are marked, too.
+pub fn mark(words: &mut Vec<Word>, at: usize, end: usize, epoch: u64)
+    requires order { at ≤ end }
+    requires within { end ≤ 64 * length words.old.items }
+    ensures marks { (size : ℕ) → end ≤ size →
+        marks epoch words.new.items size ≡ put_at (marks epoch words.old.items size) at (replicate (end - at) true) }
+    ensures no_later { All (λ w. w.stamp ≤ epoch) words.old.items → All (λ w. w.stamp ≤ epoch) words.new.items }
+    ensures as_many { length words.new.items ≡ length words.old.items }
+{
+    for index in at / 64..end.div_ceil(64) {
+        let first = 64 * index;
+        let from = at.saturating_sub(first);
+        let to = (end - first).min(64);
+        words[index] = words[index].marked(epoch, from, to);
+    }
+}
+
+/// The epoch after this one, which no stamp is: nothing is marked. Where the numbers are spent, all words are set back
+/// first: that is once in 2^64 - 2 times.
+pub fn next_epoch(words: &mut Vec<Word>, epoch: u64) -> u64
+    requires { All (λ w. w.stamp ≤ epoch) words.old.items }
+    ensures none { (size : ℕ) → marks result words.new.items size ≡ replicate size false }
+    ensures no_later { All (λ w. w.stamp ≤ result) words.new.items }
+    ensures as_many { length words.new.items ≡ length words.old.items }
+{
+    if epoch == u64::MAX {
+        words.fill(Word { stamp: 0, bits: 0 });
+        1
+    } else {
+        epoch + 1
+    }
+}
