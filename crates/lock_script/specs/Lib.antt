@@ -1,0 +1,5 @@
+pub mod Faults
+pub mod Lines
+pub mod Script
+pub mod Spelling
+pub mod Words

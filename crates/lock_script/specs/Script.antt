@@ -1,0 +1,47 @@
+-- What a script says, and the first line that breaks a rule.
+use Rattle.std.specs.Prelude.{◌≡◌, ◌<◌, ◌≤◌, ◌+◌, ◌-◌, ◌⊎◌, ℕ, IsTrue, not, List, [], ◌∷◌, ◌++◌, length, take, map, filter, flat_map, All}
+use Rattle.slot_log.specs.Shape.{Shape}
+use Rattle.lock_script.specs.declared.event.Event.{Event}
+use Rattle.lock_script.specs.declared.line.Line.{Line}
+use Rattle.lock_script.specs.declared.line.Line.TheVariants.{Cluster, Once, Steps, Show}
+use Rattle.lock_script.specs.declared.show.Show as shows
+use Rattle.lock_script.specs.Lines.{is_passed_over}
+use Rattle.lock_script.specs.Words.{words_of}
+use Rattle.lock_script.specs.Spelling.{line_words, FitsFirst, FitsBehind, events_in}
+
+-- the tables that are to be shown, each with the number of the events before
+abbrev pub shows_in : ℕ → List Line → List shows.Show
+shows_in place [] = []
+shows_in place (Show host ∷ lines) = record { place = place; host = host } ∷ shows_in place lines
+shows_in place (line ∷ lines) = shows_in (place + length (events_in line)) lines
+
+-- what a script says
+pub record Content : Type 0 where
+  pub shape : Shape
+  pub events : List Event
+  pub shows : List shows.Show
+
+-- the lines that are not passed over
+abbrev pub said_lines : List (List ℕ) → List (List ℕ)
+said_lines lines = filter (λ line. not (is_passed_over line)) lines
+
+-- These lines are a script, which says this.
+pub record IsScript (lines : List (List ℕ)) (content : Content) : Type 0 where
+  pub behind : List Line
+  pub words : map words_of (said_lines lines) ≡ map line_words (Cluster content.shape ∷ behind)
+  pub first : FitsFirst content.shape
+  pub fits : All (FitsBehind content.shape.disks) behind
+  pub events : content.events ≡ flat_map events_in behind
+  pub few : length content.events ≤ 1000000
+  pub shows : content.shows ≡ shows_in 0 behind
+
+-- they break no rule so far
+abbrev pub AreGood : List (List ℕ) → Type 0
+AreGood lines = (said_lines lines ≡ []) ⊎ ((content : Content) × IsScript lines content)
+
+-- Line n, from 1, is the first that breaks a rule; it stands behind the last one where all lines are passed over.
+pub record IsFirstBad (lines : List (List ℕ)) (n : ℕ) : Type 0 where
+  pub numbered : 1 ≤ n
+  pub before : AreGood (take (n - 1) lines)
+  pub breaks : n ≤ length lines → AreGood (take n lines) → ⊥
+  pub behind : length lines < n → (n ≡ length lines + 1) × (said_lines lines ≡ [])

@@ -1,0 +1,115 @@
+-- The words that say an event, and the lines of a script.
+use Rattle.std.specs.Prelude.{◌≡◌, ◌<◌, ◌≤◌, ◌+◌, ◌/◌, ◌%◌, ◌^◌, ℕ, Bool, true, false, List, [], ◌∷◌, ◌++◌, length, codes, decimal, replicate, flat_map, nat_lt, if◌then◌else◌}
+use Rattle.torn_block.specs.declared.layout.TheConstants.{HOSTS, DISKS, SLOTS}
+use Rattle.lock_modes.specs.declared.mode.Mode.{Mode}
+use Rattle.lock_modes.specs.declared.mode.Mode.TheVariants.{Null, ConcurrentRead, ConcurrentWrite, ProtectedRead, ProtectedWrite, Exclusive}
+use Rattle.lock_command.specs.declared.command.Command.{Command}
+use Rattle.lock_command.specs.declared.command.Action.{Action}
+use Rattle.lock_command.specs.declared.command.Action.TheVariants.{Enqueue, Convert, Release, Cancel, Status, Purge}
+use Rattle.lock_command.specs.Command.{Fits as FitsCommand}
+use Rattle.slot_log.specs.Shape.{Shape}
+use Rattle.lock_script.specs.declared.event.Event.{Event}
+use Rattle.lock_script.specs.declared.event.Event.TheVariants.{Start, Stop, Submit, Recover, Step, Tear, FailCall, DiskCrash, DiskGone}
+use Rattle.lock_script.specs.declared.line.Line.{Line}
+use Rattle.lock_script.specs.declared.line.Line.TheVariants.{Cluster, Once, Steps, Show}
+use Rattle.lock_script.specs.Words.{words_of}
+
+-- WORDS
+
+abbrev pub mode_word : Mode → List ℕ
+mode_word Null = codes "NL"
+mode_word ConcurrentRead = codes "CR"
+mode_word ConcurrentWrite = codes "CW"
+mode_word ProtectedRead = codes "PR"
+mode_word ProtectedWrite = codes "PW"
+mode_word Exclusive = codes "EX"
+
+abbrev pub hex_digit : ℕ → ℕ
+hex_digit n = if nat_lt n 10 then 48 + n else 87 + n
+
+-- two digits for each byte
+abbrev pub hex_word : List ℕ → List ℕ
+hex_word [] = []
+hex_word (byte ∷ bytes) = hex_digit (byte / 16) ∷ hex_digit (byte % 16) ∷ hex_word bytes
+
+abbrev pub no_queue_words : Bool → List (List ℕ)
+no_queue_words true = codes "noqueue" ∷ []
+no_queue_words false = []
+
+-- COMMANDS
+
+abbrev pub kind_word : Action → List ℕ
+kind_word (Enqueue lock name mode no_queue) = codes "enqueue"
+kind_word (Convert lock mode no_queue) = codes "convert"
+kind_word (Release lock) = codes "release"
+kind_word (Cancel lock) = codes "cancel"
+kind_word (Status lock) = codes "status"
+kind_word (Purge host) = codes "purge"
+
+abbrev pub action_words : Action → List (List ℕ)
+action_words (Enqueue lock name mode no_queue) = decimal lock ∷ mode_word mode ∷ name ∷ no_queue_words no_queue
+action_words (Convert lock mode no_queue) = decimal lock ∷ mode_word mode ∷ no_queue_words no_queue
+action_words (Release lock) = decimal lock ∷ []
+action_words (Cancel lock) = decimal lock ∷ []
+action_words (Status lock) = decimal lock ∷ []
+action_words (Purge host) = decimal host ∷ []
+
+abbrev pub command_words : Command → List (List ℕ)
+command_words c = kind_word c.action ∷ decimal c.client ∷ decimal c.request ∷ action_words c.action
+
+-- EVENTS
+
+abbrev pub event_words : Event → List (List ℕ)
+event_words (Start host) = codes "start" ∷ decimal host ∷ []
+event_words (Stop host) = codes "stop" ∷ decimal host ∷ []
+event_words (Submit command tries) = codes "submit" ∷ decimal command.host ∷ decimal tries ∷ command_words command
+event_words (Recover host tries) = codes "recover" ∷ decimal host ∷ decimal tries ∷ []
+event_words (Step host) = codes "step" ∷ decimal host ∷ []
+event_words (Tear host given) = codes "tear" ∷ decimal host ∷ hex_word given ∷ []
+event_words (FailCall host given) = codes "fail" ∷ decimal host ∷ hex_word given ∷ []
+event_words (DiskCrash disk given) = codes "crash" ∷ decimal disk ∷ hex_word given ∷ []
+event_words (DiskGone disk) = codes "gone" ∷ decimal disk ∷ []
+
+-- bytes that a line gives
+abbrev pub AreGiven : List ℕ → Type 0
+AreGiven given = (1 ≤ length given) × (length given ≤ 64)
+
+abbrev pub IsTries : ℕ → Type 0
+IsTries tries = (1 ≤ tries) × (tries ≤ 255)
+
+-- the numbers of an event are in their ranges
+abbrev pub FitsEvent : ℕ → Event → Type 0
+FitsEvent disks (Start host) = host < HOSTS
+FitsEvent disks (Stop host) = host < HOSTS
+FitsEvent disks (Submit command tries) = FitsCommand command × IsTries tries
+FitsEvent disks (Recover host tries) = (host < HOSTS) × IsTries tries
+FitsEvent disks (Step host) = host < HOSTS
+FitsEvent disks (Tear host given) = (host < HOSTS) × AreGiven given
+FitsEvent disks (FailCall host given) = (host < HOSTS) × AreGiven given
+FitsEvent disks (DiskCrash disk given) = (disk < disks) × AreGiven given
+FitsEvent disks (DiskGone disk) = disk < disks
+
+-- LINES
+
+abbrev pub line_words : Line → List (List ℕ)
+line_words (Cluster shape) = codes "cluster" ∷ decimal shape.disks ∷ decimal shape.slots ∷ []
+line_words (Once event) = event_words event
+line_words (Steps host times) = codes "step" ∷ decimal host ∷ decimal times ∷ []
+line_words (Show host) = codes "show" ∷ decimal host ∷ []
+
+-- a line that may stand behind the first, in a cluster of so many disks
+abbrev pub FitsBehind : ℕ → Line → Type 0
+FitsBehind disks (Cluster shape) = ⊥
+FitsBehind disks (Once event) = FitsEvent disks event
+FitsBehind disks (Steps host times) = (host < HOSTS) × (1 ≤ times) × (times ≤ 100000)
+FitsBehind disks (Show host) = host < HOSTS
+
+abbrev pub FitsFirst : Shape → Type 0
+FitsFirst shape = (1 ≤ shape.disks) × (shape.disks ≤ DISKS) × (1 ≤ shape.slots) × (shape.slots ≤ SLOTS)
+
+-- the events of a line
+abbrev pub events_in : Line → List Event
+events_in (Cluster shape) = []
+events_in (Once event) = event ∷ []
+events_in (Steps host times) = replicate times (Step host)
+events_in (Show host) = []

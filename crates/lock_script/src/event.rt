@@ -1,0 +1,25 @@
+use crate::given::Given;
+use lock_command::{Command, HostNumber};
+
+/// What happens to a cluster. An event that does not apply changes nothing.
+#[derive(Debug, Drop)]
+pub enum Event {
+    /// A stopped host starts.
+    Start(HostNumber),
+    /// A running host stops.
+    Stop(HostNumber),
+    /// The command's host, where it is idle, begins to put it into the log. Up to `tries` attempts may be outrun.
+    Submit { command: Command, tries: u8 },
+    /// An idle host begins to learn all that is in the log.
+    Recover { host: HostNumber, tries: u8 },
+    /// A busy host makes its next device call, which does not fail.
+    Step(HostNumber),
+    /// A busy host stops within its next call, if that is a write: its range takes the given bytes.
+    Tear { host: HostNumber, given: Given },
+    /// A busy host's next call fails; the range of a write takes the given bytes.
+    FailCall { host: HostNumber, given: Given },
+    /// A disk crashes, and its unsynced positions take the given bytes.
+    DiskCrash { disk: u8, given: Given },
+    /// A disk is lost for good.
+    DiskGone(u8),
+}

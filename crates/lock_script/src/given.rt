@@ -1,0 +1,43 @@
+ghost use Rattle.std.specs.Prelude.{◌≡◌, ◌<◌, length};
+
+use std::alloc::AllocError;
+use std::marker::Model;
+
+/// Bytes that are given to fill positions: at least one.
+#[derive(Debug, Drop)]
+pub struct Given {
+    bytes: Vec<u8>,
+}
+
+impl Model for Given {
+    ghost use Rattle.std.specs.Prelude.{List, ℕ, ◌<◌, length};
+
+    ghost Value = { List ℕ };
+
+    ghost view = { λ given. given.bytes.items };
+
+    ghost invariant = { λ given. 0 < length given.bytes.items };
+}
+
+impl Given {
+    /// These bytes, of which there has to be one.
+    pub fn new(bytes: Vec<u8>) -> Given
+        requires { 0 < length bytes.items }
+        ensures { result ≡ bytes.items }
+    {
+        Given { bytes }
+    }
+
+    pub fn as_slice(&self) -> &[u8]
+        ensures bytes { result.now ≡ self.now }
+        ensures some { 0 < length self.now }
+    {
+        &self.bytes
+    }
+
+    /// The same bytes again.
+    pub fn copy(&self) -> Result<Given, AllocError>
+    {
+        Ok(Given { bytes: self.bytes.clone()? })
+    }
+}
