@@ -1,0 +1,26 @@
+use Rattle.std.proofs.Common.{◌≡◌, ◌≢◌, ◌<◌, ◌≤◌, ℕ, List, [], Option, Some, None, length, get_or, refl, sym, ap, ◌∙◌, subst, arith}
+use Rattle.slot_log.specs.Shape.{Shape}
+use Rattle.world.specs.Entry.{Filled}
+use Rattle.world.specs.Happens.{Start, Stop, Submit, Recover, Step, Tear, FailCall, DiskCrash, DiskGone}
+use Rattle.simulator.specs.Kept.{Kept, LeadsTo, IsReached, Brings}
+use Rattle.simulator.proofs.Changes.{reached, seen, unseen}
+use Rattle.simulator.proofs.Owed as owed
+use Rattle.simulator.proofs.Owed.{kept_in, read_at}
+use Rattle.simulator.proofs.Calls.{crashes_out}
+use Rattle.simulator.proofs.parts.Parts.crash.Goals as goal
+
+pub crash_disk-requires-clause-calm : goal.crash_disk-requires-clause-calm
+crash_disk-requires-clause-calm c =
+    owed.calm_at (kept_in c.self.inside) c.self.invariant c.from-at.result c.index_mut-disk.result.now (omega (arith, c.if-at-len.true, c.len.ensures, c.self.invariant.leads.shows.disk_count)) c.index_mut-disk.ensures.value
+
+pub invariant_of-self : goal.invariant_of-self
+invariant_of-self c =
+    reached (DiskCrash c.args.disk c.args.given.now) (kept_in c.self.inside) _ None c.self.invariant (owed.crashes (kept_in c.self.inside) c.args.disk c.from-at.result c.from-at.ensures (omega (arith, c.if-at-len.true, c.len.ensures, c.self.invariant.leads.shows.disk_count)) c.index_mut-disk.result.now c.crash_disk.new.disk c.index_mut-disk.ensures.value c.args.given.now c.requires c.crash_disk.ensures.disk c.crash_disk.ensures.size)
+
+pub returns-then-at-len : goal.returns-then-at-len
+returns-then-at-len c =
+    seen (DiskCrash c.args.disk c.args.given.now) (kept_in c.self.inside) c.args.self.now _ None c.self.view_is (owed.crashes (kept_in c.self.inside) c.args.disk c.from-at.result c.from-at.ensures (omega (arith, c.if-at-len.true, c.len.ensures, c.self.invariant.leads.shows.disk_count)) c.index_mut-disk.result.now c.crash_disk.new.disk c.index_mut-disk.ensures.value c.args.given.now c.requires c.crash_disk.ensures.disk c.crash_disk.ensures.size)
+
+pub returns-else-at-len : goal.returns-else-at-len
+returns-else-at-len c =
+    unseen (DiskCrash c.args.disk c.args.given.now) (kept_in c.self.inside) c.args.self.now None c.self.view_is (λ log leads. crashes_out log (kept_in c.self.inside) leads c.args.disk c.args.given.now c.requires (omega (arith, c.if-at-len.false, c.len.ensures, c.from-at.ensures, leads.shows.disk_count)))

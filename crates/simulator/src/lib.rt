@@ -1,0 +1,10 @@
+//! A simulated cluster: what every list of events makes of its hosts and disks, and what the hosts answer.
+#![tactic(auto)]
+
+mod device_call;
+mod outcome;
+mod parts;
+
+pub use lock_script::{Event, Given, Script, ScriptFault, Show, read_script};
+pub use parts::{Parts, Said};
+
