@@ -1,5 +1,9 @@
 pub mod Calls
 pub mod Changes
+pub mod Entries
 pub mod Events
+pub mod Lines
+pub mod Listing
+pub mod OneMore
 pub mod Owed
 pub mod Shown

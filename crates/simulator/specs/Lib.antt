@@ -1,3 +1,5 @@
+pub mod Answers
 pub mod Calls
 pub mod Events
 pub mod Kept
+pub mod Past

@@ -1,0 +1,78 @@
+ghost use Rattle.std.specs.Prelude.{◌≡◌, IsSome, OnOk, slice_index_or, List};
+ghost use Rattle.world.specs.Entry.{Filled};
+ghost use Rattle.world.specs.World.{world};
+ghost use Rattle.host.specs.Host.{learned_of};
+ghost use Rattle.lock_table.specs.Apply.{table_after};
+ghost use Rattle.lock_table.specs.Picture.{IsPictureOf};
+ghost use Rattle.simulator.specs.Answers.{line_of, IsPictured};
+ghost use Rattle.simulator.specs.Kept.{LeadsTo};
+
+use crate::answer::Answer;
+use crate::parts::{Parts, Said};
+use disk::NoMemory;
+use host::HostAnswer;
+use lock_command::HostNumber;
+use lock_table::Picture;
+use std::alloc::Global;
+
+/// Room for the picture of the next recovery, made before an event happens.
+#[derive(Drop)]
+pub struct Room {
+    picture: Option<Picture>,
+}
+
+impl Room {
+    /// No room yet.
+    pub fn new() -> Room {
+        Room { picture: None }
+    }
+
+    /// Makes room where there is none.
+    pub fn prepare(&mut self, alloc: Global) -> Result<(), NoMemory>
+        ensures { OnOk result (IsSome self.new.picture) }
+    {
+        if self.picture.is_none() {
+            let Ok(picture) = Picture::room(alloc) else {
+                return Err(NoMemory);
+            };
+            self.picture = Some(picture);
+        }
+        Ok(())
+    }
+
+    /// What a host said, as a report lists it.
+    pub fn listed(&mut self, parts: &Parts, place: usize, said: Said) -> Answer
+        requires room { IsSome self.old.picture }
+        requires runs { IsSome (slice_index_or parts.now.hosts said.host None) }
+        ensures line { line_of result ≡ record { place = place; host = said.host; said = said.answer } }
+        ensures picture { (log : List Filled) → LeadsTo log parts.now → IsPictured (world parts.now.shape log) result }
+    {
+        let Said { host, answer } = said;
+        let picture = match answer {
+            HostAnswer::Recovered { .. } => Some(self.filled(parts, host)),
+            HostAnswer::Ack { .. } | HostAnswer::Refused(_) => None,
+        };
+        Answer {
+            place,
+            host,
+            said: answer,
+            picture,
+        }
+    }
+
+    // The room is used up.
+    fn filled(&mut self, parts: &Parts, host: HostNumber) -> Picture
+        requires room { IsSome self.old.picture }
+        requires runs { IsSome (slice_index_or parts.now.hosts host None) }
+        ensures { (log : List Filled) → LeadsTo log parts.now → IsPictureOf result (table_after (learned_of ((world parts.now.shape log).host host))) }
+    {
+        let Some(core) = parts.host(host.get()) else {
+            unreachable!()
+        };
+        let Some(mut picture) = self.picture.take() else {
+            unreachable!()
+        };
+        picture.fill(core.table());
+        picture
+    }
+}
