@@ -29,7 +29,7 @@ get_one : {A : Type 0} (y : A) (j : ℕ) (x : A) → slice_get (y ∷ []) j ≡ 
 get_one y zero x is = (refl, cc)
 get_one y (suc j) x is = absurd (cc)
 
-get_behind : {A : Type 0} (a : List A) (x : A) (b : List A) → slice_get (a ++ x ∷ b) (length a) ≡ Some x
+pub get_behind : {A : Type 0} (a : List A) (x : A) (b : List A) → slice_get (a ++ x ∷ b) (length a) ≡ Some x
 get_behind [] x b = refl
 get_behind (y ∷ a) x b = get_behind a x b
 
@@ -137,7 +137,7 @@ module _ (c : Shape) (events : List Event) where
   within_all n = let more = rest_of n in omega (arith, ap length more.1, length-append (before n) more.0)
 
   -- the more events, the more entries
-  fewer : (n m : ℕ) → n ≤ m → length (before n) ≤ length (before m)
+  pub fewer : (n m : ℕ) → n ≤ m → length (before n) ≤ length (before m)
   fewer n m le =
       let more = extends c (happen c [] (take n (take m events))) (drop n (take m events)) in
       let all : before m ≡ happen c [] (take n (take m events)) ++ more.0 = happen_parts c [] (take m events) n ∙ more.1 in
@@ -154,7 +154,7 @@ module _ (c : Shape) (events : List Event) where
     pub brings : entry_of c (world c (before n)) event ≡ Some e
 
   module _ (n : ℕ) (e : Filled) (brought : Brought n e) where
-    after : before (n + 1) ≡ before n ++ e ∷ []
+    pub after : before (n + 1) ≡ before n ++ e ∷ []
     after = ap (run c) (take_next events n brought.event brought.is) ∙ one_more c (take n events) brought.event ∙ ap (with_entry (before n)) brought.brings
 
     stands : slice_get (run c events) (length (before n)) ≡ Some e

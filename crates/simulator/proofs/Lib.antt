@@ -6,4 +6,7 @@ pub mod Lines
 pub mod Listing
 pub mod OneMore
 pub mod Owed
+pub mod Safety
 pub mod Shown
+pub mod Submitting
+pub mod Telling

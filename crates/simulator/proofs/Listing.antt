@@ -1,7 +1,7 @@
 -- What a run has listed by an event, and how one event more adds to it.
 use Rattle.std.specs.Prelude.{All}
-use Rattle.std.proofs.Common.{ℕ, ◌+◌, ◌<◌, ◌≡◌, Option, Some, None, List, [], ◌∷◌, ◌++◌, length, get_or, map, take, refl, sym, ap, ◌∙◌, subst, append-nil}
-use Rattle.std.proofs.lemmas.List.{map-append}
+use Rattle.std.proofs.Common.{ℕ, ◌+◌, ◌<◌, ◌≤◌, ◌≡◌, Option, Some, None, List, [], ◌∷◌, ◌++◌, length, get_or, map, take, refl, sym, ap, ◌∙◌, subst, append-nil}
+use Rattle.std.proofs.lemmas.List.{map-append, take_all}
 use Rattle.std.proofs.lemmas.List.Elements.{All-push}
 use Rattle.slot_log.specs.Shape.{Shape}
 use Rattle.lock_script.specs.declared.event.Event as code
@@ -74,3 +74,7 @@ module _ (c : Shape) (events : List code.Event) (i : ℕ) (event : code.Event) (
         ∙ sym (answers_then (Some said) brings);
         pictures = All-push (IsPicturedIn c (events_of events)) listed a before.pictures (pictured_there c events i a (ap (λ (x : Line). x.place) line) picture);
       }
+
+-- behind the last event all is listed
+pub all_listed : (c : Shape) (events : List code.Event) (i : ℕ) (k : Kept) (listed : List Answer) → length events ≤ i → HasListed c events i k listed → map line_of listed ≡ answers c (events_of events)
+all_listed c events i k listed past has = has.lines ∙ ap (λ (l : List code.Event). answers c (events_of l)) (take_all i events past)

@@ -3,6 +3,7 @@ ghost use Rattle.world.specs.World.{world};
 ghost use Rattle.world.specs.Happens.{run, answers};
 ghost use Rattle.simulator.specs.Events.{events_of};
 ghost use Rattle.simulator.specs.Answers.{line_of, IsPicturedIn};
+ghost use Rattle.simulator.specs.OneLog.{TellsOneLog};
 
 use crate::answer::Answer;
 use crate::parts::Parts;
@@ -41,6 +42,7 @@ impl Report {
 pub fn run(alloc: Global, config: Config, events: &[Event]) -> Result<Report, NoMemory>
     ensures answers { IfOk result (λ report. map line_of report ≡ answers config (events_of events.now)) }
     ensures pictures { IfOk result (λ report. All (IsPicturedIn config (events_of events.now)) report) }
+    ensures one_log { IfOk result (λ report. TellsOneLog config (events_of events.now) report) }
 {
     let mut parts = Parts::new(alloc, config)?;
     let mut room = Room::new();

@@ -3,6 +3,7 @@ ghost use Rattle.std.specs.Option.{option_map};
 ghost use Rattle.simulator.specs.Events.{event_of};
 ghost use Rattle.simulator.specs.Kept.{IsHost};
 ghost use Rattle.simulator.specs.Answers.{lines_in, IsPictured};
+ghost use Rattle.simulator.specs.OneLog.{GoesByOneLog, BeginsTheLog};
 ghost use Rattle.simulator.specs.Past.{world_of, answers_of};
 
 use crate::answer::Answer;
@@ -50,7 +51,8 @@ impl Sim {
 
     /// A running host.
     pub fn host(&self, host: u8) -> Option<&HostCore>
-        ensures { IsHost self.now.shape host ((world_of self.now).host host) (option_map (λ core. core.now) result) }
+        ensures host { IsHost self.now.shape host ((world_of self.now).host host) (option_map (λ core. core.now) result) }
+        ensures begins { IfSome result (λ core. BeginsTheLog self.now core.now.prefix) }
     {
         self.parts.host(host)
     }
@@ -60,6 +62,7 @@ impl Sim {
         ensures happened { OnOk result (self.new ≡ record self.old { events = self.old.events ++ event_of event.now ∷ [] }) }
         ensures answer { IfOk result (λ answer. answers_of self.new ≡ answers_of self.old ++ lines_in answer) }
         ensures picture { IfOk result (λ answer. IfSome answer (IsPictured (world_of self.new))) }
+        ensures one_log { IfOk result (GoesByOneLog self.new) }
         ensures unchanged { OnErr result (self.new ≡ self.old) }
     {
         let place = self.events.len();

@@ -6,7 +6,8 @@ use Rattle.simulator.specs.declared.parts.Said.{Said}
 use Rattle.simulator.specs.Events.{event_of, events_of}
 use Rattle.simulator.specs.Kept.{LeadsTo, Brings}
 use Rattle.simulator.proofs.Lines.{speaker_runs}
-use Rattle.simulator.proofs.Listing.{HasListed, lists, lists_nothing}
+use Rattle.simulator.proofs.Listing.{HasListed, lists, lists_nothing, all_listed}
+use Rattle.simulator.proofs.Telling.{tells}
 use Rattle.simulator.proofs.report.run.Goals as goal
 use Rattle.simulator.proofs.report.run.Goals.{in-Some, in_default}
 
@@ -37,3 +38,8 @@ loop-place-preserved c =
           (lists_nothing c.args.config events at.place event at.parts c.event.new.self at.answers.items c.loop-place-test.true c.index-events-place.is at.invariant
           (subst Says w.in_default.is c.in_ok-said.ensures.brings)))
     ]
+
+pub returns-clause-one_log : goal.returns-clause-one_log
+returns-clause-one_log c =
+    let before = c.loop-place.invariant in
+    tells c.args.config (events_of c.args.events.now) c.loop-place.answers.items (all_listed c.args.config c.args.events.now c.loop-place.place c.loop-place.parts c.loop-place.answers.items c.loop-place-test.false before) before.pictures

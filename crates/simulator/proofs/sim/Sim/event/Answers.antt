@@ -1,4 +1,5 @@
-use Rattle.std.proofs.Common.{ℕ, ◌≡◌, ◌++◌, ◌∷◌, [], List, Option, Some, None, length, refl, sym, ap, ◌∙◌, subst, arith}
+use Rattle.std.proofs.Common.{ℕ, ◌+◌, ◌≡◌, ◌++◌, ◌∷◌, [], List, Option, Some, None, length, refl, sym, ap, ◌∙◌, subst, arith}
+use Rattle.std.proofs.lemmas.List.{length-map}
 use Rattle.slot_log.specs.Shape.{Shape}
 use Rattle.lock_script.specs.declared.event.Event as code
 use Rattle.world.specs.Happens.{Line, run, answers}
@@ -9,6 +10,7 @@ use Rattle.simulator.specs.Kept.{Brings}
 use Rattle.simulator.specs.Past.{Past, answers_of}
 use Rattle.simulator.proofs.Lines.{speaker_runs}
 use Rattle.simulator.proofs.OneMore.{past_leads, past_answers}
+use Rattle.simulator.proofs.Telling.{goes_with, goes_without}
 use Rattle.simulator.proofs.sim.Sim.event.Goals as goal
 
 pub listed-requires-clause-runs : goal.listed-requires-clause-runs
@@ -57,3 +59,14 @@ returns-in-None-clause-answer c =
     (c.push_reserved.ensures.items ∙ ap (λ (l : List code.Event). l ++ c.in_ok-kept.kept ∷ []) c.reserve.ensures.items ∙ ap (λ (e : code.Event). s.events.items ++ e ∷ []) c.in_ok-kept.ensures)
     ∙ ap (λ (o : Option Said). answers s.parts.shape (events_of s.events.items) ++ lines_of (length s.events.items) o) c.in-None.is
     ∙ ap (λ (p : Past). answers_of p ++ []) c.self.view_is
+
+pub returns-in-Some-clause-one_log : goal.returns-in-Some-clause-one_log
+returns-in-Some-clause-one_log c =
+    let s = c.self.inside in
+    let more : List code.Event = c.push_reserved.new.self.items in
+    let many : length more ≡ c.len-place.result + 1 = omega (arith, c.push_reserved.ensures.len, c.reserve.ensures.len, c.len-place.ensures, c.push_reserved.new.self.ok.0) in
+    let last : c.listed.result.place + 1 ≡ length (events_of more) = ap (λ (x : Line). x.place + 1) c.listed.ensures.line ∙ sym many ∙ sym (length-map more event_of) in
+    goes_with (record { shape = c.event.new.self.shape; events = events_of more }) c.listed.result (answers_of c.args.self.now) (returns-in-Some-clause-answer c) last (returns-in-Some-clause-picture c)
+
+pub returns-in-None-clause-one_log : goal.returns-in-None-clause-one_log
+returns-in-None-clause-one_log c = goes_without (record { shape = c.event.new.self.shape; events = events_of c.push_reserved.new.self.items })
