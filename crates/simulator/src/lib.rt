@@ -14,3 +14,6 @@ pub use lock_script::{Event, Given, Script, ScriptFault, Show, read_script};
 pub use parts::{Parts, Said};
 pub use report::{Report, run};
 pub use sim::Sim;
+
+#[cfg(test)]
+mod tests;
