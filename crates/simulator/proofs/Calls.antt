@@ -79,20 +79,23 @@ module _ (log : List Filled) (old : Kept) (leads : LeadsTo log old) where
     same_disk = ap (λ (s : SimState). s.disk) same
 
     -- it is as long as before
-    sized : (there : SimState) → length there.disk.bytes ≡ length x.disk.bytes → (d : ℕ) (other : SimState) → d < old.shape.disks → length (get_or (set old.disks k there) d other).disk.bytes ≡ image_length old.shape.slots
+    sized : (there : SimState) → length there.disk.bytes ≡ length x.disk.bytes → (d : ℕ) (other : SimState) → d < old.shape.disks
+        → length (get_or (set old.disks k there) d other).disk.bytes ≡ image_length old.shape.slots
     sized there as_long =
         let long : length x.disk.bytes ≡ image_length old.shape.slots = ap (λ (s : SimState). length s.disk.bytes) (sym x_is) ∙ leads.sized k x inside in
         sized_set old.disks old.shape.disks (image_length old.shape.slots) k there leads.shows.disk_count inside (as_long ∙ long) leads.sized
 
     -- what the disk is then
-    left_is : (there : SimState) (e : Filled) (f : DiskState → DiskState) → there ≡ record x { disk = f x.disk } → f ((world old.shape log).disk k) ≡ disk_step ((world old.shape log).disk k) e
+    left_is : (there : SimState) (e : Filled) (f : DiskState → DiskState) → there ≡ record x { disk = f x.disk }
+        → f ((world old.shape log).disk k) ≡ disk_step ((world old.shape log).disk k) e
         → there ≡ calm (disk_step ((world old.shape log).disk k) e)
     left_is there e f is_there steps = is_there ∙ ap (λ (s : SimState). record s { disk = f s.disk }) same ∙ ap calm steps
 
     pub steps : (there : SimState) (new : hosts.Kept)
         → there ≡ record x { disk = called_by x.disk call (answer_of x.disk call) [] }
         → length there.disk.bytes ≡ length x.disk.bytes
-        → ((c : Shape) (g : ℕ) (m : Memory) → hosts.LeadsTo c g m core → hosts.LeadsTo c g (hears c g m m.doing (record { disk = k; heard = heard_as (answer_of x.disk call) })) new)
+        → ((c : Shape) (g : ℕ) (m : Memory) → hosts.LeadsTo c g m core
+        → hosts.LeadsTo c g (hears c g m m.doing (record { disk = k; heard = heard_as (answer_of x.disk call) })) new)
         → Brings log (Step h) old (record { shape = old.shape; disks = set old.disks k there; hosts = set old.hosts h (Some new) }) (saying h new.said)
     steps there new is_there as_long hears_then =
         let w = world old.shape log in
@@ -100,7 +103,9 @@ module _ (log : List Filled) (old : Kept) (leads : LeadsTo log old) where
         let e : Filled = Called h k call a [] in
         let r = running_at log old leads h core is in
         let m : Memory = hears old.shape h r.0 r.0.doing (record { disk = k; heard = heard_as a }) in
-        let heard : hosts.LeadsTo old.shape h m new = subst (λ (d : DiskState). hosts.LeadsTo old.shape h (hears old.shape h r.0 r.0.doing (record { disk = k; heard = heard_as (answer_of d call) })) new) same_disk (hears_then old.shape h r.0 r.2) in
+        let heard : hosts.LeadsTo old.shape h m new = subst
+        (λ (d : DiskState). hosts.LeadsTo old.shape h (hears old.shape h r.0 r.0.doing (record { disk = k; heard = heard_as (answer_of d call) })) new) same_disk
+        (hears_then old.shape h r.0 r.2) in
         let host : host_step old.shape h (w.host h) e ≡ Running m = ap (λ (y : Host). host_step old.shape h y e) r.1 in
         something log old leads (Step h) e (record { shape = old.shape; disks = set old.disks k there; hosts = set old.hosts h (Some new) }) (saying h new.said)
         (ap (option_map (stepped w h)) due) refl
@@ -208,8 +213,10 @@ module _ (log : List Filled) (old : Kept) (leads : LeadsTo log old) where
       d = (world old.shape log).disk k
       none : has_disk old.shape (world old.shape log) k ≡ false → entry_of old.shape (world old.shape log) (DiskCrash k given) ≡ None
       none off =
-          ap (λ (b : Bool). brings_if (are_some given && b && nat_lt ((world old.shape log).disk k).boot (2 ^ 62)) (Some (Crashed k (filled given 0 ((world old.shape log).disk k).unsynced ((world old.shape log).disk k).bytes)))) off
-          ∙ ap (λ (b : Bool). brings_if (b && false && nat_lt ((world old.shape log).disk k).boot (2 ^ 62)) (Some (Crashed k (filled given 0 ((world old.shape log).disk k).unsynced ((world old.shape log).disk k).bytes)))) (some_given given some)
+          ap (λ (b : Bool). brings_if (are_some given && b && nat_lt ((world old.shape log).disk k).boot (2 ^ 62))
+          (Some (Crashed k (filled given 0 ((world old.shape log).disk k).unsynced ((world old.shape log).disk k).bytes)))) off
+          ∙ ap (λ (b : Bool). brings_if (b && false && nat_lt ((world old.shape log).disk k).boot (2 ^ 62))
+          (Some (Crashed k (filled given 0 ((world old.shape log).disk k).unsynced ((world old.shape log).disk k).bytes)))) (some_given given some)
 
   pub is_lost_out : (k : ℕ) → old.shape.disks ≤ k → Brings log (DiskGone k) old old None
   is_lost_out k out = nothing log old leads (DiskGone k) (ap (λ (b : Bool). brings_if b (Some (Lost k))) (no_disk_there k out))
@@ -218,7 +225,8 @@ module _ (log : List Filled) (old : Kept) (leads : LeadsTo log old) where
     kept_disk : x ≡ calm ((world old.shape log).disk k)
     kept_disk = sym x_is ∙ leads.shows.disks k x inside
 
-    as_long_as : (there : SimState) → length there.disk.bytes ≡ length x.disk.bytes → (d : ℕ) (other : SimState) → d < old.shape.disks → length (get_or (set old.disks k there) d other).disk.bytes ≡ image_length old.shape.slots
+    as_long_as : (there : SimState) → length there.disk.bytes ≡ length x.disk.bytes → (d : ℕ) (other : SimState) → d < old.shape.disks
+        → length (get_or (set old.disks k there) d other).disk.bytes ≡ image_length old.shape.slots
     as_long_as there as_long =
         let long : length x.disk.bytes ≡ image_length old.shape.slots = ap (λ (s : SimState). length s.disk.bytes) (sym x_is) ∙ leads.sized k x inside in
         sized_set old.disks old.shape.disks (image_length old.shape.slots) k there leads.shows.disk_count inside (as_long ∙ long) leads.sized
@@ -231,7 +239,8 @@ module _ (log : List Filled) (old : Kept) (leads : LeadsTo log old) where
     pub is_lost_gone : x.disk.gone ≡ true → Brings log (DiskGone k) old old None
     is_lost_gone gone = nothing log old leads (DiskGone k) (ap (λ (b : Bool). brings_if b (Some (Lost k))) (tests true gone))
 
-    pub is_lost : (there : SimState) → x.disk.gone ≡ false → there ≡ record x { disk = lost x.disk } → Brings log (DiskGone k) old (record old { disks = set old.disks k there }) None
+    pub is_lost : (there : SimState) → x.disk.gone ≡ false → there ≡ record x { disk = lost x.disk }
+        → Brings log (DiskGone k) old (record old { disks = set old.disks k there }) None
     is_lost there here is_there =
         let e : Filled = Lost k in
         something log old leads (DiskGone k) e (record old { disks = set old.disks k there }) None
@@ -244,7 +253,8 @@ module _ (log : List Filled) (old : Kept) (leads : LeadsTo log old) where
     crashes_not given some denied =
         let w = world old.shape log in
         let e : Filled = Crashed k (filled given 0 (w.disk k).unsynced (w.disk k).bytes) in
-        let test : (not (w.disk k).gone && nat_lt (w.disk k).boot (2 ^ 62)) ≡ false = ap (λ (s : SimState). not s.disk.gone && nat_lt s.disk.boot (2 ^ 62)) (sym kept_disk) ∙ denied in
+        let test : (not (w.disk k).gone && nat_lt (w.disk k).boot (2 ^ 62)) ≡ false = ap (λ (s : SimState). not s.disk.gone && nat_lt s.disk.boot (2 ^ 62)) (sym kept_disk)
+        ∙ denied in
         nothing log old leads (DiskCrash k given)
         (ap (λ (b : Bool). brings_if (b && has_disk old.shape w k && nat_lt (w.disk k).boot (2 ^ 62)) (Some e)) (some_given given some)
         ∙ ap (λ (b : Bool). brings_if (b && not (w.disk k).gone && nat_lt (w.disk k).boot (2 ^ 62)) (Some e)) (lt-ltb k old.shape.disks inside)
@@ -257,7 +267,8 @@ module _ (log : List Filled) (old : Kept) (leads : LeadsTo log old) where
     crashes given there some allowed is_there as_long =
         let w = world old.shape log in
         let e : Filled = Crashed k (filled given 0 (w.disk k).unsynced (w.disk k).bytes) in
-        let test : (not (w.disk k).gone && nat_lt (w.disk k).boot (2 ^ 62)) ≡ true = ap (λ (s : SimState). not s.disk.gone && nat_lt s.disk.boot (2 ^ 62)) (sym kept_disk) ∙ allowed in
+        let test : (not (w.disk k).gone && nat_lt (w.disk k).boot (2 ^ 62)) ≡ true = ap (λ (s : SimState). not s.disk.gone && nat_lt s.disk.boot (2 ^ 62)) (sym kept_disk)
+        ∙ allowed in
         something log old leads (DiskCrash k given) e (record old { disks = set old.disks k there }) None
         (ap (λ (b : Bool). brings_if (b && has_disk old.shape w k && nat_lt (w.disk k).boot (2 ^ 62)) (Some e)) (some_given given some)
         ∙ ap (λ (b : Bool). brings_if (b && not (w.disk k).gone && nat_lt (w.disk k).boot (2 ^ 62)) (Some e)) (lt-ltb k old.shape.disks inside)

@@ -56,9 +56,6 @@ module _ (log : List Filled) (old : Kept) (leads : LeadsTo log old) where
 -- DISKS AND HOSTS BEHIND AN ENTRY
 
 module _ (c : Shape) (log : List Filled) (e : Filled) where
-  disk_at : (d k : ℕ) → is_on d e ≡ (k == d) → (k == d) ≡ true → (world c (log ++ e ∷ [])).disk d ≡ disk_step ((world c log).disk d) e
-  disk_at d k on is = disk_here c log e d (on ∙ is)
-
   -- the entry is on one disk, and that is what it left
   pub one_disk : (disks : List SimState) (k : ℕ) (left : SimState)
       → length disks ≡ c.disks
@@ -106,13 +103,15 @@ module _ (c : Shape) (log : List Filled) (e : Filled) where
             let now : (world c (log ++ e ∷ [])).host g ≡ host_step c g ((world c log).host g) e = host_here c log e g (of g ∙ eq-eqb g g refl) in
             let put : get_or (set kept g left) g None ≡ left = get_or-set_same kept g left None within' in
             let there : IsHost c g ((world c (log ++ e ∷ [])).host g) (get_or (set kept g left) g None) =
-            subst (λ (w : Host). IsHost c g w (get_or (set kept g left) g None)) (sym now) (subst (λ (o : Option hosts.Kept). IsHost c g (host_step c g ((world c log).host g) e) o) (sym put) is) in
+            subst (λ (w : Host). IsHost c g w (get_or (set kept g left) g None)) (sym now)
+            (subst (λ (o : Option hosts.Kept). IsHost c g (host_step c g ((world c log).host g) e) o) (sym put) is) in
             subst (λ (j : ℕ). IsHost c j ((world c (log ++ e ∷ [])).host j) (get_or (set kept g left) j None)) same there)
         | inr there ↦
             (let other_one : h ≢ g = λ p. eqb-false g h there (sym p) in
             let now : (world c (log ++ e ∷ [])).host h ≡ (world c log).host h = host_there c log e h (of h ∙ there) in
             let kept_is : get_or (set kept g left) h None ≡ get_or kept h None = get_or-set_other kept g h left None other_one in
-            subst (λ (w : Host). IsHost c h w (get_or (set kept g left) h None)) (sym now) (subst (λ (o : Option hosts.Kept). IsHost c h ((world c log).host h) o) (sym kept_is) (before h)))
+            subst (λ (w : Host). IsHost c h w (get_or (set kept g left) h None)) (sym now)
+            (subst (λ (o : Option hosts.Kept). IsHost c h ((world c log).host h) o) (sym kept_is) (before h)))
       ]
 
   -- the entry is of no host
@@ -130,8 +129,10 @@ pub reached : (event : Event) (old new : Kept) (said : Option Said) → IsReache
 reached event old new said is brings = record { log = happens old.shape is.log event; leads = (brings is.log is.leads).leads }
 
 -- the same of what was kept before, under its other name
-pub seen : (event : Event) (old now new : Kept) (said : Option Said) → old ≡ now → ((log : List Filled) → LeadsTo log old → Brings log event old new said) → (log : List Filled) → LeadsTo log now → Brings log event now new said
+pub seen : (event : Event) (old now new : Kept) (said : Option Said) → old ≡ now → ((log : List Filled) → LeadsTo log old → Brings log event old new said)
+    → (log : List Filled) → LeadsTo log now → Brings log event now new said
 seen event old now new said same brings = subst (λ (k : Kept). (log : List Filled) → LeadsTo log k → Brings log event k new said) same brings
 
-pub unseen : (event : Event) (old now : Kept) (said : Option Said) → old ≡ now → ((log : List Filled) → LeadsTo log old → Brings log event old old said) → (log : List Filled) → LeadsTo log now → Brings log event now now said
+pub unseen : (event : Event) (old now : Kept) (said : Option Said) → old ≡ now → ((log : List Filled) → LeadsTo log old → Brings log event old old said) → (log : List Filled)
+    → LeadsTo log now → Brings log event now now said
 unseen event old now said same brings = subst (λ (k : Kept). (log : List Filled) → LeadsTo log k → Brings log event k k said) same brings

@@ -73,7 +73,8 @@ by_first c log x es p e (Some f) is found = elim (get_either log (f ∷ []) p e 
       inr (record { n = 0; event = x; is = refl; brings = is ∙ ap Some one.1; at = omega (arith, there.1, one.0) }))
 ]
 
-from_event : (c : Shape) (log : List Filled) (events : List Event) (p : ℕ) (e : Filled) → slice_get (happen c log events) p ≡ Some e → (slice_get log p ≡ Some e) ⊎ From c log events p e
+from_event : (c : Shape) (log : List Filled) (events : List Event) (p : ℕ) (e : Filled) → slice_get (happen c log events) p ≡ Some e
+    → (slice_get log p ≡ Some e) ⊎ From c log events p e
 from_event c log [] p e found = inl found
 from_event c log (x ∷ es) p e found = elim (from_event c (happens c log x) es p e found) [
   | inl there ↦ by_first c log x es p e (entry_of c (world c log) x) refl there
@@ -97,7 +98,8 @@ record ToldFrom (c : Shape) (log : List Filled) (place : ℕ) (events : List Eve
   of : host_of entry ≡ Some x.host
   says : said_of ((world c (happen c log (take n events) ++ entry ∷ [])).host x.host) ≡ Some x.said
 
-told_from : (c : Shape) (log : List Filled) (place : ℕ) (events : List Event) (k : ℕ) (x : Line) → slice_get (answers_from c log place events) k ≡ Some x → ToldFrom c log place events x
+told_from : (c : Shape) (log : List Filled) (place : ℕ) (events : List Event) (k : ℕ) (x : Line) → slice_get (answers_from c log place events) k ≡ Some x
+    → ToldFrom c log place events x
 told_from c log place [] k x found = absurd (cc)
 told_from c log place (e ∷ es) k x found = elim (get_either (lines_at c log place (entry_of c (world c log) e)) (answers_from c (happens c log e) (place + 1) es) k x found) [
   | inl here ↦
@@ -109,7 +111,7 @@ told_from c log place (e ∷ es) k x found = elim (get_either (lines_at c log pl
 ]
 
 -- whose entry it is, as a test
-own : (e : Filled) (h : ℕ) → host_of e ≡ Some h → is_of h e ≡ true
+pub own : (e : Filled) (h : ℕ) → host_of e ≡ Some h → is_of h e ≡ true
 own (Start g) h is = eq-eqb g h (cc)
 own (Stop g) h is = eq-eqb g h (cc)
 own (Submit g command tries) h is = eq-eqb g h (cc)
@@ -132,9 +134,6 @@ module _ (c : Shape) (events : List Event) where
   -- they begin the whole list
   pub begins_with : (n : ℕ) → take (length (before n)) (run c events) ≡ before n
   begins_with n = let more = rest_of n in ap (take (length (before n))) more.1 ∙ take-append_seam (before n) more.0
-
-  pub within_all : (n : ℕ) → length (before n) ≤ length (run c events)
-  within_all n = let more = rest_of n in omega (arith, ap length more.1, length-append (before n) more.0)
 
   -- the more events, the more entries
   pub fewer : (n m : ℕ) → n ≤ m → length (before n) ≤ length (before m)

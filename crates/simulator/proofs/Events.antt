@@ -53,13 +53,15 @@ module _ (log : List Filled) (old : Kept) (leads : LeadsTo log old) where
   starts h core within is fresh_core =
       let e : Filled = entries.Start h in
       let stopped = stopped_at h is in
-      let applies : (nat_lt h HOSTS && is_stopped ((world old.shape log).host h)) ≡ true = ap (λ (b : Bool). b && is_stopped ((world old.shape log).host h)) (lt-ltb h HOSTS within) ∙ ap is_stopped stopped in
+      let applies : (nat_lt h HOSTS && is_stopped ((world old.shape log).host h)) ≡ true = ap (λ (b : Bool). b && is_stopped ((world old.shape log).host h))
+      (lt-ltb h HOSTS within) ∙ ap is_stopped stopped in
       let steps : host_step old.shape h ((world old.shape log).host h) e ≡ Running fresh = ap started stopped in
       something log old leads (Start h) e (record old { hosts = set old.hosts h (Some core) }) None
       (ap (λ (b : Bool). brings_if b (Some e)) applies) refl
       (by_host log old leads e h (Some core) within (λ d. refl) (λ g. refl) (subst (λ (x : Host). IsHost old.shape h x (Some core)) (sym steps) fresh_core))
       leads.sized
-      (λ place. subst (λ (o : Option HostAnswer). lines_of place (saying h o) ≡ lines_after (world old.shape (log ++ e ∷ [])) place (Some h)) fresh_core.said (says_by log old leads e h fresh core (self_eq h) steps fresh_core place))
+      (λ place. subst (λ (o : Option HostAnswer). lines_of place (saying h o) ≡ lines_after (world old.shape (log ++ e ∷ [])) place (Some h)) fresh_core.said
+      (says_by log old leads e h fresh core (self_eq h) steps fresh_core place))
 
   pub starts_not : (h : ℕ) (core : hosts.Kept) → get_or old.hosts h None ≡ Some core → Brings log (Start h) old old None
   starts_not h core is =
@@ -89,7 +91,8 @@ module _ (log : List Filled) (old : Kept) (leads : LeadsTo log old) where
   not_idle h None is busy = ap idles (stopped_at h is)
   not_idle h (Some core) is busy = let r = running_at h core is in ap idles r.1 ∙ sym (idle_is old.shape h r.0 core r.2) ∙ busy
 
-  pub submits_not : (h : ℕ) (command : Command) (tries : ℕ) (o : Option hosts.Kept) → get_or old.hosts h None ≡ o → is_free o ≡ false → Brings log (Submit h command tries) old old None
+  pub submits_not : (h : ℕ) (command : Command) (tries : ℕ) (o : Option hosts.Kept) → get_or old.hosts h None ≡ o → is_free o ≡ false
+      → Brings log (Submit h command tries) old old None
   submits_not h command tries o is busy =
       nothing log old leads (Submit h command tries)
       (ap (λ (b : Bool). brings_if (b && nat_lt 0 tries) (submitted h tries (decoded (spelling command)))) (not_idle h o is busy))
@@ -111,7 +114,8 @@ module _ (log : List Filled) (old : Kept) (leads : LeadsTo log old) where
       (ap (λ (n : ℕ). brings_if (idles ((world old.shape log).host h) && nat_lt 0 n) (Some (entries.Recover h tries))) none
       ∙ ap (λ (b : Bool). brings_if b (Some (entries.Recover h tries))) (and_no (idles ((world old.shape log).host h))))
 
-  idle_test : (h tries : ℕ) (core : hosts.Kept) → 0 < tries → get_or old.hosts h None ≡ Some core → hosts.is_idle core ≡ true → (idles ((world old.shape log).host h) && nat_lt 0 tries) ≡ true
+  idle_test : (h tries : ℕ) (core : hosts.Kept) → 0 < tries → get_or old.hosts h None ≡ Some core → hosts.is_idle core ≡ true
+      → (idles ((world old.shape log).host h) && nat_lt 0 tries) ≡ true
   idle_test h tries core some is idle =
       let r = running_at h core is in
       ap (λ (b : Bool). b && nat_lt 0 tries) (ap idles r.1 ∙ sym (idle_is old.shape h r.0 core r.2) ∙ idle) ∙ lt-ltb 0 tries some

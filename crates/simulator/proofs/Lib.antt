@@ -6,6 +6,7 @@ pub mod Lines
 pub mod Listing
 pub mod OneMore
 pub mod Owed
+pub mod Recovering
 pub mod Safety
 pub mod Shown
 pub mod Submitting

@@ -55,5 +55,6 @@ speaker_runs log event old new said brings =
     let after : happens c log event ≡ log ++ found.entry ∷ [] = ap (with_entry log) found.is in
     let leads : LeadsTo (log ++ found.entry ∷ []) new = subst (λ (l : List Filled). LeadsTo l new) after brings.leads in
     let host : IsHost new.shape said.host ((world c (log ++ found.entry ∷ [])).host said.host) (slice_index_or new.hosts said.host None) =
-    subst (λ (s : Shape). IsHost new.shape said.host ((world s (log ++ found.entry ∷ [])).host said.host) (slice_index_or new.hosts said.host None)) brings.shape (leads.shows.hosts said.host) in
+    subst (λ (s : Shape). IsHost new.shape said.host ((world s (log ++ found.entry ∷ [])).host said.host) (slice_index_or new.hosts said.host None)) brings.shape
+    (leads.shows.hosts said.host) in
     runs_by new.shape said.host _ _ said.answer found.says host

@@ -76,5 +76,6 @@ module _ (c : Shape) (events : List code.Event) (i : ℕ) (event : code.Event) (
       }
 
 -- behind the last event all is listed
-pub all_listed : (c : Shape) (events : List code.Event) (i : ℕ) (k : Kept) (listed : List Answer) → length events ≤ i → HasListed c events i k listed → map line_of listed ≡ answers c (events_of events)
+pub all_listed : (c : Shape) (events : List code.Event) (i : ℕ) (k : Kept) (listed : List Answer) → length events ≤ i → HasListed c events i k listed
+    → map line_of listed ≡ answers c (events_of events)
 all_listed c events i k listed past has = has.lines ∙ ap (λ (l : List code.Event). answers c (events_of l)) (take_all i events past)

@@ -18,6 +18,11 @@ use Rattle.simulator.specs.Kept.{Kept, LeadsTo, Brings}
 pub events_on : (events : List code.Event) (event : code.Event) → events_of (events ++ event ∷ []) ≡ events_of events ++ event_of event ∷ []
 events_on events event = map-append event_of events (event ∷ [])
 
+-- so where a copy of the event is kept behind them
+pub kept_on : {events between more : List code.Event} {event copy : code.Event} → more ≡ between ++ copy ∷ [] → between ≡ events → copy ≡ event → more ≡ events ++ event ∷ []
+kept_on {events} {between} {more} {event} {copy} grown same copied =
+    grown ∙ ap (λ (l : List code.Event). l ++ copy ∷ []) same ∙ ap (λ (e : code.Event). events ++ e ∷ []) copied
+
 module _ (events : List code.Event) (event : code.Event) (old new : Kept) (said : Option Said)
     (brings : Brings (run old.shape (events_of events)) (event_of event) old new said) where
   -- they lead to what is kept
@@ -59,7 +64,8 @@ module _ (events : List code.Event) (i : ℕ) (event : code.Event) (within : i <
   as_many = length-take-le i events (omega (arith, within))
 
 -- the answer of the event at a place is pictured among those of all events
-pub pictured_there : (c : Shape) (events : List code.Event) (i : ℕ) (a : Answer) → a.place ≡ i → IsPictured (world c (run c (events_of (take (i + 1) events)))) a → IsPicturedIn c (events_of events) a
+pub pictured_there : (c : Shape) (events : List code.Event) (i : ℕ) (a : Answer) → a.place ≡ i → IsPictured (world c (run c (events_of (take (i + 1) events)))) a
+    → IsPicturedIn c (events_of events) a
 pictured_there c events i a at is =
     let same : events_of (take (i + 1) events) ≡ take (a.place + 1) (events_of events) =
     ap (λ (n : ℕ). events_of (take (n + 1) events)) (sym at) ∙ sym (take-map event_of (a.place + 1) events) in

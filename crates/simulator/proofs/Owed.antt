@@ -51,12 +51,14 @@ none_at zero h = refl
 none_at (suc n) zero = refl
 none_at (suc n) (suc h) = none_at n h
 
-pub opens : (c : Shape) (disks : List SimState) (kept : List (Option hosts.Kept)) → disks ≡ replicate c.disks (calm (fresh_disk (image_length c.slots))) → kept ≡ replicate HOSTS None
+pub opens : (c : Shape) (disks : List SimState) (kept : List (Option hosts.Kept)) → disks ≡ replicate c.disks (calm (fresh_disk (image_length c.slots)))
+    → kept ≡ replicate HOSTS None
     → LeadsTo [] (record { shape = c; disks = disks; hosts = kept })
 opens c disks kept are_fresh are_stopped =
     let x : SimState = calm (fresh_disk (image_length c.slots)) in
     let stopped : Option hosts.Kept = None in
-    let at : (d : ℕ) (other : SimState) → d < c.disks → get_or disks d other ≡ x = λ d other inside. ap (λ (l : List SimState). get_or l d other) are_fresh ∙ get_or-replicate c.disks d x other inside in
+    let at : (d : ℕ) (other : SimState) → d < c.disks
+    → get_or disks d other ≡ x = λ d other inside. ap (λ (l : List SimState). get_or l d other) are_fresh ∙ get_or-replicate c.disks d x other inside in
     record {
       run = tt;
       shows = record {
@@ -73,9 +75,6 @@ opens c disks kept are_fresh are_stopped =
 module _ (old : Kept) (is : IsReached old) (i : ℕ) (core : hosts.Kept) (found : get_or old.hosts i None ≡ Some core) where
   pub own_shape : core.learner.shape ≡ old.shape
   own_shape = (running_at is.log old is.leads i core found).2.learner.shape
-
-  pub own_host : core.learner.host ≡ i
-  own_host = (running_at is.log old is.leads i core found).2.learner.is_host
 
   -- its disk is one of the cluster's
   pub on_disk : (k : ℕ) → k < core.learner.shape.disks → k < old.shape.disks
@@ -103,7 +102,8 @@ module _ (old : Kept) (h i : ℕ) (same : i ≡ h) (within : i < HOSTS) where
   starts_not core found log leads = subst (λ (j : ℕ). Brings log (Start j) old old None) same (events.starts_not log old leads i core found)
 
   pub stops : (log : List Filled) → LeadsTo log old → Brings log (Stop h) old (record old { hosts = set old.hosts i None }) None
-  stops log leads = subst (λ (j : ℕ). Brings log (Stop j) old (record old { hosts = set old.hosts i None }) None) same (events.stops log old leads i (get_or old.hosts i None) within refl)
+  stops log leads = subst (λ (j : ℕ). Brings log (Stop j) old (record old { hosts = set old.hosts i None }) None) same
+      (events.stops log old leads i (get_or old.hosts i None) within refl)
 
   -- nothing of a host that carries out no operation, or may begin none
   module _ (o : Option hosts.Kept) (is : get_or old.hosts i None ≡ o) where
@@ -111,13 +111,16 @@ module _ (old : Kept) (h i : ℕ) (same : i ≡ h) (within : i < HOSTS) where
     steps_idle idle log leads = subst (λ (j : ℕ). Brings log (Step j) old old None) same (calls.steps_not log old leads i (calls.no_call log old leads i o is idle))
 
     pub fails_idle : (given : List ℕ) → 0 < length given → is_busy o ≡ false → (log : List Filled) → LeadsTo log old → Brings log (FailCall h given) old old None
-    fails_idle given some idle log leads = subst (λ (j : ℕ). Brings log (FailCall j given) old old None) same (calls.fails_not log old leads i given some (calls.no_call log old leads i o is idle))
+    fails_idle given some idle log leads = subst (λ (j : ℕ). Brings log (FailCall j given) old old None) same
+        (calls.fails_not log old leads i given some (calls.no_call log old leads i o is idle))
 
     pub tears_idle : (given : List ℕ) → 0 < length given → is_busy o ≡ false → (log : List Filled) → LeadsTo log old → Brings log (Tear h given) old old None
-    tears_idle given some idle log leads = subst (λ (j : ℕ). Brings log (Tear j given) old old None) same (calls.tears_not log old leads i given some (calls.no_call log old leads i o is idle))
+    tears_idle given some idle log leads = subst (λ (j : ℕ). Brings log (Tear j given) old old None) same
+        (calls.tears_not log old leads i given some (calls.no_call log old leads i o is idle))
 
     pub submits_busy : (command : Command) (tries : ℕ) → is_free o ≡ false → (log : List Filled) → LeadsTo log old → Brings log (Submit h command tries) old old None
-    submits_busy command tries busy log leads = subst (λ (j : ℕ). Brings log (Submit j command tries) old old None) same (events.submits_not log old leads i command tries o is busy)
+    submits_busy command tries busy log leads = subst (λ (j : ℕ). Brings log (Submit j command tries) old old None) same
+        (events.submits_not log old leads i command tries o is busy)
 
     pub recovers_busy : (tries : ℕ) → is_free o ≡ false → (log : List Filled) → LeadsTo log old → Brings log (Recover h tries) old old None
     recovers_busy tries busy log leads = subst (λ (j : ℕ). Brings log (Recover j tries) old old None) same (events.recovers_not log old leads i tries o is busy)
@@ -132,7 +135,8 @@ module _ (old : Kept) (h i : ℕ) (same : i ≡ h) (within : i < HOSTS) where
       subst (λ (k : ℕ). Brings log (Tear k given) old old None) same
       (calls.tears_no_write log old leads i core need.disk (device_call_of need.call) x within found next inside (leads.shows.disks need.disk x inside) given some is_not)
 
-  module _ (core new : hosts.Kept) (said : Option Said) (found : get_or old.hosts i None ≡ Some core) (is_said : said ≡ option_map (λ answer. record { host = h; answer = answer }) new.said) where
+  module _ (core new : hosts.Kept) (said : Option Said) (found : get_or old.hosts i None ≡ Some core)
+      (is_said : said ≡ option_map (λ answer. record { host = h; answer = answer }) new.said) where
     pub submits : (command : Command) (tries : ℕ) → command.host ≡ h → FitsCommand command → 0 < tries → hosts.is_idle core ≡ true
         → ((c : Shape) (g : ℕ) (m : Memory) → hosts.LeadsTo c g m core → hosts.LeadsTo c g (goes_on c m (Submitting command) tries) new)
         → (log : List Filled) → LeadsTo log old → Brings log (Submit h command tries) old (record old { hosts = set old.hosts i (Some new) }) said
@@ -185,12 +189,15 @@ module _ (old : Kept) (h i : ℕ) (same : i ≡ h) (within : i < HOSTS) where
         → refusal_of x.disk (device_call_of need.call) ≡ None
         → there ≡ record x { disk = called_by x.disk (device_call_of need.call) (Fault Failed) (taken_by (device_call_of need.call) given) }
         → length there.disk.bytes ≡ length x.disk.bytes
-        → ((c : Shape) (g : ℕ) (m : Memory) → hosts.LeadsTo c g m core → hosts.LeadsTo c g (hears c g m m.doing (record { disk = (hosts.due_call core).0; heard = heard_as (Fault Failed) })) new)
+        → ((c : Shape) (g : ℕ) (m : Memory) → hosts.LeadsTo c g m core
+        → hosts.LeadsTo c g (hears c g m m.doing (record { disk = (hosts.due_call core).0; heard = heard_as (Fault Failed) })) new)
         → said ≡ option_map (λ answer. record { host = h; answer = answer }) new.said
-        → (log : List Filled) → LeadsTo log old → Brings log (FailCall h given) old (record { shape = old.shape; disks = set old.disks j there; hosts = set old.hosts i (Some new) }) said
+        → (log : List Filled) → LeadsTo log old
+        → Brings log (FailCall h given) old (record { shape = old.shape; disks = set old.disks j there; hosts = set old.hosts i (Some new) }) said
     fails given new there said some clear left as_long hears_then is_said log leads =
         named (λ k. FailCall k given) log old (record { shape = old.shape; disks = set old.disks j there; hosts = set old.hosts i (Some new) }) i h new.said said same is_said
-        (calls.fails log old leads i core j (device_call_of need.call) x within found next_at inside (sym value) given there new some clear left as_long (hears_at _ _ new refl hears_then))
+        (calls.fails log old leads i core j (device_call_of need.call) x within found next_at inside (sym value) given there new some clear left as_long
+        (hears_at _ _ new refl hears_then))
 
     pub fails_refused : (given : List ℕ) (fault : DiskFault) → 0 < length given → refusal_of x.disk (device_call_of need.call) ≡ Some fault
         → (log : List Filled) → LeadsTo log old → Brings log (FailCall h given) old old None
@@ -246,16 +253,19 @@ none_of (Some a) is = absurd (cc)
 
 -- a disk that is put back changes nothing
 pub disk_back : (k : Kept) (j : ℕ) (x there : SimState) → there ≡ x → x ≡ get_or k.disks j x → (record k { disks = set k.disks j there }) ≡ k
-disk_back k j x there same value = ap (λ (s : SimState). record k { disks = set k.disks j s }) (same ∙ value) ∙ ap (λ (ds : List SimState). record k { disks = ds }) (set-get_or k.disks j x)
+disk_back k j x there same value = ap (λ (s : SimState). record k { disks = set k.disks j s }) (same ∙ value)
+    ∙ ap (λ (ds : List SimState). record k { disks = ds }) (set-get_or k.disks j x)
 
 module _ (old : Kept) (h i : ℕ) (same : i ≡ h) (inside : i < old.shape.disks) (x there : SimState) (value : x ≡ get_or old.disks i x) where
   pub crashes : (given : List ℕ) → 0 < length given → there ≡ crashed_if (may_crash x.disk) x given → length there.disk.bytes ≡ length x.disk.bytes
       → (log : List Filled) → LeadsTo log old → Brings log (DiskCrash h given) old (record old { disks = set old.disks i there }) None
-  crashes given some left as_long log leads = subst (λ (k : ℕ). Brings log (DiskCrash k given) old (record old { disks = set old.disks i there }) None) same (go (may_crash x.disk) refl left)
+  crashes given some left as_long log leads = subst (λ (k : ℕ). Brings log (DiskCrash k given) old (record old { disks = set old.disks i there }) None) same
+      (go (may_crash x.disk) refl left)
     where
       go : (b : Bool) → may_crash x.disk ≡ b → there ≡ crashed_if b x given → Brings log (DiskCrash i given) old (record old { disks = set old.disks i there }) None
       go true e l = calls.crashes log old leads i x inside (sym value) given there some e l as_long
-      go false e l = subst (λ (k : Kept). Brings log (DiskCrash i given) old k None) (sym (disk_back old i x there l value)) (calls.crashes_not log old leads i x inside (sym value) given some e)
+      go false e l = subst (λ (k : Kept). Brings log (DiskCrash i given) old k None) (sym (disk_back old i x there l value))
+          (calls.crashes_not log old leads i x inside (sym value) given some e)
 
   pub is_lost : there ≡ lost_if x.disk.gone x → (log : List Filled) → LeadsTo log old → Brings log (DiskGone h) old (record old { disks = set old.disks i there }) None
   is_lost left log leads = subst (λ (k : ℕ). Brings log (DiskGone k) old (record old { disks = set old.disks i there }) None) same (go x.disk.gone refl left)

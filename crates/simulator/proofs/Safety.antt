@@ -58,4 +58,5 @@ module _ (c : Shape) (log : List Filled) (run : IsRun c log) where
   misses_nothing i j host n place other slot reply idle le says before acked =
       let chosen = acked_chosen place other slot reply acked in
       let early = chosen.1.before in
-      empty_shows c log run i j host n chosen.1.place slot chosen.0 (λ trying. idle_tries_nothing ((at c log i).host host) trying.memory trying.doing idle trying.running trying.does) le says (omega arith) chosen.1.is
+      empty_shows c log run i j host n chosen.1.place slot chosen.0
+      (λ trying. idle_tries_nothing ((at c log i).host host) trying.memory trying.doing idle trying.running trying.does) le says (omega arith) chosen.1.is

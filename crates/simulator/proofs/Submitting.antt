@@ -54,7 +54,8 @@ module _ (c : Shape) (w : World) (h : ℕ) (command : Command) (tries : ℕ) whe
   no_torn g given None is = cc
   no_torn g given (Some x) is = no_tear g given x.0 x.1 (refusal_of (w.disk x.0) x.1) is
 
-  of_submit : (g t : ℕ) (given : Command) (o : Option Command) → decoded (spelling given) ≡ o → submitted g t o ≡ Some (entries.Submit h command tries) → Submits (Submit g given t) h command tries
+  of_submit : (g t : ℕ) (given : Command) (o : Option Command) → decoded (spelling given) ≡ o → submitted g t o ≡ Some (entries.Submit h command tries)
+      → Submits (Submit g given t) h command tries
   of_submit g t given None reads is = absurd (cc)
   of_submit g t given (Some found) reads is =
       let same : entries.Submit g found t ≡ entries.Submit h command tries =
@@ -71,7 +72,8 @@ module _ (c : Shape) (w : World) (h : ℕ) (command : Command) (tries : ℕ) whe
   pub of_submission : (event : Event) → entry_of c w event ≡ Some (entries.Submit h command tries) → Submits event h command tries
   of_submission (Start g) is = absurd (let some = brought _ (Some (entries.Start g)) _ is in cc)
   of_submission (Stop g) is = absurd (let some = brought _ (Some (entries.Stop g)) _ is in cc)
-  of_submission (Submit g given t) is = of_submit g t given (decoded (spelling given)) refl (brought (idles (w.host g) && nat_lt 0 t) (submitted g t (decoded (spelling given))) _ is)
+  of_submission (Submit g given t) is = of_submit g t given (decoded (spelling given)) refl
+      (brought (idles (w.host g) && nat_lt 0 t) (submitted g t (decoded (spelling given))) _ is)
   of_submission (Recover g t) is = absurd (let some = brought _ (Some (entries.Recover g t)) _ is in cc)
   of_submission (Step g) is = absurd (no_step g (next_of c g (w.host g)) is)
   of_submission (Tear g given) is = absurd (no_torn g given (next_of c g (w.host g)) (brought _ (option_and_then (torn w g given) (next_of c g (w.host g))) _ is))

@@ -4,7 +4,7 @@ use Rattle.std.proofs.Common.{ℕ, ◌+◌, ◌<◌, ◌≤◌, ◌≡◌, ◌�
 use Rattle.std.proofs.Math.Seq.{take-length}
 use Rattle.std.proofs.lemmas.Bool.{cases_lt}
 use Rattle.std.proofs.lemmas.List.{take-take}
-use Rattle.std.proofs.lemmas.Option.{slice_get-get_or, slice_get_read, slice_get-map}
+use Rattle.std.proofs.lemmas.Option.{slice_get-get_or, slice_get_read, slice_get-map, slice_get_within}
 use Rattle.lock_command.specs.declared.command.Command.{Command}
 use Rattle.lock_command.specs.Command.{spelling}
 use Rattle.lock_table.specs.declared.reply.Reply.{Reply}
@@ -17,7 +17,7 @@ use Rattle.host.specs.Kept as hosts
 use Rattle.world.specs.Entry.{Filled}
 use Rattle.world.specs.World.{World, world}
 use Rattle.world.specs.Happens.{Event, Line, run, answers}
-use Rattle.world.specs.Chosen.{at, SaysAt}
+use Rattle.world.specs.Chosen.{at, SaysAt, IsSubmittedBefore as IsSubmittedIn}
 use Rattle.world.specs.Headline.{Begins, IsSafe}
 use Rattle.world.proofs.Runs.{run_is_run}
 use Rattle.simulator.specs.declared.answer.Answer.{Answer}
@@ -58,9 +58,10 @@ module _ (c : Shape) (events : List Event) where
       subst (λ (w : World). Begins (learned_of (w.host h)) log) (world_at i)
       (safety.begins c (run c events) (run_is_run c events) (length (before c events i)) h)
 
-  submitted : (i slot : ℕ) (value : List ℕ) → IsChosenBy c events i slot value → IsSubmittedBefore events i value
-  submitted i slot value chosen =
-      let s = safe.submitted (length (before c events i)) slot value chosen in
+  -- a submission in the run is an event
+  submitted_by : (p i : ℕ) (value : List ℕ) → IsSubmittedIn (run c events) p value
+      → ((n : ℕ) (e : Event) → slice_get events n ≡ Some e → length (before c events n) < p → n < i) → IsSubmittedBefore events i value
+  submitted_by p i value s bound =
       let f = of_event c events s.place _ s.entry in
       let by = of_submission c (world c (run c (take f.n events))) s.host s.command s.tries f.event f.brings in
       record {
@@ -68,16 +69,28 @@ module _ (c : Shape) (events : List Event) where
         host = s.host;
         command = by.given;
         tries = s.tries;
-        before = earlier c events f.n i (omega (arith, f.at, s.before));
+        before = bound f.n f.event f.is (omega (arith, f.at, s.before));
         event = f.is ∙ ap Some by.is;
         spelled = s.spelled ∙ sym by.spelled;
       }
+
+  each : (slot : ℕ) (command : Command) → slice_get log slot ≡ Some command → IsSubmittedBefore events (length events) (spelling command)
+  each slot command found =
+      let chosen = safe.is_log.chosen slot (spelling command) (slice_get-map spelling log slot ∙ ap (option_map spelling) found) in
+      submitted_by chosen.0 (length events) (spelling command) (safe.submitted chosen.0 slot (spelling command) chosen.1)
+      (λ n e is less. slice_get_within events n e is)
+
+  submitted : (i slot : ℕ) (value : List ℕ) → IsChosenBy c events i slot value → IsSubmittedBefore events i value
+  submitted i slot value chosen =
+      submitted_by (length (before c events i)) i value (safe.submitted (length (before c events i)) slot value chosen)
+      (λ n e is less. earlier c events n i less)
 
   pub one : IsOneLog c events log
   one =
       record {
         is_log = safe.is_log;
         no_other = safety.no_other c (run c events) (run_is_run c events);
+        each = each;
         chosen = λ i slot value is. safe.one (length (before c events i)) slot value is;
         submitted = submitted;
         begins = begins;
@@ -120,10 +133,7 @@ module _ (c : Shape) (events : List Event) where
     goes : GoesBy c events log a
     goes = goes_as a.said refl
 
-  -- each answer of a list of answers that makes these lines
-  pub told_in : (report : List Answer) → map line_of report ≡ answers c events → (k : ℕ) (a : Answer) → slice_get report k ≡ Some a → Told c events a.place (line_of a)
-  told_in report lines k a is = told c events k (line_of a) (ap (λ (l : List Line). slice_get l k) (sym lines) ∙ slice_get-map line_of report k ∙ ap (option_map line_of) is)
-
+  -- an answer whose line is among those of the world goes by the log
   pub answer_goes : (k : ℕ) (a : Answer) → slice_get (answers c events) k ≡ Some (line_of a) → IsPicturedIn c events a → GoesBy c events log a
   answer_goes k a is pictured = goes a (told c events k (line_of a) is) pictured
 
@@ -164,7 +174,8 @@ tells c events report lines pictures =
 -- SO FAR
 
 -- what was answered with the last event goes by the log
-pub goes_with : (p : Past) (a : Answer) (earlier : List Line) → answers_of p ≡ earlier ++ line_of a ∷ [] → a.place + 1 ≡ length p.events → IsPictured (world_of p) a → GoesByOneLog p (Some a)
+pub goes_with : (p : Past) (a : Answer) (earlier : List Line) → answers_of p ≡ earlier ++ line_of a ∷ [] → a.place + 1 ≡ length p.events → IsPictured (world_of p) a
+    → GoesByOneLog p (Some a)
 goes_with p a earlier lines last pictured =
     let whole : p.events ≡ take (a.place + 1) p.events = sym (ap (λ (n : ℕ). take n p.events) last ∙ take-length p.events) in
     record {
@@ -187,6 +198,7 @@ begins_so_far p h k is logged by =
     ap (λ (l : List Event). learned_of ((world p.shape (run p.shape l)).host h)) (take-length p.events) ∙ ap learned_of r.1 ∙ sym r.2.prefix in
     subst (λ (l : List Command). Begins l logged) all (by.begins (length p.events) h)
 
-pub begins_if : {X : Type 0} (p : Past) (h : ℕ) (o : Option X) (now : X → hosts.Kept) → IsHost p.shape h ((world_of p).host h) (option_map now o) → IfSome o (λ x. BeginsTheLog p (now x).prefix)
+pub begins_if : {X : Type 0} (p : Past) (h : ℕ) (o : Option X) (now : X → hosts.Kept) → IsHost p.shape h ((world_of p).host h) (option_map now o)
+    → IfSome o (λ x. BeginsTheLog p (now x).prefix)
 begins_if p h None now is = tt
 begins_if p h (Some x) now is = begins_so_far p h (now x) is

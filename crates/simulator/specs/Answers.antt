@@ -1,5 +1,5 @@
 -- What a report lists.
-use Rattle.std.specs.Prelude.{◌≡◌, ◌+◌, List, [], ◌∷◌, take, Option, Some, None}
+use Rattle.std.specs.Prelude.{◌≡◌, ◌+◌, Bool, true, false, List, [], ◌∷◌, take, Option, Some, None}
 use Rattle.lock_table.specs.Apply.{Plain, table_after}
 use Rattle.lock_table.specs.Picture.{IsPictureOf}
 use Rattle.slot_log.specs.Shape.{Shape}
@@ -7,7 +7,7 @@ use Rattle.host.specs.declared.answer.HostAnswer.{HostAnswer}
 use Rattle.host.specs.declared.answer.HostAnswer.TheVariants.{Ack, Recovered, Refused}
 use Rattle.host.specs.Host.{learned_of}
 use Rattle.world.specs.World.{World, world}
-use Rattle.world.specs.Happens.{Event, Line, run}
+use Rattle.world.specs.Happens.{Event, Recover, Step, FailCall, Line, run}
 use Rattle.simulator.specs.declared.answer.Answer.{Answer}
 
 -- an answer without its picture
@@ -17,6 +17,13 @@ line_of a = record { place = a.place; host = a.host; said = a.said }
 abbrev pub lines_in : Option Answer → List Line
 lines_in None = []
 lines_in (Some a) = line_of a ∷ []
+
+-- whether a host may answer with the event that it has recovered: it begins a recovery then, or makes a device call
+abbrev pub may_recover : Event → Bool
+may_recover (Recover h tries) = true
+may_recover (Step h) = true
+may_recover (FailCall h given) = true
+may_recover other = false
 
 -- there is a picture, and it is one of this table
 abbrev pub ShowsTable : Option Plain → Plain → Type 0

@@ -45,7 +45,7 @@ pub record CarriesOut (host : Host) (operation : Operation) : Type 0 where
 
 -- THE LOG
 
--- with event i a value is chosen for a slot
+-- with event i, or the next one that applies, a value is chosen for a slot
 abbrev pub IsChosenBy : Shape → List Event → ℕ → ℕ → List ℕ → Type 0
 IsChosenBy c events i slot value = IsChosenAt c (run c events) (length (run c (take i events))) slot value
 
@@ -55,6 +55,8 @@ pub record IsOneLog (c : Shape) (events : List Event) (log : List Command) : Typ
   pub is_log : IsLog c (run c events) (map spelling log)
   -- no other list is so
   pub no_other : (values : List (List ℕ)) → IsLog c (run c events) values → values ≡ map spelling log
+  -- each was submitted by one of the events
+  pub each : (slot : ℕ) (command : Command) → slice_get log slot ≡ Some command → IsSubmittedBefore events (length events) (spelling command)
   -- what any event chooses is the command there, and was submitted before
   pub chosen : (i slot : ℕ) (value : List ℕ) → IsChosenBy c events i slot value → slice_get (map spelling log) slot ≡ Some value
   pub submitted : (i slot : ℕ) (value : List ℕ) → IsChosenBy c events i slot value → IsSubmittedBefore events i value

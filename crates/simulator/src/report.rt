@@ -48,7 +48,7 @@ pub fn run(alloc: Global, config: Config, events: &[Event]) -> Result<Report, No
     let mut room = Room::new();
     let mut answers = Vec::new(alloc);
     for (place, event) in events.iter().enumerate() {
-        room.prepare(alloc)?;
+        room.prepare(alloc, event)?;
         answers.reserve(1)?;
         if let Some(said) = parts.event(alloc, event)? {
             answers.push_reserved(room.listed(&parts, place, said));

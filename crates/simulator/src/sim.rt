@@ -66,7 +66,7 @@ impl Sim {
         ensures unchanged { OnErr result (self.new ≡ self.old) }
     {
         let place = self.events.len();
-        self.room.prepare(alloc)?;
+        self.room.prepare(alloc, event)?;
         self.events.reserve(1)?;
         let kept = event.copy()?;
         let said = self.parts.event(alloc, event)?;

@@ -8,8 +8,17 @@ use Rattle.simulator.specs.Kept.{LeadsTo, Brings}
 use Rattle.simulator.proofs.Lines.{speaker_runs}
 use Rattle.simulator.proofs.Listing.{HasListed, lists, lists_nothing, all_listed}
 use Rattle.simulator.proofs.Telling.{tells}
+use Rattle.simulator.proofs.Recovering.{only_recovering}
 use Rattle.simulator.proofs.report.run.Goals as goal
 use Rattle.simulator.proofs.report.run.Goals.{in-Some, in_default}
+
+pub listed-requires-clause-room : goal.listed-requires-clause-room
+listed-requires-clause-room c =
+    let log = run c.args.config (events_of (take c.loop-place.place c.args.events.now)) in
+    let event = c.index-events-place.result in
+    let brings : Brings log (event_of event) c.loop-place.parts c.event.new.self (Some c.in-Some.said) =
+    subst (Brings log (event_of event) c.loop-place.parts c.event.new.self) c.in-Some.is (c.in_ok-said.ensures.brings log c.loop-place.invariant.leads) in
+    λ n is. c.in_ok-prepare.ensures (only_recovering log (event_of event) c.loop-place.parts c.event.new.self c.in-Some.said n brings is)
 
 pub listed-requires-clause-runs : goal.listed-requires-clause-runs
 listed-requires-clause-runs c =
@@ -30,7 +39,8 @@ loop-place-preserved c =
       | in-Some w ↦
           (let items = ap (λ v. v.items) w.answers-is ∙ w.push_reserved.ensures.items ∙ ap (λ (l : List Answer). l ++ w.listed.result ∷ []) c.reserve.ensures.items in
           subst Listed (sym items)
-          (lists c.args.config events at.place event at.parts c.event.new.self at.answers.items c.loop-place-test.true c.index-events-place.is at.invariant w.in-Some.said w.listed.result
+          (lists c.args.config events at.place event at.parts c.event.new.self at.answers.items c.loop-place-test.true c.index-events-place.is at.invariant w.in-Some.said
+          w.listed.result
           (subst Says w.in-Some.is c.in_ok-said.ensures.brings) w.listed.ensures.line w.listed.ensures.picture))
       | in_default w ↦
           (let items = ap (λ v. v.items) w.answers-is ∙ c.reserve.ensures.items in
@@ -42,4 +52,5 @@ loop-place-preserved c =
 pub returns-clause-one_log : goal.returns-clause-one_log
 returns-clause-one_log c =
     let before = c.loop-place.invariant in
-    tells c.args.config (events_of c.args.events.now) c.loop-place.answers.items (all_listed c.args.config c.args.events.now c.loop-place.place c.loop-place.parts c.loop-place.answers.items c.loop-place-test.false before) before.pictures
+    tells c.args.config (events_of c.args.events.now) c.loop-place.answers.items
+    (all_listed c.args.config c.args.events.now c.loop-place.place c.loop-place.parts c.loop-place.answers.items c.loop-place-test.false before) before.pictures

@@ -11,16 +11,32 @@ use Rattle.simulator.proofs.parts.Parts.lose.Goals as goal
 
 pub lose_disk-requires : goal.lose_disk-requires
 lose_disk-requires c =
-    owed.calm_at (kept_in c.self.inside) c.self.invariant c.from-at.result c.index_mut-disk.result.now (omega (arith, c.if-at-len.true, c.len.ensures, c.self.invariant.leads.shows.disk_count)) c.index_mut-disk.ensures.value
+    let old = kept_in c.self.inside in
+    let i = c.from-at.result in
+    let inside : i < old.shape.disks = omega (arith, c.if-at-len.true, c.len.ensures, c.self.invariant.leads.shows.disk_count) in
+    owed.calm_at old c.self.invariant i c.index_mut-disk.result.now inside c.index_mut-disk.ensures.value
 
 pub invariant_of-self : goal.invariant_of-self
 invariant_of-self c =
-    reached (DiskGone c.args.disk) (kept_in c.self.inside) _ None c.self.invariant (owed.is_lost (kept_in c.self.inside) c.args.disk c.from-at.result c.from-at.ensures (omega (arith, c.if-at-len.true, c.len.ensures, c.self.invariant.leads.shows.disk_count)) c.index_mut-disk.result.now c.lose_disk.new.disk c.index_mut-disk.ensures.value c.lose_disk.ensures)
+    let old = kept_in c.self.inside in
+    let i = c.from-at.result in
+    let event = DiskGone c.args.disk in
+    let inside : i < old.shape.disks = omega (arith, c.if-at-len.true, c.len.ensures, c.self.invariant.leads.shows.disk_count) in
+    reached event old _ None c.self.invariant
+    (owed.is_lost old c.args.disk i c.from-at.ensures inside c.index_mut-disk.result.now c.lose_disk.new.disk c.index_mut-disk.ensures.value c.lose_disk.ensures)
 
 pub returns-then-at-len : goal.returns-then-at-len
 returns-then-at-len c =
-    seen (DiskGone c.args.disk) (kept_in c.self.inside) c.args.self.now _ None c.self.view_is (owed.is_lost (kept_in c.self.inside) c.args.disk c.from-at.result c.from-at.ensures (omega (arith, c.if-at-len.true, c.len.ensures, c.self.invariant.leads.shows.disk_count)) c.index_mut-disk.result.now c.lose_disk.new.disk c.index_mut-disk.ensures.value c.lose_disk.ensures)
+    let old = kept_in c.self.inside in
+    let i = c.from-at.result in
+    let event = DiskGone c.args.disk in
+    let inside : i < old.shape.disks = omega (arith, c.if-at-len.true, c.len.ensures, c.self.invariant.leads.shows.disk_count) in
+    seen event old c.args.self.now _ None c.self.view_is
+    (owed.is_lost old c.args.disk i c.from-at.ensures inside c.index_mut-disk.result.now c.lose_disk.new.disk c.index_mut-disk.ensures.value c.lose_disk.ensures)
 
 pub returns-else-at-len : goal.returns-else-at-len
 returns-else-at-len c =
-    unseen (DiskGone c.args.disk) (kept_in c.self.inside) c.args.self.now None c.self.view_is (λ log leads. is_lost_out log (kept_in c.self.inside) leads c.args.disk (omega (arith, c.if-at-len.false, c.len.ensures, c.from-at.ensures, leads.shows.disk_count)))
+    let old = kept_in c.self.inside in
+    let event = DiskGone c.args.disk in
+    unseen event old c.args.self.now None c.self.view_is
+    (λ log leads. is_lost_out log old leads c.args.disk (omega (arith, c.if-at-len.false, c.len.ensures, c.from-at.ensures, leads.shows.disk_count)))
