@@ -1,5 +1,8 @@
+ghost use Rattle.std.specs.Prelude.{◌≡◌, IfOk};
+
 use crate::given::Given;
 use lock_command::{Command, HostNumber};
+use std::alloc::AllocError;
 
 /// What happens to a cluster. An event that does not apply changes nothing.
 #[derive(Debug, Drop)]
@@ -22,4 +25,38 @@ pub enum Event {
     DiskCrash { disk: u8, given: Given },
     /// A disk is lost for good.
     DiskGone(u8),
+}
+
+impl Event {
+    /// The same event again.
+    pub fn copy(&self) -> Result<Event, AllocError>
+        ensures { IfOk result (λ copy. copy ≡ self.now) }
+    {
+        Ok(match self {
+            Event::Start(host) => Event::Start(*host),
+            Event::Stop(host) => Event::Stop(*host),
+            Event::Submit { command, tries } => Event::Submit {
+                command: *command,
+                tries: *tries,
+            },
+            Event::Recover { host, tries } => Event::Recover {
+                host: *host,
+                tries: *tries,
+            },
+            Event::Step(host) => Event::Step(*host),
+            Event::Tear { host, given } => Event::Tear {
+                host: *host,
+                given: given.copy()?,
+            },
+            Event::FailCall { host, given } => Event::FailCall {
+                host: *host,
+                given: given.copy()?,
+            },
+            Event::DiskCrash { disk, given } => Event::DiskCrash {
+                disk: *disk,
+                given: given.copy()?,
+            },
+            Event::DiskGone(disk) => Event::DiskGone(*disk),
+        })
+    }
 }

@@ -1,4 +1,4 @@
-ghost use Rattle.std.specs.Prelude.{◌≡◌, ◌<◌, length};
+ghost use Rattle.std.specs.Prelude.{◌≡◌, ◌<◌, length, IfOk};
 
 use std::alloc::AllocError;
 use std::marker::Model;
@@ -36,7 +36,9 @@ impl Given {
     }
 
     /// The same bytes again.
-    pub fn copy(&self) -> Result<Given, AllocError> {
+    pub fn copy(&self) -> Result<Given, AllocError>
+        ensures { IfOk result (λ copy. copy ≡ self.now) }
+    {
         Ok(Given {
             bytes: self.bytes.clone()?,
         })

@@ -56,7 +56,7 @@ module _ (c : Shape) (log : List Filled) (run : IsRun c log) where
       }
 
   -- a host that begins to recover tries nothing yet
-  idle_before : (host : Host) (m : Memory) (t : Doing) → IsTrue (idles host) → host ≡ Running m → m.doing ≡ Some t → ⊥
+  pub idle_before : (host : Host) (m : Memory) (t : Doing) → IsTrue (idles host) → host ≡ Running m → m.doing ≡ Some t → ⊥
   idle_before Stopped m t idle is does = absurd (cc)
   idle_before (Running n) m t idle is does =
       let same : n ≡ m = cc in

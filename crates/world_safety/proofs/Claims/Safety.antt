@@ -135,7 +135,7 @@ module _ (c : Shape) (log : List Filled) (run : IsRun c log) where
       (omega (arith, many, size, length-take (length (prefix_at c log (i + 1) host)) commands), begins ∙ ap (λ (k : ℕ). take k commands) (sym many))
 
   -- what was acknowledged was chosen then
-  acked_chosen : (place host slot : ℕ) (reply : Reply) → SaysAt c log place host (Ack slot reply) → (value : List ℕ) × IsChosenBefore c log (place + 1) slot value
+  pub acked_chosen : (place host slot : ℕ) (reply : Reply) → SaysAt c log place host (Ack slot reply) → (value : List ℕ) × IsChosenBefore c log (place + 1) slot value
   acked_chosen place host slot reply says =
       let by = acks_at c log place host slot reply run says in
       let learned = learned_of ((at c log (place + 1)).host host) in

@@ -1,0 +1,275 @@
+-- What the code of the parts owes, in the code's own terms.
+use Rattle.std.specs.Prelude.{not, nat_lt, ◌^◌, replicate, is_some}
+use Rattle.std.specs.Option.{option_map}
+use Rattle.std.proofs.Common.{ℕ, ◌<◌, ◌≤◌, ◌≡◌, ◌&&◌, Bool, true, false, Option, Some, None, List, [], length, get_or, refl, sym, ap, ◌∙◌, subst, zero, suc, arith}
+use Rattle.std.proofs.Math.ListN.{set}
+use Rattle.std.proofs.lemmas.List.{get_or_read, set-get_or, length-replicate, get_or-replicate}
+use Rattle.disk.specs.declared.fault.DiskFault.{DiskFault}
+use Rattle.disk.specs.declared.fault.DiskFault.TheVariants.{Failed}
+use Rattle.disk.specs.Disk.{Call, Fault}
+use Rattle.disk.specs.Simulated.{SimState, refusal_of, crashed, fresh_disk}
+use Rattle.disk.specs.Steps.{shape_fresh}
+use Rattle.disk.specs.Disk.{lost}
+use Rattle.paxos_block.specs.Places.{image_length}
+use Rattle.torn_block.specs.declared.layout.TheConstants.{HOSTS}
+use Rattle.slot_log.specs.Shape.{Shape}
+use Rattle.lock_command.specs.declared.command.Command.{Command}
+use Rattle.lock_command.specs.Command.{Fits as FitsCommand}
+use Rattle.attempt.specs.Answers as attempt
+use Rattle.attempt.specs.Answers.{heard_as}
+use Rattle.phases.specs.declared.need.Need.{Need}
+use Rattle.phases.specs.declared.need.DeviceCall as code_call
+use Rattle.phases.specs.Calls.{call_of_need, device_call_of, IsWithin}
+use Rattle.host.specs.declared.answer.HostAnswer.{HostAnswer}
+use Rattle.host.specs.Host.{Stopped, Memory, Submitting, Recovering, fresh, goes_on, hears, next_in}
+use Rattle.host.specs.Kept as hosts
+use Rattle.world.specs.Entry.{Filled, called_by}
+use Rattle.world.specs.World.{world}
+use Rattle.world.specs.Happens.{Event, Start, Stop, Submit, Recover, Step, Tear, FailCall, DiskCrash, DiskGone, answer_of, taken_by}
+use Rattle.simulator.specs.declared.parts.Said.{Said}
+use Rattle.simulator.specs.declared.parts.Parts.TheInside.{Inside}
+use Rattle.simulator.specs.Calls.{is_write, may_crash, crashed_if, lost_if}
+use Rattle.simulator.specs.Kept.{Kept, calm, is_busy, is_free, IsHost, LeadsTo, IsReached, Brings}
+use Rattle.simulator.proofs.Shown.{saying, named}
+use Rattle.simulator.proofs.Events as events
+use Rattle.simulator.proofs.Events.{running_at}
+use Rattle.simulator.proofs.Calls as calls
+
+-- what is kept in the fields
+abbrev pub kept_in : Inside → Kept
+kept_in p = record { shape = p.config; disks = p.disks.items; hosts = p.hosts.items }
+
+-- what an index read, at the default of the definitions
+pub read_at : (old : Kept) (i : ℕ) (o : Option hosts.Kept) → i < length old.hosts → o ≡ get_or old.hosts i o → get_or old.hosts i None ≡ o
+read_at old i o within value = sym (get_or_read old.hosts i o within value None)
+
+-- AT FIRST
+
+-- all are stopped
+none_at : (n h : ℕ) → let none : Option hosts.Kept = None in get_or (replicate n none) h none ≡ none
+none_at zero h = refl
+none_at (suc n) zero = refl
+none_at (suc n) (suc h) = none_at n h
+
+pub opens : (c : Shape) (disks : List SimState) (kept : List (Option hosts.Kept)) → disks ≡ replicate c.disks (calm (fresh_disk (image_length c.slots)))
+    → kept ≡ replicate HOSTS None
+    → LeadsTo [] (record { shape = c; disks = disks; hosts = kept })
+opens c disks kept are_fresh are_stopped =
+    let x : SimState = calm (fresh_disk (image_length c.slots)) in
+    let stopped : Option hosts.Kept = None in
+    let at : (d : ℕ) (other : SimState) → d < c.disks
+    → get_or disks d other ≡ x = λ d other inside. ap (λ (l : List SimState). get_or l d other) are_fresh ∙ get_or-replicate c.disks d x other inside in
+    record {
+      run = tt;
+      shows = record {
+        disk_count = ap length are_fresh ∙ length-replicate c.disks x;
+        host_count = ap length are_stopped ∙ length-replicate HOSTS stopped;
+        disks = at;
+        hosts = λ h. subst (λ (o : Option hosts.Kept). IsHost c h Stopped o) (sym (ap (λ (l : List (Option hosts.Kept)). get_or l h None) are_stopped ∙ none_at HOSTS h)) tt;
+      };
+      sized = λ d other inside. ap (λ (s : SimState). length s.disk.bytes) (at d other inside) ∙ (shape_fresh (image_length c.slots)).1;
+    }
+
+-- WHAT IS KNOWN OF A HOST AND ITS CALL
+
+module _ (old : Kept) (is : IsReached old) (i : ℕ) (core : hosts.Kept) (found : get_or old.hosts i None ≡ Some core) where
+  pub own_shape : core.learner.shape ≡ old.shape
+  own_shape = (running_at is.log old is.leads i core found).2.learner.shape
+
+  -- its disk is one of the cluster's
+  pub on_disk : (k : ℕ) → k < core.learner.shape.disks → k < old.shape.disks
+  on_disk k within = subst (λ (c : Shape). k < c.disks) own_shape within
+
+  -- and its call within that
+  pub in_range : (j : ℕ) (x : SimState) (call : code_call.DeviceCall) → j < old.shape.disks → x ≡ get_or old.disks j x
+      → IsWithin (image_length core.learner.shape.slots) call → IsWithin (length x.disk.bytes) call
+  in_range j x call inside value within =
+      let long : length x.disk.bytes ≡ image_length old.shape.slots = ap (λ (s : SimState). length s.disk.bytes) value ∙ is.leads.sized j x inside in
+      subst (λ (n : ℕ). IsWithin n call) (sym long) (subst (λ (c : Shape). IsWithin (image_length c.slots) call) own_shape within)
+
+-- no failure was asked for of any disk
+pub calm_at : (old : Kept) → IsReached old → (j : ℕ) (x : SimState) → j < old.shape.disks → x ≡ get_or old.disks j x → x.failing ≡ None
+calm_at old is j x inside value = ap (λ (s : SimState). s.failing) (value ∙ is.leads.shows.disks j x inside)
+
+module _ (old : Kept) (h i : ℕ) (same : i ≡ h) (within : i < HOSTS) where
+  pub starts : (core : hosts.Kept) → get_or old.hosts i None ≡ None → hosts.LeadsTo old.shape h fresh core
+      → (log : List Filled) → LeadsTo log old → Brings log (Start h) old (record old { hosts = set old.hosts i (Some core) }) None
+  starts core empty kept log leads =
+      subst (λ (j : ℕ). Brings log (Start j) old (record old { hosts = set old.hosts i (Some core) }) None) same
+      (events.starts log old leads i core within empty (subst (λ (j : ℕ). hosts.LeadsTo old.shape j fresh core) (sym same) kept))
+
+  pub starts_not : (core : hosts.Kept) → get_or old.hosts i None ≡ Some core → (log : List Filled) → LeadsTo log old → Brings log (Start h) old old None
+  starts_not core found log leads = subst (λ (j : ℕ). Brings log (Start j) old old None) same (events.starts_not log old leads i core found)
+
+  pub stops : (log : List Filled) → LeadsTo log old → Brings log (Stop h) old (record old { hosts = set old.hosts i None }) None
+  stops log leads = subst (λ (j : ℕ). Brings log (Stop j) old (record old { hosts = set old.hosts i None }) None) same
+      (events.stops log old leads i (get_or old.hosts i None) within refl)
+
+  -- nothing of a host that carries out no operation, or may begin none
+  module _ (o : Option hosts.Kept) (is : get_or old.hosts i None ≡ o) where
+    pub steps_idle : is_busy o ≡ false → (log : List Filled) → LeadsTo log old → Brings log (Step h) old old None
+    steps_idle idle log leads = subst (λ (j : ℕ). Brings log (Step j) old old None) same (calls.steps_not log old leads i (calls.no_call log old leads i o is idle))
+
+    pub fails_idle : (given : List ℕ) → 0 < length given → is_busy o ≡ false → (log : List Filled) → LeadsTo log old → Brings log (FailCall h given) old old None
+    fails_idle given some idle log leads = subst (λ (j : ℕ). Brings log (FailCall j given) old old None) same
+        (calls.fails_not log old leads i given some (calls.no_call log old leads i o is idle))
+
+    pub tears_idle : (given : List ℕ) → 0 < length given → is_busy o ≡ false → (log : List Filled) → LeadsTo log old → Brings log (Tear h given) old old None
+    tears_idle given some idle log leads = subst (λ (j : ℕ). Brings log (Tear j given) old old None) same
+        (calls.tears_not log old leads i given some (calls.no_call log old leads i o is idle))
+
+    pub submits_busy : (command : Command) (tries : ℕ) → is_free o ≡ false → (log : List Filled) → LeadsTo log old → Brings log (Submit h command tries) old old None
+    submits_busy command tries busy log leads = subst (λ (j : ℕ). Brings log (Submit j command tries) old old None) same
+        (events.submits_not log old leads i command tries o is busy)
+
+    pub recovers_busy : (tries : ℕ) → is_free o ≡ false → (log : List Filled) → LeadsTo log old → Brings log (Recover h tries) old old None
+    recovers_busy tries busy log leads = subst (λ (j : ℕ). Brings log (Recover j tries) old old None) same (events.recovers_not log old leads i tries o is busy)
+
+  -- a call that is no write is not torn
+  pub tears_no_write : (core : hosts.Kept) (need : Need) → get_or old.hosts i None ≡ Some core
+      → ((c : Shape) (g : ℕ) (m : Memory) → hosts.LeadsTo c g m core → next_in c g m ≡ Some (call_of_need need))
+      → need.disk < old.shape.disks → (given : List ℕ) → 0 < length given → is_write (device_call_of need.call) ≡ false
+      → (log : List Filled) → LeadsTo log old → Brings log (Tear h given) old old None
+  tears_no_write core need found next inside given some is_not log leads =
+      let x : SimState = calm ((world old.shape log).disk need.disk) in
+      subst (λ (k : ℕ). Brings log (Tear k given) old old None) same
+      (calls.tears_no_write log old leads i core need.disk (device_call_of need.call) x within found next inside (leads.shows.disks need.disk x inside) given some is_not)
+
+  module _ (core new : hosts.Kept) (said : Option Said) (found : get_or old.hosts i None ≡ Some core)
+      (is_said : said ≡ option_map (λ answer. record { host = h; answer = answer }) new.said) where
+    pub submits : (command : Command) (tries : ℕ) → command.host ≡ h → FitsCommand command → 0 < tries → hosts.is_idle core ≡ true
+        → ((c : Shape) (g : ℕ) (m : Memory) → hosts.LeadsTo c g m core → hosts.LeadsTo c g (goes_on c m (Submitting command) tries) new)
+        → (log : List Filled) → LeadsTo log old → Brings log (Submit h command tries) old (record old { hosts = set old.hosts i (Some new) }) said
+    submits command tries own fits some idle goes log leads =
+        named (λ j. Submit j command tries) log old (record old { hosts = set old.hosts i (Some new) }) i h new.said said same is_said
+        (events.submits log old leads i command tries core new within (own ∙ sym same) fits some found idle goes)
+
+    pub recovers : (tries : ℕ) → 0 < tries → hosts.is_idle core ≡ true
+        → ((c : Shape) (g : ℕ) (m : Memory) → hosts.LeadsTo c g m core → hosts.LeadsTo c g (goes_on c m Recovering tries) new)
+        → (log : List Filled) → LeadsTo log old → Brings log (Recover h tries) old (record old { hosts = set old.hosts i (Some new) }) said
+    recovers tries some idle goes log leads =
+        named (λ j. Recover j tries) log old (record old { hosts = set old.hosts i (Some new) }) i h new.said said same is_said
+        (events.recovers log old leads i tries core new within some found idle goes)
+
+  -- A CALL
+
+  module _ (core : hosts.Kept) (need : Need) (j : ℕ) (x : SimState) (found : get_or old.hosts i None ≡ Some core)
+      (next : (c : Shape) (g : ℕ) (m : Memory) → hosts.LeadsTo c g m core → next_in c g m ≡ Some (call_of_need need))
+      (due : call_of_need need ≡ hosts.due_call core)
+      (on : j ≡ need.disk) (inside : j < old.shape.disks) (value : x ≡ get_or old.disks j x) where
+    call : Call
+    call = device_call_of need.call
+
+    next_at : (c : Shape) (g : ℕ) (m : Memory) → hosts.LeadsTo c g m core → next_in c g m ≡ Some (j, device_call_of need.call)
+    next_at c g m leads = next c g m leads ∙ ap (λ (k : ℕ). Some (k, device_call_of need.call)) (sym on)
+
+    due_disk : (hosts.due_call core).0 ≡ j
+    due_disk = ap (λ (p : ℕ × Call). p.0) (sym due) ∙ sym on
+
+    -- it hears on this disk
+    hears_at : (heard other : attempt.Heard) (new : hosts.Kept) → heard ≡ other
+        → ((c : Shape) (g : ℕ) (m : Memory) → hosts.LeadsTo c g m core → hosts.LeadsTo c g (hears c g m m.doing (record { disk = (hosts.due_call core).0; heard = heard })) new)
+        → (c : Shape) (g : ℕ) (m : Memory) → hosts.LeadsTo c g m core → hosts.LeadsTo c g (hears c g m m.doing (record { disk = j; heard = other })) new
+    hears_at heard other new alike hears_then c g m leads =
+        subst (λ (e : attempt.Heard). hosts.LeadsTo c g (hears c g m m.doing (record { disk = j; heard = e })) new) alike
+        (subst (λ (k : ℕ). hosts.LeadsTo c g (hears c g m m.doing (record { disk = k; heard = heard })) new) due_disk (hears_then c g m leads))
+
+    pub steps : (new : hosts.Kept) (there : SimState) (heard : attempt.Heard) (said : Option Said)
+        → there ≡ record x { disk = called_by x.disk (device_call_of need.call) (answer_of x.disk (device_call_of need.call)) [] }
+        → length there.disk.bytes ≡ length x.disk.bytes
+        → heard ≡ heard_as (answer_of x.disk (device_call_of need.call))
+        → ((c : Shape) (g : ℕ) (m : Memory) → hosts.LeadsTo c g m core → hosts.LeadsTo c g (hears c g m m.doing (record { disk = (hosts.due_call core).0; heard = heard })) new)
+        → said ≡ option_map (λ answer. record { host = h; answer = answer }) new.said
+        → (log : List Filled) → LeadsTo log old → Brings log (Step h) old (record { shape = old.shape; disks = set old.disks j there; hosts = set old.hosts i (Some new) }) said
+    steps new there heard said left as_long alike hears_then is_said log leads =
+        named Step log old (record { shape = old.shape; disks = set old.disks j there; hosts = set old.hosts i (Some new) }) i h new.said said same is_said
+        (calls.steps log old leads i core j (device_call_of need.call) x within found next_at inside (sym value) there new left as_long (hears_at heard _ new alike hears_then))
+
+    pub fails : (given : List ℕ) (new : hosts.Kept) (there : SimState) (said : Option Said) → 0 < length given
+        → refusal_of x.disk (device_call_of need.call) ≡ None
+        → there ≡ record x { disk = called_by x.disk (device_call_of need.call) (Fault Failed) (taken_by (device_call_of need.call) given) }
+        → length there.disk.bytes ≡ length x.disk.bytes
+        → ((c : Shape) (g : ℕ) (m : Memory) → hosts.LeadsTo c g m core
+        → hosts.LeadsTo c g (hears c g m m.doing (record { disk = (hosts.due_call core).0; heard = heard_as (Fault Failed) })) new)
+        → said ≡ option_map (λ answer. record { host = h; answer = answer }) new.said
+        → (log : List Filled) → LeadsTo log old
+        → Brings log (FailCall h given) old (record { shape = old.shape; disks = set old.disks j there; hosts = set old.hosts i (Some new) }) said
+    fails given new there said some clear left as_long hears_then is_said log leads =
+        named (λ k. FailCall k given) log old (record { shape = old.shape; disks = set old.disks j there; hosts = set old.hosts i (Some new) }) i h new.said said same is_said
+        (calls.fails log old leads i core j (device_call_of need.call) x within found next_at inside (sym value) given there new some clear left as_long
+        (hears_at _ _ new refl hears_then))
+
+    pub fails_refused : (given : List ℕ) (fault : DiskFault) → 0 < length given → refusal_of x.disk (device_call_of need.call) ≡ Some fault
+        → (log : List Filled) → LeadsTo log old → Brings log (FailCall h given) old old None
+    fails_refused given fault some refused log leads =
+        subst (λ (k : ℕ). Brings log (FailCall k given) old old None) same
+        (calls.fails_refused log old leads i core j (device_call_of need.call) x within found next_at inside (sym value) given fault some refused)
+
+    pub tears_refused : (given : List ℕ) (fault : DiskFault) → 0 < length given → refusal_of x.disk (device_call_of need.call) ≡ Some fault
+        → (log : List Filled) → LeadsTo log old → Brings log (Tear h given) old old None
+    tears_refused given fault some refused log leads =
+        subst (λ (k : ℕ). Brings log (Tear k given) old old None) same
+        (calls.tears_refused log old leads i core j (device_call_of need.call) x within found next_at inside (sym value) given fault some refused)
+
+    pub tears : (given : List ℕ) (there : SimState) → is_write (device_call_of need.call) ≡ true → 0 < length given
+        → refusal_of x.disk (device_call_of need.call) ≡ None
+        → there ≡ record x { disk = called_by x.disk (device_call_of need.call) (Fault Failed) (taken_by (device_call_of need.call) given) }
+        → length there.disk.bytes ≡ length x.disk.bytes
+        → (log : List Filled) → LeadsTo log old → Brings log (Tear h given) old (record { shape = old.shape; disks = set old.disks j there; hosts = set old.hosts i None }) None
+    tears given there is_one some clear left as_long log leads =
+        subst (λ (k : ℕ). Brings log (Tear k given) old (record { shape = old.shape; disks = set old.disks j there; hosts = set old.hosts i None }) None) same
+        (calls.tears log old leads i core j (device_call_of need.call) x within found next_at inside (sym value) given there is_one some clear left as_long)
+
+-- WHAT WAS PUT BACK
+
+module _ (old : Kept) (i j : ℕ) (o : Option hosts.Kept) (x there : SimState) (is : get_or old.hosts i None ≡ o) (same : there ≡ x) (value : x ≡ get_or old.disks j x) where
+  disks_back : set old.disks j there ≡ old.disks
+  disks_back = ap (set old.disks j) (same ∙ value) ∙ set-get_or old.disks j x
+
+  hosts_back : set old.hosts i o ≡ old.hosts
+  hosts_back = ap (set old.hosts i) (sym is) ∙ set-get_or old.hosts i None
+
+  pub both_back : (event : Event) → ((log : List Filled) → LeadsTo log old → Brings log event old old None)
+      → (log : List Filled) → LeadsTo log old → Brings log event old (record { shape = old.shape; disks = set old.disks j there; hosts = set old.hosts i o }) None
+  both_back event brings log leads =
+      subst (λ (ds : List SimState). Brings log event old (record { shape = old.shape; disks = ds; hosts = set old.hosts i o }) None) (sym disks_back)
+      (subst (λ (hs : List (Option hosts.Kept)). Brings log event old (record { shape = old.shape; disks = old.disks; hosts = hs }) None) (sym hosts_back) (brings log leads))
+
+  pub disk_only_back : (event : Event) → ((log : List Filled) → LeadsTo log old → Brings log event old old None)
+      → (log : List Filled) → LeadsTo log old → Brings log event old (record { shape = old.shape; disks = set old.disks j there; hosts = old.hosts }) None
+  disk_only_back event brings log leads =
+      subst (λ (ds : List SimState). Brings log event old (record { shape = old.shape; disks = ds; hosts = old.hosts }) None) (sym disks_back) (brings log leads)
+
+-- what an option is, by its test
+pub some_of : (A : Type 0) (P : Type 0) (o : Option A) → is_some o ≡ true → ((a : A) → o ≡ Some a → P) → P
+some_of A P None is p = absurd (cc)
+some_of A P (Some a) is p = p a refl
+
+pub none_of : {A : Type 0} (o : Option A) → is_some o ≡ false → o ≡ None
+none_of None is = refl
+none_of (Some a) is = absurd (cc)
+
+-- A DISK
+
+-- a disk that is put back changes nothing
+pub disk_back : (k : Kept) (j : ℕ) (x there : SimState) → there ≡ x → x ≡ get_or k.disks j x → (record k { disks = set k.disks j there }) ≡ k
+disk_back k j x there same value = ap (λ (s : SimState). record k { disks = set k.disks j s }) (same ∙ value)
+    ∙ ap (λ (ds : List SimState). record k { disks = ds }) (set-get_or k.disks j x)
+
+module _ (old : Kept) (h i : ℕ) (same : i ≡ h) (inside : i < old.shape.disks) (x there : SimState) (value : x ≡ get_or old.disks i x) where
+  pub crashes : (given : List ℕ) → 0 < length given → there ≡ crashed_if (may_crash x.disk) x given → length there.disk.bytes ≡ length x.disk.bytes
+      → (log : List Filled) → LeadsTo log old → Brings log (DiskCrash h given) old (record old { disks = set old.disks i there }) None
+  crashes given some left as_long log leads = subst (λ (k : ℕ). Brings log (DiskCrash k given) old (record old { disks = set old.disks i there }) None) same
+      (go (may_crash x.disk) refl left)
+    where
+      go : (b : Bool) → may_crash x.disk ≡ b → there ≡ crashed_if b x given → Brings log (DiskCrash i given) old (record old { disks = set old.disks i there }) None
+      go true e l = calls.crashes log old leads i x inside (sym value) given there some e l as_long
+      go false e l = subst (λ (k : Kept). Brings log (DiskCrash i given) old k None) (sym (disk_back old i x there l value))
+          (calls.crashes_not log old leads i x inside (sym value) given some e)
+
+  pub is_lost : there ≡ lost_if x.disk.gone x → (log : List Filled) → LeadsTo log old → Brings log (DiskGone h) old (record old { disks = set old.disks i there }) None
+  is_lost left log leads = subst (λ (k : ℕ). Brings log (DiskGone k) old (record old { disks = set old.disks i there }) None) same (go x.disk.gone refl left)
+    where
+      go : (b : Bool) → x.disk.gone ≡ b → there ≡ lost_if b x → Brings log (DiskGone i) old (record old { disks = set old.disks i there }) None
+      go true e l = subst (λ (k : Kept). Brings log (DiskGone i) old k None) (sym (disk_back old i x there l value)) (calls.is_lost_gone log old leads i x inside (sym value) e)
+      go false e l = calls.is_lost log old leads i x inside (sym value) there e l

@@ -1,0 +1,204 @@
+-- What is answered goes by one log.
+use Rattle.std.specs.Prelude.{All, Contains, IfSome, option_map}
+use Rattle.std.proofs.Common.{ℕ, ◌+◌, ◌<◌, ◌≤◌, ◌≡◌, ◌⊎◌, inl, inr, true, Option, Some, None, List, [], ◌∷◌, ◌++◌, length, slice_get, map, take, get_or, refl, sym, ap, ◌∙◌, subst, length-append, arith}
+use Rattle.std.proofs.Math.Seq.{take-length}
+use Rattle.std.proofs.lemmas.Bool.{cases_lt}
+use Rattle.std.proofs.lemmas.List.{take-take}
+use Rattle.std.proofs.lemmas.Option.{slice_get-get_or, slice_get_read, slice_get-map, slice_get_within}
+use Rattle.lock_command.specs.declared.command.Command.{Command}
+use Rattle.lock_command.specs.Command.{spelling}
+use Rattle.lock_table.specs.declared.reply.Reply.{Reply}
+use Rattle.lock_table.specs.Apply.{table_after}
+use Rattle.slot_log.specs.Shape.{Shape}
+use Rattle.host.specs.declared.answer.HostAnswer.{HostAnswer}
+use Rattle.host.specs.declared.answer.HostAnswer.TheVariants.{Ack, Recovered, Refused}
+use Rattle.host.specs.Host.{idles, learned_of}
+use Rattle.host.specs.Kept as hosts
+use Rattle.world.specs.Entry.{Filled}
+use Rattle.world.specs.World.{World, world}
+use Rattle.world.specs.Happens.{Event, Line, run, answers}
+use Rattle.world.specs.Chosen.{at, SaysAt, IsSubmittedBefore as IsSubmittedIn}
+use Rattle.world.specs.Headline.{Begins, IsSafe}
+use Rattle.world.proofs.Runs.{run_is_run}
+use Rattle.simulator.specs.declared.answer.Answer.{Answer}
+use Rattle.simulator.specs.Answers.{line_of, ShowsTable, IsPicturedBy, IsPictured, IsPicturedIn}
+use Rattle.simulator.specs.Kept.{IsHost}
+use Rattle.simulator.specs.OneLog.{prefix_before, IsSubmittedBefore, IsChosenBy, IsOneLog, goes_by, GoesBy, BeganSince, MissesNothing, TellsOneLog, GoesByOneLog, BeginsTheLog}
+use Rattle.simulator.specs.Past.{Past, world_of, answers_of}
+use Rattle.simulator.proofs.Entries.{get_behind, of_event, before, begins_with, fewer, earlier, after, Told, told, says_at, left_at}
+use Rattle.simulator.proofs.Safety as safety
+use Rattle.simulator.proofs.Shown.{running_by}
+use Rattle.simulator.proofs.Submitting.{of_submission}
+
+-- of two beginnings of one list, the shorter begins the longer
+shorter_begins : {A : Type 0} (a b l : List A) → Begins a l → Begins b l → length a ≤ length b → Begins a b
+shorter_begins a b l is_a is_b le = is_a ∙ sym (take-take (length a) (length b) l le) ∙ ap (take (length a)) (sym is_b)
+
+one_begins : {A : Type 0} (a b l : List A) → Begins a l → Begins b l → Begins a b ⊎ Begins b a
+one_begins a b l is_a is_b = elim (cases_lt (length a) (length b)) [
+  | inl less ↦ inl (shorter_begins a b l is_a is_b (omega (arith, less)))
+  | inr not_less ↦ inr (shorter_begins b a l is_b is_a not_less)
+]
+
+module _ (c : Shape) (events : List Event) where
+  abbrev log : List Command
+  log = safety.logged c (run c events) (run_is_run c events)
+
+  safe : IsSafe c (run c events) log
+  safe = safety.safe c (run c events) (run_is_run c events)
+
+  -- the world before event i is the one before the entries of that event and of those behind it
+  world_at : (i : ℕ) → at c (run c events) (length (before c events i)) ≡ world c (before c events i)
+  world_at i = ap (world c) (begins_with c events i)
+
+  -- THE LOG
+
+  begins : (i h : ℕ) → Begins (prefix_before c events i h) log
+  begins i h =
+      subst (λ (w : World). Begins (learned_of (w.host h)) log) (world_at i)
+      (safety.begins c (run c events) (run_is_run c events) (length (before c events i)) h)
+
+  -- a submission in the run is an event
+  submitted_by : (p i : ℕ) (value : List ℕ) → IsSubmittedIn (run c events) p value
+      → ((n : ℕ) (e : Event) → slice_get events n ≡ Some e → length (before c events n) < p → n < i) → IsSubmittedBefore events i value
+  submitted_by p i value s bound =
+      let f = of_event c events s.place _ s.entry in
+      let by = of_submission c (world c (run c (take f.n events))) s.host s.command s.tries f.event f.brings in
+      record {
+        place = f.n;
+        host = s.host;
+        command = by.given;
+        tries = s.tries;
+        before = bound f.n f.event f.is (omega (arith, f.at, s.before));
+        event = f.is ∙ ap Some by.is;
+        spelled = s.spelled ∙ sym by.spelled;
+      }
+
+  each : (slot : ℕ) (command : Command) → slice_get log slot ≡ Some command → IsSubmittedBefore events (length events) (spelling command)
+  each slot command found =
+      let chosen = safe.is_log.chosen slot (spelling command) (slice_get-map spelling log slot ∙ ap (option_map spelling) found) in
+      submitted_by chosen.0 (length events) (spelling command) (safe.submitted chosen.0 slot (spelling command) chosen.1)
+      (λ n e is less. slice_get_within events n e is)
+
+  submitted : (i slot : ℕ) (value : List ℕ) → IsChosenBy c events i slot value → IsSubmittedBefore events i value
+  submitted i slot value chosen =
+      submitted_by (length (before c events i)) i value (safe.submitted (length (before c events i)) slot value chosen)
+      (λ n e is less. earlier c events n i less)
+
+  pub one : IsOneLog c events log
+  one =
+      record {
+        is_log = safe.is_log;
+        no_other = safety.no_other c (run c events) (run_is_run c events);
+        each = each;
+        chosen = λ i slot value is. safe.one (length (before c events i)) slot value is;
+        submitted = submitted;
+        begins = begins;
+        prefixes = λ i j g h. one_begins (prefix_before c events i g) (prefix_before c events j h) log (begins i g) (begins j h);
+      }
+
+  -- ANSWERS
+
+  module _ (a : Answer) (is_told : Told c events a.place (line_of a)) (pictured : IsPicturedIn c events a) where
+    says : (said : HostAnswer) → a.said ≡ said → SaysAt c (run c events) (length (before c events a.place)) a.host said
+    says said is = subst (SaysAt c (run c events) (length (before c events a.place)) a.host) is (says_at c events a.place (line_of a) is_told)
+
+    goes_as : (said : HostAnswer) → a.said ≡ said → goes_by c events log a said
+    goes_as (Ack slot reply) is =
+        let i = length (before c events a.place) in
+        let placed = safe.placed i a.host slot reply (says (Ack slot reply) is) in
+        let acked = placed.1 in
+        record {
+          command = placed.0;
+          submitting = record {
+            memory = acked.memory;
+            doing = acked.doing;
+            running = ap (λ (w : World). w.host a.host) (sym (world_at a.place)) ∙ acked.running;
+            does = acked.does;
+            is = acked.submitting;
+          };
+          in_log = safe.acknowledged i a.host slot placed.0 reply acked;
+          replied = safe.reply i a.host slot placed.0 reply acked;
+        }
+    goes_as (Recovered n) is =
+        let i = length (before c events a.place) in
+        let found = safe.recovered i a.host n (says (Recovered n) is) in
+        let left : learned_of ((world c (before c events (a.place + 1))).host a.host) ≡ take n log =
+        ap (λ (w : World). learned_of (w.host a.host)) (left_at c events a.place (line_of a) is_told) ∙ found.1 in
+        let shown : ShowsTable a.picture (table_after (learned_of ((world c (before c events (a.place + 1))).host a.host))) =
+        subst (λ (s : HostAnswer). IsPicturedBy s a.picture (table_after (learned_of ((world c (before c events (a.place + 1))).host a.host)))) is pictured in
+        record { within = found.0; table = subst (λ (l : List Command). ShowsTable a.picture (table_after l)) left shown }
+    goes_as (Refused refusal) is = tt
+
+    goes : GoesBy c events log a
+    goes = goes_as a.said refl
+
+  -- an answer whose line is among those of the world goes by the log
+  pub answer_goes : (k : ℕ) (a : Answer) → slice_get (answers c events) k ≡ Some (line_of a) → IsPicturedIn c events a → GoesBy c events log a
+  answer_goes k a is pictured = goes a (told c events k (line_of a) is) pictured
+
+  -- RECOVERIES
+
+  told_at : (x : Line) → Contains (answers c events) x → Told c events x.place x
+  told_at x is = told c events is.0 x (slice_get_read (answers c events) (length (answers c events)) is.0 x refl is.1 (sym is.2))
+
+  pub misses_nothing : MissesNothing c events (answers c events)
+  misses_nothing x y i n slot reply in_x x_says since in_y y_says early =
+      let all = run c events in
+      let told_x = told_at x in_x in
+      let told_y = told_at y in_y in
+      let here = ap length (after c events y.place told_y.entry told_y.brought) in
+      let there = fewer c events (y.place + 1) i (omega (arith, early)) in
+      safety.misses_nothing c all (run_is_run c events)
+      (length (before c events i)) (length (before c events x.place)) x.host n (length (before c events y.place)) y.host slot reply
+      (ap (λ (w : World). idles (w.host x.host)) (world_at i) ∙ since.idle)
+      (fewer c events i x.place since.order)
+      (subst (SaysAt c all (length (before c events x.place)) x.host) x_says (says_at c events x.place x told_x))
+      (omega (arith, here, there, length-append (before c events y.place) (told_y.entry ∷ [])))
+      (subst (SaysAt c all (length (before c events y.place)) y.host) y_says (says_at c events y.place y told_y))
+
+-- THE WHOLE REPORT
+
+pub tells : (c : Shape) (events : List Event) (report : List Answer) → map line_of report ≡ answers c events → All (IsPicturedIn c events) report → TellsOneLog c events report
+tells c events report lines pictures =
+    record {
+      log = _;
+      one = one c events;
+      answers = λ k other within.
+      answer_goes c events k (get_or report k other)
+      (ap (λ (l : List Line). slice_get l k) (sym lines) ∙ slice_get-map line_of report k ∙ ap (option_map line_of) (slice_get-get_or report k other within))
+      (pictures k other within);
+      recoveries = subst (MissesNothing c events) (sym lines) (misses_nothing c events);
+    }
+
+-- SO FAR
+
+-- what was answered with the last event goes by the log
+pub goes_with : (p : Past) (a : Answer) (earlier : List Line) → answers_of p ≡ earlier ++ line_of a ∷ [] → a.place + 1 ≡ length p.events → IsPictured (world_of p) a
+    → GoesByOneLog p (Some a)
+goes_with p a earlier lines last pictured =
+    let whole : p.events ≡ take (a.place + 1) p.events = sym (ap (λ (n : ℕ). take n p.events) last ∙ take-length p.events) in
+    record {
+      log = _;
+      one = one p.shape p.events;
+      goes = answer_goes p.shape p.events (length earlier) a
+      (ap (λ (l : List Line). slice_get l (length earlier)) lines ∙ get_behind earlier (line_of a) [])
+      (subst (λ (l : List Event). IsPictured (world p.shape (run p.shape l)) a) whole pictured);
+      recoveries = misses_nothing p.shape p.events;
+    }
+
+pub goes_without : (p : Past) → GoesByOneLog p None
+goes_without p = record { log = _; one = one p.shape p.events; goes = tt; recoveries = misses_nothing p.shape p.events }
+
+-- what a host has learned begins the log
+begins_so_far : (p : Past) (h : ℕ) (k : hosts.Kept) → IsHost p.shape h ((world_of p).host h) (Some k) → BeginsTheLog p k.prefix
+begins_so_far p h k is logged by =
+    let r = running_by p.shape h ((world_of p).host h) k is in
+    let all : prefix_before p.shape p.events (length p.events) h ≡ k.prefix =
+    ap (λ (l : List Event). learned_of ((world p.shape (run p.shape l)).host h)) (take-length p.events) ∙ ap learned_of r.1 ∙ sym r.2.prefix in
+    subst (λ (l : List Command). Begins l logged) all (by.begins (length p.events) h)
+
+pub begins_if : {X : Type 0} (p : Past) (h : ℕ) (o : Option X) (now : X → hosts.Kept) → IsHost p.shape h ((world_of p).host h) (option_map now o)
+    → IfSome o (λ x. BeginsTheLog p (now x).prefix)
+begins_if p h None now is = tt
+begins_if p h (Some x) now is = begins_so_far p h (now x) is

@@ -1,0 +1,127 @@
+use Rattle.std.specs.Prelude.{is_some}
+use Rattle.std.proofs.Common.{◌≡◌, ◌≢◌, ◌<◌, ◌≤◌, ℕ, true, false, List, [], Option, Some, None, length, get_or, refl, sym, ap, ◌∙◌, subst, arith}
+use Rattle.disk.specs.declared.fault.DiskFault.{DiskFault}
+use Rattle.torn_block.specs.declared.layout.TheConstants.{HOSTS}
+use Rattle.slot_log.specs.Shape.{Shape}
+use Rattle.world.specs.Entry.{Filled}
+use Rattle.world.specs.Happens.{Start, Stop, Submit, Recover, Step, Tear, FailCall, DiskCrash, DiskGone}
+use Rattle.simulator.specs.Kept.{Kept, LeadsTo, IsReached, Brings}
+use Rattle.simulator.proofs.Changes.{reached, seen, unseen}
+use Rattle.simulator.proofs.Owed as owed
+use Rattle.simulator.proofs.Owed.{kept_in, read_at}
+use Rattle.disk.specs.Disk.{Fault}
+use Rattle.disk.specs.declared.fault.DiskFault.TheVariants.{Failed}
+use Rattle.disk.specs.Simulated.{SimState}
+use Rattle.phases.specs.declared.need.DeviceCall as code_call
+use Rattle.phases.specs.Calls.{device_call_of, IsWithin}
+use Rattle.world.specs.Entry.{called_by}
+use Rattle.world.specs.Happens.{taken_by}
+use Rattle.simulator.proofs.parts.Parts.fail.Goals as goal
+
+pub returns-then-not-is_busy : goal.returns-then-not-is_busy
+returns-then-not-is_busy c =
+    let old = kept_in c.self.inside in
+    let i = c.from-at.result in
+    let event = FailCall c.args.host c.args.given.now in
+    let same = c.from-at.ensures ∙ c.get.ensures.value in
+    let within : i < HOSTS = omega (arith, c.from-at.ensures, c.get.ensures.range) in
+    let here : i < length old.hosts = omega (arith, c.from-at.ensures, c.get.ensures.range, c.self.invariant.leads.shows.host_count) in
+    let stood = read_at old i c.index.result.now here c.index.ensures in
+    unseen event old c.args.self.now None c.self.view_is
+    (owed.fails_idle old c.args.host i same within c.index.result.now stood c.args.given.now c.requires (sym c.is_busy.ensures ∙ c.if-not-is_busy.true))
+
+pub index_mut-disk-requires : goal.index_mut-disk-requires
+index_mut-disk-requires c =
+    let old = kept_in c.self.inside in
+    let i = c.from-at.result in
+    let here : i < length old.hosts = omega (arith, c.from-at.ensures, c.get.ensures.range, c.self.invariant.leads.shows.host_count) in
+    let found = read_at old i c.index_mut.result.now here c.index_mut.ensures.value ∙ c.in-Some.is in
+    let inside = subst (λ (k : ℕ). k < old.shape.disks) (sym c.from.ensures)
+    (owed.on_disk old c.self.invariant i c.in-Some.core found c.call-need.result.disk c.call-need.ensures.disk) in
+    omega (arith, inside, c.self.invariant.leads.shows.disk_count)
+
+pub refusal_of-requires : goal.refusal_of-requires
+refusal_of-requires c =
+    let old = kept_in c.self.inside in
+    let i = c.from-at.result in
+    let here : i < length old.hosts = omega (arith, c.from-at.ensures, c.get.ensures.range, c.self.invariant.leads.shows.host_count) in
+    let found = read_at old i c.index_mut.result.now here c.index_mut.ensures.value ∙ c.in-Some.is in
+    let inside = subst (λ (k : ℕ). k < old.shape.disks) (sym c.from.ensures)
+    (owed.on_disk old c.self.invariant i c.in-Some.core found c.call-need.result.disk c.call-need.ensures.disk) in
+    record { calm = owed.calm_at old c.self.invariant c.from.result c.index_mut-disk.result.now inside c.index_mut-disk.ensures.value }
+
+pub returns-then-is_some : goal.returns-then-is_some
+returns-then-is_some c =
+    let old = kept_in c.self.inside in
+    let i = c.from-at.result in
+    let event = FailCall c.args.host c.args.given.now in
+    let same = c.from-at.ensures ∙ c.get.ensures.value in
+    let within : i < HOSTS = omega (arith, c.from-at.ensures, c.get.ensures.range) in
+    let here : i < length old.hosts = omega (arith, c.from-at.ensures, c.get.ensures.range, c.self.invariant.leads.shows.host_count) in
+    let found = read_at old i c.index_mut.result.now here c.index_mut.ensures.value ∙ c.in-Some.is in
+    let inside = subst (λ (k : ℕ). k < old.shape.disks) (sym c.from.ensures)
+    (owed.on_disk old c.self.invariant i c.in-Some.core found c.call-need.result.disk c.call-need.ensures.disk) in
+    seen event old c.args.self.now _ None c.self.view_is
+    (owed.both_back old i c.from.result
+    (Some c.in-Some.core) c.index_mut-disk.result.now c.refusal_of.new.disk found c.refusal_of.ensures.same c.index_mut-disk.ensures.value event
+    (λ log leads. owed.some_of DiskFault (Brings log event old old None) c.refusal_of.result (sym c.is_some.ensures ∙ c.if-is_some.true)
+    (λ fault is. owed.fails_refused old c.args.host i same within c.in-Some.core c.call-need.result c.from.result c.index_mut-disk.result.now found c.call-need.ensures.next
+    c.call-need.ensures.due c.from.ensures inside c.index_mut-disk.ensures.value c.args.given.now fault c.requires (sym c.refusal_of.ensures.refusal ∙ is) log leads)))
+
+pub spoil-requires-clause-range : goal.spoil-requires-clause-range
+spoil-requires-clause-range c =
+    let old = kept_in c.self.inside in
+    let i = c.from-at.result in
+    let here : i < length old.hosts = omega (arith, c.from-at.ensures, c.get.ensures.range, c.self.invariant.leads.shows.host_count) in
+    let found = read_at old i c.index_mut.result.now here c.index_mut.ensures.value ∙ c.in-Some.is in
+    let inside = subst (λ (k : ℕ). k < old.shape.disks) (sym c.from.ensures)
+    (owed.on_disk old c.self.invariant i c.in-Some.core found c.call-need.result.disk c.call-need.ensures.disk) in
+    subst (λ (s : SimState). IsWithin (length s.disk.bytes) c.call-need.result.call) (sym c.refusal_of.ensures.same)
+    (owed.in_range old c.self.invariant i c.in-Some.core found c.from.result c.index_mut-disk.result.now c.call-need.result.call inside c.index_mut-disk.ensures.value
+    c.call-need.ensures.range)
+
+pub invariant_of-self-2 : goal.invariant_of-self-2
+invariant_of-self-2 c =
+    let old = kept_in c.self.inside in
+    let i = c.from-at.result in
+    let event = FailCall c.args.host c.args.given.now in
+    let same = c.from-at.ensures ∙ c.get.ensures.value in
+    let within : i < HOSTS = omega (arith, c.from-at.ensures, c.get.ensures.range) in
+    let here : i < length old.hosts = omega (arith, c.from-at.ensures, c.get.ensures.range, c.self.invariant.leads.shows.host_count) in
+    let found = read_at old i c.index_mut.result.now here c.index_mut.ensures.value ∙ c.in-Some.is in
+    let inside = subst (λ (k : ℕ). k < old.shape.disks) (sym c.from.ensures)
+    (owed.on_disk old c.self.invariant i c.in-Some.core found c.call-need.result.disk c.call-need.ensures.disk) in
+    let clear = sym c.refusal_of.ensures.refusal ∙ owed.none_of c.refusal_of.result (sym c.is_some.ensures ∙ c.if-is_some.false) in
+    let left =
+    c.spoil.ensures.disk
+    ∙ ap (λ (s : SimState). record s
+    { disk = called_by s.disk (device_call_of c.call-need.result.call) (Fault Failed) (taken_by (device_call_of c.call-need.result.call) c.args.given.now) })
+    c.refusal_of.ensures.same in
+    let as_long = c.spoil.ensures.size ∙ ap (λ (s : SimState). length s.disk.bytes) c.refusal_of.ensures.same in
+    reached event old _ c.answer_of.result c.self.invariant
+    (owed.fails old c.args.host i same within c.in-Some.core c.call-need.result c.from.result c.index_mut-disk.result.now found c.call-need.ensures.next
+    c.call-need.ensures.due c.from.ensures inside c.index_mut-disk.ensures.value c.args.given.now c.hear.new.self c.spoil.new.disk c.answer_of.result c.requires clear left
+    as_long c.hear.ensures.leads c.answer_of.ensures)
+
+pub returns : goal.returns
+returns c =
+    let old = kept_in c.self.inside in
+    let i = c.from-at.result in
+    let event = FailCall c.args.host c.args.given.now in
+    let same = c.from-at.ensures ∙ c.get.ensures.value in
+    let within : i < HOSTS = omega (arith, c.from-at.ensures, c.get.ensures.range) in
+    let here : i < length old.hosts = omega (arith, c.from-at.ensures, c.get.ensures.range, c.self.invariant.leads.shows.host_count) in
+    let found = read_at old i c.index_mut.result.now here c.index_mut.ensures.value ∙ c.in-Some.is in
+    let inside = subst (λ (k : ℕ). k < old.shape.disks) (sym c.from.ensures)
+    (owed.on_disk old c.self.invariant i c.in-Some.core found c.call-need.result.disk c.call-need.ensures.disk) in
+    let clear = sym c.refusal_of.ensures.refusal ∙ owed.none_of c.refusal_of.result (sym c.is_some.ensures ∙ c.if-is_some.false) in
+    let left =
+    c.spoil.ensures.disk
+    ∙ ap (λ (s : SimState). record s
+    { disk = called_by s.disk (device_call_of c.call-need.result.call) (Fault Failed) (taken_by (device_call_of c.call-need.result.call) c.args.given.now) })
+    c.refusal_of.ensures.same in
+    let as_long = c.spoil.ensures.size ∙ ap (λ (s : SimState). length s.disk.bytes) c.refusal_of.ensures.same in
+    seen event old c.args.self.now _ c.answer_of.result c.self.view_is
+    (owed.fails old c.args.host i same within c.in-Some.core c.call-need.result c.from.result c.index_mut-disk.result.now found c.call-need.ensures.next
+    c.call-need.ensures.due c.from.ensures inside c.index_mut-disk.ensures.value c.args.given.now c.hear.new.self c.spoil.new.disk c.answer_of.result c.requires clear left
+    as_long c.hear.ensures.leads c.answer_of.ensures)

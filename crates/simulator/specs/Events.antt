@@ -1,0 +1,26 @@
+-- The events of the code, as the definitions of the world have them, and what is answered.
+use Rattle.std.specs.Prelude.{ℕ, List, [], ◌∷◌, map, length, Option, Some, None}
+use Rattle.lock_script.specs.declared.event.Event as code
+use Rattle.lock_script.specs.declared.event.Event.TheVariants as of_code
+use Rattle.host.specs.declared.answer.HostAnswer.{HostAnswer}
+use Rattle.world.specs.Happens.{Event, Start, Stop, Submit, Recover, Step, Tear, FailCall, DiskCrash, DiskGone, Line, line}
+use Rattle.simulator.specs.declared.parts.Said.{Said}
+
+abbrev pub event_of : code.Event → Event
+event_of (of_code.Start host) = Start host
+event_of (of_code.Stop host) = Stop host
+event_of (of_code.Submit command tries) = Submit command.host command tries
+event_of (of_code.Recover host tries) = Recover host tries
+event_of (of_code.Step host) = Step host
+event_of (of_code.Tear host given) = Tear host given
+event_of (of_code.FailCall host given) = FailCall host given
+event_of (of_code.DiskCrash disk given) = DiskCrash disk given
+event_of (of_code.DiskGone disk) = DiskGone disk
+
+abbrev pub events_of : List code.Event → List Event
+events_of events = map event_of events
+
+-- what was said, with the number of its event
+abbrev pub lines_of : ℕ → Option Said → List Line
+lines_of place None = []
+lines_of place (Some said) = record { place = place; host = said.host; said = said.answer } ∷ []

@@ -1,0 +1,68 @@
+-- What the parts of a simulated cluster keep, and which lists of entries lead to that.
+use Rattle.std.specs.Prelude.{◌≡◌, ◌<◌, ℕ, Bool, false, not, List, length, slice_index_or, Option, Some, None}
+use Rattle.disk.specs.Disk.{DiskState}
+use Rattle.disk.specs.Simulated.{SimState}
+use Rattle.paxos_block.specs.Places.{image_length}
+use Rattle.torn_block.specs.declared.layout.TheConstants.{HOSTS}
+use Rattle.slot_log.specs.Shape.{Shape}
+use Rattle.host.specs.Host.{Host, Stopped, Running}
+use Rattle.host.specs.Kept as hosts
+use Rattle.world.specs.Entry.{Filled}
+use Rattle.world.specs.World.{World, world, IsRun}
+use Rattle.world.specs.Happens.{Event, entry_of, happens, lines_at}
+use Rattle.simulator.specs.declared.parts.Said.{Said}
+use Rattle.simulator.specs.Events.{lines_of}
+
+-- how large the cluster is, its disks, and its hosts, of which a stopped one keeps nothing
+pub record Kept : Type 0 where
+  pub shape : Shape
+  pub disks : List SimState
+  pub hosts : List (Option hosts.Kept)
+
+-- a disk of which no failure was asked for
+abbrev pub calm : DiskState → SimState
+calm disk = record { disk = disk; failing = None; failures = 0 }
+
+-- a host of the world is what is kept of it
+abbrev pub IsHost : Shape → ℕ → Host → Option hosts.Kept → Type 0
+IsHost c h Stopped None = Unit {0}
+IsHost c h Stopped (Some k) = ⊥
+IsHost c h (Running m) None = ⊥
+IsHost c h (Running m) (Some k) = hosts.LeadsTo c h m k
+
+-- whether what is kept of a host carries out an operation, and whether it may begin one
+abbrev pub is_busy : Option hosts.Kept → Bool
+is_busy None = false
+is_busy (Some k) = not (hosts.is_idle k)
+
+abbrev pub is_free : Option hosts.Kept → Bool
+is_free None = false
+is_free (Some k) = hosts.is_idle k
+
+-- The world is what is kept.
+pub record Shows (w : World) (k : Kept) : Type 0 where
+  pub disk_count : length k.disks ≡ k.shape.disks
+  pub host_count : length k.hosts ≡ HOSTS
+  pub disks : (d : ℕ) (other : SimState) → d < k.shape.disks → slice_index_or k.disks d other ≡ calm (w.disk d)
+  pub hosts : (h : ℕ) → IsHost k.shape h (w.host h) (slice_index_or k.hosts h None)
+
+-- each disk is as long as an image
+abbrev pub IsSized : Kept → Type 0
+IsSized k = (d : ℕ) (other : SimState) → d < k.shape.disks → length (slice_index_or k.disks d other).disk.bytes ≡ image_length k.shape.slots
+
+-- The list leads to this: it is a run, and its world is what is kept.
+pub record LeadsTo (log : List Filled) (k : Kept) : Type 0 where
+  pub run : IsRun k.shape log
+  pub shows : Shows (world k.shape log) k
+  pub sized : IsSized k
+
+-- some list leads to it
+pub record IsReached (k : Kept) : Type 0 where
+  pub log : List Filled
+  pub leads : LeadsTo log k
+
+-- An event happens, and this is said then: the list has grown by the event's entry, where it brings one.
+pub record Brings (log : List Filled) (event : Event) (old new : Kept) (said : Option Said) : Type 0 where
+  pub shape : new.shape ≡ old.shape
+  pub leads : LeadsTo (happens old.shape log event) new
+  pub says : (place : ℕ) → lines_of place said ≡ lines_at old.shape log place (entry_of old.shape (world old.shape log) event)

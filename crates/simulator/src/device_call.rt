@@ -1,0 +1,105 @@
+ghost use Rattle.std.specs.Prelude.{◌≡◌, ◌<◌, [], None, length};
+ghost use Rattle.disk.specs.Disk.{Fault};
+ghost use Rattle.disk.specs.declared.fault.DiskFault.TheVariants.{Failed};
+ghost use Rattle.disk.specs.Simulated.{refusal_of};
+ghost use Rattle.phases.specs.Calls.{device_call_of, IsWithin};
+ghost use Rattle.world.specs.Entry.{called_by};
+ghost use Rattle.world.specs.Happens.{answer_of, taken_by};
+ghost use Rattle.simulator.specs.Calls.{answer_in, is_write, may_crash, crashed_if, lost_if};
+
+use crate::outcome::Outcome;
+use disk::{Disk, DiskFault, SimDisk};
+use phases::DeviceCall;
+use torn_block::ROW_LENGTH;
+
+/// Makes a call on a disk.
+pub fn make(disk: &mut SimDisk, call: &DeviceCall<'_>, row: &mut [u8; ROW_LENGTH]) -> Outcome
+    requires calm { disk.old.failing ≡ None }
+    requires range { IsWithin (length disk.old.disk.bytes) call.now }
+    ensures answer { answer_in result row.new ≡ answer_of disk.old.disk (device_call_of call.now) }
+    ensures disk { disk.new ≡ record disk.old { disk = called_by disk.old.disk (device_call_of call.now) (answer_of disk.old.disk (device_call_of call.now)) [] } }
+    ensures size { length disk.new.disk.bytes ≡ length disk.old.disk.bytes }
+{
+    match call {
+        DeviceCall::Attach => match disk.attach() {
+            Ok(boot) => Outcome::Booted(boot),
+            Err(fault) => Outcome::Fault(fault),
+        },
+        DeviceCall::Read { boot, at } => Outcome::of(disk.read(*boot, *at, row), Outcome::Told),
+        DeviceCall::Write { boot, at, bytes } => {
+            Outcome::of(disk.write(*boot, *at, bytes), Outcome::Done)
+        }
+        DeviceCall::Sync { boot } => Outcome::of(disk.sync(*boot), Outcome::Done),
+    }
+}
+
+/// What stands in the way of a call. It is asked by an attach, which changes nothing.
+pub fn refusal_of(disk: &mut SimDisk, call: &DeviceCall<'_>) -> Option<DiskFault>
+    requires calm { disk.old.failing ≡ None }
+    ensures refusal { result ≡ refusal_of disk.old.disk (device_call_of call.now) }
+    ensures same { disk.new ≡ disk.old }
+{
+    let now = match disk.attach() {
+        Ok(boot) => boot.number,
+        Err(fault) => return Some(fault),
+    };
+    match call {
+        DeviceCall::Attach => None,
+        DeviceCall::Sync { boot }
+        | DeviceCall::Read { boot, .. }
+        | DeviceCall::Write { boot, .. } => {
+            if boot.number == now {
+                None
+            } else {
+                Some(DiskFault::Reset)
+            }
+        }
+    }
+}
+
+/// A call fails, or is torn: the range of a write takes the given bytes.
+pub fn spoil(disk: &mut SimDisk, call: &DeviceCall<'_>, given: &[u8])
+    requires range { IsWithin (length disk.old.disk.bytes) call.now }
+    requires given { 0 < length given.now }
+    ensures size { length disk.new.disk.bytes ≡ length disk.old.disk.bytes }
+    ensures disk { disk.new ≡ record disk.old { disk = called_by disk.old.disk (device_call_of call.now) (Fault Failed) (taken_by (device_call_of call.now) given.now) } }
+{
+    if let DeviceCall::Write { at, bytes, .. } = call {
+        disk.tear(*at, bytes.len() as u64, given);
+    }
+}
+
+/// Whether the call is a write.
+pub fn is_write(call: &DeviceCall<'_>) -> bool
+    ensures { result ≡ is_write (device_call_of call.now) }
+{
+    match call {
+        DeviceCall::Write { .. } => true,
+        DeviceCall::Attach | DeviceCall::Sync { .. } | DeviceCall::Read { .. } => false,
+    }
+}
+
+/// A disk that is there crashes, unless its boot number is the last one.
+pub fn crash_disk(disk: &mut SimDisk, given: &[u8])
+    requires calm { disk.old.failing ≡ None }
+    requires given { 0 < length given.now }
+    ensures disk { disk.new ≡ crashed_if (may_crash disk.old.disk) disk.old given.now }
+    ensures size { length disk.new.disk.bytes ≡ length disk.old.disk.bytes }
+{
+    // An attach changes nothing, and tells whether the disk is there.
+    if let Ok(boot) = disk.attach() {
+        if boot.number < 1 << 62 {
+            disk.crash(given);
+        }
+    }
+}
+
+/// A disk that is there is lost.
+pub fn lose_disk(disk: &mut SimDisk)
+    requires { disk.old.failing ≡ None }
+    ensures { disk.new ≡ lost_if disk.old.disk.gone disk.old }
+{
+    if let Ok(_boot) = disk.attach() {
+        disk.lose();
+    }
+}

@@ -1,0 +1,58 @@
+ghost use Rattle.std.specs.Prelude.{◌≡◌, ◌+◌, IfOk, All, map, take};
+ghost use Rattle.world.specs.World.{world};
+ghost use Rattle.world.specs.Happens.{run, answers};
+ghost use Rattle.simulator.specs.Events.{events_of};
+ghost use Rattle.simulator.specs.Answers.{line_of, IsPicturedIn};
+ghost use Rattle.simulator.specs.OneLog.{TellsOneLog};
+
+use crate::answer::Answer;
+use crate::parts::Parts;
+use crate::room::Room;
+use disk::NoMemory;
+use lock_script::Event;
+use slot_log::Config;
+use std::alloc::Global;
+use std::marker::Model;
+
+/// What the hosts answered, in the order of the events.
+#[derive(Drop)]
+pub struct Report {
+    answers: Vec<Answer>,
+}
+
+impl Model for Report {
+    ghost use Rattle.std.specs.Prelude.{List};
+    ghost use Rattle.simulator.specs.declared.answer.Answer.{Answer};
+
+    ghost Value = { List Answer };
+
+    ghost view = { λ report. report.answers.items };
+}
+
+impl Report {
+    /// The answers, by rising place.
+    pub fn answers(&self) -> &[Answer]
+        ensures { result.now ≡ self.now }
+    {
+        &self.answers
+    }
+}
+
+/// Lets events happen to a new cluster, one after the other, and lists what its hosts answer.
+pub fn run(alloc: Global, config: Config, events: &[Event]) -> Result<Report, NoMemory>
+    ensures answers { IfOk result (λ report. map line_of report ≡ answers config (events_of events.now)) }
+    ensures pictures { IfOk result (λ report. All (IsPicturedIn config (events_of events.now)) report) }
+    ensures one_log { IfOk result (λ report. TellsOneLog config (events_of events.now) report) }
+{
+    let mut parts = Parts::new(alloc, config)?;
+    let mut room = Room::new();
+    let mut answers = Vec::new(alloc);
+    for (place, event) in events.iter().enumerate() {
+        room.prepare(alloc, event)?;
+        answers.reserve(1)?;
+        if let Some(said) = parts.event(alloc, event)? {
+            answers.push_reserved(room.listed(&parts, place, said));
+        }
+    }
+    Ok(Report { answers })
+}
