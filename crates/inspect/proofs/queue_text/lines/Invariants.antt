@@ -1,0 +1,8 @@
+use Rattle.std.proofs.Common.{◌≡◌, ℕ, List, ◌++◌, [], drop}
+use Rattle.std.specs.Io.KnownBytes.{Appends}
+use Rattle.inspect.specs.Text.{lines_behind}
+use Rattle.inspect.proofs.queue_text.lines.Given as goal
+
+abbrev pub invariant-loop-record : goal.invariant-loop-record
+invariant-loop-record g l =
+    (done : List ℕ) × (Appends (g.W.Write.contents l.initial.out) (g.W.Write.contents l.out) done) × (done ++ lines_behind l.before (drop l.record-index l.locks) ≡ lines_behind [] l.locks)
