@@ -1,5 +1,5 @@
 use crate::reply_text::ReplyText;
-use cluster::{HostAnswer, Refusal};
+use host::{HostAnswer, Refusal};
 use std::fmt;
 
 #[cfg(test)]
@@ -16,6 +16,7 @@ impl fmt::Display for AnswerText {
                 let reply = ReplyText(reply);
                 write!(f, "ack {slot} {reply}")
             }
+            HostAnswer::Recovered { length } => write!(f, "recovered {length}"),
             HostAnswer::Refused(refusal) => {
                 let refusal = refusal_text(refusal);
                 write!(f, "refused {refusal}")

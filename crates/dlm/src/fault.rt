@@ -1,3 +1,4 @@
+use simulator::ScriptFault;
 use std::io;
 use thiserror::Error;
 
@@ -6,8 +7,6 @@ use thiserror::Error;
 pub enum Fault {
     #[error("21 NoMemory")]
     NoMemory,
-    #[error("22 JournalFull")]
-    JournalFull,
     /// The number of the script's first bad line, from 1.
     #[error("23 BadLine {0}")]
     BadLine(usize),
@@ -22,5 +21,26 @@ impl Fault {
             io::ErrorKind::OutOfMemory => Fault::NoMemory,
             _ => Fault::Unreadable,
         }
+    }
+}
+
+impl From<ScriptFault> for Fault {
+    fn from(fault: ScriptFault) -> Self {
+        match fault {
+            ScriptFault::NoMemory => Fault::NoMemory,
+            ScriptFault::BadLine(number) => Fault::BadLine(number),
+        }
+    }
+}
+
+impl From<disk::NoMemory> for Fault {
+    fn from(_: disk::NoMemory) -> Self {
+        Fault::NoMemory
+    }
+}
+
+impl From<lock_table::NoMemory> for Fault {
+    fn from(_: lock_table::NoMemory) -> Self {
+        Fault::NoMemory
     }
 }

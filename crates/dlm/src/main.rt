@@ -2,21 +2,12 @@
 #![tactic(auto)]
 
 mod answer_text;
-mod draft;
-mod event;
 mod failure;
 mod fault;
-mod line;
-mod lines;
 mod mode_text;
-mod number;
-mod one_disk;
 mod program;
 mod reply_text;
 mod run;
-mod running_host;
-mod script;
-mod submission;
 mod words;
 
 use program::{decline, run_words};

@@ -4,8 +4,8 @@ ghost use Rattle.std.specs.Io.KnownBytes.{Keeps};
 use crate::failure::Failure;
 use crate::fault::Fault;
 use crate::run::run_script;
-use crate::script::read_script;
 use crate::words::{Task, WordsFault, task_of};
+use simulator::read_script;
 use std::alloc::Global;
 use std::io::{Read, Write};
 use std::rt::Files;
@@ -76,7 +76,7 @@ fn run_file<R: Files + Input + AllocGlobal, O: Write>(
 
 /// Reads the whole script and runs it. What it printed goes out also where it is refused later on.
 fn run_bytes<O: Write>(alloc: Global, bytes: &[u8], out: &mut O) -> Result<(), Failure> {
-    let script = read_script(alloc, bytes)?;
+    let script = read_script(alloc, bytes).map_err(Fault::from)?;
     let end = run_script(alloc, &script, out);
     out.flush()?;
     end

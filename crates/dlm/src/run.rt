@@ -1,46 +1,80 @@
-ghost use Rattle.std.specs.Prelude.{IfSome};
-ghost use Rattle.dlm.specs.RunningHost.{IsSound};
-
 use crate::answer_text::AnswerText;
-use crate::event::Event;
 use crate::failure::Failure;
 use crate::fault::Fault;
-use crate::one_disk::OneDisk;
-use crate::running_host::RunningHost;
-use crate::script::Script;
-use cluster::HostAnswer;
+use inspect::queues;
+use lock_command::HostNumber;
+use simulator::{Event, Parts, Script, Show};
 use std::alloc::Global;
 use std::io::Write;
 
-/// Runs the script's events in turn, and prints what the host answers, each with its event's number.
+/// Lets the script's events happen in turn. Prints what the hosts answer, each with its event's number, and between the
+/// events the tables that are to be shown there.
 pub fn run_script<O: Write>(alloc: Global, script: &Script, out: &mut O) -> Result<(), Failure> {
-    let mut host = None;
+    let mut parts = Parts::new(alloc, script.config).map_err(Fault::from)?;
+    let mut shows = script.shows.as_slice();
     for (place, event) in script.events.iter().enumerate() {
-        if let Some(answer) = happen(alloc, script.size, &mut host, event)? {
-            let answer = AnswerText(answer);
-            writeln!(out, "{place} h0 {answer}")?;
-        }
+        shows = show_due(alloc, &parts, shows, place, out)?;
+        happen(alloc, &mut parts, place, event, out)?;
+    }
+    show_all(alloc, &parts, shows, out)
+}
+
+/// Lets an event happen, and prints what its host then says.
+fn happen<O: Write>(
+    alloc: Global,
+    parts: &mut Parts,
+    place: usize,
+    event: &Event,
+    out: &mut O,
+) -> Result<(), Failure> {
+    if let Some(said) = parts.event(alloc, event).map_err(Fault::from)? {
+        let host = said.host.get();
+        let answer = AnswerText(said.answer);
+        writeln!(out, "{place} h{host} {answer}")?;
     }
     Ok(())
 }
 
-/// Lets the event happen, where it applies.
-fn happen(
+/// Shows what is to be shown after so many events, and gives what is left.
+fn show_due<'a, O: Write>(
     alloc: Global,
-    size: OneDisk,
-    host: &mut Option<RunningHost>,
-    event: &Event,
-) -> Result<Option<HostAnswer>, Fault>
-    requires { IfSome host.old IsSound }
-    ensures { IfSome host.new IsSound }
-{
-    match (event, host.as_mut()) {
-        (Event::Start, None) => {
-            *host = Some(RunningHost::start(alloc, size)?);
-            Ok(None)
-        }
-        (Event::Submit(submission), Some(host)) => host.submit(submission),
-        (Event::Step, Some(host)) => host.step(),
-        _ => Ok(None),
+    parts: &Parts,
+    shows: &'a [Show],
+    place: usize,
+    out: &mut O,
+) -> Result<&'a [Show], Failure> {
+    let due = shows.iter().take_while(|show| show.place <= place).count();
+    let (now, later) = shows.split_at(due);
+    show_all(alloc, parts, now, out)?;
+    Ok(later)
+}
+
+fn show_all<O: Write>(
+    alloc: Global,
+    parts: &Parts,
+    shows: &[Show],
+    out: &mut O,
+) -> Result<(), Failure> {
+    for show in shows {
+        show_host(alloc, parts, show.host, out)?;
     }
+    Ok(())
+}
+
+/// Prints the queues of a host's table, or that it is stopped.
+fn show_host<O: Write>(
+    alloc: Global,
+    parts: &Parts,
+    host: HostNumber,
+    out: &mut O,
+) -> Result<(), Failure> {
+    let host = host.get();
+    match parts.host(host) {
+        None => writeln!(out, "host {host} is stopped")?,
+        Some(core) => {
+            let picture = core.table().picture(alloc).map_err(Fault::from)?;
+            queues(&picture, out)?;
+        }
+    }
+    Ok(())
 }

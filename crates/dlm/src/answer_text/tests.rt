@@ -26,7 +26,7 @@ fn answers_as_printed(rt: HostRuntime) -> Result<(), Fail> {
         let text = AnswerText(answer).to_string(rt.alloc())?;
         assert_eq!(rt; text.as_str(), want);
     }
-    let text = AnswerText(HostAnswer::Refused(cluster::Refusal::NoMajority)).to_string(rt.alloc())?;
+    let text = AnswerText(HostAnswer::Refused(host::Refusal::NoMajority)).to_string(rt.alloc())?;
     assert_eq!(rt; text.as_str(), "refused 7 NoMajority");
     Ok(())
 }

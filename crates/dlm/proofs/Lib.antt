@@ -1,2 +1,0 @@
-mod LineCounts
-mod Numbers
