@@ -5,9 +5,10 @@ use crate::number::number_in;
 use lock_command::{ClientNumber, HOSTS, HostNumber, LockNumber, RequestNumber};
 use torn_block::DISKS;
 
-/// Hosts and disks are numbered from 0.
+/// Hosts are numbered from 0.
 const LAST_HOST: u64 = HOSTS as u64 - 1;
 
+/// Disks are, too. No cluster has one with a higher number.
 const LAST_DISK: u64 = DISKS as u64 - 1;
 
 /// The most steps that one line asks for.

@@ -15,9 +15,10 @@ use slot_log::Config;
 use std::alloc::{AllocError, Global};
 use torn_block::{DISKS, SLOTS};
 
-/// The most disks and slots of a cluster.
+/// The most disks of a cluster.
 const MOST_DISKS: u64 = DISKS as u64;
 
+/// The most slots of its log.
 const MOST_SLOTS: u64 = SLOTS as u64;
 
 /// What a line says that is not passed over.
