@@ -68,7 +68,6 @@ module _ (log : List Filled) (old : Kept) (leads : LeadsTo log old) where
       (within : h < HOSTS) (is : get_or old.hosts h None ≡ Some core)
       (next : (c : Shape) (g : ℕ) (m : Memory) → hosts.LeadsTo c g m core → next_in c g m ≡ Some (k, call))
       (inside : k < old.shape.disks) (x_is : get_or old.disks k x ≡ x) where
-
     due : next_of old.shape h ((world old.shape log).host h) ≡ Some (k, call)
     due = let r = running_at log old leads h core is in ap (next_of old.shape h) r.1 ∙ next old.shape h r.0 r.2
 
@@ -211,6 +210,7 @@ module _ (log : List Filled) (old : Kept) (leads : LeadsTo log old) where
     where
       d : DiskState
       d = (world old.shape log).disk k
+
       none : has_disk old.shape (world old.shape log) k ≡ false → entry_of old.shape (world old.shape log) (DiskCrash k given) ≡ None
       none off =
           ap (λ (b : Bool). brings_if (are_some given && b && nat_lt ((world old.shape log).disk k).boot (2 ^ 62))

@@ -68,10 +68,10 @@ module _ (c : Shape) (events : List code.Event) (i : ℕ) (event : code.Event) (
         own = own_on (Some said) brings;
         leads = leads;
         lines =
-        map-append line_of listed (a ∷ [])
-        ∙ ap (λ (l : List Line). l ++ line_of a ∷ []) before.lines
-        ∙ ap (λ (x : Line). answers c (events_of (take i events)) ++ x ∷ []) line
-        ∙ sym (answers_then (Some said) brings);
+            map-append line_of listed (a ∷ [])
+            ∙ ap (λ (l : List Line). l ++ line_of a ∷ []) before.lines
+            ∙ ap (λ (x : Line). answers c (events_of (take i events)) ++ x ∷ []) line
+            ∙ sym (answers_then (Some said) brings);
         pictures = All-push (IsPicturedIn c (events_of events)) listed a before.pictures (pictured_there c events i a (ap (λ (x : Line). x.place) line) picture);
       }
 

@@ -165,9 +165,9 @@ tells c events report lines pictures =
       log = _;
       one = one c events;
       answers = λ k other within.
-      answer_goes c events k (get_or report k other)
-      (ap (λ (l : List Line). slice_get l k) (sym lines) ∙ slice_get-map line_of report k ∙ ap (option_map line_of) (slice_get-get_or report k other within))
-      (pictures k other within);
+          answer_goes c events k (get_or report k other)
+          (ap (λ (l : List Line). slice_get l k) (sym lines) ∙ slice_get-map line_of report k ∙ ap (option_map line_of) (slice_get-get_or report k other within))
+          (pictures k other within);
       recoveries = subst (MissesNothing c events) (sym lines) (misses_nothing c events);
     }
 
@@ -182,8 +182,8 @@ goes_with p a earlier lines last pictured =
       log = _;
       one = one p.shape p.events;
       goes = answer_goes p.shape p.events (length earlier) a
-      (ap (λ (l : List Line). slice_get l (length earlier)) lines ∙ get_behind earlier (line_of a) [])
-      (subst (λ (l : List Event). IsPictured (world p.shape (run p.shape l)) a) whole pictured);
+          (ap (λ (l : List Line). slice_get l (length earlier)) lines ∙ get_behind earlier (line_of a) [])
+          (subst (λ (l : List Event). IsPictured (world p.shape (run p.shape l)) a) whole pictured);
       recoveries = misses_nothing p.shape p.events;
     }
 

@@ -4,15 +4,16 @@ use host::HostAnswer;
 use lock_table::Reply;
 use std::test::Fail;
 
-const FIRST_REPLY: &[u8] =
-    b"cluster 1 4\nstart 0\nsubmit 0 1 enqueue 1 1 10 EX db\nstep 0 17\n";
+const FIRST_REPLY: &[u8] = b"cluster 1 4\nstart 0\nsubmit 0 1 enqueue 1 1 10 EX db\nstep 0 17\n";
 
 // A gate is torn open before the body, and closed again by a second tear; nothing was ever written.
-const TORN_GATE: &[u8] = b"cluster 1 2\nstart 0\nsubmit 0 1 enqueue 1 1 1 EX db\nstep 0 5\ntear 0 ff\n\
+const TORN_GATE: &[u8] =
+    b"cluster 1 2\nstart 0\nsubmit 0 1 enqueue 1 1 1 EX db\nstep 0 5\ntear 0 ff\n\
 start 0\nrecover 0 1\nstep 0 3\ntear 0 a5\nstart 0\nrecover 0 1\nstep 0 10\n";
 
 // Two of three disks are left, and a second host recovers what the first one put there.
-const TAKEN_OVER: &[u8] = b"cluster 3 2\nstart 0\nsubmit 0 1 enqueue 1 1 1 EX db\nfail 0 00\nstep 0 34\n\
+const TAKEN_OVER: &[u8] =
+    b"cluster 3 2\nstart 0\nsubmit 0 1 enqueue 1 1 1 EX db\nfail 0 00\nstep 0 34\n\
 stop 0\ngone 2\nstart 1\nrecover 1 1\nstep 1 56\n";
 
 #[test]
