@@ -38,24 +38,24 @@ marks_put epoch at end size old new order fits range =
     let within : at + length run ≤ length flags = omega (arith, n, length-marks epoch old size) in
     ext_get_or false (marks epoch new size) (put_at flags at run) (length-marks epoch new size ∙ sym (length-put flags at run within false ∙ length-marks epoch old size))
     (λ k inside.
-      let k_in : k < size = omega (arith, length-marks epoch new size) in
-      let now = get_or-marks epoch new size k k_in in
-      let before = get_or-marks epoch old size k k_in in
-      elim (cases_lt k at) [
-        | inl below ↦ now ∙ range.below k below ∙ sym before ∙ sym (put-below flags at run within false k below)
-        | inr from ↦
-            elim (cases_lt k end) [
-              | inl under ↦
-                  (let j = k - at in
-                  let e : at + j ≡ k = omega arith in
-                  let put : get_or (put_at flags at run) k false ≡ true =
-                      ap (λ (i : ℕ). get_or (put_at flags at run) i false) (sym e)
-                      ∙ put-inside flags at run within false j (omega (arith, n))
-                      ∙ get_or-replicate (end - at) j true false (omega arith) in
-                  now ∙ range.inside k from under ∙ sym put)
-              | inr over ↦ now ∙ range.above k over ∙ sym before ∙ sym (put-above flags at run within false k (omega (arith, n)))
-            ]
-      ])
+    let k_in : k < size = omega (arith, length-marks epoch new size) in
+    let now = get_or-marks epoch new size k k_in in
+    let before = get_or-marks epoch old size k k_in in
+    elim (cases_lt k at) [
+      | inl below ↦ now ∙ range.below k below ∙ sym before ∙ sym (put-below flags at run within false k below)
+      | inr from ↦
+          elim (cases_lt k end) [
+            | inl under ↦
+                (let j = k - at in
+                let e : at + j ≡ k = omega arith in
+                let put : get_or (put_at flags at run) k false ≡ true =
+                ap (λ (i : ℕ). get_or (put_at flags at run) i false) (sym e)
+                ∙ put-inside flags at run within false j (omega (arith, n))
+                ∙ get_or-replicate (end - at) j true false (omega arith) in
+                now ∙ range.inside k from under ∙ sym put)
+            | inr over ↦ now ∙ range.above k over ∙ sym before ∙ sym (put-above flags at run within false k (omega (arith, n)))
+          ]
+    ])
 
 -- ONE WORD MORE
 
@@ -96,7 +96,7 @@ module _ (epoch at end i from to : ℕ) (old words : List Word) (cell word : Wor
             elim (cases_eq (k / 64) i) [
               | inl e ↦ in_word epoch words i word within k e ∙ places.inside (k % 64) (omega arith) (omega arith)
               | inr other ↦
-                  (let before : k < 64 * i = elim (cases_lt k (64 * i)) [ | inl l ↦ l | inr g ↦ (let e : k / 64 ≡ i = omega arith in absurd (other e)) ] in
+                  (let before : k < 64 * i = elim (cases_lt k (64 * i)) [ inl l ↦ l | inr g ↦ (let e : k / 64 ≡ i = omega arith in absurd (other e)) ] in
                   in_other epoch words i word within k other ∙ range.inside k from (omega arith))
             ];
         above = λ k over.
@@ -114,25 +114,25 @@ marks_later later words size some below =
     let n : length (replicate size false) ≡ size = length-replicate size false in
     ext_get_or false (marks later words size) (replicate size false) (length-marks later words size ∙ sym n)
     (λ k inside.
-      let k_in : k < size = omega (arith, length-marks later words size) in
-      let word = get_or words (k / 64) blank in
-      let earlier : word.stamp < later =
-          elim (cases_lt (k / 64) (length words)) [
-            | inl present ↦ below (k / 64) present
-            | inr past ↦ (let e : word.stamp ≡ 0 = ap (λ (w : Word). w.stamp) (get_or_past words (k / 64) blank past) in omega arith)
-          ] in
-      let other : (word.stamp == later) ≡ false = ne_eqb word.stamp later (λ e. omega arith) in
-      get_or-marks later words size k k_in
-      ∙ ap (λ (b : Bool). bit_at (cond b word.bits 0) (k % 64) == 1) other
-      ∙ ap (λ (n : ℕ). n == 1) (bit_at-zero (k % 64))
-      ∙ sym (get_or-replicate size k false false k_in))
+    let k_in : k < size = omega (arith, length-marks later words size) in
+    let word = get_or words (k / 64) blank in
+    let earlier : word.stamp < later =
+    elim (cases_lt (k / 64) (length words)) [
+      | inl present ↦ below (k / 64) present
+      | inr past ↦ (let e : word.stamp ≡ 0 = ap (λ (w : Word). w.stamp) (get_or_past words (k / 64) blank past) in omega arith)
+    ] in
+    let other : (word.stamp == later) ≡ false = ne_eqb word.stamp later (λ e. omega arith) in
+    get_or-marks later words size k k_in
+    ∙ ap (λ (b : Bool). bit_at (cond b word.bits 0) (k % 64) == 1) other
+    ∙ ap (λ (n : ℕ). n == 1) (bit_at-zero (k % 64))
+    ∙ sym (get_or-replicate size k false false k_in))
 
 -- nothing is marked in blank words
 pub marks_blank : (n size : ℕ) → marks 1 (replicate n blank) size ≡ replicate size false
 marks_blank n size =
     marks_later 1 (replicate n blank) size (omega arith) (λ j within.
-      let e : (get_or (replicate n blank) j blank).stamp ≡ 0 = ap (λ (w : Word). w.stamp) (get_or-replicate n j blank blank (omega (arith, length-replicate n blank))) in
-      omega arith)
+    let e : (get_or (replicate n blank) j blank).stamp ≡ 0 = ap (λ (w : Word). w.stamp) (get_or-replicate n j blank blank (omega (arith, length-replicate n blank))) in
+    omega arith)
 
 -- A WRITE
 

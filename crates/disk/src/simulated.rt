@@ -84,7 +84,12 @@ impl SimDisk {
         ensures size { length self.new.disk.bytes ≡ length self.old.disk.bytes }
     {
         put_given(&mut self.bytes, at as usize, len as usize, given);
-        mark(&mut self.words, at as usize, (at + len) as usize, self.epoch);
+        mark(
+            &mut self.words,
+            at as usize,
+            (at + len) as usize,
+            self.epoch,
+        );
     }
 
     /// The disk loses power and comes up again: its unsynced positions take the given bytes.

@@ -158,8 +158,9 @@ impl Notes {
         ensures follows { (s : Setup) (f : Answers) → IsInOrder s (phase_of self.old) self.old.disk f →
             Follows s f self.old → Follows s (more f self.old.disk (answers.Told (row_said bytes.now))) self.new }
     {
-        match decode_row(bytes) {
-            Ok(row) => self.take_row(&row),
+        let read = decode_row(bytes);
+        match &read {
+            Ok(row) => self.take_row(row),
             Err(_) => self.drop_disk(),
         }
     }

@@ -21,9 +21,9 @@ loop-i-preserved c =
     let same : length flags ≡ length bytes = length-marks c.args.epoch words size ∙ sym c.loop-i.invariant.as_many in
     let read : c.index.result.now ≡ get_or words (i / 64) blank = get_or_read words (i / 64) c.index.result.now (omega arith) c.index.ensures blank in
     let flag : c.is_marked.result ≡ get_or flags i false =
-        c.is_marked.ensures
-        ∙ ap (λ (w : Word). is_marked_in c.args.epoch w (i % 64)) read
-        ∙ sym (get_or-marks c.args.epoch words size i (omega arith)) in
+    c.is_marked.ensures
+    ∙ ap (λ (w : Word). is_marked_in c.args.epoch w (i % 64)) read
+    ∙ sym (get_or-marks c.args.epoch words size i (omega arith)) in
     elim c.if-is_marked.branch [
       | then-is_marked w ↦
           (let e : c.if-is_marked.bytes.items ≡ set bytes i (nth_given given next) = ap (λ (v : Vec ℕ Global). v.items) w.bytes-is in
