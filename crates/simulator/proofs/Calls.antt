@@ -1,28 +1,26 @@
 -- Device calls of hosts, and what events make of them.
-use Rattle.std.specs.Prelude.{not, nat_lt, ◌^◌, replicate, option_map, option_and_then}
-use Rattle.std.proofs.Common.{ℕ, ◌<◌, ◌≤◌, ◌≡◌, ◌==◌, ◌&&◌, Bool, true, false, cond, Option, Some, None, List, [], ◌∷◌, ◌++◌, length, get_or, refl, sym, ap, ◌∙◌, subst, arith}
-use Rattle.std.proofs.Math.ListN.{set, length-set}
-use Rattle.std.proofs.lemmas.Bool.{eq-eqb, ltb-true, lt-ltb}
+use Rattle.std.specs.Prelude.{not, nat_lt, ◌^◌, option_map, option_and_then}
+use Rattle.std.proofs.Common.{ℕ, ◌<◌, ◌≤◌, ◌≡◌, ◌&&◌, Bool, true, false, Option, Some, None, List, [], length, get_or, refl, sym, ap, ◌∙◌, subst, arith}
+use Rattle.std.proofs.Math.ListN.{set}
+use Rattle.std.proofs.lemmas.Bool.{ltb-true, lt-ltb}
 use Rattle.disk.specs.declared.fault.DiskFault.{DiskFault}
 use Rattle.disk.specs.declared.fault.DiskFault.TheVariants.{Failed}
-use Rattle.disk.specs.Disk.{DiskState, Call, Attach, Read, Write, Sync, Answer, Fault, lost}
+use Rattle.disk.specs.Disk.{DiskState, Call, Attach, Read, Write, Sync, Fault, lost}
 use Rattle.disk.specs.Filling.{filled}
 use Rattle.disk.specs.Simulated.{SimState, refusal_of, crashed}
 use Rattle.paxos_block.specs.Places.{image_length}
 use Rattle.torn_block.specs.declared.layout.TheConstants.{HOSTS}
 use Rattle.slot_log.specs.Shape.{Shape}
 use Rattle.attempt.specs.Answers.{heard_as}
-use Rattle.host.specs.Host.{Host, Stopped, Running, Memory, hears, Doing, is_idle_in, next_in, next_of, next_doing}
+use Rattle.host.specs.Host.{Host, Running, Memory, hears, Doing, is_idle_in, next_in, next_of, next_doing}
 use Rattle.host.specs.Kept as hosts
-use Rattle.world.specs.Entry as entries
-use Rattle.world.specs.Entry.{Filled, Called, Torn, Crashed, Lost, is_on, is_of, disk_step, host_step, called_by}
+use Rattle.world.specs.Entry.{Filled, Called, Torn, Crashed, Lost, disk_step, host_step, called_by}
 use Rattle.world.specs.World.{World, world}
-use Rattle.world.specs.Happens.{Event, Step, Tear, FailCall, DiskCrash, DiskGone, brings_if, are_some, has_disk, answer_of, taken_by, stepped, failed_by, failed, torn_by, torn, entry_of}
-use Rattle.simulator.specs.declared.parts.Said.{Said}
+use Rattle.world.specs.Happens.{Step, Tear, FailCall, DiskCrash, DiskGone, brings_if, are_some, has_disk, answer_of, taken_by, stepped, failed_by, failed, torn_by, torn, entry_of}
 use Rattle.simulator.specs.Calls.{is_write}
-use Rattle.simulator.specs.Kept.{Kept, calm, is_busy, is_free, IsHost, Shows, LeadsTo, Brings}
+use Rattle.simulator.specs.Kept.{Kept, calm, is_busy, IsHost, LeadsTo, Brings}
 use Rattle.simulator.proofs.Changes.{nothing, something}
-use Rattle.simulator.proofs.Shown.{stopped_by, running_by, saying, by_host, by_disk, by_both, says_by, says_nothing_by, idle_is, sized_set}
+use Rattle.simulator.proofs.Shown.{saying, by_disk, by_both, says_by, says_nothing_by, idle_is, sized_set}
 use Rattle.simulator.proofs.Events.{self_eq, stopped_at, running_at}
 
 -- one given byte is enough

@@ -1,17 +1,15 @@
 -- What an event does to the parts, and that this is what it does in the world.
-use Rattle.std.specs.Prelude.{not, nat_lt, slice_set}
-use Rattle.std.proofs.Common.{ℕ, ◌<◌, ◌≡◌, ◌≢◌, ◌==◌, ◌&&◌, Bool, true, false, cond, Option, Some, None, List, [], ◌∷◌, ◌++◌, length, get_or, refl, sym, ap, ◌∙◌, subst, inl, inr, arith}
-use Rattle.std.proofs.Math.ListN.{set, length-set}
+use Rattle.std.proofs.Common.{ℕ, ◌<◌, ◌≡◌, ◌≢◌, ◌==◌, false, Option, Some, None, List, [], ◌∷◌, ◌++◌, length, get_or, refl, sym, ap, ◌∙◌, subst, inl, inr, arith}
+use Rattle.std.proofs.Math.ListN.{set}
 use Rattle.std.proofs.lemmas.List.{get_or-set_same, get_or-set_other}
 use Rattle.std.proofs.lemmas.Bool.{cases_Bool, eqb-true, eqb-false, eq-eqb}
-use Rattle.disk.specs.Disk.{DiskState}
 use Rattle.disk.specs.Simulated.{SimState}
 use Rattle.torn_block.specs.declared.layout.TheConstants.{HOSTS}
 use Rattle.slot_log.specs.Shape.{Shape}
-use Rattle.host.specs.Host.{Host, Stopped, Running}
+use Rattle.host.specs.Host.{Host}
 use Rattle.host.specs.Kept as hosts
 use Rattle.world.specs.Entry.{Filled, is_on, is_of, disk_step, host_step}
-use Rattle.world.specs.World.{World, world, IsRun}
+use Rattle.world.specs.World.{world, IsRun}
 use Rattle.world.specs.Happens.{Event, entry_of, with_entry, happens, host_of, lines_after, lines_at}
 use Rattle.world.proofs.Projections.{disk_here, disk_there, host_here, host_there}
 use Rattle.world.proofs.Runs as runs

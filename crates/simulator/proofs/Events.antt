@@ -1,31 +1,27 @@
 -- What each event does to the parts.
-use Rattle.std.specs.Prelude.{not, nat_lt, ◌^◌}
-use Rattle.std.specs.Option.{option_map}
-use Rattle.std.proofs.Common.{ℕ, ◌<◌, ◌≤◌, ◌≡◌, ◌==◌, ◌&&◌, Bool, true, false, cond, Option, Some, None, List, [], ◌∷◌, ◌++◌, length, get_or, refl, sym, ap, ◌∙◌, subst, arith}
-use Rattle.std.proofs.Math.ListN.{set, length-set}
+use Rattle.std.specs.Prelude.{not, nat_lt}
+use Rattle.std.proofs.Common.{ℕ, ◌<◌, ◌≡◌, ◌==◌, ◌&&◌, Bool, true, false, Option, Some, None, List, [], ◌∷◌, ◌++◌, get_or, refl, sym, ap, ◌∙◌, subst}
+use Rattle.std.proofs.Math.ListN.{set}
 use Rattle.std.proofs.lemmas.List.{set-get_or}
-use Rattle.std.proofs.lemmas.Bool.{eq-eqb, ltb-true, lt-ltb}
-use Rattle.disk.specs.Disk.{DiskState, Call}
-use Rattle.disk.specs.Simulated.{SimState}
+use Rattle.std.proofs.lemmas.Bool.{eq-eqb, lt-ltb}
 use Rattle.torn_block.specs.declared.layout.TheConstants.{HOSTS}
 use Rattle.slot_log.specs.Shape.{Shape}
 use Rattle.lock_command.specs.declared.command.Command.{Command}
 use Rattle.lock_command.specs.Command.{spelling, Fits as FitsCommand}
 use Rattle.lock_command.specs.Reading.{decoded}
-use Rattle.host.specs.Host.{Host, Stopped, Running, Memory, Submitting, Recovering, fresh, goes_on, hears, is_idle_in, is_idle, idles, is_stopped, next_in, next_of}
+use Rattle.host.specs.Host.{Host, Stopped, Running, Memory, Submitting, Recovering, fresh, goes_on, idles, is_stopped}
 use Rattle.host.specs.Kept as hosts
 use Rattle.world.specs.Entry as entries
 use Rattle.world.specs.Entry.{Filled, Called, Torn, Crashed, Lost, is_on, is_of, disk_step, host_step, started}
-use Rattle.world.specs.World.{World, world}
-use Rattle.world.specs.Happens.{Event, Start, Stop, Submit, Recover, Step, Tear, FailCall, DiskCrash, DiskGone, brings_if, submitted, entry_of}
+use Rattle.world.specs.World.{world}
+use Rattle.world.specs.Happens.{Start, Stop, Submit, Recover, brings_if, submitted}
 use Rattle.world.proofs.Follow.{command_reads_back}
 use Rattle.host.specs.declared.answer.HostAnswer.{HostAnswer}
 use Rattle.world.specs.Happens.{lines_after}
 use Rattle.simulator.specs.Events.{lines_of}
-use Rattle.simulator.specs.declared.parts.Said.{Said}
-use Rattle.simulator.specs.Kept.{Kept, calm, is_busy, is_free, IsHost, Shows, LeadsTo, Brings}
+use Rattle.simulator.specs.Kept.{Kept, is_free, IsHost, LeadsTo, Brings}
 use Rattle.simulator.proofs.Changes.{nothing, something}
-use Rattle.simulator.proofs.Shown.{stopped_by, running_by, saying, by_host, by_disk, by_both, says_by, says_nothing_by, idle_is}
+use Rattle.simulator.proofs.Shown.{stopped_by, running_by, saying, by_host, says_by, says_nothing_by, idle_is}
 
 and_no : (b : Bool) → (b && false) ≡ false
 and_no true = refl

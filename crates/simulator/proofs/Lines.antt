@@ -1,6 +1,6 @@
 -- What a line tells: an entry of its event, and what the host of that says then.
-use Rattle.std.specs.Prelude.{slice_get, slice_index_or, is_some, IsSome}
-use Rattle.std.proofs.Common.{ℕ, zero, suc, ◌≡◌, ◌⊎◌, inl, inr, Option, Some, None, List, [], ◌∷◌, ◌++◌, length, ◌+◌, refl, sym, ap, ◌∙◌, subst, arith}
+use Rattle.std.specs.Prelude.{slice_get, slice_index_or, IsSome}
+use Rattle.std.proofs.Common.{ℕ, zero, suc, ◌≡◌, Option, Some, None, List, [], ◌∷◌, ◌++◌, refl, sym, ap, subst}
 use Rattle.slot_log.specs.Shape.{Shape}
 use Rattle.host.specs.declared.answer.HostAnswer.{HostAnswer}
 use Rattle.host.specs.Host.{Host, Stopped, Running, said_of}
@@ -9,7 +9,6 @@ use Rattle.world.specs.Entry.{Filled}
 use Rattle.world.specs.World.{world}
 use Rattle.world.specs.Happens.{Line, host_of, line, lines_after, lines_at, entry_of, with_entry, happens, Event}
 use Rattle.simulator.specs.declared.parts.Said.{Said}
-use Rattle.simulator.specs.Events.{lines_of}
 use Rattle.simulator.specs.Kept.{Kept, IsHost, LeadsTo, Brings}
 
 -- the entry behind a line, whose host says what the line has

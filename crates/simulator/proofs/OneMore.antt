@@ -1,12 +1,12 @@
 -- One event more: what is kept then, and what has been answered by then.
-use Rattle.std.specs.Prelude.{map, take, All}
-use Rattle.std.proofs.Common.{ℕ, ◌+◌, ◌<◌, ◌≡◌, Option, Some, None, List, [], ◌∷◌, ◌++◌, length, get_or, refl, sym, ap, ◌∙◌, subst, append-nil, arith}
+use Rattle.std.specs.Prelude.{take}
+use Rattle.std.proofs.Common.{ℕ, ◌+◌, ◌<◌, ◌≡◌, Option, List, [], ◌∷◌, ◌++◌, length, get_or, sym, ap, ◌∙◌, subst, arith}
 use Rattle.std.proofs.lemmas.List.{map-append, length-map, length-take-le, take_more, take-map}
 use Rattle.slot_log.specs.Shape.{Shape}
 use Rattle.lock_script.specs.declared.event.Event as code
 use Rattle.world.specs.Entry.{Filled}
 use Rattle.world.specs.World.{world}
-use Rattle.world.specs.Happens.{Event, Line, entry_of, happens, run, lines_at, answers}
+use Rattle.world.specs.Happens.{Event, Line, entry_of, run, lines_at, answers}
 use Rattle.world.proofs.Runs.{one_more, one_answer_more}
 use Rattle.simulator.specs.declared.answer.Answer.{Answer}
 use Rattle.simulator.specs.declared.parts.Said.{Said}

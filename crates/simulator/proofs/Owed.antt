@@ -1,15 +1,14 @@
 -- What the code of the parts owes, in the code's own terms.
-use Rattle.std.specs.Prelude.{not, nat_lt, ◌^◌, replicate, is_some}
+use Rattle.std.specs.Prelude.{replicate, is_some}
 use Rattle.std.specs.Option.{option_map}
-use Rattle.std.proofs.Common.{ℕ, ◌<◌, ◌≤◌, ◌≡◌, ◌&&◌, Bool, true, false, Option, Some, None, List, [], length, get_or, refl, sym, ap, ◌∙◌, subst, zero, suc, arith}
+use Rattle.std.proofs.Common.{ℕ, ◌<◌, ◌≡◌, Bool, true, false, Option, Some, None, List, [], length, get_or, refl, sym, ap, ◌∙◌, subst, zero, suc}
 use Rattle.std.proofs.Math.ListN.{set}
 use Rattle.std.proofs.lemmas.List.{get_or_read, set-get_or, length-replicate, get_or-replicate}
 use Rattle.disk.specs.declared.fault.DiskFault.{DiskFault}
 use Rattle.disk.specs.declared.fault.DiskFault.TheVariants.{Failed}
 use Rattle.disk.specs.Disk.{Call, Fault}
-use Rattle.disk.specs.Simulated.{SimState, refusal_of, crashed, fresh_disk}
+use Rattle.disk.specs.Simulated.{SimState, refusal_of, fresh_disk}
 use Rattle.disk.specs.Steps.{shape_fresh}
-use Rattle.disk.specs.Disk.{lost}
 use Rattle.paxos_block.specs.Places.{image_length}
 use Rattle.torn_block.specs.declared.layout.TheConstants.{HOSTS}
 use Rattle.slot_log.specs.Shape.{Shape}
@@ -20,7 +19,6 @@ use Rattle.attempt.specs.Answers.{heard_as}
 use Rattle.phases.specs.declared.need.Need.{Need}
 use Rattle.phases.specs.declared.need.DeviceCall as code_call
 use Rattle.phases.specs.Calls.{call_of_need, device_call_of, IsWithin}
-use Rattle.host.specs.declared.answer.HostAnswer.{HostAnswer}
 use Rattle.host.specs.Host.{Stopped, Memory, Submitting, Recovering, fresh, goes_on, hears, next_in}
 use Rattle.host.specs.Kept as hosts
 use Rattle.world.specs.Entry.{Filled, called_by}
@@ -30,7 +28,7 @@ use Rattle.simulator.specs.declared.parts.Said.{Said}
 use Rattle.simulator.specs.declared.parts.Parts.TheInside.{Inside}
 use Rattle.simulator.specs.Calls.{is_write, may_crash, crashed_if, lost_if}
 use Rattle.simulator.specs.Kept.{Kept, calm, is_busy, is_free, IsHost, LeadsTo, IsReached, Brings}
-use Rattle.simulator.proofs.Shown.{saying, named}
+use Rattle.simulator.proofs.Shown.{named}
 use Rattle.simulator.proofs.Events as events
 use Rattle.simulator.proofs.Events.{running_at}
 use Rattle.simulator.proofs.Calls as calls

@@ -1,6 +1,6 @@
 -- With which events a host may answer that it has recovered.
 use Rattle.std.specs.Prelude.{nat_lt, ◌&&◌, not, option_and_then, if◌then◌else◌}
-use Rattle.std.proofs.Common.{ℕ, ◌≡◌, Bool, true, false, Option, Some, None, List, [], ◌∷◌, ◌++◌, length, slice_get, refl, sym, ap, ◌∙◌}
+use Rattle.std.proofs.Common.{ℕ, ◌≡◌, Bool, true, false, Option, Some, None, List, length, slice_get, refl, sym, ap, ◌∙◌}
 use Rattle.disk.specs.declared.fault.DiskFault.{DiskFault}
 use Rattle.disk.specs.Disk.{Call, Attach, Read, Write, Sync}
 use Rattle.disk.specs.Simulated.{refusal_of}
@@ -10,7 +10,7 @@ use Rattle.lock_command.specs.Command.{spelling}
 use Rattle.lock_command.specs.Reading.{decoded}
 use Rattle.slot_log.specs.Shape.{Shape}
 use Rattle.host.specs.declared.answer.HostAnswer.TheVariants.{Recovered}
-use Rattle.host.specs.Host.{Operation, Submitting, Host, Stopped, Running, Memory, begins, says, full_answer, is_stopped, idles, next_of, said_of}
+use Rattle.host.specs.Host.{Submitting, Host, Stopped, Running, begins, says, full_answer, is_stopped, idles, next_of, said_of}
 use Rattle.world.specs.Entry as entries
 use Rattle.world.specs.Entry.{Filled, host_step}
 use Rattle.world.specs.World.{World, world}

@@ -1,6 +1,5 @@
 -- The world behind an entry is what is kept then.
-use Rattle.std.specs.Prelude.{not, nat_lt}
-use Rattle.std.proofs.Common.{ℕ, ◌<◌, ◌≡◌, ◌==◌, Bool, true, false, Option, Some, None, List, [], ◌∷◌, ◌++◌, length, get_or, ◌≢◌, inl, inr, refl, sym, ap, ◌∙◌, subst, arith}
+use Rattle.std.proofs.Common.{ℕ, ◌<◌, ◌≡◌, ◌==◌, true, false, Option, Some, None, List, [], ◌∷◌, ◌++◌, length, get_or, ◌≢◌, inl, inr, refl, sym, ap, ◌∙◌, subst, arith}
 use Rattle.std.proofs.Math.ListN.{set, length-set}
 use Rattle.disk.specs.Simulated.{SimState}
 use Rattle.torn_block.specs.declared.layout.TheConstants.{HOSTS}
@@ -8,12 +7,12 @@ use Rattle.host.specs.Host.{Host, Stopped, Running, Memory, said_of}
 use Rattle.host.specs.Kept as hosts
 use Rattle.host.specs.declared.answer.HostAnswer.{HostAnswer}
 use Rattle.world.specs.Entry.{Filled, is_on, is_of, disk_step, host_step}
-use Rattle.world.specs.World.{World, world}
+use Rattle.world.specs.World.{world}
 use Rattle.world.specs.Happens.{line, lines_after}
 use Rattle.world.proofs.Projections.{host_here}
 use Rattle.simulator.specs.declared.parts.Said.{Said}
 use Rattle.simulator.specs.Events.{lines_of}
-use Rattle.simulator.specs.Kept.{Kept, calm, is_busy, is_free, IsHost, Shows, LeadsTo, Brings}
+use Rattle.simulator.specs.Kept.{Kept, calm, IsHost, Shows, LeadsTo, Brings}
 use Rattle.std.specs.Option.{option_map}
 use Rattle.std.proofs.lemmas.List.{get_or-set_same, get_or-set_other}
 use Rattle.std.proofs.lemmas.Bool.{cases_Bool, eqb-true, eqb-false}
@@ -25,7 +24,6 @@ use Rattle.slot_log.specs.declared.operation.Task.{Task}
 use Rattle.phases.specs.declared.notes.Notes.{Notes}
 use Rattle.world.specs.Happens.{Event}
 use Rattle.simulator.proofs.Changes.{one_disk, no_disk, one_host, no_host}
-use Rattle.std.proofs.lemmas.Bool.{eq-eqb}
 use Rattle.slot_log.specs.Shape.{Shape}
 
 -- WHAT IS KEPT OF A HOST

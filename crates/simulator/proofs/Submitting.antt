@@ -1,6 +1,6 @@
 -- Which event brings the entry of a submission.
 use Rattle.std.specs.Prelude.{nat_lt, ◌&&◌, option_map, option_and_then}
-use Rattle.std.proofs.Common.{ℕ, ◌≡◌, ◌==◌, Bool, true, false, Option, Some, None, List, refl, sym, ap, ◌∙◌, subst}
+use Rattle.std.proofs.Common.{ℕ, ◌≡◌, ◌==◌, Bool, true, false, Option, Some, None, List, refl, ap, ◌∙◌}
 use Rattle.disk.specs.declared.fault.DiskFault.{DiskFault}
 use Rattle.disk.specs.Disk.{Call, Attach, Read, Write, Sync}
 use Rattle.disk.specs.Simulated.{refusal_of}

@@ -1,20 +1,18 @@
 -- What is answered goes by one log.
 use Rattle.std.specs.Prelude.{All, Contains, IfSome, option_map}
-use Rattle.std.proofs.Common.{ℕ, ◌+◌, ◌<◌, ◌≤◌, ◌≡◌, ◌⊎◌, inl, inr, true, Option, Some, None, List, [], ◌∷◌, ◌++◌, length, slice_get, map, take, get_or, refl, sym, ap, ◌∙◌, subst, length-append, arith}
+use Rattle.std.proofs.Common.{ℕ, ◌+◌, ◌<◌, ◌≤◌, ◌≡◌, ◌⊎◌, inl, inr, Option, Some, None, List, [], ◌∷◌, ◌++◌, length, slice_get, map, take, get_or, refl, sym, ap, ◌∙◌, subst, length-append, arith}
 use Rattle.std.proofs.Math.Seq.{take-length}
 use Rattle.std.proofs.lemmas.Bool.{cases_lt}
 use Rattle.std.proofs.lemmas.List.{take-take}
 use Rattle.std.proofs.lemmas.Option.{slice_get-get_or, slice_get_read, slice_get-map, slice_get_within}
 use Rattle.lock_command.specs.declared.command.Command.{Command}
 use Rattle.lock_command.specs.Command.{spelling}
-use Rattle.lock_table.specs.declared.reply.Reply.{Reply}
 use Rattle.lock_table.specs.Apply.{table_after}
 use Rattle.slot_log.specs.Shape.{Shape}
 use Rattle.host.specs.declared.answer.HostAnswer.{HostAnswer}
 use Rattle.host.specs.declared.answer.HostAnswer.TheVariants.{Ack, Recovered, Refused}
 use Rattle.host.specs.Host.{idles, learned_of}
 use Rattle.host.specs.Kept as hosts
-use Rattle.world.specs.Entry.{Filled}
 use Rattle.world.specs.World.{World, world}
 use Rattle.world.specs.Happens.{Event, Line, run, answers}
 use Rattle.world.specs.Chosen.{at, SaysAt, IsSubmittedBefore as IsSubmittedIn}
@@ -23,7 +21,7 @@ use Rattle.world.proofs.Runs.{run_is_run}
 use Rattle.simulator.specs.declared.answer.Answer.{Answer}
 use Rattle.simulator.specs.Answers.{line_of, ShowsTable, IsPicturedBy, IsPictured, IsPicturedIn}
 use Rattle.simulator.specs.Kept.{IsHost}
-use Rattle.simulator.specs.OneLog.{prefix_before, IsSubmittedBefore, IsChosenBy, IsOneLog, goes_by, GoesBy, BeganSince, MissesNothing, TellsOneLog, GoesByOneLog, BeginsTheLog}
+use Rattle.simulator.specs.OneLog.{prefix_before, IsSubmittedBefore, IsChosenBy, IsOneLog, goes_by, GoesBy, MissesNothing, TellsOneLog, GoesByOneLog, BeginsTheLog}
 use Rattle.simulator.specs.Past.{Past, world_of, answers_of}
 use Rattle.simulator.proofs.Entries.{get_behind, of_event, before, begins_with, fewer, earlier, after, Told, told, says_at, left_at}
 use Rattle.simulator.proofs.Safety as safety

@@ -1,9 +1,8 @@
 -- The events of the code, as the definitions of the world have them, and what is answered.
-use Rattle.std.specs.Prelude.{ℕ, List, [], ◌∷◌, map, length, Option, Some, None}
+use Rattle.std.specs.Prelude.{ℕ, List, [], ◌∷◌, map, Option, Some, None}
 use Rattle.lock_script.specs.declared.event.Event as code
 use Rattle.lock_script.specs.declared.event.Event.TheVariants as of_code
-use Rattle.host.specs.declared.answer.HostAnswer.{HostAnswer}
-use Rattle.world.specs.Happens.{Event, Start, Stop, Submit, Recover, Step, Tear, FailCall, DiskCrash, DiskGone, Line, line}
+use Rattle.world.specs.Happens.{Event, Start, Stop, Submit, Recover, Step, Tear, FailCall, DiskCrash, DiskGone, Line}
 use Rattle.simulator.specs.declared.parts.Said.{Said}
 
 abbrev pub event_of : code.Event → Event

@@ -1,8 +1,5 @@
-use Rattle.std.proofs.Common.{◌≡◌, ◌≢◌, ◌<◌, ◌≤◌, ℕ, List, [], Option, Some, None, length, get_or, refl, sym, ap, ◌∙◌, subst, arith}
-use Rattle.slot_log.specs.Shape.{Shape}
-use Rattle.world.specs.Entry.{Filled}
-use Rattle.world.specs.Happens.{Start, Stop, Submit, Recover, Step, Tear, FailCall, DiskCrash, DiskGone}
-use Rattle.simulator.specs.Kept.{Kept, LeadsTo, IsReached, Brings}
+use Rattle.std.proofs.Common.{◌<◌, None, arith}
+use Rattle.world.specs.Happens.{DiskCrash}
 use Rattle.simulator.proofs.Changes.{reached, seen, unseen}
 use Rattle.simulator.proofs.Owed as owed
 use Rattle.simulator.proofs.Owed.{kept_in, read_at}

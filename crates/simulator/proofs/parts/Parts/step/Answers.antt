@@ -1,9 +1,6 @@
-use Rattle.std.proofs.Common.{◌≡◌, ◌≢◌, ◌<◌, ◌≤◌, ℕ, List, [], Option, Some, None, length, get_or, refl, sym, ap, ◌∙◌, subst, arith}
+use Rattle.std.proofs.Common.{◌<◌, ℕ, None, length, sym, ap, ◌∙◌, subst, arith}
 use Rattle.torn_block.specs.declared.layout.TheConstants.{HOSTS}
-use Rattle.slot_log.specs.Shape.{Shape}
-use Rattle.world.specs.Entry.{Filled}
-use Rattle.world.specs.Happens.{Start, Stop, Submit, Recover, Step, Tear, FailCall, DiskCrash, DiskGone}
-use Rattle.simulator.specs.Kept.{Kept, LeadsTo, IsReached, Brings}
+use Rattle.world.specs.Happens.{Step}
 use Rattle.simulator.proofs.Changes.{reached, seen, unseen}
 use Rattle.simulator.proofs.Owed as owed
 use Rattle.simulator.proofs.Owed.{kept_in, read_at}
