@@ -1,3 +1,6 @@
+ghost use Rattle.std.specs.Prelude.{◌≡◌};
+ghost use Rattle.dlm.specs.Text.{refusal_text};
+
 use crate::reply_text::ReplyText;
 use host::{HostAnswer, Refusal};
 use std::fmt;
@@ -10,6 +13,11 @@ mod tests;
 pub struct AnswerText(pub HostAnswer);
 
 impl fmt::Display for AnswerText {
+    ghost use Rattle.std.specs.Prelude.{Some};
+    ghost use Rattle.dlm.specs.Text.{answer_text};
+
+    ghost output = { λ a. Some (answer_text a.0) };
+
     fn fmt<W: fmt::Write>(&self, f: &mut fmt::Formatter<W>) -> fmt::Result {
         match self.0 {
             HostAnswer::Ack { slot, reply } => {
@@ -26,7 +34,9 @@ impl fmt::Display for AnswerText {
 }
 
 /// The number and the name of a refusal of an operation.
-fn refusal_text(refusal: Refusal) -> &'static str {
+fn refusal_text(refusal: Refusal) -> &'static str
+    ensures { result.now ≡ refusal_text refusal }
+{
     match refusal {
         Refusal::Outrun => "6 Outrun",
         Refusal::NoMajority => "7 NoMajority",

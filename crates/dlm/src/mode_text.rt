@@ -6,6 +6,11 @@ use std::fmt;
 pub struct ModeText(pub Option<Mode>);
 
 impl fmt::Display for ModeText {
+    ghost use Rattle.std.specs.Prelude.{Some};
+    ghost use Rattle.dlm.specs.Text.{mode_text};
+
+    ghost output = { λ m. Some (mode_text m.0) };
+
     fn fmt<W: fmt::Write>(&self, f: &mut fmt::Formatter<W>) -> fmt::Result {
         f.write_str(match self.0 {
             None => "-",

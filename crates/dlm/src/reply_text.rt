@@ -1,3 +1,6 @@
+ghost use Rattle.std.specs.Prelude.{◌≡◌};
+ghost use Rattle.dlm.specs.Text.{held_mode, wanted_mode, table_refusal_text};
+
 use crate::mode_text::ModeText;
 use lock_table::{LockState, Refusal, Reply};
 use std::fmt;
@@ -7,6 +10,11 @@ use std::fmt;
 pub struct ReplyText(pub Reply);
 
 impl fmt::Display for ReplyText {
+    ghost use Rattle.std.specs.Prelude.{Some};
+    ghost use Rattle.dlm.specs.Text.{reply_text};
+
+    ghost output = { λ r. Some (reply_text r.0) };
+
     fn fmt<W: fmt::Write>(&self, f: &mut fmt::Formatter<W>) -> fmt::Result {
         match self.0 {
             Reply::Granted => f.write_str("Granted"),
@@ -24,7 +32,10 @@ impl fmt::Display for ReplyText {
 }
 
 /// The held mode and the wanted one.
-fn modes_of(state: LockState) -> (ModeText, ModeText) {
+fn modes_of(state: LockState) -> (ModeText, ModeText)
+    ensures held { result.0.0 ≡ held_mode state }
+    ensures wanted { result.1.0 ≡ wanted_mode state }
+{
     match state {
         LockState::Granted(held) => (ModeText(Some(held)), ModeText(None)),
         LockState::Converting { held, wanted } => (ModeText(Some(held)), ModeText(Some(wanted))),
@@ -33,7 +44,9 @@ fn modes_of(state: LockState) -> (ModeText, ModeText) {
 }
 
 /// The number and the name of a refusal of the lock table.
-fn refusal_text(refusal: Refusal) -> &'static str {
+fn refusal_text(refusal: Refusal) -> &'static str
+    ensures { result.now ≡ table_refusal_text refusal }
+{
     match refusal {
         Refusal::LockInUse => "11 LockInUse",
         Refusal::NoSuchLock => "12 NoSuchLock",

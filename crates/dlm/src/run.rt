@@ -1,3 +1,8 @@
+ghost use Rattle.std.specs.Prelude.{List, OnOk};
+ghost use Rattle.world.specs.Entry.{Filled};
+ghost use Rattle.simulator.specs.Kept.{LeadsTo};
+ghost use Rattle.dlm.specs.Printed.{WritesAnswer};
+
 use crate::answer_text::AnswerText;
 use crate::failure::Failure;
 use crate::fault::Fault;
@@ -26,7 +31,10 @@ fn happen<O: Write>(
     place: usize,
     event: &Event,
     out: &mut O,
-) -> Result<(), Failure> {
+) -> Result<(), Failure>
+    ensures { OnOk result ((log : List Filled) → LeadsTo log parts.old →
+        WritesAnswer log event.now place parts.old parts.new (O.contents out.old) (O.contents out.new)) }
+{
     if let Some(said) = parts.event(alloc, event).map_err(Fault::from)? {
         let host = said.host.get();
         let answer = AnswerText(said.answer);

@@ -1,0 +1,67 @@
+-- The printed text of what hosts answer.
+use Rattle.std.specs.Prelude.{ℕ, List, ◌++◌, codes, decimal, Option, Some, None}
+use Rattle.lock_modes.specs.declared.mode.Mode.{Mode}
+use Rattle.lock_table.specs.declared.record.LockState.{LockState}
+use Rattle.lock_table.specs.declared.record.LockState.TheVariants.{Granted as Holding, Converting, Waiting}
+use Rattle.lock_table.specs.declared.reply.Reply.{Reply}
+use Rattle.lock_table.specs.declared.reply.Reply.TheVariants.{Granted, Queued, Released, Cancelled, Purged, State, Refused}
+use Rattle.lock_table.specs.declared.reply.Refusal as table
+use Rattle.lock_table.specs.declared.reply.Refusal.TheVariants.{LockInUse, NoSuchLock, NotOwner, AlreadyConverting, StillWaiting, NotQueued, TableFull, Stale, ClientsFull, NothingToCancel}
+use Rattle.slot_log.specs.declared.outcome.Refusal as operation
+use Rattle.slot_log.specs.declared.outcome.Refusal.TheVariants.{Outrun, NoMajority, BallotsSpent, LogFull, NotACommand}
+use Rattle.host.specs.declared.answer.HostAnswer.{HostAnswer}
+use Rattle.host.specs.declared.answer.HostAnswer.TheVariants.{Ack, Recovered, Refused as Ended}
+use Rattle.inspect.specs.Text.{mode_name}
+
+-- a mode, or a dash where there is none
+abbrev pub mode_text : Option Mode → List ℕ
+mode_text None = codes "-"
+mode_text (Some mode) = mode_name mode
+
+-- the mode that a lock holds, and the one that it wants
+abbrev pub held_mode : LockState → Option Mode
+held_mode (Holding mode) = Some mode
+held_mode (Converting held wanted) = Some held
+held_mode (Waiting wanted) = None
+
+abbrev pub wanted_mode : LockState → Option Mode
+wanted_mode (Holding mode) = None
+wanted_mode (Converting held wanted) = Some wanted
+wanted_mode (Waiting wanted) = Some wanted
+
+-- the numbers and names of the lock table's refusals
+abbrev pub table_refusal_text : table.Refusal → List ℕ
+table_refusal_text LockInUse = codes "11 LockInUse"
+table_refusal_text NoSuchLock = codes "12 NoSuchLock"
+table_refusal_text NotOwner = codes "13 NotOwner"
+table_refusal_text AlreadyConverting = codes "14 AlreadyConverting"
+table_refusal_text StillWaiting = codes "15 StillWaiting"
+table_refusal_text NotQueued = codes "16 NotQueued"
+table_refusal_text TableFull = codes "17 TableFull"
+table_refusal_text Stale = codes "18 Stale"
+table_refusal_text ClientsFull = codes "19 ClientsFull"
+table_refusal_text NothingToCancel = codes "20 NothingToCancel"
+
+-- what the lock table replies
+abbrev pub reply_text : Reply → List ℕ
+reply_text Granted = codes "Granted"
+reply_text Queued = codes "Queued"
+reply_text Released = codes "Released"
+reply_text Cancelled = codes "Cancelled"
+reply_text (Purged count) = codes "Purged(" ++ decimal count ++ codes ")"
+reply_text (State state) = codes "State(held=" ++ mode_text (held_mode state) ++ codes ", wanted=" ++ mode_text (wanted_mode state) ++ codes ")"
+reply_text (Refused refusal) = table_refusal_text refusal
+
+-- the numbers and names of the refusals that end an operation
+abbrev pub refusal_text : operation.Refusal → List ℕ
+refusal_text Outrun = codes "6 Outrun"
+refusal_text NoMajority = codes "7 NoMajority"
+refusal_text BallotsSpent = codes "8 BallotsSpent"
+refusal_text LogFull = codes "9 LogFull"
+refusal_text NotACommand = codes "10 NotACommand"
+
+-- what a host answers
+abbrev pub answer_text : HostAnswer → List ℕ
+answer_text (Ack slot reply) = codes "ack " ++ decimal slot ++ codes " " ++ reply_text reply
+answer_text (Recovered length) = codes "recovered " ++ decimal length
+answer_text (Ended refusal) = codes "refused " ++ refusal_text refusal
