@@ -121,7 +121,7 @@ module _ (s : Setup) (f : Answers) (reached : IsReached s f) (rest : OthersRest 
       omega arith
 
   -- and they do not outrun it
-  not_above : ¬ (nat_lt (ballot s f) (others_mbal s p f) ≡ true)
+  pub not_above : ¬ (nat_lt (ballot s f) (others_mbal s p f) ≡ true)
   not_above is = let over = above s.host (highest s f) in let less = ltb-true (ballot s f) (others_mbal s p f) is in absurd (omega (arith, under))
 
 -- COUNTING CALLS
