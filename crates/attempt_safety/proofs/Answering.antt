@@ -25,7 +25,7 @@ use Rattle.agreement.specs.State.{Cell, seen, wrote_one, read_one, wrote_two, re
 use Rattle.agreement.specs.State.Mind.{Opening as OpeningMind, One as OneMind}
 use Rattle.agreement.specs.Event.{Event, write_of, being_written, at_rest, at_stage, IsRow, Allowed, AllAllowed, after, run}
 use Rattle.agreement.specs.Event.Event.{Sees, Begins, Confirms, ReadsOne, ReadsTwo}
-use Rattle.agreement.specs.Chosen.{PutsIn}
+use Rattle.agreement.specs.Chosen.{PutsIn, IsInput}
 use Rattle.agreement.proofs.Invariant.{Holds, IsWrite}
 use Rattle.agreement.proofs.Writing.{to_write, writes_at_rest}
 use Rattle.agreement.proofs.Puts.{put_same, put_other}
@@ -43,7 +43,8 @@ use Rattle.attempt_safety.proofs.Cells.{block_same, leaves_same, changed, change
 pub record Moves (s : Setup) (p : Phase) (f : Answers) (d : ℕ) (x : Heard) (m : Machine) : Type 0 where
   pub events : List (Event (List ℕ))
   pub few : length events ≤ 1
-  pub own : All (IsOfAttempt s) events
+  pub own : (g : Answers) → All (IsOfAttempt s g) events
+  pub quiet : (value : List ℕ) → ¬ IsInput events value
   pub allowed : AllAllowed s.disks m events
   pub stands : StandsIn s p (more f d x) (run m events)
   pub others : LeavesOthers s.host d m (run m events)
@@ -139,7 +140,8 @@ module _ (s : Setup) (f : Answers) (d : ℕ) (m : Machine) (holds : Holds s.disk
         record {
           events = [];
           few = omega arith;
-          own = All-nil (IsOfAttempt s);
+          own = λ g. All-nil (IsOfAttempt s g);
+          quiet = λ value input. input;
           allowed = tt;
           stands = stands_quiet s p f d x m waiting.part.come stands none waiting.part.good level;
           others = leaves_same s.host d m;
@@ -155,7 +157,8 @@ module _ (s : Setup) (f : Answers) (d : ℕ) (m : Machine) (holds : Holds s.disk
         record {
           events = e ∷ [];
           few = omega arith;
-          own = All-cons (IsOfAttempt s) e [] (record { host = host; input = λ value puts. absurd (none value puts) }) (All-nil (IsOfAttempt s));
+          own = λ g. All-cons (IsOfAttempt s g) e [] (record { host = host; input = λ value puts. absurd (none value puts); proposes = λ value puts. absurd (none value puts) }) (All-nil (IsOfAttempt s g));
+          quiet = λ value input. elim input [ inl puts ↦ none value puts | inr rest ↦ rest ];
           allowed = (allowed, tt);
           stands = stands_more s p f d x m waiting.part.come stands (after m e) knows
               (λ good. ap (λ (k : Cell (List ℕ)). k.stage) here ∙ stage good)

@@ -53,7 +53,7 @@ pub record Goes (s : Setup) (f : Answers) (d : ℕ) (x : Heard) (g : Answers) (m
 pub record Comes (s : Setup) (f : Answers) (d : ℕ) (x : Heard) (g : Answers) (m : Machine) : Type 0 where
   pub events : List (Event (List ℕ))
   pub few : length events ≤ 2
-  pub own : All (IsOfAttempt s) events
+  pub own : All (IsOfAttempt s g) events
   pub allowed : AllAllowed s.disks m events
   pub goes : Goes s f d x g m (run m events)
 
@@ -77,7 +77,7 @@ module _ (s : Setup) (f : Answers) (d : ℕ) (x : Heard) (m : Machine) (p : Phas
       record {
         events = one.events ++ two.events;
         few = omega (arith, length-append one.events two.events, one.few, two.few);
-        own = All-append (IsOfAttempt s) one.events two.events one.own two.own;
+        own = All-append (IsOfAttempt s g) one.events two.events (one.own g) two.own;
         allowed = may_both after (Allowed s.disks) m one.events two.events one.allowed two.allowed;
         goes = subst (Goes s f d x g m) (sym (state_by-append after m one.events two.events)) (record {
           agrees = two.agrees;
@@ -169,7 +169,7 @@ module _ (s : Setup) (f : Answers) (d : ℕ) (x : Heard) (m : Machine) (p : Phas
       record {
         events = [];
         few = omega arith;
-        own = All-nil (IsOfAttempt s);
+        own = All-nil (IsOfAttempt s (more f d x));
         allowed = tt;
         goes = record {
           agrees = subst (Agrees s (more f d x) m) (sym ended) tt;

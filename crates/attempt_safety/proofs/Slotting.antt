@@ -3,7 +3,7 @@ use Rattle.std.specs.List.{All}
 use Rattle.std.proofs.Common.{ℕ, ◌≡◌, ◌≢◌, Bool, cond, List, [], ◌∷◌, ◌++◌, length, append-nil, append_assoc, refl, sym, subst, ap, ap₂, ◌∙◌}
 use Rattle.std.proofs.lemmas.Bool.{eq-eqb, ne_eqb}
 use Rattle.std.proofs.lemmas.List.Elements.{All-head, All-tail}
-use Rattle.attempt.specs.Answers.{Answered}
+use Rattle.attempt.specs.Answers.{Answered, Answers, on}
 use Rattle.attempt.specs.Setup.{Setup}
 use Rattle.agreement.specs.State.{State}
 use Rattle.agreement.specs.Event.{Event, Allowed, AllAllowed, after, state_after}
@@ -61,14 +61,22 @@ next_slot c h k (Proposes g a value) next own = next ∙ ap (λ (i : ℕ). lengt
 next_slot c h k other next own = tt
 
 -- so each of the attempt's events may be made
-may_move : (s : Setup) (disks : ℕ) (c : Slots (List ℕ)) (events : List (Event (List ℕ))) → s.slot ≡ length (c.learned s.host) → All (IsOfAttempt s) events
+may_move : (s : Setup) (g : Answers) (disks : ℕ) (c : Slots (List ℕ)) (events : List (Event (List ℕ))) → s.slot ≡ length (c.learned s.host) → All (IsOfAttempt s g) events
     → AllAllowed disks (c.slot s.slot) events → AllMayMove disks c (in_slot s.slot events)
-may_move s disks c [] next own allowed = tt
-may_move s disks c (e ∷ events) next own allowed = (
-  (allowed.0, next_slot c s.host s.slot e next (All-head (IsOfAttempt s) e events own).host),
-  may_move s disks (moved c (At s.slot e)) events next (All-tail (IsOfAttempt s) e events own)
+may_move s g disks c [] next own allowed = tt
+may_move s g disks c (e ∷ events) next own allowed = (
+  (allowed.0, next_slot c s.host s.slot e next (All-head (IsOfAttempt s g) e events own).host),
+  may_move s g disks (moved c (At s.slot e)) events next (All-tail (IsOfAttempt s g) e events own)
       (subst (λ (n : State (List ℕ)). AllAllowed disks n events) (sym (put_same c.slot s.slot (after (c.slot s.slot) e))) allowed.1),
 )
+
+-- behind a history of all slots, in which that is the host's next slot, a run of them is made
+pub moves_by : (s : Setup) (g : Answers) (ms : List (Move (List ℕ))) (events : List (Event (List ℕ))) → All (IsOfAttempt s g) events → AllAllowed s.disks (state_after (events_of_slot s.slot ms)) events → IsHistory s.disks ms
+    → s.slot ≡ length ((slots_after ms).learned s.host) → IsHistory s.disks (ms ++ in_slot s.slot events)
+moves_by s g ms events own allowed history next =
+    may_both moved (MayMove s.disks) none_learned ms (in_slot s.slot events) history
+    (may_move s g s.disks (slots_after ms) events next own
+    (subst (λ (n : State (List ℕ)). AllAllowed s.disks n events) (sym (slot_moves s.slot none_learned ms)) allowed))
 
 -- of a history of all slots, in which the attempt is on the next slot of its host
 pub moves_on : (s : Setup) (ms : List (Move (List ℕ))) (heard : List Answered) (x : Answered) (leads : Leads s (events_of_slot s.slot ms) heard x) → IsHistory s.disks ms
@@ -76,6 +84,4 @@ pub moves_on : (s : Setup) (ms : List (Move (List ℕ))) (heard : List Answered)
 moves_on s ms heard x leads history next =
     let allowed : AllAllowed s.disks (state_after (events_of_slot s.slot ms)) leads.events =
     may_late after (Allowed s.disks) start (events_of_slot s.slot ms) leads.events leads.is_run in
-    may_both moved (MayMove s.disks) none_learned ms (in_slot s.slot leads.events) history
-    (may_move s s.disks (slots_after ms) leads.events next leads.own
-    (subst (λ (n : State (List ℕ)). AllAllowed s.disks n leads.events) (sym (slot_moves s.slot none_learned ms)) allowed))
+    moves_by s (on (heard ++ x ∷ [])) ms leads.events leads.own allowed history next

@@ -1,6 +1,6 @@
 -- What follows an answer: the attempt goes on, comes to its next phase, or ends; and so does the machine.
 use Rattle.std.specs.List.{All}
-use Rattle.std.proofs.Common.{ℕ, ◌<◌, ◌≤◌, ◌≡◌, ◌≢◌, inl, inr, true, Option, Some, None, List, [], ◌∷◌, length, refl, sym, ap, ◌∙◌, arith}
+use Rattle.std.proofs.Common.{ℕ, ◌<◌, ◌≤◌, ◌≡◌, ◌≢◌, inl, inr, true, Option, Some, None, List, [], ◌∷◌, length, refl, sym, subst, ap, ◌∙◌, arith}
 use Rattle.std.proofs.lemmas.Bool.{cases_lt, cases_Bool, both_ways, eq-eqb}
 use Rattle.std.proofs.lemmas.List.Elements.{All-nil, All-cons}
 use Rattle.torn_block.specs.declared.layout.TheConstants.{HOSTS}
@@ -38,7 +38,7 @@ use Rattle.attempt_safety.proofs.Counting.{majority_more, enough_one}
 pub record Turns (s : Setup) (g : Answers) (m : Machine) (st : Status) : Type 0 where
   pub events : List (Event (List ℕ))
   pub few : length events ≤ 1
-  pub own : All (IsOfAttempt s) events
+  pub own : All (IsOfAttempt s g) events
   pub allowed : AllAllowed s.disks m events
   pub agrees : Agrees s g (run m events) st
   pub proposing : (value : List ℕ) → Proposes s g value → IsProposing (run m events) s.host (ballot s g) value
@@ -180,7 +180,7 @@ module _ (s : Setup) (g : Answers) (disk : (e : ℕ) → IsDisk (g e)) (host_bel
       record {
         events = e ∷ [];
         few = omega arith;
-        own = All-cons (IsOfAttempt s) e [] (record { host = refl; input = λ value puts. absurd puts }) (All-nil (IsOfAttempt s));
+        own = All-cons (IsOfAttempt s g) e [] (record { host = refl; input = λ value puts. absurd puts; proposes = λ value puts. absurd puts }) (All-nil (IsOfAttempt s g));
         allowed = ((stands.mind, owned s.host (highest s g) host_below, less, majority_at s g m Opening stands behind seen refl come.over enough), tt);
         agrees = agrees (after m e) stands_one;
         proposing = λ value p. absurd (none_opening stands behind value p);
@@ -214,7 +214,7 @@ module _ (s : Setup) (g : Answers) (disk : (e : ℕ) → IsDisk (g e)) (host_bel
         record {
           events = made ∷ [];
           few = omega arith;
-          own = All-cons (IsOfAttempt s) made [] (record { host = refl; input = λ v puts. or_input (best s g).inp s.input value v proposes.has.is puts.0 puts.1 }) (All-nil (IsOfAttempt s));
+          own = All-cons (IsOfAttempt s g) made [] (record { host = refl; input = λ v puts. or_input (best s g).inp s.input value v proposes.has.is puts.0 puts.1; proposes = λ v puts. subst (Proposes s g) puts.1 proposes }) (All-nil (IsOfAttempt s g));
           allowed = ((record { asking = stands.mind; majority = majority_at s g m One stands behind read_one refl proposes.has.over proposes.majority }, or_found (best s g).inp s.input value proposes.has.is), tt);
           agrees = agrees (after m made) stands_two;
           proposing = λ other p. put_same m.mind s.host votes ∙ one_value other p;
@@ -252,7 +252,7 @@ module _ (s : Setup) (g : Answers) (disk : (e : ℕ) → IsDisk (g e)) (host_bel
       record {
         events = [];
         few = omega arith;
-        own = All-nil (IsOfAttempt s);
+        own = All-nil (IsOfAttempt s g);
         allowed = tt;
         agrees = agrees;
         proposing = proposing_in p none stands behind;

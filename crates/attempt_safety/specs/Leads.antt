@@ -30,10 +30,11 @@ IsOfHost host (MakesProposal h a value) = h ≡ host
 IsOfHost host (ReadsTwo h d row t) = h ≡ host
 IsOfHost host other = ⊥
 
--- and what it puts in is the attempt's input
-pub record IsOfAttempt (s : Setup) (e : Event (List ℕ)) : Type 0 where
+-- and what it puts in is the attempt's input, which the attempt then proposes
+pub record IsOfAttempt (s : Setup) (g : Answers) (e : Event (List ℕ)) : Type 0 where
   pub host : IsOfHost s.host e
   pub input : (value : List ℕ) → PutsIn e value → s.input ≡ Some value
+  pub proposes : (value : List ℕ) → PutsIn e value → Proposes s g value
 
 -- WHAT BECOMES OF THE BLOCKS
 
@@ -85,7 +86,7 @@ pub record Arrives (s : Setup) (heard : List Answered) (x : Answered) (old new :
 pub record Leads (s : Setup) (early : List (Event (List ℕ))) (heard : List Answered) (x : Answered) : Type 0 where
   pub events : List (Event (List ℕ))
   pub few : length events ≤ 2
-  pub own : All (IsOfAttempt s) events
+  pub own : All (IsOfAttempt s (on (heard ++ x ∷ []))) events
   -- each is allowed where it stands
   pub is_run : IsRun s.disks (early ++ events)
   pub arrives : Arrives s heard x (state_after early) (state_after (early ++ events))
