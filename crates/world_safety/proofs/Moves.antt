@@ -4,7 +4,9 @@ pub mod Hosts
 pub mod OneBlock
 pub mod Due
 pub mod Settling
+pub mod Changing
 pub mod Hearing
+pub mod Tearing
 pub mod Ending
 pub mod Moving
 pub mod Operating

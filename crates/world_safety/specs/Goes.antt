@@ -30,8 +30,13 @@ pub record IsTryingAt (w : World) (h slot : ℕ) : Type 0 where
   pub does : memory.doing ≡ Some doing
   pub is : length memory.learned ≡ slot
 
--- the host of the entry is trying to place this value
-pub record IsInputAt (w : World) (e : Filled) (v : List ℕ) : Type 0 where
+-- with the answer of the entry an attempt proposes this value
+abbrev pub ProposesWith : Shape → ℕ → Memory → Doing → Filled → List ℕ → Type 0
+ProposesWith c h m t (Called g k call answer left) v = Proposes (setup_of c h m t.operation) (on (t.heard ++ record { disk = k; heard = heard_as answer } ∷ [])) v
+ProposesWith c h m t other v = ⊥
+
+-- the host of the entry is trying to place this value in the slot, and with the entry it proposes it
+pub record IsInputAt (c : Shape) (w : World) (slot : ℕ) (e : Filled) (v : List ℕ) : Type 0 where
   pub host : ℕ
   pub memory : Memory
   pub doing : Doing
@@ -39,6 +44,8 @@ pub record IsInputAt (w : World) (e : Filled) (v : List ℕ) : Type 0 where
   pub running : w.host host ≡ Running memory
   pub does : memory.doing ≡ Some doing
   pub input : input_of doing.operation ≡ Some v
+  pub on_slot : slot ≡ length memory.learned
+  pub proposes : ProposesWith c host memory doing e v
 
 -- With the entry its host tries a slot that it was trying, or it begins an attempt there. And where a recovery ends, it has all slots, or the
 -- slot that it was trying, behind those that it has learned, was found empty.
@@ -63,6 +70,6 @@ CarriesOn c w ms other = Unit {0}
 pub record Goes (c : Shape) (w : World) (e : Filled) (ms : Moves) : Type 0 where
   pub more : Moves
   pub tied : Tied c (next_world c w e) (ms ++ more)
-  pub inputs : (j : ℕ) (v : List ℕ) → IsInput (events_of_slot j more) v → IsInputAt w e v
+  pub inputs : (j : ℕ) (v : List ℕ) → IsInput (events_of_slot j more) v → IsInputAt c w j e v
   pub host : (h : ℕ) → is_of h e ≡ true → HostGoes c w e ms more h
   pub carries : CarriesOn c w (ms ++ more) e

@@ -7,17 +7,19 @@ use Rattle.attempt.specs.Answers.{Answered, on, heard_as}
 use Rattle.attempt.specs.Setup.{Setup}
 use Rattle.attempt.specs.Status.{status, taken}
 use Rattle.slot_log.specs.Shape.{Shape}
-use Rattle.host.specs.Host.{Doing, Memory, Host, Stopped, Running, input_of, setup_of, by_status, hears as hears_more, next_of}
-use Rattle.world.specs.Entry.{Filled, Called, Torn, is_of, disk_step, host_step}
+use Rattle.host.specs.Host.{Doing, Memory, Host, Stopped, Running, setup_of, by_status, hears as hears_more, next_of}
+use Rattle.world.specs.Entry.{Called, Torn, disk_step, host_step}
 use Rattle.world.specs.World.{World, Tears}
 use Rattle.agreement.specs.Event.{Event}
 use Rattle.agreement.specs.Chosen.{IsInput}
 use Rattle.agreement.specs.Log.{events_of_slot, IsHistory}
 use Rattle.agreement.specs.Log.Move.{Restart}
-use Rattle.world_safety.specs.Goes.{IsTryingAt, IsInputAt, HostGoes, Carries, Goes}
+use Rattle.world_safety.specs.Goes.{IsTryingAt, HostGoes, Carries, Goes}
 use Rattle.world_safety.specs.Next.{next_world}
 use Rattle.world_safety.specs.Tied.{Moves, machine, IsTrying, IsDoing, IsRunning, Tied}
-use Rattle.world_safety.proofs.Moves.Hearing.{Hears, hears}
+use Rattle.world_safety.proofs.Moves.Hearing.{IsPutIn, Hears, hears}
+use Rattle.world_safety.proofs.Moves.Settling.{IsQuiet}
+use Rattle.world_safety.proofs.Moves.Tearing.{tears_to}
 use Rattle.world_safety.proofs.Moves.Ending.{answered_late}
 use Rattle.world_safety.proofs.Moves.Hosts.{Late, tied_with, but_stops, stops_learned}
 use Rattle.attempt_safety.proofs.Slotting.{events_append}
@@ -66,10 +68,7 @@ module _ (c : Shape) (w : World) (ms : Moves) (tied : Tied c w ms) where
     was : (n : ℕ) → Some (length m.learned) ≡ Some n → IsTryingAt w h n
     was n same = record { memory = m; doing = t; running = running; does = does; is = (let one : length m.learned ≡ n = cc in one) }
 
-    input_at : (e : Filled) → is_of h e ≡ true → (v : List ℕ) → input_of t.operation ≡ Some v → IsInputAt w e v
-    input_at e of v input = record { host = h; memory = m; doing = t; of = of; running = running; does = does; input = input }
-
-    called_input : (j : ℕ) (v : List ℕ) → IsInput (events_of_slot j (hears_it.early ++ late.late)) v → input_of t.operation ≡ Some v
+    called_input : (j : ℕ) (v : List ℕ) → IsInput (events_of_slot j (hears_it.early ++ late.late)) v → IsPutIn s heard j v
     called_input j v input =
         elim (input_append (events_of_slot j hears_it.early) (events_of_slot j late.late) v (subst (λ (es : List (Event (List ℕ))). IsInput es v) (events_append j hears_it.early late.late) input)) [
           | inl early ↦ hears_it.inputs j v early
@@ -104,27 +103,28 @@ module _ (c : Shape) (w : World) (ms : Moves) (tied : Tied c w ms) where
         record {
           more = hears_it.early ++ late.late;
           tied = called_tied;
-          inputs = λ j v input. input_at (Called h k call answer left) (eq-eqb h h refl) v (called_input j v input);
+          inputs = λ j v input.
+              (let put = called_input j v input in
+              record { host = h; memory = m; doing = t; of = eq-eqb h h refl; running = running; does = does; input = put.input; on_slot = put.on_slot; proposes = put.proposes });
           host = λ g of. for_host (λ i. HostGoes c w (Called h k call answer left) ms (hears_it.early ++ late.late) i) h g of
               (late_goes c w w2 (Called h k call answer left) ms hears_it.early h (Some (length m.learned)) new late now was);
           carries = called_carries;
         }
 
-  -- A TORN WRITE: the call fails, and its host stops
+  -- A TORN WRITE: its host stops within it
 
   module _ (h k : ℕ) (call : Call) (left : List ℕ) (next : next_of c h (w.host h) ≡ Some (k, call)) (step : Step (w.disk k) call (Fault Failed) (disk_step (w.disk k) (Called h k call (Fault Failed) left)))
       (m : Memory) (t : Doing) (running : w.host h ≡ Running m) (does : m.doing ≡ Some t) where
-    torn_input : (it : Hears c w (with_disks w (λ d. cond (k == d) (disk_step (w.disk d) (Torn h k call left)) (w.disk d))) ms h m t (t.heard ++ record { disk = k; heard = heard_as (Fault Failed) } ∷ [])) (j : ℕ) (v : List ℕ)
-        → IsInput (events_of_slot j (it.early ++ Restart h ∷ [])) v → input_of t.operation ≡ Some v
-    torn_input it j v input =
-        elim (input_append (events_of_slot j it.early) (events_of_slot j (Restart h ∷ [])) v (subst (λ (es : List (Event (List ℕ))). IsInput es v) (events_append j it.early (Restart h ∷ [])) input)) [
-          | inl early ↦ it.inputs j v early
-          | inr later ↦ absurd (elim later [ inl puts ↦ puts | inr rest ↦ rest ])
+    torn_input : (early : Moves) → IsQuiet early → (j : ℕ) (v : List ℕ) → IsInput (events_of_slot j (early ++ Restart h ∷ [])) v → ⊥
+    torn_input early quiet j v input =
+        elim (input_append (events_of_slot j early) (events_of_slot j (Restart h ∷ [])) v (subst (λ (es : List (Event (List ℕ))). IsInput es v) (events_append j early (Restart h ∷ [])) input)) [
+          | inl before ↦ quiet j v before
+          | inr later ↦ elim later [ inl puts ↦ puts | inr rest ↦ rest ]
         ]
 
     pub torn_goes : Goes c w (Torn h k call left) ms
     torn_goes =
-        let it = hears c w ms h k call (Fault Failed) left m t (record { tied = tied; running = running; does = does; next = next; step = step }) in
+        let it = tears_to c w ms h k call (Fault Failed) left m t (record { tied = tied; running = running; does = does; next = next; step = step }) (λ row is. absurd (cc)) in
         let disks = (λ (d : ℕ). cond (k == d) (disk_step (w.disk d) (Torn h k call left)) (w.disk d)) in
         let w2 = with_disks w disks in
         let regroup = append_assoc ms it.early (Restart h ∷ []) in
@@ -132,7 +132,7 @@ module _ (c : Shape) (w : World) (ms : Moves) (tied : Tied c w ms) where
           more = it.early ++ Restart h ∷ [];
           tied = subst (λ (l : Moves). Tied c (next_world c w (Torn h k call left)) l) regroup
               (tied_with c w2 ((ms ++ it.early) ++ Restart h ∷ []) h (λ g. Stopped) (but_stops c w2 (ms ++ it.early) h it.tied) (stops_learned c w2 (ms ++ it.early) h it.tied));
-          inputs = λ j v input. record { host = h; memory = m; doing = t; of = eq-eqb h h refl; running = running; does = does; input = torn_input it j v input };
+          inputs = λ j v input. absurd (torn_input it.early it.quiet j v input);
           host = λ g of. for_host (λ i. HostGoes c w (Torn h k call left) ms (it.early ++ Restart h ∷ []) i) h g of (stopped_goes c w (Torn h k call left) ms (it.early ++ Restart h ∷ []) h refl);
           carries = tt;
         }

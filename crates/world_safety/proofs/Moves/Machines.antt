@@ -1,5 +1,6 @@
 -- The machines of the slots, and what is learned, after one move more.
-use Rattle.std.proofs.Common.{ℕ, ◌≡◌, ◌≢◌, ◌==◌, ◌⊎◌, inl, inr, Bool, true, false, cond, List, [], ◌∷◌, ◌++◌, ap, ◌∙◌}
+use Rattle.std.proofs.Common.{ℕ, ◌≡◌, ◌≢◌, ◌==◌, ◌⊎◌, inl, inr, Bool, true, false, cond, List, [], ◌∷◌, ◌++◌, refl, ap, ◌∙◌}
+use Rattle.std.proofs.lemmas.Bool.{eqb-true}
 use Rattle.agreement.specs.State.{Block, start}
 use Rattle.agreement.specs.Event.{Event, after, run, state_after, IsRun}
 use Rattle.agreement.specs.Event.Event.{Crashes, Stops}
@@ -67,3 +68,12 @@ input_in j k (e ∷ events) v input = go (j == k) (input_in j k events v) input
     go true rest (inl puts) = inl puts
     go true rest (inr later) = inr (rest later)
     go false rest later = inr (rest later)
+
+-- and it is of that slot
+pub slot_in : (j k : ℕ) (events : List (Event (List ℕ))) (v : List ℕ) → IsInput (events_of_slot j (in_slot k events)) v → j ≡ k
+slot_in j k [] v input = absurd input
+slot_in j k (e ∷ events) v input = go (j == k) refl (slot_in j k events v) input
+  where
+    go : (b : Bool) → (j == k) ≡ b → (IsInput (events_of_slot j (in_slot k events)) v → j ≡ k) → IsInput (cond b (e ∷ []) [] ++ events_of_slot j (in_slot k events)) v → j ≡ k
+    go true is rest input = eqb-true j k is
+    go false is rest later = rest later

@@ -9,12 +9,12 @@ use Rattle.world.proofs.Runs.{each}
 use Rattle.world_safety.specs.Next.{next_world}
 use Rattle.world_safety.proofs.Runs.Worlds.{world_next}
 
-take_next : {A : Type 0} (l : List A) (i : ℕ) (x : A) → slice_get l i ≡ Some x → take (suc i) l ≡ take i l ++ x ∷ []
+pub take_next : {A : Type 0} (l : List A) (i : ℕ) (x : A) → slice_get l i ≡ Some x → take (suc i) l ≡ take i l ++ x ∷ []
 take_next [] i x is = absurd (cc)
 take_next (y ∷ l) zero x is = let same : y ≡ x = cc in ap (λ z. z ∷ []) same
 take_next (y ∷ l) (suc i) x is = ap (λ z. y ∷ z) (take_next l i x is)
 
-take_end : {A : Type 0} (l : List A) (i : ℕ) → slice_get l i ≡ None → take (suc i) l ≡ take i l
+pub take_end : {A : Type 0} (l : List A) (i : ℕ) → slice_get l i ≡ None → take (suc i) l ≡ take i l
 take_end [] zero is = refl
 take_end [] (suc i) is = refl
 take_end (y ∷ l) zero is = absurd (cc)

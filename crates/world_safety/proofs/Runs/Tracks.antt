@@ -1,6 +1,6 @@
 -- The machines at each place of a run, and what is chosen there.
 use Rattle.std.specs.Prelude.{slice_get, ◌-◌}
-use Rattle.std.proofs.Common.{ℕ, zero, suc, ◌+◌, ◌≤◌, ◌≡◌, inl, inr, Option, Some, None, List, [], ◌∷◌, ◌++◌, append-nil, append_assoc, refl, sym, subst, ap, ◌∙◌, arith}
+use Rattle.std.proofs.Common.{ℕ, zero, suc, ◌+◌, ◌<◌, ◌≤◌, ◌≡◌, inl, inr, Option, Some, None, List, [], ◌∷◌, ◌++◌, append-nil, append_assoc, refl, sym, subst, ap, ◌∙◌, arith}
 use Rattle.disk.specs.Steps.{shape_fresh}
 use Rattle.paxos_block.specs.Places.{image_length}
 use Rattle.attempt.specs.Answers.{Answered, on, heard_as}
@@ -176,8 +176,8 @@ module _ (c : Shape) (log : List Filled) (run : IsRun c log) where
   input_is Recovering v is = absurd (cc)
 
   -- what a host puts in was submitted
-  put_before : (i : ℕ) (e : Filled) (v : List ℕ) → IsInputAt (at c log i) e v → IsSubmittedBefore log i v
-  put_before i e v put =
+  put_before : (i j : ℕ) (e : Filled) (v : List ℕ) → IsInputAt c (at c log i) j e v → IsSubmittedBefore log i v
+  put_before i j e v put =
       let by = input_is put.doing.operation v put.input in
       let known : IsTrue c log i put.host put.memory = subst (IsTrueOf c log i put.host) put.running (all_true c log run i put.host) in
       let submitted = known.begun put.doing put.does by.0 by.1 in
@@ -196,7 +196,7 @@ module _ (c : Shape) (log : List Filled) (run : IsRun c log) where
       let step = step_at i e is in
       elim (input_append (events_of_slot j (moves_at i)) (events_of_slot j step.goes.more) v (subst (λ (es : List (Event (List ℕ))). IsInput es v) (ap (events_of_slot j) step.is ∙ events_append j (moves_at i) step.goes.more) input)) [
         | inl old ↦ before old
-        | inr new ↦ put_before i e v (step.goes.inputs j v new)
+        | inr new ↦ put_before i j e v (step.goes.inputs j v new)
       ]
 
   nothing_more : (i : ℕ) → slice_get log i ≡ None → moves_at (suc i) ≡ moves_at i
@@ -222,3 +222,36 @@ module _ (c : Shape) (log : List Filled) (run : IsRun c log) where
       let events = events_of_slot slot (moves_at (suc i)) in
       let put = only_inputs c.disks events (machine_runs c.disks (moves_at (suc i)) slot (tied_at (suc i)).history) chosen.0 v chosen.1.proposed in
       inputs_next i slot v (all_submitted i slot v) _ is.hears.entry put
+
+  -- WHO PUT IT IN
+
+  -- at an entry before place i its host put the value in, in this slot
+  pub record IsPutBefore (i slot : ℕ) (v : List ℕ) : Type 0 where
+    pub place : ℕ
+    pub before : place < i
+    pub entry : Filled
+    pub is : slice_get log place ≡ Some entry
+    pub put : IsInputAt c (at c log place) slot entry v
+
+  later_put : (i slot : ℕ) (v : List ℕ) → IsPutBefore i slot v → IsPutBefore (suc i) slot v
+  later_put i slot v is = record { place = is.place; before = (let b = is.before in omega arith); entry = is.entry; is = is.is; put = is.put }
+
+  put_next : (i j : ℕ) (v : List ℕ) → (IsInput (events_of_slot j (moves_at i)) v → IsPutBefore i j v) → (o : Option Filled) → slice_get log i ≡ o → IsInput (events_of_slot j (moves_at (suc i))) v → IsPutBefore (suc i) j v
+  put_next i j v before None is input = later_put i j v (before (subst (λ (l : Moves). IsInput (events_of_slot j l) v) (nothing_more i is) input))
+  put_next i j v before (Some e) is input =
+      let step = step_at i e is in
+      elim (input_append (events_of_slot j (moves_at i)) (events_of_slot j step.goes.more) v (subst (λ (es : List (Event (List ℕ))). IsInput es v) (ap (events_of_slot j) step.is ∙ events_append j (moves_at i) step.goes.more) input)) [
+        | inl old ↦ later_put i j v (before old)
+        | inr new ↦ record { place = i; before = omega arith; entry = e; is = is; put = step.goes.inputs j v new }
+      ]
+
+  all_put : (i j : ℕ) (v : List ℕ) → IsInput (events_of_slot j (moves_at i)) v → IsPutBefore i j v
+  all_put zero j v input = absurd (no_first j v input)
+  all_put (suc i) j v input = put_next i j v (all_put i j v) (slice_get log i) refl input
+
+  -- what is chosen with an entry was put in by then
+  pub put_by_then : (i slot : ℕ) (v : List ℕ) → IsChosenAt c log i slot v → IsPutBefore (suc i) slot v
+  put_by_then i slot v is =
+      let chosen = chosen_then i slot v is in
+      let events = events_of_slot slot (moves_at (suc i)) in
+      all_put (suc i) slot v (only_inputs c.disks events (machine_runs c.disks (moves_at (suc i)) slot (tied_at (suc i)).history) chosen.0 v chosen.1.proposed)
