@@ -23,7 +23,7 @@ use Rattle.attempt_safety.specs.Machine.{Machine, vote_said, mind_in, write_in}
 use Rattle.attempt_safety.specs.Follows.{StandsIn, Agrees, Follows}
 use Rattle.attempt_safety.specs.Registers.{IsNext}
 use Rattle.attempt_safety.proofs.Stages.{writing}
-use Rattle.attempt_safety.proofs.Answering.{may_begin}
+use Rattle.attempt_safety.proofs.Writes.{may_begin}
 use Rattle.attempt_safety.proofs.Turning.{none_over}
 
 -- one event more

@@ -21,7 +21,7 @@ use Rattle.agreement.specs.Chosen.{IsProposed, IsChosenBy}
 use Rattle.agreement.proofs.Runs.{holds_reached}
 use Rattle.agreement.proofs.Agreeing.{telling, commits_chosen}
 use Rattle.attempt_safety.specs.Leads.{Leads}
-use Rattle.attempt_safety.proofs.Answering.{some_of}
+use Rattle.attempt_safety.proofs.Writes.{some_of}
 
 module _ (s : Setup) (heard : List Answered) (value : List ℕ) (history : IsHistory s heard) (is : HasChosen s value (on heard)) where
   reached : IsReached s (on heard)

@@ -39,7 +39,8 @@ use Rattle.attempt_safety.specs.Leads.{IsOfAttempt, LeavesOthers, OwnBlock, Lead
 use Rattle.attempt_safety.proofs.Stands.{mind_same}
 use Rattle.attempt_safety.proofs.Cells.{leaves_same, leaves_then}
 use Rattle.attempt_safety.proofs.Answering.{Moves, IsFaster, answered}
-use Rattle.attempt_safety.proofs.Turning.{Turns, Accepted, commits_by, not_yet, knows_two, turn}
+use Rattle.attempt_safety.proofs.Accepting.{Accepted, commits_by, not_yet}
+use Rattle.attempt_safety.proofs.Turning.{Turns, knows_two, turn}
 
 -- with an answer the machine m has come to n, which agrees with the attempt
 pub record Goes (s : Setup) (f : Answers) (d : ℕ) (x : Heard) (g : Answers) (m n : Machine) : Type 0 where

@@ -1,3 +1,4 @@
+pub mod Accepting
 pub mod Agreeing
 pub mod Answering
 pub mod Beginning
@@ -11,3 +12,4 @@ pub mod Slotting
 pub mod Stages
 pub mod Stands
 pub mod Turning
+pub mod Writes

@@ -1,18 +1,18 @@
 -- What follows an answer: the attempt goes on, comes to its next phase, or ends; and so does the machine.
 use Rattle.std.specs.List.{All}
 use Rattle.std.proofs.Common.{ℕ, ◌<◌, ◌≤◌, ◌≡◌, ◌≢◌, inl, inr, true, Option, Some, None, List, [], ◌∷◌, length, refl, sym, subst, ap, ◌∙◌, arith}
-use Rattle.std.proofs.lemmas.Bool.{cases_lt, cases_Bool, both_ways, eq-eqb}
+use Rattle.std.proofs.lemmas.Bool.{eq-eqb}
 use Rattle.std.proofs.lemmas.List.Elements.{All-nil, All-cons}
 use Rattle.torn_block.specs.declared.layout.TheConstants.{HOSTS}
 use Rattle.paxos_block.proofs.VoteLemmas.{above, owned}
 use Rattle.attempt.specs.Calls.{Phase, Opening, One, Two, start, goal}
-use Rattle.attempt.specs.Answers.{Answers, all_good, row_in}
+use Rattle.attempt.specs.Answers.{Answers}
 use Rattle.attempt.specs.Setup.{Setup}
 use Rattle.attempt.specs.Visits.{takes_part, visited, is_left, are_enough}
 use Rattle.attempt.specs.Proposal.{highest, ballot, own, best, or_else, proposal}
 use Rattle.attempt.specs.Standing.{IsIn, HasBallot}
 use Rattle.attempt.specs.Status.{Status, Due, Ended, Committed, Empty, Outrun, NoMajority, BallotsSpent}
-use Rattle.attempt.specs.Chosen.{accepts_in, accepts, Chooses}
+use Rattle.attempt.specs.Chosen.{Chooses}
 use Rattle.attempt.specs.Prepared.{Proposes}
 use Rattle.attempt.proofs.Lists.{row_none}
 use Rattle.attempt.proofs.Rows.{best_none}
@@ -30,6 +30,7 @@ use Rattle.agreement.proofs.Puts.{put_same, put_other, all_put}
 use Rattle.attempt_safety.specs.Machine.{Machine, stage_at, top, opened, asking, mind_in}
 use Rattle.attempt_safety.specs.Follows.{StandsIn, Agrees}
 use Rattle.attempt_safety.specs.Leads.{IsOfAttempt}
+use Rattle.attempt_safety.proofs.Accepting.{commits_by, not_yet}
 use Rattle.attempt_safety.proofs.Counting.{majority_more, enough_one}
 
 -- THE TURN
@@ -60,49 +61,6 @@ or_input (Some found) input value v is none same = absurd (cc)
 or_none : (found input : Option (List ℕ)) → or_else found input ≡ None → found ≡ None
 or_none None input is = refl
 or_none (Some found) input is = absurd (cc)
-
-module _ (s : Setup) (g : Answers) (disk : (e : ℕ) → IsDisk (g e)) where
-  -- a disk that accepts the ballot has given all its answers, good ones
-  pub record Accepted (e : ℕ) : Type 0 where
-    pub good : all_good (g e) ≡ true
-    pub all : 17 ≤ length (g e)
-
-  accepted : (e : ℕ) → length (g e) ≤ 17 → accepts s g e ≡ true → Accepted e
-  accepted e most is =
-      record {
-        good = elim (cases_Bool (all_good (g e))) [
-          | inl good ↦ good
-          | inr bad ↦ absurd (no_row ((disk e).unread Two bad most))
-        ];
-        all = elim (cases_lt (length (g e)) 17) [
-          | inl short ↦ absurd (no_row (row_none Two (g e) short))
-          | inr all ↦ all
-        ];
-      }
-    where
-      no_row : row_in Two (g e) ≡ None → ⊥
-      no_row none = both_ways (accepts s g e) (ap (accepts_in s.host (ballot s g)) none) is
-
-  module _ (m : Machine) where
-    -- in phase 2, where the machine has come as far on each disk that accepts
-    pub commits_by : (behind : (e : ℕ) → length (g e) ≤ 17) → m.mind s.host ≡ mind_in s Two g
-        → ((e : ℕ) → e < s.disks → Accepted e → accepts s g e ≡ true → (m.cell s.host e).stage ≡ read_two)
-        → (value : List ℕ) → Chooses s g value → IsCommitted s.disks m s.host (ballot s g) value
-    commits_by behind knows stages value chooses =
-        let is = chooses.proposes.is in
-        let mind : mind_in s Two g ≡ TwoMind (record { ballot = ballot s g; value = value }) = rw is refl in
-        record {
-          proposing = knows ∙ mind;
-          majority = majority_more s (accepts s g) (is_at read_two (m.cell s.host))
-              (λ e l is. eq-eqb (m.cell s.host e).stage read_two (stages e l (accepted e (behind e) is) is)) chooses.majority;
-        }
-
-    -- before phase 2 nothing is chosen
-    pub not_yet : ((e : ℕ) → length (g e) < 17) → (value : List ℕ) → ¬ Chooses s g value
-    not_yet short value chooses =
-        let one = enough_one s (accepts s g) chooses.majority in
-        let all = (accepted one.disk (let l = short one.disk in omega arith) one.passes).all in
-        let l = short one.disk in absurd (omega arith)
 
 -- THE END OF A PHASE
 
