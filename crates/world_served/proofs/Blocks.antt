@@ -1,0 +1,76 @@
+-- A call within one block leaves the bytes of the others, and so what a row shows of them.
+use Rattle.std.specs.Prelude.{if◌then◌else◌}
+use Rattle.std.specs.List.{list_any}
+use Rattle.std.proofs.Common.{ℕ, zero, suc, ◌<◌, ◌≤◌, ◌≡◌, ◌≢◌, inl, inr, Bool, true, false, Some, None, List, [], ◌∷◌, length, refl, sym, ap, ◌∙◌, arith}
+use Rattle.std.proofs.lemmas.Bool.{cases_lt}
+use Rattle.std.proofs.lemmas.List.FromFn.{get_or-map-range_with_len}
+use Rattle.disk.specs.Disk.{DiskState, Call, Answer, Step, put_at}
+use Rattle.disk.specs.Crash.{length-put, put-below, put-above}
+use Rattle.disk.specs.Steps.{step_keeps}
+use Rattle.torn_block.specs.declared.layout.TheConstants.{HOSTS}
+use Rattle.torn_block.specs.Damage.{block_of}
+use Rattle.torn_block.specs.Place.{block_in, block_elsewhere}
+use Rattle.torn_block.specs.Register.{LiesOn}
+use Rattle.torn_block.specs.RegisterLaws.{ranges}
+use Rattle.paxos_block.specs.declared.block.PBlock.{PBlock}
+use Rattle.paxos_block.specs.Places.{Spot, VoteOf, place_of, IsSpot, IsImage, IsWithin, row_of}
+use Rattle.paxos_block.specs.Row.{SeenBlock, blank_seen, hosts, is_damaged_block, seen_in, seen_at, row_seen, row_said}
+use Rattle.paxos_block.specs.Votes.{says_in}
+use Rattle.paxos_block.proofs.PlaceLemmas.{spot_fits, writes_on, leaves_other, block_of-row_of}
+
+pub block_kept : (slots : ℕ) (mine other : Spot) (disk new : DiskState) (call : Call) (answer : Answer) → IsSpot slots mine → IsSpot slots other → mine ≢ other → IsImage slots disk → IsWithin mine call → Step disk call answer new
+    → block_in (place_of other) new.bytes ≡ block_in (place_of other) disk.bytes
+block_kept slots mine other disk new call answer is_mine is_other differ image within step =
+    let lies : LiesOn (place_of other) disk = omega (arith, spot_fits slots other is_other, image.long) in
+    let fits = writes_on slots mine is_mine disk image call within in
+    let leaves = leaves_other slots mine is_mine disk image other is_other differ call within in
+    step_keeps (λ (d : DiskState). block_in (place_of other) d.bytes ≡ block_in (place_of other) disk.bytes) disk new call answer
+    (record {
+      writes = λ boot at from left is as_many.
+          (let range = ranges (place_of other) disk image.whole lies call answer new fits leaves step boot at from left is as_many in
+          block_elsewhere (place_of other) at (length left) disk.bytes (put_at disk.bytes at left) lies
+          (record { as_many = length-put disk.bytes at left range.0 0; below = put-below disk.bytes at left range.0 0; above = put-above disk.bytes at left range.0 0 })
+          range.1);
+      syncs = refl;
+      stays = refl;
+    })
+    step
+
+-- A ROW
+
+-- a sound row is its blocks
+pub row_is_seen : (bytes : List ℕ) (row : List SeenBlock) → row_said bytes ≡ Some row → row ≡ row_seen bytes
+unfolding row_said
+row_is_seen bytes row is = go (list_any (λ host. is_damaged_block host (block_of host bytes)) hosts) is
+  where
+    go : (b : Bool) → (if b then None else Some (row_seen bytes)) ≡ Some row → row ≡ row_seen bytes
+    go true is = absurd (cc)
+    go false is = (let same : row_seen bytes ≡ row = cc in sym same)
+
+seen_at-row_seen : (bytes : List ℕ) (host : ℕ) → host < HOSTS → seen_at (row_seen bytes) host ≡ seen_in (block_of host bytes)
+seen_at-row_seen bytes host below = get_or-map-range_with_len (λ h. seen_in (block_of h bytes)) 0 HOSTS host host blank_seen below (omega arith)
+
+-- of a host that there is not it shows a blank block
+beyond : (row : List SeenBlock) (g : ℕ) → length row ≤ g → seen_at row g ≡ blank_seen
+beyond [] g long = refl
+beyond (x ∷ row) zero long = absurd (omega arith)
+beyond (x ∷ row) (suc g) long = beyond row g (omega arith)
+
+-- what the row of a slot would show of a host now
+abbrev pub shown : DiskState → ℕ → ℕ → PBlock
+shown disk slot g = says_in (row_seen (row_of slot disk.bytes)) g
+
+pub shown_kept : (slots slot host g : ℕ) (disk new : DiskState) (call : Call) (answer : Answer) → slot < slots → host < HOSTS → g ≢ host → IsImage slots disk → IsWithin (VoteOf slot host) call → Step disk call answer new
+    → shown new slot g ≡ shown disk slot g
+shown_kept slots slot host g disk new call answer slot_below host_below off image within step =
+    elim (cases_lt g HOSTS) [
+      | inl below ↦
+          ap (λ (b : SeenBlock). b.says)
+          (seen_at-row_seen (row_of slot new.bytes) g below
+          ∙ ap seen_in
+          (block_of-row_of slot g new.bytes below
+          ∙ block_kept slots (VoteOf slot host) (VoteOf slot g) disk new call answer (slot_below, host_below) (slot_below, below) (λ same. off (let one : host ≡ g = cc in sym one)) image within step
+          ∙ sym (block_of-row_of slot g disk.bytes below))
+          ∙ sym (seen_at-row_seen (row_of slot disk.bytes) g below))
+      | inr over ↦ ap (λ (b : SeenBlock). b.says) (beyond (row_seen (row_of slot new.bytes)) g over ∙ sym (beyond (row_seen (row_of slot disk.bytes)) g over))
+    ]

@@ -1,0 +1,112 @@
+-- What an entry leaves of the rows that an attempt has read: of the attempt's own call, and of whatever else may happen meanwhile.
+use Rattle.std.specs.Prelude.{cond, slice_get}
+use Rattle.std.proofs.Common.{ℕ, ◌<◌, ◌≡◌, ◌≢◌, ◌==◌, Bool, true, false, Some, List, [], ◌∷◌, ◌++◌, length, refl, sym, subst, ap, arith}
+use Rattle.std.proofs.lemmas.Bool.{both_ways, eq-eqb, ne_eqb}
+use Rattle.disk.specs.Disk.{DiskState, Call, Answer, Step}
+use Rattle.attempt.specs.Answers.{Answered, Answers, on, heard_as}
+use Rattle.attempt.specs.Setup.{Setup}
+use Rattle.attempt.specs.NextCall.{call_by}
+use Rattle.attempt.proofs.More.{on_more, by_disk}
+use Rattle.slot_log.specs.Shape.{Shape}
+use Rattle.host.specs.Host.{Doing, Memory, Running, setup_of, next_of}
+use Rattle.world.specs.Entry.{Filled, Start, Stop, Submit, Recover, Called, Torn, Crashed, Lost, is_on, is_of, disk_step}
+use Rattle.world.specs.World.{World}
+use Rattle.world_safety.specs.Tied.{Moves, IsTrying, IsDoing, IsRunning, HostAt, Tied}
+use Rattle.world_safety.proofs.Blocks.Owning.{boot_kept}
+use Rattle.world_safety.proofs.Blocks.Settled.{current, row_is}
+use Rattle.world_safety.proofs.Moves.Due.{Due, due_of}
+use Rattle.world_served.specs.Alone.{IsAlone}
+use Rattle.world_served.proofs.Blocks.{shown_kept}
+use Rattle.world_served.proofs.Resting.{RestsOn, Rests, rests_on, rests_more}
+
+-- no call is made, and no write is torn
+abbrev pub IsNoCall : Filled → Type 0
+IsNoCall (Called g d call answer left) = ⊥
+IsNoCall (Torn g d call left) = ⊥
+IsNoCall other = Unit {0}
+
+-- so it is of the others while a host is alone
+pub no_others_call : (log : List Filled) (i j host : ℕ) → IsAlone log i j host → (k : ℕ) → i < k → k < j → (e : Filled) → slice_get log k ≡ Some e → is_of host e ≡ false → IsNoCall e
+no_others_call log i j host alone k behind before (Start g) is off = tt
+no_others_call log i j host alone k behind before (Stop g) is off = tt
+no_others_call log i j host alone k behind before (Submit g other n) is off = tt
+no_others_call log i j host alone k behind before (Recover g n) is off = tt
+no_others_call log i j host alone k behind before (Called g d call answer left) is off = both_ways (g == host) off (eq-eqb g host (alone.calls k g d call answer left behind before is))
+no_others_call log i j host alone k behind before (Torn g d call left) is off = alone.tears k g d call left behind before is
+no_others_call log i j host alone k behind before (Crashed d left) is off = tt
+no_others_call log i j host alone k behind before (Lost d) is off = tt
+
+module _ (c : Shape) (w : World) (ms : Moves) (tied : Tied c w ms) (h : ℕ) (m : Memory) (t : Doing) (running : w.host h ≡ Running m) (does : m.doing ≡ Some t) where
+  abbrev s : Setup
+  s = setup_of c h m t.operation
+
+  abbrev f : Answers
+  f = on t.heard
+
+  abbrev slot : ℕ
+  slot = length m.learned
+
+  runs : IsRunning c w ms h m
+  runs = subst (HostAt c w ms h) running (tied.hosts h)
+
+  trying : IsTrying c w ms h m t
+  trying = subst (IsDoing c w ms h m) does runs.doing
+
+  -- AN ANSWER
+
+  module _ (k : ℕ) (call : Call) (answer : Answer) (left : List ℕ) (next : next_of c h (w.host h) ≡ Some (k, call)) (step : Step (w.disk k) call answer (disk_step (w.disk k) (Called h k call answer left))) where
+    abbrev x : Answered
+    x = record { disk = k; heard = heard_as answer }
+
+    abbrev e : Filled
+    e = Called h k call answer left
+
+    abbrev new : DiskState
+    new = disk_step (w.disk k) e
+
+    abbrev disks : ℕ → DiskState
+    disks d = cond (is_on d e) (disk_step (w.disk d) e) (w.disk d)
+
+    known : Due c w ms h k call answer left m t (record { tied = tied; running = running; does = does; next = next; step = step })
+    known = due_of c w ms h k call answer left m t (record { tied = tied; running = running; does = does; next = next; step = step })
+
+    open known use {is, step_by, reached, waiting, inside}
+
+    here : RestsOn h slot (w.disk k) (f k) → RestsOn h slot new (f k ++ heard_as answer ∷ [])
+    here before =
+        rests_more h slot (w.disk k) new (f k) (heard_as answer) (reached.disk k) waiting.part.good (boot_kept (w.disk k) new (call_by s k f is.kind) answer step_by)
+        (λ g off. shown_kept c.slots slot h g (w.disk k) new (call_by s k f is.kind) answer trying.fits runs.below off (tied.images k) inside step_by)
+        (λ row tells. (current s f k (w.disk k) new answer is.kind waiting.part.good is.kind_is is.fits step_by row tells runs.below, row_is s f k (w.disk k) new answer is.kind waiting.part.good is.kind_is is.fits step_by row tells runs.below))
+        before
+
+    on_here : disks k ≡ new
+    on_here = ap (λ (b : Bool). cond b new (w.disk k)) (eq-eqb k k refl)
+
+    on_there : (d : ℕ) → d ≢ k → disks d ≡ w.disk d
+    on_there d off = ap (λ (b : Bool). cond b (disk_step (w.disk d) e) (w.disk d)) (ne_eqb k d (λ same. off (sym same)))
+
+    pub rests_then : Rests h slot w.disk f → Rests h slot disks (on (t.heard ++ x ∷ []))
+    rests_then before =
+        subst (λ (g : Answers). Rests h slot disks g) (sym (on_more t.heard x))
+        (by_disk f k (heard_as answer) (λ d a. RestsOn h slot (disks d) a) (subst (λ (disk : DiskState). RestsOn h slot disk (f k ++ heard_as answer ∷ [])) (sym on_here) (here (before k)))
+        (λ d off. subst (λ (disk : DiskState). RestsOn h slot disk (f d)) (sym (on_there d off)) (before d)))
+
+  -- WHAT ELSE MAY HAPPEN
+
+  pub rests_still : (e : Filled) → IsNoCall e → Rests h slot w.disk f → Rests h slot (λ d. cond (is_on d e) (disk_step (w.disk d) e) (w.disk d)) f
+  rests_still (Start g) quiet before d = before d
+  rests_still (Stop g) quiet before d = before d
+  rests_still (Submit g command tries) quiet before d = before d
+  rests_still (Recover g tries) quiet before d = before d
+  rests_still (Called g k call answer left) quiet before d = absurd quiet
+  rests_still (Torn g k call left) quiet before d = absurd quiet
+  rests_still (Crashed k left) quiet before d = go (k == d)
+    where
+      go : (b : Bool) → RestsOn h slot (cond b (disk_step (w.disk d) (Crashed k left)) (w.disk d)) (f d)
+      go true = rests_on h slot (w.disk d) (disk_step (w.disk d) (Crashed k left)) (f d) (λ current. absurd (let known = (trying.knows d).boot in let now = current.boot in omega arith)) (before d)
+      go false = before d
+  rests_still (Lost k) quiet before d = go (k == d)
+    where
+      go : (b : Bool) → RestsOn h slot (cond b (disk_step (w.disk d) (Lost k)) (w.disk d)) (f d)
+      go true = rests_on h slot (w.disk d) (disk_step (w.disk d) (Lost k)) (f d) (λ current. (record { good = current.good; boot = current.boot }, λ g off. refl)) (before d)
+      go false = before d

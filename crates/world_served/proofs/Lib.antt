@@ -1,0 +1,11 @@
+pub mod Answered
+pub mod Attempting
+pub mod Blocks
+pub mod Counting
+pub mod Hearing
+pub mod Learning
+pub mod Playing
+pub mod Reaching
+pub mod Resting
+pub mod Serving
+pub mod Submissions

@@ -1,0 +1,32 @@
+-- When a host is left alone by the others, and answered by most disks.
+use Rattle.std.specs.Prelude.{◌≡◌, ◌&&◌, ◌<◌, ℕ, true, false, List, slice_get, Some}
+use Rattle.disk.specs.Disk.{Call, Answer}
+use Rattle.attempt.specs.Answers.{Answered, Answers, on, all_good}
+use Rattle.attempt.specs.Calls.{Phase}
+use Rattle.attempt.specs.Laws.{OnMost}
+use Rattle.attempt.specs.Setup.{Setup}
+use Rattle.attempt.specs.Standing.{IsIn}
+use Rattle.attempt.specs.Visits.{is_stuck, is_past, visited}
+use Rattle.slot_log.specs.Shape.{Shape}
+use Rattle.world.specs.Entry.{Filled, Called, Torn, is_of}
+use Rattle.world.specs.Chosen.{Hears, IsCallOf}
+
+-- Behind entry i and before entry j no other host makes a call, and none is stopped within a write; this host makes calls alone. Others may start,
+-- stop and begin operations meanwhile, and disks may crash and be lost.
+pub record IsAlone (log : List Filled) (i j host : ℕ) : Type 0 where
+  pub calls : (k g d : ℕ) (call : Call) (answer : Answer) (left : List ℕ) → i < k → k < j → slice_get log k ≡ Some (Called g d call answer left) → g ≡ host
+  pub tears : (k g d : ℕ) (call : Call) (left : List ℕ) → i < k → k < j → slice_get log k ≡ Some (Torn g d call left) → ⊥
+  pub goes_on : (k : ℕ) (e : Filled) → i < k → k < j → slice_get log k ≡ Some e → is_of host e ≡ true → IsCallOf host e
+
+-- The disk gave no fault and no damaged row; and in no phase that the attempt came to was a write due there to a spent block.
+pub record AnswersEach (s : Setup) (f : Answers) (d : ℕ) : Type 0 where
+  pub good : all_good (f d) ≡ true
+  pub unspent : (p : Phase) → IsIn s p f → (is_stuck s p (f d) && is_past (visited s p f) d) ≡ false
+
+-- so it is on more than half of the disks
+abbrev pub MostAnswerEach : Setup → Answers → Type 0
+MostAnswerEach s f = OnMost s (AnswersEach s f)
+
+-- and in each attempt of the host meanwhile, as far as it has come
+abbrev pub IsAnsweredWell : Shape → List Filled → (i j host : ℕ) → Type 0
+IsAnsweredWell c log i j host = (k : ℕ) (s : Setup) (heard : List Answered) (hears : Hears c log k s heard) → i < k → k < j → hears.host ≡ host → MostAnswerEach s (on heard)

@@ -1,0 +1,4 @@
+pub mod Alone
+pub mod Attempts
+pub mod Reached
+pub mod Served

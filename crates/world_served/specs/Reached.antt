@@ -1,0 +1,29 @@
+-- A submission that is left alone and takes as many calls as it may.
+use Rattle.std.specs.Prelude.{ℕ, zero, suc, Bool, false, List, [], ◌∷◌}
+use Rattle.lock_modes.specs.declared.mode.Mode.TheVariants.{Exclusive}
+use Rattle.lock_command.specs.declared.command.Command.{Command}
+use Rattle.lock_command.specs.declared.command.Action.TheVariants.{Enqueue}
+use Rattle.slot_log.specs.Shape.{Shape}
+use Rattle.world.specs.Entry.{Filled}
+use Rattle.world.specs.Happens.{Event, Start, Submit, Step, run}
+
+-- one disk, and room for four commands
+abbrev pub one_disk : Shape
+one_disk = record { disks = 1; slots = 4 }
+
+-- through host 0 client 1 asks for lock 1 on db, exclusively
+abbrev pub first_command : Command
+first_command = record { host = 0; client = 1; request = 1; action = Enqueue 1 (100 ∷ 98 ∷ []) Exclusive false }
+
+-- so many device calls of host 0
+unfoldable pub steps : ℕ → List Event
+steps zero = []
+steps (suc n) = Step 0 ∷ steps n
+
+-- host 0 starts, submits the command with one try, and makes seventeen calls
+unfoldable pub first_submission : List Filled
+first_submission = run one_disk (Start 0 ∷ Submit 0 first_command 1 ∷ steps 17)
+
+-- no slot is open
+abbrev pub none_open : ℕ → Bool
+none_open slot = false
