@@ -1,56 +1,38 @@
 -- An answer to a device call: the events of the attempt, and where all stands behind them.
-use Rattle.std.specs.Prelude.{map, nat_le, ◌&&◌}
+use Rattle.std.specs.Prelude.{map}
 use Rattle.std.specs.List.{All}
-use Rattle.std.proofs.Common.{ℕ, ◌<◌, ◌≡◌, ◌≢◌, ◌==◌, inl, inr, Bool, false, cond, Some, None, List, [], ◌∷◌, ◌++◌, length, append_assoc, refl, sym, subst, ap, ◌∙◌}
-use Rattle.std.proofs.lemmas.Bool.{eq-eqb}
+use Rattle.std.proofs.Common.{ℕ, ◌≡◌, ◌==◌, inl, inr, cond, Some, List, [], ◌∷◌, ◌++◌, length, append_assoc, sym, subst, ap, ◌∙◌}
 use Rattle.std.proofs.lemmas.List.{length-map}
 use Rattle.std.proofs.lemmas.List.Elements.{All-head, All-tail}
 use Rattle.disk.specs.Disk.{DiskState, Call, Answer}
-use Rattle.torn_block.specs.declared.layout.TheConstants.{HOSTS, LAST_SEQUENCE}
-use Rattle.torn_block.specs.declared.write_steps.WriteCall.TheVariants.{CloseGate}
-use Rattle.paxos_block.specs.Places.{VoteOf, place_of, IsImage}
-use Rattle.attempt.specs.Calls.{Putting, start}
-use Rattle.attempt.specs.Answers.{Answered, Answers, on, heard_as, more, last_row, block_in as seen_block}
+use Rattle.attempt.specs.Answers.{Answered, Answers, on, heard_as, more}
 use Rattle.attempt.specs.Prepared.{Proposes}
 use Rattle.attempt.specs.Setup.{Setup}
-use Rattle.attempt.specs.NextCall.{call_by}
-use Rattle.attempt.proofs.Histories.{behind_due}
-use Rattle.attempt.proofs.Lists.{by_eq}
 use Rattle.attempt.proofs.More.{on_more, by_disk}
 use Rattle.lock_command.specs.Command.{spelling}
 use Rattle.slot_log.specs.Shape.{Shape}
-use Rattle.host.specs.Host.{Doing, Memory, input_of, setup_of}
+use Rattle.host.specs.Host.{Doing, Memory, setup_of}
 use Rattle.world.specs.Entry.{Filled, Called, disk_step}
 use Rattle.world.specs.World.{World}
-use Rattle.agreement.specs.State.{Cell, start as beginning}
-use Rattle.agreement.specs.Event.{Event, Allowed, after, state_after}
-use Rattle.agreement.specs.Event.Event.{Begins}
+use Rattle.agreement.specs.Event.{Event, state_after}
 use Rattle.agreement.specs.Chosen.{IsInput}
 use Rattle.agreement.specs.Log.{IsHistory, slots_after, events_of_slot}
-use Rattle.agreement.proofs.Steps.{may_late}
-use Rattle.attempt_safety.specs.Machine.{Machine, write_in}
+use Rattle.attempt_safety.specs.Machine.{Machine}
 use Rattle.attempt_safety.specs.Follows.{Follows}
-use Rattle.attempt_safety.specs.Registers.{IsNext}
 use Rattle.attempt_safety.specs.Leads.{IsOfAttempt, Arrives, Leads}
 use Rattle.attempt_safety.specs.Slots.{in_slot}
-use Rattle.attempt_safety.proofs.Beginning.{write_begins}
 use Rattle.attempt_safety.proofs.Choosing.{chosen as chosen_by, proposed as proposed_by}
 use Rattle.attempt_safety.proofs.Following.{leads}
 use Rattle.attempt_safety.proofs.Slotting.{events_append, moves_on, events_here, learned_same}
-use Rattle.world_safety.specs.Blocks.{Stands}
 use Rattle.world_safety.specs.Goes.{Carries}
 use Rattle.world_safety.specs.Knows.{Knows}
 use Rattle.world_safety.specs.Tied.{Moves, machine, TiedBut}
 use Rattle.attempt.specs.Votes.{TellsVotes}
-use Rattle.attempt.proofs.Calls.{first_number}
 use Rattle.world_safety.proofs.Moves.Due.{IsCall, Due, due_of}
 use Rattle.world_safety.proofs.Moves.Settling.{Ready, ready}
 use Rattle.world_safety.proofs.Moves.Changing.{Changes, but_then, known_then}
-use Rattle.world_safety.proofs.Blocks.Keeping.{Spares, spares_others, spares_same, knows_elsewhere}
 use Rattle.world_safety.proofs.Moves.Machines.{machine_runs, input_append, input_in, slot_in}
-use Rattle.world_safety.proofs.Moves.OneBlock.{with_disks, IsOther, other_blocks, other_hosts, but_one}
-use Rattle.world_safety.proofs.Blocks.Owned.{After}
-use Rattle.world_safety.proofs.Blocks.Putting.{own_after}
+use Rattle.world_safety.proofs.Moves.OneBlock.{with_disks}
 use Rattle.attempt.proofs.Votes.{votes_more}
 
 -- the value is the attempt's own, and the attempt now proposes it in its slot

@@ -1,5 +1,4 @@
 -- A write that is torn: its host hears no answer, so the machine makes the event of the call alone, and puts nothing in.
-use Rattle.std.specs.Prelude.{map}
 use Rattle.std.proofs.Common.{ℕ, ◌≡◌, ◌==◌, ◌⊎◌, inl, inr, cond, Some, List, ◌++◌, length, append_assoc, sym, subst, ap, ◌∙◌}
 use Rattle.std.proofs.lemmas.List.{length-map}
 use Rattle.disk.specs.Disk.{DiskState, Call, Answer}
@@ -15,7 +14,7 @@ use Rattle.world.specs.World.{World}
 use Rattle.agreement.specs.Event as agreement
 use Rattle.agreement.specs.Event.{Event}
 use Rattle.agreement.specs.Chosen.{IsInput}
-use Rattle.agreement.specs.Log.{slots_after, events_of_slot}
+use Rattle.agreement.specs.Log.{events_of_slot}
 use Rattle.agreement.proofs.Runs.{holds_reached}
 use Rattle.attempt_safety.specs.Machine.{Machine}
 use Rattle.attempt_safety.specs.Follows.{StandsIn, Agrees}
