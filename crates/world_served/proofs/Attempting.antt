@@ -39,28 +39,34 @@ module _ (c : Shape) (host : ℕ) where
   abbrev pub RestsIn : (ℕ → DiskState) → ℕ → Memory → Type 0
   RestsIn disks calls m = (t : Doing) → m.doing ≡ Some t → length t.heard ≤ calls → Rests host (length m.learned) disks (on t.heard)
 
+  -- so it is where the host runs
   abbrev pub RestsOf : World → ℕ → Type 0
   RestsOf w calls = (m : Memory) → w.host host ≡ Running m → RestsIn w.disk calls m
 
   -- BEHIND AN ANSWER
 
   module _ (disks : ℕ → DiskState) (calls : ℕ) where
+    -- a new attempt has read none
     new_so : (m : Memory) (operation : Operation) (left : ℕ) → RestsIn disks calls (begins m operation left)
     new_so m operation left t is less =
         let same : record { operation = operation; tries = left; heard = [] } ≡ t = cc in
         subst (λ (u : Doing). Rests host (length m.learned) disks (on u.heard)) same (none_heard host (length m.learned) disks [] (omega arith))
 
+    -- whichever of two it is
     one_of : (b : Bool) (first other : Memory) → RestsIn disks calls first → RestsIn disks calls other → RestsIn disks calls (if b then first else other)
     one_of true first other is is_too = is
     one_of false first other is is_too = is_too
 
+    -- the next slot is tried, or none
     goes_on_so : (m : Memory) (operation : Operation) (left : ℕ) → RestsIn disks calls (goes_on c m operation left)
     goes_on_so m operation left =
         one_of (nat_lt (length m.learned) c.slots) (begins m operation left) (says m (full_answer operation (length m.learned))) (new_so m operation left) (λ t is. absurd (cc))
 
+    -- the slot is tried again, or no more
     tried_so : (m : Memory) (operation : Operation) (left : ℕ) → RestsIn disks calls (tries_again m operation left)
     tried_so m operation left = one_of (nat_le left 1) (says m (Refused refusal.Outrun)) (begins m operation (left - 1)) (λ t is. absurd (cc)) (new_so m operation (left - 1))
 
+    -- a command was learned
     learned_so : (m : Memory) (t : Doing) (command : Command) (own : Bool) → RestsIn disks calls (after_learning c m t command own)
     learned_so m t command true = λ u is. absurd (cc)
     learned_so m t command false = goes_on_so (learns m command) t.operation t.tries
@@ -69,6 +75,7 @@ module _ (c : Shape) (host : ℕ) where
     took_so m t b value None = λ u is. absurd (cc)
     took_so m t b value (Some command) = learned_so m t command (is_submitted t.operation value)
 
+    -- however the attempt stands
     status_so : (m : Memory) (t : Doing) (b : ℕ) (st : Status) → (length t.heard ≤ calls → Rests host (length m.learned) disks (on t.heard)) → RestsIn disks calls (by_status c m t b st)
     status_so m t b (Due p d) known = λ u is less.
         (let same : t ≡ u = cc in
@@ -83,6 +90,7 @@ module _ (c : Shape) (log : List Filled) (run : IsRun c log) (i j host : ℕ) (a
   abbrev RestsAt : ℕ → Type 0
   RestsAt k = RestsOf c host (at c log k) (calls_between log i k host)
 
+  -- so at the first place
   first : RestsAt (suc i)
   first m running t does less = none_heard host (length m.learned) (at c log (suc i)).disk t.heard (let none = none_at_first log i host in omega arith)
 
@@ -110,6 +118,7 @@ module _ (c : Shape) (log : List Filled) (run : IsRun c log) (i j host : ℕ) (a
             let may = each c log k (Called host d call answer left) run is in
             rests_then c (at c log k) (moves_at c log run k) (tied_at c log run k) host q t was does d call answer left may.0 may.1 (known q was t does (omega arith))))
 
+    -- which is all that the host does meanwhile
     own_entry : (e : Filled) → slice_get log k ≡ Some e → IsCallOf host e → RestsOf c host (next_world c (at c log k) e) (calls_between log i k host + 1)
     own_entry e is call =
         subst (λ (o : Filled). RestsOf c host (next_world c (at c log k) o) (calls_between log i k host + 1)) (sym call.is)
@@ -117,11 +126,13 @@ module _ (c : Shape) (log : List Filled) (run : IsRun c log) (i j host : ℕ) (a
         (host_step c host ((at c log k).host host) (Called host call.disk call.call call.answer call.left)) refl m
         (sym (ap (λ (b : Bool). cond b (host_step c host ((at c log k).host host) (Called host call.disk call.call call.answer call.left)) ((at c log k).host host)) (eq-eqb host host refl)) ∙ running))
 
+    -- with what others do the rows rest as they did
     still : (e : Filled) → slice_get log k ≡ Some e → is_of host e ≡ false → RestsOf c host (next_world c (at c log k) e) (calls_between log i k host)
     still e is off m running t does less =
         let was : (at c log k).host host ≡ Running m = sym (ap (λ (b : Bool). cond b (host_step c host ((at c log k).host host) e) ((at c log k).host host)) off) ∙ running in
         rests_still c (at c log k) (moves_at c log run k) (tied_at c log run k) host m t was does e (no_others_call log i j host alone k behind before e is off) (known m was t does less)
 
+    -- whatever the entry
     by_entry : (o : Option Filled) → slice_get log k ≡ o → RestsAt (suc k)
     by_entry None is =
         subst (RestsOf c host (at c log (suc k))) (sym (calls_at_end log i host k is)) (subst (λ (w : World). RestsOf c host w (calls_between log i k host)) (sym (at_end c log k is)) known)
@@ -132,9 +143,11 @@ module _ (c : Shape) (log : List Filled) (run : IsRun c log) (i j host : ℕ) (a
           (subst (λ (w : World). RestsOf c host w (calls_between log i k host)) (sym (at_next c log k e is)) (still e is off))
     ]
 
+    -- so at the next place
     next : RestsAt (suc k)
     next = by_entry (slice_get log k) refl
 
+  -- and at each
   rests_to : (n : ℕ) → n + suc i ≤ j → RestsAt (n + suc i)
   rests_to zero le = let same : suc i ≡ zero + suc i = omega arith in subst RestsAt same first
   rests_to (suc n) le =
@@ -146,6 +159,7 @@ module _ (c : Shape) (log : List Filled) (run : IsRun c log) (i j host : ℕ) (a
 
 -- so an attempt that has heard each of its answers meanwhile is served
 module _ (c : Shape) (log : List Filled) (run : IsRun c log) (i k : ℕ) (s : Setup) (heard : List Answered) (hears : Hears c log k s heard) (alone : IsAlone log i (suc k) hears.host) (behind : i < k) where
+  -- with its last answer, too
   attempt_so : (length (hears.doing.heard ++ record { disk = hears.disk; heard = heard_as hears.answer } ∷ []) ≤ calls_between log i (suc k) hears.host) → (r : Setup) → r ≡ setup_of c hears.host hears.memory hears.doing.operation
       → (xs : List Answered) → xs ≡ hears.doing.heard ++ record { disk = hears.disk; heard = heard_as hears.answer } ∷ [] → Hears c log k r xs → MostAnswerEach r (on xs) → IsServed r xs (status r (on xs))
   attempt_so less r is_setup xs is_heard again well =

@@ -18,6 +18,7 @@ use Rattle.paxos_block.specs.Row.{SeenBlock, blank_seen, hosts, is_damaged_block
 use Rattle.paxos_block.specs.Votes.{says_in}
 use Rattle.paxos_block.proofs.PlaceLemmas.{spot_fits, writes_on, leaves_other, block_of-row_of}
 
+-- the bytes of another block are as before
 pub block_kept : (slots : ℕ) (mine other : Spot) (disk new : DiskState) (call : Call) (answer : Answer) → IsSpot slots mine → IsSpot slots other → mine ≢ other → IsImage slots disk → IsWithin mine call → Step disk call answer new
     → block_in (place_of other) new.bytes ≡ block_in (place_of other) disk.bytes
 block_kept slots mine other disk new call answer is_mine is_other differ image within step =
@@ -47,6 +48,7 @@ row_is_seen bytes row is = go (list_any (λ host. is_damaged_block host (block_o
     go true is = absurd (cc)
     go false is = (let same : row_seen bytes ≡ row = cc in sym same)
 
+-- each block of a row is shown as it stands
 seen_at-row_seen : (bytes : List ℕ) (host : ℕ) → host < HOSTS → seen_at (row_seen bytes) host ≡ seen_in (block_of host bytes)
 seen_at-row_seen bytes host below = get_or-map-range_with_len (λ h. seen_in (block_of h bytes)) 0 HOSTS host host blank_seen below (omega arith)
 
@@ -60,6 +62,7 @@ beyond (x ∷ row) (suc g) long = beyond row g (omega arith)
 abbrev pub shown : DiskState → ℕ → ℕ → PBlock
 shown disk slot g = says_in (row_seen (row_of slot disk.bytes)) g
 
+-- so what it shows of another host is as before
 pub shown_kept : (slots slot host g : ℕ) (disk new : DiskState) (call : Call) (answer : Answer) → slot < slots → host < HOSTS → g ≢ host → IsImage slots disk → IsWithin (VoteOf slot host) call → Step disk call answer new
     → shown new slot g ≡ shown disk slot g
 shown_kept slots slot host g disk new call answer slot_below host_below off image within step =

@@ -46,6 +46,7 @@ module _ (c : Shape) (w : World) (ms : Moves) (tied : Tied c w ms) (h : ℕ) (m 
   abbrev slot : ℕ
   slot = length m.learned
 
+  -- the host runs, and tries a slot
   runs : IsRunning c w ms h m
   runs = subst (HostAt c w ms h) running (tied.hosts h)
 
@@ -67,11 +68,13 @@ module _ (c : Shape) (w : World) (ms : Moves) (tied : Tied c w ms) (h : ℕ) (m 
     abbrev disks : ℕ → DiskState
     disks d = cond (is_on d e) (disk_step (w.disk d) e) (w.disk d)
 
+    -- what is known of the call
     known : Due c w ms h k call answer left m t (record { tied = tied; running = running; does = does; next = next; step = step })
     known = due_of c w ms h k call answer left m t (record { tied = tied; running = running; does = does; next = next; step = step })
 
     open known use {is, step_by, reached, waiting, inside}
 
+    -- so its rows rest on the disk that answers
     here : RestsOn h slot (w.disk k) (f k) → RestsOn h slot new (f k ++ heard_as answer ∷ [])
     here before =
         rests_more h slot (w.disk k) new (f k) (heard_as answer) (reached.disk k) waiting.part.good (boot_kept (w.disk k) new (call_by s k f is.kind) answer step_by)
@@ -79,6 +82,7 @@ module _ (c : Shape) (w : World) (ms : Moves) (tied : Tied c w ms) (h : ℕ) (m 
         (λ row tells. (current s f k (w.disk k) new answer is.kind waiting.part.good is.kind_is is.fits step_by row tells runs.below, row_is s f k (w.disk k) new answer is.kind waiting.part.good is.kind_is is.fits step_by row tells runs.below))
         before
 
+    -- that disk has made a step, and the others have not
     on_here : disks k ≡ new
     on_here = ap (λ (b : Bool). cond b new (w.disk k)) (eq-eqb k k refl)
 

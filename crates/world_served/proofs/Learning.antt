@@ -1,6 +1,6 @@
 -- A submission that is left alone hears an answer: it goes on, is served, or learns another command for a slot that is marked.
 use Rattle.std.specs.Prelude.{slice_get, cond, bytes_eq}
-use Rattle.std.proofs.Common.{ℕ, suc, ◌+◌, ◌*◌, ◌-◌, ◌<◌, ◌≤◌, ◌≡◌, inl, inr, Bool, true, false, Option, Some, None, List, [], ◌∷◌, ◌++◌, length, length-append, refl, sym, subst, ap, ◌∙◌, arith}
+use Rattle.std.proofs.Common.{ℕ, suc, ◌+◌, ◌*◌, ◌<◌, ◌≤◌, ◌≡◌, inl, inr, Bool, true, false, Option, Some, None, List, [], ◌∷◌, ◌++◌, length, length-append, refl, sym, subst, ap, ◌∙◌, arith}
 use Rattle.std.proofs.lemmas.Bool.{cases_order, both_ways, eq-eqb, eqb-true}
 use Rattle.std.proofs.lemmas.Slice.Eq.{bytes_eq-Decides}
 use Rattle.disk.specs.Disk.{Call, Answer}
@@ -81,6 +81,7 @@ module _ (c : Shape) (log : List Filled) (run : IsRun c log) (some : 1 ≤ c.dis
     abbrev after : World
     after = next_world c w e
 
+    -- the attempt's rows rest, so with the answer it is served
     hears_it : Hears c log k s heard
     hears_it =
         record { host = host; disk = d; call = call; answer = answer; left = left; entry = entry; memory = m; running = running; doing = t; does = doing; is_setup = refl; is_heard = refl }
@@ -105,9 +106,11 @@ module _ (c : Shape) (log : List Filled) (run : IsRun c log) (some : 1 ≤ c.dis
     counted : calls + 1 ≤ is.past * width + length heard
     counted = let so_many = is.bound in let one = longer in omega arith
 
+    -- and with those of one attempt at most
     at_most : calls + 1 ≤ is.past * width + width
     at_most = let so_many = counted in let all = bound s heard history in omega arith
 
+    -- so they are within the bound
     bounded : calls + 1 ≤ most
     bounded = let fits = is.fits in let learned = is.learned in let all = serving.enough c log i host command marks is.past (omega arith) is.marked in omega (arith, at_most, all)
 
@@ -126,9 +129,11 @@ module _ (c : Shape) (log : List Filled) (run : IsRun c log) (some : 1 ≤ c.dis
 
       -- where it is not this one, the slot had a proposal
       module _ (other : bytes_eq (spelling command) value ≡ false) where
+        -- some host put it in by then
         by : IsPutBefore c log run (suc k) (length m.learned) value
         by = put_by_then c log run k (length m.learned) value chosen
 
+        -- not this host behind the submission, which puts in its own
         put_own : (h : ℕ) → h ≡ host → (q : Memory) (u : Doing) → (at c log by.place).host h ≡ Running q → q.doing ≡ Some u → input_of u.operation ≡ Some value → i < by.place → ⊥
         put_own h same q u runs does input late =
             let here = subst (λ (g : ℕ). (at c log by.place).host g ≡ Running q) same runs in
@@ -137,6 +142,7 @@ module _ (c : Shape) (log : List Filled) (run : IsRun c log) (some : 1 ≤ c.dis
             let equal : spelling command ≡ value = cc in
             both_ways (bytes_eq (spelling command) value) other ((bytes_eq-Decides (spelling command) value).1 equal)
 
+        -- so nobody did behind it
         put_late : (o : Filled) → slice_get log by.place ≡ Some o → is_of by.put.host o ≡ true → ProposesWith c by.put.host by.put.memory by.put.doing o value → i < by.place → ⊥
         put_late (Start g) found of votes late = votes
         put_late (Stop g) found of votes late = votes
@@ -149,12 +155,14 @@ module _ (c : Shape) (log : List Filled) (run : IsRun c log) (some : 1 ≤ c.dis
         put_late (Crashed n bytes) found of votes late = votes
         put_late (Lost n) found of votes late = votes
 
+        -- nor with it
         put_now : i ≡ by.place → ⊥
         put_now same =
             let both : Some (Submit host command tries) ≡ Some by.entry = sym alone.submitted ∙ ap (slice_get log) same ∙ by.is in
             let one : by.entry ≡ Submit host command tries = cc in
             subst (λ (o : Filled). ProposesWith c by.put.host by.put.memory by.put.doing o value) one by.put.proposes
 
+        -- and whoever did before it had a proposal for the slot
         put_early : (o : Filled) → slice_get log by.place ≡ Some o → is_of by.put.host o ≡ true → ProposesWith c by.put.host by.put.memory by.put.doing o value → by.place < i → marks (length m.learned) ≡ true
         put_early (Start g) found of votes early = absurd votes
         put_early (Stop g) found of votes early = absurd votes
@@ -196,6 +204,7 @@ module _ (c : Shape) (log : List Filled) (run : IsRun c log) (some : 1 ≤ c.dis
           | inr (inr late) ↦ absurd (put_late by.entry by.is by.put.of by.put.proposes late)
         ]
 
+        -- as are all that were learned meanwhile
         all_marked : (slot : ℕ) → base ≤ slot → slot < base + suc is.past → marks slot ≡ true
         all_marked slot above below = elim (cases_order slot (length m.learned)) [
           | inl same ↦ ap marks same ∙ is_marked
@@ -203,6 +212,7 @@ module _ (c : Shape) (log : List Filled) (run : IsRun c log) (some : 1 ≤ c.dis
           | inr (inr more) ↦ absurd (let learned = is.learned in omega arith)
         ]
 
+      -- its own command is acknowledged, with another the next slot is tried
       learned_so : (found : Command) (own : Bool) → bytes_eq (spelling command) value ≡ own → SoFar (calls + 1) after (after_learning c m going found own) (after_learning c m going found own).doing
       learned_so found true same = bounded
       learned_so found false other =
@@ -210,15 +220,18 @@ module _ (c : Shape) (log : List Filled) (run : IsRun c log) (some : 1 ≤ c.dis
           (let learned = is.learned in omega (arith, length-append m.learned (found ∷ [])))
           (all_marked other) (let all = at_most in let next = one_past is.past width in omega arith) bounded
 
+      -- whether it is its own
       owned : is_submitted t.operation value ≡ bytes_eq (spelling command) value
       owned = ap (λ (o : Operation). is_submitted o value) is.operation
 
+      -- so it is with what was committed
       taken_so : (b : ℕ) → SoFar (calls + 1) after (takes c m going b value (decoded value)) (takes c m going b value (decoded value)).doing
       taken_so b =
           let found = reads in
           subst (λ (o : Option Command). SoFar (calls + 1) after (takes c m going b value o) (takes c m going b value o).doing) (sym found.1)
           (learned_so found.0 (is_submitted t.operation value) (sym owned))
 
+    -- and however the attempt stands
     status_so : (b : ℕ) (st : Status) → status s (on heard) ≡ st → IsServed s heard st → SoFar (calls + 1) after (by_status c m going b st) (by_status c m going b st).doing
     status_so b (Due p n) so serves =
         record { quiet = refl; operation = is.operation; past = is.past; learned = is.learned; marked = is.marked; fits = is.fits; short = serves; bound = counted; rests = rests }
@@ -233,9 +246,11 @@ module _ (c : Shape) (log : List Filled) (run : IsRun c log) (some : 1 ≤ c.dis
     abbrev new : Memory
     new = by_status c m going (taken s (on heard)) (status s (on heard))
 
+    -- the host behind the entry
     now : host_step c host (w.host host) e ≡ Running new
     now = ap (λ (old : Host). host_step c host old e) running ∙ ap (λ (o : Option Doing). Running (hears c host m o x)) doing
 
+    -- with its answer what holds goes on
     pub answered_so : Serves (calls + 1) after
     answered_so =
         record {

@@ -27,10 +27,12 @@ use Rattle.world_served.specs.Reached.{steps}
 abbrev pub is_well : Setup → List Heard → Bool
 is_well s a = all_good a && (not (is_stuck s Opening a) && (not (is_stuck s One a) && not (is_stuck s Two a)))
 
+-- both of two that are true together
 both_true : (a b : Bool) → (a && b) ≡ true → (a ≡ true) × (b ≡ true)
 both_true true b is = (refl, is)
 both_true false b is = absurd (cc)
 
+-- what is false makes both false
 not_true : (a b : Bool) → not a ≡ true → (a && b) ≡ false
 not_true true b is = absurd (cc)
 not_true false b is = refl
@@ -66,6 +68,7 @@ abbrev pub heard_well : Shape → Memory → Option Doing → Answer → Bool
 heard_well c m None answer = false
 heard_well c m (Some t) answer = is_well (setup_of c 0 m t.operation) (on (t.heard ++ record { disk = 0; heard = heard_as answer } ∷ []) 0)
 
+-- and of the host that has it
 abbrev pub host_well : Shape → Host → Answer → Bool
 host_well c Stopped answer = false
 host_well c (Running m) answer = heard_well c m m.doing answer
@@ -105,6 +108,7 @@ get_old [] x k less = absurd (omega arith)
 get_old (y ∷ l) x zero less = refl
 get_old (y ∷ l) x (suc k) less = get_old l x k (omega arith)
 
+-- which stands at its end
 get_last : {A : Type 0} (l : List A) (x : A) → slice_get (l ++ x ∷ []) (length l) ≡ Some x
 get_last [] x = refl
 get_last (y ∷ l) x = get_last l x
@@ -130,6 +134,7 @@ module _ (c : Shape) (first second : Filled) (one : c.disks ≡ 1) (log : List F
     Old : (less : k < length log) → Where k
     Last : (same : k ≡ length log) → Where k
 
+  -- each place is one of these
   place : (k : ℕ) (x : Filled) → slice_get longer k ≡ Some x → Where k
   place k x found =
       elim (cases_lt k (length log)) [
@@ -137,20 +142,25 @@ module _ (c : Shape) (first second : Filled) (one : c.disks ≡ 1) (log : List F
         | inr over ↦ Last (let within = slice_get_within longer k x found in omega (arith, length-append log (e ∷ [])))
       ]
 
+  -- at the last one is the call
   last_is : (k : ℕ) (x : Filled) → k ≡ length log → slice_get longer k ≡ Some x → e ≡ x
   last_is k x same found = (let both : Some e ≡ Some x = sym (get_last log e) ∙ ap (slice_get longer) (sym same) ∙ found in cc)
 
+  -- so there are calls of the host alone
   own_by : (k : ℕ) (x : Filled) → 1 < k → slice_get longer k ≡ Some x → Where k → IsCallOf 0 x
   own_by k x behind found (Old less) = is.own k x behind (sym (get_old log e k less) ∙ found)
   own_by k x behind found (Last same) = record { disk = 0; call = call; answer = answer_of disk call; left = []; is = sym (last_is k x same found) }
 
+  -- the world before a place is as it was
   at_old : (k : ℕ) → k ≤ length log → at c longer k ≡ at c log k
   at_old k le = ap (world c) (take-append-le k log (e ∷ []) le)
 
+  -- and before the last it is that of the list
   at_last : at c longer (length log) ≡ world c log
   at_last = ap (world c) (take-append_seam log (e ∷ []))
 
   module _ (k : ℕ) (s : Setup) (heard : List Answered) (hears : Hears c longer k s heard) (behind : 1 < k) where
+    -- an attempt that hears at a place of before heard there
     before : k < length log → Hears c log k s heard
     before less =
         record {
@@ -183,6 +193,7 @@ module _ (c : Shape) (first second : Filled) (one : c.disks ≡ 1) (log : List F
         well_answers r (on xs) (ap (λ (q : Setup). q.disks) is_setup ∙ one)
         (subst (λ (ys : List Answered). is_well r (on ys 0) ≡ true) all (subst (λ (q : Setup). is_well q (on (t.heard ++ record { disk = 0; heard = heard_as (answer_of disk call) } ∷ []) 0) ≡ true) setup doing))
 
+    -- so each is well answered
     well_by : Where k → MostAnswerEach s (on heard)
     well_by (Old less) = is.well k s heard (before less) behind
     well_by (Last same) =
@@ -194,6 +205,7 @@ module _ (c : Shape) (first second : Filled) (one : c.disks ≡ 1) (log : List F
         let stands : (world c log).host hears.host ≡ Running hears.memory = subst (λ (w : World). w.host hears.host ≡ Running hears.memory) now hears.running in
         well_last hears.host hears.disk hears.answer (sym of_zero) (sym on_zero) (sym answers) (sym is.host_is ∙ ap (λ (g : ℕ). (world c log).host g) of_zero ∙ stands) s hears.is_setup heard hears.is_heard
 
+  -- all of it holds of the longer list
   plays_longer : Plays c first second longer (disk_step disk e) (host_step c 0 host e) (calls + 1)
   plays_longer =
       let size = is.long in
@@ -226,6 +238,7 @@ module _ (c : Shape) (first second : Filled) (one : c.disks ≡ 1) where
     pub good : host_well c host (answer_of disk call) ≡ true
     pub is : (disk_step disk (made disk call), host_step c 0 host (made disk call)) ≡ q
 
+  -- each step that is computed is such a call
   told : (disk : DiskState) (host : Host) (q : DiskState × Host) (o : Option (ℕ × Call)) → next_of c 0 host ≡ o → played_by c disk host o ≡ Some q → Told disk host q
   told disk host q None due is = absurd (cc)
   told disk host q (Some (d, call)) due is = go (d == 0) refl (host_well c host (answer_of disk call)) refl is
@@ -235,10 +248,12 @@ module _ (c : Shape) (first second : Filled) (one : c.disks ≡ 1) where
       go true first_disk false good same = absurd (cc)
       go false first_disk b good same = absurd (cc)
 
+  -- and each but the first goes on from one
   by_step : (n : ℕ) (o : Option (DiskState × Host)) (q : DiskState × Host) → option_and_then (λ (p : DiskState × Host). played c n p.0 p.1) o ≡ Some q → (p : DiskState × Host) × (o ≡ Some p) × (played c n p.0 p.1 ≡ Some q)
   by_step n None q is = absurd (cc)
   by_step n (Some p) q is = (p, refl, is)
 
+  -- so it is behind as many steps as were computed
   pub plays_on : (n : ℕ) (log : List Filled) (disk : DiskState) (host : Host) (calls : ℕ) (q : DiskState × Host) → Plays c first second log disk host calls → played c n disk host ≡ Some q → Plays c first second (happen c log (steps n)) q.0 q.1 (calls + n)
   unfolding played steps
   plays_on zero log disk host calls q is so =

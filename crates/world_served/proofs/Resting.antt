@@ -40,6 +40,7 @@ opening_first Opening = omega arith
 opening_first One = omega arith
 opening_first Two = omega arith
 
+-- the first of two that are both so
 both_good : (a b : Bool) → (a && b) ≡ true → a ≡ true
 both_good true b is = refl
 both_good false b is = is
@@ -54,6 +55,7 @@ module _ (host slot : ℕ) (disk new : DiskState) (a : List Heard) (x : Heard) (
     Old : (over : goal p ≤ length a) → (is : row_in p a ≡ Some row) → Which p row
     New : (last : length a + 1 ≡ goal p) → (is : x ≡ answers.Told (Some row)) → Which p row
 
+  -- what is told is a sound row
   told_is : (y : Heard) (row : List SeenBlock) → told y ≡ Some row → y ≡ answers.Told (Some row)
   told_is (answers.Told (Some seen)) row is = let same : seen ≡ row = cc in ap (λ (r : List SeenBlock). answers.Told (Some r)) same
   told_is (answers.Told None) row is = absurd (cc)
@@ -61,6 +63,7 @@ module _ (host slot : ℕ) (disk new : DiskState) (a : List Heard) (x : Heard) (
   told_is (answers.Booted b) row is = absurd (cc)
   told_is (answers.Fault fault) row is = absurd (cc)
 
+  -- each row is one of these
   which : (p : Phase) (row : List SeenBlock) → row_in p longer ≡ Some row → Which p row
   which p row is =
       elim (cases_order (length a + 1) (goal p)) [
@@ -73,18 +76,21 @@ module _ (host slot : ℕ) (disk new : DiskState) (a : List Heard) (x : Heard) (
   tells_now : (row : List SeenBlock) (g : ℕ) → x ≡ answers.Told (Some row) → says_in row g ≡ shown disk slot g
   tells_now row g is = ap (λ (r : List SeenBlock). says_in r g) (row_is_seen (row_of slot disk.bytes) row (reads row is).1)
 
+  -- so each shows of the others what the opening's did
   among_by : (p : Phase) (g : ℕ) (first later : List SeenBlock) → Which Opening first → Which p later → g ≢ host → says_in later g ≡ says_in first g
   among_by p g first later (Old over is) (Old over_too is_too) off = before.among p g first later is is_too off
   among_by p g first later (Old over is) (New last is_too) off = tells_now later g is_too ∙ sym (before.now g first is (reads later is_too).0 off)
   among_by p g first later (New last is) (New last_too is_too) off = tells_now later g is_too ∙ sym (tells_now first g is)
   among_by p g first later (New last is) (Old over is_too) off = absurd (omega (arith, last, over, opening_first p))
 
+  -- and that is what the disk shows now
   now_by : (g : ℕ) (first : List SeenBlock) → Which Opening first → IsCurrent new longer → g ≢ host → says_in first g ≡ shown new slot g
   now_by g first (New last is) current off = tells_now first g is ∙ sym (kept g off)
   now_by g first (Old over is) current off =
       let booted = is_disk.booted good (omega (arith, over)) in
       before.now g first is (record { good = good; boot = sym (boot_more a x booted.0 booted.1) ∙ current.boot ∙ boot }) off ∙ sym (kept g off)
 
+  -- so it is with the answer
   pub rests_more : RestsOn host slot new longer
   rests_more =
       record {

@@ -1,22 +1,21 @@
 -- A submission that is left alone: what holds of its host at each place, where a slot is tried next, and what follows at the end.
 use Rattle.std.specs.Prelude.{nat_lt, if◌then◌else◌}
-use Rattle.std.proofs.Common.{ℕ, ◌+◌, ◌*◌, ◌-◌, ◌<◌, ◌≤◌, ◌≡◌, Bool, true, false, Option, Some, None, List, length, refl, sym, subst, ap, ◌∙◌, arith}
+use Rattle.std.proofs.Common.{ℕ, ◌+◌, ◌*◌, ◌<◌, ◌≤◌, ◌≡◌, Bool, true, false, Option, Some, None, List, length, refl, sym, subst, ap, ◌∙◌, arith}
 use Rattle.std.proofs.lemmas.Bool.{ltb-true}
 use Rattle.attempt.specs.Answers.{on}
 use Rattle.attempt.specs.Numbers.{count}
-use Rattle.attempt.proofs.Ends.{bound}
 use Rattle.lock_command.specs.declared.command.Command.{Command}
 use Rattle.slot_log.specs.Shape.{Shape}
 use Rattle.host.specs.Host.{Operation, Submitting, Doing, Memory, Running, learned_of, says, does, begins, full_answer, goes_on}
 use Rattle.world.specs.Entry.{Filled}
 use Rattle.world.specs.World.{World}
 use Rattle.world.specs.Chosen.{at}
-use Rattle.world.proofs.Runs.{each}
 use Rattle.world_served.specs.Served.{IsServedBy}
 use Rattle.world_served.proofs.Counting.{count_marked, within}
 use Rattle.world_served.proofs.Resting.{Rests, rests_none}
 
 module _ (c : Shape) (log : List Filled) (i host : ℕ) (command : Command) (marks : ℕ → Bool) where
+  -- the slots that were learned before, the calls of one attempt, and the bound
   abbrev pub base : ℕ
   base = length (learned_of ((at c log i).host host))
 
@@ -40,10 +39,12 @@ module _ (c : Shape) (log : List Filled) (i host : ℕ) (command : Command) (mar
     pub bound : calls ≤ past * width + length t.heard
     pub rests : Rests host (length m.learned) w.disk (on t.heard)
 
+  -- or the host has said what is claimed
   abbrev pub SoFar : ℕ → World → Memory → Option Doing → Type 0
   SoFar calls w m None = IsServedBy most calls m.said
   SoFar calls w m (Some t) = IsServing calls w m t
 
+  -- so it is with the host, which runs
   pub record Serves (calls : ℕ) (w : World) : Type 0 where
     pub memory : Memory
     pub running : w.host host ≡ Running memory
@@ -53,6 +54,7 @@ module _ (c : Shape) (log : List Filled) (i host : ℕ) (command : Command) (mar
   abbrev pub IsOwn : World → Type 0
   IsOwn w = (m : Memory) (t : Doing) → w.host host ≡ Running m → m.doing ≡ Some t → t.operation ≡ Submitting command
 
+  -- so it is
   pub own_so : (calls : ℕ) (w : World) → Serves calls w → IsOwn w
   own_so calls w serves m t running does =
       let both : Running serves.memory ≡ Running m = sym serves.running ∙ running in
@@ -64,6 +66,7 @@ module _ (c : Shape) (log : List Filled) (i host : ℕ) (command : Command) (mar
   pub enough : (past : ℕ) → base + past ≤ c.slots → ((slot : ℕ) → base ≤ slot → slot < base + past → marks slot ≡ true) → past * width + width ≤ most
   enough past room marked = within past (count c.slots marks) width (count_marked c.slots marks base past room marked)
 
+  -- so the calls are fewer than the bound
   serving_so : (calls : ℕ) (w : World) (m : Memory) (t : Doing) → IsServing calls w m t → calls < most
   serving_so calls w m t is =
       let fits = is.fits in

@@ -4,7 +4,6 @@ use Rattle.std.proofs.Common.{ℕ, zero, suc, ◌+◌, ◌*◌, ◌-◌, ◌<◌
 use Rattle.std.proofs.lemmas.Bool.{cases_order, cases_Bool, eq-eqb, true≢false}
 use Rattle.disk.specs.Disk.{Call, Answer}
 use Rattle.attempt.specs.Numbers.{count}
-use Rattle.attempt.proofs.Ends.{bound}
 use Rattle.lock_command.specs.declared.command.Command.{Command}
 use Rattle.slot_log.specs.Shape.{Shape}
 use Rattle.host.specs.Host.{Submitting, Doing, Memory, Host, Stopped, Running, idles, learned_of, said_of, does, goes_on, next_doing, next_of}
@@ -35,6 +34,7 @@ module _ (c : Shape) (log : List Filled) (run : IsRun c log) (some : 1 ≤ c.dis
 
   -- what another host does, and what becomes of disks, leaves the submission as it was
   module _ (k : ℕ) (e : Filled) (entry : slice_get log k ≡ Some e) (off : is_of host e ≡ false) (calls : ℕ) (quiet : IsNoCall e) where
+    -- the attempt's rows rest as they did
     still : (m : Memory) → (at c log k).host host ≡ Running m → (o : Option Doing) → m.doing ≡ o → SoFar calls (at c log k) m o → SoFar calls (next_world c (at c log k) e) m o
     still m running None does so = so
     still m running (Some t) does so =
@@ -77,6 +77,7 @@ module _ (c : Shape) (log : List Filled) (run : IsRun c log) (some : 1 ≤ c.dis
             (λ slot above below. absurd (omega arith)) (omega arith) (omega arith);
       }
 
+  -- so at the first place
   first : ServesTo (suc i)
   first =
       let begun = begun_so ((at c log i).host host) refl (each c log i (Submit host command tries) run alone.submitted).0 in
@@ -93,16 +94,19 @@ module _ (c : Shape) (log : List Filled) (run : IsRun c log) (some : 1 ≤ c.dis
       absurd (cc)
 
   module _ (k : ℕ) (behind : i < k) (before : k < j) (to : ServesTo k) where
+    -- a call of the host
     called : (d : ℕ) (call : Call) (answer : Answer) (left : List ℕ) → slice_get log k ≡ Some (Called host d call answer left) → (m : Memory) → (at c log k).host host ≡ Running m → (o : Option Doing) → m.doing ≡ o → SoFar (calls_between log i k host) (at c log k) m o
         → Serves (calls_between log i k host + 1) (next_world c (at c log k) (Called host d call answer left))
     called d call answer left is m running None does so = absurd (no_call k d call m running does (each c log k _ run is).0)
     called d call answer left is m running (Some t) does so = answered_so c log run some i j host tries command marks alone k behind before d call answer left is (calls_between log i k host) to.earlier m running t does so
 
+    -- which is all that it does meanwhile
     own_entry : (e : Filled) → slice_get log k ≡ Some e → is_of host e ≡ true → IsCallOf host e → Serves (calls_between log i k host + 1) (next_world c (at c log k) e)
     own_entry e is of call =
         subst (λ (o : Filled). Serves (calls_between log i k host + 1) (next_world c (at c log k) o)) (sym call.is)
         (called call.disk call.call call.answer call.left (is ∙ ap Some call.is) to.now.memory to.now.running to.now.memory.doing refl to.now.so_far)
 
+    -- whatever the entry
     by_entry : (o : Option Filled) → slice_get log k ≡ o → Serves (calls_between log i (suc k) host) (at c log (suc k))
     by_entry None is =
         subst (λ (n : ℕ). Serves n (at c log (suc k))) (sym (calls_at_end log i host k is)) (subst (Serves (calls_between log i k host)) (sym (at_end c log k is)) to.now)
@@ -113,6 +117,7 @@ module _ (c : Shape) (log : List Filled) (run : IsRun c log) (some : 1 ≤ c.dis
           (subst (Serves (calls_between log i k host)) (sym (at_next c log k e is)) (still_so k e is off (calls_between log i k host) (no_others_call log i j host alone.alone k behind before e is off) to.now))
     ]
 
+    -- so at the next place
     next : ServesTo (suc k)
     next =
         let now = by_entry (slice_get log k) refl in
@@ -125,6 +130,7 @@ module _ (c : Shape) (log : List Filled) (run : IsRun c log) (some : 1 ≤ c.dis
           ];
         }
 
+  -- and at each
   serves_to : (n : ℕ) → n + suc i ≤ j → ServesTo (n + suc i)
   serves_to zero le = let same : suc i ≡ zero + suc i = omega arith in subst ServesTo same first
   serves_to (suc n) le =
@@ -133,6 +139,7 @@ module _ (c : Shape) (log : List Filled) (run : IsRun c log) (some : 1 ≤ c.dis
 
   -- WHAT IS CLAIMED
 
+  -- whatever has become of it by place j
   pub serves : IsServedBy (17 * c.disks * (count c.slots marks + 1)) (calls_between log i j host) (said_of ((at c log j).host host))
   serves =
       let behind = alone.order in
