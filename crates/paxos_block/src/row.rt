@@ -5,7 +5,7 @@ ghost use Rattle.paxos_block.specs.Row.{IsRow, IsDamagedRow, SeenBlock, row_said
 ghost use Rattle.paxos_block.specs.Votes.{top_of, others_top_of, latest_in};
 
 use crate::block::PBlock;
-use crate::cell::{Cell, cell_in};
+use crate::cell::{Cell, cell_in, is_blank};
 use crate::damaged::Damaged;
 use torn_block::{BLOCK_LENGTH, HOSTS, ROW_LENGTH};
 
@@ -76,10 +76,15 @@ pub fn decode_row(bytes: &[u8; ROW_LENGTH]) -> Result<Row, Damaged>
     ensures said { IfOk result (λ row.
         IsSomeAnd (row_said bytes.now) (λ seen. AreSeenAs seen row)) }
 {
-    let mut cells = [cell_in(0, &bytes[..BLOCK_LENGTH])?; HOSTS];
-    for host in 1..HOSTS {
+    // Most hosts have no block on most slots, so the cells begin as blank, and only those of the others are written.
+    let mut cells = [Cell::BLANK; HOSTS];
+    for host in 0..HOSTS {
         let place = BLOCK_LENGTH * host;
-        cells[host] = cell_in(host as u8, &bytes[place..place + BLOCK_LENGTH])?;
+        let block = &bytes[place..place + BLOCK_LENGTH];
+        if is_blank(block) {
+            continue;
+        }
+        cells[host] = cell_in(host as u8, block)?;
     }
     Ok(Row { cells })
 }

@@ -1,25 +1,39 @@
-use Rattle.std.proofs.Common.{rules, ◌≡◌, ◌<◌, ◌+◌, ◌∙◌, ℕ, List, ◌∷◌, length, sym, subst, arith, refl, zero, suc, inl, inr, get_or, set}
-use Rattle.std.proofs.lemmas.List.{get_or-set_same, get_or-set_other, length-set}
+use Rattle.std.proofs.Common.{rules, ◌≡◌, ◌<◌, ◌+◌, ◌∙◌, ℕ, List, ◌∷◌, length, sym, subst, arith, refl, zero, suc, inl, inr, get_or, set, replicate}
+use Rattle.std.proofs.lemmas.List.{get_or-set_same, get_or-set_other, get_or-replicate, length-set}
 use Rattle.std.proofs.lemmas.Bool.{cases_lt}
 use Rattle.paxos_block.specs.declared.cell.Cell.{Cell}
-use Rattle.paxos_block.specs.Row.{IsCell, IsSound, is_sound}
+use Rattle.paxos_block.specs.Row.{IsCell, IsSound, is_sound, blank_cell}
 use Rattle.torn_block.specs.Damage.{block_of}
 use Rattle.torn_block.specs.DamageLaws.{sound_is_not_damaged}
 use Rattle.paxos_block.proofs.RowLemmas.{damaged_row, row_is_said, row_is_not_unsaid}
 use Rattle.paxos_block.proofs.row.decode_row.Invariants.{Cells}
 use Rattle.paxos_block.proofs.row.decode_row.Goals as goal
 
-first_done : (bytes : List ℕ) (first : Cell) (rest : List Cell) → IsCell 0 (block_of 0 bytes) first → length rest ≡ 7 → Cells bytes (first ∷ rest) 1
-first_done bytes first rest is long = record { count = omega arith; done = by_index }
-  where
-    by_index : (k : ℕ) → k < 1 → (d : Cell) → IsCell k (block_of k bytes) (get_or (first ∷ rest) k d)
-    by_index zero below d = is
-    by_index (suc k) below d = absurd (omega arith)
+-- none is done, and all are blank
+none_done : (bytes : List ℕ) → Cells bytes (replicate 8 blank_cell) 0
+none_done bytes = record { count = refl; rest = λ k from below d. get_or-replicate 8 k blank_cell d below; done = λ k under d. absurd (omega arith) }
+
+-- a blank block's cell stays as it is
+next_blank : (bytes : List ℕ) (cells : List Cell) (host : ℕ) → Cells bytes cells host → host < 8 → IsCell host (block_of host bytes) blank_cell → Cells bytes cells (host + 1)
+next_blank bytes cells host sofar below is =
+    record {
+      count = sofar.count;
+      rest = λ k from below d. sofar.rest k (omega (arith, from)) below d;
+      done =
+          λ k under d.
+          elim (cases_lt k host) [
+            | inl lt ↦ sofar.done k lt d
+            | inr ge ↦
+                (let same : host ≡ k = omega arith in
+                subst (λ (j : ℕ). IsCell j (block_of j bytes) (get_or cells j d)) same (subst (IsCell host (block_of host bytes)) (sym (sofar.rest host (omega arith) below d)) is))
+          ];
+    }
 
 next_done : (bytes : List ℕ) (cells : List Cell) (host : ℕ) (cell : Cell) → Cells bytes cells host → host < 8 → IsCell host (block_of host bytes) cell → Cells bytes (set cells host cell) (host + 1)
 next_done bytes cells host cell sofar below is =
     record {
       count = length-set cells host cell ∙ sofar.count;
+      rest = λ k from under d. get_or-set_other cells host k cell d (λ same. absurd (omega (arith, from))) ∙ sofar.rest k (omega (arith, from)) under d;
       done =
           λ k under d.
           elim (cases_lt k host) [
@@ -31,10 +45,13 @@ next_done bytes cells host cell sofar below is =
     }
 
 pub loop-host-init : goal.loop-host-init
-loop-host-init c = first_done c.args.bytes.now c.in_ok-cells.field-0 _ c.in_ok-cells.ensures.cell refl
+loop-host-init c = none_done c.args.bytes.now
 
 pub loop-host-preserved : goal.loop-host-preserved
-loop-host-preserved c = next_done c.args.bytes.now c.loop-host.cells c.loop-host.host c.in_ok-cells-2.field-0 c.loop-host.invariant (omega arith) c.in_ok-cells-2.ensures.cell
+loop-host-preserved c = next_done c.args.bytes.now c.loop-host.cells c.loop-host.host c.in_ok-cells.field-0 c.loop-host.invariant (omega arith) c.in_ok-cells.ensures.cell
+
+pub loop-host-preserved-then-is_blank : goal.loop-host-preserved-then-is_blank
+loop-host-preserved-then-is_blank c = next_blank c.args.bytes.now c.loop-host.cells c.loop-host.host c.loop-host.invariant (omega arith) (c.is_blank.ensures c.if-is_blank.true c.loop-host.host)
 
 pub returns-clause-row : goal.returns-clause-row
 returns-clause-row c = λ host below. c.loop-host.invariant.done host (omega arith)
@@ -43,23 +60,18 @@ pub returns-clause-damaged : goal.returns-clause-damaged
 returns-clause-damaged c = (
   (λ t. absurd cc),
   (λ damage.
-      absurd (sound_is_not_damaged (IsSound damage.0) (is_sound damage.0) (block_of damage.0 c.args.bytes.now) (c.loop-host.invariant.done damage.0 (let below = damage.1 in omega arith) c.in_ok-cells.field-0).sound damage.2)),
+      absurd (sound_is_not_damaged (IsSound damage.0) (is_sound damage.0) (block_of damage.0 c.args.bytes.now) (c.loop-host.invariant.done damage.0 (let below = damage.1 in omega arith) blank_cell).sound damage.2)),
 )
 
 pub returns-in_err-cells-clause-unsaid : goal.returns-in_err-cells-clause-unsaid
 returns-in_err-cells-clause-unsaid c =
-    let none = damaged_row c.args.bytes.now c.told-bytes (λ i. omega (arith, c.fits-bytes i)) (0, omega arith, c.in_err-cells.ensures.damaged) in
-    ((λ t. none), (λ is. search rules))
-
-pub returns-in_err-cells-2-clause-unsaid : goal.returns-in_err-cells-2-clause-unsaid
-returns-in_err-cells-2-clause-unsaid c =
-    let none = damaged_row c.args.bytes.now c.told-bytes (λ i. omega (arith, c.fits-bytes i)) (c.loop-host.host, omega arith, c.in_err-cells-2.ensures.damaged) in
+    let none = damaged_row c.args.bytes.now c.told-bytes (λ i. omega (arith, c.fits-bytes i)) (c.loop-host.host, omega arith, c.in_err-cells.ensures.damaged) in
     ((λ t. none), (λ is. search rules))
 
 pub returns-clause-unsaid : goal.returns-clause-unsaid
 returns-clause-unsaid c =
-    ((λ t. absurd cc), (λ none. absurd (row_is_not_unsaid c.args.bytes.now c.told-bytes (record { cells = c.loop-host.cells }) (λ host below. c.loop-host.invariant.done host (omega arith)) c.in_ok-cells.field-0 none)))
+    ((λ t. absurd cc), (λ none. absurd (row_is_not_unsaid c.args.bytes.now c.told-bytes (record { cells = c.loop-host.cells }) (λ host below. c.loop-host.invariant.done host (omega arith)) blank_cell none)))
 
 pub returns-clause-said : goal.returns-clause-said
 returns-clause-said c =
-    row_is_said c.args.bytes.now c.told-bytes (record { cells = c.loop-host.cells }) (λ host below. c.loop-host.invariant.done host (omega arith)) c.in_ok-cells.field-0
+    row_is_said c.args.bytes.now c.told-bytes (record { cells = c.loop-host.cells }) (λ host below. c.loop-host.invariant.done host (omega arith)) blank_cell
