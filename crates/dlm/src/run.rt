@@ -1,4 +1,4 @@
-ghost use Rattle.std.specs.Prelude.{List, OnOk};
+ghost use Rattle.std.specs.Prelude.{◌≤◌, ◌+◌, List, OnOk};
 ghost use Rattle.world.specs.Entry.{Filled};
 ghost use Rattle.simulator.specs.Kept.{LeadsTo};
 ghost use Rattle.dlm.specs.Printed.{WritesAnswer};
@@ -8,7 +8,7 @@ use crate::failure::Failure;
 use crate::fault::Fault;
 use inspect::queues;
 use lock_command::HostNumber;
-use simulator::{Event, Parts, Script, Show};
+use simulator::{Event, MOST_EVENTS, Parts, Run, Script, Show};
 use std::alloc::Global;
 use std::io::Write;
 
@@ -17,11 +17,30 @@ use std::io::Write;
 pub fn run_script<O: Write>(alloc: Global, script: &Script, out: &mut O) -> Result<(), Failure> {
     let mut parts = Parts::new(alloc, script.config).map_err(Fault::from)?;
     let mut shows = script.shows.as_slice();
-    for (place, event) in script.events.iter().enumerate() {
+    let mut place = 0;
+    // A table is shown between two lines of the script, and so between two runs of events.
+    for run in script.events.runs() {
         shows = show_due(alloc, &parts, shows, place, out)?;
-        happen(alloc, &mut parts, place, event, out)?;
+        repeat(alloc, &mut parts, place, run, out)?;
+        place += run.times;
     }
     show_all(alloc, &parts, shows, out)
+}
+
+/// Lets a run of events happen, the first of which has this number.
+fn repeat<O: Write>(
+    alloc: Global,
+    parts: &mut Parts,
+    first: usize,
+    run: &Run,
+    out: &mut O,
+) -> Result<(), Failure>
+    requires { first + run.now.times ≤ MOST_EVENTS }
+{
+    for place in first..first + run.times {
+        happen(alloc, parts, place, &run.event, out)?;
+    }
+    Ok(())
 }
 
 /// Lets an event happen, and prints what its host then says.

@@ -20,7 +20,7 @@ pub record SoFar : Type 0 where
   pub shows : List shown.Show
 
 abbrev pub so_far : Draft → SoFar
-so_far draft = record { shape = draft.config; events = draft.events.items; shows = draft.shows.items }
+so_far draft = record { shape = draft.config; events = draft.events; shows = draft.shows.items }
 
 -- whether the event's disk, where it names one, is one of so many
 abbrev pub is_on_disk_of : ℕ → Event → Bool

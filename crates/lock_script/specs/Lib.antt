@@ -1,4 +1,5 @@
 pub mod Draft
+pub mod Events
 pub mod Faults
 pub mod Lines
 pub mod Reading

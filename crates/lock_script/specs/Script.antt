@@ -38,7 +38,7 @@ pub record Content : Type 0 where
   pub shows : List shown.Show
 
 abbrev pub content_of : Script → Content
-content_of script = record { shape = script.config; events = script.events.items; shows = script.shows.items }
+content_of script = record { shape = script.config; events = script.events; shows = script.shows.items }
 
 -- the lines that are not passed over
 abbrev pub said_lines : List (List ℕ) → List (List ℕ)

@@ -1,17 +1,15 @@
-ghost use Rattle.std.specs.Prelude.{◌≡◌, ◌++◌, OnOk, Some, None, replicate};
+ghost use Rattle.std.specs.Prelude.{◌≡◌, OnOk, Some, None};
 ghost use Rattle.lock_script.specs.Draft.{is_on_disk_of};
 ghost use Rattle.lock_script.specs.Faults.{fault_at};
 
 use crate::event::Event;
+use crate::events::{Events, MOST_EVENTS};
 use crate::line::{Line, line_of};
 use crate::script::ScriptFault;
 use crate::show::Show;
 use lock_command::HostNumber;
 use slot_log::Config;
 use std::alloc::{AllocError, Global};
-
-/// The most events of a script.
-pub const MOST_EVENTS: usize = 1_000_000;
 
 /// Why a line cannot be added.
 #[derive(Clone, Copy, Debug)]
@@ -46,7 +44,7 @@ impl From<AllocError> for LineFault {
 #[derive(Drop)]
 pub struct Draft {
     pub config: Option<Config>,
-    pub events: Vec<Event>,
+    pub events: Events,
     pub shows: Vec<Show>,
 }
 
@@ -59,7 +57,7 @@ impl Draft {
     {
         Draft {
             config: None,
-            events: Vec::new(alloc),
+            events: Events::new(alloc),
             shows: Vec::new(alloc),
         }
     }
@@ -109,10 +107,8 @@ impl Draft {
         if self.events.len() >= MOST_EVENTS || !is_on_disk_of(config, &event) {
             return Err(LineFault::Bad);
         }
-        match self.events.push(event) {
-            Ok(()) => Ok(()),
-            Err(_) => Err(LineFault::NoMemory),
-        }
+        self.events.push(event, 1)?;
+        Ok(())
     }
 
     fn steps(&mut self, host: HostNumber, times: u32) -> Result<(), LineFault>
@@ -126,7 +122,7 @@ impl Draft {
         if self.events.len() > MOST_EVENTS || times > MOST_EVENTS - self.events.len() {
             return Err(LineFault::Bad);
         }
-        push_steps(&mut self.events, host, times)?;
+        self.events.push(Event::Step(host), times)?;
         Ok(())
     }
 
@@ -143,17 +139,6 @@ impl Draft {
             Err(_) => Err(LineFault::NoMemory),
         }
     }
-}
-
-/// So many steps of the host, behind these events.
-fn push_steps(events: &mut Vec<Event>, host: HostNumber, times: usize) -> Result<(), AllocError>
-    ensures { OnOk result (events.new.items ≡ events.old.items ++ replicate times (Event.Step host)) }
-{
-    events.reserve(times)?;
-    for _ in 0..times {
-        events.push(Event::Step(host)).map_err(AllocError::from)?;
-    }
-    Ok(())
 }
 
 /// Whether the event's disk, where it names one, is one of the cluster's.

@@ -6,6 +6,7 @@ mod command_words;
 mod digits;
 mod draft;
 mod event;
+mod events;
 mod fields;
 mod given;
 mod line;
@@ -18,6 +19,7 @@ mod show;
 mod words;
 
 pub use event::Event;
+pub use events::{Events, MOST_EVENTS, Run};
 pub use given::Given;
 pub use reading::read_script;
 pub use script::{Script, ScriptFault};

@@ -10,8 +10,7 @@ pub fn first_line(bytes: &[u8]) -> (&[u8], &[u8])
     ensures lines { lines_of bytes.now ≡ result.0.now ∷ lines_of result.1.now }
     ensures shorter { length result.1.now < length bytes.now }
 {
-    let (line, behind) = cut(bytes);
-    (line, behind)
+    cut(bytes)
 }
 
 /// What stands in front of the first line end, and what behind it.

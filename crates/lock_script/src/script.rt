@@ -1,4 +1,4 @@
-use crate::event::Event;
+use crate::events::Events;
 use crate::show::Show;
 use slot_log::Config;
 use thiserror::Error;
@@ -7,7 +7,7 @@ use thiserror::Error;
 #[derive(Drop)]
 pub struct Script {
     pub config: Config,
-    pub events: Vec<Event>,
+    pub events: Events,
     /// By rising place.
     pub shows: Vec<Show>,
 }

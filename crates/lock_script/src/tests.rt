@@ -1,4 +1,4 @@
-use crate::{Event, ScriptFault, read_script};
+use crate::{Event, Run, ScriptFault, read_script};
 use std::test::Fail;
 
 /// Lines that may stand behind `cluster 3 16`, each with the events that it brings.
@@ -132,11 +132,13 @@ fn most_bytes(rt: HostRuntime) -> Result<(), Fail> {
     for _ in 0..64 {
         script.extend_from_slice(b"7f")?;
     }
-    match read_script(rt.alloc(), script.as_slice())?
-        .events
-        .as_slice()
-    {
-        [Event::Tear { given, .. }] => assert_eq!(rt; given.as_slice(), [127; 64].as_slice()),
+    match read_script(rt.alloc(), script.as_slice())?.events.runs() {
+        [
+            Run {
+                event: Event::Tear { given, .. },
+                times: 1,
+            },
+        ] => assert_eq!(rt; given.as_slice(), [127; 64].as_slice()),
         _ => assert!(rt; false),
     }
     script.extend_from_slice(b"7f")?;

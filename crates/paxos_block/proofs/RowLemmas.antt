@@ -6,12 +6,12 @@ use Rattle.std.proofs.Common.{zero, suc, refl, sym, ap, ◌∙◌, subst, arith,
 use Rattle.std.proofs.lemmas.List.{length-take-le}
 use Rattle.std.proofs.lemmas.List.FromFn.{length-range_with_len, get_or-range_with_len, get_or-map-range_with_len, length-map-range_with_len}
 use Rattle.std.proofs.lemmas.List.Folds.{list_any_at}
-use Rattle.std.proofs.lemmas.Bool.{and_parts, and_from, or_cases, or_parts, not-false, cases_Bool, cond-true, cond-false, false_from_ne_true, both_ways}
+use Rattle.std.proofs.lemmas.Bool.{and_parts, and_from, or_cases, or_parts, not-false, true≢false, cases_Bool, cond-true, cond-false, false_from_ne_true, both_ways}
 use Rattle.torn_block.specs.declared.block.Half.{Half}
 use Rattle.torn_block.specs.declared.block.Half.TheVariants.{First, Second}
 use Rattle.torn_block.specs.declared.block.Block128.{Block128}
 use Rattle.torn_block.specs.declared.layout.TheConstants.{HOSTS, COPY_LENGTH, BLOCK_LENGTH, BODY_LENGTH, ROW_LENGTH}
-use Rattle.torn_block.specs.Block.{is_open, sequence_of, body_of, tail_with, value_of, value_at, choice}
+use Rattle.torn_block.specs.Block.{is_open, sequence_of, body_of, tail_with, value_of, value_at, choice, copy_of, current_of, target_at}
 use Rattle.torn_block.specs.Damage.{IsSoundBlock, IsDamagedBlock, block_of, first_of, second_of, is_sequence, has_fault, has_twins}
 use Rattle.torn_block.specs.DamageLaws.{is_sequence_tells, is_sequence_since, open_copy_spelled, long_body, damaged_tells, sound_block_tells, sound_is_not_damaged}
 use Rattle.torn_block.specs.Numbers.{AreBytes, AreBytes-drop, AreBytes-take}
@@ -23,7 +23,7 @@ use Rattle.paxos_block.specs.declared.cell.Cell.{Cell}
 use Rattle.paxos_block.specs.declared.row.Row.{Row}
 use Rattle.paxos_block.specs.Saying.{body_saying, claim_of, is_said}
 use Rattle.paxos_block.proofs.SayingLemmas.{said_back, said_spelled}
-use Rattle.paxos_block.specs.Row.{copy_saying, Says, IsSound, is_sound, blank, says_of, IsSaid, IsDamagedRow, IsCell, IsRow, SeenBlock, sequence_in, seen_in, seen_at, hosts, row_seen, row_said, is_damaged_block, blank_seen, IsSeenAs, AreSeenAs}
+use Rattle.paxos_block.specs.Row.{copy_saying, Says, IsSound, is_sound, blank, says_of, IsSaid, IsDamagedRow, IsCell, IsRow, blank_cell, SeenBlock, sequence_in, seen_in, seen_at, hosts, row_seen, row_said, is_damaged_block, blank_seen, IsSeenAs, AreSeenAs}
 
 pub sound_tells : (host : ℕ) (copy : List ℕ) → length copy ≡ COPY_LENGTH → AreBytes copy → is_open copy ≡ true → is_sound host copy ≡ true → IsSound host copy
 sound_tells host copy long fits opened t =
@@ -70,6 +70,28 @@ module _ (block : List ℕ) (read : Block128) (is : IsReading block read) where
   pub current_says : (half : Half) → read.current ≡ Some half → claim_of read.body.bytes ≡ says_of (value_of block)
   current_says half some =
       ap (λ (o : Option Half). says_of (option_map (λ h. (read.sequence, read.body.bytes)) o)) (sym some) ∙ ap says_of is.value
+
+-- a block whose gates are both shut is a blank cell, whoever owns it
+pub shut_is_blank : (host : ℕ) (block : List ℕ) → is_open (first_of block) ≡ false → is_open (second_of block) ≡ false → IsCell host block blank_cell
+shut_is_blank host block first second =
+    let later = nat_lt (sequence_of (first_of block)) (sequence_of (second_of block)) in
+    let none : None ≡ current_of block =
+    sym (ap (λ (b : Bool). choice b (is_open (second_of block)) later) first ∙ ap (λ (b : Bool). choice false b later) second) in
+    record {
+      sound = record { copies = copies; apart = λ o. absurd (true≢false (sym o ∙ first)) };
+      read = record {
+        current = none;
+        value = ap (λ (o : Option Half). value_at o (first_of block) (second_of block)) none;
+        next_is_open = sym first ∙ ap (λ (o : Option Half). is_open (copy_of (target_at o) block)) none;
+        blank_number = λ t. refl;
+        blank_body = λ t. refl;
+      };
+      says = ap (λ (o : Option Half). says_of (value_at o (first_of block) (second_of block))) none;
+    }
+  where
+    copies : (half : Half) → is_open (copy_of half block) ≡ true → IsSound host (copy_of half block)
+    copies First o = absurd (true≢false (sym o ∙ first))
+    copies Second o = absurd (true≢false (sym o ∙ second))
 
 -- ---- what a sound block says
 

@@ -183,6 +183,18 @@ unfolding zeros
 zero_since zero = refl
 zero_since (suc n) = zero_since n
 
+same_tests : (a b : Bool) → (a ≡ true → b ≡ true) → (b ≡ true → a ≡ true) → a ≡ b
+same_tests true b there back = sym (there refl)
+same_tests false true there back = back refl
+same_tests false false there back = refl
+
+-- a value is compared with zeros, or each byte of it is
+pub no_value_tells : (bytes : List ℕ) → length bytes ≡ VALUE_LENGTH → pointwise nat_eq bytes (zeros VALUE_LENGTH) ≡ list_all (λ b. b == 0) bytes
+no_value_tells bytes long =
+    same_tests (pointwise nat_eq bytes (zeros VALUE_LENGTH)) (list_all (λ b. b == 0) bytes)
+    (λ t. ap (list_all (λ b. b == 0)) ((bytes_decides bytes (zeros VALUE_LENGTH)).0 t) ∙ zero_since VALUE_LENGTH)
+    (λ t. (bytes_decides bytes (zeros VALUE_LENGTH)).1 (zero_tells bytes t ∙ ap zeros long))
+
 -- ---- the tests of a reader that has the heading, the ballots and the value apart
 
 module _ (front back : List ℕ) (seven : length front ≡ HEADING_LENGTH) (rest : length back ≡ VOTE_LENGTH) (fits : AreBytes back) where

@@ -1,7 +1,7 @@
 -- A row: a block of each host, when it is damaged, and what it says.
-use Rattle.std.specs.Prelude.{◌≡◌, ◌&&◌, ◌<◌, ℕ, Bool, List, ◌∷◌, length, map, slice_index_or, Option, Some, None, if◌then◌else◌}
+use Rattle.std.specs.Prelude.{◌≡◌, ◌&&◌, ◌<◌, ℕ, Bool, false, List, ◌∷◌, length, map, replicate, slice_index_or, Option, Some, None, if◌then◌else◌}
 use Rattle.std.specs.List.{HoldsAt, list_any, range_with_len}
-use Rattle.torn_block.specs.declared.layout.TheConstants.{HOSTS, BLOCK_LENGTH}
+use Rattle.torn_block.specs.declared.layout.TheConstants.{HOSTS, BLOCK_LENGTH, BODY_LENGTH}
 use Rattle.torn_block.specs.Block.{sequence_of, body_of, tail_with, value_of}
 use Rattle.torn_block.specs.Plan.{IsReading, told_value}
 use Rattle.torn_block.specs.Damage.{IsSequence, IsSoundBlock, IsDamaged, block_of, first_of, second_of, is_sequence, is_damaged}
@@ -52,6 +52,10 @@ pub record IsCell (host : ℕ) (block : List ℕ) (cell : Cell) : Type 0 where
   pub sound : IsSoundBlock (IsSound host) block
   pub read : IsReading block cell.block
   pub says : cell.says ≡ says_of (value_of block)
+
+-- the cell of a block whose gates are both shut
+abbrev pub blank_cell : Cell
+blank_cell = record { block = record { current = None; sequence = 0; body = record { bytes = replicate BODY_LENGTH 0 }; next_is_open = false }; says = blank }
 
 -- a row over its bytes
 abbrev pub IsRow : List ℕ → Row → Type 0

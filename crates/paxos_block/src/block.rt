@@ -1,11 +1,12 @@
-ghost use Rattle.std.specs.Prelude.{◌≡◌, ◌≢◌, ◌↔◌, ◌++◌, Bool, IsTrue, length, Some, IfSome, MatchOption, option_copied};
+ghost use Rattle.std.specs.Prelude.{◌≡◌, ◌≢◌, ◌↔◌, ◌++◌, ◌==◌, Bool, IsTrue, length, Some, IfSome, MatchOption, option_copied};
+ghost use Rattle.std.specs.List.{list_all};
 ghost use Rattle.paxos_block.specs.Ballot;
 ghost use Rattle.paxos_block.specs.Saying;
 ghost use Rattle.paxos_block.specs.Saying.{MaySay, body_saying, claim_of, said_by, heading, value_bytes};
 ghost use Rattle.paxos_block.specs.Votes.{later_of};
 
 use crate::ballot::is_ballot_of;
-use crate::number::{NUMBER_LENGTH, is_zero, number_in, put_number};
+use crate::number::{NUMBER_LENGTH, number_in, put_number};
 use torn_block::{BODY_LENGTH, Body, HEADING_LENGTH, VALUE_LENGTH, VERSION};
 
 /// The bytes of a body behind its heading: two ballots and an input.
@@ -21,6 +22,8 @@ const FLAG_AT: usize = 1;
 const VOTED: [u8; HEADING_LENGTH] = [VERSION, 1, 0, 0, 0, 0, 0];
 
 const BLANK: [u8; HEADING_LENGTH] = [VERSION, 0, 0, 0, 0, 0, 0];
+
+const NO_VALUE: Value = [0; VALUE_LENGTH];
 
 /// An input: a command, spelled in bytes that are not looked at here.
 pub type Value = [u8; VALUE_LENGTH];
@@ -127,7 +130,7 @@ pub(crate) fn is_said(host: u8, front: &[u8], back: &[u8]) -> bool
             true,
         ),
         Some(false) => {
-            is_zero(&back[BALLOTS_LENGTH..])
+            has_no_value(&back[BALLOTS_LENGTH..])
                 && may_promise(
                     host,
                     number_in(back),
@@ -162,6 +165,14 @@ fn value_in(bytes: &[u8]) -> Value
     let mut value = [0; VALUE_LENGTH];
     value.copy_from_slice(bytes);
     value
+}
+
+// Whether the bytes of a value are zeros. They are compared with zeros in one go, since a row may have sixteen such.
+fn has_no_value(bytes: &[u8]) -> bool
+    requires { length bytes.now ≡ VALUE_LENGTH }
+    ensures { result ≡ list_all (λ b. b == 0) bytes.now }
+{
+    bytes == NO_VALUE.as_slice()
 }
 
 // Whether there is an input, by a body's heading. None where that is no heading.

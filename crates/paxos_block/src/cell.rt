@@ -1,15 +1,15 @@
-ghost use Rattle.std.specs.Prelude.{◌≡◌, length, IfOk, OnErr};
+ghost use Rattle.std.specs.Prelude.{◌≡◌, ℕ, IsTrue, length, IfOk, OnErr};
 ghost use Rattle.torn_block.specs.Damage;
 ghost use Rattle.torn_block.specs.Damage.{IsDamagedBlock};
 ghost use Rattle.paxos_block.specs.Saying.{claim_of};
 ghost use Rattle.paxos_block.specs.Row as rows;
-ghost use Rattle.paxos_block.specs.Row.{IsCell, IsSound};
+ghost use Rattle.paxos_block.specs.Row.{IsCell, IsSound, blank_cell};
 
 use crate::block::{PBlock, VOTE_LENGTH, claim, is_said};
 use crate::damaged::Damaged;
 use torn_block::{
-    BLOCK_LENGTH, Block128, Body, COPY_LENGTH, HEADING_LENGTH, block_in, has_twins, is_open,
-    is_sequence, sequence_in,
+    BLOCK_LENGTH, BODY_LENGTH, Block128, Body, COPY_LENGTH, HEADING_LENGTH, block_in, has_twins,
+    is_open, is_sequence, sequence_in,
 };
 
 /// A host's block of a slot, as it was read.
@@ -19,6 +19,30 @@ pub struct Cell {
     pub block: Block128,
     /// What it says; a blank block says `PBlock::BLANK`.
     pub says: PBlock,
+}
+
+impl Cell {
+    /// A block whose gates are both shut.
+    pub const BLANK: Cell = Cell {
+        block: Block128 {
+            current: None,
+            sequence: 0,
+            body: Body {
+                bytes: [0; BODY_LENGTH],
+            },
+            next_is_open: false,
+        },
+        says: PBlock::BLANK,
+    };
+}
+
+// Whether the gates of a block are both shut.
+pub(crate) fn is_blank(bytes: &[u8]) -> bool
+    requires { length bytes.now ≡ BLOCK_LENGTH }
+    ensures { IsTrue result → (host : ℕ) → IsCell host bytes.now blank_cell }
+{
+    let (first, second) = bytes.split_at(COPY_LENGTH);
+    !is_open(first) && !is_open(second)
 }
 
 // The cell that these bytes of a host's block are.

@@ -1,11 +1,11 @@
-ghost use Rattle.std.specs.Prelude.{◌≡◌, ◌↔◌, ◌<◌, List, None, IfOk, IsErr};
+ghost use Rattle.std.specs.Prelude.{◌≡◌, ◌↔◌, ◌<◌, List, None, IfOk, OnOk, IsErr};
 ghost use Rattle.std.specs.Option.{IsSomeAnd};
 ghost use Rattle.torn_block.specs.declared.layout.TheConstants.{HOSTS};
 ghost use Rattle.paxos_block.specs.Row.{IsRow, IsDamagedRow, SeenBlock, row_said, seen_at, IsSeenAs, AreSeenAs};
 ghost use Rattle.paxos_block.specs.Votes.{top_of, others_top_of, latest_in};
 
 use crate::block::PBlock;
-use crate::cell::{Cell, cell_in};
+use crate::cell::{Cell, cell_in, is_blank};
 use crate::damaged::Damaged;
 use torn_block::{BLOCK_LENGTH, HOSTS, ROW_LENGTH};
 
@@ -17,6 +17,32 @@ pub struct Row {
 }
 
 impl Row {
+    /// A row to read into: no host has a block.
+    pub const BLANK: Row = Row {
+        cells: [Cell::BLANK; HOSTS],
+    };
+
+    /// Reads the row that these bytes are, in place. Where they are damaged, some cells are left as they were.
+    pub fn read(&mut self, bytes: &[u8; ROW_LENGTH]) -> Result<(), Damaged>
+        ensures damaged { IsErr result ↔ IsDamagedRow bytes.now }
+        ensures row { OnOk result (IsRow bytes.now self.new) }
+        // The same by the one function of the bytes that the layers above go by.
+        ensures unsaid { IsErr result ↔ (row_said bytes.now ≡ None) }
+        ensures said { OnOk result (IsSomeAnd (row_said bytes.now) (λ seen. AreSeenAs seen self.new)) }
+    {
+        for host in 0..HOSTS {
+            let place = BLOCK_LENGTH * host;
+            let block = &bytes[place..place + BLOCK_LENGTH];
+            if is_blank(block) {
+                self.cells[host] = Cell::BLANK;
+                continue;
+            }
+            let cell = cell_in(host as u8, block)?;
+            self.cells[host] = cell;
+        }
+        Ok(())
+    }
+
     /// A host's block.
     pub fn cell(&self, host: u8) -> &Cell
         requires { host < HOSTS }
@@ -76,12 +102,9 @@ pub fn decode_row(bytes: &[u8; ROW_LENGTH]) -> Result<Row, Damaged>
     ensures said { IfOk result (λ row.
         IsSomeAnd (row_said bytes.now) (λ seen. AreSeenAs seen row)) }
 {
-    let mut cells = [cell_in(0, &bytes[..BLOCK_LENGTH])?; HOSTS];
-    for host in 1..HOSTS {
-        let place = BLOCK_LENGTH * host;
-        cells[host] = cell_in(host as u8, &bytes[place..place + BLOCK_LENGTH])?;
-    }
-    Ok(Row { cells })
+    let mut row = Row::BLANK;
+    row.read(bytes)?;
+    Ok(row)
 }
 
 #[cfg(test)]

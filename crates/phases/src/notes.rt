@@ -19,7 +19,7 @@ use crate::need::DeviceCall;
 use crate::phase::{Phase, Stage};
 use crate::visit::{UNSEEN, Visit};
 use disk::Boot;
-use paxos_block::{PBlock, Row, Value, ballot_above, block_place, decode_row, encode, row_place};
+use paxos_block::{PBlock, Row, Value, ballot_above, block_place, encode, row_place};
 use torn_block::{Block128, BlockNeed, DISKS, ROW_LENGTH, WriteSteps};
 
 /// As many as there may be disks.
@@ -146,7 +146,7 @@ impl Notes {
         }
     }
 
-    // The bytes of a row were read. A function pays for the room of its rows at its start, so that room is here and not
+    // The bytes of a row were read. A function pays for the room of its row at its start, so that room is here and not
     // in `hear`, to which most answers bring no row.
     #[inline(never)]
     fn hear_row(&mut self, bytes: &[u8; ROW_LENGTH])
@@ -158,9 +158,9 @@ impl Notes {
         ensures follows { (s : Setup) (f : Answers) → IsInOrder s (phase_of self.old) self.old.disk f →
             Follows s f self.old → Follows s (more f self.old.disk (answers.Told (row_said bytes.now))) self.new }
     {
-        let read = decode_row(bytes);
-        match &read {
-            Ok(row) => self.take_row(row),
+        let mut row = Row::BLANK;
+        match row.read(bytes) {
+            Ok(()) => self.take_row(&row),
             Err(_) => self.drop_disk(),
         }
     }

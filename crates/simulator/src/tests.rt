@@ -21,7 +21,7 @@ fn first_reply(rt: HostRuntime) -> Result<(), Fail> {
     let script = read_script(rt.alloc(), FIRST_REPLY)?;
     let mut sim = Sim::new(rt.alloc(), script.config)?;
     let mut answers = Vec::new(rt.alloc());
-    for event in &script.events {
+    for event in &script.events.to_vec(rt.alloc())? {
         if let Some(answer) = sim.event(rt.alloc(), event)? {
             answers.push((answer.place, answer.host.get(), answer.said))?;
         }
@@ -40,7 +40,8 @@ fn first_reply(rt: HostRuntime) -> Result<(), Fail> {
 #[test]
 fn torn_gate(rt: HostRuntime) -> Result<(), Fail> {
     let script = read_script(rt.alloc(), TORN_GATE)?;
-    let report = run(rt.alloc(), script.config, &script.events)?;
+    let events = script.events.to_vec(rt.alloc())?;
+    let report = run(rt.alloc(), script.config, &events)?;
     let answers = report.answers();
     assert_eq!(rt; answers.len(), 1);
     assert_eq!(rt; answers[0].place, 25);
@@ -53,7 +54,8 @@ fn torn_gate(rt: HostRuntime) -> Result<(), Fail> {
 #[test]
 fn taken_over(rt: HostRuntime) -> Result<(), Fail> {
     let script = read_script(rt.alloc(), TAKEN_OVER)?;
-    let report = run(rt.alloc(), script.config, &script.events)?;
+    let events = script.events.to_vec(rt.alloc())?;
+    let report = run(rt.alloc(), script.config, &events)?;
     let answers = report.answers();
     assert_eq!(rt; answers.len(), 2);
     assert_eq!(rt; answers[0].place, 36);
@@ -70,7 +72,8 @@ fn parts_say_the_same(rt: HostRuntime) -> Result<(), Fail> {
     let script = read_script(rt.alloc(), FIRST_REPLY)?;
     let mut parts = Parts::new(rt.alloc(), script.config)?;
     let mut said = Vec::new(rt.alloc());
-    for (place, event) in script.events.iter().enumerate() {
+    let events = script.events.to_vec(rt.alloc())?;
+    for (place, event) in events.iter().enumerate() {
         if let Some(heard) = parts.event(rt.alloc(), event)? {
             said.push((place, heard.host.get()))?;
         }

@@ -17,20 +17,20 @@ returns-in-Some-true c =
     ∙ ap (λ (b : ℕ). may_promise c.args.host (number_at 0 c.args.back.now) b true) bal
     ∙ sym (said_voted c.args.front.now c.args.back.now c.requires.front c.requires.back (λ i. omega (arith, c.type_inv.back i)) c.args.host voted)
 
-pub returns-then-is_zero : goal.returns-then-is_zero
-returns-then-is_zero c =
+pub returns-then-has_no_value : goal.returns-then-has_no_value
+returns-then-has_no_value c =
     let blank : c.args.front.now ≡ heading false = c.in-Some-false.ensures ∙ ap heading c.in-Some-false.field-0-test in
-    let bal = c.number_in-then-is_zero-2.ensures ∙ number_behind c.args.front.now c.args.back.now c.requires.front c.requires.back (λ i. omega (arith, c.type_inv.back i)) in
+    let bal = c.number_in-then-has_no_value-2.ensures ∙ number_behind c.args.front.now c.args.back.now c.requires.front c.requires.back (λ i. omega (arith, c.type_inv.back i)) in
     let no_value =
-    zero_value_tells c.args.front.now c.args.back.now c.requires.front c.requires.back (λ i. omega (arith, c.type_inv.back i)) (sym c.is_zero.ensures ∙ c.if-is_zero.true) in
-    c.may_promise-then-is_zero.ensures
-    ∙ ap (λ (m : ℕ). may_promise c.args.host m c.number_in-then-is_zero-2.result false) c.number_in-then-is_zero.ensures
+    zero_value_tells c.args.front.now c.args.back.now c.requires.front c.requires.back (λ i. omega (arith, c.type_inv.back i)) (sym c.has_no_value.ensures ∙ c.if-has_no_value.true) in
+    c.may_promise-then-has_no_value.ensures
+    ∙ ap (λ (m : ℕ). may_promise c.args.host m c.number_in-then-has_no_value-2.result false) c.number_in-then-has_no_value.ensures
     ∙ ap (λ (b : ℕ). may_promise c.args.host (number_at 0 c.args.back.now) b false) bal
     ∙ sym (said_blank c.args.front.now c.args.back.now c.requires.front c.requires.back (λ i. omega (arith, c.type_inv.back i)) c.args.host blank no_value)
 
-pub returns-else-is_zero : goal.returns-else-is_zero
-returns-else-is_zero c =
+pub returns-else-has_no_value : goal.returns-else-has_no_value
+returns-else-has_no_value c =
     let blank : c.args.front.now ≡ heading false = c.in-Some-false.ensures ∙ ap heading c.in-Some-false.field-0-test in
     let tail =
-    zero_value_fails c.args.front.now c.args.back.now c.requires.front c.requires.back (λ i. omega (arith, c.type_inv.back i)) (sym c.is_zero.ensures ∙ c.if-is_zero.false) in
-    c.if-is_zero.false ∙ sym (not_said_with_a_tail c.args.front.now c.args.back.now c.requires.front c.requires.back (λ i. omega (arith, c.type_inv.back i)) c.args.host blank tail)
+    zero_value_fails c.args.front.now c.args.back.now c.requires.front c.requires.back (λ i. omega (arith, c.type_inv.back i)) (sym c.has_no_value.ensures ∙ c.if-has_no_value.false) in
+    c.if-has_no_value.false ∙ sym (not_said_with_a_tail c.args.front.now c.args.back.now c.requires.front c.requires.back (λ i. omega (arith, c.type_inv.back i)) c.args.host blank tail)

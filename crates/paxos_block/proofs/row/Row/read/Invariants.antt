@@ -3,7 +3,7 @@ use Rattle.std.specs.List.{HoldsAt}
 use Rattle.paxos_block.specs.declared.cell.Cell.{Cell}
 use Rattle.paxos_block.specs.Row.{IsCell}
 use Rattle.torn_block.specs.Damage.{block_of}
-use Rattle.paxos_block.proofs.row.decode_row.Given as goal
+use Rattle.paxos_block.proofs.row.Row.read.Given as goal
 
 -- the cells so far are those of their hosts
 pub record Cells (bytes : List ℕ) (cells : List Cell) (host : ℕ) : Type 0 where
@@ -11,4 +11,4 @@ pub record Cells (bytes : List ℕ) (cells : List Cell) (host : ℕ) : Type 0 wh
   pub done : (k : ℕ) → k < host → HoldsAt (IsCell k (block_of k bytes)) cells k
 
 abbrev pub invariant-loop-host : goal.invariant-loop-host
-invariant-loop-host l = Cells l.bytes l.cells l.host
+invariant-loop-host l = Cells l.bytes l.self.cells l.host
