@@ -17,11 +17,13 @@ mod script;
 mod show;
 mod words;
 
+pub use command_words::read_command;
 pub use event::Event;
+pub use number::number_in;
 pub use given::Given;
 pub use reading::read_script;
 pub use script::{Script, ScriptFault};
-pub use show::Show;
+pub use show::{Show, View};
 
 #[cfg(test)]
 mod tests;
