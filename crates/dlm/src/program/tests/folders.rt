@@ -4,10 +4,23 @@ use super::*;
 use std::process::Abort;
 use std::test::Fail;
 
-const FOLDER: &str = "dlm_folder_test";
+/// A step of a test on files.
+#[derive(Clone, Copy)]
+enum Step {
+    /// These words, parted by single spaces, give a status, and print (with status 0) or tell this.
+    Gives(&'static str, u8, &'static str),
+    /// The byte at this place of a file is this one.
+    Byte(&'static str, usize, u8),
+    /// A file has so many bytes; what is added is zero.
+    Length(&'static str, usize),
+    /// A file has so many bytes, and they are all zero.
+    Zeros(&'static str, usize),
+    /// A file is a copy of another.
+    Copy(&'static str, &'static str),
+    Remove(&'static str),
+}
 
-/// What words, parted by single spaces, give: the status, and what is printed or told.
-type Given = (&'static str, u8, &'static str);
+use Step::{Byte, Copy, Gives, Length, Remove, Zeros};
 
 /// A folder for one test, with nothing in it.
 fn new_folder<R: Files + AllocGlobal>(rt: &R, name: &str) -> Result<(), Fail> {
@@ -16,90 +29,134 @@ fn new_folder<R: Files + AllocGlobal>(rt: &R, name: &str) -> Result<(), Fail> {
     Ok(())
 }
 
-/// Runs the program on each list of words in turn.
-fn run_all<R: Files + Input + AllocGlobal + Abort>(rt: &R, calls: &[Given]) -> Result<(), Fail>
+/// Takes the steps in turn.
+fn follow<R: Files + Input + AllocGlobal + Abort>(rt: &R, steps: &[Step]) -> Result<(), Fail>
 where
     R::File: FileExt + OpenFile + Drop,
 {
-    for (text, status, told) in calls {
-        let words: Vec<&str> = text.split(' ').collect(rt.alloc())?;
-        let mut out = Vec::new(rt.alloc());
-        let mut err = Vec::new(rt.alloc());
-        let end = run_words(rt, &words, &mut out, &mut err);
-        let (printed, told) = if *status == 0 {
-            (*told, "")
-        } else {
-            ("", *told)
-        };
-        assert_eq!(rt; out.as_slice(), printed.as_bytes(), "printed at {text}");
-        assert_eq!(rt; err.as_slice(), told.as_bytes(), "told at {text}");
-        assert_eq!(rt; end, *status, "status at {text}");
+    for step in steps {
+        take(rt, *step)?;
     }
+    Ok(())
+}
+
+fn take<R: Files + Input + AllocGlobal + Abort>(rt: &R, step: Step) -> Result<(), Fail>
+where
+    R::File: FileExt + OpenFile + Drop,
+{
+    match step {
+        Gives(text, status, told) => gives(rt, text, status, told),
+        Byte(path, at, byte) => put_byte(rt, path, at, byte),
+        Length(path, length) => put_length(rt, path, length),
+        Zeros(path, length) => put_zeros(rt, path, length),
+        Copy(from, to) => {
+            fs::copy(rt, from, to)?;
+            Ok(())
+        }
+        Remove(path) => {
+            fs::remove_file(rt, path)?;
+            Ok(())
+        }
+    }
+}
+
+fn gives<R: Files + Input + AllocGlobal + Abort>(
+    rt: &R,
+    text: &str,
+    status: u8,
+    told: &str,
+) -> Result<(), Fail>
+where
+    R::File: FileExt + OpenFile + Drop,
+{
+    let words: Vec<&str> = text.split(' ').collect(rt.alloc())?;
+    let mut out = Vec::new(rt.alloc());
+    let mut err = Vec::new(rt.alloc());
+    let end = run_words(rt, &words, &mut out, &mut err);
+    let (printed, told) = if status == 0 { (told, "") } else { ("", told) };
+    assert_eq!(rt; out.as_slice(), printed.as_bytes(), "printed at {text}");
+    assert_eq!(rt; err.as_slice(), told.as_bytes(), "told at {text}");
+    assert_eq!(rt; end, status, "status at {text}");
+    Ok(())
+}
+
+fn put_byte<R: Files + AllocGlobal + Abort>(
+    rt: &R,
+    path: &str,
+    at: usize,
+    byte: u8,
+) -> Result<(), Fail> {
+    let mut bytes = fs::read(rt, path)?;
+    assert!(rt; at < bytes.len());
+    bytes[at] = byte;
+    fs::write(rt, path, bytes.as_slice())?;
+    Ok(())
+}
+
+fn put_length<R: Files + AllocGlobal>(rt: &R, path: &str, length: usize) -> Result<(), Fail> {
+    let mut bytes = fs::read(rt, path)?;
+    bytes.resize(length, 0)?;
+    fs::write(rt, path, bytes.as_slice())?;
+    Ok(())
+}
+
+fn put_zeros<R: Files + AllocGlobal>(rt: &R, path: &str, length: usize) -> Result<(), Fail> {
+    let bytes = vec![in rt.alloc(); 0u8; length]?;
+    fs::write(rt, path, bytes.as_slice())?;
     Ok(())
 }
 
 #[test]
 fn from_format_to_lost_disks(rt: HostRuntime) -> Result<(), Fail> {
-    new_folder(&rt, "dlm_folder_test_a")?;
-    let before: [Given; 8] = [
-        ("table dlm_folder_test_a 0", 1, "dlm: 26 Unreadable disk0\n"),
-        (
-            "format dlm_folder_test_a 3 16 7",
+    new_folder(&rt, "dlm_folder_a")?;
+    let steps = [
+        Gives("table dlm_folder_a 0", 1, "dlm: 26 Unreadable disk0\n"),
+        Gives(
+            "format dlm_folder_a 3 16 7",
             0,
             "formatted 3 disks, 16 slots\n",
         ),
-        (
-            "format dlm_folder_test_a 3 16 7",
-            1,
-            "dlm: 29 AlreadyThere\n",
-        ),
-        (
-            "submit dlm_folder_test_a 0 enqueue 1 1 1 EX db",
+        Gives("format dlm_folder_a 3 16 7", 1, "dlm: 29 AlreadyThere\n"),
+        Gives(
+            "submit dlm_folder_a 0 enqueue 1 1 1 EX db",
             0,
             "ack 0 Granted\n",
         ),
-        (
-            "submit dlm_folder_test_a 3 enqueue 2 1 2 EX db noqueue",
+        Gives(
+            "submit dlm_folder_a 3 enqueue 2 1 2 EX db noqueue",
             0,
             "ack 1 16 NotQueued\n",
         ),
-        (
-            "table dlm_folder_test_a 1",
+        Gives(
+            "table dlm_folder_a 1",
             0,
             "recovered 2\ndb\n  granted 1 1 0 EX\n",
         ),
-        (
-            "submit dlm_folder_test_a 0 enqueue 1 1 1 EX db",
+        // The same words again are the command that is in the log; through another host they are another one, and get
+        // the reply that is kept.
+        Gives(
+            "submit dlm_folder_a 0 enqueue 1 1 1 EX db",
             0,
             "ack 0 Granted\n",
         ),
-        // Through another host it is another command, and gets the reply that is kept.
-        (
-            "submit dlm_folder_test_a 3 enqueue 1 1 1 EX db",
+        Gives(
+            "submit dlm_folder_a 3 enqueue 1 1 1 EX db",
             0,
             "ack 2 Granted\n",
         ),
+        Zeros("dlm_folder_a/disk1.img", 18432),
+        Gives(
+            "table dlm_folder_a 2",
+            0,
+            "recovered 3\ndb\n  granted 1 1 0 EX\n",
+        ),
+        Remove("dlm_folder_a/disk2.img"),
+        Gives("table dlm_folder_a 2", 1, "dlm: 7 NoMajority\n"),
+        Zeros("dlm_folder_a/disk0.img", 18432),
+        Gives("table dlm_folder_a 2", 1, "dlm: 24 NotFormatted disk0\n"),
     ];
-    run_all(&rt, &before)?;
-    let zeros = [0u8; 18432];
-    fs::write(&rt, "dlm_folder_test_a/disk1.img", zeros.as_slice())?;
-    let one_lost: [Given; 1] = [(
-        "table dlm_folder_test_a 2",
-        0,
-        "recovered 3\ndb\n  granted 1 1 0 EX\n",
-    )];
-    run_all(&rt, &one_lost)?;
-    fs::remove_file(&rt, "dlm_folder_test_a/disk2.img")?;
-    let two_lost: [Given; 1] = [("table dlm_folder_test_a 2", 1, "dlm: 7 NoMajority\n")];
-    run_all(&rt, &two_lost)?;
-    fs::write(&rt, "dlm_folder_test_a/disk0.img", zeros.as_slice())?;
-    let all_lost: [Given; 1] = [(
-        "table dlm_folder_test_a 2",
-        1,
-        "dlm: 24 NotFormatted disk0\n",
-    )];
-    run_all(&rt, &all_lost)?;
-    fs::remove_dir_all(&rt, "dlm_folder_test_a")?;
+    follow(&rt, &steps)?;
+    fs::remove_dir_all(&rt, "dlm_folder_a")?;
     Ok(())
 }
 
@@ -114,21 +171,21 @@ const FIRST_BLOCK: [u8; 128] = [
 
 #[test]
 fn bytes_of_an_image(rt: HostRuntime) -> Result<(), Fail> {
-    new_folder(&rt, "dlm_folder_test_b")?;
-    let made: [Given; 2] = [
-        (
-            "format dlm_folder_test_b 3 16 7",
+    new_folder(&rt, "dlm_folder_b")?;
+    let steps = [
+        Gives(
+            "format dlm_folder_b 3 16 7",
             0,
             "formatted 3 disks, 16 slots\n",
         ),
-        (
-            "submit dlm_folder_test_b 0 enqueue 1 1 1 EX db",
+        Gives(
+            "submit dlm_folder_b 0 enqueue 1 1 1 EX db",
             0,
             "ack 0 Granted\n",
         ),
     ];
-    run_all(&rt, &made)?;
-    let image = fs::read(&rt, "dlm_folder_test_b/disk1.img")?;
+    follow(&rt, &steps)?;
+    let image = fs::read(&rt, "dlm_folder_b/disk1.img")?;
     assert_eq!(rt; image.len(), 18432);
     let header = [0xa5u8, 1, 1, 3, 0, 0, 0, 16, 0, 0, 0, 0, 0, 0, 0, 7];
     for (at, byte) in image.iter().enumerate() {
@@ -139,161 +196,124 @@ fn bytes_of_an_image(rt: HostRuntime) -> Result<(), Fail> {
         };
         assert_eq!(rt; *byte, expected, "at {at}");
     }
-    fs::remove_dir_all(&rt, "dlm_folder_test_b")?;
+    fs::remove_dir_all(&rt, "dlm_folder_b")?;
     Ok(())
 }
 
-/// What is done to the only image, of four slots, before it is opened.
-#[derive(Clone, Copy)]
-enum Damage {
-    /// The byte at this place is this one.
-    Byte(usize, u8),
-    /// The file has so many bytes; what is added is zero.
-    Length(usize),
-    /// It has so many bytes, and they are all zero.
-    Zeros(usize),
-}
+const ONLY: &str = "dlm_folder_c/disk0.img";
 
-/// Each check, in its order: where two faults meet, the one that is looked for first is told.
-const DAMAGES: [(Damage, &str); 18] = [
-    (Damage::Length(0), "dlm: 25 WrongHeader disk0\n"),
-    (Damage::Zeros(1023), "dlm: 25 WrongHeader disk0\n"),
-    (Damage::Length(1023), "dlm: 25 WrongHeader disk0\n"),
-    (Damage::Zeros(1024), "dlm: 24 NotFormatted disk0\n"),
-    (Damage::Zeros(6144), "dlm: 24 NotFormatted disk0\n"),
-    (Damage::Byte(0, 0), "dlm: 24 NotFormatted disk0\n"),
-    (Damage::Byte(0, 0xa4), "dlm: 24 NotFormatted disk0\n"),
-    (Damage::Byte(1, 2), "dlm: 25 WrongHeader disk0\n"),
-    (Damage::Byte(2, 1), "dlm: 25 WrongHeader disk0\n"),
-    (Damage::Byte(3, 0), "dlm: 25 WrongHeader disk0\n"),
-    (Damage::Byte(3, 8), "dlm: 25 WrongHeader disk0\n"),
-    (Damage::Byte(4, 1), "dlm: 25 WrongHeader disk0\n"),
-    (Damage::Byte(7, 0), "dlm: 25 WrongHeader disk0\n"),
-    (Damage::Byte(7, 5), "dlm: 25 WrongHeader disk0\n"),
-    (Damage::Byte(16, 1), "dlm: 25 WrongHeader disk0\n"),
-    (Damage::Byte(1023, 1), "dlm: 25 WrongHeader disk0\n"),
-    (Damage::Length(6143), "dlm: 25 WrongHeader disk0\n"),
-    (Damage::Length(6145), "dlm: 25 WrongHeader disk0\n"),
+/// What is done to the only image, of four slots, before it is opened, by the checks in their order: where two faults meet, the
+/// one that is looked for first is told.
+const WRONG: [Step; 13] = [
+    Length(ONLY, 0),
+    Zeros(ONLY, 1023),
+    Length(ONLY, 1023),
+    Byte(ONLY, 1, 2),
+    Byte(ONLY, 2, 1),
+    Byte(ONLY, 3, 0),
+    Byte(ONLY, 3, 8),
+    Byte(ONLY, 4, 1),
+    Byte(ONLY, 7, 0),
+    Byte(ONLY, 7, 5),
+    Byte(ONLY, 16, 1),
+    Byte(ONLY, 1023, 1),
+    Length(ONLY, 6145),
+];
+
+const UNFORMATTED: [Step; 4] = [
+    Zeros(ONLY, 1024),
+    Zeros(ONLY, 6144),
+    Byte(ONLY, 0, 0),
+    Byte(ONLY, 0, 0xa4),
 ];
 
 #[test]
 fn checks_of_an_image(rt: HostRuntime) -> Result<(), Fail> {
-    new_folder(&rt, FOLDER)?;
-    let made: [Given; 1] = [(
-        "format dlm_folder_test 1 4 7",
-        0,
-        "formatted 1 disks, 4 slots\n",
-    )];
-    run_all(&rt, &made)?;
-    let right = fs::read(&rt, "dlm_folder_test/disk0.img")?;
-    for (damage, told) in DAMAGES {
-        let mut image = right.clone()?;
-        match damage {
-            Damage::Byte(at, byte) => {
-                assert!(rt; at < image.len());
-                image[at] = byte;
-            }
-            Damage::Length(length) => image.resize(length, 0)?,
-            Damage::Zeros(length) => {
-                image.clear();
-                image.resize(length, 0)?;
-            }
-        }
-        fs::write(&rt, "dlm_folder_test/disk0.img", image.as_slice())?;
-        let opened: [Given; 1] = [("table dlm_folder_test 0", 1, told)];
-        run_all(&rt, &opened)?;
+    new_folder(&rt, "dlm_folder_c")?;
+    let whole = "dlm_folder_c/whole";
+    let made = [
+        Gives(
+            "format dlm_folder_c 1 4 7",
+            0,
+            "formatted 1 disks, 4 slots\n",
+        ),
+        Copy(ONLY, whole),
+    ];
+    follow(&rt, &made)?;
+    for damage in WRONG {
+        let told = Gives("table dlm_folder_c 0", 1, "dlm: 25 WrongHeader disk0\n");
+        follow(&rt, &[Copy(whole, ONLY), damage, told])?;
     }
-    let mut other_cluster = right.clone()?;
-    assert!(rt; other_cluster.len() > 15);
-    other_cluster[15] = 8;
-    fs::write(&rt, "dlm_folder_test/disk0.img", other_cluster.as_slice())?;
-    fs::write(&rt, "dlm_folder_test/disk6.img", b"no image".as_slice())?;
-    fs::write(&rt, "dlm_folder_test/disk7.img", right.as_slice())?;
-    let still_right: [Given; 1] = [("table dlm_folder_test 0", 0, "recovered 0\nempty\n")];
-    run_all(&rt, &still_right)?;
-    fs::remove_dir_all(&rt, FOLDER)?;
+    for damage in UNFORMATTED {
+        let told = Gives("table dlm_folder_c 0", 1, "dlm: 24 NotFormatted disk0\n");
+        follow(&rt, &[Copy(whole, ONLY), damage, told])?;
+    }
+    let right = [
+        Copy(whole, ONLY),
+        Byte(ONLY, 15, 8),
+        Zeros("dlm_folder_c/disk6.img", 9),
+        Copy(whole, "dlm_folder_c/disk7.img"),
+        Gives("table dlm_folder_c 0", 0, "recovered 0\nempty\n"),
+    ];
+    follow(&rt, &right)?;
+    fs::remove_dir_all(&rt, "dlm_folder_c")?;
     Ok(())
 }
 
 #[test]
 fn headers_that_disagree(rt: HostRuntime) -> Result<(), Fail> {
-    new_folder(&rt, "dlm_folder_test_c")?;
-    new_folder(&rt, "dlm_folder_test_d")?;
-    let made: [Given; 2] = [
-        (
-            "format dlm_folder_test_c 3 4 7",
+    new_folder(&rt, "dlm_folder_d")?;
+    new_folder(&rt, "dlm_folder_e")?;
+    let steps = [
+        Gives(
+            "format dlm_folder_d 3 4 7",
             0,
             "formatted 3 disks, 4 slots\n",
         ),
-        (
-            "format dlm_folder_test_d 4 5 8",
+        Gives(
+            "format dlm_folder_e 4 5 8",
             0,
             "formatted 4 disks, 5 slots\n",
         ),
+        // A disk that the others do not know, another cluster number, and, without disk 0, the next header that is right.
+        Copy("dlm_folder_e/disk3.img", "dlm_folder_d/disk3.img"),
+        Gives("table dlm_folder_d 0", 1, "dlm: 25 WrongHeader disk3\n"),
+        Byte("dlm_folder_d/disk1.img", 15, 6),
+        Gives("table dlm_folder_d 0", 1, "dlm: 25 WrongHeader disk1\n"),
+        Remove("dlm_folder_d/disk0.img"),
+        Gives("table dlm_folder_d 0", 1, "dlm: 25 WrongHeader disk2\n"),
+        Byte("dlm_folder_d/disk1.img", 15, 7),
+        Remove("dlm_folder_d/disk3.img"),
+        Gives("table dlm_folder_d 0", 0, "recovered 0\nempty\n"),
     ];
-    run_all(&rt, &made)?;
-    let second = fs::read(&rt, "dlm_folder_test_c/disk1.img")?;
-    // Another cluster number, other slots, and a disk that the others do not know.
-    fs::write(
-        &rt,
-        "dlm_folder_test_c/disk3.img",
-        fs::read(&rt, "dlm_folder_test_d/disk3.img")?.as_slice(),
-    )?;
-    let opened: [Given; 1] = [(
-        "table dlm_folder_test_c 0",
-        1,
-        "dlm: 25 WrongHeader disk3\n",
-    )];
-    run_all(&rt, &opened)?;
-    let mut other_cluster = second.clone()?;
-    assert!(rt; other_cluster.len() > 15);
-    other_cluster[15] = 6;
-    fs::write(&rt, "dlm_folder_test_c/disk1.img", other_cluster.as_slice())?;
-    let opened: [Given; 1] = [(
-        "table dlm_folder_test_c 0",
-        1,
-        "dlm: 25 WrongHeader disk1\n",
-    )];
-    run_all(&rt, &opened)?;
-    // Without disk 0 the next right header gives the numbers.
-    fs::remove_file(&rt, "dlm_folder_test_c/disk0.img")?;
-    let opened: [Given; 1] = [(
-        "table dlm_folder_test_c 0",
-        1,
-        "dlm: 25 WrongHeader disk2\n",
-    )];
-    run_all(&rt, &opened)?;
-    fs::remove_file(&rt, "dlm_folder_test_c/disk3.img")?;
-    fs::write(&rt, "dlm_folder_test_c/disk1.img", second.as_slice())?;
-    let opened: [Given; 1] = [("table dlm_folder_test_c 0", 0, "recovered 0\nempty\n")];
-    run_all(&rt, &opened)?;
-    fs::remove_dir_all(&rt, "dlm_folder_test_c")?;
-    fs::remove_dir_all(&rt, "dlm_folder_test_d")?;
+    follow(&rt, &steps)?;
+    fs::remove_dir_all(&rt, "dlm_folder_d")?;
+    fs::remove_dir_all(&rt, "dlm_folder_e")?;
     Ok(())
 }
 
 #[test]
 fn words_that_are_no_task_of_a_folder(rt: HostRuntime) -> Result<(), Fail> {
-    let calls: [Given; 13] = [
-        ("format d 3 16", 2, "dlm: usage\n"),
-        ("format d 0 16 7", 2, "dlm: usage\n"),
-        ("format d 8 16 7", 2, "dlm: usage\n"),
-        ("format d 3 4097 7", 2, "dlm: usage\n"),
-        ("format d 3 16 18446744073709551616", 2, "dlm: usage\n"),
-        ("format d 03 16 7", 2, "dlm: usage\n"),
-        ("table d 8", 2, "dlm: usage\n"),
-        ("table d 0 0", 2, "dlm: usage\n"),
-        ("submit d 8 release 1 1 1", 2, "dlm: usage\n"),
-        ("submit no/such 0", 2, "dlm: bad command\n"),
-        ("submit no/such 0 release 1 1", 2, "dlm: bad command\n"),
-        ("submit no/such 0 release 1 1 1 ", 2, "dlm: bad command\n"),
-        (
+    let steps = [
+        Gives("format d 3 16", 2, "dlm: usage\n"),
+        Gives("format d 0 16 7", 2, "dlm: usage\n"),
+        Gives("format d 8 16 7", 2, "dlm: usage\n"),
+        Gives("format d 3 4097 7", 2, "dlm: usage\n"),
+        Gives("format d 3 16 18446744073709551616", 2, "dlm: usage\n"),
+        Gives("format d 03 16 7", 2, "dlm: usage\n"),
+        Gives("table d 8", 2, "dlm: usage\n"),
+        Gives("table d 0 0", 2, "dlm: usage\n"),
+        Gives("submit d 8 release 1 1 1", 2, "dlm: usage\n"),
+        Gives("submit no/such 0", 2, "dlm: bad command\n"),
+        Gives("submit no/such 0 release 1 1", 2, "dlm: bad command\n"),
+        Gives("submit no/such 0 release 1 1 1 ", 2, "dlm: bad command\n"),
+        Gives(
             "submit no/such 0 release 1 1 1",
             1,
             "dlm: 26 Unreadable disk0\n",
         ),
     ];
-    run_all(&rt, &calls)
+    follow(&rt, &steps)
 }
 
 #[test]
