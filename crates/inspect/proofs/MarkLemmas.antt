@@ -1,10 +1,10 @@
 -- Marks of pairs, as one is set.
-use Rattle.std.proofs.Common.{◌≡◌, ◌≢◌, ◌<◌, ◌≤◌, ◌+◌, ◌*◌, ℕ, Bool, true, false, List, length, slice_index_or, slice_set, slice_get, Some, refl, sym, ◌∙◌, ap, subst, arith, rules, nat_eq, inl, inr, ◌⊎◌, [], ◌∷◌, zero, suc, replicate, true≢false}
+use Rattle.std.proofs.Common.{◌≡◌, ◌≢◌, ◌<◌, ◌+◌, ◌*◌, ℕ, Bool, true, false, List, length, slice_index_or, slice_set, slice_get, Some, refl, sym, ◌∙◌, subst, arith, rules, nat_eq, inl, inr, ◌⊎◌, [], ◌∷◌, zero, suc, replicate, true≢false}
 use Rattle.std.proofs.lemmas.List.{get_or-set_same, get_or-set_other}
 use Rattle.std.proofs.lemmas.Bool.{eqb-true, eqb-false}
 use Rattle.lock_table.specs.declared.record.LockRecord.{LockRecord}
-use Rattle.inspect.specs.Blocked.{IsBlockedBy, is_blocked_by}
-use Rattle.inspect.specs.Marks.{Marked, MarksPair, MarksPlace, mark}
+use Rattle.inspect.specs.Blocked.{IsBlockedBy}
+use Rattle.inspect.specs.Marks.{Marked, MarksPair, MarksPlace}
 
 -- a number is this one, or it is not
 pub same_or_not : (i j : ℕ) → (i ≡ j) ⊎ (i ≢ j)

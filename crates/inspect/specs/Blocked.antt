@@ -1,5 +1,5 @@
 -- Which locks and clients wait for which.
-use Rattle.std.specs.Prelude.{◌≡◌, ◌<◌, ◌≤◌, ◌==◌, ◌&&◌, ◌||◌, nat_lt, not, ℕ, Bool, true, false, List, [], ◌∷◌, slice_get, slice_index_or, Option, Some, All, nat_eq}
+use Rattle.std.specs.Prelude.{◌≡◌, ◌<◌, ◌≤◌, ◌==◌, ◌&&◌, ◌||◌, nat_lt, not, ℕ, Bool, true, false, List, [], ◌∷◌, slice_get, slice_index_or, Some, All, nat_eq}
 use Rattle.std.specs.List.{IsDistinct}
 use Rattle.lock_command.specs.Name.{same_name}
 use Rattle.lock_table.specs.declared.record.LockRecord.{LockRecord}

@@ -1,7 +1,7 @@
 -- A table of edges between clients, a flag for each pair of them.
-use Rattle.std.specs.Prelude.{◌≡◌, ◌<◌, ◌+◌, ◌*◌, ℕ, Bool, true, false, List, slice_index_or, slice_get, Option, Some}
+use Rattle.std.specs.Prelude.{◌≡◌, ◌<◌, ◌+◌, ◌*◌, ℕ, Bool, true, false, List, slice_index_or, slice_get, Some}
 use Rattle.lock_table.specs.declared.record.LockRecord.{LockRecord}
-use Rattle.inspect.specs.Blocked.{IsBlockedBy, is_blocked_by}
+use Rattle.inspect.specs.Blocked.{is_blocked_by}
 
 -- the flag of a pair
 abbrev pub mark : List Bool → ℕ → ℕ → Bool

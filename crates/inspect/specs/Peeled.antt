@@ -1,5 +1,5 @@
 -- Clients that are taken away one after another, once none that is left keeps them waiting.
-use Rattle.std.specs.Prelude.{◌≡◌, ◌<◌, ◌≤◌, ℕ, Bool, true, false, List, length, slice_index_or, nat_eq, All}
+use Rattle.std.specs.Prelude.{◌≡◌, ◌<◌, ℕ, Bool, true, false, List, length, slice_index_or, nat_eq}
 use Rattle.std.specs.List.{IsDistinct, list_any}
 use Rattle.inspect.specs.Marks.{Marked}
 

@@ -19,8 +19,8 @@ mod words;
 
 pub use command_words::read_command;
 pub use event::Event;
-pub use number::number_in;
 pub use given::Given;
+pub use number::number_in;
 pub use reading::read_script;
 pub use script::{Script, ScriptFault};
 pub use show::{Show, View};

@@ -1,4 +1,4 @@
-use crate::{Event, ScriptFault, read_script};
+use crate::{Event, ScriptFault, View, read_script};
 use std::test::Fail;
 
 /// Lines that may stand behind `cluster 3 16`, each with the events that it brings.
@@ -156,7 +156,10 @@ fn most_events(rt: HostRuntime) -> Result<(), Fail> {
     let whole = read_script(rt.alloc(), script.as_slice())?;
     assert_eq!(rt; whole.events.len(), 1_000_000);
     match whole.shows.as_slice() {
-        [show] => assert_eq!(rt; (show.place, show.host.get(), show.view), (1_000_000, 7, View::Blocking)),
+        [show] => assert_eq!(rt;
+            (show.place, show.host.get(), show.view),
+            (1_000_000, 7, View::Blocking)
+        ),
         _ => assert!(rt; false),
     }
     script.extend_from_slice(b"step 0\n")?;

@@ -1,7 +1,6 @@
-use Rattle.std.proofs.Common.{◌≡◌, ◌⊎◌, ℕ, length}
+use Rattle.std.proofs.Common.{◌⊎◌, ℕ}
 use Rattle.inspect.specs.Blocked.{IsBlockedBy}
 use Rattle.inspect.specs.Marks.{Marked, MarksPlace}
-use Rattle.inspect.proofs.MarkLemmas.{same_or_not}
 use Rattle.inspect.proofs.edges.mark_blockers.Given as goal
 
 abbrev pub invariant-loop-j : goal.invariant-loop-j

@@ -1,9 +1,7 @@
-use Rattle.std.proofs.Common.{◌≡◌, ◌<◌, ◌+◌, ◌*◌, ℕ, Bool, true, false, List, slice_get, slice_index_or, Some, sym, ◌∙◌, ap, subst, true≢false, arith}
+use Rattle.std.proofs.Common.{◌≡◌, ℕ, true, false, slice_index_or, sym, ◌∙◌, ap, subst, true≢false, arith}
 use Rattle.std.proofs.lemmas.Option.{get_or_from_slice_get}
 use Rattle.lock_table.specs.declared.record.LockRecord.{LockRecord}
 use Rattle.inspect.specs.Blocked.{is_blocked_by}
-use Rattle.inspect.specs.Marks.{Marked}
-use Rattle.inspect.proofs.MarkLemmas.{set_marked, keeps_marked, marked_before}
 use Rattle.inspect.proofs.edges.mark_pair.Goals as goal
 use Rattle.inspect.proofs.edges.mark_pair.Goals.{else-not-edges-pair-via-then-not-edges-pair+else-is_blocked_by, else-not-edges-pair-via-else-not-edges-pair}
 
