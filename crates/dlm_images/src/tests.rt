@@ -1,5 +1,7 @@
-use crate::{FolderFault, format_folder, open_folder};
-use disk::ImageFault;
+ghost use Rattle.std.specs.Prelude.{◌≡◌, IfOk};
+
+use crate::{Acknowledgement, DiskHost, FolderFault, format_folder, open_folder};
+use disk::{Disk, ImageFault};
 use host::Config;
 use lock_command::{
     Action, ClientNumber, Command, HostNumber, LockName, LockNumber, RequestNumber,
@@ -9,13 +11,16 @@ use lock_table::Reply;
 use std::fs;
 use std::fs::OpenFile;
 use std::os::unix::fs::FileExt;
+use std::process::Abort;
 use std::rt::Files;
 use std::test::Fail;
 
-/// The first request of client `n`: its lock `n` on `db`, through host 0.
-fn enqueue(n: u8) -> Result<Command, Fail> {
+/// The first request of client `n`: its lock `n` on `db`.
+fn enqueue(host: HostNumber, n: u8) -> Result<Command, Fail>
+    ensures { IfOk result (λ command. command.host ≡ host) }
+{
     Ok(Command {
-        host: HostNumber::new(0).ok_or("host")?,
+        host,
         client: ClientNumber::new(n),
         request: RequestNumber::new(1).ok_or("request")?,
         action: Action::Enqueue {
@@ -25,6 +30,12 @@ fn enqueue(n: u8) -> Result<Command, Fail> {
             no_queue: false,
         },
     })
+}
+
+/// What the host answers to that.
+fn submits<D: Disk>(host: &mut DiskHost<D>, n: u8) -> Result<Acknowledgement, Fail> {
+    let command = enqueue(host.host(), n)?;
+    Ok(host.submit(command, 8)?)
 }
 
 #[test]
@@ -62,27 +73,29 @@ where
 }
 
 #[test]
-fn a_host_goes_on_where_it_ended(rt: HostRuntime) -> Result<(), Fail> {
-    let folder = "dlm_images_test_host";
-    new_folder(&rt, folder)?;
-    let mut host = open_folder(&rt, folder)?.host(rt.alloc(), HostNumber::new(0).ok_or("host")?)?;
-    let first = host.submit(enqueue(1)?, 8)?;
+fn a_host_goes_on_and_another_recovers(rt: HostRuntime) -> Result<(), Fail> {
+    let path = "dlm_images_test_host";
+    new_folder(&rt, path)?;
+    let number = HostNumber::new(0).ok_or("host")?;
+    let folder = open_folder(&rt, path)?;
+    let mut host = folder.host(rt.alloc(), number)?;
+    let first = submits(&mut host, 1)?;
     assert_eq!(rt; (first.slot, first.reply), (0, Reply::Granted));
-    let second = host.submit(enqueue(2)?, 8)?;
+    let second = submits(&mut host, 2)?;
     assert_eq!(rt; (second.slot, second.reply), (1, Reply::Queued));
-    fs::remove_dir_all(&rt, folder)?;
+    recovers(&rt, path)?;
+    fs::remove_dir_all(&rt, path)?;
     Ok(())
 }
 
-#[test]
-fn another_host_recovers(rt: HostRuntime) -> Result<(), Fail> {
-    let folder = "dlm_images_test_other";
-    new_folder(&rt, folder)?;
-    let mut host = open_folder(&rt, folder)?.host(rt.alloc(), HostNumber::new(0).ok_or("host")?)?;
-    host.submit(enqueue(1)?, 8)?;
-    let mut other = open_folder(&rt, folder)?.host(rt.alloc(), HostNumber::new(5).ok_or("host")?)?;
-    assert_eq!(rt; other.recover(8)?, 1);
-    assert_eq!(rt; other.prefix().len(), 1);
-    fs::remove_dir_all(&rt, folder)?;
+/// Another host learns both commands.
+fn recovers<R: Files + AllocGlobal + Abort>(rt: &R, path: &str) -> Result<(), Fail>
+where
+    R::File: FileExt + OpenFile + Drop,
+{
+    let number = HostNumber::new(5).ok_or("host")?;
+    let mut host = open_folder(rt, path)?.host(rt.alloc(), number)?;
+    assert_eq!(rt; host.recover(8)?, 2);
+    assert_eq!(rt; host.prefix().len(), 2);
     Ok(())
 }
