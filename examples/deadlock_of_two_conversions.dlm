@@ -14,8 +14,10 @@ step 0 17
 submit 0 1 convert 2 2 2 EX
 step 0 17
 show 0
+blocking 0
 
 # Client 2 gives up its lock, and client 1 is granted what it waited for.
 submit 0 1 release 2 3 2
 step 0 17
 show 0
+blocking 0

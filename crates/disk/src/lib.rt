@@ -4,6 +4,7 @@
 mod boot;
 mod device;
 mod fault;
+mod file;
 mod image;
 mod law;
 mod marks;
@@ -13,6 +14,7 @@ mod word;
 pub use boot::Boot;
 pub use device::Disk;
 pub use fault::{DiskFault, ImageFault, NoMemory};
+pub use file::FileDisk;
 pub use law::calls_keep_the_shape;
 pub use simulated::SimDisk;
 

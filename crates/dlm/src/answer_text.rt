@@ -33,6 +33,21 @@ impl fmt::Display for AnswerText {
     }
 }
 
+/// A refusal of an operation, as it is printed.
+#[derive(Clone, Copy, Debug, PartialEq, Eq)]
+pub struct RefusalText(pub Refusal);
+
+impl fmt::Display for RefusalText {
+    ghost use Rattle.std.specs.Prelude.{Some};
+    ghost use Rattle.dlm.specs.Text.{refusal_text};
+
+    ghost output = { λ r. Some (refusal_text r.0) };
+
+    fn fmt<W: fmt::Write>(&self, f: &mut fmt::Formatter<W>) -> fmt::Result {
+        f.write_str(refusal_text(self.0))
+    }
+}
+
 /// The number and the name of a refusal of an operation.
 fn refusal_text(refusal: Refusal) -> &'static str
     ensures { result.now ≡ refusal_text refusal }

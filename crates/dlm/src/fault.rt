@@ -1,3 +1,7 @@
+use crate::answer_text::RefusalText;
+use disk::ImageFault;
+use dlm_images::FolderFault;
+use host::Refusal;
 use simulator::ScriptFault;
 use std::io;
 use thiserror::Error;
@@ -5,13 +9,28 @@ use thiserror::Error;
 /// Why the program refuses its task, with the number and the name of the refusal.
 #[derive(Clone, Copy, Debug, PartialEq, Eq, Error)]
 pub enum Fault {
+    /// An operation of a host was refused.
+    #[error("{0}")]
+    Operation(RefusalText),
     #[error("21 NoMemory")]
     NoMemory,
     /// The number of the script's first bad line, from 1.
     #[error("23 BadLine {0}")]
     BadLine(usize),
+    /// The number of an image without an open gate.
+    #[error("24 NotFormatted disk{0}")]
+    NotFormatted(u8),
+    /// The number of an image with another header than it should have.
+    #[error("25 WrongHeader disk{0}")]
+    WrongHeader(u8),
+    /// Of a script.
     #[error("26 Unreadable")]
     Unreadable,
+    /// The number of an image that cannot be opened, read, made or written.
+    #[error("26 Unreadable disk{0}")]
+    UnreadableImage(u8),
+    #[error("29 AlreadyThere")]
+    AlreadyThere,
 }
 
 impl Fault {
@@ -29,6 +48,26 @@ impl From<ScriptFault> for Fault {
         match fault {
             ScriptFault::NoMemory => Fault::NoMemory,
             ScriptFault::BadLine(number) => Fault::BadLine(number),
+        }
+    }
+}
+
+impl From<Refusal> for Fault {
+    fn from(refusal: Refusal) -> Self {
+        Fault::Operation(RefusalText(refusal))
+    }
+}
+
+impl From<FolderFault> for Fault {
+    fn from(fault: FolderFault) -> Self {
+        match fault {
+            FolderFault::NoMemory => Fault::NoMemory,
+            FolderFault::AlreadyThere => Fault::AlreadyThere,
+            FolderFault::Image { disk, fault } => match fault {
+                ImageFault::NotFormatted => Fault::NotFormatted(disk),
+                ImageFault::WrongHeader => Fault::WrongHeader(disk),
+                ImageFault::Unreadable => Fault::UnreadableImage(disk),
+            },
         }
     }
 }

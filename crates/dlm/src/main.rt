@@ -1,9 +1,11 @@
-//! The program: runs a script over simulated disks, and prints what its hosts answer.
+//! The program: runs a script over simulated disks, and works over the images of a folder.
 #![tactic(auto)]
 
 mod answer_text;
 mod failure;
 mod fault;
+mod given_words;
+mod images;
 mod mode_text;
 mod program;
 mod reply_text;

@@ -1,13 +1,16 @@
-ghost use Rattle.std.specs.Prelude.{◌≡◌, ◌≤◌, ◌↔◌, is_ok, if◌then◌else◌};
+ghost use Rattle.std.specs.Prelude.{◌≡◌, ◌≢◌, ◌≤◌, ◌↔◌, is_ok, if◌then◌else◌};
 ghost use Rattle.std.specs.Io.KnownBytes.{Keeps};
 
 use crate::failure::Failure;
 use crate::fault::Fault;
+use crate::images;
 use crate::run::run_script;
 use crate::words::{Task, WordsFault, task_of};
 use simulator::read_script;
 use std::alloc::Global;
+use std::fs::OpenFile;
 use std::io::{Read, Write};
+use std::os::unix::fs::FileExt;
 use std::rt::Files;
 use std::{fs, io};
 
@@ -21,25 +24,51 @@ pub fn run_words<R: Files + Input + AllocGlobal, O: Write, E: Write>(
     out: &mut O,
     err: &mut E,
 ) -> u8
+where
+    R::File: FileExt + OpenFile + Drop,
     ensures status { result ≤ 2 }
     ensures quiet { result ≡ 0 → err.new ≡ err.old }
     ensures usage { result ≡ 2 → Keeps (O.contents out.old) (O.contents out.new) }
 {
     match task_of(rt.alloc(), words) {
-        Ok(Task::Run { script }) => finish(run_file(rt, script, out), err),
+        Ok(task) => finish(carry_out(rt, &task, out), err),
         Err(fault) => decline(fault, err),
+    }
+}
+
+fn carry_out<R: Files + Input + AllocGlobal, O: Write>(
+    rt: &R,
+    task: &Task<'_>,
+    out: &mut O,
+) -> Result<(), Failure>
+where
+    R::File: FileExt + OpenFile + Drop,
+{
+    match *task {
+        Task::Run { script } => run_file(rt, script, out),
+        Task::Format {
+            folder,
+            config,
+            cluster,
+        } => images::format(rt, folder, config, cluster, out),
+        Task::Submit { folder, command } => images::submit(rt, folder, command, out),
+        Task::Table { folder, host } => images::table(rt, folder, host, out),
     }
 }
 
 /// Tells why the words are no task, and returns the status.
 pub fn decline<E: Write>(fault: WordsFault, err: &mut E) -> u8
-    ensures usage { result ≡ 2 ↔ (fault ≡ WordsFault.Usage) }
+    ensures usage { result ≡ 2 ↔ (fault ≢ WordsFault.NoMemory) }
     ensures refusal { result ≡ 1 ↔ (fault ≡ WordsFault.NoMemory) }
 {
     match fault {
         WordsFault::NoMemory => refuse(Fault::NoMemory, err),
         WordsFault::Usage => {
             let _ = writeln!(err, "dlm: usage");
+            2
+        }
+        WordsFault::BadCommand => {
+            let _ = writeln!(err, "dlm: bad command");
             2
         }
     }

@@ -6,10 +6,10 @@ ghost use Rattle.dlm.specs.Printed.{WritesAnswer};
 use crate::answer_text::AnswerText;
 use crate::failure::Failure;
 use crate::fault::Fault;
-use inspect::queues;
-use lock_command::HostNumber;
-use simulator::{Event, MOST_EVENTS, Parts, Run, Script, Show};
+use inspect::{Blocking, blocking, queues};
+use simulator::{Event, MOST_EVENTS, Parts, Run, Script, Show, View};
 use std::alloc::Global;
+use std::io;
 use std::io::Write;
 
 /// Lets the script's events happen in turn. Prints what the hosts answer, each with its event's number, and between the
@@ -83,25 +83,42 @@ fn show_all<O: Write>(
     out: &mut O,
 ) -> Result<(), Failure> {
     for show in shows {
-        show_host(alloc, parts, show.host, out)?;
+        show_host(alloc, parts, show, out)?;
     }
     Ok(())
 }
 
-/// Prints the queues of a host's table, or that it is stopped.
+/// Prints what is to be shown of a host's table, or that it is stopped.
 fn show_host<O: Write>(
     alloc: Global,
     parts: &Parts,
-    host: HostNumber,
+    show: &Show,
     out: &mut O,
 ) -> Result<(), Failure> {
-    let host = host.get();
+    let host = show.host.get();
     match parts.host(host) {
         None => writeln!(out, "host {host} is stopped")?,
         Some(core) => {
             let picture = core.table().picture(alloc).map_err(Fault::from)?;
-            queues(&picture, out)?;
+            match show.view {
+                View::Queues => queues(&picture, out)?,
+                View::Blocking => show_blocking(&blocking(&picture), out)?,
+            }
         }
     }
     Ok(())
+}
+
+/// Prints the clients of a cycle, or that there is none.
+fn show_blocking<O: Write>(found: &Blocking, out: &mut O) -> io::Result<()> {
+    match found {
+        Blocking::Ranked(_) => out.write_all(b"no cycle\n"),
+        Blocking::Cycle(clients) => {
+            out.write_all(b"cycle")?;
+            for client in clients.as_slice() {
+                write!(out, " {client}")?;
+            }
+            out.write_all(b"\n")
+        }
+    }
 }

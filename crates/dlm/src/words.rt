@@ -1,22 +1,45 @@
 ghost use Rattle.std.specs.Prelude.{◌≡◌};
 ghost use Rattle.dlm.specs.declared.words.WordsFault.TheVariants.{NoMemory};
 
+use crate::given_words::{cluster_of, command_of, config_of, host_of};
 use clap::error::ErrorKind;
-use clap::{Arg, ArgAction, ArgMatches, Command, Error};
+use clap::{Arg, ArgAction, ArgMatches, Error};
+use host::Config;
+use lock_command::{Command, HostNumber};
 use std::alloc::{AllocError, Global};
 use std::io;
 
 /// What the program is asked to do.
-#[derive(Clone, Copy, Debug, PartialEq, Eq)]
+#[derive(Clone, Copy, Debug)]
 pub enum Task<'a> {
     /// Run the script at this path.
-    Run { script: &'a str },
+    Run {
+        script: &'a str,
+    },
+    /// Make the images of a cluster in this folder.
+    Format {
+        folder: &'a str,
+        config: Config,
+        cluster: u64,
+    },
+    /// Submit a command over the images of this folder.
+    Submit {
+        folder: &'a str,
+        command: Command,
+    },
+    /// Show the lock table, as a host learns it from the images of this folder.
+    Table {
+        folder: &'a str,
+        host: HostNumber,
+    },
 }
 
 /// Why the words ask for nothing that the program does.
 #[derive(Clone, Copy, Debug, PartialEq, Eq)]
 pub enum WordsFault {
     Usage,
+    /// The words of a command are none.
+    BadCommand,
     NoMemory,
 }
 
@@ -54,6 +77,9 @@ pub fn task_of<'a>(alloc: Global, words: &'a [&'a str]) -> Result<Task<'a>, Word
     let matches = program(alloc)?.try_get_matches_from(words)?;
     match matches.subcommand() {
         Some(("run", run)) => run_task(run),
+        Some(("format", format)) => format_task(format),
+        Some(("submit", submit)) => submit_task(alloc, submit),
+        Some(("table", table)) => table_task(table),
         _ => Err(WordsFault::Usage),
     }
 }
@@ -66,28 +92,92 @@ fn has_lone_dash(words: &[&str]) -> bool {
         .any(|word| *word == "-")
 }
 
-fn program<'a>(alloc: Global) -> Result<Command<'a>, AllocError> {
-    Command::new(alloc, "dlm")
+fn program<'a>(alloc: Global) -> Result<clap::Command<'a>, AllocError> {
+    clap::Command::new(alloc, "dlm")
         .no_binary_name(true)
         .disable_help_flag(true)
         .disable_help_subcommand(true)
         .disable_version_flag(true)
         .subcommand_required(true)
-        .subcommand(run_command(alloc)?)
+        .subcommand(run_command(alloc)?)?
+        .subcommand(format_command(alloc)?)?
+        .subcommand(submit_command(alloc)?)?
+        .subcommand(table_command(alloc)?)
 }
 
-fn run_command<'a>(alloc: Global) -> Result<Command<'a>, AllocError> {
-    let script = Arg::new(alloc, "script")
-        .required(true)
-        .action(ArgAction::Set);
-    Command::new(alloc, "run")
+/// A word that has to be given.
+fn word<'a>(alloc: Global, name: &'a str) -> Arg<'a> {
+    Arg::new(alloc, name).required(true).action(ArgAction::Set)
+}
+
+fn run_command<'a>(alloc: Global) -> Result<clap::Command<'a>, AllocError> {
+    clap::Command::new(alloc, "run")
         .disable_help_flag(true)
-        .arg(script)
+        .arg(word(alloc, "script"))
+}
+
+fn format_command<'a>(alloc: Global) -> Result<clap::Command<'a>, AllocError> {
+    clap::Command::new(alloc, "format")
+        .disable_help_flag(true)
+        .arg(word(alloc, "folder"))?
+        .arg(word(alloc, "disks"))?
+        .arg(word(alloc, "slots"))?
+        .arg(word(alloc, "cluster"))
+}
+
+fn submit_command<'a>(alloc: Global) -> Result<clap::Command<'a>, AllocError> {
+    let command = Arg::new(alloc, "command")
+        .action(ArgAction::Append)
+        .num_args(0..);
+    clap::Command::new(alloc, "submit")
+        .disable_help_flag(true)
+        .arg(word(alloc, "folder"))?
+        .arg(word(alloc, "host"))?
+        .arg(command)
+}
+
+fn table_command<'a>(alloc: Global) -> Result<clap::Command<'a>, AllocError> {
+    clap::Command::new(alloc, "table")
+        .disable_help_flag(true)
+        .arg(word(alloc, "folder"))?
+        .arg(word(alloc, "host"))
 }
 
 fn run_task<'a>(run: &ArgMatches<'a>) -> Result<Task<'a>, WordsFault> {
-    match run.get_str("script") {
-        Some(script) => Ok(Task::Run { script }),
+    Ok(Task::Run {
+        script: given(run, "script")?,
+    })
+}
+
+fn format_task<'a>(format: &ArgMatches<'a>) -> Result<Task<'a>, WordsFault> {
+    let folder = given(format, "folder")?;
+    let config = config_of(given(format, "disks")?, given(format, "slots")?)?;
+    let cluster = cluster_of(given(format, "cluster")?)?;
+    Ok(Task::Format {
+        folder,
+        config,
+        cluster,
+    })
+}
+
+fn submit_task<'a>(alloc: Global, submit: &ArgMatches<'a>) -> Result<Task<'a>, WordsFault> {
+    let folder = given(submit, "folder")?;
+    let host = host_of(given(submit, "host")?)?;
+    let words = submit.get_strs("command").unwrap_or_default();
+    let command = command_of(alloc, host, words)?;
+    Ok(Task::Submit { folder, command })
+}
+
+fn table_task<'a>(table: &ArgMatches<'a>) -> Result<Task<'a>, WordsFault> {
+    let folder = given(table, "folder")?;
+    let host = host_of(given(table, "host")?)?;
+    Ok(Task::Table { folder, host })
+}
+
+/// The word that was given under this name.
+fn given<'a>(words: &ArgMatches<'a>, name: &str) -> Result<&'a str, WordsFault> {
+    match words.get_str(name) {
+        Some(word) => Ok(word),
         None => Err(WordsFault::Usage),
     }
 }

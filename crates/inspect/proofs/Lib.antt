@@ -1,1 +1,4 @@
 pub mod LineLemmas
+pub mod MarkLemmas
+pub mod PeelLemmas
+pub mod TrailLemmas

@@ -1,1 +1,6 @@
+pub mod Blocked
+pub mod Marks
+pub mod Peeled
 pub mod Text
+pub mod Trails
+pub mod Verdicts

@@ -1,10 +1,18 @@
-//! What a lock table shows, as text.
+//! What a lock table shows: its text, and who keeps whom waiting.
 #![tactic(auto)]
 
+mod blocked;
+mod edges;
 mod lock_text;
+mod peeling;
 mod queue_text;
+mod trail;
+mod verdict;
+mod waits;
 
 pub use queue_text::queues;
+pub use verdict::{Blocking, CLIENT_NUMBERS};
+pub use waits::blocking;
 
 #[cfg(test)]
 mod tests;

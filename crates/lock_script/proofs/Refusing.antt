@@ -69,7 +69,7 @@ may_add shape events shows (Steps host times) fits few =
     let long = length-replicate times (Step host) in
     let room : nat_le (length events + times) 1000000 ≡ true = le-leb (length events + times) 1000000 (omega arith) in
     (made, is_passed (nat_le (length events + times) 1000000) made room)
-may_add shape events shows (Show host) fits few = (record { shape = Some shape; events = events; shows = shows ++ record { place = length events; host = host } ∷ [] }, refl)
+may_add shape events shows (Show view host) fits few = (record { shape = Some shape; events = events; shows = shows ++ record { place = length events; host = host; view = view } ∷ [] }, refl)
 
 module _ (lines : List (List ℕ)) (line : List ℕ) (says : is_passed_over line ≡ false) where
   -- the words of the lines, with this line behind them

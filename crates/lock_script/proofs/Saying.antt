@@ -60,7 +60,7 @@ pub fits_somewhere : (disks : ℕ) (line : Line) → disks ≤ DISKS → FitsBeh
 fits_somewhere disks (Cluster shape) few fits = absurd fits
 fits_somewhere disks (Once event) few fits = on_some_disk disks event few fits
 fits_somewhere disks (Steps host times) few fits = fits
-fits_somewhere disks (Show host) few fits = fits
+fits_somewhere disks (Show view host) few fits = fits
 
 -- LINES
 
@@ -139,7 +139,7 @@ module _ (lines : List (List ℕ)) (line : List ℕ) (says : is_passed_over line
       subst (Says (lines ++ line ∷ [])) e (subst (λ (s : List shown.Show). IsScript (lines ++ line ∷ []) (record { shape = shape; events = events; shows = s })) (sym no_shows) moved)
   first_added events shows (Once event) next none no_events no_shows spells h = absurd (cc)
   first_added events shows (Steps host times) next none no_events no_shows spells h = absurd (cc)
-  first_added events shows (Show host) next none no_events no_shows spells h = absurd (cc)
+  first_added events shows (Show view host) next none no_events no_shows spells h = absurd (cc)
 
   next_added : (shape : Shape) (events : List Event) (shows : List shown.Show) (l : Line) (next : SoFar) → IsScript lines (record { shape = shape; events = events; shows = shows }) → Spells (words_of line) l
       → added (record { shape = Some shape; events = events; shows = shows }) l ≡ Some next → Says (lines ++ line ∷ []) next
@@ -162,12 +162,12 @@ module _ (lines : List (List ℕ)) (line : List ℕ) (says : is_passed_over line
       let few : length (events ++ replicate times (Step host)) ≤ 1000000 = omega arith in
       let more = longer lines (record { shape = shape; events = events; shows = shows }) line (Steps host times) says script spells spells.fits few in
       subst (Says (lines ++ line ∷ [])) p.1 (subst (λ (s : List shown.Show). IsScript (lines ++ line ∷ []) (record { shape = shape; events = events ++ replicate times (Step host); shows = s })) (append-nil shows) more)
-  next_added shape events shows (Show host) next script spells h =
-      let made : SoFar = record { shape = Some shape; events = events; shows = shows ++ record { place = length events; host = host } ∷ [] } in
+  next_added shape events shows (Show view host) next script spells h =
+      let made : SoFar = record { shape = Some shape; events = events; shows = shows ++ record { place = length events; host = host; view = view } ∷ [] } in
       let e : made ≡ next = cc in
       let few : length (events ++ []) ≤ 1000000 = subst (λ (l : List Event). length l ≤ 1000000) (sym (append-nil events)) script.few in
-      let more = longer lines (record { shape = shape; events = events; shows = shows }) line (Show host) says script spells spells.fits few in
-      subst (Says (lines ++ line ∷ [])) e (subst (λ (l : List Event). IsScript (lines ++ line ∷ []) (record { shape = shape; events = l; shows = shows ++ record { place = length events; host = host } ∷ [] })) (append-nil events) more)
+      let more = longer lines (record { shape = shape; events = events; shows = shows }) line (Show view host) says script spells spells.fits few in
+      subst (Says (lines ++ line ∷ [])) e (subst (λ (l : List Event). IsScript (lines ++ line ∷ []) (record { shape = shape; events = l; shows = shows ++ record { place = length events; host = host; view = view } ∷ [] })) (append-nil events) more)
 
   -- a line that is added is said
   pub added_says : (said next : SoFar) → Says lines said → read_line said line ≡ Some next → Says (lines ++ line ∷ []) next

@@ -7,10 +7,12 @@ use Rattle.lock_command.specs.Command.{Fits as FitsCommand}
 use Rattle.lock_command.specs.Reading.{◌>>=◌}
 use Rattle.lock_script.specs.declared.event.Event.TheVariants.{Start, Stop, Submit, Recover, Step, Tear, FailCall, DiskCrash, DiskGone}
 use Rattle.lock_script.specs.declared.line.Line.{Line}
+use Rattle.lock_script.specs.declared.show.View.{View}
+use Rattle.lock_script.specs.declared.show.View.TheVariants.{Queues, Blocking}
 use Rattle.lock_script.specs.declared.line.Line.TheVariants.{Cluster, Once, Steps, Show}
 use Rattle.lock_script.specs.Words.{first_word, words_behind, last_word}
-use Rattle.lock_script.specs.Reading.{number_in, host_of, disk_of, tries_of, times_of, given_of, command_at, cluster_at, submit_at, recover_at, step_at, tear_at, fail_at, crash_at, plain_at, said_at, line_at}
-use Rattle.lock_script.specs.Spelling.{hex_word, command_words, line_words, IsTries, FitsEvent, FitsFirst, FitsBehind}
+use Rattle.lock_script.specs.Reading.{number_in, host_of, disk_of, tries_of, times_of, given_of, command_at, cluster_at, submit_at, recover_at, step_at, tear_at, fail_at, crash_at, plain_at, show_at, said_at, line_at}
+use Rattle.lock_script.specs.Spelling.{hex_word, command_words, view_word, line_words, IsTries, FitsEvent, FitsFirst, FitsBehind}
 use Rattle.lock_script.proofs.Readings.{bound, picked, one_read}
 use Rattle.lock_script.proofs.Numbers.{number_in-found, number_in-only}
 use Rattle.lock_script.proofs.Givens.{given_of-found, given_of-only}
@@ -21,7 +23,7 @@ abbrev pub FitsLine : Line → Type 0
 FitsLine (Cluster shape) = FitsFirst shape
 FitsLine (Once event) = FitsEvent DISKS event
 FitsLine (Steps host times) = FitsBehind DISKS (Steps host times)
-FitsLine (Show host) = FitsBehind DISKS (Show host)
+FitsLine (Show view host) = FitsBehind DISKS (Show view host)
 
 -- words that spell this line
 pub record Spells (words : List (List ℕ)) (line : Line) : Type 0 where
@@ -167,6 +169,10 @@ gone_found kind words line named h =
     let is : kind ∷ words ≡ codes "gone" ∷ decimal disk.0 ∷ [] = cc (named, one.words_are, d.spelled) in
     subst (Spells (kind ∷ words)) e (record { words_are = is; fits = range })
 
+show_found : (view : View) (kind : List ℕ) (words : List (List ℕ)) (line : Line) → kind ≡ view_word view → show_at view words ≡ Some line → Spells (kind ∷ words) line
+unfolding show_at
+show_found view kind words line named h = host_alone kind words (Show view) line (λ host. (ap (λ w. w ∷ decimal host ∷ []) (sym named), λ fits. fits)) h
+
 plain_found : (kind : List ℕ) (words : List (List ℕ)) (line : Line) → plain_at kind words ≡ Some line → Spells (kind ∷ words) line
 unfolding plain_at
 plain_found kind words line h =
@@ -183,10 +189,13 @@ plain_found kind words line h =
               | inr other ↦ elim (picked kind (codes "gone") _ _ line other) [
                 | inl p ↦ gone_found kind words line p.0 p.1
                 | inr other ↦ elim (picked kind (codes "show") _ _ line other) [
-                  | inl p ↦ host_alone kind words Show line (λ host. (ap (λ w. w ∷ decimal host ∷ []) (sym p.0), λ fits. fits)) p.1
-                  | inr other ↦ elim (picked kind (codes "cluster") _ _ line other) [
-                    | inl p ↦ cluster_found kind words line p.0 p.1
-                    | inr other ↦ absurd (cc)
+                  | inl p ↦ show_found Queues kind words line p.0 p.1
+                  | inr other ↦ elim (picked kind (codes "blocking") _ _ line other) [
+                    | inl p ↦ show_found Blocking kind words line p.0 p.1
+                    | inr other ↦ elim (picked kind (codes "cluster") _ _ line other) [
+                      | inl p ↦ cluster_found kind words line p.0 p.1
+                      | inr other ↦ absurd (cc)
+                    ]
                   ]
                 ]
               ]
@@ -221,7 +230,7 @@ tries_of-only : (tries : ℕ) → IsTries tries → tries_of (decimal tries) ≡
 tries_of-only tries is = number_in-only 1 255 tries is.0 is.1 (omega (arith, is.1))
 
 pub line_at-only : (line : Line) → FitsLine line → line_at (line_words line) ≡ Some line
-unfolding line_at said_at plain_at cluster_at submit_at recover_at step_at tear_at fail_at crash_at
+unfolding line_at said_at plain_at show_at cluster_at submit_at recover_at step_at tear_at fail_at crash_at
 line_at-only (Cluster shape) fits =
     two_spelled (number_in 1 7) (number_in 1 4096) (λ d s. Cluster (record { disks = d; slots = s })) (decimal shape.disks) (decimal shape.slots) shape.disks shape.slots
     (number_in-only 1 7 shape.disks fits.disks.0 fits.disks.1 (omega (arith, fits.disks.1)))
@@ -244,4 +253,5 @@ line_at-only (Once (DiskCrash disk given)) fits =
 line_at-only (Once (DiskGone disk)) fits = ap (λ (found : Option ℕ). found >>= λ d. Some (Once (DiskGone d))) (disk_of-only disk fits)
 line_at-only (Steps host times) fits =
     two_spelled host_of times_of Steps (decimal host) (decimal times) host times (host_of-only host fits.0) (number_in-only 1 100000 times fits.1 fits.2 (omega (arith, fits.2)))
-line_at-only (Show host) fits = ap (λ (found : Option ℕ). found >>= λ h. Some (Show h)) (host_of-only host fits)
+line_at-only (Show Queues host) fits = ap (λ (found : Option ℕ). found >>= λ h. Some (Show Queues h)) (host_of-only host fits)
+line_at-only (Show Blocking host) fits = ap (λ (found : Option ℕ). found >>= λ h. Some (Show Blocking h)) (host_of-only host fits)

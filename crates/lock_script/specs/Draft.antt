@@ -43,9 +43,9 @@ added said (Once event) = do
 added said (Steps host times) = do
   shape ← said.shape
   passed (nat_le (length said.events + times) 1000000) (record said { events = said.events ++ replicate times (Step host) })
-added said (Show host) = do
+added said (Show view host) = do
   shape ← said.shape
-  Some (record said { shows = said.shows ++ record { place = length said.events; host = host } ∷ [] })
+  Some (record said { shows = said.shows ++ record { place = length said.events; host = host; view = view } ∷ [] })
 
 -- the same of a line's bytes
 unfoldable pub read_line : SoFar → List ℕ → Option SoFar

@@ -11,6 +11,8 @@ use Rattle.lock_command.specs.declared.command.Action.TheVariants.{Enqueue, Conv
 use Rattle.lock_command.specs.Reading.{◌>>=◌, passed, name_of}
 use Rattle.lock_script.specs.declared.event.Event.TheVariants.{Start, Stop, Submit, Recover, Step, Tear, FailCall, DiskCrash, DiskGone}
 use Rattle.lock_script.specs.declared.line.Line.{Line}
+use Rattle.lock_script.specs.declared.show.View.{View}
+use Rattle.lock_script.specs.declared.show.View.TheVariants.{Queues, Blocking}
 use Rattle.lock_script.specs.declared.line.Line.TheVariants.{Cluster, Once, Steps, Show}
 use Rattle.lock_script.specs.Words.{first_word, words_behind, no_words, last_word}
 
@@ -193,6 +195,11 @@ crash_at words = do
   given ← last_given (words_behind words)
   Some (Once (DiskCrash disk given))
 
+unfoldable pub show_at : View → List (List ℕ) → Option Line
+show_at view words = do
+  host ← last_word words >>= host_of
+  Some (Show view host)
+
 -- a line that gives no bytes, by its first word and those behind it
 unfoldable pub plain_at : List ℕ → List (List ℕ) → Option Line
 plain_at kind words =
@@ -202,7 +209,8 @@ plain_at kind words =
     else if bytes_eq kind (codes "start") then (do host ← last_word words >>= host_of; Some (Once (Start host)))
     else if bytes_eq kind (codes "stop") then (do host ← last_word words >>= host_of; Some (Once (Stop host)))
     else if bytes_eq kind (codes "gone") then (do disk ← last_word words >>= disk_of; Some (Once (DiskGone disk)))
-    else if bytes_eq kind (codes "show") then (do host ← last_word words >>= host_of; Some (Show host))
+    else if bytes_eq kind (codes "show") then show_at Queues words
+    else if bytes_eq kind (codes "blocking") then show_at Blocking words
     else if bytes_eq kind (codes "cluster") then cluster_at words
     else None
 

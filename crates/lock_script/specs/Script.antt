@@ -17,14 +17,14 @@ abbrev pub events_in : Line → List Event
 events_in (Cluster shape) = []
 events_in (Once event) = event ∷ []
 events_in (Steps host times) = replicate times (Step host)
-events_in (Show host) = []
+events_in (Show view host) = []
 
 -- the tables that a line asks to be shown, after so many events
 abbrev pub shows_at : ℕ → Line → List shown.Show
 shows_at place (Cluster shape) = []
 shows_at place (Once event) = []
 shows_at place (Steps host times) = []
-shows_at place (Show host) = record { place = place; host = host } ∷ []
+shows_at place (Show view host) = record { place = place; host = host; view = view } ∷ []
 
 -- those of all lines, each with the number of the events before it
 abbrev pub shows_in : ℕ → List Line → List shown.Show

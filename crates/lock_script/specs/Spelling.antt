@@ -12,6 +12,8 @@ use Rattle.slot_log.specs.Shape.{Shape}
 use Rattle.lock_script.specs.declared.event.Event.{Event}
 use Rattle.lock_script.specs.declared.event.Event.TheVariants.{Start, Stop, Submit, Recover, Step, Tear, FailCall, DiskCrash, DiskGone}
 use Rattle.lock_script.specs.declared.line.Line.{Line}
+use Rattle.lock_script.specs.declared.show.View.{View}
+use Rattle.lock_script.specs.declared.show.View.TheVariants.{Queues, Blocking}
 use Rattle.lock_script.specs.declared.line.Line.TheVariants.{Cluster, Once, Steps, Show}
 
 -- WORDS
@@ -98,11 +100,16 @@ FitsEvent disks (DiskGone disk) = disk < disks
 
 -- LINES
 
+-- what is to be shown
+abbrev pub view_word : View → List ℕ
+view_word Queues = codes "show"
+view_word Blocking = codes "blocking"
+
 abbrev pub line_words : Line → List (List ℕ)
 line_words (Cluster shape) = codes "cluster" ∷ decimal shape.disks ∷ decimal shape.slots ∷ []
 line_words (Once event) = event_words event
 line_words (Steps host times) = codes "step" ∷ decimal host ∷ decimal times ∷ []
-line_words (Show host) = codes "show" ∷ decimal host ∷ []
+line_words (Show view host) = view_word view ∷ decimal host ∷ []
 
 -- 1 to 7 disks, 1 to 4096 slots
 pub record FitsFirst (shape : Shape) : Type 0 where
@@ -114,4 +121,4 @@ abbrev pub FitsBehind : ℕ → Line → Type 0
 FitsBehind disks (Cluster shape) = ⊥
 FitsBehind disks (Once event) = FitsEvent disks event
 FitsBehind disks (Steps host times) = (host < HOSTS) × (1 ≤ times) × (times ≤ 100000)
-FitsBehind disks (Show host) = host < HOSTS
+FitsBehind disks (Show view host) = host < HOSTS

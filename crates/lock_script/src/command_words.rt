@@ -1,4 +1,5 @@
 ghost use Rattle.std.specs.Prelude.{◌≡◌};
+ghost use Rattle.lock_script.specs.Words.{words_of};
 ghost use Rattle.lock_script.specs.Reading.{no_queue_at, enqueue_at, convert_at, action_at, command_at};
 
 use crate::bytes::is;
@@ -6,6 +7,13 @@ use crate::fields::{client_of, host_of, lock_of, request_of};
 use crate::mode_words::mode_of;
 use crate::words::Words;
 use lock_command::{Action, Command, HostNumber, LockName};
+
+/// The command that this text is, submitted through a host. Single spaces part its words.
+pub fn read_command(host: HostNumber, text: &[u8]) -> Option<Command>
+    ensures { result ≡ command_at host (words_of text.now) }
+{
+    command_at(host, &mut Words::new(text))
+}
 
 /// The command that these words are, submitted through a host.
 #[tactic(auto, unfolding(crate::specs::Reading::command_at))]

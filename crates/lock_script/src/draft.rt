@@ -6,7 +6,7 @@ use crate::event::Event;
 use crate::events::{Events, MOST_EVENTS};
 use crate::line::{Line, line_of};
 use crate::script::ScriptFault;
-use crate::show::Show;
+use crate::show::{Show, View};
 use lock_command::HostNumber;
 use slot_log::Config;
 use std::alloc::{AllocError, Global};
@@ -82,7 +82,7 @@ impl Draft {
             Line::Cluster(config) => self.cluster(config),
             Line::Once(event) => self.once(event),
             Line::Steps { host, times } => self.steps(host, times),
-            Line::Show(host) => self.show(host),
+            Line::Show { view, host } => self.show(view, host),
         }
     }
 
@@ -126,15 +126,15 @@ impl Draft {
         Ok(())
     }
 
-    fn show(&mut self, host: HostNumber) -> Result<(), LineFault>
-        ensures added { OnOk result (Some (so_far self.new) ≡ added (so_far self.old) (Line.Show host)) }
-        ensures bad { result ≡ Err LineFault.Bad → added (so_far self.old) (Line.Show host) ≡ None }
+    fn show(&mut self, view: View, host: HostNumber) -> Result<(), LineFault>
+        ensures added { OnOk result (Some (so_far self.new) ≡ added (so_far self.old) (Line.Show view host)) }
+        ensures bad { result ≡ Err LineFault.Bad → added (so_far self.old) (Line.Show view host) ≡ None }
     {
         if self.config.is_none() {
             return Err(LineFault::Bad);
         }
         let place = self.events.len();
-        match self.shows.push(Show { place, host }) {
+        match self.shows.push(Show { place, host, view }) {
             Ok(()) => Ok(()),
             Err(_) => Err(LineFault::NoMemory),
         }

@@ -18,12 +18,14 @@ mod script;
 mod show;
 mod words;
 
+pub use command_words::read_command;
 pub use event::Event;
 pub use events::{Events, MOST_EVENTS, Run};
 pub use given::Given;
+pub use number::number_in;
 pub use reading::read_script;
 pub use script::{Script, ScriptFault};
-pub use show::Show;
+pub use show::{Show, View};
 
 #[cfg(test)]
 mod tests;

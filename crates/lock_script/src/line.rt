@@ -9,6 +9,7 @@ use crate::event::Event;
 use crate::fields::{disk_of, host_of, times_of, tries_of};
 use crate::given::Given;
 use crate::number::number_in;
+use crate::show::View;
 use crate::words::Words;
 use lock_command::HostNumber;
 use slot_log::Config;
@@ -27,7 +28,7 @@ pub enum Line {
     Cluster(Config),
     Once(Event),
     Steps { host: HostNumber, times: u32 },
-    Show(HostNumber),
+    Show { view: View, host: HostNumber },
 }
 
 /// The line with these bytes, its end left off.
@@ -68,7 +69,9 @@ fn plain_at(kind: &[u8], words: &mut Words<'_>) -> Option<Line>
     } else if is(kind, b"gone") {
         Some(Line::Once(Event::DiskGone(disk_of(words.last()?)?)))
     } else if is(kind, b"show") {
-        Some(Line::Show(host_of(words.last()?)?))
+        show_at(View::Queues, words)
+    } else if is(kind, b"blocking") {
+        show_at(View::Blocking, words)
     } else if is(kind, b"cluster") {
         cluster_at(words)
     } else {
@@ -114,6 +117,14 @@ fn step_at(words: &mut Words<'_>) -> Option<Line>
     }
     let times = times_of(words.last()?)?;
     Some(Line::Steps { host, times })
+}
+
+#[tactic(auto, unfolding(crate::specs::Reading::show_at))]
+fn show_at(view: View, words: &mut Words<'_>) -> Option<Line>
+    ensures { result ≡ Read.show_at view words.old }
+{
+    let host = host_of(words.last()?)?;
+    Some(Line::Show { view, host })
 }
 
 /// The host that the next word names.

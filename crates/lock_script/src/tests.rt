@@ -1,8 +1,8 @@
-use crate::{Event, Run, ScriptFault, read_script};
+use crate::{Event, Run, ScriptFault, View, read_script};
 use std::test::Fail;
 
 /// Lines that may stand behind `cluster 3 16`, each with the events that it brings.
-const GOOD: [(&[u8], usize); 24] = [
+const GOOD: [(&[u8], usize); 25] = [
     (b"start 0", 1),
     (b"stop 7", 1),
     (b"submit 0 1 enqueue 1 1 1 EX db", 1),
@@ -26,6 +26,7 @@ const GOOD: [(&[u8], usize); 24] = [
     (b"crash 2 ff", 1),
     (b"gone 2", 1),
     (b"show 0", 0),
+    (b"blocking 0", 0),
     (b"", 0),
     (b"#", 0),
     (b"# start 8", 0),
@@ -54,7 +55,7 @@ const BAD: [&[u8]; 48] = [
     b" # start 0",
     b"cluster 3 16",
     b"beat 0",
-    b"blocking 0",
+    b"blocking 8",
     b"step 0 0",
     b"step 0 100001",
     b"step 0 1 1",
@@ -153,11 +154,14 @@ fn most_events(rt: HostRuntime) -> Result<(), Fail> {
     for _ in 0..10 {
         script.extend_from_slice(b"step 0 100000\n")?;
     }
-    script.extend_from_slice(b"show 7\n")?;
+    script.extend_from_slice(b"blocking 7\n")?;
     let whole = read_script(rt.alloc(), script.as_slice())?;
     assert_eq!(rt; whole.events.len(), 1_000_000);
     match whole.shows.as_slice() {
-        [show] => assert_eq!(rt; (show.place, show.host.get()), (1_000_000, 7)),
+        [show] => assert_eq!(rt;
+            (show.place, show.host.get(), show.view),
+            (1_000_000, 7, View::Blocking)
+        ),
         _ => assert!(rt; false),
     }
     script.extend_from_slice(b"step 0\n")?;

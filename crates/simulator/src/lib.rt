@@ -10,7 +10,9 @@ mod room;
 mod sim;
 
 pub use answer::Answer;
-pub use lock_script::{Event, Given, MOST_EVENTS, Run, Script, ScriptFault, Show, read_script};
+pub use lock_script::{
+    Event, Given, MOST_EVENTS, Run, Script, ScriptFault, Show, View, read_script,
+};
 pub use parts::{Parts, Said};
 pub use report::{Report, run};
 pub use sim::Sim;

@@ -1,6 +1,7 @@
 use super::*;
 use rows::ROWS;
 
+mod folders;
 mod rows;
 
 #[test]

@@ -23,8 +23,9 @@ pub const ROWS: [Row; 19] = [
     (
         "deadlock_of_two_conversions",
         "cluster 1 8\nstart 0\nsubmit 0 1 enqueue 1 1 1 PR a\nstep 0 17\nsubmit 0 1 enqueue 2 1 2 PR a\n\
-        step 0 17\nsubmit 0 1 convert 1 2 1 EX\nstep 0 17\nsubmit 0 1 convert 2 2 2 EX\nstep 0 17\n",
-        "18 h0 ack 0 Granted\n36 h0 ack 1 Granted\n54 h0 ack 2 Queued\n72 h0 ack 3 Queued\n",
+        step 0 17\nblocking 0\nsubmit 0 1 convert 1 2 1 EX\nstep 0 17\nsubmit 0 1 convert 2 2 2 EX\nstep 0 17\n\
+        blocking 0\nblocking 1\n",
+        "18 h0 ack 0 Granted\n36 h0 ack 1 Granted\nno cycle\n54 h0 ack 2 Queued\n72 h0 ack 3 Queued\ncycle 1 2\nhost 1 is stopped\n",
     ),
     (
         "conversion_before_those_that_wait",

@@ -1,0 +1,107 @@
+//! The system calls of `dlm submit` and of a replay over image files, in plain code that decides nothing:
+//! `images submit DIR` and `images replay DIR SLOTS` make the calls, `images fill DIR SLOTS` puts commands into the first slots.
+
+use std::fs::{File, OpenOptions};
+use std::os::unix::fs::FileExt;
+
+const HEADER: usize = 1024;
+const ROW: usize = 1024;
+
+fn open(dir: &str, disk: usize) -> File {
+    let path = format!("{dir}/disk{disk}.img");
+    OpenOptions::new().read(true).write(true).open(path).unwrap()
+}
+
+/// The images, each opened, measured, and its header read.
+fn open_all(dir: &str) -> Vec<File> {
+    let mut header = [0; HEADER];
+    let mut disks = Vec::new();
+    for disk in 0..7 {
+        let path = format!("{dir}/disk{disk}.img");
+        let Ok(file) = OpenOptions::new().read(true).write(true).open(path) else {
+            continue;
+        };
+        assert!(file.metadata().unwrap().len() >= HEADER as u64);
+        file.read_exact_at(&mut header, 0).unwrap();
+        disks.push(file);
+    }
+    disks
+}
+
+/// A block's six calls, of which the first puts no byte, and the read behind them.
+fn write_block(disk: &File, place: u64, copy: &[u8; 64], row: &mut [u8; ROW], row_at: u64) {
+    disk.sync_data().unwrap();
+    disk.write_all_at(&copy[1..], place + 1).unwrap();
+    disk.sync_data().unwrap();
+    disk.write_all_at(&copy[..1], place).unwrap();
+    disk.sync_data().unwrap();
+    disk.read_exact_at(row, row_at).unwrap();
+}
+
+/// An attempt of host 0 on a slot where its blocks are blank.
+fn attempt(disks: &[File], slot: u64, command: &[u8; 32], row: &mut [u8; ROW]) {
+    let row_at = 2048 + 1024 * slot;
+    for disk in disks {
+        disk.sync_data().unwrap();
+        disk.read_exact_at(row, row_at).unwrap();
+    }
+    for (phase, place) in [(1u8, row_at), (2, row_at + 64)] {
+        let copy = copy_of(phase, command);
+        for disk in disks {
+            write_block(disk, place, &copy, row, row_at);
+        }
+    }
+}
+
+fn copy_of(phase: u8, command: &[u8; 32]) -> [u8; 64] {
+    let mut copy = [0; 64];
+    copy[0] = 0xa5;
+    copy[1] = 1;
+    copy[15] = phase;
+    copy[23] = 1;
+    if phase == 2 {
+        copy[2] = 1;
+        copy[31] = 1;
+        copy[32..].copy_from_slice(command);
+    }
+    copy
+}
+
+/// Client 1's next request: the status of lock 1.
+fn command(slot: u64) -> [u8; 32] {
+    let mut command = [0; 32];
+    command[..8].copy_from_slice(&[5, 0, 1, 0, 0, 0, 0, 1]);
+    command[8..16].copy_from_slice(&(slot + 1).to_be_bytes());
+    command
+}
+
+fn main() {
+    let words: Vec<String> = std::env::args().skip(1).collect();
+    let dir = words[1].as_str();
+    let slots: u64 = words.get(2).map_or(1, |word| word.parse().unwrap());
+    let mut row = [0; ROW];
+    match words[0].as_str() {
+        "fill" => {
+            for disk in 0..3 {
+                let file = open(dir, disk);
+                for slot in 0..slots {
+                    for phase in [1, 2] {
+                        let place = 2048 + 1024 * slot + 64 * u64::from(phase - 1);
+                        file.write_all_at(&copy_of(phase, &command(slot)), place).unwrap();
+                    }
+                }
+            }
+        }
+        "submit" => {
+            attempt(&open_all(dir), 0, &command(0), &mut row);
+            println!("ack 0 12 NoSuchLock");
+        }
+        _ => {
+            let disks = open_all(dir);
+            for slot in 0..slots {
+                attempt(&disks, slot, &command(slot), &mut row);
+            }
+            println!("recovered {slots}");
+        }
+    }
+}

@@ -1,0 +1,69 @@
+ghost use Rattle.std.specs.Prelude.{◌≤◌, IfOk};
+
+use crate::words::WordsFault;
+use host::Config;
+use lock_command::{Command, HOSTS, HostNumber};
+use lock_script::{number_in, read_command};
+use std::alloc::Global;
+use torn_block::{DISKS, SLOTS};
+
+/// Hosts are numbered from 0.
+const LAST_HOST: u64 = HOSTS as u64 - 1;
+
+/// How large a cluster is to be.
+pub fn config_of(disks: &str, slots: &str) -> Result<Config, WordsFault> {
+    let disks = number(disks, 1, u64::from(DISKS))? as u8;
+    let slots = number(slots, 1, u64::from(SLOTS))? as u16;
+    match Config::new(disks, slots) {
+        Some(config) => Ok(config),
+        None => Err(WordsFault::Usage),
+    }
+}
+
+/// Any number that 64 bits hold.
+pub fn cluster_of(word: &str) -> Result<u64, WordsFault> {
+    number(word, 0, u64::MAX)
+}
+
+pub fn host_of(word: &str) -> Result<HostNumber, WordsFault> {
+    match HostNumber::new(number(word, 0, LAST_HOST)? as u8) {
+        Some(host) => Ok(host),
+        None => Err(WordsFault::Usage),
+    }
+}
+
+/// The number, as a script spells it.
+fn number(word: &str, least: u64, most: u64) -> Result<u64, WordsFault>
+    ensures { IfOk result (λ n. (least ≤ n) × (n ≤ most)) }
+{
+    match number_in(word.as_bytes(), least, most) {
+        Some(number) => Ok(number),
+        None => Err(WordsFault::Usage),
+    }
+}
+
+/// The command that the words are, as behind `submit` in a script.
+pub fn command_of(alloc: Global, host: HostNumber, words: &[&str]) -> Result<Command, WordsFault> {
+    let mut text = Vec::new(alloc);
+    for (place, word) in words.iter().enumerate() {
+        // A script parts its words by spaces, so none of them has one.
+        if word.as_bytes().contains(&b' ') {
+            return Err(WordsFault::BadCommand);
+        }
+        if place > 0 {
+            push(&mut text, b" ")?;
+        }
+        push(&mut text, word.as_bytes())?;
+    }
+    match read_command(host, &text) {
+        Some(command) => Ok(command),
+        None => Err(WordsFault::BadCommand),
+    }
+}
+
+fn push(text: &mut Vec<u8>, more: &[u8]) -> Result<(), WordsFault> {
+    match text.extend_from_slice(more) {
+        Ok(()) => Ok(()),
+        Err(_) => Err(WordsFault::NoMemory),
+    }
+}

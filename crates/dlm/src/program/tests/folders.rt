@@ -1,0 +1,328 @@
+//! Folders of images: what the program prints over them, their bytes, and each check of an image.
+
+use super::*;
+use std::process::Abort;
+use std::test::Fail;
+
+/// A step of a test on files.
+#[derive(Clone, Copy)]
+enum Step {
+    /// These words, parted by single spaces, give a status, and print (with status 0) or tell this.
+    Gives(&'static str, u8, &'static str),
+    /// The byte at this place of a file is this one.
+    Byte(&'static str, usize, u8),
+    /// A file has so many bytes; what is added is zero.
+    Length(&'static str, usize),
+    /// A file has so many bytes, and they are all zero.
+    Zeros(&'static str, usize),
+    /// A file is a copy of another.
+    Copy(&'static str, &'static str),
+    Remove(&'static str),
+}
+
+use Step::{Byte, Copy, Gives, Length, Remove, Zeros};
+
+/// A folder for one test, with nothing in it.
+fn new_folder<R: Files + AllocGlobal>(rt: &R, name: &str) -> Result<(), Fail> {
+    let _ = fs::remove_dir_all(rt, name);
+    fs::create_dir(rt, name)?;
+    Ok(())
+}
+
+/// Takes the steps in turn.
+fn follow<R: Files + Input + AllocGlobal + Abort>(rt: &R, steps: &[Step]) -> Result<(), Fail>
+where
+    R::File: FileExt + OpenFile + Drop,
+{
+    for step in steps {
+        take(rt, *step)?;
+    }
+    Ok(())
+}
+
+fn take<R: Files + Input + AllocGlobal + Abort>(rt: &R, step: Step) -> Result<(), Fail>
+where
+    R::File: FileExt + OpenFile + Drop,
+{
+    match step {
+        Gives(text, status, told) => gives(rt, text, status, told),
+        Byte(path, at, byte) => put_byte(rt, path, at, byte),
+        Length(path, length) => put_length(rt, path, length),
+        Zeros(path, length) => put_zeros(rt, path, length),
+        Copy(from, to) => {
+            fs::copy(rt, from, to)?;
+            Ok(())
+        }
+        Remove(path) => {
+            fs::remove_file(rt, path)?;
+            Ok(())
+        }
+    }
+}
+
+fn gives<R: Files + Input + AllocGlobal + Abort>(
+    rt: &R,
+    text: &str,
+    status: u8,
+    told: &str,
+) -> Result<(), Fail>
+where
+    R::File: FileExt + OpenFile + Drop,
+{
+    let words: Vec<&str> = text.split(' ').collect(rt.alloc())?;
+    let mut out = Vec::new(rt.alloc());
+    let mut err = Vec::new(rt.alloc());
+    let end = run_words(rt, &words, &mut out, &mut err);
+    let (printed, told) = if status == 0 { (told, "") } else { ("", told) };
+    assert_eq!(rt; out.as_slice(), printed.as_bytes(), "printed at {text}");
+    assert_eq!(rt; err.as_slice(), told.as_bytes(), "told at {text}");
+    assert_eq!(rt; end, status, "status at {text}");
+    Ok(())
+}
+
+fn put_byte<R: Files + AllocGlobal + Abort>(
+    rt: &R,
+    path: &str,
+    at: usize,
+    byte: u8,
+) -> Result<(), Fail> {
+    let mut bytes = fs::read(rt, path)?;
+    assert!(rt; at < bytes.len());
+    bytes[at] = byte;
+    fs::write(rt, path, bytes.as_slice())?;
+    Ok(())
+}
+
+fn put_length<R: Files + AllocGlobal>(rt: &R, path: &str, length: usize) -> Result<(), Fail> {
+    let mut bytes = fs::read(rt, path)?;
+    bytes.resize(length, 0)?;
+    fs::write(rt, path, bytes.as_slice())?;
+    Ok(())
+}
+
+fn put_zeros<R: Files + AllocGlobal>(rt: &R, path: &str, length: usize) -> Result<(), Fail> {
+    let bytes = vec![in rt.alloc(); 0u8; length]?;
+    fs::write(rt, path, bytes.as_slice())?;
+    Ok(())
+}
+
+#[test]
+fn from_format_to_lost_disks(rt: HostRuntime) -> Result<(), Fail> {
+    new_folder(&rt, "dlm_folder_a")?;
+    let steps = [
+        Gives("table dlm_folder_a 0", 1, "dlm: 26 Unreadable disk0\n"),
+        Gives(
+            "format dlm_folder_a 3 16 7",
+            0,
+            "formatted 3 disks, 16 slots\n",
+        ),
+        Gives("format dlm_folder_a 3 16 7", 1, "dlm: 29 AlreadyThere\n"),
+        Gives(
+            "submit dlm_folder_a 0 enqueue 1 1 1 EX db",
+            0,
+            "ack 0 Granted\n",
+        ),
+        Gives(
+            "submit dlm_folder_a 3 enqueue 2 1 2 EX db noqueue",
+            0,
+            "ack 1 16 NotQueued\n",
+        ),
+        Gives(
+            "table dlm_folder_a 1",
+            0,
+            "recovered 2\ndb\n  granted 1 1 0 EX\n",
+        ),
+        // The same words again are the command that is in the log; through another host they are another one, and get
+        // the reply that is kept.
+        Gives(
+            "submit dlm_folder_a 0 enqueue 1 1 1 EX db",
+            0,
+            "ack 0 Granted\n",
+        ),
+        Gives(
+            "submit dlm_folder_a 3 enqueue 1 1 1 EX db",
+            0,
+            "ack 2 Granted\n",
+        ),
+        Zeros("dlm_folder_a/disk1.img", 18432),
+        Gives(
+            "table dlm_folder_a 2",
+            0,
+            "recovered 3\ndb\n  granted 1 1 0 EX\n",
+        ),
+        Remove("dlm_folder_a/disk2.img"),
+        Gives("table dlm_folder_a 2", 1, "dlm: 7 NoMajority\n"),
+        Zeros("dlm_folder_a/disk0.img", 18432),
+        Gives("table dlm_folder_a 2", 1, "dlm: 24 NotFormatted disk0\n"),
+    ];
+    follow(&rt, &steps)?;
+    fs::remove_dir_all(&rt, "dlm_folder_a")?;
+    Ok(())
+}
+
+/// The two copies of host 0's block of slot 0, once its first command is acknowledged.
+const FIRST_BLOCK: [u8; 128] = [
+    0xa5, 1, 0, 0, 0, 0, 0, 0, 0, 0, 0, 0, 0, 0, 0, 1, 0, 0, 0, 0, 0, 0, 0, 1, 0, 0, 0, 0, 0, 0, 0,
+    0, 0, 0, 0, 0, 0, 0, 0, 0, 0, 0, 0, 0, 0, 0, 0, 0, 0, 0, 0, 0, 0, 0, 0, 0, 0, 0, 0, 0, 0, 0, 0,
+    0, 0xa5, 1, 1, 0, 0, 0, 0, 0, 0, 0, 0, 0, 0, 0, 0, 2, 0, 0, 0, 0, 0, 0, 0, 1, 0, 0, 0, 0, 0, 0,
+    0, 1, 1, 0, 1, 5, 0, 2, 0, 1, 0, 0, 0, 0, 0, 0, 0, 1, 0, 0x64, 0x62, 0, 0, 0, 0, 0, 0, 0, 0, 0,
+    0, 0, 0, 0,
+];
+
+#[test]
+fn bytes_of_an_image(rt: HostRuntime) -> Result<(), Fail> {
+    new_folder(&rt, "dlm_folder_b")?;
+    let steps = [
+        Gives(
+            "format dlm_folder_b 3 16 7",
+            0,
+            "formatted 3 disks, 16 slots\n",
+        ),
+        Gives(
+            "submit dlm_folder_b 0 enqueue 1 1 1 EX db",
+            0,
+            "ack 0 Granted\n",
+        ),
+    ];
+    follow(&rt, &steps)?;
+    let image = fs::read(&rt, "dlm_folder_b/disk1.img")?;
+    assert_eq!(rt; image.len(), 18432);
+    let header = [0xa5u8, 1, 1, 3, 0, 0, 0, 16, 0, 0, 0, 0, 0, 0, 0, 7];
+    for (at, byte) in image.iter().enumerate() {
+        let expected = match at {
+            0..16 => header[at],
+            2048..2176 => FIRST_BLOCK[at - 2048],
+            _ => 0,
+        };
+        assert_eq!(rt; *byte, expected, "at {at}");
+    }
+    fs::remove_dir_all(&rt, "dlm_folder_b")?;
+    Ok(())
+}
+
+const ONLY: &str = "dlm_folder_c/disk0.img";
+
+/// What is done to the only image, of four slots, before it is opened, by the checks in their order: where two faults meet, the
+/// one that is looked for first is told.
+const WRONG: [Step; 13] = [
+    Length(ONLY, 0),
+    Zeros(ONLY, 1023),
+    Length(ONLY, 1023),
+    Byte(ONLY, 1, 2),
+    Byte(ONLY, 2, 1),
+    Byte(ONLY, 3, 0),
+    Byte(ONLY, 3, 8),
+    Byte(ONLY, 4, 1),
+    Byte(ONLY, 7, 0),
+    Byte(ONLY, 7, 5),
+    Byte(ONLY, 16, 1),
+    Byte(ONLY, 1023, 1),
+    Length(ONLY, 6145),
+];
+
+const UNFORMATTED: [Step; 4] = [
+    Zeros(ONLY, 1024),
+    Zeros(ONLY, 6144),
+    Byte(ONLY, 0, 0),
+    Byte(ONLY, 0, 0xa4),
+];
+
+#[test]
+fn checks_of_an_image(rt: HostRuntime) -> Result<(), Fail> {
+    new_folder(&rt, "dlm_folder_c")?;
+    let whole = "dlm_folder_c/whole";
+    let made = [
+        Gives(
+            "format dlm_folder_c 1 4 7",
+            0,
+            "formatted 1 disks, 4 slots\n",
+        ),
+        Copy(ONLY, whole),
+    ];
+    follow(&rt, &made)?;
+    for damage in WRONG {
+        let told = Gives("table dlm_folder_c 0", 1, "dlm: 25 WrongHeader disk0\n");
+        follow(&rt, &[Copy(whole, ONLY), damage, told])?;
+    }
+    for damage in UNFORMATTED {
+        let told = Gives("table dlm_folder_c 0", 1, "dlm: 24 NotFormatted disk0\n");
+        follow(&rt, &[Copy(whole, ONLY), damage, told])?;
+    }
+    let right = [
+        Copy(whole, ONLY),
+        Byte(ONLY, 15, 8),
+        Zeros("dlm_folder_c/disk6.img", 9),
+        Copy(whole, "dlm_folder_c/disk7.img"),
+        Gives("table dlm_folder_c 0", 0, "recovered 0\nempty\n"),
+    ];
+    follow(&rt, &right)?;
+    fs::remove_dir_all(&rt, "dlm_folder_c")?;
+    Ok(())
+}
+
+#[test]
+fn headers_that_disagree(rt: HostRuntime) -> Result<(), Fail> {
+    new_folder(&rt, "dlm_folder_d")?;
+    new_folder(&rt, "dlm_folder_e")?;
+    let steps = [
+        Gives(
+            "format dlm_folder_d 3 4 7",
+            0,
+            "formatted 3 disks, 4 slots\n",
+        ),
+        Gives(
+            "format dlm_folder_e 4 5 8",
+            0,
+            "formatted 4 disks, 5 slots\n",
+        ),
+        // A disk that the others do not know, another cluster number, and, without disk 0, the next header that is right.
+        Copy("dlm_folder_e/disk3.img", "dlm_folder_d/disk3.img"),
+        Gives("table dlm_folder_d 0", 1, "dlm: 25 WrongHeader disk3\n"),
+        Byte("dlm_folder_d/disk1.img", 15, 6),
+        Gives("table dlm_folder_d 0", 1, "dlm: 25 WrongHeader disk1\n"),
+        Remove("dlm_folder_d/disk0.img"),
+        Gives("table dlm_folder_d 0", 1, "dlm: 25 WrongHeader disk2\n"),
+        Byte("dlm_folder_d/disk1.img", 15, 7),
+        Remove("dlm_folder_d/disk3.img"),
+        Gives("table dlm_folder_d 0", 0, "recovered 0\nempty\n"),
+    ];
+    follow(&rt, &steps)?;
+    fs::remove_dir_all(&rt, "dlm_folder_d")?;
+    fs::remove_dir_all(&rt, "dlm_folder_e")?;
+    Ok(())
+}
+
+#[test]
+fn words_that_are_no_task_of_a_folder(rt: HostRuntime) -> Result<(), Fail> {
+    let steps = [
+        Gives("format d 3 16", 2, "dlm: usage\n"),
+        Gives("format d 0 16 7", 2, "dlm: usage\n"),
+        Gives("format d 8 16 7", 2, "dlm: usage\n"),
+        Gives("format d 3 4097 7", 2, "dlm: usage\n"),
+        Gives("format d 3 16 18446744073709551616", 2, "dlm: usage\n"),
+        Gives("format d 03 16 7", 2, "dlm: usage\n"),
+        Gives("table d 8", 2, "dlm: usage\n"),
+        Gives("table d 0 0", 2, "dlm: usage\n"),
+        Gives("submit d 8 release 1 1 1", 2, "dlm: usage\n"),
+        Gives("submit no/such 0", 2, "dlm: bad command\n"),
+        Gives("submit no/such 0 release 1 1", 2, "dlm: bad command\n"),
+        Gives("submit no/such 0 release 1 1 1 ", 2, "dlm: bad command\n"),
+        Gives(
+            "submit no/such 0 release 1 1 1",
+            1,
+            "dlm: 26 Unreadable disk0\n",
+        ),
+    ];
+    follow(&rt, &steps)
+}
+
+#[test]
+fn word_with_a_space(rt: HostRuntime) {
+    let words = ["submit", "no/such", "0", "release", "1", "1 1"];
+    let mut out = Vec::new(rt.alloc());
+    let mut err = Vec::new(rt.alloc());
+    let status = run_words(&rt, &words, &mut out, &mut err);
+    assert_eq!(rt; status, 2);
+    assert_eq!(rt; out.len(), 0);
+    assert_eq!(rt; err.as_slice(), b"dlm: bad command\n".as_slice());
+}

@@ -1,0 +1,257 @@
+-- How long an operation lasts: each answer brings it nearer to its end.
+use Rattle.std.proofs.Common.{◌≡◌, ◌<◌, ◌≤◌, ◌+◌, ◌-◌, ◌*◌, ℕ, zero, suc, Bool, true, false, List, [], ◌∷◌, ◌++◌, length, nat_lt, nat_le, Option, Some, None, refl, sym, ◌∙◌, ap, subst, arith, rules, if◌then◌else◌, slice_get, slice_index_or, slice_set, take, drop}
+use Rattle.std.proofs.Math.Seq.{take-append_seam}
+use Rattle.std.proofs.lemmas.Bool.{ltb-true, leb-false}
+use Rattle.std.proofs.lemmas.List.{length-append}
+use Rattle.attempt.specs.Answers.{Answered, on}
+use Rattle.attempt.specs.History.{IsAnswerTo, Fits}
+use Rattle.attempt.specs.Status as attempt
+use Rattle.attempt.specs.Status.{Status, Due, Ended}
+use Rattle.lock_command.specs.declared.command.Command.{Command}
+use Rattle.lock_command.specs.Reading.{decoded}
+use Rattle.phases.specs.declared.notes.Notes.{Notes}
+use Rattle.slot_log.specs.Shape.{Shape}
+use Rattle.slot_log.specs.Kept as learners
+use Rattle.slot_log.specs.declared.operation.Task.{Task}
+use Rattle.slot_log.specs.Learning as log
+use Rattle.host.specs.Host.{Operation, Doing, Memory, fresh, hears, goes_on, begins, by_status, takes, after_learning, is_submitted, learns, with_heard, with_floor, tries_again, next_in, is_idle_in}
+use Rattle.host.specs.Kept.{Kept, LeadsTo, is_idle, values_of}
+use Rattle.std.specs.Option.{option_map}
+use Rattle.std.proofs.Common.{true≢false}
+use Rattle.disk.specs.Disk as device
+use Rattle.phases.specs.Calls.{IsWithin}
+use Rattle.phases.specs.declared.need.DeviceCall as code_call
+use Rattle.phases.specs.declared.need.DeviceCall.TheVariants as call
+use Rattle.host.specs.Alone.{IsAnsweredAlone}
+use Rattle.host.specs.Kept.{doing_of}
+use Rattle.host.specs.declared.answer.HostAnswer.{HostAnswer}
+use Rattle.dlm_images.specs.Operations.{IsKnown, HasHeard, after_answers, AnswersDue, tries_in, HasOperated, Ends}
+use Rattle.dlm_images.proofs.Ending.{ReadsBack, operation_ends}
+
+-- What an operation may still do: the slots that it may learn, then the tries, then the answers that its attempt may hear.
+abbrev pub left_with : Shape → ℕ → Option Doing → ℕ
+left_with c learned None = 0
+left_with c learned (Some t) = ((c.slots - learned) * 256 + t.tries + 1) * 120 + (119 - length t.heard)
+
+abbrev pub left_in : Shape → Memory → ℕ
+left_in c m = left_with c (length m.learned) m.doing
+
+-- an operation that begins its next attempt has less left than this
+abbrev pub Fewer : Shape → ℕ → Memory → Type 0
+Fewer c n m = left_in c m < n
+
+by_test : (P : Memory → Type 0) (b : Bool) (m n : Memory) → (b ≡ true → P m) → P n → P (if b then m else n)
+by_test P true m n p q = p refl
+by_test P false m n p q = q
+
+goes_on_fewer : (c : Shape) (m : Memory) (o : Operation) (tries n learned : ℕ) → length m.learned ≡ learned + 1 → ((c.slots - learned) * 256 + tries + 1) * 120 ≤ n → 0 < n → Fewer c n (goes_on c m o tries)
+goes_on_fewer c m o tries n learned one room some =
+    by_test (Fewer c n) (nat_lt (length m.learned) c.slots) (begins m o tries) _
+    (λ is. let lt : length m.learned < c.slots = ltb-true (length m.learned) c.slots is in omega (arith, one, lt, room))
+    some
+
+after_learning_fewer : (c : Shape) (m : Memory) (t : Doing) (command : Command) (b : Bool) (n : ℕ) → ((c.slots - length m.learned) * 256 + t.tries + 1) * 120 ≤ n → 0 < n → Fewer c n (after_learning c m t command b)
+after_learning_fewer c m t command true n room some = some
+after_learning_fewer c m t command false n room some =
+    goes_on_fewer c (learns m command) t.operation t.tries n (length m.learned) (length-append m.learned (command ∷ [])) room some
+
+takes_fewer : (c : Shape) (m : Memory) (t : Doing) (ballot : ℕ) (value : List ℕ) (o : Option Command) (n : ℕ) → ((c.slots - length m.learned) * 256 + t.tries + 1) * 120 ≤ n → 0 < n → Fewer c n (takes c m t ballot value o)
+takes_fewer c m t ballot value None n room some = some
+takes_fewer c m t ballot value (Some command) n room some = after_learning_fewer c m t command (is_submitted t.operation value) n room some
+
+no_fewer_tries : (tries : ℕ) (b : Bool) → nat_le tries 1 ≡ b → b ≡ false → 1 < tries
+no_fewer_tries tries b is not_few = leb-false tries 1 (is ∙ not_few)
+
+tries_fewer : (c : Shape) (m : Memory) (o : Operation) (tries n : ℕ) → ((c.slots - length m.learned) * 256 + tries + 1) * 120 ≤ n → 0 < n → Fewer c n (tries_again m o tries)
+tries_fewer c m o tries n room some = on_test (nat_le tries 1) refl
+  where
+    on_test : (b : Bool) → nat_le tries 1 ≡ b → Fewer c n (tries_again m o tries)
+    on_test true is = rw is some
+    on_test false is = let more : 1 < tries = no_fewer_tries tries false is refl in rw is (omega (arith, more, room))
+
+status_fewer : (c : Shape) (m : Memory) (t : Doing) (ballot : ℕ) (s : Status) (n : ℕ) → left_with c (length m.learned) (Some t) < n → ((c.slots - length m.learned) * 256 + t.tries + 1) * 120 ≤ n → 0 < n → Fewer c n (by_status c m t ballot s)
+status_fewer c m t ballot (Due p d) n due room some = due
+status_fewer c m t ballot (Ended (attempt.Committed value)) n due room some = takes_fewer c m t ballot value (decoded value) n room some
+status_fewer c m t ballot (Ended attempt.Empty) n due room some = some
+status_fewer c m t ballot (Ended (attempt.Outrun mbal)) n due room some = tries_fewer c (with_floor (with_floor m ballot) mbal) t.operation t.tries n room some
+status_fewer c m t ballot (Ended attempt.NoMajority) n due room some = some
+status_fewer c m t ballot (Ended attempt.BallotsSpent) n due room some = some
+
+-- an answer leaves less to do
+pub falls : (c : Shape) (h : ℕ) (m : Memory) (t : Doing) (x : Answered) → length (t.heard ++ x ∷ []) ≤ 119 → left_in c (hears c h m (Some t) x) < left_with c (length m.learned) (Some t)
+falls c h m t x few =
+    let one : length (t.heard ++ x ∷ []) ≡ length t.heard + 1 = length-append t.heard (x ∷ []) in
+    status_fewer c m (with_heard t x) _ _ (left_with c (length m.learned) (Some t)) (omega (arith, one, few)) (omega arith) (omega arith)
+
+-- HEARING
+
+-- The host has heard something since, and so many answers more are the most that it may hear.
+pub record IsDriven (c : Shape) (old new : Kept) (more : ℕ) : Type 0 where
+  pub has_heard : HasHeard old new
+  pub host : ℕ
+  pub memory : Memory
+  pub leads : LeadsTo c host memory new
+  pub left : left_in c memory ≤ more
+
+after_one_more : (c : Shape) (h : ℕ) (m : Memory) (xs : List Answered) (x : Answered) → after_answers c h m (xs ++ x ∷ []) ≡ (let n = after_answers c h m xs in hears c h n n.doing x)
+after_one_more c h m [] x = refl
+after_one_more c h m (y ∷ ys) x = after_one_more c h (hears c h m m.doing y) ys x
+
+due_one_more : (c : Shape) (h : ℕ) (m : Memory) (xs : List Answered) (x : Answered) → AnswersDue c h m xs → IsAnswerTo (next_in c h (after_answers c h m xs)) x → AnswersDue c h m (xs ++ x ∷ [])
+due_one_more c h m [] x due last = (last, tt)
+due_one_more c h m (y ∷ ys) x due last = (due.0, due_one_more c h (hears c h m m.doing y) ys x due.1 last)
+
+-- nothing was heard yet
+pub heard_nothing : (k : Kept) → HasHeard k k
+heard_nothing k = record { heard = []; due = λ c h m leads. tt; leads = λ c h m leads. leads }
+
+-- one answer more
+pub heard_more : (old now new : Kept) (x : Answered) → HasHeard old now → ((c : Shape) (h : ℕ) (m : Memory) → LeadsTo c h m now → IsAnswerTo (next_in c h m) x) → ((c : Shape) (h : ℕ) (m : Memory) → LeadsTo c h m now → LeadsTo c h (hears c h m m.doing x) new) → HasHeard old new
+heard_more old now new x before fits leads = record {
+  heard = before.heard ++ x ∷ [];
+  due = λ c h m is. due_one_more c h m before.heard x (before.due c h m is) (fits c h (after_answers c h m before.heard) (before.leads c h m is));
+  leads = λ c h m is. subst (λ (n : Memory). LeadsTo c h n new) (sym (after_one_more c h m before.heard x)) (leads c h (after_answers c h m before.heard) (before.leads c h m is));
+}
+
+-- a host with nothing left to do is idle
+idle_with : (c : Shape) (h : ℕ) (m : log.Memory) (task : Option Task) (a : Notes) → learners.AreDoing c h m None task a → learners.is_idle_with task ≡ true
+idle_with c h m None a are = refl
+idle_with c h m (Some task) a are = absurd are
+
+idle_by : (c : Shape) (h : ℕ) (m : log.Memory) (n : ℕ) (o : Option Doing) (task : Option Task) (a : Notes) → left_with c n o ≤ 0 → learners.AreDoing c h m (option_map doing_of o) task a → learners.is_idle_with task ≡ true
+idle_by c h m n None task a none are = idle_with c h m task a are
+idle_by c h m n (Some t) task a none are = absurd (omega arith)
+
+pub idle_at_last : (c : Shape) (old new : Kept) → IsDriven c old new 0 → is_idle new ≡ true
+idle_at_last c old new driven =
+    idle_by c driven.host (values_of driven.memory) (length driven.memory.learned) driven.memory.doing new.learner.task new.learner.attempt driven.left driven.leads.learner.doing
+
+-- what is left to do at first
+left_at_first : (c : Shape) (n : ℕ) (o : Option Doing) → c.slots ≤ 4096 → tries_in o ≤ 255 → left_with c n o ≤ 125859960
+left_at_first c n None slots tries = omega arith
+left_at_first c n (Some t) slots tries = omega arith
+
+pub driven_at_first : (k : Kept) → IsKnown k → k.learner.shape.slots ≤ 4096 → IsDriven k.learner.shape k k 125859960
+driven_at_first k known slots = record {
+  has_heard = heard_nothing k;
+  host = known.host;
+  memory = known.memory;
+  leads = subst (λ (c : Shape). LeadsTo c known.host known.memory k) (sym known.leads.learner.shape) known.leads;
+  left = left_at_first k.learner.shape (length known.memory.learned) known.memory.doing slots known.tries;
+}
+
+-- what is known of an answer to a busy host
+pub record IsHeardBy (now new : Kept) (x : Answered) : Type 0 where
+  pub busy : (c : Shape) (h : ℕ) (m : Memory) → LeadsTo c h m now → is_idle_in m.doing ≡ false
+  pub fits : (c : Shape) (h : ℕ) (m : Memory) → LeadsTo c h m now → IsAnswerTo (next_in c h m) x
+  pub leads : (c : Shape) (h : ℕ) (m : Memory) → LeadsTo c h m now → LeadsTo c h (hears c h m m.doing x) new
+  pub alone : (c : Shape) (h : ℕ) (m : Memory) → LeadsTo c h m now → IsAnsweredAlone c h m m.doing x
+
+less_left : (c : Shape) (h : ℕ) (m : Memory) (o : Option Doing) (x : Answered) (more : ℕ) → c.disks ≤ 7 → is_idle_in o ≡ false → IsAnsweredAlone c h m o x → left_with c (length m.learned) o ≤ more → left_in c (hears c h m o x) < more
+less_left c h m None x more few busy alone left = absurd (true≢false busy)
+less_left c h m (Some t) x more few busy alone left =
+    let long : length (t.heard ++ x ∷ []) ≤ 17 * c.disks = alone.bound in
+    let fewer : left_in c (hears c h m (Some t) x) < left_with c (length m.learned) (Some t) = falls c h m t x (omega (arith, long, few)) in
+    omega (arith, fewer, left)
+
+pub driven_more : (c : Shape) (old now new : Kept) (x : Answered) (made : ℕ) → c.disks ≤ 7 → IsHeardBy now new x → IsDriven c old now (125859960 - made) → IsDriven c old new (125859960 - (made + 1))
+driven_more c old now new x made few by driven =
+    let fewer : left_in c (hears c driven.host driven.memory driven.memory.doing x) < 125859960 - made =
+    less_left c driven.host driven.memory driven.memory.doing x (125859960 - made) few (by.busy c driven.host driven.memory driven.leads) (by.alone c driven.host driven.memory driven.leads) driven.left in record {
+      has_heard = heard_more old now new x driven.has_heard by.fits by.leads;
+      host = driven.host;
+      memory = hears c driven.host driven.memory driven.memory.doing x;
+      leads = by.leads c driven.host driven.memory driven.leads;
+      left = omega (arith, fewer);
+    }
+
+-- CALLS
+
+-- a longer device has the range too
+pub within_more : (n k : ℕ) (d : code_call.DeviceCall) → n ≤ k → IsWithin n d → IsWithin k d
+within_more n k call.Attach more within = tt
+within_more n k (call.Sync boot) more within = tt
+within_more n k (call.Read boot at) more within = omega (arith, more, within)
+within_more n k (call.Write boot at bytes) more within = omega (arith, more, within)
+
+-- an answer that fits is to the call that is due
+pub answers_due : (due : Option (ℕ × device.Call)) (need disk_call : ℕ × device.Call) (x : Answered) → due ≡ Some need → need ≡ disk_call → x.disk ≡ disk_call.0 → Fits need.1 x.heard → IsAnswerTo due x
+answers_due due need disk_call x is same disk fits =
+    subst (λ (o : Option (ℕ × device.Call)). IsAnswerTo o x) (sym is) (disk ∙ ap (λ (p : ℕ × device.Call). p.0) (sym same), fits)
+
+-- what holds of all elements and of one that is put, holds of all then
+pub set_keeps : {X : Type 0} (P : X → Type 0) (xs : List X) (i : ℕ) (v : X) → P v → ((k : ℕ) (d : X) → slice_get xs k ≡ Some d → P d) → (k : ℕ) (d : X) → slice_get (slice_set xs i v) k ≡ Some d → P d
+set_keeps P [] i v pv all k d is = all k d is
+set_keeps P (x ∷ xs) zero v pv all zero d is = let e : v ≡ d = cc in subst P e pv
+set_keeps P (x ∷ xs) zero v pv all (suc k) d is = all (suc k) d is
+set_keeps P (x ∷ xs) (suc i) v pv all zero d is = all zero d is
+set_keeps P (x ∷ xs) (suc i) v pv all (suc k) d is = set_keeps P xs i v pv (λ n e. all (suc n) e) k d is
+
+-- WHAT A HOST KEEPS BETWEEN ITS OPERATIONS
+
+idle_learner : (c : Shape) (h : ℕ) (m : log.Memory) (doing : Option log.Doing) (task : Option Task) (a : Notes) → learners.is_idle_with task ≡ true → learners.AreDoing c h m doing task a → doing ≡ None
+idle_learner c h m None task a idle are = refl
+idle_learner c h m (Some t) None a idle are = absurd are
+idle_learner c h m (Some t) (Some task) a idle are = absurd (true≢false (sym idle))
+
+mapped_none : (o : Option Doing) → option_map doing_of o ≡ None → o ≡ None
+mapped_none None is = refl
+mapped_none (Some t) is = absurd (cc)
+
+-- what is known of an idle host has no operation under way
+pub idle_memory : (c : Shape) (h : ℕ) (m : Memory) (k : Kept) → LeadsTo c h m k → is_idle k ≡ true → m.doing ≡ None
+idle_memory c h m k leads idle =
+    mapped_none m.doing (idle_learner c h (values_of m) (option_map doing_of m.doing) k.learner.task k.learner.attempt idle leads.learner.doing)
+
+no_tries : (o : Option Doing) → o ≡ None → tries_in o ≤ 255
+no_tries None is = omega arith
+no_tries (Some t) is = absurd (cc)
+
+-- so something is known of an idle host, if anything leads to what it keeps
+pub known_idle : (c : Shape) (h : ℕ) (m : Memory) (k : Kept) → LeadsTo c h m k → is_idle k ≡ true → IsKnown k
+known_idle c h m k leads idle = record { shape = c; host = h; memory = m; leads = leads; tries = no_tries m.doing (idle_memory c h m k leads idle) }
+
+-- an operation begins
+pub known_begun : (o : Operation) (tries : ℕ) (old begun : Kept) → tries ≤ 255 → IsKnown old → ((c : Shape) (h : ℕ) (m : Memory) → LeadsTo c h m old → LeadsTo c h (goes_on c m o tries) begun) → IsKnown begun
+known_begun o tries old begun few known begins_so = record {
+  shape = known.shape;
+  host = known.host;
+  memory = goes_on known.shape known.memory o tries;
+  leads = begins_so known.shape known.host known.memory known.leads;
+  tries =
+      let m = known.memory in
+      by_test (λ (n : Memory). tries_in n.doing ≤ 255) (nat_lt (length m.learned) known.shape.slots) (begins m o tries) _ (λ is. few) (omega arith);
+}
+
+-- a list is written back over one as long
+pub written_back : {X : Type 0} (new old : List X) (n : ℕ) → length new ≡ n → take n (new ++ drop (length new) old) ≡ new
+written_back new old n is = ap (λ (k : ℕ). take k (new ++ drop (length new) old)) (sym is) ∙ take-append_seam new (drop (length new) old)
+
+-- of a cluster of the same shape
+pub begun_shape : (o : Operation) (tries : ℕ) (old begun : Kept) → IsKnown old → ((c : Shape) (h : ℕ) (m : Memory) → LeadsTo c h m old → LeadsTo c h (goes_on c m o tries) begun) → begun.learner.shape ≡ old.learner.shape
+begun_shape o tries old begun known begins_so =
+    (begins_so known.shape known.host known.memory known.leads).learner.shape ∙ sym known.leads.learner.shape
+
+-- what was heard between the beginning and the end is the operation's
+pub operated : (o : Operation) (tries : ℕ) (old begun ended : Kept) → ((c : Shape) (h : ℕ) (m : Memory) → LeadsTo c h m old → LeadsTo c h (goes_on c m o tries) begun) → HasHeard begun ended → is_idle ended ≡ true → HasOperated o tries old ended
+operated o tries old begun ended begins_so heard idle = record {
+  heard = heard.heard;
+  due = λ c h m leads. heard.due c h (goes_on c m o tries) (begins_so c h m leads);
+  leads = λ c h m leads. heard.leads c h (goes_on c m o tries) (begins_so c h m leads);
+  ended = idle;
+}
+
+-- something is known of the host then, too
+pub known_operated : (o : Operation) (tries : ℕ) (old new : Kept) → IsKnown old → HasOperated o tries old new → IsKnown new
+known_operated o tries old new known done =
+    known_idle known.shape known.host (after_answers known.shape known.host (goes_on known.shape known.memory o tries) done.heard) new
+    (done.leads known.shape known.host known.memory known.leads) done.ended
+
+-- and the host has said how it ended
+pub operated_ends : (o : Operation) (tries : ℕ) (old new : Kept) → ReadsBack o → IsKnown old → HasOperated o tries old new → Ends o new.prefix new.said
+operated_ends o tries old new back known done =
+    let n = after_answers known.shape known.host (goes_on known.shape known.memory o tries) done.heard in
+    let leads : LeadsTo known.shape known.host n new = done.leads known.shape known.host known.memory known.leads in
+    let ends : Ends o n.learned n.said =
+    operation_ends known.shape known.host known.memory o tries done.heard back (idle_memory known.shape known.host n new leads done.ended) in
+    subst (λ (said : Option HostAnswer). Ends o new.prefix said) (sym leads.said) (subst (λ (learned : List Command). Ends o learned n.said) (sym leads.prefix) ends)

@@ -1,0 +1,176 @@
+-- How an operation ends: whatever it hears, it goes on, or has ended with an answer of its own.
+use Rattle.std.proofs.Common.{◌≡◌, ◌<◌, ◌≤◌, ◌+◌, ℕ, Bool, true, false, List, [], ◌∷◌, ◌++◌, length, nat_lt, nat_le, Option, Some, None, refl, sym, ◌∙◌, ap, subst, if◌then◌else◌, is_some}
+use Rattle.std.proofs.lemmas.Slice.Eq.{bytes_eq-Decides}
+use Rattle.std.specs.Str.{bytes_eq}
+use Rattle.std.specs.Option.{option_or}
+use Rattle.paxos_block.specs.declared.ballot.TheConstants.{LAST_BALLOT}
+use Rattle.attempt.specs.Answers as answers
+use Rattle.attempt.specs.Answers.{Answered, on}
+use Rattle.attempt.specs.Calls.{Phase, Opening, One, Two}
+use Rattle.attempt.specs.Setup.{Setup}
+use Rattle.attempt.specs.Status as attempt
+use Rattle.attempt.specs.Status.{Status, Due, Ended, status, taken, through, next_or, unless_outrun, proposing, voting, promising}
+use Rattle.attempt.specs.Visits.{visited, is_left_at, are_enough}
+use Rattle.attempt.specs.Proposal.{ballot, proposal, others_mbal, best}
+use Rattle.lock_command.specs.declared.command.Command.{Command}
+use Rattle.lock_command.specs.Command.{spelling, Fits as FitsCommand}
+use Rattle.lock_command.specs.Reading.{decoded, checked}
+use Rattle.lock_command.proofs.Readings.{command_at-spelling}
+use Rattle.slot_log.specs.Shape.{Shape}
+use Rattle.slot_log.specs.declared.outcome.Refusal.{Refusal}
+use Rattle.slot_log.specs.declared.outcome.Refusal.TheVariants as refusal
+use Rattle.host.specs.declared.answer.HostAnswer.TheVariants.{Ack, Recovered, Refused}
+use Rattle.host.specs.Host.{Memory, Doing, Operation, Submitting, Recovering, goes_on, goes_by, hears, begins, by_status, takes, after_learning, is_submitted, learns, with_heard, with_floor, tries_again, full_answer, says, setup_of, input_of}
+use Rattle.dlm_images.specs.Operations.{Ends, IsAcknowledged, after_answers}
+
+-- NO INPUT, NO PROPOSAL
+
+-- an attempt that has an input does not end without a proposal
+abbrev HasInput : Setup → Status → Type 0
+HasInput s (Due phase disk) = Unit {0}
+HasInput s (Ended (attempt.Committed value)) = Unit {0}
+HasInput s (Ended attempt.Empty) = s.input ≡ None
+HasInput s (Ended (attempt.Outrun mbal)) = Unit {0}
+HasInput s (Ended attempt.NoMajority) = Unit {0}
+HasInput s (Ended attempt.BallotsSpent) = Unit {0}
+
+module _ (s : Setup) (f : answers.Answers) where
+  by_next : (p : Phase) (o : Option ℕ) (rest : Status) → HasInput s rest → HasInput s (next_or p o rest)
+  by_next p None rest has = has
+  by_next p (Some d) rest has = tt
+
+  by_test : (b : Bool) (x y : Status) → HasInput s x → HasInput s y → HasInput s (if b then x else y)
+  by_test true x y has_x has_y = has_x
+  by_test false x y has_x has_y = has_y
+
+  by_through : (p : Phase) (rest : Status) → HasInput s rest → HasInput s (through s p f rest)
+  by_through p rest has =
+      let at = visited s p f in
+      by_test (are_enough s (is_left_at at s p f)) (next_or p at rest) (Ended attempt.NoMajority) (by_next p at rest has) tt
+
+  by_outrun : (p : Phase) (rest : Status) → HasInput s rest → HasInput s (unless_outrun s p f rest)
+  by_outrun p rest has = by_test (nat_lt (ballot s f) (others_mbal s p f)) (Ended (attempt.Outrun (others_mbal s p f))) rest tt has
+
+  by_voting : (value : List ℕ) → HasInput s (voting s f value)
+  by_voting value = by_outrun Two (through s Two f (Ended (attempt.Committed value))) (by_through Two (Ended (attempt.Committed value)) tt)
+
+  none_else : (first other : Option (List ℕ)) → option_or first other ≡ None → other ≡ None
+  none_else None other is = is
+  none_else (Some x) other is = absurd (cc)
+
+  by_proposing : (o : Option (List ℕ)) → (o ≡ None → s.input ≡ None) → HasInput s (proposing o (voting s f))
+  by_proposing None none = none refl
+  by_proposing (Some value) none = by_voting value
+
+  by_promising : HasInput s (promising s f)
+  by_promising =
+      by_outrun One (through s One f (proposing (proposal s f) (voting s f)))
+      (by_through One (proposing (proposal s f) (voting s f)) (by_proposing (proposal s f) (none_else (best s f).inp s.input)))
+
+  pub has_input : HasInput s (status s f)
+  has_input =
+      by_through Opening _ (by_test (nat_lt LAST_BALLOT (ballot s f)) (Ended attempt.BallotsSpent) (promising s f) tt by_promising)
+
+-- A COMMAND READS BACK
+
+checked_same : (c : Command) (b : Bool) → b ≡ true → (if b then Some c else None) ≡ Some c
+checked_same c true is = refl
+checked_same c false is = absurd (cc)
+
+-- one whose numbers are in their ranges is what its spelling reads as
+pub reads_back : (command : Command) → FitsCommand command → decoded (spelling command) ≡ Some command
+reads_back command fits =
+    ap (checked (spelling command)) (command_at-spelling command fits) ∙ checked_same command _ ((bytes_eq-Decides (spelling command) (spelling command)).1 refl)
+
+-- the command that was submitted reads back
+abbrev pub ReadsBack : Operation → Type 0
+ReadsBack (Submitting command) = decoded (spelling command) ≡ Some command
+ReadsBack Recovering = Unit {0}
+
+-- GOING ON, OR ENDED
+
+-- the operation is under way, or has ended
+abbrev GoesOn : Operation → Memory → Option Doing → Type 0
+GoesOn o m None = Ends o m.learned m.said
+GoesOn o m (Some t) = t.operation ≡ o
+
+abbrev pub IsOf : Operation → Memory → Type 0
+IsOf o m = GoesOn o m m.doing
+
+of_test : (o : Operation) (b : Bool) (x y : Memory) → IsOf o x → IsOf o y → IsOf o (if b then x else y)
+of_test o true x y is_x is_y = is_x
+of_test o false x y is_x is_y = is_y
+
+full : (o : Operation) (m : Memory) → IsOf o (says m (full_answer o (length m.learned)))
+full (Submitting command) m = tt
+full Recovering m = refl
+
+pub goes_on_of : (c : Shape) (m : Memory) (o : Operation) (tries : ℕ) → IsOf o (goes_on c m o tries)
+goes_on_of c m o tries = of_test o (nat_lt (length m.learned) c.slots) (begins m o tries) (says m (full_answer o (length m.learned))) refl (full o m)
+
+tries_of : (m : Memory) (o : Operation) (tries : ℕ) → IsOf o (tries_again m o tries)
+tries_of m (Submitting command) tries = of_test (Submitting command) (nat_le tries 1) _ _ tt refl
+tries_of m Recovering tries = of_test Recovering (nat_le tries 1) _ _ tt refl
+
+same_command : (a b : Command) → Some a ≡ Some b → a ≡ b
+same_command a b is = cc
+
+-- a committed value that is the command submitted is acknowledged
+learned_of : (c : Shape) (m : Memory) (t : Doing) (value : List ℕ) (command : Command) → decoded value ≡ Some command → ReadsBack t.operation →
+    (b : Bool) → is_submitted t.operation value ≡ b → IsOf t.operation (after_learning c m t command b)
+learned_of c m t value command read back false is = goes_on_of c (learns m command) t.operation t.tries
+learned_of c m t value command read back true is = by_operation t.operation back is
+  where
+    by_operation : (o : Operation) → ReadsBack o → is_submitted o value ≡ true → IsOf o (after_learning c m t command true)
+    by_operation (Submitting given) back is =
+        let spelled : spelling given ≡ value = (bytes_eq-Decides (spelling given) value).0 is in
+        let same : given ≡ command = same_command given command (sym back ∙ ap decoded spelled ∙ read) in
+        subst (λ (x : Command). IsOf (Submitting x) (after_learning c m t command true)) (sym same)
+        (record { before = m.learned; last = refl; at = refl; replied = refl })
+    by_operation Recovering back is = absurd (cc)
+
+-- a refusal ends any operation
+refusal_of : (o : Operation) (learned : List Command) (r : Refusal) → Ends o learned (Some (Refused r))
+refusal_of (Submitting command) learned r = tt
+refusal_of Recovering learned r = tt
+
+taken_of : (c : Shape) (m : Memory) (t : Doing) (ballot : ℕ) (value : List ℕ) → ReadsBack t.operation → (o : Option Command) → decoded value ≡ o → IsOf t.operation (takes c m t ballot value o)
+taken_of c m t ballot value back None read = refusal_of t.operation m.learned refusal.NotACommand
+taken_of c m t ballot value back (Some command) read = learned_of c m t value command read back (is_submitted t.operation value) refl
+
+-- only a recovery ends where nothing was proposed
+empty_of : (o : Operation) (m : Memory) → input_of o ≡ None → Ends o m.learned (Some (Recovered (length m.learned)))
+empty_of (Submitting command) m none = absurd (cc)
+empty_of Recovering m none = refl
+
+status_of : (c : Shape) (m : Memory) (t : Doing) (ballot : ℕ) (s : Setup) (at : Status) → s.input ≡ input_of t.operation → HasInput s at → ReadsBack t.operation → IsOf t.operation (by_status c m t ballot at)
+status_of c m t ballot s (Due phase disk) same has back = refl
+status_of c m t ballot s (Ended (attempt.Committed value)) same has back = taken_of c m t ballot value back (decoded value) refl
+status_of c m t ballot s (Ended attempt.Empty) same has back = empty_of t.operation (with_floor m ballot) (sym same ∙ has)
+status_of c m t ballot s (Ended (attempt.Outrun mbal)) same has back = tries_of (with_floor (with_floor m ballot) mbal) t.operation t.tries
+status_of c m t ballot s (Ended attempt.NoMajority) same has back = refusal_of t.operation m.learned refusal.NoMajority
+status_of c m t ballot s (Ended attempt.BallotsSpent) same has back = refusal_of t.operation m.learned refusal.BallotsSpent
+
+hears_of : (c : Shape) (h : ℕ) (m : Memory) (o : Operation) (doing : Option Doing) (x : Answered) → ReadsBack o → m.doing ≡ doing → GoesOn o m doing → IsOf o (hears c h m doing x)
+hears_of c h m o None x back is goes = subst (GoesOn o m) (sym is) goes
+hears_of c h m o (Some t) x back is goes =
+    let s : Setup = setup_of c h m t.operation in
+    let heard = on (t.heard ++ x ∷ []) in
+    subst (λ (p : Operation). IsOf p (hears c h m (Some t) x)) goes
+    (status_of c m (with_heard t x) (taken s heard) s (status s heard) refl (has_input s heard) (subst ReadsBack (sym goes) back))
+
+-- whatever it hears, an operation goes on, or has ended
+after_of : (c : Shape) (h : ℕ) (m : Memory) (o : Operation) (xs : List Answered) → ReadsBack o → IsOf o m → IsOf o (after_answers c h m xs)
+after_of c h m o [] back is = is
+after_of c h m o (x ∷ xs) back is = after_of c h (hears c h m m.doing x) o xs back (hears_of c h m o m.doing x back refl is)
+
+ended_with : (o : Operation) (m : Memory) (doing : Option Doing) → doing ≡ None → GoesOn o m doing → Ends o m.learned m.said
+ended_with o m None none goes = goes
+ended_with o m (Some t) none goes = absurd (cc)
+
+-- an operation that is under way no more has ended
+pub operation_ends : (c : Shape) (h : ℕ) (m : Memory) (o : Operation) (tries : ℕ) (xs : List Answered) → ReadsBack o → (after_answers c h (goes_on c m o tries) xs).doing ≡ None →
+    Ends o (after_answers c h (goes_on c m o tries) xs).learned (after_answers c h (goes_on c m o tries) xs).said
+operation_ends c h m o tries xs back none =
+    let n = after_answers c h (goes_on c m o tries) xs in
+    ended_with o n n.doing none (after_of c h (goes_on c m o tries) o xs back (goes_on_of c m o tries))

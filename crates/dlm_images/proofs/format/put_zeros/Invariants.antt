@@ -1,0 +1,11 @@
+use Rattle.std.proofs.Common.{◌-◌, ◌≡◌, ◌≤◌}
+use Rattle.dlm_images.proofs.format.put_zeros.Given as goal
+
+abbrev pub invariant-loop-at : goal.invariant-loop-at
+invariant-loop-at g l = record {
+  within : l.at ≤ l.size;
+  device : g.D.Disk.device l.device ≡ g.D.Disk.device l.initial.device;
+}
+
+abbrev pub decreases-loop-at : goal.decreases-loop-at
+decreases-loop-at g l = l.size - l.at

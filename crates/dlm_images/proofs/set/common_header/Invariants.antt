@@ -1,0 +1,8 @@
+use Rattle.std.proofs.Common.{◌≡◌, ◌<◌, ℕ, Option, Some, None}
+use Rattle.paxos_block.specs.declared.header.Header.{Header}
+use Rattle.dlm_images.specs.Sets.{Found, IsFirst, AreOfSetBelow, AreRefusedBelow}
+use Rattle.dlm_images.proofs.Sets.{IsFoundBelow}
+use Rattle.dlm_images.proofs.set.common_header.Given as goal
+
+abbrev pub invariant-loop-number : goal.invariant-loop-number
+invariant-loop-number l = IsFoundBelow l.found l.first l.number

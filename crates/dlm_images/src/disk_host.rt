@@ -1,0 +1,144 @@
+ghost use Rattle.std.specs.Prelude.{◌≡◌, ◌≤◌, ℕ, Some, IfOk, IfErr, length, slice_get};
+ghost use Rattle.paxos_block.specs.Places.{image_length};
+ghost use Rattle.lock_table.specs.Apply.{table_after};
+ghost use Rattle.lock_table.specs.Picture.{IsPictureOf};
+ghost use Rattle.host.specs.Host.{Submitting, Recovering, fresh};
+ghost use Rattle.host.specs.Kept.{Kept, LeadsTo};
+ghost use Rattle.dlm_images.specs.Operations.{HasOperated, IsAcknowledged, Ends};
+
+use crate::operation::drive;
+use disk::{Disk, NoMemory};
+use host::{Config, HostAnswer, HostCore, Refusal};
+use lock_command::{Command, HostNumber};
+use lock_table::{Reply, Table};
+use std::alloc::Global;
+use std::marker::Model;
+
+/// Where an acknowledged command stands in the log, and what the lock table replied to it there.
+#[derive(Clone, Copy, Debug, PartialEq, Eq)]
+pub struct Acknowledgement {
+    pub slot: u16,
+    pub reply: Reply,
+}
+
+/// A running host and its disks. What it has learned stays between its operations, so each begins where the last one ended.
+///
+/// No call but `start` takes memory.
+#[derive(Drop)]
+pub struct DiskHost<D: Disk> {
+    core: HostCore,
+    disks: Vec<D>,
+}
+
+impl<D: Disk> Model for DiskHost<D> {
+    ghost use Rattle.std.specs.Prelude.{◌≡◌, ◌≤◌, ℕ, true, Some, length, slice_get};
+    ghost use Rattle.paxos_block.specs.Places.{image_length};
+    ghost use Rattle.host.specs.Kept.{Kept, is_idle};
+    ghost use Rattle.dlm_images.specs.Operations.{IsKnown, IsSmall};
+
+    ghost Value = { Kept };
+
+    ghost view = { λ h. h.core };
+
+    ghost invariant = { λ h. record {
+      known : IsKnown h.core;
+      idle : is_idle h.core ≡ true;
+      small : IsSmall h.core.learner.shape;
+      as_many : length h.disks.items ≡ h.core.learner.shape.disks;
+      large : (k : ℕ) (d : D) → slice_get h.disks.items k ≡ Some d → image_length h.core.learner.shape.slots ≤ (D.device d).size;
+    } };
+}
+
+impl<D: Disk> DiskHost<D> {
+    /// A host that has learned nothing yet, over these disks.
+    pub fn start(
+        alloc: Global,
+        host: HostNumber,
+        config: Config,
+        disks: Vec<D>,
+    ) -> Result<DiskHost<D>, NoMemory>
+    where
+        D: Drop,
+        requires as_many { length disks.items ≡ config.disks }
+        requires large { (k : ℕ) (d : D) → slice_get disks.items k ≡ Some d → image_length config.slots ≤ (D.device d).size }
+        ensures { IfOk result (LeadsTo config host fresh) }
+    {
+        let core = HostCore::start(alloc, host, config)?;
+        Ok(DiskHost { core, disks })
+    }
+
+    /// The host's number.
+    pub fn host(&self) -> HostNumber
+        ensures { result ≡ self.now.learner.host }
+    {
+        self.core.host()
+    }
+
+    /// The commands learned: the first of the log, none left out.
+    pub fn prefix(&self) -> &[Command]
+        ensures { result.now ≡ self.now.prefix }
+    {
+        self.core.prefix()
+    }
+
+    /// The lock table after these commands.
+    pub fn table(&self) -> &Table
+        ensures { IsPictureOf result.now (table_after self.now.prefix) }
+    {
+        self.core.table()
+    }
+
+    /// Puts a command of this host into the log. Up to `tries` attempts may be outrun, the last of which ends the submission.
+    pub fn submit(&mut self, command: Command, tries: u8) -> Result<Acknowledgement, Refusal>
+        requires host { command.host ≡ self.old.learner.host }
+        requires tries { 1 ≤ tries }
+        ensures operated { HasOperated (Submitting command) tries self.old self.new }
+        ensures acknowledged { IfOk result (λ done. IsAcknowledged command done.slot done.reply self.new.prefix) }
+        ensures refused { IfErr result (λ refusal. self.new.said ≡ Some (HostAnswer.Refused refusal)) }
+    {
+        // Its numbers are in their ranges, so that its bytes are read back as the command.
+        let _spelled = command.encode();
+        self.core.submit(command, tries);
+        drive(&mut self.core, &mut self.disks);
+        acknowledged(&self.core, &command)
+    }
+
+    /// Learns all that is in the log, and tells how much that is. Up to `tries` attempts may be outrun, the last of which ends
+    /// the recovery.
+    pub fn recover(&mut self, tries: u8) -> Result<u16, Refusal>
+        requires { 1 ≤ tries }
+        ensures operated { HasOperated Recovering tries self.old self.new }
+        ensures learned { IfOk result (λ count. count ≡ length self.new.prefix) }
+        ensures refused { IfErr result (λ refusal. self.new.said ≡ Some (HostAnswer.Refused refusal)) }
+    {
+        self.core.recover(tries);
+        drive(&mut self.core, &mut self.disks);
+        recovered(&self.core)
+    }
+}
+
+/// How a submission of this command has ended.
+fn acknowledged(core: &HostCore, command: &Command) -> Result<Acknowledgement, Refusal>
+    requires { Ends (Submitting command.now) core.now.prefix core.now.said }
+    ensures acknowledged { IfOk result (λ done. IsAcknowledged command.now done.slot done.reply core.now.prefix) }
+    ensures refused { IfErr result (λ refusal. core.now.said ≡ Some (HostAnswer.Refused refusal)) }
+{
+    match core.answer() {
+        Some(HostAnswer::Ack { slot, reply }) => Ok(Acknowledgement { slot, reply }),
+        Some(HostAnswer::Refused(refusal)) => Err(refusal),
+        _ => unreachable!(),
+    }
+}
+
+/// How a recovery has ended.
+fn recovered(core: &HostCore) -> Result<u16, Refusal>
+    requires { Ends Recovering core.now.prefix core.now.said }
+    ensures learned { IfOk result (λ count. count ≡ length core.now.prefix) }
+    ensures refused { IfErr result (λ refusal. core.now.said ≡ Some (HostAnswer.Refused refusal)) }
+{
+    match core.answer() {
+        Some(HostAnswer::Recovered { length }) => Ok(length),
+        Some(HostAnswer::Refused(refusal)) => Err(refusal),
+        _ => unreachable!(),
+    }
+}

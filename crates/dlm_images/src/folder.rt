@@ -1,0 +1,111 @@
+ghost use Rattle.std.specs.Prelude.{◌≡◌, ◌≤◌, ◌<◌, ℕ, Some, IfOk, IfErr, IfSome, length, slice_get};
+ghost use Rattle.dlm_images.specs.Operations.{IsSmall};
+ghost use Rattle.dlm_images.specs.SetFaults.{MayRefuse};
+ghost use Rattle.disk.specs.FileStates.{FileState};
+ghost use Rattle.paxos_block.specs.Headers.{IsHeader};
+ghost use Rattle.paxos_block.specs.Places.{image_length};
+ghost use Rattle.host.specs.Host.{fresh};
+ghost use Rattle.host.specs.Kept.{LeadsTo};
+
+use crate::disk_host::DiskHost;
+use crate::fault::FolderFault;
+use crate::image::{image_path, open_image};
+use crate::set::common_header;
+use disk::{Disk, FileDisk, ImageFault, NoMemory};
+use host::Config;
+use lock_command::HostNumber;
+use paxos_block::Header;
+use std::alloc::Global;
+use std::fs::OpenFile;
+use std::os::unix::fs::FileExt;
+use std::rt::Files;
+use torn_block::DISKS;
+
+/// The disks of a set of images, by number, and what their headers say.
+#[derive(Drop)]
+pub struct Folder<F> {
+    pub config: Config,
+    pub cluster: u64,
+    pub disks: Vec<FileDisk<F>>,
+    ghost small: { IsSmall config },
+    ghost as_many: { length disks.items ≡ config.disks },
+    ghost long: { (k : ℕ) (d : FileState) → slice_get disks.items k ≡ Some d → d.size ≡ image_length config.slots },
+}
+
+impl<F: FileExt + OpenFile + Drop> Folder<F> {
+    /// A host over the disks of the folder. It has learned nothing yet.
+    pub fn host(self, alloc: Global, host: HostNumber) -> Result<DiskHost<FileDisk<F>>, NoMemory>
+        ensures { IfOk result (LeadsTo self.config host fresh) }
+    {
+        DiskHost::start(alloc, host, self.config, self.disks)
+    }
+}
+
+/// Opens the images of a folder. One that is missing or refused is a disk of which every call fails.
+pub fn open_folder<R: Files + AllocGlobal>(
+    rt: &R,
+    folder: &str,
+) -> Result<Folder<R::File>, FolderFault>
+where
+    R::File: FileExt + OpenFile + Drop,
+    ensures { IfErr result MayRefuse }
+{
+    let mut found = [Err(ImageFault::Unreadable); DISKS as usize];
+    let mut disks = Vec::with_capacity(rt.alloc(), usize::from(DISKS))?;
+    for disk in 0..DISKS {
+        let (header, image) = look(rt, folder, disk)?;
+        found[usize::from(disk)] = header;
+        disks.push_reserved(image);
+    }
+    let header = common_header(&found)?;
+    let Some(config) = config_of(&header) else {
+        return Err(FolderFault::Image {
+            disk: 0,
+            fault: ImageFault::WrongHeader,
+        });
+    };
+    disks.truncate(usize::from(config.disks()));
+    resize(&mut disks, config.image_length());
+    Ok(Folder {
+        config,
+        cluster: header.cluster,
+        disks,
+    })
+}
+
+/// What is found of an image: its header and its disk, or why it is refused and a disk of which every call fails.
+fn look<R: Files + AllocGlobal>(
+    rt: &R,
+    folder: &str,
+    disk: u8,
+) -> Result<(Result<Header, ImageFault>, FileDisk<R::File>), FolderFault>
+where
+    R::File: FileExt + OpenFile + Drop,
+    ensures right { IfOk result (λ found. IfOk found.0 IsHeader) }
+    ensures fault { IfErr result (λ fault. fault ≡ FolderFault.NoMemory) }
+{
+    let path = image_path(rt.alloc(), folder, disk)?;
+    match open_image(rt, path.as_str(), disk) {
+        Ok((header, image)) => Ok((Ok(header), image)),
+        Err(fault) => Ok((Err(fault), FileDisk::missing(0))),
+    }
+}
+
+/// How large the cluster is whose image has this header.
+fn config_of(header: &Header) -> Option<Config>
+    ensures { IfSome result IsSmall }
+{
+    Config::new(header.disks, u16::try_from(header.slots).ok()?)
+}
+
+/// Those that were refused have no size yet.
+fn resize<F: FileExt + OpenFile + Drop>(disks: &mut Vec<FileDisk<F>>, size: u64)
+    ensures as_many { length disks.new.items ≡ length disks.old.items }
+    ensures long { (k : ℕ) (d : FileState) → slice_get disks.new.items k ≡ Some d → d.size ≡ size }
+{
+    for disk in 0..disks.len() {
+        if disks[disk].size() != size {
+            disks[disk] = FileDisk::missing(size);
+        }
+    }
+}

@@ -1,0 +1,58 @@
+ghost use Rattle.std.specs.Prelude.{◌≡◌, IfOk, IfErr};
+ghost use Rattle.paxos_block.specs.Places.{image_length};
+ghost use Rattle.paxos_block.specs.Headers.{IsHeader};
+ghost use Rattle.dlm_images.specs.declared.fault.FolderFault.TheVariants.{NoMemory};
+
+use crate::fault::FolderFault;
+use disk::{Disk, DiskFault, FileDisk, ImageFault};
+use paxos_block::{Header, decode_header};
+use std::alloc::Global;
+use std::fs::OpenFile;
+use std::os::unix::fs::FileExt;
+use std::path::{Path, PathBuf};
+use std::rt::Files;
+use torn_block::HEADER_LENGTH;
+
+/// The path of the image of this number.
+pub fn image_path(alloc: Global, folder: &str, disk: u8) -> Result<PathBuf, FolderFault>
+    ensures { IfErr result (λ fault. fault ≡ NoMemory) }
+{
+    let name = format!(in alloc; "disk{disk}.img")?;
+    Ok(Path::new(folder).join(alloc, name.as_str())?)
+}
+
+/// Opens the file at this path as the image of this disk.
+pub fn open_image<R: Files>(
+    files: &R,
+    path: &str,
+    disk: u8,
+) -> Result<(Header, FileDisk<R::File>), ImageFault>
+where
+    R::File: FileExt + OpenFile + Drop,
+    ensures right { IfOk result (λ image. IsHeader image.0) }
+    ensures long { IfOk result (λ image. image.1.size ≡ image_length image.0.slots) }
+{
+    let mut file = FileDisk::open(files, path)?;
+    let header = read_header(&mut file, disk)?;
+    Ok((header, file))
+}
+
+/// The header of a device, where it is that of the image of this number.
+fn read_header<D: Disk>(device: &mut D, disk: u8) -> Result<Header, ImageFault>
+    ensures right { IfOk result IsHeader }
+    ensures long { IfOk result (λ header. image_length header.slots ≡ (D.device device.old).size) }
+    ensures device { D.device device.new ≡ D.device device.old }
+{
+    let long = device.size();
+    let mut bytes = [0; HEADER_LENGTH];
+    let there = long.min(HEADER_LENGTH as u64) as usize;
+    let boot = device.attach().map_err(unreadable)?;
+    device
+        .read(boot, 0, &mut bytes[..there])
+        .map_err(unreadable)?;
+    decode_header(disk, long, &bytes)
+}
+
+fn unreadable(_: DiskFault) -> ImageFault {
+    ImageFault::Unreadable
+}

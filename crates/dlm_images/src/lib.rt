@@ -1,0 +1,20 @@
+//! Folders of image files: how one is made and opened, and a host that works over its disks.
+#![tactic(auto)]
+
+mod disk_host;
+mod fault;
+mod folder;
+mod format;
+mod image;
+mod operation;
+mod set;
+
+pub use disk_host::{Acknowledgement, DiskHost};
+pub use fault::FolderFault;
+pub use folder::{Folder, open_folder};
+pub use format::{format_folder, lay_out};
+pub use operation::drive;
+pub use set::{SetFault, common_header};
+
+#[cfg(test)]
+mod tests;

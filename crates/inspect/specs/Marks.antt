@@ -1,0 +1,23 @@
+-- A table of edges between clients, a flag for each pair of them.
+use Rattle.std.specs.Prelude.{◌≡◌, ◌<◌, ◌+◌, ◌*◌, ℕ, Bool, true, false, List, slice_index_or, slice_get, Some}
+use Rattle.lock_table.specs.declared.record.LockRecord.{LockRecord}
+use Rattle.inspect.specs.Blocked.{is_blocked_by}
+
+-- the flag of a pair
+abbrev pub mark : List Bool → ℕ → ℕ → Bool
+mark edges a b = slice_index_or edges (256 * a + b) false
+
+-- the pair is marked
+pub record Marked (edges : List Bool) (a b : ℕ) : Type 0 where
+  pub a_fits : a < 256
+  pub b_fits : b < 256
+  pub set : mark edges a b ≡ true
+
+-- where the lock at place j blocks that at place i, their clients are marked
+abbrev pub MarksPair : List LockRecord → ℕ → ℕ → List Bool → Type 0
+MarksPair locks i j edges =
+    (x y : LockRecord) → slice_get locks i ≡ Some x → slice_get locks j ≡ Some y → is_blocked_by i x j y ≡ true → Marked edges x.client y.client
+
+-- so are the clients of all locks before place n
+abbrev pub MarksPlace : List LockRecord → ℕ → ℕ → List Bool → Type 0
+MarksPlace locks i n edges = (j : ℕ) → j < n → MarksPair locks i j edges

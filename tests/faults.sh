@@ -1,0 +1,120 @@
+#!/usr/bin/env bash
+# Faults of files: a full disk, an image that can only be read, one that is cut off, also while a command is submitted, one of
+# zeros and one of another cluster. Each is told by the right refusal, and nothing is lost on the others.
+set -uo pipefail
+
+tests=$(dirname -- "$(readlink -f -- "${BASH_SOURCE[0]}")")
+program=$tests/../crates/dlm/out/dlm
+"$tests/../dlm" run /dev/null >/dev/null 2>&1
+if [[ ! -x $program ]]; then
+    echo "dlm is not built"
+    exit 1
+fi
+
+work=$(mktemp -d)
+trap 'rm -r -- "$work"' EXIT
+failed=0
+
+# expect NAME STATUS TEXT WORD..: runs the words, and compares their status and all that they write.
+expect() {
+    local name=$1 status=$2 text=$3 written ended
+    shift 3
+    written=$("$@" 2>&1)
+    ended=$?
+    if [[ $ended -ne $status || $written != "$text" ]]; then
+        echo "$name: status $ended (wanted $status), written: $written (wanted: $text)"
+        failed=$((failed + 1))
+    fi
+}
+
+# A folder of three images with one acknowledged command.
+fresh() {
+    rm -rf -- "$work/d"
+    mkdir -- "$work/d"
+    chmod 777 -- "$work" "$work/d"
+    "$program" format "$work/d" 3 16 7 >/dev/null
+    "$program" submit "$work/d" 0 enqueue 1 1 1 EX db >/dev/null
+}
+
+# Runs words where no file may grow beyond so many blocks of 1,024 bytes.
+limited() {
+    (
+        trap '' XFSZ
+        ulimit -f "$1"
+        shift
+        exec "$@"
+    )
+}
+
+# Runs words as somebody who may not write what is read only.
+as_nobody() {
+    if [[ $(id -u) -eq 0 ]]; then
+        setpriv --reuid=65534 --regid=65534 --clear-groups "$@"
+    else
+        "$@"
+    fi
+}
+
+held=$'recovered 1\ndb\n  granted 1 1 0 EX'
+
+# A full disk: what was made stays, and the folder is not formatted.
+mkdir -- "$work/full"
+expect "format on a full disk" 1 "dlm: 26 Unreadable disk0" limited 12 "$program" format "$work/full" 3 16 7
+expect "half a format" 1 "dlm: 24 NotFormatted disk0" "$program" table "$work/full" 0
+expect "format again" 1 "dlm: 29 AlreadyThere" "$program" format "$work/full" 3 16 7
+
+# No write gets through, on any disk.
+fresh
+expect "submit on full disks" 1 "dlm: 7 NoMajority" limited 2 "$program" submit "$work/d" 1 enqueue 2 1 2 EX db
+expect "after full disks" 0 "$held" "$program" table "$work/d" 2
+
+# Read only: that image is a disk that fails. With two of them there is no majority.
+fresh
+cp -- "$program" "$work/dlm"
+chmod 666 -- "$work"/d/*.img
+chmod 444 -- "$work/d/disk0.img"
+expect "one read only" 0 "$held" as_nobody "$work/dlm" table "$work/d" 2
+chmod 444 -- "$work/d/disk2.img"
+expect "two read only" 1 "dlm: 7 NoMajority" as_nobody "$work/dlm" table "$work/d" 2
+chmod 444 -- "$work/d/disk1.img"
+expect "all read only" 1 "dlm: 26 Unreadable disk0" as_nobody "$work/dlm" table "$work/d" 2
+chmod 666 -- "$work"/d/*.img
+expect "written again" 0 "$held" as_nobody "$work/dlm" table "$work/d" 2
+
+# Cut off.
+fresh
+truncate -s 2000 -- "$work/d/disk0.img"
+expect "one cut off" 0 "$held" "$program" table "$work/d" 2
+truncate -s 2000 -- "$work/d/disk1.img"
+expect "two cut off" 1 "dlm: 7 NoMajority" "$program" table "$work/d" 2
+
+# Zeros, and another cluster's image.
+fresh
+dd if=/dev/zero of="$work/d/disk2.img" bs=18432 count=1 status=none
+expect "one of zeros" 0 "ack 1 Queued" "$program" submit "$work/d" 4 enqueue 2 1 2 EX db
+fresh
+mkdir -- "$work/other"
+"$program" format "$work/other" 3 16 8 >/dev/null
+cp -- "$work/d/disk1.img" "$work/kept"
+cp -- "$work/other/disk1.img" "$work/d/disk1.img"
+expect "another cluster's" 1 "dlm: 25 WrongHeader disk1" "$program" table "$work/d" 2
+cp -- "$work/kept" "$work/d/disk1.img"
+expect "its own again" 0 "$held" "$program" table "$work/d" 2
+
+# Cut off under way: what is acknowledged stands on the two others.
+for turn in 1 2 3 4 5 6 7 8 9 10; do
+    fresh
+    "$program" submit "$work/d" 5 enqueue 2 1 2 EX db >"$work/out" 2>&1 &
+    [[ $((turn % 2)) -eq 0 ]] && sleep "0.00$((turn % 5))"
+    truncate -s $((1024 * turn)) -- "$work/d/disk$((turn % 3)).img"
+    wait $!
+    rm -- "$work/d/disk$((turn % 3)).img"
+    "$program" table "$work/d" 6 >"$work/table" 2>&1
+    if [[ $(<"$work/out") == "ack 1 Queued" ]]; then
+        grep -q "^  waiting 2 2 5 EX$" "$work/table" || { echo "cut off under way: lock 2 is lost"; failed=$((failed + 1)); }
+    fi
+    grep -q "^  granted 1 1 0 EX$" "$work/table" || { echo "cut off under way: lock 1 is lost"; failed=$((failed + 1)); }
+done
+
+[[ $failed -eq 0 ]] && echo "faults of files: each told, nothing lost"
+exit $((failed > 0))
