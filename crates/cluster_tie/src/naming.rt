@@ -1,6 +1,6 @@
-use std::marker::{Brand, PhantomData};
-use atomic_table::Play;
 use crate::view::View;
+use atomic_table::Play;
+use std::marker::{Brand, PhantomData};
 
 /// Names one table. Each call of a program picks it.
 pub trait Naming {

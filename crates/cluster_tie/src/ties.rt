@@ -33,14 +33,14 @@ impl<N: Naming> Ties<N> {
         ensures host { host.new ≡ adds host.old (length journal.old) E.entry }
         ensures parts { (disk.old.entries ≡ on_disk disk.old.number journal.old) × (host.old.entries ≡ of_host host.old.number journal.old) }
     {
-        let shared = &self.table.shared;
-        let disks = shared.split_seat::<Front>(&mut disk.seat);
-        shared.join_seat::<Lends>(&mut journal.seat, disks);
-        let hosts = shared.split_seat::<Front>(&mut host.seat);
-        shared.join_seat::<Lends>(&mut journal.seat, hosts);
-        shared.load::<Appends<E>>(&mut journal.seat, 0);
-        disk.seat = shared.split_seat::<Front>(&mut journal.seat);
-        host.seat = shared.split_seat::<Front>(&mut journal.seat);
+        let table = &self.table.shared;
+        let disks = table.split_seat::<Front>(&mut disk.seat);
+        table.join_seat::<Lends>(&mut journal.seat, disks);
+        let hosts = table.split_seat::<Front>(&mut host.seat);
+        table.join_seat::<Lends>(&mut journal.seat, hosts);
+        table.load::<Appends<E>>(&mut journal.seat, 0);
+        disk.seat = table.split_seat::<Front>(&mut journal.seat);
+        host.seat = table.split_seat::<Front>(&mut journal.seat);
     }
 
     /// The same for an entry of a host that is on no disk.
@@ -76,11 +76,11 @@ impl<N: Naming> Ties<N> {
         ensures same { (journal.new ≡ journal.old) × (disk.new ≡ disk.old) }
         ensures part { disk.old.entries ≡ on_disk disk.old.number journal.old }
     {
-        let shared = &self.table.shared;
-        let disks = shared.split_seat::<Front>(&mut disk.seat);
-        shared.join_seat::<Lends>(&mut journal.seat, disks);
-        shared.load::<Sees>(&mut journal.seat, 0);
-        disk.seat = shared.split_seat::<Front>(&mut journal.seat);
+        let table = &self.table.shared;
+        let disks = table.split_seat::<Front>(&mut disk.seat);
+        table.join_seat::<Lends>(&mut journal.seat, disks);
+        table.load::<Sees>(&mut journal.seat, 0);
+        disk.seat = table.split_seat::<Front>(&mut journal.seat);
     }
 
     /// The journal and a host learn that the host's entries are its part of the journal's.
