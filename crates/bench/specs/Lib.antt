@@ -1,2 +1,1 @@
-pub mod FirstPath
 pub mod WholeAttempt

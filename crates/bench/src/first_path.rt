@@ -1,106 +1,76 @@
-ghost use Rattle.std.specs.Prelude.{◌≡◌, IfSome, OnOk};
-ghost use Rattle.bench.specs.FirstPath.{IsSound};
+ghost use Rattle.std.specs.Prelude.{◌≡◌, IfSome};
+ghost use Rattle.cluster.specs.Opening.{IsNamed};
 
-use crate::benchmark::Benchmark;
 use crate::failure::Failure;
-use cluster::{Config, DiskBook, HostAnswer, HostSeat, Journal, begin, commit_step, first};
-use disk::SimDisk;
+use crate::timing::{ROUNDS, Timing};
+use cluster::{Cluster, Config, Named, OpenGate, Opening};
 use lock_command::{
     Action, ClientNumber, Command, HostNumber, LockName, LockNumber, RequestNumber,
 };
 use lock_modes::Mode;
-use std::alloc::Global;
+use std::alloc::AllocGlobal;
+use std::marker::Brand;
+use std::sync::Wait;
+use std::time::{Clock, Instant};
 
 /// The slots of the log, and so the most submissions.
 const SLOTS: u16 = 4096;
 
-/// The device calls of a submission: attach, sync and read, then two block writes of six calls, each followed by a read.
-const CALLS: u32 = 17;
-
-/// Submissions to host 0 over one disk, each to its acknowledgement.
-#[derive(Drop)]
-pub struct FirstPath {
-    journal: Journal,
-    book: DiskBook<SimDisk>,
-    seat: HostSeat,
+/// The shortest of twenty rounds of so many submissions.
+pub fn best_first_path<R: Wait + Clock + AllocGlobal>(
+    rt: &R,
+    count: u32,
+) -> Result<Timing, Failure> {
+    let mut spent = u64::MAX;
+    for _ in 0..ROUNDS {
+        spent = spent.min(first_path(rt, count)?);
+    }
+    Ok(Timing { count, spent })
 }
 
-impl FirstPath {
-    /// Puts the command into the log.
-    fn submit(&mut self, command: Command) -> Result<(), Failure>
-        requires sound { IsSound self.old }
-        requires host { command.host ≡ 0 }
-        ensures { OnOk result (IsSound self.new) }
-    {
-        if !self.seat.idle() {
-            return Err(Failure::Wrong);
-        }
-        begin(&mut self.journal, &mut self.seat, command, 1)?;
-        'calls: for _ in 0..CALLS {
-            self.step()?;
-        }
-        match self.seat.answer() {
-            Some(HostAnswer::Ack { .. }) => Ok(()),
-            _ => Err(Failure::Wrong),
-        }
-    }
-
-    /// Makes the host's next device call.
-    fn step(&mut self) -> Result<(), Failure>
-        requires { IsSound self.old }
-        ensures { OnOk result (IsSound self.new) }
-    {
-        if self.seat.idle() {
-            return Err(Failure::Wrong);
-        }
-        let promise = self.journal.promise()?;
-        let touched = self.book.touch(&self.seat);
-        commit_step(
-            &mut self.journal,
-            &mut self.book,
-            &mut self.seat,
-            promise,
-            touched,
-        );
-        Ok(())
-    }
+/// So many submissions to host 0 over one simulated disk, each through the locks to its acknowledgement. Gives the nanoseconds.
+pub fn first_path<R: Wait + Clock + AllocGlobal>(rt: &R, count: u32) -> Result<u64, Failure> {
+    let Some(config) = Config::new(1, SLOTS) else {
+        return Err(Failure::Wrong);
+    };
+    let opening = Opening::new(rt.alloc(), config)?;
+    submissions::<Brand, R>(rt, opening, count)
 }
 
-impl Benchmark for FirstPath {
-    ghost use Rattle.bench.specs.FirstPath.{IsSound};
-
-    ghost is_ready = { IsSound };
-
-    fn new(alloc: Global) -> Result<Self, Failure> {
-        let Some(config) = Config::new(1, SLOTS) else {
+fn submissions<N: Named, R: Wait + Clock + AllocGlobal>(
+    rt: &R,
+    opening: Opening,
+    count: u32,
+) -> Result<u64, Failure>
+    requires { IsNamed opening N.shape N.table N.name N.parts N.all }
+{
+    let alloc = rt.alloc();
+    let Some(host) = HostNumber::new(0) else {
+        return Err(Failure::Wrong);
+    };
+    let (ties, foundation) = opening.named::<N>(alloc)?;
+    let cluster = Cluster::simulated(alloc, &ties, foundation)?;
+    let mut seat = cluster.seat(rt, alloc, host)?;
+    let start = Instant::now(rt)?;
+    for place in 0..count {
+        let Some(command) = command_at(seat.host(), place) else {
             return Err(Failure::Wrong);
         };
-        let disk = SimDisk::new(alloc, config.image_length())?;
-        let (journal, book, seat) = first(alloc, config, disk)?;
-        Ok(FirstPath {
-            journal,
-            book,
-            seat,
-        })
-    }
-
-    fn run(&mut self, count: u32) -> Result<(), Failure> {
-        'submissions: for place in 0..count {
-            let Some(command) = command_at(place) else {
-                return Err(Failure::Wrong);
-            };
-            self.submit(command)?;
+        if !seat.idle() {
+            return Err(Failure::Wrong);
         }
-        Ok(())
+        cluster.submit(rt, &mut seat, &mut OpenGate, command, 1)?;
     }
+    let spent = start.elapsed(rt)?;
+    Ok(u64::try_from(spent.as_nanos()).unwrap_or(u64::MAX))
 }
 
 /// The enqueue at this place of the log, from 0.
-fn command_at(place: u32) -> Option<Command>
-    ensures { IfSome result (λ command. command.host ≡ 0) }
+pub fn command_at(host: HostNumber, place: u32) -> Option<Command>
+    ensures { IfSome result (λ command. command.host ≡ host) }
 {
     Some(Command {
-        host: HostNumber::new(0)?,
+        host,
         client: ClientNumber::new((place % 8) as u8),
         request: RequestNumber::new(u64::from(place) + 1)?,
         action: Action::Enqueue {

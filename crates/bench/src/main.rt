@@ -12,18 +12,24 @@ mod first_path;
 mod image;
 mod learn;
 mod run;
+mod threads;
 mod timing;
 mod whole_attempt;
 mod words;
 
 use failure::Failure;
-use run::run_all;
+use run::{print_threads, run_all};
 use std::env;
 use std::process::ExitCode;
-use words::task_of;
+use words::{Task, task_of};
 
 fn main(rt: HostRuntime) -> ExitCode {
-    match run_arguments(&rt) {
+    let ended = match asked(&rt) {
+        Ok(Task::Threads) => print_threads(&rt),
+        Ok(task) => run_all(&rt, task),
+        Err(failure) => Err(failure),
+    };
+    match ended {
         Ok(()) => ExitCode::SUCCESS,
         Err(failure) => {
             let _ = eprintln!(rt; "bench: {failure}");
@@ -32,10 +38,10 @@ fn main(rt: HostRuntime) -> ExitCode {
     }
 }
 
-/// Runs the program on its own words.
-fn run_arguments(rt: &HostRuntime) -> Result<(), Failure> {
+/// What the program's own words ask for.
+fn asked(rt: &HostRuntime) -> Result<Task, Failure> {
     let alloc = rt.alloc();
     let arguments: Vec<String> = env::args(rt)?.skip(1).collect(alloc)?;
     let words: Vec<&str> = arguments.iter().map(|word| word.as_str()).collect(alloc)?;
-    run_all(rt, task_of(words.as_slice())?)
+    task_of(words.as_slice())
 }

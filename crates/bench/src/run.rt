@@ -5,28 +5,29 @@ use crate::copies::Copies;
 use crate::decode_row::DecodeRow;
 use crate::disk_calls::DiskCalls;
 use crate::failure::Failure;
-use crate::first_path::FirstPath;
+use crate::first_path::{best_first_path, first_path};
 use crate::learn::Learn;
+use crate::threads::work_done;
 use crate::timing::{Ratio, Timing};
 use crate::whole_attempt::WholeAttempt;
 use crate::words::Task;
+use cluster::Entry;
+use std::sync::Wait;
+use std::thread::Threads;
 use std::time::Clock;
 
 /// How many operations a benchmark does where nothing is measured.
 const FEW: u32 = 48;
 
 /// Runs each benchmark, and prints a line for it.
-pub fn run_all<R: Print + Clock + AllocGlobal>(rt: &R, task: Task) -> Result<(), Failure> {
+pub fn run_all<R: Print + Wait + Clock + AllocGlobal>(rt: &R, task: Task) -> Result<(), Failure> {
     let small = run_one::<R, DiskCalls<0>>(rt, task, "disk_calls_2k", 1_000_000)?;
     let large = run_one::<R, DiskCalls<4094>>(rt, task, "disk_calls_4m", 1_000_000)?;
     print_ratio(rt, "disk_calls_4m/disk_calls_2k", large, small)?;
     run_one::<R, BlockWrite>(rt, task, "block_write", 200_000)?;
     run_one::<R, DecodeRow>(rt, task, "decode_row", 200_000)?;
     run_one::<R, Apply>(rt, task, "apply", 1_000_000)?;
-    if let Some(timing) = run_one::<R, FirstPath>(rt, task, "first_path", 4096)? {
-        let rate = timing.rate();
-        println!(rt; "first_path/second {rate}")?;
-    }
+    run_first_path(rt, task)?;
     let whole = run_one::<R, WholeAttempt>(rt, task, "attempt", 4096)?;
     let copies = run_one::<R, Copies>(rt, task, "copies", 4096)?;
     print_ratio(rt, "attempt/copies", whole, copies)?;
@@ -34,6 +35,44 @@ pub fn run_all<R: Print + Clock + AllocGlobal>(rt: &R, task: Task) -> Result<(),
     let first = run_one::<R, Learn<0>>(rt, task, "learn_first", 512)?;
     let last = run_one::<R, Learn<3584>>(rt, task, "learn_last", 512)?;
     print_ratio(rt, "learn_last/learn_first", last, first)?;
+    Ok(())
+}
+
+/// Runs a few submissions through the locks of a cluster, or measures a whole log of them.
+fn run_first_path<R: Print + Wait + Clock + AllocGlobal>(
+    rt: &R,
+    task: Task,
+) -> Result<(), Failure> {
+    match task {
+        Task::Check => {
+            first_path(rt, FEW)?;
+            println!(rt; "first_path: ran")?;
+        }
+        Task::Measure => {
+            let timing = best_first_path(rt, 4096)?;
+            let rate = timing.rate();
+            println!(rt; "first_path {timing}")?;
+            println!(rt; "first_path/second {rate}")?;
+        }
+        Task::Threads => {}
+    }
+    Ok(())
+}
+
+/// Prints what one host and what eight hosts get done, in threads of their own, and how large an entry is.
+pub fn print_threads<R: Print + Threads + Wait + Clock + AllocGlobal + Sync>(
+    rt: &R,
+) -> Result<(), Failure> {
+    for (hosts, rounds) in [(1, 128), (2, 64), (4, 32), (8, 16)] {
+        let work = work_done(rt, hosts, rounds)?;
+        let rate = (work.acks as u64).saturating_mul(1_000_000_000) / work.spent.max(1);
+        let entry = work.spent / (work.entries as u64).max(1);
+        println!(rt;
+            "threads_{hosts} {} acks, {} entries, {rate} acks a second, {entry} ns an entry",
+            work.acks, work.entries
+        )?;
+    }
+    println!(rt; "entry {} bytes", size_of::<Entry>())?;
     Ok(())
 }
 
@@ -55,6 +94,7 @@ fn run_one<R: Print + Clock + AllocGlobal, B: Benchmark>(
             println!(rt; "{name} {timing}")?;
             Ok(Some(timing))
         }
+        Task::Threads => Ok(None),
     }
 }
 

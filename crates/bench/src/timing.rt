@@ -5,7 +5,7 @@ use std::fmt;
 use std::time::{Clock, Instant};
 
 /// How often a measurement is made, each time from new; the shortest counts.
-const ROUNDS: u32 = 20;
+pub const ROUNDS: u32 = 20;
 
 /// How long so many operations took together.
 #[derive(Clone, Copy, Debug)]

@@ -9,6 +9,8 @@ pub enum Task {
     Check,
     /// Run it many times, and tell how long that took.
     Measure,
+    /// Tell how much host threads get done at the same time.
+    Threads,
 }
 
 /// The task that the words name.
@@ -16,6 +18,7 @@ pub fn task_of(words: &[&str]) -> Result<Task, Failure> {
     match words {
         [] => Ok(Task::Check),
         ["times"] => Ok(Task::Measure),
+        ["threads"] => Ok(Task::Threads),
         _ => Err(Failure::Usage),
     }
 }

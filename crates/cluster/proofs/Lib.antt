@@ -1,7 +1,10 @@
-pub mod Agreements
-pub mod Kept
-pub mod OneDisk
-pub mod Runs
-pub mod Seats
-pub mod Statuses
-pub mod Turns
+pub mod Adding
+pub mod Begun
+pub mod Goes
+pub mod Heard
+pub mod Journals
+pub mod Operating
+pub mod Parts
+pub mod Ranges
+pub mod Recording
+pub mod Running

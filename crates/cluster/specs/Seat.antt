@@ -1,43 +1,42 @@
--- A host's seat as contracts see it, and how it lies in its fields.
-use Rattle.std.specs.Prelude.{◌≡◌, ◌<◌, ◌≤◌, ℕ, List, [], map, length, Option, Some, None}
-use Rattle.cluster.specs.declared.answer.Receipt.{Receipt}
-use Rattle.cluster.specs.declared.one_disk.Attempt.{Attempt}
-use Rattle.cluster.specs.declared.submission.Submission.{Submission}
-use Rattle.cluster.specs.Shape.{Shape}
-use Rattle.attempt.specs.Answers.{Heard, Answered}
-use Rattle.cluster.specs.OneDisk.{heard_in, setup_in, IsKept}
-use Rattle.cluster.specs.Host.{Doing, Memory, setup_of}
+-- A host's seat, as its own list of entries, and when what it keeps is what follows from that.
+use Rattle.std.specs.Prelude.{◌≡◌, ◌<◌, ◌≤◌, ℕ, List, length, Option, Some, None}
+use Rattle.disk.specs.Disk.{Call, Attach}
+use Rattle.lock_command.specs.declared.command.Command.{Command}
+use Rattle.slot_log.specs.Shape.{Shape}
+use Rattle.host.specs.Host.{Host, Stopped, Running, Memory, Operation, Submitting, Recovering, Doing, next_of}
+use Rattle.host.specs.Kept.{Kept, LeadsTo}
+use Rattle.world.specs.Entry.{host_after}
+use Rattle.cluster_tie.specs.Parts.{Own, entries}
 
--- the host's number, the cluster that it is of, what it knows, and its receipts so far
-pub record SeatState : Type 0 where
-  pub host : ℕ
-  pub shape : Shape
+-- the host that its entries make of a stopped one
+abbrev pub host_in : Shape → Own → Host
+host_in c own = host_after c own.number Stopped (entries own.entries)
+
+abbrev pub due_or : Option (ℕ × Call) → ℕ × Call
+due_or None = (0, Attach)
+due_or (Some due) = due
+
+-- the disk and the call that are due, where an operation is under way
+abbrev pub due_in : Shape → Own → ℕ × Call
+due_in c own = due_or (next_of c own.number (host_in c own))
+
+-- the next call is on this disk
+abbrev pub IsDueOn : Shape → Own → ℕ → Type 0
+IsDueOn c own k = next_of c own.number (host_in c own) ≡ Some (k, (due_in c own).1)
+
+-- the command that is being submitted is kept
+abbrev pub IsKeptFor : Operation → Option Command → Type 0
+IsKeptFor (Submitting command) submitting = submitting ≡ Some command
+IsKeptFor Recovering submitting = submitting ≡ None
+
+-- an operation under way is on a slot, and its command is kept
+abbrev pub IsDoing : Shape → Memory → Option Doing → Option Command → Type 0
+IsDoing c m None submitting = Unit {0}
+IsDoing c m (Some t) submitting = (length m.learned < c.slots) × IsKeptFor t.operation submitting
+
+-- the host runs, and this is what it keeps
+pub record IsRunning (c : Shape) (own : Own) (core : Kept) (submitting : Option Command) : Type 0 where
   pub memory : Memory
-  pub acks : List Receipt
-
--- the one disk's answers as answers of disk 0
-abbrev pub on_first : List Heard → List Answered
-on_first a = map (λ x. record { disk = 0; heard = x }) a
-
-abbrev pub doing_in : Option Submission → Attempt → Option Doing
-doing_in None attempt = None
-doing_in (Some sub) attempt = Some (record { command = sub.command; tries = sub.tries; heard = on_first (heard_in attempt) })
-
--- a submission under way keeps what it has heard, on the next slot
-pub record IsUnderWay (shape : Shape) (host : ℕ) (memory : Memory) (attempt : Attempt) (sub : Submission) : Type 0 where
-  pub kept : IsKept attempt
-  pub setup : setup_in attempt ≡ setup_of shape host memory sub.command
-  pub slot : length memory.learned < shape.slots
-  pub tries : 1 ≤ sub.tries
-
-abbrev pub IsDoing : Shape → ℕ → Memory → Attempt → Option Submission → Type 0
-IsDoing shape host memory attempt None = Unit {0}
-IsDoing shape host memory attempt (Some sub) = IsUnderWay shape host memory attempt sub
-
--- the host knows this, and all else of the seat is as it was
-abbrev pub knowing : SeatState → Memory → SeatState
-knowing s memory = record { host = s.host; shape = s.shape; memory = memory; acks = s.acks }
-
--- a submission whose attempt has heard nothing
-abbrev pub submitted : Submission → Doing
-submitted sub = record { command = sub.command; tries = sub.tries; heard = [] }
+  pub is : host_in c own ≡ Running memory
+  pub leads : LeadsTo c own.number memory core
+  pub doing : IsDoing c memory memory.doing submitting

@@ -1,47 +1,72 @@
-ghost use Rattle.std.specs.Prelude.{◌≡◌, ◌≤◌, ◌↔◌, IsTrue, Some, None, is_some, false, List};
+ghost use Rattle.std.specs.Prelude.{◌≡◌, ◌↔◌, ◌≤◌, ◌<◌, ◌^◌, [], true, false, IsTrue, None, Some, is_some};
 ghost use Rattle.paxos_block.specs.Places.{image_length};
-ghost use Rattle.cluster.specs.Agreement.{Agree, Makes};
-ghost use Rattle.cluster.specs.Book.{answer_in};
-ghost use Rattle.cluster.specs.Host.{is_idle};
-ghost use Rattle.cluster.specs.declared.entry.Entry.{Entry};
+ghost use Rattle.world.specs.World.{opening_disk};
+ghost use Rattle.cluster_tie.specs.Parts.{own_of};
+ghost use Rattle.cluster.specs.Book.{answer_in, disk_in, Makes};
+ghost use Rattle.host.specs.Host.{idles};
+ghost use Rattle.cluster.specs.Seat.{host_in, due_in};
 
-use crate::one_disk::Need;
+use crate::named::Named;
 use crate::seat::HostSeat;
 use crate::touched::{Outcome, Touched};
-use disk::Disk;
+use cluster_tie::DiskTie;
+use disk::{Disk, SimDisk};
+use phases::DeviceCall;
 use std::marker::Model;
 use torn_block::ROW_LENGTH;
 
-#[cfg(test)]
-mod tests;
+/// A disk whose boot number has come to this crashes no more.
+const LAST_BOOT: u64 = 1 << 62;
 
 /// A disk, and the call on it that the journal does not have yet, where there is one.
 #[derive(Drop)]
-pub struct DiskBook<D: Disk> {
-    disk: D,
-    row: [u8; ROW_LENGTH],
-    open_call: Option<Outcome>,
+pub struct DiskBook<N: Named, D: Disk> {
+    pub(crate) number: u8,
+    pub(crate) disk: D,
+    pub(crate) row: [u8; ROW_LENGTH],
+    pub(crate) open_call: Option<Outcome>,
+    pub(crate) tie: DiskTie<N>,
 }
 
-impl<D: Disk> Model for DiskBook<D> {
-    ghost use Rattle.cluster.specs.Book.{BookState};
+impl<N: Named, D: Disk> Model for DiskBook<N, D> {
+    ghost use Rattle.std.specs.Prelude.{◌≡◌};
+    ghost use Rattle.cluster.specs.Book.{BookState, IsBook};
 
-    ghost Value = { BookState };
+    ghost Value = { BookState D };
 
-    ghost view = { λ b. record { device = D.device b.disk; disk = D.state b.disk; open_call = b.open_call; row = b.row } };
+    ghost view = { λ b. record { own = b.tie; medium = b.disk; device = D.device b.disk; disk = D.state b.disk; open_call = b.open_call; row = b.row } };
+
+    ghost invariant = { λ b. record {
+      number : b.tie.number ≡ b.number;
+      so : IsBook N.shape (record { own = b.tie; medium = b.disk; device = D.device b.disk; disk = D.state b.disk; open_call = b.open_call; row = b.row });
+    } };
 }
 
-impl<D: Disk> DiskBook<D> {
-    // The book of a disk on which no call is open.
-    pub(crate) fn new(disk: D) -> DiskBook<D>
-        ensures disk { (result.device ≡ D.device disk) × (result.disk ≡ D.state disk) }
+impl<N: Named, D: Disk> DiskBook<N, D> {
+    // The book of a fresh disk.
+    pub(crate) fn new(number: u8, disk: D, tie: DiskTie<N>) -> DiskBook<N, D>
+        requires tie { tie ≡ own_of number [] }
+        requires number { number < N.shape.disks }
+        requires tells { IsTrue (D.device disk).tells }
+        requires large { image_length N.shape.slots ≤ (D.device disk).size }
+        requires fresh { D.state disk ≡ opening_disk N.shape }
+        ensures own { result.own ≡ own_of number [] }
         ensures closed { result.open_call ≡ None }
     {
         DiskBook {
+            number,
             disk,
             row: [0; ROW_LENGTH],
             open_call: None,
+            tie,
         }
+    }
+
+    /// The disk's number.
+    pub fn number(&self) -> u8
+        ensures { result ≡ self.now.own.number }
+    {
+        self.number
     }
 
     /// Whether a call is open.
@@ -52,57 +77,62 @@ impl<D: Disk> DiskBook<D> {
     }
 
     /// Makes the host's next device call. It is open until it is committed.
-    pub fn touch(&mut self, seat: &HostSeat) -> Touched
+    pub fn touch(&mut self, seat: &HostSeat<N>) -> Touched
         requires closed { self.old.open_call ≡ None }
-        requires busy { is_idle seat.now.memory ≡ false }
-        requires large { image_length seat.now.shape.slots ≤ self.old.device.size }
-        ensures made { IsTrue self.old.device.tells →
-            Makes seat.now (answer_in result.outcome self.new.row) self.old.disk self.new.disk }
+        requires busy { idles (host_in N.shape seat.now) ≡ false }
+        requires disk { (due_in N.shape seat.now).0 ≡ self.old.own.number }
+        // From the disk as its entries leave it, by this call and with this answer, to the disk as it is now.
+        ensures made { Makes N.shape seat.now self.new.own.number (answer_in result.outcome self.new.row) (disk_in N.shape self.new.own) self.new.disk }
+        ensures was { self.old.disk ≡ disk_in N.shape self.old.own }
+        // It is one call of the disk.
+        ensures one { D.gives self.old.medium (due_in N.shape seat.now).1 (answer_in result.outcome self.new.row) self.new.medium }
         ensures pending { self.new.open_call ≡ Some result.outcome }
-        ensures device { self.new.device ≡ self.old.device }
-        ensures agree { (entries : List Entry) → Agree entries self.old seat.now → Agree entries self.new seat.now }
+        ensures same { (self.new.own ≡ self.old.own) × (self.new.device ≡ self.old.device) }
     {
-        let outcome = self.make(seat);
+        let outcome = make(&mut self.disk, &mut self.row, seat);
         self.open_call = Some(outcome);
         Touched { outcome }
     }
+}
 
-    // Makes the host's next device call.
-    fn make(&mut self, seat: &HostSeat) -> Outcome
-        requires busy { is_idle seat.now.memory ≡ false }
-        requires large { image_length seat.now.shape.slots ≤ self.old.device.size }
-        ensures made { IsTrue self.old.device.tells →
-            Makes seat.now (answer_in result self.new.row) self.old.disk self.new.disk }
-        ensures device { self.new.device ≡ self.old.device }
+impl<N: Named> DiskBook<N, SimDisk> {
+    /// Whether the disk is there still, and may crash once more.
+    pub fn may_crash(&self) -> bool
+        ensures { result ≡ true ↔ (self.now.disk.gone ≡ false) × (self.now.disk.boot < 2 ^ 62) }
     {
-        match seat.call() {
-            Need::Attach => match self.disk.attach() {
-                Ok(boot) => Outcome::Booted(boot),
-                Err(fault) => Outcome::Fault(fault),
-            },
-            Need::Read { boot, at } => {
-                let told = self.disk.read(boot, at, &mut self.row);
-                Outcome::of(told, Outcome::Told)
-            }
-            Need::Write { boot, at, bytes } => {
-                let done = self.disk.write(boot, at, bytes);
-                Outcome::of(done, Outcome::Done)
-            }
-            Need::Sync { boot } => Outcome::of(self.disk.sync(boot), Outcome::Done),
+        !self.disk.is_lost() && self.disk.boot() < LAST_BOOT
+    }
+
+    /// Whether the disk is lost.
+    pub fn is_lost(&self) -> bool
+        ensures { result ≡ self.now.disk.gone }
+    {
+        self.disk.is_lost()
+    }
+}
+
+// Makes the host's next device call on a disk.
+fn make<N: Named, D: Disk>(disk: &mut D, row: &mut [u8; ROW_LENGTH], seat: &HostSeat<N>) -> Outcome
+    requires busy { idles (host_in N.shape seat.now) ≡ false }
+    requires tells { IsTrue (D.device disk.old).tells }
+    requires large { image_length N.shape.slots ≤ (D.device disk.old).size }
+    ensures made { Makes N.shape seat.now (due_in N.shape seat.now).0 (answer_in result row.new) (D.state disk.old) (D.state disk.new) }
+    ensures one { D.gives disk.old (due_in N.shape seat.now).1 (answer_in result row.new) disk.new }
+    ensures device { D.device disk.new ≡ D.device disk.old }
+{
+    match seat.call().call {
+        DeviceCall::Attach => match disk.attach() {
+            Ok(boot) => Outcome::Booted(boot),
+            Err(fault) => Outcome::Fault(fault),
+        },
+        DeviceCall::Read { boot, at } => {
+            let told = disk.read(boot, at, row);
+            Outcome::of(told, Outcome::Told)
         }
-    }
-
-    // The row that was read last.
-    pub(crate) fn row(&self) -> &[u8; ROW_LENGTH]
-        ensures { result.now ≡ self.now.row }
-    {
-        &self.row
-    }
-
-    // The open call is committed.
-    pub(crate) fn close(&mut self)
-        ensures { self.new ≡ record self.old { open_call = None } }
-    {
-        self.open_call = None;
+        DeviceCall::Write { boot, at, bytes } => {
+            let done = disk.write(boot, at, bytes);
+            Outcome::of(done, Outcome::Done)
+        }
+        DeviceCall::Sync { boot } => Outcome::of(disk.sync(boot), Outcome::Done),
     }
 }

@@ -1,4 +1,4 @@
-use crate::answer::Refusal;
+use slot_log::Refusal;
 use thiserror::Error;
 
 /// Why a call on a cluster was refused.
@@ -13,4 +13,13 @@ pub enum HostFault {
     /// A million entries are kept or promised.
     #[error("the journal is full")]
     JournalFull,
+    /// There is no such host, or it was handed out already.
+    #[error("the seat is taken")]
+    SeatTaken,
+    /// Fewer seats are given back than were handed out.
+    #[error("seats are missing")]
+    SeatsMissing,
+    /// A disk's book was found with a call open, or with another number.
+    #[error("a call is open on the disk")]
+    OpenCall,
 }

@@ -1,96 +1,234 @@
-ghost use Rattle.std.specs.Prelude.{◌≡◌, ◌⊎◌, ◌+◌, ◌-◌, ◌<◌, ◌≤◌, ◌↔◌, ◌++◌, ◌∷◌, [], Err, IfOk, IfErr, OnErr, length};
+ghost use Rattle.std.specs.Prelude.{◌≡◌, ◌⊎◌, ◌+◌, ◌-◌, ◌<◌, ◌≤◌, ◌↔◌, ◌++◌, ◌∷◌, [], ℕ, Some, None, Err, IfOk, IfErr, IfSome, OnOk, OnErr, length, vec_len, vec_capacity};
+ghost use Rattle.host.specs.Host.{fresh};
+ghost use Rattle.host.specs.Kept.{LeadsTo};
+ghost use Rattle.world.specs.Entry.{Start};
+ghost use Rattle.world.specs.Plain.{plains};
+ghost use Rattle.world.specs.World.{IsRun};
+ghost use Rattle.cluster_tie.specs.Parts.{own_of, adds};
+ghost use Rattle.cluster.specs.Journal.{AreWaiting};
 
-use crate::entry::Entry;
 use crate::fault::HostFault;
-use crate::push::push;
+use crate::named::Named;
+use crate::receipt::Receipt;
+use crate::seat::HostSeat;
+use cluster_tie::{HostTie, JournalTie, Naming, Ties, Told};
+use host::{Config, HostCore};
+use lock_command::HostNumber;
 use std::alloc::Global;
-use std::marker::Model;
+use std::marker::{Brand, Model};
+use std::sync::ledger::{Book, Share};
+use world::Entry;
 
 /// How many entries a journal has at most, kept or promised.
 pub const MOST: usize = 1_000_000;
 
-/// Room in a journal for one entry. It is spent by an entry or given back, and can't be dropped.
-pub struct Promise(());
+/// Room in a journal for one entry. It is spent by an entry or given back.
+#[derive(Drop)]
+pub struct Promise<N: Named> {
+    pub(crate) share: Share<N>,
+    ghost one: { share.amount ≡ 1 },
+    ghost backed: { share.parts ≡ 1 },
+}
 
 /// All that the hosts and disks of a cluster did, as one list of entries.
 #[derive(Drop)]
-pub struct Journal {
-    entries: Vec<Entry>,
-    promised: usize,
+pub struct Journal<'a, N: Named> {
+    pub(crate) config: Config,
+    pub(crate) ties: &'a Ties<N>,
+    pub(crate) tie: JournalTie<N>,
+    pub(crate) entries: Vec<Entry>,
+    pub(crate) promised: usize,
+    pub(crate) promises: Book<N>,
+    pub(crate) pool: Share<N>,
+    pub(crate) hosts: Vec<Option<HostTie<N>>>,
+    pub(crate) handed: usize,
 }
 
-impl Model for Journal {
-    ghost use Rattle.std.specs.Prelude.{◌+◌, ◌≤◌, vec_len, vec_capacity};
-    ghost use Rattle.cluster.specs.Journal.{JournalState};
+impl<'a, N: Named> Model for Journal<'a, N> {
+    ghost use Rattle.std.specs.Prelude.{◌≡◌, ◌+◌, ◌≤◌, ◌<◌, vec_len, vec_capacity};
+    ghost use Rattle.world.specs.Plain.{plains};
+    ghost use Rattle.world.specs.World.{IsRun};
+    ghost use Rattle.cluster.specs.Journal.{JournalState, AreWaiting};
     ghost use Rattle.cluster.specs.declared.journal.TheConstants.{MOST};
 
     ghost Value = { JournalState };
 
-    ghost view = { λ j. record { entries = j.entries.items; promised = j.promised } };
+    ghost view = { λ j. record { log = j.tie; promised = j.promised } };
 
     ghost invariant = { λ j. record {
+      config : j.config ≡ N.shape;
+      kept : j.entries.items ≡ plains j.tie;
+      run : IsRun N.shape j.tie;
       room : vec_len j.entries + j.promised ≤ vec_capacity j.entries;
       most : vec_len j.entries + j.promised ≤ MOST;
+      total : j.promises.total ≡ j.promised;
+      parts : j.pool.parts + j.promised ≡ N.all;
+      enough : MOST < N.all;
+      empty : j.pool.amount ≡ 0;
+      waiting : AreWaiting j.hosts.items;
     } };
 }
 
-impl Journal {
-    pub(crate) fn new(alloc: Global) -> Journal
-        ensures { result ≡ record { entries = []; promised = 0 } }
+impl<'a, N: Named> Journal<'a, N> {
+    pub(crate) fn new(
+        alloc: Global,
+        config: Config,
+        ties: &'a Ties<N>,
+        tie: JournalTie<N>,
+        promises: Book<N>,
+        pool: Share<N>,
+        hosts: Vec<Option<HostTie<N>>>,
+    ) -> Journal<'a, N>
+        requires config { config ≡ N.shape }
+        requires tie { tie ≡ [] }
+        requires hosts { AreWaiting hosts.items }
+        requires promises { (promises.total ≡ 0) × (pool.parts ≡ N.all) × (MOST < N.all) × (pool.amount ≡ 0) }
+        ensures { result ≡ record { log = []; promised = 0 } }
     {
         Journal {
+            config,
+            ties,
+            tie,
             entries: Vec::new(alloc),
             promised: 0,
+            promises,
+            pool,
+            hosts,
+            handed: 0,
         }
     }
 
     /// The entries, in the order in which they were kept.
     pub fn entries(&self) -> &[Entry]
-        ensures { result.now ≡ self.now.entries }
+        ensures entries { result.now ≡ plains self.now.log }
+        ensures run { IsRun N.shape self.now.log }
     {
         &self.entries
     }
 
     /// Room for one entry more.
-    pub fn promise(&mut self) -> Result<Promise, HostFault>
-        ensures promised { IfOk result (λ _. self.new ≡ record self.old { promised = self.old.promised + 1 }) }
+    pub fn promise(&mut self) -> Result<Promise<N>, HostFault>
+        ensures promised { OnOk result (self.new ≡ record self.old { promised = self.old.promised + 1 }) }
         ensures unchanged { OnErr result (self.new ≡ self.old) }
-        ensures full { result ≡ Err HostFault.JournalFull ↔ MOST ≤ length self.old.entries + self.old.promised }
+        ensures full { result ≡ Err HostFault.JournalFull ↔ MOST ≤ length self.old.log + self.old.promised }
         ensures causes { IfErr result (λ fault. (fault ≡ HostFault.JournalFull) ⊎ (fault ≡ HostFault.NoMemory)) }
     {
-        if MOST - self.promised <= self.entries.len() {
-            return Err(HostFault::JournalFull);
-        }
-        if self.entries.reserve(self.promised + 1).is_err() {
-            return Err(HostFault::NoMemory);
-        }
+        has_room(&mut self.entries, self.promised)?;
         self.promised += 1;
-        Ok(Promise(()))
+        self.promises.add(&mut self.pool, 1);
+        Ok(Promise {
+            share: self.pool.split_off(1, 1),
+        })
     }
 
     /// Gives up the room.
-    pub fn give_back(&mut self, promise: Promise)
-        requires { 0 < self.old.promised }
+    pub fn give_back(&mut self, promise: Promise<N>)
         ensures { self.new ≡ record self.old { promised = self.old.promised - 1 } }
     {
-        let Promise(()) = promise;
+        let Promise { mut share } = promise;
+        self.promises.sub(&mut share, 1);
+        self.pool.merge(share);
         self.promised -= 1;
+    }
+}
+
+impl<'a, N: Named> Journal<'a, N> {
+    // Starts a host whose token waits.
+    pub(crate) fn seat(&mut self, alloc: Global, host: HostNumber) -> Result<HostSeat<N>, HostFault>
+        ensures ok { IfOk result (λ s. s ≡ own_of host ((length self.old.log, Start host) ∷ [])) }
+        ensures appended { OnOk result (self.new ≡ record self.old { log = self.old.log ++ Start host ∷ [] }) }
+        ensures err { OnErr result (self.new ≡ self.old) }
+        ensures causes { IfErr result (λ fault. (fault ≡ HostFault.SeatTaken) ⊎ (fault ≡ HostFault.JournalFull) ⊎ (fault ≡ HostFault.NoMemory)) }
+    {
+        self.seat_as::<Brand>(alloc, host)
     }
 
-    // Keeps an entry in the room, and tells its place.
-    pub(crate) fn keep(&mut self, room: Promise, entry: Entry) -> usize
-        requires { 0 < self.old.promised }
-        ensures kept { self.new ≡ record { entries = self.old.entries ++ entry ∷ []; promised = self.old.promised - 1 } }
-        ensures place { result ≡ length self.old.entries }
+    fn seat_as<E: Told>(
+        &mut self,
+        alloc: Global,
+        host: HostNumber,
+    ) -> Result<HostSeat<N>, HostFault>
+        requires { E.entry ≡ Start host }
+        ensures ok { IfOk result (λ s. s ≡ own_of host ((length self.old.log, E.entry) ∷ [])) }
+        ensures appended { OnOk result (self.new ≡ record self.old { log = self.old.log ++ E.entry ∷ [] }) }
+        ensures err { OnErr result (self.new ≡ self.old) }
+        ensures causes { IfErr result (λ fault. (fault ≡ HostFault.SeatTaken) ⊎ (fault ≡ HostFault.JournalFull) ⊎ (fault ≡ HostFault.NoMemory)) }
     {
-        // The check looks for the types within an entry only where one of them is used.
-        if let Entry::Submit { command, .. } = &entry {
-            let _action = &command.action;
+        if !waits(&self.hosts, host.get().into()) {
+            return Err(HostFault::SeatTaken);
         }
-        let Promise(()) = room;
-        let place = self.entries.len();
-        push(&mut self.entries, entry);
-        self.promised -= 1;
-        place
+        has_room(&mut self.entries, self.promised)?;
+        let (core, acks) = start(alloc, host, self.config)?;
+        let Some(mut tie) = taken(&mut self.hosts, host.get().into()) else {
+            return Err(HostFault::SeatTaken);
+        };
+        self.ties.append_host::<E>(&mut self.tie, &mut tie);
+        self.entries.push_reserved(Entry::Start(host));
+        self.handed = self.handed.saturating_add(1);
+        Ok(HostSeat {
+            core,
+            submitting: None,
+            acks,
+            tie,
+        })
     }
+}
+
+// A host that has learned nothing, with room for its receipts.
+pub(crate) fn start(
+    alloc: Global,
+    host: HostNumber,
+    config: Config,
+) -> Result<(HostCore, Vec<Receipt>), HostFault>
+    ensures core { IfOk result (λ r. LeadsTo config host fresh r.0) }
+    ensures acks { IfOk result (λ r. (r.1.items ≡ []) × (config.slots ≤ vec_capacity r.1)) }
+    ensures memory { IfErr result (λ fault. fault ≡ HostFault.NoMemory) }
+{
+    let Ok(core) = HostCore::start(alloc, host, config) else {
+        return Err(HostFault::NoMemory);
+    };
+    let Ok(acks) = Vec::with_capacity(alloc, usize::from(config.slots())) else {
+        return Err(HostFault::NoMemory);
+    };
+    Ok((core, acks))
+}
+
+// Whether the token of this host waits.
+fn waits<N: Naming>(hosts: &Vec<Option<HostTie<N>>>, host: usize) -> bool {
+    host < hosts.len() && hosts[host].is_some()
+}
+
+// Room for one entry more than those that are promised.
+pub(crate) fn has_room(entries: &mut Vec<Entry>, promised: usize) -> Result<(), HostFault>
+    requires room { vec_len entries.old + promised ≤ vec_capacity entries.old }
+    requires most { vec_len entries.old + promised ≤ MOST }
+    ensures items { entries.new.items ≡ entries.old.items }
+    ensures kept { vec_len entries.new + promised ≤ vec_capacity entries.new }
+    ensures ok { OnOk result ((vec_len entries.new + promised + 1 ≤ vec_capacity entries.new) × (vec_len entries.new + promised < MOST)) }
+    ensures full { result ≡ Err HostFault.JournalFull ↔ MOST ≤ vec_len entries.old + promised }
+    ensures causes { IfErr result (λ fault. (fault ≡ HostFault.JournalFull) ⊎ (fault ≡ HostFault.NoMemory)) }
+{
+    if MOST - promised <= entries.len() {
+        return Err(HostFault::JournalFull);
+    }
+    if entries.reserve(promised + 1).is_err() {
+        return Err(HostFault::NoMemory);
+    }
+    Ok(())
+}
+
+// The token that waits for this host.
+#[tactic(auto, using(crate::proofs::Journals::rest_wait))]
+pub(crate) fn taken<N: Naming>(
+    hosts: &mut Vec<Option<HostTie<N>>>,
+    host: usize,
+) -> Option<HostTie<N>>
+    requires { AreWaiting hosts.old.items }
+    ensures rest { AreWaiting hosts.new.items }
+    ensures token { IfSome result (λ t. t ≡ own_of host []) }
+{
+    if host >= hosts.len() {
+        return None;
+    }
+    hosts[host].take()
 }

@@ -1,25 +1,37 @@
-//! The hosts of a cluster, its disks and the journal of all that they do, as one list of entries.
+//! Host threads over shared disks: a lock for each disk, one for the journal, and each device call as one entry of it.
 #![tactic(auto)]
 
-mod answer;
+mod begin;
 mod book;
-mod config;
-mod entry;
+mod cluster;
+mod commit;
 mod fault;
+mod finish;
+mod gate;
+mod harm;
 mod journal;
-mod one_disk;
-mod push;
+mod named;
+mod opening;
+mod operate;
+mod receipt;
+mod restart;
 mod seat;
-mod steps;
-mod submission;
 mod touched;
 
-pub use answer::{HostAnswer, Receipt, Refusal};
 pub use book::DiskBook;
-pub use config::Config;
-pub use entry::{CallKind, Entry};
+pub use cluster::Cluster;
+pub use cluster_tie::Ties;
+pub use commit::commit_step;
 pub use fault::HostFault;
+pub use finish::Record;
+pub use gate::{Gate, OpenGate};
+pub use harm::{commit_crash, commit_loss};
+pub use host::{Config, HostAnswer, Refusal};
 pub use journal::{Journal, MOST, Promise};
+pub use named::Named;
+pub use opening::{Foundation, Opening};
+pub use operate::Resumed;
+pub use receipt::Receipt;
 pub use seat::HostSeat;
-pub use steps::{begin, commit_step, first};
 pub use touched::Touched;
+pub use world::{CallKind, Entry};

@@ -1,261 +1,142 @@
-ghost use Rattle.std.specs.Prelude.{◌≡◌, ◌≤◌, ◌<◌, ◌+◌, ◌++◌, ◌∷◌, [], ℕ, false, IsTrue, ◌↔◌, Some, None, IfOk, OnOk, length, map, vec_len, vec_capacity};
-ghost use Rattle.cluster.specs.Host.{is_idle, next_in, with_floor, says, goes_on, learns, reply_after, ended, takes, hears, fresh};
-ghost use Rattle.cluster.specs.declared.answer.HostAnswer.TheVariants as said;
+ghost use Rattle.std.specs.Prelude.{◌≡◌, ◌<◌, ◌++◌, ℕ, false, Some, vec_len, vec_capacity};
+ghost use Rattle.attempt.specs.History.{Fits};
+ghost use Rattle.lock_table.specs.Apply.{table_after};
+ghost use Rattle.lock_table.specs.Picture.{IsPictureOf};
+ghost use Rattle.paxos_block.specs.Places.{image_length};
+ghost use Rattle.phases.specs.Calls.{call_of_need, heard_of, IsWithin};
+ghost use Rattle.host.specs.Host.{Memory, idles, said_of, learned_of, next_of, hears};
+ghost use Rattle.host.specs.Kept.{LeadsTo, is_idle, due_call};
+ghost use Rattle.slot_log.specs.Shape.{Shape};
+ghost use Rattle.cluster.specs.Operations.{CarriesOne};
+ghost use Rattle.cluster.specs.Receipts.{receipts_of, receipts_said};
+ghost use Rattle.cluster.specs.Seat.{host_in, due_in};
 
-use crate::HostFault;
-use crate::answer::{HostAnswer, Receipt, Refusal};
-use crate::config::Config;
-use crate::one_disk::{Attempt, End, Ended, Heard, Need};
-use crate::push::push;
-use crate::submission::Submission;
-use lock_command::{Command, HostNumber, decode};
-use lock_table::{NoMemory, Reply, Table};
-use paxos_block::Value;
-use std::alloc::Global;
+use crate::named::Named;
+use crate::receipt::Receipt;
+use cluster_tie::HostTie;
+use host::{HostAnswer, HostCore};
+use lock_command::{Command, HostNumber};
+use lock_table::Table;
+use phases::{Heard, Need};
 use std::marker::Model;
-use torn_block::VALUE_LENGTH;
 
-/// A running host, with what it has learned and the lock table after that.
+/// A running host. Contracts see it as its number and its own list of entries, each with its place in the journal.
 #[derive(Drop)]
-pub struct HostSeat {
-    host: HostNumber,
-    config: Config,
-    learned: Vec<Command>,
-    table: Table,
-    floor: u64,
-    submission: Option<Submission>,
-    attempt: Attempt,
-    said: Option<HostAnswer>,
-    acks: Vec<Receipt>,
+pub struct HostSeat<N: Named> {
+    pub(crate) core: HostCore,
+    pub(crate) submitting: Option<Command>,
+    pub(crate) acks: Vec<Receipt>,
+    pub(crate) tie: HostTie<N>,
 }
 
-impl Model for HostSeat {
-    ghost use Rattle.std.specs.Prelude.{◌≡◌, ◌≤◌, vec_len, vec_capacity};
-    ghost use Rattle.lock_table.specs.Apply.{table_after};
-    ghost use Rattle.lock_table.specs.Picture.{IsPictureOf};
-    ghost use Rattle.cluster.specs.Seat.{SeatState, doing_in, IsDoing};
+impl<N: Named> Model for HostSeat<N> {
+    ghost use Rattle.std.specs.Prelude.{◌≡◌, ◌≤◌, vec_capacity, length};
+    ghost use Rattle.cluster_tie.specs.Parts.{Own};
+    ghost use Rattle.cluster.specs.Receipts.{receipts_of};
+    ghost use Rattle.cluster.specs.Seat.{IsRunning};
 
-    ghost Value = { SeatState };
+    ghost Value = { Own };
 
-    ghost view = { λ s. record {
-      host = s.host;
-      shape = s.config;
-      memory = record { learned = s.learned.items; floor = s.floor; doing = doing_in s.submission s.attempt; said = s.said };
-      acks = s.acks.items;
-    } };
+    ghost view = { λ s. s.tie };
 
     ghost invariant = { λ s. record {
-      one_disk : s.config.disks ≡ 1;
-      slots : s.config.slots ≤ 4096;
-      table : IsPictureOf s.table (table_after s.learned.items);
-      doing : IsDoing s.config s.host (record { learned = s.learned.items; floor = s.floor; doing = doing_in s.submission s.attempt; said = s.said }) s.attempt s.submission;
-      learned : vec_len s.learned ≤ s.config.slots;
-      room : s.config.slots ≤ vec_capacity s.learned;
-      acknowledged : vec_len s.acks ≤ vec_len s.learned;
-      receipts : s.config.slots ≤ vec_capacity s.acks;
+      running : IsRunning N.shape s.tie s.core s.submitting;
+      acks : s.acks.items ≡ receipts_of N.shape s.tie;
+      few : length s.acks.items ≤ length s.core.prefix;
+      room : N.shape.slots ≤ vec_capacity s.acks;
     } };
 }
 
-impl HostSeat {
-    /// Whether the host may be given an operation.
-    pub fn idle(&self) -> bool
-        ensures { IsTrue result ↔ IsTrue (is_idle self.now.memory) }
+impl<N: Named> HostSeat<N> {
+    /// The host's number.
+    pub fn host(&self) -> HostNumber
+        ensures { result ≡ self.now.number }
     {
-        self.submission.is_none()
+        self.core.host()
     }
 
-    // The host's number.
-    pub(crate) fn host(&self) -> HostNumber
-        ensures { result ≡ self.now.host }
+    /// Whether the host may be given an operation.
+    pub fn idle(&self) -> bool
+        ensures { result ≡ idles (host_in N.shape self.now) }
     {
-        self.host
+        self.core.idle()
+    }
+
+    /// The commands that it has learned: the first of the log, none left out.
+    pub fn prefix(&self) -> &[Command]
+        ensures { result.now ≡ learned_of (host_in N.shape self.now) }
+    {
+        self.core.prefix()
+    }
+
+    /// The lock table after these commands.
+    pub fn table(&self) -> &Table
+        ensures { IsPictureOf result.now (table_after (learned_of (host_in N.shape self.now))) }
+    {
+        self.core.table()
     }
 
     /// The acknowledged submissions of this incarnation, in order.
     pub fn acks(&self) -> &[Receipt]
-        ensures { result.now ≡ self.now.acks }
+        ensures { result.now ≡ receipts_of N.shape self.now }
     {
         &self.acks
     }
 
-    /// What the host's last entry made it say: an operation's answer, where one ended with it.
+    /// What the host's last entry made it say.
     pub fn answer(&self) -> Option<HostAnswer>
-        ensures { result ≡ self.now.memory.said }
+        ensures { result ≡ said_of (host_in N.shape self.now) }
     {
-        self.said
+        self.core.answer()
     }
-}
 
-impl HostSeat {
-    ghost use Rattle.paxos_block.specs.Places.{image_length};
-    ghost use Rattle.attempt.specs.Answers.{Answered};
-    ghost use Rattle.cluster.specs.Calls.{LiesWithin};
-    ghost use Rattle.cluster.specs.OneDisk.{call_of_need, heard_of, FitsStage};
-    ghost use Rattle.cluster.specs.Fits.{Fits};
-    ghost use Rattle.cluster.specs.OneDisk.{end_of};
-    ghost use Rattle.cluster.specs.Seat.{knowing, submitted};
-    ghost use Rattle.lock_command.specs.Reading.{decoded};
-    ghost use Rattle.cluster.specs.World.{receipt_by};
-
-    // A host that was just started, with room for all that it may learn.
-    pub(crate) fn new(alloc: Global, host: HostNumber, config: Config) -> Result<HostSeat, NoMemory>
-        requires { config.disks ≡ 1 }
-        ensures { IfOk result (λ s. s ≡ record { host = host; shape = config; memory = fresh; acks = [] }) }
+    // A host that is not idle carries an operation out.
+    pub(crate) fn carries_one(&self)
+        requires { idles (host_in N.shape self.now) ≡ false }
+        ensures { CarriesOne N.shape self.now }
     {
-        let slots = usize::from(config.slots());
-        Ok(HostSeat {
-            host,
-            config,
-            learned: Vec::with_capacity(alloc, slots)?,
-            table: Table::new(alloc)?,
-            floor: 0,
-            submission: None,
-            attempt: Attempt::new(host.get(), 0, 0, &[0; VALUE_LENGTH]),
-            said: None,
-            acks: Vec::with_capacity(alloc, slots)?,
-        })
+        let _core = &self.core;
     }
 
     // The device call that is due.
     pub(crate) fn call(&self) -> Need<'_>
-        requires { is_idle self.now.memory ≡ false }
-        ensures next { next_in self.now.shape self.now.host self.now.memory ≡ Some (0, call_of_need result) }
-        ensures range { LiesWithin (image_length self.now.shape.slots) (call_of_need result) }
+        requires { idles (host_in N.shape self.now) ≡ false }
+        ensures next { next_of N.shape self.now.number (host_in N.shape self.now) ≡ Some (call_of_need result) }
+        ensures due { call_of_need result ≡ due_in N.shape self.now }
+        ensures range { IsWithin (image_length N.shape.slots) result.call }
+        ensures disk { result.disk < N.shape.disks }
     {
-        if self.submission.is_none() {
-            unreachable!()
-        }
-        self.attempt.call()
+        self.core.call()
     }
+}
 
-    // An attempt on the next slot begins, where there is one.
-    pub(crate) fn go_on(&mut self, command: Command, tries: u8)
-        requires { 1 ≤ tries }
-        ensures { self.new ≡ knowing self.old (goes_on self.old.shape self.old.memory command tries) }
-    {
-        let slot = self.learned.len() as u16;
-        if slot < self.config.slots() {
-            self.attempt = Attempt::new(self.host.get(), slot, self.floor, &command.encode());
-            self.submission = Some(Submission { command, tries });
-            self.said = None;
-        } else {
-            self.refuse(Refusal::LogFull);
-        }
-    }
-
-    // The operation ends.
-    fn refuse(&mut self, refusal: Refusal)
-        ensures { self.new ≡ knowing self.old (says self.old.memory (said.Refused refusal)) }
-    {
-        self.submission = None;
-        self.said = Some(HostAnswer::Refused(refusal));
-    }
-
-    // No attempt is under way, and the ballot that the last one took counts for the next.
-    fn rest(&mut self, taken: u64)
-        ensures { self.new ≡ knowing self.old (with_floor self.old.memory taken) }
-    {
-        self.floor = self.floor.max(taken);
-        self.submission = None;
-        self.said = None;
-    }
-
-    // Learns the next slot's command, and gives the reply to it.
-    fn learn(&mut self, command: Command) -> Reply
-        requires { length self.old.memory.learned < self.old.shape.slots }
-        ensures learned { self.new ≡ knowing self.old (learns self.old.memory command) }
-        ensures reply { result ≡ reply_after self.old.memory.learned command }
-        ensures room { length self.new.acks < length self.new.memory.learned }
-    {
+// Hears the answer to the call that is due, which stands in the journal at a place.
+pub(crate) fn hear(
+    core: &mut HostCore,
+    acks: &mut Vec<Receipt>,
+    submitting: Option<Command>,
+    heard: &Heard<'_>,
+    place: usize,
+)
+    requires busy { is_idle core.old ≡ false }
+    requires fits { Fits (due_call core.old).1 (heard_of heard.now) }
+    requires room { vec_len acks.old < vec_capacity acks.old }
+    ensures leads { (c : Shape) (h : ℕ) (m : Memory) → LeadsTo c h m core.old →
+        LeadsTo c h (hears c h m m.doing (record { disk = (due_call core.old).0; heard = heard_of heard.now })) core.new }
+    ensures acks { acks.new.items ≡ acks.old.items ++ receipts_said core.old.learner.host place submitting core.new.said }
+    ensures room { vec_capacity acks.new ≡ vec_capacity acks.old }
+{
+    let host = core.host();
+    core.hear(heard);
+    if let (Some(command), Some(HostAnswer::Ack { slot, reply })) = (submitting, core.answer()) {
         // The check looks for the types within a command only where one of them is used.
         let _action = &command.action;
-        let reply = self.table.apply(&command);
-        push(&mut self.learned, command);
-        self.floor = 0;
-        self.submission = None;
-        self.said = None;
-        reply
-    }
-
-    // Acknowledges a command that was learned just before, and writes a receipt.
-    fn acknowledge(&mut self, command: Command, slot: u16, reply: Reply, place: usize)
-        requires { length self.old.acks < length self.old.memory.learned }
-        ensures memory { self.new.memory ≡ says self.old.memory (said.Ack slot reply) }
-        ensures acks { self.new.acks ≡ self.old.acks ++ record { host = self.old.host; command = command; slot = slot; reply = reply; place = place } ∷ [] }
-        ensures same { (self.new.host ≡ self.old.host) × (self.new.shape ≡ self.old.shape) }
-    {
-        self.submission = None;
-        self.said = Some(HostAnswer::Ack { slot, reply });
-        let _action = &command.action;
-        let receipt = Receipt {
-            host: self.host,
+        acks.push_reserved(Receipt {
+            host,
             command,
             slot,
             reply,
             place,
-        };
-        push(&mut self.acks, receipt);
-    }
-
-    // Hears the answer to the call that is due, which stands in the journal at a place.
-    pub(crate) fn hear(&mut self, heard: &Heard<'_>, place: usize)
-        requires { Fits (next_in self.old.shape self.old.host self.old.memory) heard.now }
-        ensures memory { self.new.memory ≡ hears self.old.shape self.old.host self.old.memory self.old.memory.doing (record { disk = 0; heard = heard_of heard.now }) }
-        ensures acks { self.new.acks ≡ self.old.acks ++ receipt_by self.old.host place self.old.memory.doing self.new.memory.said }
-        ensures same { (self.new.host ≡ self.old.host) × (self.new.shape ≡ self.old.shape) }
-    {
-        match self.attempt.hear(heard) {
-            None => self.said = None,
-            Some(ended) => {
-                let Some(submission) = self.submission.take() else {
-                    unreachable!()
-                };
-                self.rest(ended.taken);
-                self.end(ended.end, &submission, place);
-            }
-        }
-    }
-
-    // An attempt has ended.
-    fn end(&mut self, end: End, submission: &Submission, place: usize)
-        requires tries { 1 ≤ submission.now.tries }
-        requires slot { length self.old.memory.learned < self.old.shape.slots }
-        ensures memory { self.new.memory ≡ ended self.old.shape self.old.memory (submitted submission.now) (end_of end) }
-        ensures acks { self.new.acks ≡ self.old.acks ++ receipt_by self.old.host place (Some (submitted submission.now)) self.new.memory.said }
-        ensures same { (self.new.host ≡ self.old.host) × (self.new.shape ≡ self.old.shape) }
-    {
-        match end {
-            End::NoMajority => self.refuse(Refusal::NoMajority),
-            End::BallotsSpent => self.refuse(Refusal::BallotsSpent),
-            End::Outrun(mbal) => {
-                self.rest(mbal);
-                if submission.tries <= 1 {
-                    self.refuse(Refusal::Outrun);
-                } else {
-                    self.go_on(submission.command, submission.tries - 1);
-                }
-            }
-            End::Committed(value) => self.take(&value, submission, place),
-        }
-    }
-
-    // A value was committed.
-    fn take(&mut self, value: &Value, submission: &Submission, place: usize)
-        requires tries { 1 ≤ submission.now.tries }
-        requires slot { length self.old.memory.learned < self.old.shape.slots }
-        ensures memory { self.new.memory ≡ takes self.old.shape self.old.memory (submitted submission.now) value.now (decoded value.now) }
-        ensures acks { self.new.acks ≡ self.old.acks ++ receipt_by self.old.host place (Some (submitted submission.now)) self.new.memory.said }
-        ensures same { (self.new.host ≡ self.old.host) × (self.new.shape ≡ self.old.shape) }
-    {
-        let Some(learned) = decode(value) else {
-            return self.refuse(Refusal::NotACommand);
-        };
-        let slot = self.learned.len() as u16;
-        let reply = self.learn(learned);
-        if submission.command.encode() == *value {
-            self.acknowledge(submission.command, slot, reply, place);
-        } else {
-            self.go_on(submission.command, submission.tries);
-        }
+        });
     }
 }

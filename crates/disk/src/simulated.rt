@@ -67,6 +67,20 @@ impl SimDisk {
         })
     }
 
+    /// The present boot number.
+    pub fn boot(&self) -> u64
+        ensures { result ≡ self.now.disk.boot }
+    {
+        self.boot
+    }
+
+    /// Whether the disk is lost.
+    pub fn is_lost(&self) -> bool
+        ensures { result ≡ self.now.disk.gone }
+    {
+        self.gone
+    }
+
     /// The next call that is not refused fails. If it is a write, its range takes the given bytes.
     pub fn fail_next(&mut self, given: Vec<u8>)
         requires { 0 < length given.items }

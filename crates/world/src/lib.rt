@@ -1,8 +1,10 @@
 //! The world: hosts, disks, what one list of entries makes of them, and what is claimed of every list of events.
 #![tactic(auto)]
 
+mod entry;
 mod law;
 
+pub use entry::{CallKind, Entry};
 pub use law::{
     attempts_hear_histories, changes_its_own, commands_read_back, events_make_a_run, goes_on,
     safe_lists_have_one_log,

@@ -64,7 +64,7 @@ some_proposed : (found : Option (List ℕ)) (value : List ℕ) → or_else found
 some_proposed None value is = absurd (cc)
 some_proposed (Some found) value is = absurd (cc)
 
-empty_recovers : (c : Shape) (h : ℕ) (m : Memory) (operation : Operation) (heard : List Answered) → status (setup_of c h m operation) (on heard) ≡ Ended attempt.Empty → operation ≡ Recovering
+pub empty_recovers : (c : Shape) (h : ℕ) (m : Memory) (operation : Operation) (heard : List Answered) → status (setup_of c h m operation) (on heard) ≡ Ended attempt.Empty → operation ≡ Recovering
 empty_recovers c h m (Submitting command) heard is =
     let s = setup_of c h m (Submitting command) in
     let none : HasNone s (on heard) = told_by s (on heard) (Ended attempt.Empty) is in

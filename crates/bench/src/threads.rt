@@ -1,0 +1,102 @@
+ghost use Rattle.cluster.specs.Opening.{IsNamed};
+
+use crate::failure::Failure;
+use crate::first_path::command_at;
+use cluster::{Cluster, Config, Entry, HostFault, HostSeat, Named, OpenGate, Opening};
+use disk::SimDisk;
+use lock_command::HostNumber;
+use std::alloc::{AllocGlobal, Global};
+use std::marker::Brand;
+use std::sync::Wait;
+use std::thread::{Threads, map_indices};
+use std::time::{Clock, Instant};
+
+/// The slots of the log.
+const SLOTS: u16 = 256;
+
+/// What hosts got done at the same time.
+#[derive(Clone, Copy, Debug)]
+pub struct Work {
+    pub acks: usize,
+    pub entries: usize,
+    /// Nanoseconds.
+    pub spent: u64,
+}
+
+/// So many hosts submit so many commands each, every host in a thread of its own, over three simulated disks.
+pub fn work_done<R: Threads + Wait + Clock + AllocGlobal + Sync>(
+    rt: &R,
+    hosts: u8,
+    rounds: u32,
+) -> Result<Work, Failure> {
+    let Some(config) = Config::new(3, SLOTS) else {
+        return Err(Failure::Wrong);
+    };
+    let opening = Opening::new(rt.alloc(), config)?;
+    work_of::<Brand, R>(rt, opening, hosts, rounds)
+}
+
+fn work_of<N: Named + Send + Sync, R: Threads + Wait + Clock + AllocGlobal + Sync>(
+    rt: &R,
+    opening: Opening,
+    hosts: u8,
+    rounds: u32,
+) -> Result<Work, Failure>
+    requires { IsNamed opening N.shape N.table N.name N.parts N.all }
+{
+    let alloc = rt.alloc();
+    let (ties, foundation) = opening.named::<N>(alloc)?;
+    let cluster = Cluster::simulated(alloc, &ties, foundation)?;
+    let shared = &cluster;
+    let start = Instant::now(rt)?;
+    let left = map_indices(
+        rt,
+        alloc,
+        usize::from(hosts),
+        &|i: usize| -> Option<HostSeat<N>> {
+            let host = u8::try_from(i).ok().and_then(HostNumber::new)?;
+            submits(rt, alloc, shared, host, rounds)
+        },
+    )?;
+    let spent = start.elapsed(rt)?;
+    let mut seats = Vec::new(alloc);
+    let mut acks: usize = 0;
+    for seat in left {
+        let Some(seat) = seat else {
+            return Err(Failure::Wrong);
+        };
+        acks = acks.saturating_add(seat.acks().len());
+        if seats.push(seat).is_err() {
+            return Err(Failure::NoMemory);
+        }
+    }
+    let record = cluster.finish(seats)?;
+    let entries: &[Entry] = &record.entries;
+    Ok(Work {
+        acks,
+        entries: entries.len(),
+        spent: u64::try_from(spent.as_nanos()).unwrap_or(u64::MAX),
+    })
+}
+
+/// Submits so many commands, of which some may be refused.
+fn submits<N: Named>(
+    rt: &impl Wait,
+    alloc: Global,
+    cluster: &Cluster<'_, N, SimDisk>,
+    host: HostNumber,
+    rounds: u32,
+) -> Option<HostSeat<N>> {
+    let mut seat = cluster.seat(rt, alloc, host).ok()?;
+    for round in 0..rounds {
+        let command = command_at(seat.host(), round)?;
+        if !seat.idle() {
+            return None;
+        }
+        match cluster.submit(rt, &mut seat, &mut OpenGate, command, 255) {
+            Ok(_) | Err(HostFault::Refused(_)) => {}
+            Err(_) => return None,
+        }
+    }
+    Some(seat)
+}

@@ -1,0 +1,104 @@
+-- What a seat keeps behind the beginning of an operation.
+use Rattle.std.specs.Prelude.{nat_lt, if◌then◌else◌, ◌==◌}
+use Rattle.std.proofs.Common.{◌≡◌, ◌<◌, ◌≤◌, ℕ, Bool, true, false, List, [], ◌∷◌, ◌++◌, length, Option, Some, None, refl, sym, ap, subst, ◌∙◌, arith}
+use Rattle.std.proofs.lemmas.Bool.{ltb-true}
+use Rattle.std.proofs.lemmas.Bool.Decides.{nat_tests}
+use Rattle.std.proofs.lemmas.List.{append-nil}
+use Rattle.lock_command.specs.declared.command.Command.{Command}
+use Rattle.lock_command.specs.Command.{Fits as FitsCommand}
+use Rattle.torn_block.specs.declared.layout.TheConstants.{HOSTS}
+use Rattle.slot_log.specs.Shape.{Shape}
+use Rattle.host.specs.declared.answer.HostAnswer.{HostAnswer}
+use Rattle.host.specs.Host.{Host, Running, fresh, Operation, Submitting, Recovering, Memory, Doing, goes_on, begins, says, full_answer, is_idle_in, idles, is_stopped, said_of}
+use Rattle.host.specs.Kept.{Kept, LeadsTo}
+use Rattle.world.specs.Entry.{Filled, Start, Stop, Submit, Recover, host_step, is_of}
+use Rattle.world.specs.World.{world, IsRun}
+use Rattle.world.proofs.Runs as runs
+use Rattle.world.proofs.Projections.{host_here}
+use Rattle.world.proofs.Follow.{command_reads_back}
+use Rattle.cluster_tie.specs.Parts.{Own, own_of, adds, of_host}
+use Rattle.cluster.specs.declared.receipt.Receipt.{Receipt}
+use Rattle.cluster.specs.Receipts.{still, receipt_by, receipts_at, receipts_of}
+use Rattle.cluster.specs.Seat.{host_in, IsKeptFor, IsDoing, IsRunning}
+use Rattle.cluster.proofs.Adding.{host_adds, receipts_adds}
+use Rattle.cluster.proofs.Parts.{host_is}
+
+kept_if : (c : Shape) (m : Memory) (operation : Operation) (tries : ℕ) (sub : Option Command) → IsKeptFor operation sub → (b : Bool) → nat_lt (length m.learned) c.slots ≡ b
+    → let new = if b then begins m operation tries else says m (full_answer operation (length m.learned)) in IsDoing c new new.doing sub
+kept_if c m operation tries sub kept true is = (ltb-true (length m.learned) c.slots is, kept)
+kept_if c m operation tries sub kept false is = tt
+
+kept_on : (c : Shape) (m : Memory) (operation : Operation) (tries : ℕ) (sub : Option Command) → IsKeptFor operation sub → let new = goes_on c m operation tries in IsDoing c new new.doing sub
+kept_on c m operation tries sub kept = kept_if c m operation tries sub kept (nat_lt (length m.learned) c.slots) refl
+
+same_if : (m first other : Memory) (b : Bool) → first.learned ≡ m.learned → other.learned ≡ m.learned → (if b then first else other).learned ≡ m.learned
+same_if m first other true is_first is_other = is_first
+same_if m first other false is_first is_other = is_other
+
+-- no command is learned
+learned_same : (c : Shape) (m : Memory) (operation : Operation) (tries : ℕ) → (goes_on c m operation tries).learned ≡ m.learned
+learned_same c m operation tries = same_if m (begins m operation tries) (says m (full_answer operation (length m.learned))) (nat_lt (length m.learned) c.slots) refl refl
+
+none_by : (h place : ℕ) (o : Option Doing) (said : Option HostAnswer) → is_idle_in o ≡ true → receipt_by h place o said ≡ []
+none_by h place None said idle = refl
+none_by h place (Some t) said idle = absurd (cc idle)
+
+module _ (c : Shape) (own : Own) (core new : Kept) (before sub : Option Command) (at tries : ℕ) (operation : Operation) (e : Filled)
+    (step : (m : Memory) → host_step c own.number (Running m) e ≡ Running (goes_on c m operation tries))
+    (others : (xs : List Receipt) → still xs e ≡ xs)
+    (kept : IsKeptFor operation sub)
+    (r : IsRunning c own core before)
+    (idle : is_idle_in r.memory.doing ≡ true)
+    (next : (c : Shape) (h : ℕ) (m : Memory) → LeadsTo c h m core → LeadsTo c h (goes_on c m operation tries) new) where
+  is_begun : host_in c (adds own at e) ≡ Running (goes_on c r.memory operation tries)
+  is_begun = host_adds c own at e ∙ ap (λ (s : Host). host_step c own.number s e) r.is ∙ step r.memory
+
+  pub begun : IsRunning c (adds own at e) new sub
+  begun = record { memory = goes_on c r.memory operation tries; is = is_begun; leads = next c own.number r.memory r.leads; doing = kept_on c r.memory operation tries sub kept }
+
+  none_at : receipts_at c own.number (host_in c own) at e ≡ []
+  none_at = ap (λ (s : Host). receipts_at c own.number s at e) r.is ∙ none_by own.number at r.memory.doing (said_of (host_step c own.number (Running r.memory) e)) idle
+
+  pub none_more : receipts_of c own ≡ receipts_of c (adds own at e)
+  none_more = sym (receipts_adds c own at e ∙ (λ i. others (receipts_of c own) i ++ none_at i) ∙ append-nil (receipts_of c own))
+
+  pub as_many : (acks : ℕ) → acks ≤ length core.prefix → acks ≤ length new.prefix
+  as_many acks less =
+      let was = ap (λ (l : List Command). length l) r.leads.prefix in
+      let now = ap (λ (l : List Command). length l) (next c own.number r.memory r.leads).prefix in
+      let same = ap (λ (l : List Command). length l) (learned_same c r.memory operation tries) in
+      omega (arith, less, was, now, same)
+
+-- a run goes on by a submission
+pub submits : (c : Shape) (log : List Filled) (seat : Own) (command : Command) (tries : ℕ) → IsRun c log → seat.entries ≡ of_host seat.number log → idles (host_in c seat) ≡ true → FitsCommand command → command.host ≡ seat.number → 1 ≤ tries → IsRun c (log ++ Submit seat.number command tries ∷ [])
+submits c log seat command tries run of_seat idle fits is_host tried =
+    runs.more c log (Submit seat.number command tries) run (ap idles (host_is c log seat of_seat) ∙ idle, command_reads_back command fits, is_host, omega (arith, tried))
+
+pub recovers : (c : Shape) (log : List Filled) (seat : Own) (tries : ℕ) → IsRun c log → seat.entries ≡ of_host seat.number log → idles (host_in c seat) ≡ true → 1 ≤ tries → IsRun c (log ++ Recover seat.number tries ∷ [])
+recovers c log seat tries run of_seat idle tried =
+    runs.more c log (Recover seat.number tries) run (ap idles (host_is c log seat of_seat) ∙ idle, omega (arith, tried))
+
+-- and by the start of a host that has no entry
+pub starts : (c : Shape) (log : List Filled) (h : ℕ) → IsRun c log → [] ≡ of_host h log → h < HOSTS → IsRun c (log ++ Start h ∷ [])
+starts c log h run none is_host =
+    runs.more c log (Start h) run (is_host, ap is_stopped (host_is c log (own_of h []) none))
+
+is_itself : (n : ℕ) → (n == n) ≡ true
+is_itself n = grind (arith, nat_tests)
+
+-- and by a restart
+pub restarts : (c : Shape) (log : List Filled) (seat : Own) → IsRun c log → seat.entries ≡ of_host seat.number log → is_stopped (host_in c seat) ≡ false → seat.number < HOSTS → IsRun c ((log ++ Stop seat.number ∷ []) ++ Start seat.number ∷ [])
+restarts c log seat run of_seat up is_host =
+    let stopped = runs.more c log (Stop seat.number) run (ap is_stopped (host_is c log seat of_seat) ∙ up) in
+    let own : is_of seat.number (Stop seat.number) ≡ true = is_itself seat.number in
+    runs.more c (log ++ Stop seat.number ∷ []) (Start seat.number) stopped (is_host, ap is_stopped (host_here c log (Stop seat.number) seat.number own))
+
+-- the host then knows nothing
+pub restarted : (c : Shape) (own : Own) (at next : ℕ) → host_in c (adds (adds own at (Stop own.number)) next (Start own.number)) ≡ Running fresh
+restarted c own at next =
+    host_adds c (adds own at (Stop own.number)) next (Start own.number) ∙ ap (λ (s : Host). host_step c own.number s (Start own.number)) (host_adds c own at (Stop own.number))
+
+-- and has acknowledged nothing
+pub none_restarted : (c : Shape) (own : Own) (at next : ℕ) → [] ≡ receipts_of c (adds (adds own at (Stop own.number)) next (Start own.number))
+none_restarted c own at next =
+    sym (receipts_adds c (adds own at (Stop own.number)) next (Start own.number) ∙ ap (λ (s : Host). receipts_at c own.number s next (Start own.number)) (host_adds c own at (Stop own.number)))

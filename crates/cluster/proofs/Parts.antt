@@ -1,0 +1,60 @@
+-- A disk and a host of the world are what their own entries make of them, so a run goes on by their next call.
+use Rattle.std.proofs.Common.{◌≡◌, ◌<◌, ◌^◌, ℕ, true, false, List, [], ◌∷◌, ◌++◌, Some, refl, sym, ap, subst, ◌∙◌}
+use Rattle.disk.specs.Disk.{DiskState, Call, Answer, Step, Crashes}
+use Rattle.disk.specs.Steps.{WritesOn}
+use Rattle.slot_log.specs.Shape.{Shape}
+use Rattle.host.specs.Host.{Host, Stopped, next_of}
+use Rattle.world.specs.Entry.{Filled, Called, Crashed, Lost, disk_after, host_after}
+use Rattle.world.specs.Entry as entry
+use Rattle.world.specs.World.{world, opening_disk, IsRun}
+use Rattle.world.proofs.Runs as runs
+use Rattle.cluster_tie.specs.Parts.{Placed, Own, on_disk, of_host, entries}
+use Rattle.cluster_tie.proofs.Places.{without}
+use Rattle.cluster.specs.Seat.{host_in, due_in, IsDueOn}
+use Rattle.cluster.specs.Book.{disk_in}
+use Rattle.cluster.specs.Commit.{left_by}
+use Rattle.cluster.proofs.Ranges.{leaves}
+
+pub host_is : (c : Shape) (log : List Filled) (own : Own) → own.entries ≡ of_host own.number log → (world c log).host own.number ≡ host_in c own
+host_is c log own part =
+    sym (ap (λ (xs : List Placed). host_after c own.number Stopped (entries xs)) part ∙ ap (host_after c own.number Stopped) (without 0 false own.number log))
+
+pub disk_is : (c : Shape) (log : List Filled) (own : Own) → own.entries ≡ on_disk own.number log → (world c log).disk own.number ≡ disk_in c own
+disk_is c log own part =
+    sym (ap (λ (xs : List Placed). disk_after (opening_disk c) (entries xs)) part ∙ ap (disk_after (opening_disk c)) (without 0 true own.number log))
+
+-- a run goes on by a host's next call
+pub calls : (c : Shape) (log : List Filled) (seat book : Own) (answer : Answer) (disk : DiskState)
+    → IsRun c log
+    → seat.entries ≡ of_host seat.number log
+    → book.entries ≡ on_disk book.number log
+    → IsDueOn c seat book.number
+    → WritesOn (disk_in c book) (due_in c seat).1
+    → Step (disk_in c book) (due_in c seat).1 answer disk
+    → IsRun c (log ++ Called seat.number book.number (due_in c seat).1 answer (left_by (due_in c seat).1 disk) ∷ [])
+calls c log seat book answer disk run of_seat of_book due fits step =
+    let call = (due_in c seat).1 in
+    let e = Called seat.number book.number call answer (left_by call disk) in
+    let there : disk ≡ entry.disk_step (disk_in c book) e = leaves (disk_in c book) disk call answer fits step in
+    let done : Step (disk_in c book) call answer (entry.disk_step (disk_in c book) e) = subst (λ (d : DiskState). Step (disk_in c book) call answer d) there step in
+    runs.more c log e run (
+      ap (next_of c seat.number) (host_is c log seat of_seat) ∙ due,
+      subst (λ (d : DiskState). Step d call answer (entry.disk_step d e)) (sym (disk_is c log book of_book)) done,
+    )
+
+-- by a crash of a disk, which left this
+pub crashes : (c : Shape) (log : List Filled) (book : Own) (left : List ℕ) (new : DiskState)
+    → IsRun c log → book.entries ≡ on_disk book.number log → book.number < c.disks
+    → (disk_in c book).gone ≡ false → (disk_in c book).boot < 2 ^ 62
+    → Crashes (disk_in c book) new → new ≡ entry.crashed_to (disk_in c book) left
+    → IsRun c (log ++ Crashed book.number left ∷ [])
+crashes c log book left new run of_book is_disk there low step is =
+    let same = sym (disk_is c log book of_book) in
+    runs.more c log (Crashed book.number left) run
+    (subst (λ (d : DiskState). ((book.number < c.disks) × (d.gone ≡ false)) × (d.boot < 2 ^ 62) × Crashes d (entry.crashed_to d left)) same
+    ((is_disk, there), low, subst (λ (d : DiskState). Crashes (disk_in c book) d) is step))
+
+-- and by a loss
+pub loses : (c : Shape) (log : List Filled) (book : Own) → IsRun c log → book.entries ≡ on_disk book.number log → book.number < c.disks → (disk_in c book).gone ≡ false → IsRun c (log ++ Lost book.number ∷ [])
+loses c log book run of_book is_disk there =
+    runs.more c log (Lost book.number) run (is_disk, ap (λ (d : DiskState). d.gone) (disk_is c log book of_book) ∙ there)

@@ -1,0 +1,18 @@
+use Rattle.std.specs.Prelude.{All, replicate}
+use Rattle.std.proofs.Common.{◌≡◌, ◌≤◌, ℕ, List, None, length, sym, ap, subst, arith}
+use Rattle.std.proofs.lemmas.List.{length-replicate}
+use Rattle.std.proofs.lemmas.List.Elements.{All-replicate}
+use Rattle.disk.specs.Simulated.{SimState, fresh_disk}
+use Rattle.paxos_block.specs.Places.{image_length}
+use Rattle.slot_log.specs.Shape.{Shape}
+use Rattle.cluster.proofs.cluster.Cluster+N+SimDisk.simulated.Goals as goal
+
+pub new-requires-clause-large : goal.new-requires-clause-large
+unfolding fresh_disk
+new-requires-clause-large g c =
+    let shape = g.N.Named.shape in
+    let config = c.args.foundation.config in
+    let x : SimState = record { disk = fresh_disk (image_length config.slots); failing = None; failures = 0 } in
+    let large : image_length shape.slots ≤ length x.disk.bytes = omega (arith, length-replicate {A = ℕ} (image_length config.slots) 0, ap (λ (s : Shape). image_length s.slots) c.args.foundation.config_is) in
+    let P : SimState → Type 0 = λ d. image_length shape.slots ≤ length d.disk.bytes in
+    subst (All P) (sym c.in_ok-disks.ensures) (All-replicate P config.disks x large)

@@ -1,0 +1,24 @@
+use Rattle.std.proofs.Common.{rules, ◌≡◌, ◌≤◌, ◌<◌, ◌+◌, ◌++◌, ◌∷◌, [], ℕ, List, arith}
+use Rattle.std.specs.Prelude.{IsTrue}
+use Rattle.paxos_block.specs.Places.{image_length}
+use Rattle.world.specs.World.{opening_disk}
+use Rattle.cluster.proofs.Journals.{all_less, fresh_rest}
+use Rattle.cluster.proofs.cluster.books_of.Goals as goal
+
+pub loop-k-preserved : goal.loop-k-preserved
+loop-k-preserved g c =
+    let i = c.loop-k.invariant in
+    let p = c.in-Some.ensures in
+    let q = c.in-Some-pop.ensures in
+    let r = c.push_reserved.ensures in
+    let shape = g.N.Named.shape in
+    record {
+      left = omega (arith, i.left, p.cases);
+      marks = omega (arith, i.marks, q.cases);
+      made = omega (arith, i.made, r.len);
+      room = omega (arith, i.room, r.len, r.capacity, p.cases);
+      dealt = fresh_rest _ _ c.loop-k.marks.items c.pop-in-loop-k.new.self.items c.in-Some-pop.mark q.items q.cases i.dealt;
+      tell = all_less (λ d. IsTrue (g.D.Disk.device d).tells) c.loop-k.disks.items c.pop.new.self.items c.in-Some.disk p.items i.tell;
+      large = all_less (λ d. image_length shape.slots ≤ (g.D.Disk.device d).size) c.loop-k.disks.items c.pop.new.self.items c.in-Some.disk p.items i.large;
+      fresh = all_less (λ d. g.D.Disk.state d ≡ opening_disk shape) c.loop-k.disks.items c.pop.new.self.items c.in-Some.disk p.items i.fresh;
+    }

@@ -1,0 +1,110 @@
+-- What operations add to a host's own list, and what they answer.
+use Rattle.std.specs.Prelude.{◌≡◌, ◌⊎◌, ◌+◌, ℕ, Bool, true, false, List, [], ◌∷◌, ◌++◌, length, Option, Some, None}
+use Rattle.lock_command.specs.declared.command.Command.{Command}
+use Rattle.slot_log.specs.Shape.{Shape}
+use Rattle.host.specs.declared.answer.HostAnswer.{HostAnswer}
+use Rattle.host.specs.declared.answer.HostAnswer.TheVariants as said
+use Rattle.host.specs.Host.{Operation, Submitting, Recovering, Doing, Memory, Running, idles, said_of, learned_of}
+use Rattle.world.specs.Entry.{Filled, Start, Stop}
+use Rattle.cluster_tie.specs.Parts.{Own, adds}
+use Rattle.cluster.specs.Cluster.{GoesOn}
+use Rattle.cluster.specs.Receipts.{receipts_of}
+use Rattle.cluster.specs.Seat.{host_in}
+use Rattle.cluster.specs.declared.fault.HostFault.{HostFault}
+use Rattle.cluster.specs.declared.fault.HostFault.TheVariants.{Refused, NoMemory, JournalFull, SeatTaken, SeatsMissing, OpenCall}
+use Rattle.cluster.specs.declared.operate.Resumed.{Resumed}
+use Rattle.cluster.specs.declared.operate.Resumed.TheVariants.{Submitted, Recovered}
+use Rattle.cluster.specs.declared.receipt.Receipt.{Receipt}
+
+-- ANSWERS
+
+-- the receipt is the last of these
+abbrev pub IsLast : Receipt → List Receipt → Type 0
+IsLast receipt all = (before : List Receipt) × (all ≡ before ++ receipt ∷ [])
+
+-- The host is idle, and what it said last is this answer: an acknowledgement with the last receipt of the list, or how many commands it has learned.
+abbrev pub Answers : Shape → Resumed → Own → Type 0
+Answers c (Submitted receipt) own =
+    (idles (host_in c own) ≡ true) × (said_of (host_in c own) ≡ Some (said.Ack receipt.slot receipt.reply)) × IsLast receipt (receipts_of c own)
+Answers c (Recovered n) own =
+    (idles (host_in c own) ≡ true) × (said_of (host_in c own) ≡ Some (said.Recovered n)) × (n ≡ length (learned_of (host_in c own)))
+
+-- WHAT WAS ADDED
+
+-- an operation's own entry, and steps alone behind it
+abbrev pub Operates : Shape → Filled → Own → Own → Type 0
+Operates c e old new = (place : ℕ) × GoesOn c (adds old place e) new
+
+-- Steps alone were added: the last one refused the operation, or the next one could not be made.
+abbrev pub Stops : Shape → HostFault → Own → Own → Type 0
+Stops c (Refused refusal) old new =
+    GoesOn c old new × (idles (host_in c new) ≡ true) × (said_of (host_in c new) ≡ Some (said.Refused refusal))
+Stops c NoMemory old new = GoesOn c old new × (idles (host_in c new) ≡ false)
+Stops c JournalFull old new = GoesOn c old new × (idles (host_in c new) ≡ false)
+Stops c OpenCall old new = GoesOn c old new × (idles (host_in c new) ≡ false)
+Stops c SeatTaken old new = ⊥
+Stops c SeatsMissing old new = ⊥
+
+-- nothing was begun
+abbrev pub IsUnbegun : HostFault → Own → Own → Type 0
+IsUnbegun (Refused refusal) old new = ⊥
+IsUnbegun NoMemory old new = new ≡ old
+IsUnbegun JournalFull old new = new ≡ old
+IsUnbegun OpenCall old new = ⊥
+IsUnbegun SeatTaken old new = ⊥
+IsUnbegun SeatsMissing old new = ⊥
+
+-- nothing was begun; or the operation was, by this entry, and stopped
+abbrev pub Fails : Shape → Filled → HostFault → Own → Own → Type 0
+Fails c e fault old new = IsUnbegun fault old new ⊎ ((place : ℕ) × Stops c fault (adds old place e) new)
+
+-- the host stopped and started again
+abbrev pub Restarts : Own → Own → Type 0
+Restarts old new = (place : ℕ) × (new ≡ adds (adds old place (Stop old.number)) (place + 1) (Start old.number))
+
+-- WHILE AN OPERATION IS UNDER WAY
+
+-- the host may answer the operation so
+abbrev pub IsAnswer : Operation → List Command → Option HostAnswer → Type 0
+IsAnswer (Submitting command) learned None = ⊥
+IsAnswer (Submitting command) learned (Some (said.Ack slot reply)) = Unit {0}
+IsAnswer (Submitting command) learned (Some (said.Recovered n)) = ⊥
+IsAnswer (Submitting command) learned (Some (said.Refused refusal)) = Unit {0}
+IsAnswer Recovering learned None = ⊥
+IsAnswer Recovering learned (Some (said.Ack slot reply)) = ⊥
+IsAnswer Recovering learned (Some (said.Recovered n)) = n ≡ length learned
+IsAnswer Recovering learned (Some (said.Refused refusal)) = Unit {0}
+
+-- the operation is under way, or was answered
+abbrev pub IsCarried : Operation → Memory → Option Doing → Type 0
+IsCarried operation m None = IsAnswer operation m.learned m.said
+IsCarried operation m (Some t) = (t.operation ≡ operation) × (m.said ≡ None)
+
+-- a submission that was acknowledged has the last receipt
+abbrev pub HasReceipt : Shape → Own → Operation → Option HostAnswer → Type 0
+HasReceipt c own (Submitting command) None = Unit {0}
+HasReceipt c own (Submitting command) (Some (said.Ack slot reply)) =
+    (place : ℕ) × IsLast (record { host = own.number; command = command; slot = slot; reply = reply; place = place }) (receipts_of c own)
+HasReceipt c own (Submitting command) (Some (said.Recovered n)) = Unit {0}
+HasReceipt c own (Submitting command) (Some (said.Refused refusal)) = Unit {0}
+HasReceipt c own Recovering said = Unit {0}
+
+-- so it is of the host that its own list leads to
+pub record Carries (c : Shape) (operation : Operation) (own : Own) : Type 0 where
+  pub memory : Memory
+  pub is : host_in c own ≡ Running memory
+  pub doing : IsCarried operation memory memory.doing
+  pub receipt : HasReceipt c own operation memory.said
+
+-- whichever operation it is
+abbrev pub CarriesOne : Shape → Own → Type 0
+CarriesOne c own = (operation : Operation) × Carries c operation own
+
+-- the operation that is over was refused so
+abbrev pub IsRefusedBy : Shape → HostFault → Own → Type 0
+IsRefusedBy c (Refused refusal) own = said_of (host_in c own) ≡ Some (said.Refused refusal)
+IsRefusedBy c NoMemory own = ⊥
+IsRefusedBy c JournalFull own = ⊥
+IsRefusedBy c OpenCall own = ⊥
+IsRefusedBy c SeatTaken own = ⊥
+IsRefusedBy c SeatsMissing own = ⊥

@@ -1,0 +1,157 @@
+ghost use Rattle.std.specs.Prelude.{◌≡◌, ◌⊎◌, ◌-◌, ◌<◌, ◌^◌, ◌++◌, ◌∷◌, [], None, false, length, IfErr};
+ghost use Rattle.disk.specs.Disk.{Crashes, lost};
+ghost use Rattle.disk.specs.Filling.{filled};
+ghost use Rattle.disk.specs.Simulated.{crashed};
+ghost use Rattle.world.specs.Entry.{Crashed, Lost};
+ghost use Rattle.cluster_tie.specs.Parts.{adds};
+
+use crate::book::DiskBook;
+use crate::cluster::Cluster;
+use crate::fault::HostFault;
+use crate::journal::{Journal, Promise};
+use crate::named::Named;
+use cluster_tie::Told;
+use disk::SimDisk;
+use std::marker::Brand;
+use std::sync::Wait;
+use world::Entry;
+
+/// The disk crashes: its unsynced positions take the given bytes. Takes no memory.
+pub fn commit_crash<N: Named>(
+    journal: &mut Journal<'_, N>,
+    book: &mut DiskBook<N, SimDisk>,
+    promise: Promise<N>,
+    given: &[u8],
+)
+    requires closed { book.old.open_call ≡ None }
+    requires given { 0 < length given.now }
+    requires boot { book.old.disk.boot < 2 ^ 62 }
+    requires there { book.old.disk.gone ≡ false }
+    ensures journal { journal.new ≡ record { log = journal.old.log ++ Crashed book.old.own.number (filled given.now 0 book.old.disk.unsynced book.old.disk.bytes) ∷ []; promised = journal.old.promised - 1 } }
+    ensures own { book.new.own ≡ adds book.old.own (length journal.old.log) (Crashed book.old.own.number (filled given.now 0 book.old.disk.unsynced book.old.disk.bytes)) }
+    ensures disk { book.new.disk ≡ crashed book.old.disk given.now }
+    ensures closed { book.new.open_call ≡ None }
+{
+    commit_crash_as::<Brand, N>(journal, book, promise, given)
+}
+
+fn commit_crash_as<E: Told, N: Named>(
+    journal: &mut Journal<'_, N>,
+    book: &mut DiskBook<N, SimDisk>,
+    promise: Promise<N>,
+    given: &[u8],
+)
+    requires told { E.entry ≡ Crashed book.old.own.number (filled given.now 0 book.old.disk.unsynced book.old.disk.bytes) }
+    requires closed { book.old.open_call ≡ None }
+    requires given { 0 < length given.now }
+    requires boot { book.old.disk.boot < 2 ^ 62 }
+    requires there { book.old.disk.gone ≡ false }
+    ensures journal { journal.new ≡ record { log = journal.old.log ++ E.entry ∷ []; promised = journal.old.promised - 1 } }
+    ensures own { book.new.own ≡ adds book.old.own (length journal.old.log) E.entry }
+    ensures disk { book.new.disk ≡ crashed book.old.disk given.now }
+    ensures closed { book.new.open_call ≡ None }
+{
+    let Promise { mut share } = promise;
+    journal.promises.sub(&mut share, 1);
+    journal.pool.merge(share);
+    journal.promised -= 1;
+    journal
+        .ties
+        .append_disk::<E>(&mut journal.tie, &mut book.tie);
+    journal.entries.push_reserved(Entry::DiskCrash(book.number));
+    crash(&mut book.disk, given);
+}
+
+/// The disk is lost for good. Takes no memory.
+pub fn commit_loss<N: Named>(
+    journal: &mut Journal<'_, N>,
+    book: &mut DiskBook<N, SimDisk>,
+    promise: Promise<N>,
+)
+    requires closed { book.old.open_call ≡ None }
+    requires there { book.old.disk.gone ≡ false }
+    ensures journal { journal.new ≡ record { log = journal.old.log ++ Lost book.old.own.number ∷ []; promised = journal.old.promised - 1 } }
+    ensures own { book.new.own ≡ adds book.old.own (length journal.old.log) (Lost book.old.own.number) }
+    ensures disk { book.new.disk ≡ lost book.old.disk }
+    ensures closed { book.new.open_call ≡ None }
+{
+    commit_loss_as::<Brand, N>(journal, book, promise)
+}
+
+fn commit_loss_as<E: Told, N: Named>(
+    journal: &mut Journal<'_, N>,
+    book: &mut DiskBook<N, SimDisk>,
+    promise: Promise<N>,
+)
+    requires told { E.entry ≡ Lost book.old.own.number }
+    requires closed { book.old.open_call ≡ None }
+    requires there { book.old.disk.gone ≡ false }
+    ensures journal { journal.new ≡ record { log = journal.old.log ++ E.entry ∷ []; promised = journal.old.promised - 1 } }
+    ensures own { book.new.own ≡ adds book.old.own (length journal.old.log) E.entry }
+    ensures disk { book.new.disk ≡ lost book.old.disk }
+    ensures closed { book.new.open_call ≡ None }
+{
+    let Promise { mut share } = promise;
+    journal.promises.sub(&mut share, 1);
+    journal.pool.merge(share);
+    journal.promised -= 1;
+    journal
+        .ties
+        .append_disk::<E>(&mut journal.tie, &mut book.tie);
+    journal.entries.push_reserved(Entry::DiskGone(book.number));
+    lose(&mut book.disk);
+}
+
+impl<'a, N: Named> Cluster<'a, N, SimDisk> {
+    /// Crashes a disk. One that is lost stays as it is, and no entry tells of it.
+    pub fn crash_disk(&self, rt: &impl Wait, disk: u8, given: &[u8]) -> Result<(), HostFault>
+        requires disk { disk < N.shape.disks }
+        requires given { 0 < length given.now }
+        ensures causes { IfErr result (λ fault. (fault ≡ HostFault.OpenCall) ⊎ (fault ≡ HostFault.JournalFull) ⊎ (fault ≡ HostFault.NoMemory)) }
+    {
+        let mut book = self.books[usize::from(disk)].lock(rt);
+        if book.is_pending() || book.number() != disk {
+            return Err(HostFault::OpenCall);
+        }
+        if !book.may_crash() {
+            return Ok(());
+        }
+        let promise = self.journal.lock(rt).promise()?;
+        commit_crash(&mut self.journal.lock(rt), &mut book, promise, given);
+        Ok(())
+    }
+
+    /// Loses a disk for good. One that is lost already stays as it is, and no entry tells of it.
+    pub fn lose_disk(&self, rt: &impl Wait, disk: u8) -> Result<(), HostFault>
+        requires disk { disk < N.shape.disks }
+        ensures causes { IfErr result (λ fault. (fault ≡ HostFault.OpenCall) ⊎ (fault ≡ HostFault.JournalFull) ⊎ (fault ≡ HostFault.NoMemory)) }
+    {
+        let mut book = self.books[usize::from(disk)].lock(rt);
+        if book.is_pending() || book.number() != disk {
+            return Err(HostFault::OpenCall);
+        }
+        if book.is_lost() {
+            return Ok(());
+        }
+        let promise = self.journal.lock(rt).promise()?;
+        commit_loss(&mut self.journal.lock(rt), &mut book, promise);
+        Ok(())
+    }
+}
+
+// The step of the disk itself.
+fn crash(disk: &mut SimDisk, given: &[u8])
+    requires given { 0 < length given.now }
+    requires boot { disk.old.disk.boot < 2 ^ 62 }
+    ensures exact { disk.new ≡ record disk.old { disk = crashed disk.old.disk given.now } }
+    ensures crashes { Crashes disk.old.disk disk.new.disk }
+    ensures size { length disk.new.disk.bytes ≡ length disk.old.disk.bytes }
+{
+    disk.crash(given);
+}
+
+fn lose(disk: &mut SimDisk)
+    ensures { disk.new ≡ record disk.old { disk = lost disk.old.disk } }
+{
+    disk.lose();
+}

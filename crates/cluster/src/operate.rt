@@ -1,0 +1,147 @@
+ghost use Rattle.std.specs.Prelude.{◌≡◌, ◌⊎◌, ◌≤◌, ◌+◌, ℕ, true, false, length, IfOk, IfErr, OnOk, OnErr};
+ghost use Rattle.host.specs.Host.{idles, learned_of};
+ghost use Rattle.world.specs.Entry.{Submit, Recover};
+ghost use Rattle.cluster.specs.Cluster.{GoesOn};
+ghost use Rattle.cluster.specs.Operations.{Answers, CarriesOne, Fails, IsRefusedBy, Operates, Restarts, Stops};
+ghost use Rattle.cluster.specs.Seat.{host_in};
+
+use crate::cluster::Cluster;
+use crate::fault::HostFault;
+use crate::gate::Gate;
+use crate::named::Named;
+use crate::receipt::Receipt;
+use crate::seat::HostSeat;
+use disk::Disk;
+use host::HostAnswer;
+use lock_command::Command;
+use std::alloc::Global;
+use std::sync::Wait;
+
+/// What an operation gave: a receipt, or how many commands were recovered.
+#[derive(Clone, Copy, Debug)]
+pub enum Resumed {
+    Submitted(Receipt),
+    Recovered(u16),
+}
+
+impl<'a, N: Named, D: Disk + Drop> Cluster<'a, N, D> {
+    /// Puts a command into the log, and steps until the answer.
+    pub fn submit<G: Gate>(
+        &self,
+        rt: &impl Wait,
+        seat: &mut HostSeat<N>,
+        gate: &mut G,
+        command: Command,
+        tries: u8,
+    ) -> Result<Receipt, HostFault>
+        requires idle { idles (host_in N.shape seat.old) ≡ true }
+        requires host { command.host ≡ seat.old.number }
+        requires tries { 1 ≤ tries }
+        ensures steps { OnOk result (Operates N.shape (Submit seat.old.number command tries) seat.old seat.new) }
+        ensures answer { IfOk result (λ receipt. Answers N.shape (Resumed.Submitted receipt) seat.new) }
+        ensures command { IfOk result (λ receipt. (receipt.command ≡ command) × (receipt.host ≡ seat.old.number)) }
+        ensures err { IfErr result (λ fault. Fails N.shape (Submit seat.old.number command tries) fault seat.old seat.new) }
+    {
+        self.journal.lock(rt).submit(seat, command, tries)?;
+        self.go_on(rt, seat, gate)?;
+        match outcome(seat)? {
+            Resumed::Submitted(receipt) => Ok(receipt),
+            Resumed::Recovered(_) => unreachable!(),
+        }
+    }
+
+    /// Learns all that is in the log, and tells how many commands these are.
+    pub fn recover<G: Gate>(
+        &self,
+        rt: &impl Wait,
+        seat: &mut HostSeat<N>,
+        gate: &mut G,
+        tries: u8,
+    ) -> Result<u16, HostFault>
+        requires idle { idles (host_in N.shape seat.old) ≡ true }
+        requires tries { 1 ≤ tries }
+        ensures steps { OnOk result (Operates N.shape (Recover seat.old.number tries) seat.old seat.new) }
+        ensures answer { IfOk result (λ n. Answers N.shape (Resumed.Recovered n) seat.new) }
+        ensures err { IfErr result (λ fault. Fails N.shape (Recover seat.old.number tries) fault seat.old seat.new) }
+    {
+        self.journal.lock(rt).recover(seat, tries)?;
+        self.go_on(rt, seat, gate)?;
+        match outcome(seat)? {
+            Resumed::Recovered(length) => Ok(length),
+            Resumed::Submitted(_) => unreachable!(),
+        }
+    }
+
+    /// Goes on with the operation that is under way.
+    pub fn resume<G: Gate>(
+        &self,
+        rt: &impl Wait,
+        seat: &mut HostSeat<N>,
+        gate: &mut G,
+    ) -> Result<Resumed, HostFault>
+        requires { idles (host_in N.shape seat.old) ≡ false }
+        ensures steps { OnOk result (GoesOn N.shape seat.old seat.new) }
+        ensures answer { IfOk result (λ gave. Answers N.shape gave seat.new) }
+        ensures err { IfErr result (λ fault. Stops N.shape fault seat.old seat.new) }
+    {
+        seat.carries_one();
+        self.go_on(rt, seat, gate)?;
+        outcome(seat)
+    }
+
+    /// Stops the host and starts it again. It then knows nothing, and any operation is given up.
+    pub fn restart(
+        &self,
+        rt: &impl Wait,
+        alloc: Global,
+        seat: &mut HostSeat<N>,
+    ) -> Result<(), HostFault>
+        ensures ok { OnOk result (Restarts seat.old seat.new) }
+        ensures err { OnErr result (seat.new ≡ seat.old) }
+        ensures causes { IfErr result (λ fault. (fault ≡ HostFault.JournalFull) ⊎ (fault ≡ HostFault.NoMemory)) }
+    {
+        self.journal.lock(rt).restart(alloc, seat)
+    }
+
+    // Steps until the operation is over.
+    fn go_on<G: Gate>(
+        &self,
+        rt: &impl Wait,
+        seat: &mut HostSeat<N>,
+        gate: &mut G,
+    ) -> Result<(), HostFault>
+        requires { CarriesOne N.shape seat.old }
+        ensures steps { OnOk result (GoesOn N.shape seat.old seat.new) }
+        ensures idle { OnOk result (idles (host_in N.shape seat.new) ≡ true) }
+        ensures err { IfErr result (λ fault. Stops N.shape fault seat.old seat.new) }
+    {
+        let mut call: u64 = 0;
+        for _turn in rt.forever() {
+            if seat.idle() {
+                return Ok(());
+            }
+            call = call.saturating_add(1);
+            gate.before_call(call);
+            self.step(rt, seat)?;
+        }
+        unreachable!()
+    }
+}
+
+// What an operation that is over gave.
+fn outcome<N: Named>(seat: &HostSeat<N>) -> Result<Resumed, HostFault>
+    requires over { idles (host_in N.shape seat.now) ≡ true }
+    requires carried { CarriesOne N.shape seat.now }
+    ensures answer { IfOk result (λ gave. Answers N.shape gave seat.now) }
+    ensures refused { IfErr result (λ fault. IsRefusedBy N.shape fault seat.now) }
+{
+    match seat.answer() {
+        Some(HostAnswer::Ack { .. }) => match seat.acks().last() {
+            Some(receipt) => Ok(Resumed::Submitted(*receipt)),
+            None => unreachable!(),
+        },
+        Some(HostAnswer::Recovered { length }) => Ok(Resumed::Recovered(length)),
+        Some(HostAnswer::Refused(refusal)) => Err(HostFault::Refused(refusal)),
+        None => unreachable!(),
+    }
+}
