@@ -15,6 +15,3 @@ pub use folder::{Folder, open_folder};
 pub use format::{format_folder, lay_out};
 pub use operation::drive;
 pub use set::{SetFault, common_header};
-
-#[cfg(test)]
-mod tests;
