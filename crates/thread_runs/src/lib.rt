@@ -3,5 +3,7 @@
 
 mod device_call;
 mod replay;
+#[cfg(test)]
+mod tests;
 
 pub use replay::audit;
