@@ -1,0 +1,9 @@
+//! Clusters that real threads run. What one left is run again, entry by entry, and has to come out the same.
+#![tactic(auto)]
+
+mod device_call;
+mod replay;
+#[cfg(test)]
+mod tests;
+
+pub use replay::audit;

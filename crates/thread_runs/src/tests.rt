@@ -1,0 +1,402 @@
+ghost use Rattle.std.specs.Prelude.{◌≡◌, IfSome};
+ghost use Rattle.cluster.specs.Opening.{IsNamed};
+
+use crate::audit;
+use cluster::{
+    Cluster, Config, Entry, Gate, HostFault, HostSeat, Named, OpenGate, Opening, Receipt, Refusal,
+};
+use disk::{Disk, SimDisk};
+use lock_command::{
+    Action, ClientNumber, Command, HostNumber, LockName, LockNumber, RequestNumber,
+};
+use lock_modes::Mode;
+use lock_table::Reply;
+use std::alloc::Global;
+use std::marker::Brand;
+use std::sync::Wait;
+use std::sync::atomic::{AtomicBool, Ordering};
+use std::test::Fail;
+use std::thread;
+use std::thread::{Threads, join, map_indices};
+use std::time::{Clock, Duration};
+
+// An exclusive lock on one name.
+fn command(host: HostNumber, lock: u16, request: u64) -> Option<Command>
+    ensures { IfSome result (λ command. command.host ≡ host) }
+{
+    Some(Command {
+        host,
+        client: ClientNumber::new(host.get() + 1),
+        request: RequestNumber::new(request)?,
+        action: Action::Enqueue {
+            lock: LockNumber::new(lock)?,
+            name: LockName::new(b"db")?,
+            mode: Mode::Exclusive,
+            no_queue: false,
+        },
+    })
+}
+
+// Submits an enqueue of a lock, where the host is idle.
+fn submitted<N: Named, D: Disk + Drop, G: Gate>(
+    rt: &impl Wait,
+    cluster: &Cluster<'_, N, D>,
+    seat: &mut HostSeat<N>,
+    gate: &mut G,
+    lock: u16,
+    tries: u8,
+) -> Result<Option<Receipt>, HostFault> {
+    let Some(command) = command(seat.host(), lock, 1) else {
+        return Ok(None);
+    };
+    if !seat.idle() || tries == 0 {
+        return Ok(None);
+    }
+    Ok(Some(cluster.submit(rt, seat, gate, command, tries)?))
+}
+
+// Waits until the flag is set, at most ten thousand turns of a millisecond.
+fn is_set<R: Clock>(rt: &R, flag: &AtomicBool) -> bool {
+    for _ in 0..10_000 {
+        if flag.load(Ordering::SeqCst) {
+            return true;
+        }
+        thread::sleep(rt, Duration::from_millis(1));
+    }
+    false
+}
+
+// Holds its host before its 17th call until the flag is set.
+#[derive(Drop)]
+struct Holds<'a, R: Clock> {
+    rt: &'a R,
+    held: &'a AtomicBool,
+    done: &'a AtomicBool,
+    late: bool,
+}
+
+impl<R: Clock> Gate for Holds<'_, R> {
+    fn before_call(&mut self, call: u64) {
+        if call == 17 {
+            self.held.store(true, Ordering::SeqCst);
+            self.late = !is_set(self.rt, self.done);
+        }
+    }
+}
+
+#[derive(Drop)]
+struct Held {
+    first: Option<Receipt>,
+    second: Option<Receipt>,
+    late: bool,
+    entries: usize,
+    same: bool,
+}
+
+// One host is held within its command until another's is acknowledged.
+fn one_host_held<N: Named + Send + Sync, R: Threads + Wait + Clock + Sync>(
+    rt: &R,
+    alloc: Global,
+    opening: Opening,
+) -> Option<Held>
+    requires { IsNamed opening N.shape N.table N.name N.parts N.all }
+{
+    let config = opening.config();
+    let (ties, foundation) = opening.named::<N>(alloc).ok()?;
+    let cluster = Cluster::simulated(alloc, &ties, foundation).ok()?;
+    let mut one = cluster.seat(rt, alloc, HostNumber::new(0)?).ok()?;
+    let mut other = cluster.seat(rt, alloc, HostNumber::new(1)?).ok()?;
+    let held = AtomicBool::new(false);
+    let done = AtomicBool::new(false);
+    let (shared, is_held, is_done) = (&cluster, &held, &done);
+    let (a, b) = join(
+        rt,
+        move || {
+            let mut gate = Holds {
+                rt,
+                held: is_held,
+                done: is_done,
+                late: false,
+            };
+            let receipt = submitted(rt, shared, &mut one, &mut gate, 1, 2);
+            (one, receipt.ok(), gate.late)
+        },
+        move || {
+            let begun = is_set(rt, is_held);
+            let receipt = submitted(rt, shared, &mut other, &mut OpenGate, 2, 1);
+            is_done.store(true, Ordering::SeqCst);
+            (other, receipt.ok(), begun)
+        },
+    );
+    let mut seats = Vec::new(alloc);
+    let late = a.2 || !b.2;
+    seats.push(a.0).ok()?;
+    seats.push(b.0).ok()?;
+    let record = cluster.finish(seats).ok()?;
+    Some(Held {
+        first: a.1?,
+        second: b.1?,
+        late,
+        entries: record.entries.len(),
+        same: audit(alloc, config, &record, &[0]).ok()?,
+    })
+}
+
+#[test]
+fn gate_one_host(rt: HostRuntime) -> Result<(), Fail> {
+    let config = Config::new(3, 4).ok_or("a size")?;
+    let opening = Opening::new(rt.alloc(), config)?;
+    let held = one_host_held::<Brand, HostRuntime>(&rt, rt.alloc(), opening).ok_or("a record")?;
+    let first = held.first.ok_or("the first receipt")?;
+    let second = held.second.ok_or("the second receipt")?;
+    assert!(rt; !held.late);
+    assert_eq!(rt; (second.slot, second.reply), (0, Reply::Granted));
+    assert_eq!(rt; (first.slot, first.reply), (1, Reply::Queued));
+    assert_eq!(rt; held.entries, 180);
+    assert!(rt; held.same);
+    Ok(())
+}
+
+// Crashes disk 0 before its host's 15th call.
+#[derive(Drop)]
+struct Crashes<'r, 'c, 't, N: Named, R: Wait> {
+    rt: &'r R,
+    cluster: &'c Cluster<'t, N, SimDisk>,
+    fault: Option<HostFault>,
+}
+
+impl<N: Named, R: Wait> Gate for Crashes<'_, '_, '_, N, R> {
+    fn before_call(&mut self, call: u64) {
+        if call == 15 {
+            self.fault = crash(self.rt, self.cluster, 0).err();
+        }
+    }
+}
+
+fn crash<N: Named>(
+    rt: &impl Wait,
+    cluster: &Cluster<'_, N, SimDisk>,
+    disk: u8,
+) -> Result<(), HostFault> {
+    if disk < cluster.disks() {
+        cluster.crash_disk(rt, disk, &[0])?;
+    }
+    Ok(())
+}
+
+fn lose<N: Named>(
+    rt: &impl Wait,
+    cluster: &Cluster<'_, N, SimDisk>,
+    disk: u8,
+) -> Result<(), HostFault> {
+    if disk < cluster.disks() {
+        cluster.lose_disk(rt, disk)?;
+    }
+    Ok(())
+}
+
+#[derive(Drop)]
+struct Harmed {
+    receipt: Receipt,
+    fault: Option<HostFault>,
+    refused: Option<HostFault>,
+    entries: Vec<Entry>,
+    same: bool,
+}
+
+// A disk crashes within a submission; then two disks are lost, and a recovery is tried.
+fn harm_read_back<N: Named, R: Wait>(rt: &R, alloc: Global, opening: Opening) -> Option<Harmed>
+    requires { IsNamed opening N.shape N.table N.name N.parts N.all }
+{
+    let config = opening.config();
+    let (ties, foundation) = opening.named::<N>(alloc).ok()?;
+    let cluster = Cluster::simulated(alloc, &ties, foundation).ok()?;
+    let mut seat = cluster.seat(rt, alloc, HostNumber::new(0)?).ok()?;
+    let mut gate = Crashes {
+        rt,
+        cluster: &cluster,
+        fault: None,
+    };
+    let receipt = submitted(rt, &cluster, &mut seat, &mut gate, 1, 1).ok()??;
+    let fault = gate.fault;
+    lose(rt, &cluster, 0).ok()?;
+    lose(rt, &cluster, 1).ok()?;
+    if !seat.idle() {
+        return None;
+    }
+    let refused = cluster.recover(rt, &mut seat, &mut OpenGate, 1).err();
+    let mut seats = Vec::new(alloc);
+    seats.push(seat).ok()?;
+    let record = cluster.finish(seats).ok()?;
+    let same = audit(alloc, config, &record, &[0]).ok()?;
+    Some(Harmed {
+        receipt,
+        fault,
+        refused,
+        entries: record.entries,
+        same,
+    })
+}
+
+#[test]
+fn faults_read_back(rt: HostRuntime) -> Result<(), Fail> {
+    let config = Config::new(3, 2).ok_or("a size")?;
+    let opening = Opening::new(rt.alloc(), config)?;
+    let harmed = harm_read_back::<Brand, HostRuntime>(&rt, rt.alloc(), opening).ok_or("a record")?;
+    assert!(rt; harmed.fault.is_none());
+    let receipt = harmed.receipt;
+    assert_eq!(rt;
+        (receipt.slot, receipt.reply, receipt.place),
+        (0, Reply::Granted, 45)
+    );
+    assert_eq!(rt;
+        harmed.refused,
+        Some(HostFault::Refused(Refusal::NoMajority))
+    );
+    assert_eq!(rt; harmed.entries.len(), 51);
+    assert!(rt; matches!(harmed.entries[16], Entry::DiskCrash(0)));
+    assert!(rt; matches!(harmed.entries[46], Entry::DiskGone(0)));
+    assert!(rt; matches!(harmed.entries[47], Entry::DiskGone(1)));
+    assert!(rt; harmed.same);
+    Ok(())
+}
+
+#[derive(Drop)]
+struct Crowd {
+    acks: usize,
+    same: bool,
+    harm: usize,
+}
+
+// A host submits so many commands, and recovers anew now and then. It goes on where an operation is refused.
+fn works<N: Named, R: Wait + Clock>(
+    rt: &R,
+    alloc: Global,
+    cluster: &Cluster<'_, N, SimDisk>,
+    host: HostNumber,
+    rounds: u16,
+) -> Option<HostSeat<N>> {
+    let mut seat = cluster.seat(rt, alloc, host).ok()?;
+    for round in 0..rounds {
+        let command = enqueue(seat.host(), round + 1)?;
+        if !seat.idle() {
+            return None;
+        }
+        match cluster.submit(rt, &mut seat, &mut OpenGate, command, 4) {
+            Ok(_) => {}
+            // Whoever was outrun lets the others go on for a while.
+            Err(HostFault::Refused(_)) => {
+                thread::sleep(rt, Duration::from_millis(u64::from(host.get()) * 2 + 1));
+            }
+            Err(_) => return None,
+        }
+        if round % 4 == 3 {
+            cluster.restart(rt, alloc, &mut seat).ok()?;
+            if !seat.idle() {
+                return None;
+            }
+            match cluster.recover(rt, &mut seat, &mut OpenGate, 255) {
+                Ok(_) | Err(HostFault::Refused(_)) => {}
+                Err(_) => return None,
+            }
+        }
+    }
+    Some(seat)
+}
+
+// A lock that does not stand in the way of others.
+fn enqueue(host: HostNumber, round: u16) -> Option<Command>
+    ensures { IfSome result (λ command. command.host ≡ host) }
+{
+    Some(Command {
+        host,
+        client: ClientNumber::new(host.get() + 1),
+        request: RequestNumber::new(u64::from(round))?,
+        action: Action::Enqueue {
+            lock: LockNumber::new(round.checked_mul(8)?.checked_add(u16::from(host.get()))?)?,
+            name: LockName::new(b"db")?,
+            mode: Mode::ConcurrentRead,
+            no_queue: false,
+        },
+    })
+}
+
+// Crashes disks, and loses two of five.
+fn harms<N: Named, R: Wait + Clock>(rt: &R, cluster: &Cluster<'_, N, SimDisk>) -> Option<()> {
+    let mut chance: u64 = 7;
+    for turn in 0..64u8 {
+        chance = chance
+            .wrapping_mul(6_364_136_223_846_793_005)
+            .wrapping_add(1_442_695_040_888_963_407);
+        crash(rt, cluster, ((chance >> 32) % 5) as u8).ok()?;
+        if turn == 20 {
+            lose(rt, cluster, 1).ok()?;
+        }
+        if turn == 40 {
+            lose(rt, cluster, 3).ok()?;
+        }
+        thread::sleep(rt, Duration::from_millis(2));
+    }
+    Some(())
+}
+
+// Eight hosts over five disks, with a thread that does harm to the disks.
+fn crowded<N: Named + Send + Sync, R: Threads + Wait + Clock + Sync>(
+    rt: &R,
+    alloc: Global,
+    opening: Opening,
+    rounds: u16,
+) -> Option<Crowd>
+    requires { IsNamed opening N.shape N.table N.name N.parts N.all }
+{
+    let config = opening.config();
+    let (ties, foundation) = opening.named::<N>(alloc).ok()?;
+    let cluster = Cluster::simulated(alloc, &ties, foundation).ok()?;
+    let shared = &cluster;
+    let left = map_indices(
+        rt,
+        alloc,
+        9,
+        &|i: usize| -> Option<HostSeat<N>> {
+            match u8::try_from(i).ok().and_then(HostNumber::new) {
+                Some(host) => works(rt, alloc, shared, host, rounds),
+                None => {
+                    let _ = harms(rt, shared);
+                    None
+                }
+            }
+        },
+    )
+    .ok()?;
+    let mut seats = Vec::new(alloc);
+    let mut acks: usize = 0;
+    for seat in left {
+        if let Some(seat) = seat {
+            acks = seat.acks().len().saturating_add(acks);
+            seats.push(seat).ok()?;
+        }
+    }
+    let record = cluster.finish(seats).ok()?;
+    let mut harm: usize = 0;
+    for entry in &record.entries {
+        if matches!(entry, Entry::DiskCrash(_) | Entry::DiskGone(_)) {
+            harm = harm.saturating_add(1);
+        }
+    }
+    Some(Crowd {
+        acks,
+        same: audit(alloc, config, &record, &[0]).ok()?,
+        harm,
+    })
+}
+
+#[test]
+fn eight_hosts(rt: HostRuntime) -> Result<(), Fail> {
+    let config = Config::new(5, 64).ok_or("a size")?;
+    let opening = Opening::new(rt.alloc(), config)?;
+    let crowd = crowded::<Brand, HostRuntime>(&rt, rt.alloc(), opening, 6).ok_or("a record")?;
+    assert!(rt; crowd.same);
+    assert!(rt; crowd.acks > 0);
+    assert!(rt; crowd.harm > 2);
+    Ok(())
+}
