@@ -1,0 +1,4 @@
+pub mod Answering
+pub mod Beating
+pub mod Histories
+pub mod More

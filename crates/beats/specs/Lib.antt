@@ -1,0 +1,5 @@
+pub mod Answers
+pub mod Calls
+pub mod History
+pub mod Kept
+pub mod Status

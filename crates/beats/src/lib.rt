@@ -1,0 +1,12 @@
+//! One heartbeat over all disks, call by call: a machine that asks for device calls and hears their answers.
+#![tactic(auto)]
+
+mod end;
+mod law;
+mod notes;
+mod one_beat;
+
+pub use end::End;
+pub use law::nine_calls_a_disk;
+pub use notes::{PLACES, Readings};
+pub use one_beat::Beat;

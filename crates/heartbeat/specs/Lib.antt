@@ -1,0 +1,3 @@
+pub mod Beat
+pub mod BeatLaws
+pub mod Suggesting

@@ -1,0 +1,11 @@
+//! Heartbeats: the counters of all hosts on a disk, and the host that two readings of them suggest.
+#![tactic(auto)]
+
+mod area;
+mod suggestion;
+
+pub use area::{Damaged, decode_area, encode_beat};
+pub use suggestion::{Reading, suggest};
+
+#[cfg(test)]
+mod tests;
