@@ -133,11 +133,13 @@ fn most_bytes(rt: HostRuntime) -> Result<(), Fail> {
     for _ in 0..64 {
         script.extend_from_slice(b"7f")?;
     }
-    match read_script(rt.alloc(), script.as_slice())?.events.runs() {
+    let whole = read_script(rt.alloc(), script.as_slice())?;
+    assert_eq!(rt; whole.events.len(), 1);
+    match whole.events.runs() {
         [
             Run {
                 event: Event::Tear { given, .. },
-                times: 1,
+                ..
             },
         ] => assert_eq!(rt; given.as_slice(), [127; 64].as_slice()),
         _ => assert!(rt; false),
