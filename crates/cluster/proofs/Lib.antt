@@ -2,6 +2,7 @@ pub mod Adding
 pub mod Begun
 pub mod Goes
 pub mod Heard
+pub mod Imaged
 pub mod Journals
 pub mod Operating
 pub mod Parts

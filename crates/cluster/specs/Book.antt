@@ -2,6 +2,7 @@
 use Rattle.std.specs.Prelude.{◌≡◌, ◌<◌, ◌≤◌, ℕ, IsTrue, List, Option, Some, None}
 use Rattle.disk.specs.Disk.{DiskState, Device, Answer, Call, Step}
 use Rattle.disk.specs.Disk as device
+use Rattle.disk.specs.Cut.{cut}
 use Rattle.disk.specs.Steps.{WritesOn}
 use Rattle.paxos_block.specs.Places.{image_length}
 use Rattle.slot_log.specs.Shape.{Shape}
@@ -12,7 +13,11 @@ use Rattle.cluster.specs.Seat.{due_in, IsDueOn}
 use Rattle.cluster.specs.declared.touched.Outcome.{Outcome}
 use Rattle.cluster.specs.declared.touched.Outcome.TheVariants.{Booted, Done, Told, Fault}
 
--- the disk's number and its entries, the disk as its own kind tells it and as every disk does, the call that is open, and the row that was read last
+-- an image on a disk, which may be larger
+abbrev pub image_on : Shape → DiskState → DiskState
+image_on c disk = cut (image_length c.slots) disk
+
+-- the disk's number and its entries, the disk as its own kind tells it and as every disk does, the image on it, the call that is open, and the row that was read last
 pub record BookState (D : Type 0) : Type 0 where
   pub own : Own
   pub medium : D

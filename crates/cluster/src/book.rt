@@ -1,8 +1,9 @@
 ghost use Rattle.std.specs.Prelude.{◌≡◌, ◌↔◌, ◌≤◌, ◌<◌, ◌^◌, [], true, false, IsTrue, None, Some, is_some};
+ghost use Rattle.disk.specs.Cut.{IsInFirst};
 ghost use Rattle.paxos_block.specs.Places.{image_length};
 ghost use Rattle.world.specs.World.{opening_disk};
 ghost use Rattle.cluster_tie.specs.Parts.{own_of};
-ghost use Rattle.cluster.specs.Book.{answer_in, disk_in, Makes};
+ghost use Rattle.cluster.specs.Book.{answer_in, disk_in, image_on, Makes};
 ghost use Rattle.host.specs.Host.{idles};
 ghost use Rattle.cluster.specs.Seat.{host_in, due_in};
 
@@ -15,10 +16,8 @@ use phases::DeviceCall;
 use std::marker::Model;
 use torn_block::ROW_LENGTH;
 
-/// A disk whose boot number has come to this crashes no more.
-const LAST_BOOT: u64 = 1 << 62;
-
-/// A disk, and the call on it that the journal does not have yet, where there is one.
+/// A disk, and the call on it that the journal does not have yet, where there is one. Of a disk that is larger than an image
+/// contracts see the image, which stands at its start.
 #[derive(Drop)]
 pub struct DiskBook<N: Named, D: Disk> {
     pub(crate) number: u8,
@@ -30,26 +29,30 @@ pub struct DiskBook<N: Named, D: Disk> {
 
 impl<N: Named, D: Disk> Model for DiskBook<N, D> {
     ghost use Rattle.std.specs.Prelude.{◌≡◌};
-    ghost use Rattle.cluster.specs.Book.{BookState, IsBook};
+    ghost use Rattle.disk.specs.Cut.{HasFirst};
+    ghost use Rattle.paxos_block.specs.Places.{image_length};
+    ghost use Rattle.cluster.specs.Book.{BookState, IsBook, image_on};
 
     ghost Value = { BookState D };
 
-    ghost view = { λ b. record { own = b.tie; medium = b.disk; device = D.device b.disk; disk = D.state b.disk; open_call = b.open_call; row = b.row } };
+    ghost view = { λ b. record { own = b.tie; medium = b.disk; device = D.device b.disk; disk = image_on N.shape (D.state b.disk); open_call = b.open_call; row = b.row } };
 
     ghost invariant = { λ b. record {
       number : b.tie.number ≡ b.number;
-      so : IsBook N.shape (record { own = b.tie; medium = b.disk; device = D.device b.disk; disk = D.state b.disk; open_call = b.open_call; row = b.row });
+      whole : HasFirst (image_length N.shape.slots) (D.state b.disk);
+      so : IsBook N.shape (record { own = b.tie; medium = b.disk; device = D.device b.disk; disk = image_on N.shape (D.state b.disk); open_call = b.open_call; row = b.row });
     } };
 }
 
 impl<N: Named, D: Disk> DiskBook<N, D> {
-    // The book of a fresh disk.
+    // The book of a disk with a fresh image.
+    #[tactic(auto, using(crate::proofs::Imaged::opened))]
     pub(crate) fn new(number: u8, disk: D, tie: DiskTie<N>) -> DiskBook<N, D>
         requires tie { tie ≡ own_of number [] }
         requires number { number < N.shape.disks }
         requires tells { IsTrue (D.device disk).tells }
         requires large { image_length N.shape.slots ≤ (D.device disk).size }
-        requires fresh { D.state disk ≡ opening_disk N.shape }
+        requires fresh { image_on N.shape (D.state disk) ≡ opening_disk N.shape }
         ensures own { result.own ≡ own_of number [] }
         ensures closed { result.open_call ≡ None }
     {
@@ -100,7 +103,7 @@ impl<N: Named> DiskBook<N, SimDisk> {
     pub fn may_crash(&self) -> bool
         ensures { result ≡ true ↔ (self.now.disk.gone ≡ false) × (self.now.disk.boot < 2 ^ 62) }
     {
-        !self.disk.is_lost() && self.disk.boot() < LAST_BOOT
+        self.disk.may_crash()
     }
 
     /// Whether the disk is lost.
@@ -117,6 +120,8 @@ fn make<N: Named, D: Disk>(disk: &mut D, row: &mut [u8; ROW_LENGTH], seat: &Host
     requires tells { IsTrue (D.device disk.old).tells }
     requires large { image_length N.shape.slots ≤ (D.device disk.old).size }
     ensures made { Makes N.shape seat.now (due_in N.shape seat.now).0 (answer_in result row.new) (D.state disk.old) (D.state disk.new) }
+    // It stays within the image.
+    ensures within { IsInFirst (image_length N.shape.slots) (due_in N.shape seat.now).1 }
     ensures one { D.gives disk.old (due_in N.shape seat.now).1 (answer_in result row.new) disk.new }
     ensures device { D.device disk.new ≡ D.device disk.old }
 {

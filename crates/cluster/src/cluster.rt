@@ -4,7 +4,9 @@ ghost use Rattle.paxos_block.specs.Places.{image_length};
 ghost use Rattle.host.specs.Host.{idles, said_of};
 ghost use Rattle.world.specs.Entry.{Start};
 ghost use Rattle.world.specs.World.{opening_disk};
+ghost use Rattle.torn_block.specs.declared.layout.TheConstants.{HOSTS};
 ghost use Rattle.cluster_tie.specs.Parts.{own_of, adds, AreFresh};
+ghost use Rattle.cluster.specs.Book.{image_on};
 ghost use Rattle.cluster.specs.Cluster.{IsStep, Ends};
 ghost use Rattle.cluster.specs.Journal.{AreWaiting};
 ghost use Rattle.cluster.specs.Seat.{host_in};
@@ -33,7 +35,8 @@ pub struct Cluster<'a, N: Named, D: Disk> {
 }
 
 impl<'a, N: Named, D: Disk + Drop> Cluster<'a, N, D> {
-    /// Hosts that have not started, over fresh disks.
+    /// Hosts that have not started, over fresh disks: each begins with as many zeros as an image takes, none of them unsynced, and its boot
+    /// number is 1. What stands behind them is not looked at.
     pub fn new(
         alloc: Global,
         disks: Vec<D>,
@@ -43,7 +46,7 @@ impl<'a, N: Named, D: Disk + Drop> Cluster<'a, N, D> {
         requires as_many { vec_len disks ≡ N.shape.disks }
         requires tell { All (λ d. IsTrue (D.device d).tells) disks.items }
         requires large { All (λ d. image_length N.shape.slots ≤ (D.device d).size) disks.items }
-        requires fresh { All (λ d. D.state d ≡ opening_disk N.shape) disks.items }
+        requires fresh { All (λ d. image_on N.shape (D.state d) ≡ opening_disk N.shape) disks.items }
     {
         let Foundation {
             config,
@@ -141,7 +144,7 @@ fn books_of<N: Named, D: Disk + Drop>(
     requires few { N.shape.disks < 256 }
     requires tell { All (λ d. IsTrue (D.device d).tells) disks.items }
     requires large { All (λ d. image_length N.shape.slots ≤ (D.device d).size) disks.items }
-    requires fresh { All (λ d. D.state d ≡ opening_disk N.shape) disks.items }
+    requires fresh { All (λ d. image_on N.shape (D.state d) ≡ opening_disk N.shape) disks.items }
     ensures { IfOk result (λ books. vec_len books ≡ N.shape.disks) }
 {
     let count = disks.len();
@@ -168,7 +171,7 @@ fn waiting<N: Named>(
     alloc: Global,
     hosts: Vec<HostTie<N>>,
 ) -> Result<Vec<Option<HostTie<N>>>, NoMemory>
-    requires { AreFresh 8 hosts.items }
+    requires { AreFresh HOSTS hosts.items }
     ensures { IfOk result (λ v. AreWaiting v.items) }
 {
     somes(alloc, hosts)

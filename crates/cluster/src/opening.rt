@@ -1,4 +1,5 @@
 ghost use Rattle.std.specs.Prelude.{◌≡◌, ◌<◌, [], IfOk};
+ghost use Rattle.torn_block.specs.declared.layout.TheConstants.{HOSTS};
 ghost use Rattle.cluster_tie.specs.Parts.{AreFresh};
 ghost use Rattle.cluster.specs.Opening.{IsNamed};
 ghost use Rattle.cluster.specs.declared.journal.TheConstants.{MOST};
@@ -46,7 +47,7 @@ pub struct Foundation<N: Named> {
     pub(crate) tokens: Tokens<N>,
     pub(crate) promises: Blank,
     ghost config_is: { config ≡ N.shape },
-    ghost fresh: { (tokens.journal ≡ []) × AreFresh N.shape.disks tokens.disks.items × AreFresh 8 tokens.hosts.items },
+    ghost fresh: { (tokens.journal ≡ []) × AreFresh N.shape.disks tokens.disks.items × AreFresh HOSTS tokens.hosts.items },
     ghost ledger: { (promises.name ≡ N.name) × (promises.parts ≡ N.parts) × (N.all ≡ N.parts) × (MOST < N.all) },
 }
 

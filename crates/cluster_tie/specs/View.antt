@@ -1,5 +1,6 @@
 -- What a seat of the table knows: the parts of the list of entries that it holds, and the list itself where it is the journal's.
 use Rattle.std.specs.Prelude.{ℕ, zero, suc, ◌+◌, ◌==◌, Bool, true, false, List, [], ◌∷◌, ◌++◌, take, drop}
+use Rattle.torn_block.specs.declared.layout.TheConstants.{HOSTS}
 use Rattle.world.specs.Entry.{Filled}
 use Rattle.cluster_tie.specs.Parts.{Placed}
 
@@ -58,7 +59,7 @@ parts_from kind n zero = []
 parts_from kind n (suc count) = part kind n [] ∷ parts_from kind (n + 1) count
 
 abbrev pub host_parts : List Part
-host_parts = parts_from false 0 8
+host_parts = parts_from false 0 HOSTS
 
 -- the parts of so many disks and of all hosts
 abbrev pub all_parts : ℕ → List Part

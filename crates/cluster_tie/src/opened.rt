@@ -1,4 +1,5 @@
 ghost use Rattle.std.specs.Prelude.{◌≡◌, ◌<◌, [], length, IfOk, OnOk};
+ghost use Rattle.torn_block.specs.declared.layout.TheConstants.{HOSTS};
 ghost use Rattle.cluster_tie.specs.Parts.{AreFresh};
 ghost use Rattle.cluster_tie.specs.View.{keeper, all_parts, host_parts};
 
@@ -10,6 +11,7 @@ use crate::view::View;
 use atomic_table::{Seat, Table};
 use std::alloc::{AllocError, Global};
 use std::marker::PhantomData;
+use torn_block::HOSTS;
 
 /// A table with no name yet, of an empty list and so many disks.
 #[derive(Drop)]
@@ -44,7 +46,7 @@ impl Opened {
         requires { self.table.shared.table_id ≡ N.table }
         ensures journal { IfOk result (λ r. r.1.journal ≡ []) }
         ensures disks { IfOk result (λ r. AreFresh self.disks r.1.disks.items) }
-        ensures hosts { IfOk result (λ r. AreFresh 8 r.1.hosts.items) }
+        ensures hosts { IfOk result (λ r. AreFresh HOSTS r.1.hosts.items) }
     {
         let Opened {
             disks,
@@ -103,10 +105,10 @@ impl<N: Naming> Ties<N> {
         requires all { seat.old.me ≡ (keeper [] host_parts, []) }
         ensures table { seat.new.table_id ≡ N.table }
         ensures rest { OnOk result (seat.new.me ≡ (keeper [] [], [])) }
-        ensures dealt { IfOk result (λ v. AreFresh 8 v.items) }
+        ensures dealt { IfOk result (λ v. AreFresh HOSTS v.items) }
     {
-        let mut tokens = Vec::with_capacity(alloc, 8)?;
-        for _k in 0..8u8 {
+        let mut tokens = Vec::with_capacity(alloc, HOSTS)?;
+        for _k in 0..HOSTS {
             let first = self.table.shared.split_seat::<Front>(seat);
             let token = HostTie {
                 seat: first,

@@ -15,7 +15,7 @@ pub use boot::Boot;
 pub use device::Disk;
 pub use fault::{DiskFault, ImageFault, NoMemory};
 pub use file::FileDisk;
-pub use law::calls_keep_the_shape;
+pub use law::{calls_keep_the_shape, larger_disks_serve};
 pub use simulated::SimDisk;
 
 #[cfg(test)]

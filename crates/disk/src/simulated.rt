@@ -1,4 +1,4 @@
-ghost use Rattle.std.specs.Prelude.{◌≡◌, ◌+◌, ◌≤◌, ◌<◌, ◌^◌, Some, None, length, IfOk};
+ghost use Rattle.std.specs.Prelude.{◌≡◌, ◌↔◌, ◌+◌, ◌≤◌, ◌<◌, ◌^◌, true, false, Some, None, length, IfOk};
 ghost use Rattle.disk.specs.Disk.{Torn, Crashes, written, lost};
 ghost use Rattle.disk.specs.Simulated.{fresh_disk, filling, crashed, items_of, refusal_under, TakesFailure};
 
@@ -8,6 +8,9 @@ use crate::word::Word;
 use crate::{Boot, Disk, DiskFault, NoMemory};
 use std::alloc::Global;
 use std::marker::Model;
+
+/// A disk whose boot number has come to this crashes no more.
+const LAST_BOOT: u64 = 1 << 62;
 
 /// A disk in memory, which fails, tears, crashes and is lost when it is told to. No call after `new` takes memory, and
 /// none but `crash` does work that grows with the disk.
@@ -79,6 +82,13 @@ impl SimDisk {
         ensures { result ≡ self.now.disk.gone }
     {
         self.gone
+    }
+
+    /// Whether the disk may crash: it is there, and its boot number is not the last one.
+    pub fn may_crash(&self) -> bool
+        ensures { result ≡ true ↔ (self.now.disk.gone ≡ false) × (self.now.disk.boot < 2 ^ 62) }
+    {
+        !self.gone && self.boot < LAST_BOOT
     }
 
     /// The next call that is not refused fails. If it is a write, its range takes the given bytes.

@@ -119,7 +119,7 @@ impl Draft {
         if self.config.is_none() {
             return Err(LineFault::Bad);
         }
-        if self.events.len() > MOST_EVENTS || times > MOST_EVENTS - self.events.len() {
+        if times > MOST_EVENTS - self.events.len() {
             return Err(LineFault::Bad);
         }
         self.events.push(Event::Step(host), times)?;

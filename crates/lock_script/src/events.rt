@@ -51,7 +51,8 @@ impl Events {
 
     /// How many there are.
     pub fn len(&self) -> usize
-        ensures { result ≡ length self.now }
+        ensures len { result ≡ length self.now }
+        ensures few { result ≤ MOST_EVENTS }
     {
         self.len
     }

@@ -81,25 +81,20 @@ pub fn is_write(call: &DeviceCall<'_>) -> bool
 
 /// A disk that is there crashes, unless its boot number is the last one.
 pub fn crash_disk(disk: &mut SimDisk, given: &[u8])
-    requires calm { disk.old.failing ≡ None }
     requires given { 0 < length given.now }
     ensures disk { disk.new ≡ crashed_if (may_crash disk.old.disk) disk.old given.now }
     ensures size { length disk.new.disk.bytes ≡ length disk.old.disk.bytes }
 {
-    // An attach changes nothing, and tells whether the disk is there.
-    if let Ok(boot) = disk.attach() {
-        if boot.number < 1 << 62 {
-            disk.crash(given);
-        }
+    if disk.may_crash() {
+        disk.crash(given);
     }
 }
 
 /// A disk that is there is lost.
 pub fn lose_disk(disk: &mut SimDisk)
-    requires { disk.old.failing ≡ None }
     ensures { disk.new ≡ lost_if disk.old.disk.gone disk.old }
 {
-    if let Ok(_boot) = disk.attach() {
+    if !disk.is_lost() {
         disk.lose();
     }
 }

@@ -3,6 +3,9 @@
 
 mod device_call;
 mod replay;
+mod same;
+#[cfg(test)]
+mod pair_disk;
 #[cfg(test)]
 mod tests;
 

@@ -1,13 +1,14 @@
 ghost use Rattle.std.specs.Prelude.{◌≡◌, ◌<◌, ◌≤◌, length};
 
 use crate::device_call::{answer, kind_of};
+use crate::same::{same_acks, same_commands, same_tables};
 use cluster::{CallKind, Config, Entry, HostAnswer, HostSeat, Named, Receipt, Record};
 use disk::{DiskFault, SimDisk};
 use host::HostCore;
 use lock_command::{Command, HostNumber};
 use phases::Heard;
 use std::alloc::{AllocError, Global};
-use torn_block::ROW_LENGTH;
+use torn_block::{HOSTS, ROW_LENGTH};
 
 /// A host that runs again, what it is submitting, and its receipts.
 #[derive(Drop)]
@@ -27,8 +28,8 @@ struct Replay {
 }
 
 /// Runs the entries of a record again, one after the other, over disks of zeros and stopped hosts, with these bytes for each
-/// crash. Tells whether each call was its host's next one and was answered the same, and whether all receipts and all
-/// commands learned come out as the seats have them.
+/// crash. Tells whether each call was its host's next one and was answered the same, and whether all receipts, commands
+/// learned and tables come out as the seats have them.
 pub fn audit<N: Named>(
     alloc: Global,
     config: Config,
@@ -44,7 +45,7 @@ pub fn audit<N: Named>(
         }
     }
     for seat in &record.seats {
-        if !replay.has(seat) {
+        if !replay.has(alloc, seat)? {
             return Ok(false);
         }
     }
@@ -59,7 +60,7 @@ impl Replay {
             disks.push(disk).map_err(AllocError::from)?;
         }
         let mut hosts = Vec::new(alloc);
-        for _ in 0..8u8 {
+        for _ in 0..HOSTS {
             hosts.push(None).map_err(AllocError::from)?;
         }
         Ok(Replay {
@@ -188,7 +189,7 @@ impl Replay {
         let Some(device) = self.disks.get_mut(usize::from(disk)) else {
             return false;
         };
-        if device.is_lost() || device.boot() >= 1 << 62 {
+        if !device.may_crash() {
             return false;
         }
         device.crash(given);
@@ -205,13 +206,14 @@ impl Replay {
     }
 
     /// Whether the seat's host has come to the same.
-    fn has<N: Named>(&mut self, seat: &HostSeat<N>) -> bool {
+    fn has<N: Named>(&mut self, alloc: Global, seat: &HostSeat<N>) -> Result<bool, AllocError> {
         let Some(replica) = self.host(seat.host()) else {
-            return false;
+            return Ok(false);
         };
-        same_commands(replica.core.prefix(), seat.prefix())
+        let told = same_commands(replica.core.prefix(), seat.prefix())
             && replica.core.answer() == seat.answer()
-            && same_acks(&replica.acks, seat.acks())
+            && same_acks(&replica.acks, seat.acks());
+        Ok(told && same_tables(alloc, replica.core.table(), seat.table())?)
     }
 }
 
@@ -269,34 +271,4 @@ fn fault_in(heard: &Heard<'_>) -> Option<DiskFault> {
         Heard::Fault(fault) => Some(*fault),
         _ => None,
     }
-}
-
-fn same_acks(these: &[Receipt], those: &[Receipt]) -> bool {
-    if these.len() != those.len() {
-        return false;
-    }
-    for i in 0..these.len() {
-        let (a, b) = (&these[i], &those[i]);
-        if a.host != b.host
-            || a.command.encode() != b.command.encode()
-            || a.slot != b.slot
-            || a.reply != b.reply
-            || a.place != b.place
-        {
-            return false;
-        }
-    }
-    true
-}
-
-fn same_commands(these: &[Command], those: &[Command]) -> bool {
-    if these.len() != those.len() {
-        return false;
-    }
-    for i in 0..these.len() {
-        if these[i].encode() != those[i].encode() {
-            return false;
-        }
-    }
-    true
 }

@@ -2,6 +2,7 @@ ghost use Rattle.std.specs.Prelude.{◌≡◌, IfSome};
 ghost use Rattle.cluster.specs.Opening.{IsNamed};
 
 use crate::audit;
+use crate::pair_disk::{Flags, PairDisk, is_set, pair};
 use cluster::{
     Cluster, Config, Entry, Gate, HostFault, HostSeat, Named, OpenGate, Opening, Receipt, Refusal,
 };
@@ -53,17 +54,6 @@ fn submitted<N: Named, D: Disk + Drop, G: Gate>(
         return Ok(None);
     }
     Ok(Some(cluster.submit(rt, seat, gate, command, tries)?))
-}
-
-// Waits until the flag is set, at most ten thousand turns of a millisecond.
-fn is_set<R: Clock>(rt: &R, flag: &AtomicBool) -> bool {
-    for _ in 0..10_000 {
-        if flag.load(Ordering::SeqCst) {
-            return true;
-        }
-        thread::sleep(rt, Duration::from_millis(1));
-    }
-    false
 }
 
 // Holds its host before its 17th call until the flag is set.
@@ -154,6 +144,96 @@ fn gate_one_host(rt: HostRuntime) -> Result<(), Fail> {
     assert_eq!(rt; (first.slot, first.reply), (1, Reply::Queued));
     assert_eq!(rt; held.entries, 180);
     assert!(rt; held.same);
+    Ok(())
+}
+
+// A host's seat, and the receipt that it got.
+#[derive(Drop)]
+struct Served<N: Named> {
+    seat: HostSeat<N>,
+    receipt: Option<Receipt>,
+}
+
+// Submits an enqueue of a lock.
+fn serve<N: Named, R: Wait + Clock>(
+    rt: &R,
+    cluster: &Cluster<'_, N, PairDisk<'_, R>>,
+    seat: HostSeat<N>,
+    lock: u16,
+) -> Served<N> {
+    let mut seat = seat;
+    let receipt = submitted(rt, cluster, &mut seat, &mut OpenGate, lock, 255);
+    Served {
+        seat,
+        receipt: receipt.ok().flatten(),
+    }
+}
+
+// One host submits; the other begins when the first one's call of disk 1 has begun.
+fn serve_both<N: Named + Send + Sync, R: Threads + Wait + Clock + Sync>(
+    rt: &R,
+    cluster: &Cluster<'_, N, PairDisk<'_, R>>,
+    begun: &AtomicBool,
+    one: HostSeat<N>,
+    other: HostSeat<N>,
+) -> (Served<N>, Served<N>) {
+    join(
+        rt,
+        move || serve(rt, cluster, one, 1),
+        move || {
+            is_set(rt, begun);
+            serve(rt, cluster, other, 2)
+        },
+    )
+}
+
+#[derive(Drop)]
+struct Met {
+    acks: usize,
+    begun: bool,
+    late: bool,
+    same: bool,
+}
+
+// One host's call of disk 1 goes on until the other has called disk 0.
+fn two_hosts_met<N: Named + Send + Sync, R: Threads + Wait + Clock + Sync>(
+    rt: &R,
+    alloc: Global,
+    opening: Opening,
+) -> Option<Met>
+    requires named { IsNamed opening N.shape N.table N.name N.parts N.all }
+    requires two { opening.shape.disks ≡ 2 }
+{
+    let config = opening.config();
+    let (ties, foundation) = opening.named::<N>(alloc).ok()?;
+    let flags = Flags::new();
+    let disks = pair(rt, alloc, config, &flags).ok()?;
+    let cluster = Cluster::new(alloc, disks, &ties, foundation).ok()?;
+    let one = cluster.seat(rt, alloc, HostNumber::new(0)?).ok()?;
+    let other = cluster.seat(rt, alloc, HostNumber::new(1)?).ok()?;
+    let (one, other) = serve_both(rt, &cluster, &flags.begun, one, other);
+    let acks = usize::from(one.receipt.is_some()) + usize::from(other.receipt.is_some());
+    let mut seats = Vec::new(alloc);
+    seats.push(one.seat).ok()?;
+    seats.push(other.seat).ok()?;
+    let record = cluster.finish(seats).ok()?;
+    Some(Met {
+        acks,
+        begun: flags.begun.load(Ordering::SeqCst),
+        late: flags.late.load(Ordering::SeqCst),
+        same: audit(alloc, config, &record, &[0]).ok()?,
+    })
+}
+
+#[test]
+fn two_disks_at_once(rt: HostRuntime) -> Result<(), Fail> {
+    let config = Config::new(2, 4).ok_or("a size")?;
+    let opening = Opening::new(rt.alloc(), config)?;
+    let met = two_hosts_met::<Brand, HostRuntime>(&rt, rt.alloc(), opening).ok_or("a record")?;
+    assert!(rt; met.begun);
+    assert!(rt; !met.late);
+    assert_eq!(rt; met.acks, 2);
+    assert!(rt; met.same);
     Ok(())
 }
 

@@ -2,6 +2,7 @@ use Rattle.std.proofs.Common.{rules, ◌≡◌, ◌≤◌, ◌<◌, ◌+◌, ◌
 use Rattle.std.specs.Prelude.{IsTrue}
 use Rattle.paxos_block.specs.Places.{image_length}
 use Rattle.world.specs.World.{opening_disk}
+use Rattle.cluster.specs.Book.{image_on}
 use Rattle.cluster.proofs.Journals.{all_less, fresh_rest}
 use Rattle.cluster.proofs.cluster.books_of.Goals as goal
 
@@ -20,5 +21,5 @@ loop-k-preserved g c =
       dealt = fresh_rest _ _ c.loop-k.marks.items c.pop-in-loop-k.new.self.items c.in-Some-pop.mark q.items q.cases i.dealt;
       tell = all_less (λ d. IsTrue (g.D.Disk.device d).tells) c.loop-k.disks.items c.pop.new.self.items c.in-Some.disk p.items i.tell;
       large = all_less (λ d. image_length shape.slots ≤ (g.D.Disk.device d).size) c.loop-k.disks.items c.pop.new.self.items c.in-Some.disk p.items i.large;
-      fresh = all_less (λ d. g.D.Disk.state d ≡ opening_disk shape) c.loop-k.disks.items c.pop.new.self.items c.in-Some.disk p.items i.fresh;
+      fresh = all_less (λ d. image_on shape (g.D.Disk.state d) ≡ opening_disk shape) c.loop-k.disks.items c.pop.new.self.items c.in-Some.disk p.items i.fresh;
     }

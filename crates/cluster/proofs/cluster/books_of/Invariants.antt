@@ -3,6 +3,7 @@ use Rattle.std.specs.Prelude.{All, IsTrue}
 use Rattle.paxos_block.specs.Places.{image_length}
 use Rattle.world.specs.World.{opening_disk}
 use Rattle.cluster_tie.specs.Parts.{AreFresh}
+use Rattle.cluster.specs.Book.{image_on}
 use Rattle.cluster.proofs.cluster.books_of.Given as goal
 
 abbrev pub invariant-loop-k : goal.invariant-loop-k
@@ -14,5 +15,5 @@ invariant-loop-k g l = record {
   dealt : AreFresh (vec_len l.marks) l.marks.items;
   tell : All (λ d. IsTrue (g.D.Disk.device d).tells) l.disks.items;
   large : All (λ d. image_length g.N.Named.shape.slots ≤ (g.D.Disk.device d).size) l.disks.items;
-  fresh : All (λ d. g.D.Disk.state d ≡ opening_disk g.N.Named.shape) l.disks.items;
+  fresh : All (λ d. image_on g.N.Named.shape (g.D.Disk.state d) ≡ opening_disk g.N.Named.shape) l.disks.items;
 }

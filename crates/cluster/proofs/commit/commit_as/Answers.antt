@@ -12,7 +12,7 @@ use Rattle.world.specs.World.{IsRun}
 use Rattle.world.specs.declared.entry.Entry.{Entry}
 use Rattle.world.specs.declared.entry.Entry.TheVariants as kept
 use Rattle.cluster_tie.specs.Parts.{Own, adds}
-use Rattle.cluster.specs.Book.{BookState, answer_in, disk_in, Makes, IsBook, IsFollowedBy}
+use Rattle.cluster.specs.Book.{BookState, answer_in, disk_in, image_on, Makes, IsBook, IsFollowedBy}
 use Rattle.cluster.specs.Commit.{called_by, left_by}
 use Rattle.cluster.specs.Receipts.{receipts_said, receipts_of}
 use Rattle.cluster.specs.declared.receipt.Receipt.{Receipt}
@@ -32,7 +32,7 @@ module _ (g : _) (c : goal.After-book-1 g) where
   own = c.seat.inside.tie
 
   abbrev book : BookState g.row.D.Denot
-  book = record { own = c.book.inside.tie; medium = c.book.inside.disk; device = g.D.Disk.device c.book.inside.disk; disk = g.D.Disk.state c.book.inside.disk; open_call = c.book.inside.open_call; row = c.book.inside.row }
+  book = record { own = c.book.inside.tie; medium = c.book.inside.disk; device = g.D.Disk.device c.book.inside.disk; disk = image_on g.N.Named.shape (g.D.Disk.state c.book.inside.disk); open_call = c.book.inside.open_call; row = c.book.inside.row }
 
   abbrev log : List Filled
   log = c.journal.inside.tie
@@ -97,6 +97,7 @@ invariant_of-book g c =
     let new_book : adds c.book.inside.tie (length (log g c)) e ≡ c.append.new.disk = ap (adds c.book.inside.tie (length (log g c))) (sym (is g c)) ∙ sym c.append.ensures.disk in
     record {
       number = ap (λ (o : Own). o.number) c.append.ensures.disk ∙ b.number;
+      whole = b.whole;
       so = record {
         number = subst (λ (o : Own). o.number < (shape g c).disks) (sym c.append.ensures.disk) b.so.number;
         tells = b.so.tells;

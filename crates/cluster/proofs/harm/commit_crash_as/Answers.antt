@@ -1,7 +1,10 @@
 use Rattle.std.proofs.Common.{rules, ◌≡◌, ℕ, ◌+◌, ◌-◌, ◌≤◌, ◌<◌, ◌^◌, ◌++◌, ◌∷◌, [], Some, None, List, Option, length, refl, sym, ap, subst, ◌∙◌, arith, false}
 use Rattle.disk.specs.Disk.{DiskState, Crashes}
 use Rattle.disk.specs.Filling.{filled}
-use Rattle.disk.specs.Simulated.{SimState}
+use Rattle.disk.specs.Simulated.{SimState, crashed}
+use Rattle.disk.specs.Cut.{HasFirst}
+use Rattle.disk.proofs.CutLemmas.{cut_crashes, crashes_cut, first_stay_crashed}
+use Rattle.paxos_block.specs.Places.{image_length}
 use Rattle.slot_log.specs.Shape.{Shape}
 use Rattle.world.specs.Entry.{Filled, Crashed, disk_step, crashed_to}
 use Rattle.world.specs.Plain.{plain, plains}
@@ -9,7 +12,7 @@ use Rattle.world.specs.World.{IsRun}
 use Rattle.world.specs.declared.entry.Entry.{Entry}
 use Rattle.world.specs.declared.entry.Entry.TheVariants as kept
 use Rattle.cluster_tie.specs.Parts.{Own, adds}
-use Rattle.cluster.specs.Book.{BookState, disk_in, IsFollowedBy}
+use Rattle.cluster.specs.Book.{BookState, disk_in, image_on, IsFollowedBy}
 use Rattle.cluster.specs.declared.touched.Outcome.{Outcome}
 use Rattle.cluster.proofs.Adding.{disk_adds}
 use Rattle.cluster.proofs.Journals.{plains_more}
@@ -25,7 +28,7 @@ module _ (g : _) (c : After-crash g) where
   own = c.book.inside.tie
 
   abbrev disk : DiskState
-  disk = c.book.inside.disk.disk
+  disk = image_on g.N.Named.shape c.book.inside.disk.disk
 
   abbrev log : List Filled
   log = c.journal.inside.tie
@@ -48,11 +51,14 @@ module _ (g : _) (c : After-crash g) where
   low : (disk_in shape own).boot < 2 ^ 62
   low = subst (λ (d : DiskState). d.boot < 2 ^ 62) (ap (λ (b : BookState _). b.disk) (sym c.book.view_is) ∙ left) c.requires.boot
 
-  new_disk : c.crash.new.disk.disk ≡ disk_step (disk_in shape own) e
-  new_disk = ap (λ (s : SimState). s.disk) c.crash.ensures.exact ∙ ap (λ (d : DiskState). crashed_to d (filled c.args.given.now 0 disk.unsynced disk.bytes)) left
+  image : image_on shape c.crash.new.disk.disk ≡ crashed disk c.args.given.now
+  image = ap (λ (s : SimState). image_on shape s.disk) c.crash.ensures.exact ∙ cut_crashes (image_length shape.slots) c.book.inside.disk.disk c.args.given.now c.book.invariant.whole
+
+  new_disk : image_on shape c.crash.new.disk.disk ≡ disk_step (disk_in shape own) e
+  new_disk = image ∙ ap (λ (d : DiskState). crashed_to d (filled c.args.given.now 0 disk.unsynced disk.bytes)) left
 
   run : IsRun shape (log ++ e ∷ [])
-  run = crashes shape log own (filled c.args.given.now 0 disk.unsynced disk.bytes) c.crash.new.disk.disk c.journal.invariant.run c.append_disk.ensures.parts c.book.invariant.so.number there low (subst (λ (d : DiskState). Crashes d c.crash.new.disk.disk) left c.crash.ensures.crashes) new_disk
+  run = crashes shape log own (filled c.args.given.now 0 disk.unsynced disk.bytes) (image_on shape c.crash.new.disk.disk) c.journal.invariant.run c.append_disk.ensures.parts c.book.invariant.so.number there low (subst (λ (d : DiskState). Crashes d (image_on shape c.crash.new.disk.disk)) left (subst (λ (d : DiskState). Crashes disk d) (sym image) (crashes_cut (image_length shape.slots) c.book.inside.disk.disk c.args.given.now c.book.invariant.whole))) new_disk
 
   entry_is : ◌≡◌ {A = Entry} (kept.DiskCrash c.book.inside.number) (plain e)
   entry_is = ap (λ (n : ℕ). kept.DiskCrash n) (sym c.book.invariant.number)
@@ -82,10 +88,14 @@ invariant_of-book g c =
     let as_left = new_disk g c ∙ sym (disk_adds (shape g c) c.book.inside.tie (length (log g c)) (e g c)) ∙ ap (disk_in (shape g c)) new_own in
     record {
       number = ap (λ (o : Own). o.number) c.append_disk.ensures.disk ∙ b.number;
+      whole = subst (λ (s : SimState). HasFirst (image_length (shape g c).slots) s.disk) (sym c.crash.ensures.exact) (first_stay_crashed (image_length (shape g c).slots) c.book.inside.disk.disk c.args.given.now b.whole);
       so = record {
         number = subst (λ (o : Own). o.number < (shape g c).disks) (sym c.append_disk.ensures.disk) b.so.number;
         tells = b.so.tells;
         size = omega (arith, b.so.size, c.crash.ensures.size);
-        disk = subst (λ (o : Option Outcome). IsFollowedBy o c.book.inside.row (disk_in (shape g c) c.append_disk.new.disk) c.crash.new.disk.disk) (sym (closed g c)) as_left;
+        disk = subst (λ (o : Option Outcome). IsFollowedBy o c.book.inside.row (disk_in (shape g c) c.append_disk.new.disk) (image_on (shape g c) c.crash.new.disk.disk)) (sym (closed g c)) as_left;
       };
     }
+
+pub returns-clause-disk : goal.returns-clause-disk
+returns-clause-disk g c = image g c ∙ ap (λ (b : BookState _). crashed b.disk c.args.given.now) c.book.view_is

@@ -2,6 +2,8 @@ use Rattle.std.proofs.Common.{rules, ◌≡◌, ℕ, ◌+◌, ◌-◌, ◌≤◌
 use Rattle.disk.specs.Disk.{DiskState, lost}
 use Rattle.disk.specs.Filling.{filled}
 use Rattle.disk.specs.Simulated.{SimState}
+use Rattle.disk.specs.Cut.{HasFirst}
+use Rattle.paxos_block.specs.Places.{image_length}
 use Rattle.slot_log.specs.Shape.{Shape}
 use Rattle.world.specs.Entry.{Filled, Lost, disk_step, crashed_to}
 use Rattle.world.specs.Plain.{plain, plains}
@@ -9,7 +11,7 @@ use Rattle.world.specs.World.{IsRun}
 use Rattle.world.specs.declared.entry.Entry.{Entry}
 use Rattle.world.specs.declared.entry.Entry.TheVariants as kept
 use Rattle.cluster_tie.specs.Parts.{Own, adds}
-use Rattle.cluster.specs.Book.{BookState, disk_in, IsFollowedBy}
+use Rattle.cluster.specs.Book.{BookState, disk_in, image_on, IsFollowedBy}
 use Rattle.cluster.specs.declared.touched.Outcome.{Outcome}
 use Rattle.cluster.proofs.Adding.{disk_adds}
 use Rattle.cluster.proofs.Journals.{plains_more}
@@ -25,7 +27,7 @@ module _ (g : _) (c : After-lose g) where
   own = c.book.inside.tie
 
   abbrev disk : DiskState
-  disk = c.book.inside.disk.disk
+  disk = image_on g.N.Named.shape c.book.inside.disk.disk
 
   abbrev log : List Filled
   log = c.journal.inside.tie
@@ -45,8 +47,8 @@ module _ (g : _) (c : After-lose g) where
   there : (disk_in shape own).gone ≡ false
   there = sym (ap (λ (d : DiskState). d.gone) left) ∙ ap (λ (b : BookState _). b.disk.gone) c.book.view_is ∙ c.requires.there
 
-  new_disk : c.lose.new.disk.disk ≡ disk_step (disk_in shape own) e
-  new_disk = ap (λ (s : SimState). s.disk) c.lose.ensures ∙ ap lost left
+  new_disk : image_on shape c.lose.new.disk.disk ≡ disk_step (disk_in shape own) e
+  new_disk = ap (λ (s : SimState). image_on shape s.disk) c.lose.ensures ∙ ap lost left
 
   run : IsRun shape (log ++ e ∷ [])
   run = loses shape log own c.journal.invariant.run c.append_disk.ensures.parts c.book.invariant.so.number there
@@ -79,10 +81,11 @@ invariant_of-book g c =
     let as_left = new_disk g c ∙ sym (disk_adds (shape g c) c.book.inside.tie (length (log g c)) (e g c)) ∙ ap (disk_in (shape g c)) new_own in
     record {
       number = ap (λ (o : Own). o.number) c.append_disk.ensures.disk ∙ b.number;
+      whole = subst (λ (s : SimState). HasFirst (image_length (shape g c).slots) s.disk) (sym c.lose.ensures) b.whole;
       so = record {
         number = subst (λ (o : Own). o.number < (shape g c).disks) (sym c.append_disk.ensures.disk) b.so.number;
         tells = b.so.tells;
         size = omega (arith, b.so.size, ap (λ (s : SimState). length s.disk.bytes) c.lose.ensures);
-        disk = subst (λ (o : Option Outcome). IsFollowedBy o c.book.inside.row (disk_in (shape g c) c.append_disk.new.disk) c.lose.new.disk.disk) (sym (closed g c)) as_left;
+        disk = subst (λ (o : Option Outcome). IsFollowedBy o c.book.inside.row (disk_in (shape g c) c.append_disk.new.disk) (image_on (shape g c) c.lose.new.disk.disk)) (sym (closed g c)) as_left;
       };
     }
