@@ -658,6 +658,8 @@ fn main() {
     };
     let spent = timed("first_path", 4096, host, |host, count| first_path(host, count).unwrap_or(false));
     println!("first_path/second {}", 4096 * 1_000_000_000 / spent);
+    let direct = timed("direct", 4096, host, |host, count| first_path(host, count).unwrap_or(false));
+    println!("first_path/direct {:.2}", spent as f64 / direct as f64);
     let these = timed("attempt", 4096, Attempt::new, |work, count| attempts(work, count).unwrap_or(false));
     let those = timed("copies", 4096, Copies::new, copies);
     println!("attempt/copies {:.2}", these as f64 / those as f64);

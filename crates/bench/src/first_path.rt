@@ -14,7 +14,7 @@ use std::sync::Wait;
 use std::time::{Clock, Instant};
 
 /// The slots of the log, and so the most submissions.
-const SLOTS: u16 = 4096;
+pub const SLOTS: u16 = 4096;
 
 /// The shortest of twenty rounds of so many submissions.
 pub fn best_first_path<R: Wait + Clock + AllocGlobal>(

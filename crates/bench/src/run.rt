@@ -3,10 +3,12 @@ use crate::benchmark::Benchmark;
 use crate::block_write::BlockWrite;
 use crate::copies::Copies;
 use crate::decode_row::DecodeRow;
+use crate::direct::Direct;
 use crate::disk_calls::DiskCalls;
 use crate::failure::Failure;
 use crate::first_path::{best_first_path, first_path};
 use crate::learn::Learn;
+use crate::overlap::{Order, slow_recoveries};
 use crate::threads::work_done;
 use crate::timing::{Ratio, Timing};
 use crate::whole_attempt::WholeAttempt;
@@ -27,7 +29,9 @@ pub fn run_all<R: Print + Wait + Clock + AllocGlobal>(rt: &R, task: Task) -> Res
     run_one::<R, BlockWrite>(rt, task, "block_write", 200_000)?;
     run_one::<R, DecodeRow>(rt, task, "decode_row", 200_000)?;
     run_one::<R, Apply>(rt, task, "apply", 1_000_000)?;
-    run_first_path(rt, task)?;
+    let locked = run_first_path(rt, task)?;
+    let direct = run_one::<R, Direct>(rt, task, "direct", 4096)?;
+    print_ratio(rt, "first_path/direct", locked, direct)?;
     let whole = run_one::<R, WholeAttempt>(rt, task, "attempt", 4096)?;
     let copies = run_one::<R, Copies>(rt, task, "copies", 4096)?;
     print_ratio(rt, "attempt/copies", whole, copies)?;
@@ -42,24 +46,25 @@ pub fn run_all<R: Print + Wait + Clock + AllocGlobal>(rt: &R, task: Task) -> Res
 fn run_first_path<R: Print + Wait + Clock + AllocGlobal>(
     rt: &R,
     task: Task,
-) -> Result<(), Failure> {
+) -> Result<Option<Timing>, Failure> {
     match task {
         Task::Check => {
             first_path(rt, FEW)?;
             println!(rt; "first_path: ran")?;
+            Ok(None)
         }
         Task::Measure => {
             let timing = best_first_path(rt, 4096)?;
             let rate = timing.rate();
             println!(rt; "first_path {timing}")?;
             println!(rt; "first_path/second {rate}")?;
+            Ok(Some(timing))
         }
-        Task::Threads => {}
+        Task::Threads => Ok(None),
     }
-    Ok(())
 }
 
-/// Prints what one host and what eight hosts get done, in threads of their own, and how large an entry is.
+/// Prints what hosts get done, in threads of their own, how large an entry is, and whether the work of two slow disks overlaps.
 pub fn print_threads<R: Print + Threads + Wait + Clock + AllocGlobal + Sync>(
     rt: &R,
 ) -> Result<(), Failure> {
@@ -73,6 +78,11 @@ pub fn print_threads<R: Print + Threads + Wait + Clock + AllocGlobal + Sync>(
         )?;
     }
     println!(rt; "entry {} bytes", size_of::<Entry>())?;
+    for (name, order) in [("at_once", Order::AtOnce), ("in_turn", Order::InTurn)] {
+        let calls = slow_recoveries(rt, order)?;
+        let each = calls.spent / 1_000 / (calls.made as u64).max(1);
+        println!(rt; "slow_disks_{name} {} calls, {each} microseconds a call", calls.made)?;
+    }
     Ok(())
 }
 

@@ -348,7 +348,7 @@ struct Crowd {
     harm: usize,
 }
 
-// A host submits so many commands, and recovers anew now and then. It goes on where an operation is refused.
+// A host submits so many commands, and starts anew and recovers after a few. It goes on where an operation is refused.
 fn works<N: Named, R: Wait + Clock>(
     rt: &R,
     alloc: Global,
@@ -358,7 +358,7 @@ fn works<N: Named, R: Wait + Clock>(
 ) -> Option<HostSeat<N>> {
     let mut seat = cluster.seat(rt, alloc, host).ok()?;
     for round in 0..rounds {
-        let command = enqueue(seat.host(), round + 1)?;
+        let command = turn(seat.host(), round + 1)?;
         if !seat.idle() {
             return None;
         }
@@ -370,7 +370,7 @@ fn works<N: Named, R: Wait + Clock>(
             }
             Err(_) => return None,
         }
-        if round % 4 == 3 {
+        if round == 3 || round == 9 {
             cluster.restart(rt, alloc, &mut seat).ok()?;
             if !seat.idle() {
                 return None;
@@ -384,20 +384,26 @@ fn works<N: Named, R: Wait + Clock>(
     Some(seat)
 }
 
-// A lock that does not stand in the way of others.
-fn enqueue(host: HostNumber, round: u16) -> Option<Command>
+// By turns an enqueue of the host's lock, which may have to wait for those of others, and its release.
+fn turn(host: HostNumber, round: u16) -> Option<Command>
     ensures { IfSome result (λ command. command.host ≡ host) }
 {
+    let lock = LockNumber::new(u16::from(host.get()) + 1)?;
+    let action = if round % 2 == 1 {
+        Action::Enqueue {
+            lock,
+            name: LockName::new(b"db")?,
+            mode: Mode::ProtectedWrite,
+            no_queue: false,
+        }
+    } else {
+        Action::Release(lock)
+    };
     Some(Command {
         host,
         client: ClientNumber::new(host.get() + 1),
         request: RequestNumber::new(u64::from(round))?,
-        action: Action::Enqueue {
-            lock: LockNumber::new(round.checked_mul(8)?.checked_add(u16::from(host.get()))?)?,
-            name: LockName::new(b"db")?,
-            mode: Mode::ConcurrentRead,
-            no_queue: false,
-        },
+        action,
     })
 }
 
@@ -415,7 +421,7 @@ fn harms<N: Named, R: Wait + Clock>(rt: &R, cluster: &Cluster<'_, N, SimDisk>) -
         if turn == 40 {
             lose(rt, cluster, 3).ok()?;
         }
-        thread::sleep(rt, Duration::from_millis(2));
+        thread::sleep(rt, Duration::from_millis(20));
     }
     Some(())
 }
@@ -472,11 +478,11 @@ fn crowded<N: Named + Send + Sync, R: Threads + Wait + Clock + Sync>(
 
 #[test]
 fn eight_hosts(rt: HostRuntime) -> Result<(), Fail> {
-    let config = Config::new(5, 64).ok_or("a size")?;
+    let config = Config::new(5, 2048).ok_or("a size")?;
     let opening = Opening::new(rt.alloc(), config)?;
-    let crowd = crowded::<Brand, HostRuntime>(&rt, rt.alloc(), opening, 6).ok_or("a record")?;
+    let crowd = crowded::<Brand, HostRuntime>(&rt, rt.alloc(), opening, 125).ok_or("a record")?;
     assert!(rt; crowd.same);
-    assert!(rt; crowd.acks > 0);
+    assert!(rt; crowd.acks > 500);
     assert!(rt; crowd.harm > 2);
     Ok(())
 }

@@ -1,0 +1,156 @@
+ghost use Rattle.std.specs.Prelude.{◌≡◌};
+ghost use Rattle.cluster.specs.Opening.{IsNamed};
+
+use crate::failure::Failure;
+use crate::slow_disk::{SlowDisk, two_slow_disks};
+use cluster::{Cluster, Config, Entry, Gate, HostSeat, Named, OpenGate, Opening};
+use lock_command::HostNumber;
+use std::alloc::AllocGlobal;
+use std::marker::Brand;
+use std::sync::Wait;
+use std::sync::atomic::{AtomicBool, Ordering};
+use std::thread;
+use std::thread::{Threads, join};
+use std::time::{Clock, Duration, Instant};
+
+/// How many recoveries each host makes.
+const RECOVERIES: u32 = 8;
+
+/// The calls that an attempt makes on a disk before it goes on to the next one, at first.
+const OPENING_CALLS: u64 = 3;
+
+/// Device calls of two hosts.
+#[derive(Clone, Copy, Debug)]
+pub struct Calls {
+    pub made: usize,
+    /// Nanoseconds.
+    pub spent: u64,
+}
+
+/// When the second of two hosts begins.
+#[derive(Clone, Copy, Debug)]
+pub enum Order {
+    /// When the first has left the first disk for the second.
+    AtOnce,
+    /// When the first has ended.
+    InTurn,
+}
+
+/// Two hosts recover an empty log a few times, over two disks each call of which takes a millisecond.
+pub fn slow_recoveries<R: Threads + Wait + Clock + AllocGlobal + Sync>(
+    rt: &R,
+    order: Order,
+) -> Result<Calls, Failure> {
+    let Some(config) = Config::new(2, 1) else {
+        return Err(Failure::Wrong);
+    };
+    let opening = Opening::new(rt.alloc(), config)?;
+    recoveries_of::<Brand, R>(rt, opening, order)
+}
+
+fn recoveries_of<N: Named + Send + Sync, R: Threads + Wait + Clock + AllocGlobal + Sync>(
+    rt: &R,
+    opening: Opening,
+    order: Order,
+) -> Result<Calls, Failure>
+    requires named { IsNamed opening N.shape N.table N.name N.parts N.all }
+    requires two { opening.shape.disks ≡ 2 }
+{
+    let alloc = rt.alloc();
+    let (Some(one), Some(other)) = (HostNumber::new(0), HostNumber::new(1)) else {
+        return Err(Failure::Wrong);
+    };
+    let disks = two_slow_disks(rt, alloc, opening.config())?;
+    let (ties, foundation) = opening.named::<N>(alloc)?;
+    let cluster = Cluster::new(alloc, disks, &ties, foundation)?;
+    let one = cluster.seat(rt, alloc, one)?;
+    let other = cluster.seat(rt, alloc, other)?;
+    let start = Instant::now(rt)?;
+    let (one, other) = match order {
+        Order::AtOnce => at_once(rt, &cluster, one, other),
+        Order::InTurn => (
+            recovers(rt, &cluster, one, &mut OpenGate),
+            recovers(rt, &cluster, other, &mut OpenGate),
+        ),
+    };
+    let spent = start.elapsed(rt)?;
+    let mut seats = Vec::new(alloc);
+    if seats.push(one).is_err() || seats.push(other).is_err() {
+        return Err(Failure::NoMemory);
+    }
+    let record = cluster.finish(seats)?;
+    Ok(Calls {
+        made: calls_in(&record.entries),
+        spent: u64::try_from(spent.as_nanos()).unwrap_or(u64::MAX),
+    })
+}
+
+/// Each host in a thread of its own.
+fn at_once<N: Named + Send + Sync, R: Threads + Wait + Clock + Sync>(
+    rt: &R,
+    cluster: &Cluster<'_, N, SlowDisk<'_, R>>,
+    one: HostSeat<N>,
+    other: HostSeat<N>,
+) -> (HostSeat<N>, HostSeat<N>) {
+    let left = AtomicBool::new(false);
+    let has_left = &left;
+    join(
+        rt,
+        move || recovers(rt, cluster, one, &mut Leaves { left: has_left }),
+        move || {
+            wait_for(rt, has_left);
+            recovers(rt, cluster, other, &mut OpenGate)
+        },
+    )
+}
+
+/// Tells when its host leaves the first disk.
+#[derive(Drop)]
+struct Leaves<'a> {
+    left: &'a AtomicBool,
+}
+
+impl Gate for Leaves<'_> {
+    fn before_call(&mut self, call: u64) {
+        if call == OPENING_CALLS + 1 {
+            self.left.store(true, Ordering::SeqCst);
+        }
+    }
+}
+
+/// Waits until the flag is set, at most ten thousand turns.
+fn wait_for<R: Clock>(rt: &R, flag: &AtomicBool) {
+    for _ in 0..10_000 {
+        if flag.load(Ordering::SeqCst) {
+            return;
+        }
+        thread::sleep(rt, Duration::from_micros(100));
+    }
+}
+
+/// Recovers so often, refused or not.
+fn recovers<N: Named, R: Wait + Clock, G: Gate>(
+    rt: &R,
+    cluster: &Cluster<'_, N, SlowDisk<'_, R>>,
+    seat: HostSeat<N>,
+    gate: &mut G,
+) -> HostSeat<N> {
+    let mut seat = seat;
+    for _ in 0..RECOVERIES {
+        if !seat.idle() {
+            return seat;
+        }
+        let _ = cluster.recover(rt, &mut seat, gate, 255);
+    }
+    seat
+}
+
+fn calls_in(entries: &[Entry]) -> usize {
+    let mut calls: usize = 0;
+    for entry in entries {
+        if matches!(entry, Entry::Called { .. }) {
+            calls = calls.saturating_add(1);
+        }
+    }
+    calls
+}

@@ -1,0 +1,79 @@
+ghost use Rattle.std.specs.Prelude.{◌≡◌, ◌≤◌, All, IfOk, length, vec_len};
+ghost use Rattle.disk.specs.Cut.{cut};
+ghost use Rattle.disk.specs.Disk.{device_of};
+ghost use Rattle.disk.specs.Simulated.{fresh_disk};
+ghost use Rattle.paxos_block.specs.Places.{image_length};
+
+use cluster::Config;
+use disk::{Boot, Disk, DiskFault, NoMemory, SimDisk, larger_disks_serve};
+use std::alloc::{AllocError, Global};
+use std::thread;
+use std::time::{Clock, Duration};
+
+/// A simulated disk each call of which takes a millisecond and more.
+#[derive(Drop)]
+pub struct SlowDisk<'a, R: Clock> {
+    disk: SimDisk,
+    rt: &'a R,
+}
+
+impl<R: Clock> SlowDisk<'_, R> {
+    fn wait(&self) {
+        thread::sleep(self.rt, Duration::from_millis(1));
+    }
+}
+
+impl<R: Clock> Disk for SlowDisk<'_, R> {
+    ghost use Rattle.std.specs.Prelude.{refl};
+
+    ghost state = { λ d. d.disk.disk };
+    ghost device = { λ d. device_of d.disk.disk };
+    ghost failures = { λ d. d.disk.failures };
+    ghost told = { λ d tells. refl };
+
+    fn size(&self) -> u64 {
+        self.disk.size()
+    }
+
+    fn attach(&mut self) -> Result<Boot, DiskFault> {
+        self.wait();
+        self.disk.attach()
+    }
+
+    fn read(&mut self, boot: Boot, at: u64, into: &mut [u8]) -> Result<(), DiskFault> {
+        self.wait();
+        self.disk.read(boot, at, into)
+    }
+
+    fn write(&mut self, boot: Boot, at: u64, from: &[u8]) -> Result<(), DiskFault> {
+        self.wait();
+        self.disk.write(boot, at, from)
+    }
+
+    fn sync(&mut self, boot: Boot) -> Result<(), DiskFault> {
+        self.wait();
+        self.disk.sync(boot)
+    }
+}
+
+/// Two slow disks of zeros.
+pub fn two_slow_disks<R: Clock>(
+    rt: &R,
+    alloc: Global,
+    config: Config,
+) -> Result<Vec<SlowDisk<'_, R>>, NoMemory>
+    ensures two { IfOk result (λ disks. vec_len disks ≡ 2) }
+    ensures large { IfOk result (λ disks. All (λ d. image_length config.slots ≤ length d.disk.disk.bytes) disks.items) }
+    ensures fresh { IfOk result (λ disks. All (λ d. cut (image_length config.slots) d.disk.disk ≡ fresh_disk (image_length config.slots)) disks.items) }
+{
+    larger_disks_serve();
+    let first = SlowDisk {
+        disk: SimDisk::new(alloc, config.image_length())?,
+        rt,
+    };
+    let second = SlowDisk {
+        disk: SimDisk::new(alloc, config.image_length())?,
+        rt,
+    };
+    Ok(vec![in alloc; first, second].map_err(AllocError::from)?)
+}
