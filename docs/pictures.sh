@@ -44,5 +44,8 @@ check() {
 case ${1-draw} in
     draw) draw ;;
     check) check ;;
-    *) exit 2 ;;
+    *)
+        echo "usage: pictures.sh [check]" >&2
+        exit 2
+        ;;
 esac
