@@ -17,7 +17,8 @@ quiet() {
     fi
 }
 
-quiet man --warnings -l "$page"
+# Another man than that of man-db knows no such words.
+if man --version >/dev/null 2>&1; then quiet man --warnings -l "$page"; fi
 quiet groff -ww -mdoc -Tutf8 -z "$page"
 # mandoc tells what it finds on standard output.
 lint() { mandoc -Tlint -Wwarning "$page" >&2; }
