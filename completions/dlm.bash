@@ -1,0 +1,34 @@
+# Completion for bash of dlm: tasks, folders and scripts, hosts, commands, modes. Numbers of clients, requests and locks are the
+# user's own, so nothing is offered for them.
+
+_dlm() {
+    local word=${COMP_WORDS[COMP_CWORD]} task=${COMP_WORDS[1]} command=${COMP_WORDS[4]-} words=
+
+    COMPREPLY=()
+    case $COMP_CWORD:$task in
+        1:*) words="run format submit table" ;;
+        2:run)
+            compopt -o filenames
+            mapfile -t COMPREPLY < <(compgen -f -- "$word")
+            return
+            ;;
+        2:format | 2:submit | 2:table)
+            compopt -o filenames
+            mapfile -t COMPREPLY < <(compgen -d -- "$word")
+            return
+            ;;
+        3:format) words="1 2 3 4 5 6 7" ;;
+        3:submit | 3:table) words="0 1 2 3 4 5 6 7" ;;
+        4:submit) words="enqueue convert release cancel status purge" ;;
+        *:submit)
+            case $COMP_CWORD:$command in
+                7:purge) words="0 1 2 3 4 5 6 7" ;;
+                8:enqueue | 8:convert) words="NL CR CW PR PW EX" ;;
+                10:enqueue | 9:convert) words="noqueue" ;;
+            esac
+            ;;
+    esac
+    mapfile -t COMPREPLY < <(compgen -W "$words" -- "$word")
+}
+
+complete -F _dlm dlm

@@ -1,0 +1,79 @@
+use crate::call::{Call, Kind, Phase};
+use crate::failure::Failure;
+use crate::moment::{Happened, Moment, Turn};
+use crate::watch::Watch;
+use host::HostCore;
+use phases::DeviceCall;
+use simulator::{Parts, Script};
+use std::alloc::{AllocError, Global};
+
+/// Lets a script's events happen, and gives those that changed something.
+pub fn moments_of(alloc: Global, script: &Script) -> Result<Vec<Moment>, Failure> {
+    let events = script.events.to_vec(alloc)?;
+    let mut parts = Parts::new(alloc, script.config)?;
+    let mut watch = Watch::new(alloc, script.config.disks())?;
+    let mut moments = Vec::new(alloc);
+    for (place, event) in events.iter().enumerate() {
+        let Some(happened) = watch.look(&parts, event) else {
+            continue;
+        };
+        let before = learned(&parts, &happened);
+        let said = parts.event(alloc, event)?;
+        let turn = match said {
+            Some(said) => Some(Turn::Said(said.answer)),
+            None => turn_of(&parts, &happened, before),
+        };
+        let moment = Moment {
+            place,
+            happened,
+            turn,
+        };
+        moments.push(moment).map_err(AllocError::from)?;
+    }
+    Ok(moments)
+}
+
+/// How many commands the host has learned to which this happens.
+fn learned(parts: &Parts, happened: &Happened) -> usize {
+    match host_of(parts, happened) {
+        Some(core) => core.prefix().len(),
+        None => 0,
+    }
+}
+
+fn host_of<'a>(parts: &'a Parts, happened: &Happened) -> Option<&'a HostCore> {
+    parts.host(happened.host()?.get())
+}
+
+/// What a host comes to that says nothing, and had learned so many commands.
+fn turn_of(parts: &Parts, happened: &Happened, before: usize) -> Option<Turn> {
+    let Happened::Called { call, .. } = happened else {
+        return None;
+    };
+    let core = host_of(parts, happened)?;
+    if core.prefix().len() > before {
+        return Some(Turn::Learned(before));
+    }
+    // A row that was read for a promise or a vote is followed by another attempt only where it shows a greater ballot.
+    if is_later_read(call) && is_attach_due(core) {
+        return Some(Turn::Outrun);
+    }
+    None
+}
+
+fn is_later_read(call: &Call) -> bool {
+    call.kind == Kind::Read && call.phase != Phase::Opening
+}
+
+fn is_attach_due(core: &HostCore) -> bool {
+    if core.idle() {
+        return false;
+    }
+    match core.call().call {
+        DeviceCall::Attach => true,
+        _ => false,
+    }
+}
+
+#[cfg(test)]
+mod tests;

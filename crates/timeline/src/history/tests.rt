@@ -1,0 +1,75 @@
+//! What is drawn of two runs, by the numbers of their events.
+
+use super::*;
+use crate::call::Ending;
+use simulator::read_script;
+use std::test::Fail;
+
+// Host 1 outruns host 0 with its promise, and gets slot 0; host 0 learns that, and takes slot 1.
+const RACE: &[u8] =
+    b"cluster 1 4\nstart 0\nstart 1\nsubmit 0 2 enqueue 1 1 1 EX db\nsubmit 1 2 enqueue 2 1 2 EX db\n\
+step 0 10\nstep 1 10\nstep 0 7\nstep 1 7\nstep 0 17\nstep 0 17\n";
+
+// A call fails, a disk crashes, a host is torn, and another disk is lost. Steps of idle hosts change nothing.
+const FAULTS: &[u8] =
+    b"cluster 3 4\nstart 0\nstart 1\nsubmit 0 1 enqueue 1 1 1 EX db\nstep 0 20\nfail 0 00\nstep 0 3\n\
+crash 0 ff\nstep 0 12\nsubmit 1 1 enqueue 2 1 2 PR db\nstep 1 11\ntear 1 a5\ngone 2\ngone 2\ncrash 2 00\n\
+start 0\nstop 0\nrecover 0 1\nstart 1\nrecover 1 1\nstep 1 7\n";
+
+#[test]
+fn race(rt: HostRuntime) -> Result<(), Fail> {
+    let script = read_script(rt.alloc(), RACE)?;
+    let mut turns = Vec::new(rt.alloc());
+    for moment in &moments_of(rt.alloc(), &script)? {
+        if let Some(turn) = moment.turn {
+            let word = match turn {
+                Turn::Said(_) => "said",
+                Turn::Learned(slot) => if slot == 0 { "learned 0" } else { "learned" },
+                Turn::Outrun => "outrun",
+            };
+            turns.push((moment.place, word))?;
+        }
+    }
+    let wanted = [
+        (30, "outrun"),
+        (37, "said"),
+        (54, "learned 0"),
+        (71, "said"),
+    ];
+    assert_eq!(rt; turns.as_slice(), wanted.as_slice());
+    Ok(())
+}
+
+#[test]
+fn faults(rt: HostRuntime) -> Result<(), Fail> {
+    let script = read_script(rt.alloc(), FAULTS)?;
+    let mut found = Vec::new(rt.alloc());
+    for moment in &moments_of(rt.alloc(), &script)? {
+        let word = match moment.happened {
+            Happened::Called { call, .. } => match call.ending {
+                Ending::Done => "",
+                Ending::Refused => "refused",
+                Ending::Failed => "fails",
+                Ending::Torn => "torn",
+            },
+            Happened::Crashed(_) => "crash",
+            Happened::Lost(_) => "lost",
+            Happened::Stopped(_) => "stop",
+            Happened::Started(_) | Happened::Began { .. } => "",
+        };
+        if word != "" {
+            found.push((moment.place, word))?;
+        }
+    }
+    let wanted = [
+        (23, "fails"),
+        (27, "crash"),
+        (32, "refused"),
+        (52, "torn"),
+        (53, "lost"),
+        (57, "stop"),
+        (67, "refused"),
+    ];
+    assert_eq!(rt; found.as_slice(), wanted.as_slice());
+    Ok(())
+}

@@ -1,0 +1,61 @@
+#!/usr/bin/env bash
+# pages.sh [PAGE..]: runs the commands of pages, which stand behind `$ ` in their blocks without a language (what goes on with
+# `> ` is the same command's), and compares what they print with what stands below them. Without a page: those that have any.
+# The commands of a page are run in turn in a folder of its own, which has all that stands at the top, and is on the path. Blocks of `rt`
+# are left out.
+set -uo pipefail
+
+top=$(dirname -- "$(dirname -- "$(readlink -f -- "${BASH_SOURCE[0]}")")")
+[[ $# -gt 0 ]] || set -- "$top"/{README,docs/TUTORIAL,docs/OPERATIONS,docs/SCRIPTS,crates/dlm/README}.md "$top/man/dlm.1"
+
+work=$(mktemp -d)
+trap 'rm -r -- "$work"' EXIT
+# The first run builds the program, if it has to.
+"$top/dlm" run /dev/null >/dev/null 2>&1
+
+# The blocks of a page that begin with a prompt; those of a manual page stand between .Bd -literal and .Ed.
+blocks() {
+    awk '/^```/ { inside = !inside; plain = ($0 == "```"); first = 1; next }
+        /^\.Bd -literal/ { inside = plain = first = 1; next }
+        /^\.Ed/ { inside = 0; next }
+        inside && plain { if (first) runs = /^\$ / && !/^\$ rt /; first = 0; if (runs) print }' "$1"
+}
+
+# Runs the commands that stand in such blocks, and prints them with what they print.
+run_commands() {
+    local line command=
+    while IFS= read -r line; do
+        if [[ $line == '$ '* ]]; then
+            run_command
+            command=${line#'$ '}
+            echo "$line"
+        elif [[ $line == '> '* && -n $command ]]; then
+            command+=$'\n'${line#'> '}
+            echo "$line"
+        else
+            run_command
+        fi
+    done
+    run_command
+}
+
+run_command() {
+    [[ -z $command ]] || bash -c "$command" 2>&1 </dev/null
+    command=
+}
+
+failed=0
+for page in "$@"; do
+    name=$(realpath --relative-to="$top" -- "$page")
+    rm -rf -- "$work/folder"
+    mkdir -- "$work/folder"
+    ln -s -- "$top"/* "$work/folder"
+    blocks "$page" >"$work/wanted"
+    (cd -- "$work/folder" && PATH=$PWD:$PATH run_commands) <"$work/wanted" >"$work/printed"
+    if diff -u --label "$name" --label "what is printed" "$work/wanted" "$work/printed"; then
+        echo "$name: $(grep -c '^\$ ' "$work/wanted") commands, as it says"
+    else
+        failed=$((failed + 1))
+    fi
+done
+[[ $failed -eq 0 ]]

@@ -1,0 +1,46 @@
+#!/usr/bin/env bash
+# install.sh: puts program, manual page and completions in place, below PREFIX (none given: /usr/local), with DESTDIR in front of it
+# where one is given, as for a package. install.sh uninstall: takes them out. Both print the files.
+set -euo pipefail
+
+top=$(dirname -- "$(readlink -f -- "${BASH_SOURCE[0]}")")
+root=${DESTDIR-}${PREFIX:-/usr/local}
+
+# Calls its first word with each file: from, to, mode.
+each() {
+    "$1" crates/dlm/out/dlm bin/dlm 755
+    "$1" man/dlm.1 share/man/man1/dlm.1 644
+    "$1" completions/dlm.bash share/bash-completion/completions/dlm 644
+    "$1" completions/_dlm share/zsh/site-functions/_dlm 644
+    "$1" completions/dlm.fish share/fish/vendor_completions.d/dlm.fish 644
+}
+
+put() {
+    install -D -m "$3" -- "$top/$1" "$root/$2"
+    echo "$root/$2"
+}
+
+take_out() {
+    rm -f -- "$root/$2"
+    echo "$root/$2"
+}
+
+# An empty script is refused, once the program is built.
+build() {
+    "$top/dlm" run /dev/null >/dev/null 2>&1 || [[ $? -eq 1 ]]
+}
+
+case ${1-install} in
+    install)
+        if ! build; then
+            echo "install.sh: ./dlm could not be built" >&2
+            exit 1
+        fi
+        each put
+        ;;
+    uninstall) each take_out ;;
+    *)
+        echo "usage: [PREFIX=..] [DESTDIR=..] install.sh [uninstall]" >&2
+        exit 2
+        ;;
+esac

@@ -1,0 +1,80 @@
+#!/usr/bin/env bash
+# The completions: lines are typed into an interactive bash, which has read completions/dlm.bash, and then the key that puts in all
+# that could stand here (M-*); what the line has come to is compared. Of zsh and fish the files are read, and fish is asked too,
+# where they are installed.
+set -uo pipefail
+
+top=$(dirname -- "$(dirname -- "$(readlink -f -- "${BASH_SOURCE[0]}")")")
+work=$(mktemp -d)
+trap 'rm -r -- "$work"' EXIT
+mkdir -- "$work/images" "$work/more images"
+: >"$work/one.dlm"
+# A program that shows its words.
+printf '#!/usr/bin/env bash\nprintf "line:"; printf " <%%s>" "$@"; echo\n' >"$work/dlm"
+chmod +x "$work/dlm"
+cd -- "$work" || exit 1
+failed=0
+tried=0
+
+# The words of the line that bash makes of what is typed.
+completed() {
+    {
+        printf 'source "%s"\n' "$top/completions/dlm.bash"
+        printf '%s\e*\n' "$1"
+    } | PATH=$work:$PATH INPUTRC=/dev/null PS1='' bash --norc --noprofile -i 2>/dev/null | grep '^line:' | cut -c 7-
+}
+
+# expect TYPED WORDS: what is typed comes to these words.
+expect() {
+    local words
+    words=$(completed "$1")
+    tried=$((tried + 1))
+    if [[ $words != "$2" ]]; then
+        echo "bash: '$1' comes to $words, not $2"
+        failed=$((failed + 1))
+    fi
+}
+
+expect 'dlm ' '<format> <run> <submit> <table>'
+expect 'dlm f' '<format>'
+expect 'dlm run o' '<run> <one.dlm>'
+expect 'dlm table ' '<table> <images> <more images>'
+expect 'dlm format im' '<format> <images>'
+expect 'dlm format images ' '<format> <images> <1> <2> <3> <4> <5> <6> <7>'
+expect 'dlm table images ' '<table> <images> <0> <1> <2> <3> <4> <5> <6> <7>'
+expect 'dlm submit images 0 ' '<submit> <images> <0> <cancel> <convert> <enqueue> <purge> <release> <status>'
+expect 'dlm submit images 0 c' '<submit> <images> <0> <cancel> <convert>'
+expect 'dlm submit images 0 enqueue 1 1 1 ' '<submit> <images> <0> <enqueue> <1> <1> <1> <CR> <CW> <EX> <NL> <PR> <PW>'
+expect 'dlm submit images 0 enqueue 1 1 1 EX db n' '<submit> <images> <0> <enqueue> <1> <1> <1> <EX> <db> <noqueue>'
+expect 'dlm submit images 0 convert 1 2 1 P' '<submit> <images> <0> <convert> <1> <2> <1> <PR> <PW>'
+expect 'dlm submit images 0 convert 1 2 1 PW ' '<submit> <images> <0> <convert> <1> <2> <1> <PW> <noqueue>'
+expect 'dlm submit images 0 purge 1 2 ' '<submit> <images> <0> <purge> <1> <2> <0> <1> <2> <3> <4> <5> <6> <7>'
+expect 'dlm submit images 0 release 1 2 7' '<submit> <images> <0> <release> <1> <2> <7>'
+expect './dlm f' '<format>'
+
+# asked TYPED WORDS: fish offers these words.
+asked() {
+    local words
+    words=$(fish --no-config -c "source '$top/completions/dlm.fish'; complete -C '$1'" 2>&1 | cut -f 1 | LC_ALL=C sort | tr '\n' ' ')
+    tried=$((tried + 1))
+    if [[ $words != "$2 " ]]; then
+        echo "fish: '$1' offers $words, not $2"
+        failed=$((failed + 1))
+    fi
+}
+
+if command -v fish >/dev/null; then
+    asked 'dlm ' 'format run submit table'
+    asked 'dlm table ' 'images/ more images/'
+    asked 'dlm submit images 0 ' 'cancel convert enqueue purge release status'
+    asked 'dlm submit images 0 enqueue 1 1 1 ' 'CR CW EX NL PR PW'
+    asked 'dlm submit images 0 convert 1 2 1 PW ' 'noqueue'
+    asked 'dlm submit images 0 purge 1 2 ' '0 1 2 3 4 5 6 7'
+fi
+if command -v zsh >/dev/null; then
+    tried=$((tried + 1))
+    zsh -n "$top/completions/_dlm" || failed=$((failed + 1))
+fi
+
+echo "completions: $tried tried, $failed differ"
+[[ $failed -eq 0 ]]

@@ -1,0 +1,36 @@
+#!/usr/bin/env bash
+# install.sh into a folder and out of it again: the program runs there, the page is found by man, and nothing is left behind.
+set -uo pipefail
+
+top=$(dirname -- "$(dirname -- "$(readlink -f -- "${BASH_SOURCE[0]}")")")
+work=$(mktemp -d)
+trap 'rm -r -- "$work"' EXIT
+failed=0
+
+fail() {
+    echo "install.sh: $1"
+    failed=1
+}
+
+for prefix in /usr/local '/opt/lock manager'; do
+    DESTDIR=$work/root PREFIX=$prefix "$top/install.sh" >"$work/told" || fail "ends with $?"
+    place=$work/root$prefix
+    diff <(LC_ALL=C sort "$work/told") <(find "$work/root" -type f | LC_ALL=C sort) || fail "tells of other files than it puts there"
+    [[ $(find "$work/root" -type f | wc -l) -eq 5 ]] || fail "puts $(find "$work/root" -type f | wc -l) files"
+    [[ $("$place/bin/dlm" run "$top/examples/first_reply.dlm") == "18 h0 ack 0 Granted" ]] || fail "the program does not run"
+    if command -v man >/dev/null; then
+        man -M "$place/share/man" dlm 2>"$work/told" | grep -q 'locks for hosts that share disks' || fail "man finds no page: $(<"$work/told")"
+    fi
+    (
+        # shellcheck source=/dev/null
+        source "$place/share/bash-completion/completions/dlm"
+        complete -p dlm >/dev/null
+    ) || fail "the completion is none"
+    DESTDIR=$work/root PREFIX=$prefix "$top/install.sh" uninstall >/dev/null || fail "uninstall ends with $?"
+    [[ -z $(find "$work/root" -type f) ]] || fail "leaves files behind"
+done
+"$top/install.sh" what 2>/dev/null
+[[ $? -eq 2 ]] || fail "takes any word"
+
+[[ $failed -eq 0 ]] && echo "install.sh: in and out, by two prefixes"
+exit "$failed"
