@@ -245,8 +245,8 @@ impl HostCore {
         match beat.end() {
             None => self.said = None,
             Some(End::NoMajority) => {
-                self.beat = None;
                 self.said = Some(HostAnswer::Refused(Refusal::NoMajority));
+                self.beat = None;
             }
             Some(End::Beaten) => {
                 let after = beat.readings();
