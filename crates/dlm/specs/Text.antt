@@ -10,7 +10,7 @@ use Rattle.lock_table.specs.declared.reply.Refusal.TheVariants.{LockInUse, NoSuc
 use Rattle.slot_log.specs.declared.outcome.Refusal as operation
 use Rattle.slot_log.specs.declared.outcome.Refusal.TheVariants.{Outrun, NoMajority, BallotsSpent, LogFull, NotACommand}
 use Rattle.host.specs.declared.answer.HostAnswer.{HostAnswer}
-use Rattle.host.specs.declared.answer.HostAnswer.TheVariants.{Ack, Recovered, Refused as Ended}
+use Rattle.host.specs.declared.answer.HostAnswer.TheVariants.{Ack, Recovered, Beaten, Refused as Ended}
 use Rattle.inspect.specs.Text.{mode_name}
 
 -- a mode, or a dash where there is none
@@ -64,4 +64,5 @@ refusal_text NotACommand = codes "10 NotACommand"
 abbrev pub answer_text : HostAnswer → List ℕ
 answer_text (Ack slot reply) = codes "ack " ++ decimal slot ++ codes " " ++ reply_text reply
 answer_text (Recovered length) = codes "recovered " ++ decimal length
+answer_text (Beaten host) = codes "beaten " ++ decimal host
 answer_text (Ended refusal) = codes "refused " ++ refusal_text refusal

@@ -25,6 +25,7 @@ impl fmt::Display for AnswerText {
                 write!(f, "ack {slot} {reply}")
             }
             HostAnswer::Recovered { length } => write!(f, "recovered {length}"),
+            HostAnswer::Beaten { host } => write!(f, "beaten {host}"),
             HostAnswer::Refused(refusal) => {
                 let refusal = refusal_text(refusal);
                 write!(f, "refused {refusal}")

@@ -9,21 +9,22 @@ use Rattle.attempt.specs.Status as attempt
 use Rattle.attempt.specs.Status.{Status, Due, Ended}
 use Rattle.lock_command.specs.declared.command.Command.{Command}
 use Rattle.lock_command.specs.Reading.{decoded}
-use Rattle.phases.specs.declared.notes.Notes.{Notes}
+use Rattle.beats.specs.Answers.{Answered as Beaten}
+use Rattle.beats.specs.Calls.{device_answer}
+use Rattle.beats.specs.declared.notes.Notes.{Notes as BeatNotes}
+use Rattle.phases.specs.Calls.{heard_of}
+use Rattle.phases.specs.declared.heard.Heard as code_heard
 use Rattle.slot_log.specs.Shape.{Shape}
-use Rattle.slot_log.specs.Kept as learners
-use Rattle.slot_log.specs.declared.operation.Task.{Task}
-use Rattle.slot_log.specs.Learning as log
-use Rattle.host.specs.Host.{Operation, Doing, Memory, fresh, hears, goes_on, begins, by_status, takes, after_learning, is_submitted, learns, with_heard, with_floor, tries_again, next_in, is_idle_in}
-use Rattle.host.specs.Kept.{Kept, LeadsTo, is_idle, values_of}
-use Rattle.std.specs.Option.{option_map}
+use Rattle.host.specs.Host.{Operation, Doing, Memory, Beats, fresh, hears, hears_from, goes_on, begins, by_status, takes, after_learning, is_submitted, learns, with_heard, with_floor, tries_again, next_in, rests, is_idle_in}
+use Rattle.host.specs.Kept.{Kept, LeadsTo, IsBeating, is_idle}
+use Rattle.host.proofs.Hosts.{idle_is, from_attempt, beats-goes_on, beats-hears}
+use Rattle.std.specs.Prelude.{is_some}
 use Rattle.std.proofs.Common.{true≢false}
 use Rattle.disk.specs.Disk as device
 use Rattle.phases.specs.Calls.{IsWithin}
 use Rattle.phases.specs.declared.need.DeviceCall as code_call
 use Rattle.phases.specs.declared.need.DeviceCall.TheVariants as call
 use Rattle.host.specs.Alone.{IsAnsweredAlone}
-use Rattle.host.specs.Kept.{doing_of}
 use Rattle.host.specs.declared.answer.HostAnswer.{HostAnswer}
 use Rattle.dlm_images.specs.Operations.{IsKnown, HasHeard, after_answers, AnswersDue, tries_in, HasOperated, Ends}
 use Rattle.dlm_images.proofs.Ending.{ReadsBack, operation_ends}
@@ -91,6 +92,7 @@ pub record IsDriven (c : Shape) (old new : Kept) (more : ℕ) : Type 0 where
   pub host : ℕ
   pub memory : Memory
   pub leads : LeadsTo c host memory new
+  pub rest : memory.beats.heard ≡ None
   pub left : left_in c memory ≤ more
 
 after_one_more : (c : Shape) (h : ℕ) (m : Memory) (xs : List Answered) (x : Answered) → after_answers c h m (xs ++ x ∷ []) ≡ (let n = after_answers c h m xs in hears c h n n.doing x)
@@ -114,17 +116,13 @@ heard_more old now new x before fits leads = record {
 }
 
 -- a host with nothing left to do is idle
-idle_with : (c : Shape) (h : ℕ) (m : log.Memory) (task : Option Task) (a : Notes) → learners.AreDoing c h m None task a → learners.is_idle_with task ≡ true
-idle_with c h m None a are = refl
-idle_with c h m (Some task) a are = absurd are
-
-idle_by : (c : Shape) (h : ℕ) (m : log.Memory) (n : ℕ) (o : Option Doing) (task : Option Task) (a : Notes) → left_with c n o ≤ 0 → learners.AreDoing c h m (option_map doing_of o) task a → learners.is_idle_with task ≡ true
-idle_by c h m n None task a none are = idle_with c h m task a are
-idle_by c h m n (Some t) task a none are = absurd (omega arith)
+idle_by : (c : Shape) (m : Memory) (n : ℕ) (o : Option Doing) → m.beats.heard ≡ None → left_with c n o ≤ 0 → is_idle_in m o ≡ true
+idle_by c m n None rest none = ap rests rest
+idle_by c m n (Some t) rest none = absurd (omega arith)
 
 pub idle_at_last : (c : Shape) (old new : Kept) → IsDriven c old new 0 → is_idle new ≡ true
 idle_at_last c old new driven =
-    idle_by c driven.host (values_of driven.memory) (length driven.memory.learned) driven.memory.doing new.learner.task new.learner.attempt driven.left driven.leads.learner.doing
+    idle_is c driven.host driven.memory new driven.leads ∙ idle_by c driven.memory (length driven.memory.learned) driven.memory.doing driven.rest driven.left
 
 -- what is left to do at first
 left_at_first : (c : Shape) (n : ℕ) (o : Option Doing) → c.slots ≤ 4096 → tries_in o ≤ 255 → left_with c n o ≤ 125859960
@@ -137,19 +135,20 @@ driven_at_first k known slots = record {
   host = known.host;
   memory = known.memory;
   leads = subst (λ (c : Shape). LeadsTo c known.host known.memory k) (sym known.leads.learner.shape) known.leads;
+  rest = known.rests;
   left = left_at_first k.learner.shape (length known.memory.learned) known.memory.doing slots known.tries;
 }
 
 -- what is known of an answer to a busy host
 pub record IsHeardBy (now new : Kept) (x : Answered) : Type 0 where
-  pub busy : (c : Shape) (h : ℕ) (m : Memory) → LeadsTo c h m now → is_idle_in m.doing ≡ false
+  pub busy : (c : Shape) (h : ℕ) (m : Memory) → LeadsTo c h m now → is_idle_in m m.doing ≡ false
   pub fits : (c : Shape) (h : ℕ) (m : Memory) → LeadsTo c h m now → IsAnswerTo (next_in c h m) x
   pub leads : (c : Shape) (h : ℕ) (m : Memory) → LeadsTo c h m now → LeadsTo c h (hears c h m m.doing x) new
   pub alone : (c : Shape) (h : ℕ) (m : Memory) → LeadsTo c h m now → IsAnsweredAlone c h m m.doing x
 
-less_left : (c : Shape) (h : ℕ) (m : Memory) (o : Option Doing) (x : Answered) (more : ℕ) → c.disks ≤ 7 → is_idle_in o ≡ false → IsAnsweredAlone c h m o x → left_with c (length m.learned) o ≤ more → left_in c (hears c h m o x) < more
-less_left c h m None x more few busy alone left = absurd (true≢false busy)
-less_left c h m (Some t) x more few busy alone left =
+less_left : (c : Shape) (h : ℕ) (m : Memory) → m.beats.heard ≡ None → (o : Option Doing) (x : Answered) (more : ℕ) → c.disks ≤ 7 → is_idle_in m o ≡ false → IsAnsweredAlone c h m o x → left_with c (length m.learned) o ≤ more → left_in c (hears c h m o x) < more
+less_left c h m rest None x more few busy alone left = absurd (true≢false (sym (ap rests rest) ∙ busy))
+less_left c h m rest (Some t) x more few busy alone left =
     let long : length (t.heard ++ x ∷ []) ≤ 17 * c.disks = alone.bound in
     let fewer : left_in c (hears c h m (Some t) x) < left_with c (length m.learned) (Some t) = falls c h m t x (omega (arith, long, few)) in
     omega (arith, fewer, left)
@@ -157,13 +156,37 @@ less_left c h m (Some t) x more few busy alone left =
 pub driven_more : (c : Shape) (old now new : Kept) (x : Answered) (made : ℕ) → c.disks ≤ 7 → IsHeardBy now new x → IsDriven c old now (125859960 - made) → IsDriven c old new (125859960 - (made + 1))
 driven_more c old now new x made few by driven =
     let fewer : left_in c (hears c driven.host driven.memory driven.memory.doing x) < 125859960 - made =
-    less_left c driven.host driven.memory driven.memory.doing x (125859960 - made) few (by.busy c driven.host driven.memory driven.leads) (by.alone c driven.host driven.memory driven.leads) driven.left in record {
+    less_left c driven.host driven.memory driven.rest driven.memory.doing x (125859960 - made) few (by.busy c driven.host driven.memory driven.leads) (by.alone c driven.host driven.memory driven.leads) driven.left in record {
       has_heard = heard_more old now new x driven.has_heard by.fits by.leads;
       host = driven.host;
       memory = hears c driven.host driven.memory driven.memory.doing x;
       leads = by.leads c driven.host driven.memory driven.leads;
+      rest = ap (λ (b : Beats). b.heard) (beats-hears c driven.host driven.memory x) ∙ driven.rest;
       left = omega (arith, fewer);
     }
+
+-- no beat hears the answer, so the attempt does
+none_kept : (c : Shape) (h : ℕ) (o : Option (List Beaten)) (beat : Option BeatNotes) → IsBeating c h o beat → o ≡ None → beat ≡ None
+none_kept c h None None going none = refl
+none_kept c h None (Some notes) going none = absurd going
+none_kept c h (Some heard) beat going none = absurd (cc)
+
+none_known : (c : Shape) (h : ℕ) (o : Option (List Beaten)) (beat : Option BeatNotes) → IsBeating c h o beat → beat ≡ None → o ≡ None
+none_known c h None beat going none = refl
+none_known c h (Some heard) None going none = absurd going
+none_known c h (Some heard) (Some notes) going none = absurd (cc)
+
+attempting : (m : Memory) (o : Option Doing) → m.beats.heard ≡ None → is_idle_in m o ≡ false → is_some o ≡ true
+attempting m None rest busy = absurd (true≢false (sym (ap rests rest) ∙ busy))
+attempting m (Some t) rest busy = refl
+
+pub attempt_hears : (old now new : Kept) (made : ℕ) (c : Shape) → IsDriven c old now made → (d : ℕ) (heard : code_heard.Heard) → ((s : Shape) (h : ℕ) (m : Memory) → LeadsTo s h m now → is_idle_in m m.doing ≡ false)
+    → ((s : Shape) (h : ℕ) (m : Memory) → LeadsTo s h m now → LeadsTo s h (hears_from s h m m.doing d (device_answer heard)) new)
+    → (s : Shape) (h : ℕ) (m : Memory) → LeadsTo s h m now → LeadsTo s h (hears s h m m.doing (record { disk = d; heard = heard_of heard })) new
+attempt_hears old now new made c driven d heard busy hears_it s h m leads =
+    let none : now.beat ≡ None = none_kept c driven.host driven.memory.beats.heard now.beat driven.leads.beat driven.rest in
+    let rest : m.beats.heard ≡ None = none_known s h m.beats.heard now.beat leads.beat none in
+    subst (λ (n : Memory). LeadsTo s h n new) (sym (from_attempt s h m m.doing d heard (attempting m m.doing rest (busy s h m leads)))) (hears_it s h m leads)
 
 -- CALLS
 
@@ -189,19 +212,22 @@ set_keeps P (x ∷ xs) (suc i) v pv all (suc k) d is = set_keeps P xs i v pv (λ
 
 -- WHAT A HOST KEEPS BETWEEN ITS OPERATIONS
 
-idle_learner : (c : Shape) (h : ℕ) (m : log.Memory) (doing : Option log.Doing) (task : Option Task) (a : Notes) → learners.is_idle_with task ≡ true → learners.AreDoing c h m doing task a → doing ≡ None
-idle_learner c h m None task a idle are = refl
-idle_learner c h m (Some t) None a idle are = absurd are
-idle_learner c h m (Some t) (Some task) a idle are = absurd (true≢false (sym idle))
+none_doing : (m : Memory) (o : Option Doing) → is_idle_in m o ≡ true → o ≡ None
+none_doing m None idle = refl
+none_doing m (Some t) idle = absurd (true≢false (sym idle))
 
-mapped_none : (o : Option Doing) → option_map doing_of o ≡ None → o ≡ None
-mapped_none None is = refl
-mapped_none (Some t) is = absurd (cc)
+none_beating : (o : Option (List Beaten)) → rests o ≡ true → o ≡ None
+none_beating None idle = refl
+none_beating (Some heard) idle = absurd (true≢false (sym idle))
 
 -- what is known of an idle host has no operation under way
 pub idle_memory : (c : Shape) (h : ℕ) (m : Memory) (k : Kept) → LeadsTo c h m k → is_idle k ≡ true → m.doing ≡ None
-idle_memory c h m k leads idle =
-    mapped_none m.doing (idle_learner c h (values_of m) (option_map doing_of m.doing) k.learner.task k.learner.attempt idle leads.learner.doing)
+idle_memory c h m k leads idle = none_doing m m.doing (sym (idle_is c h m k leads) ∙ idle)
+
+-- and no beat
+idle_rests : (c : Shape) (h : ℕ) (m : Memory) (k : Kept) → LeadsTo c h m k → is_idle k ≡ true → m.beats.heard ≡ None
+idle_rests c h m k leads idle =
+    none_beating m.beats.heard (subst (λ (o : Option Doing). is_idle_in m o ≡ true) (idle_memory c h m k leads idle) (sym (idle_is c h m k leads) ∙ idle))
 
 no_tries : (o : Option Doing) → o ≡ None → tries_in o ≤ 255
 no_tries None is = omega arith
@@ -209,7 +235,7 @@ no_tries (Some t) is = absurd (cc)
 
 -- so something is known of an idle host, if anything leads to what it keeps
 pub known_idle : (c : Shape) (h : ℕ) (m : Memory) (k : Kept) → LeadsTo c h m k → is_idle k ≡ true → IsKnown k
-known_idle c h m k leads idle = record { shape = c; host = h; memory = m; leads = leads; tries = no_tries m.doing (idle_memory c h m k leads idle) }
+known_idle c h m k leads idle = record { shape = c; host = h; memory = m; leads = leads; rests = idle_rests c h m k leads idle; tries = no_tries m.doing (idle_memory c h m k leads idle) }
 
 -- an operation begins
 pub known_begun : (o : Operation) (tries : ℕ) (old begun : Kept) → tries ≤ 255 → IsKnown old → ((c : Shape) (h : ℕ) (m : Memory) → LeadsTo c h m old → LeadsTo c h (goes_on c m o tries) begun) → IsKnown begun
@@ -218,6 +244,7 @@ known_begun o tries old begun few known begins_so = record {
   host = known.host;
   memory = goes_on known.shape known.memory o tries;
   leads = begins_so known.shape known.host known.memory known.leads;
+  rests = ap (λ (b : Beats). b.heard) (beats-goes_on known.shape known.memory o tries) ∙ known.rests;
   tries =
       let m = known.memory in
       by_test (λ (n : Memory). tries_in n.doing ≤ 255) (nat_lt (length m.learned) known.shape.slots) (begins m o tries) _ (λ is. few) (omega arith);

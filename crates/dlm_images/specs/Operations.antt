@@ -9,7 +9,7 @@ use Rattle.lock_table.specs.declared.reply.Reply.{Reply}
 use Rattle.host.specs.Host.{Memory, Doing, Operation, Submitting, Recovering, goes_on, hears, next_in, reply_after}
 use Rattle.host.specs.Kept.{Kept, LeadsTo, is_idle}
 use Rattle.host.specs.declared.answer.HostAnswer.{HostAnswer}
-use Rattle.host.specs.declared.answer.HostAnswer.TheVariants.{Ack, Recovered, Refused}
+use Rattle.host.specs.declared.answer.HostAnswer.TheVariants.{Ack, Recovered, Beaten, Refused}
 
 -- HEARING
 
@@ -28,12 +28,14 @@ abbrev pub tries_in : Option Doing → ℕ
 tries_in None = 0
 tries_in (Some t) = t.tries
 
--- Something is known of the host that leads to what it keeps, and no operation under way has more tries than fit a byte.
+-- Something is known of the host that leads to what it keeps: no beat is under way, and no operation that is has more tries than
+-- fit a byte.
 pub record IsKnown (k : Kept) : Type 0 where
   pub shape : Shape
   pub host : ℕ
   pub memory : Memory
   pub leads : LeadsTo shape host memory k
+  pub rests : memory.beats.heard ≡ None
   pub tries : tries_in memory.doing ≤ 255
 
 -- From what it kept to what it keeps, the host has heard answers to its calls, and nothing else.
@@ -68,8 +70,10 @@ abbrev pub Ends : Operation → List Command → Option HostAnswer → Type 0
 Ends operation learned None = ⊥
 Ends (Submitting command) learned (Some (Ack slot reply)) = IsAcknowledged command slot reply learned
 Ends (Submitting command) learned (Some (Recovered count)) = ⊥
+Ends (Submitting command) learned (Some (Beaten host)) = ⊥
 Ends Recovering learned (Some (Ack slot reply)) = ⊥
 Ends Recovering learned (Some (Recovered count)) = count ≡ length learned
+Ends Recovering learned (Some (Beaten host)) = ⊥
 Ends operation learned (Some (Refused refusal)) = Unit {0}
 
 -- no more disks and slots than there may be

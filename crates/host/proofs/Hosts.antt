@@ -1,11 +1,22 @@
 -- What a host knows is what its learner knows, once each value that it offers is judged by its spelling.
-use Rattle.std.proofs.Common.{◌≡◌, ◌-◌, ◌*◌, ℕ, Bool, true, false, zero, suc, List, [], ◌∷◌, ◌++◌, length, map, Option, Some, None, refl, sym, ◌∙◌, ap, subst, if◌then◌else◌}
-use Rattle.std.specs.Prelude.{bytes_eq, is_some, nat_lt, nat_le}
+use Rattle.std.proofs.Common.{◌≡◌, ◌≤◌, ◌-◌, ◌*◌, ◌&&◌, ℕ, Bool, true, false, zero, suc, List, [], ◌∷◌, ◌++◌, length, map, Option, Some, None, refl, sym, ◌∙◌, ap, subst, arith, length-append, if◌then◌else◌}
+use Rattle.std.specs.Prelude.{bytes_eq, IsNone, is_some, nat_lt, nat_le, take}
+use Rattle.beats.specs.declared.notes.Notes as beat_notes
 use Rattle.std.specs.Option.{option_map}
 use Rattle.std.proofs.lemmas.List.{length-map, map-append, append-nil}
 use Rattle.std.proofs.lemmas.Slice.Eq.{bytes_eq-Decides}
-use Rattle.attempt.specs.Answers.{Answered, Answers, Heard, on}
+use Rattle.attempt.specs.Answers.{Answered, Answers, Heard, on, heard_as}
+use Rattle.beats.specs.Answers as beat_answers
+use Rattle.beats.specs.Calls.{device_answer}
+use Rattle.beats.specs.Kept as beat_kept
+use Rattle.beats.specs.Status as beat
+use Rattle.beats.specs.declared.end.End as code_end
+use Rattle.beats.specs.declared.end.End.TheVariants as code_ends
+use Rattle.phases.specs.Calls.{heard_of}
+use Rattle.phases.specs.declared.heard.Heard as code_heard
+use Rattle.phases.specs.declared.heard.Heard.TheVariants as code_answer
 use Rattle.attempt.specs.Calls.{Opening}
+use Rattle.disk.specs.Disk as device
 use Rattle.attempt.specs.Numbers.{count, found, first_below}
 use Rattle.attempt.specs.Setup.{Setup}
 use Rattle.attempt.specs.Status as attempt
@@ -28,10 +39,10 @@ use Rattle.slot_log.specs.declared.outcome.Outcome.{Outcome}
 use Rattle.slot_log.specs.declared.outcome.Outcome.TheVariants as outcome
 use Rattle.slot_log.specs.declared.outcome.Refusal.TheVariants as refusal
 use Rattle.host.specs.declared.answer.HostAnswer.{HostAnswer}
-use Rattle.host.specs.declared.answer.HostAnswer.TheVariants.{Ack, Recovered, Refused}
-use Rattle.host.specs.Alone.{IsAnsweredAlone}
-use Rattle.host.specs.Host.{Memory, Doing, Operation, Submitting, Recovering, input_of, setup_of, says, begins, goes_on, full_answer, learns, takes, after_learning, is_submitted, with_floor, by_status, hears, with_heard, reply_after}
-use Rattle.host.specs.Kept.{Kept, LeadsTo, operation_of, outcome_of, doing_of, values_of, answer_of, option_list}
+use Rattle.host.specs.declared.answer.HostAnswer.TheVariants.{Ack, Recovered, Beaten, Refused}
+use Rattle.host.specs.Alone.{IsAnsweredAlone, IsWithinNine}
+use Rattle.host.specs.Host.{Readings, Beats, Memory, Doing, Operation, Submitting, Recovering, input_of, setup_of, says, begins, goes_on, full_answer, learns, takes, after_learning, is_submitted, with_floor, by_status, hears, with_heard, reply_after, hears_from, hears_beat, beat_of, beat_by, with_beats, suggested, is_idle_in, rests as rests_in, next_in, next_doing, next_beat}
+use Rattle.host.specs.Kept.{Kept, LeadsTo, operation_of, outcome_in, doing_of, values_with, values_of, answer_of, option_list, IsBeating, IsAlone, rests, is_idle}
 
 -- ANSWERS
 
@@ -40,12 +51,14 @@ abbrev pub Carries : Option Reply → Option HostAnswer → Type 0
 Carries reply None = Unit {0}
 Carries reply (Some (Ack slot told)) = reply ≡ Some told
 Carries reply (Some (Recovered length)) = Unit {0}
+Carries reply (Some (Beaten host)) = ⊥
 Carries reply (Some (Refused refusal)) = Unit {0}
 
-pub answer_of-outcome_of : (reply : Option Reply) (said : Option HostAnswer) → Carries reply said → answer_of (option_map outcome_of said) reply ≡ said
+pub answer_of-outcome_of : (reply : Option Reply) (said : Option HostAnswer) → Carries reply said → answer_of (outcome_in said) reply ≡ said
 answer_of-outcome_of reply None carries = refl
-answer_of-outcome_of reply (Some (Ack slot told)) carries = ap (answer_of (option_map outcome_of (Some (Ack slot told)))) carries
+answer_of-outcome_of reply (Some (Ack slot told)) carries = ap (answer_of (outcome_in (Some (Ack slot told)))) carries
 answer_of-outcome_of reply (Some (Recovered length)) carries = refl
+answer_of-outcome_of reply (Some (Beaten host)) carries = absurd carries
 answer_of-outcome_of reply (Some (Refused refusal)) carries = refl
 
 -- THE NEXT ATTEMPT
@@ -61,13 +74,13 @@ pub setup_same : (c : Shape) (h : ℕ) (m : Memory) (operation : Operation) → 
 setup_same c h m (Submitting command) = ap (setup_at c h m (Submitting command)) (length_same m)
 setup_same c h m Recovering = ap (setup_at c h m Recovering) (length_same m)
 
-full_same : (operation : Operation) (n : ℕ) → log.full_outcome (operation_of operation) n ≡ outcome_of (full_answer operation n)
+full_same : (operation : Operation) (n : ℕ) → Some (log.full_outcome (operation_of operation) n) ≡ outcome_in (Some (full_answer operation n))
 full_same (Submitting command) n = refl
 full_same Recovering n = refl
 
 goes_by_test : (m : Memory) (operation : Operation) (tries n : ℕ) (b : Bool) → (if b then log.begins (values_of m) (operation_of operation) tries else log.says (values_of m) (log.full_outcome (operation_of operation) n)) ≡ values_of (if b then begins m operation tries else says m (full_answer operation n))
 goes_by_test m operation tries n true = refl
-goes_by_test m operation tries n false = ap (log.says (values_of m)) (full_same operation n)
+goes_by_test m operation tries n false = ap (λ (o : Option Outcome). record (log.says (values_of m) (outcome.Recovered 0)) { said = o }) (full_same operation n)
 
 abbrev goes_at : Shape → Memory → Operation → ℕ → ℕ → log.Memory
 goes_at c m operation tries n = if nat_lt n c.slots then log.begins (values_of m) (operation_of operation) tries else log.says (values_of m) (log.full_outcome (operation_of operation) n)
@@ -108,13 +121,13 @@ carries_by_tries m operation tries false = tt
 -- AN ATTEMPT THAT OFFERS NOTHING
 
 module _ (c : Shape) (m : Memory) (t : Doing) (ballot : ℕ) where
-  pub values_of-by_status : (st : Status) → offered_by st ≡ None → log.by_status (values_of m) (doing_of t) ballot st ≡ values_of (by_status c m t ballot st)
-  values_of-by_status (Due p d) none = refl
-  values_of-by_status (Ended (attempt.Committed value)) none = absurd (cc)
-  values_of-by_status (Ended attempt.Empty) none = ap (λ (n : ℕ). log.says (log.with_floor (values_of m) ballot) (outcome.Recovered n)) (length_same m)
-  values_of-by_status (Ended (attempt.Outrun mbal)) none = tries_by_test (with_floor (with_floor m ballot) mbal) t.operation (t.tries - 1) (nat_le t.tries 1)
-  values_of-by_status (Ended attempt.NoMajority) none = refl
-  values_of-by_status (Ended attempt.BallotsSpent) none = refl
+  pub values_of-by_status : (last : Option Outcome) (st : Status) → offered_by st ≡ None → log.by_status (values_with last m) (doing_of t) ballot st ≡ values_of (by_status c m t ballot st)
+  values_of-by_status last (Due p d) none = refl
+  values_of-by_status last (Ended (attempt.Committed value)) none = absurd (cc)
+  values_of-by_status last (Ended attempt.Empty) none = ap (λ (n : ℕ). log.says (log.with_floor (values_of m) ballot) (outcome.Recovered n)) (length_same m)
+  values_of-by_status last (Ended (attempt.Outrun mbal)) none = tries_by_test (with_floor (with_floor m ballot) mbal) t.operation (t.tries - 1) (nat_le t.tries 1)
+  values_of-by_status last (Ended attempt.NoMajority) none = refl
+  values_of-by_status last (Ended attempt.BallotsSpent) none = refl
 
   pub learned-by_status : (st : Status) → offered_by st ≡ None → (by_status c m t ballot st).learned ≡ m.learned
   learned-by_status (Due p d) none = refl
@@ -249,10 +262,10 @@ busy_with c h m None None a are busy = absurd (cc)
 busy_with c h m None (Some task) a are busy = absurd are
 
 -- where the learner is busy, so is the host
-pub busy_doing : (c : Shape) (h : ℕ) (m : Memory) (k : learners.Kept) → learners.LeadsTo c h (values_of m) k → learners.is_idle k ≡ false → (t : Doing) × (m.doing ≡ Some t)
-busy_doing c h m k leads busy = busy_with c h (values_of m) m.doing k.task k.attempt leads.doing busy
+pub busy_doing : (c : Shape) (h : ℕ) (m : Memory) (k : learners.Kept) → learners.LeadsTo c h (values_with k.said m) k → learners.is_idle k ≡ false → (t : Doing) × (m.doing ≡ Some t)
+busy_doing c h m k leads busy = busy_with c h (values_with k.said m) m.doing k.task k.attempt leads.doing busy
 
-module _ (c : Shape) (h : ℕ) (m : Memory) (t : Doing) (x : Answered) (is : m.doing ≡ Some t) where
+module _ (c : Shape) (h : ℕ) (last : Option Outcome) (m : Memory) (t : Doing) (x : Answered) (is : m.doing ≡ Some t) where
   abbrev told : Doing
   told = with_heard t x
 
@@ -266,27 +279,27 @@ module _ (c : Shape) (h : ℕ) (m : Memory) (t : Doing) (x : Answered) (is : m.d
   ballot = taken setup (on told.heard)
 
   abbrev by_values : log.Memory
-  by_values = log.hears c h (values_of m) (values_of m).doing x
+  by_values = log.hears c h (values_with last m) (values_of m).doing x
 
   hears_is : hears c h m m.doing x ≡ by_status c m told ballot stands
   hears_is = ap (λ (o : Option Doing). hears c h m o x) is
 
-  by_values_is : by_values ≡ log.by_status (values_of m) (doing_of told) ballot stands
+  by_values_is : by_values ≡ log.by_status (values_with last m) (doing_of told) ballot stands
   by_values_is =
-      ap (λ (o : Option Doing). log.hears c h (values_of m) (option_map doing_of o) x) is
-      ∙ ap (log.goes_by (values_of m) (doing_of told)) (setup_same c h m t.operation)
+      ap (λ (o : Option Doing). log.hears c h (values_with last m) (option_map doing_of o) x) is
+      ∙ ap (log.goes_by (values_with last m) (doing_of told)) (setup_same c h m t.operation)
 
   offered_is : offered_in c h by_values by_values.doing ≡ offered_by stands
   offered_is =
       ap (λ (l : log.Memory). offered_in c h l l.doing) by_values_is
-      ∙ offered_after c h (values_of m) (doing_of told) ballot stands (ap (λ (s : Setup). status s (on told.heard)) (setup_same c h m t.operation))
+      ∙ offered_after c h (values_with last m) (doing_of told) ballot stands (ap (λ (s : Setup). status s (on told.heard)) (setup_same c h m t.operation))
 
   -- and nothing is offered
   pub heard_none : offered_in c h by_values by_values.doing ≡ None → (by_values ≡ values_of (hears c h m m.doing x)) × ((hears c h m m.doing x).learned ≡ m.learned) × Carries None (hears c h m m.doing x).said
   heard_none offered =
       let none : offered_by stands ≡ None = sym offered_is ∙ offered in
       let IsCarried : Memory → Type 0 = λ n. Carries None n.said in (
-        by_values_is ∙ values_of-by_status c m told ballot stands none ∙ ap values_of (sym hears_is),
+        by_values_is ∙ values_of-by_status c m told ballot last stands none ∙ ap values_of (sym hears_is),
         ap (λ (n : Memory). n.learned) hears_is ∙ learned-by_status c m told ballot stands none,
         subst IsCarried (sym hears_is) (carries-by_status c m told ballot stands none),
       )
@@ -295,13 +308,13 @@ module _ (c : Shape) (h : ℕ) (m : Memory) (t : Doing) (x : Answered) (is : m.d
   pub heard_value : (value : List ℕ) → offered_in c h by_values by_values.doing ≡ Some value → (log.takes c h by_values by_values.doing (is_some (decoded value)) ≡ values_of (hears c h m m.doing x)) × ((hears c h m m.doing x).learned ≡ m.learned ++ option_list (decoded value)) × Carries (option_map (reply_after m.learned) (decoded value)) (hears c h m m.doing x).said
   heard_value value offered =
       let committed : stands ≡ Ended (attempt.Committed value) = committed_is stands value (sym offered_is ∙ offered) in
-      let waits : by_values ≡ log.does (values_of m) (doing_of told) = by_values_is ∙ ap (log.by_status (values_of m) (doing_of told) ballot) committed in
+      let waits : by_values ≡ log.does (values_with last m) (doing_of told) = by_values_is ∙ ap (log.by_status (values_with last m) (doing_of told) ballot) committed in
       let is_command = is_some (decoded value) in
       let hears' : hears c h m m.doing x ≡ takes c m told ballot value (decoded value) = hears_is ∙ ap (by_status c m told ballot) committed in
       let IsCarried : Memory → Type 0 = λ n. Carries (option_map (reply_after m.learned) (decoded value)) n.said in (
         ap (λ (l : log.Memory). log.takes c h l l.doing is_command) waits
-            ∙ ap (λ (s : Setup). log.judges c (log.does (values_of m) (doing_of told)) (doing_of told) (taken s (on told.heard)) (offered_by (status s (on told.heard))) is_command) (setup_same c h m t.operation)
-            ∙ ap (λ (st : Status). log.judges c (log.does (values_of m) (doing_of told)) (doing_of told) ballot (offered_by st) is_command) committed
+            ∙ ap (λ (s : Setup). log.judges c (log.does (values_with last m) (doing_of told)) (doing_of told) (taken s (on told.heard)) (offered_by (status s (on told.heard))) is_command) (setup_same c h m t.operation)
+            ∙ ap (λ (st : Status). log.judges c (log.does (values_with last m) (doing_of told)) (doing_of told) ballot (offered_by st) is_command) committed
             ∙ values_of-takes c m told ballot value (decoded value) (decoded_spelled value)
             ∙ ap values_of (sym hears'),
         ap (λ (n : Memory). n.learned) hears' ∙ learned-takes c m told ballot value (decoded value),
@@ -309,28 +322,224 @@ module _ (c : Shape) (h : ℕ) (m : Memory) (t : Doing) (x : Answered) (is : m.d
       )
 
 -- what follows for a host from what follows for its learner
-pub follows : (c : Shape) (h : ℕ) (m : Memory) (l : log.Memory) (k : Kept) (reply : Option Reply) → learners.LeadsTo c h l k.learner → l ≡ values_of m → k.prefix ≡ m.learned → k.said ≡ answer_of k.learner.said reply → Carries reply m.said → LeadsTo c h m k
-follows c h m l k reply leads is prefix said carries =
+pub follows : (c : Shape) (h : ℕ) (m : Memory) (l : log.Memory) (k : Kept) (reply : Option Reply) → learners.LeadsTo c h l k.learner → l ≡ values_of m → k.prefix ≡ m.learned → k.said ≡ answer_of k.learner.said reply → Carries reply m.said
+    → option_map (take c.disks) k.readings ≡ m.beats.readings → IsBeating c h m.beats.heard k.beat → LeadsTo c h m k
+follows c h m l k reply leads is prefix said carries readings beat =
     let Known : log.Memory → Type 0 = λ n. learners.LeadsTo c h n k.learner in
     let known : learners.LeadsTo c h (values_of m) k.learner = subst Known is leads in
     record {
-      learner = known;
+      learner = subst (λ (o : Option Outcome). learners.LeadsTo c h (values_with o m) k.learner) (sym known.said) known;
       prefix = prefix;
       said = said ∙ ap (λ (o : Option Outcome). answer_of o reply) known.said ∙ answer_of-outcome_of reply m.said carries;
+      readings = readings;
+      beat = beat;
     }
+
+-- BEATS STAY
+
+beats_by_test : (m : Memory) (operation : Operation) (tries n : ℕ) (b : Bool) → (if b then begins m operation tries else says m (full_answer operation n)).beats ≡ m.beats
+beats_by_test m operation tries n true = refl
+beats_by_test m operation tries n false = refl
+
+pub beats-goes_on : (c : Shape) (m : Memory) (operation : Operation) (tries : ℕ) → (goes_on c m operation tries).beats ≡ m.beats
+beats-goes_on c m operation tries = beats_by_test m operation tries (length m.learned) (nat_lt (length m.learned) c.slots)
+
+beats_by_tries : (m : Memory) (operation : Operation) (tries : ℕ) (b : Bool) → (if b then says m (Refused refusal.Outrun) else begins m operation tries).beats ≡ m.beats
+beats_by_tries m operation tries true = refl
+beats_by_tries m operation tries false = refl
+
+module _ (c : Shape) (m : Memory) (t : Doing) (ballot : ℕ) where
+  beats_after : (command : Command) (placed : Bool) → (after_learning c m t command placed).beats ≡ m.beats
+  beats_after command true = refl
+  beats_after command false = beats-goes_on c (learns m command) t.operation t.tries
+
+  beats-takes : (value : List ℕ) (o : Option Command) → (takes c m t ballot value o).beats ≡ m.beats
+  beats-takes value None = refl
+  beats-takes value (Some command) = beats_after command (is_submitted t.operation value)
+
+  pub beats-by_status : (st : Status) → (by_status c m t ballot st).beats ≡ m.beats
+  beats-by_status (Due p d) = refl
+  beats-by_status (Ended (attempt.Committed value)) = beats-takes value (decoded value)
+  beats-by_status (Ended attempt.Empty) = refl
+  beats-by_status (Ended (attempt.Outrun mbal)) = beats_by_tries (with_floor (with_floor m ballot) mbal) t.operation (t.tries - 1) (nat_le t.tries 1)
+  beats-by_status (Ended attempt.NoMajority) = refl
+  beats-by_status (Ended attempt.BallotsSpent) = refl
+
+pub beats_heard : (c : Shape) (h : ℕ) (m : Memory) (o : Option Doing) (x : Answered) → (hears c h m o x).beats ≡ m.beats
+beats_heard c h m None x = refl
+beats_heard c h m (Some t) x =
+    let s = setup_of c h m t.operation in
+    let told = with_heard t x in
+    beats-by_status c m told (taken s (on told.heard)) (status s (on told.heard))
+
+-- an attempt leaves them
+pub beats-hears : (c : Shape) (h : ℕ) (m : Memory) (x : Answered) → (hears c h m m.doing x).beats ≡ m.beats
+beats-hears c h m x = beats_heard c h m m.doing x
+
+-- and what is kept of them
+pub beats_kept : (c : Shape) (h : ℕ) (m new : Memory) (readings : Option Readings) (beat : Option beat_notes.Notes) → new.beats ≡ m.beats → option_map (take c.disks) readings ≡ m.beats.readings → IsBeating c h m.beats.heard beat
+    → (option_map (take c.disks) readings ≡ new.beats.readings) × IsBeating c h new.beats.heard beat
+beats_kept c h m new readings beat same are going =
+    (are ∙ ap (λ (b : Beats). b.readings) (sym same), subst (λ (b : Beats). IsBeating c h b.heard beat) (sym same) going)
 
 -- LEFT ALONE
 
-alone_with : (c : Shape) (h : ℕ) (m : Memory) (o : Option Doing) (x : Answered) → log_alone.IsAnsweredAlone c h (values_of m) (option_map doing_of o) x → IsAnsweredAlone c h m o x
-alone_with c h m None x alone = tt
-alone_with c h m (Some t) x alone =
+alone_with : (c : Shape) (h : ℕ) (last : Option Outcome) (m : Memory) (o : Option Doing) (x : Answered) → log_alone.IsAnsweredAlone c h (values_with last m) (option_map doing_of o) x → IsAnsweredAlone c h m o x
+alone_with c h last m None x alone = tt
+alone_with c h last m (Some t) x alone =
     let Served : Setup → Type 0 = λ s. log_alone.IsAnsweredIn s (t.heard ++ x ∷ []) in
     subst Served (setup_same c h m t.operation) alone
 
 -- what the learner says of an attempt that is left alone holds for the host
-pub alone : (c : Shape) (h : ℕ) (m : Memory) (old now : Kept) (answer : Heard) → old ≡ now → LeadsTo c h m now → ((n : log.Memory) → learners.LeadsTo c h n old.learner → log_alone.IsAnsweredAlone c h n n.doing (record { disk = old.learner.attempt.disk; heard = answer })) → IsAnsweredAlone c h m m.doing (record { disk = now.learner.attempt.disk; heard = answer })
-alone c h m old now answer is leads served =
-    let Known : Kept → Type 0 = λ k. LeadsTo c h m k in
-    let By : Kept → Type 0 = λ k. IsAnsweredAlone c h m m.doing (record { disk = k.learner.attempt.disk; heard = answer }) in
-    let known : LeadsTo c h m old = subst Known (sym is) leads in
-    subst By is (alone_with c h m m.doing (record { disk = old.learner.attempt.disk; heard = answer }) (served (values_of m) known.learner))
+pub alone : (c : Shape) (h : ℕ) (m : Memory) (k : learners.Kept) (answer : Heard) → learners.LeadsTo c h (values_with k.said m) k → ((n : log.Memory) → learners.LeadsTo c h n k → log_alone.IsAnsweredAlone c h n n.doing (record { disk = k.attempt.disk; heard = answer })) → IsAnsweredAlone c h m m.doing (record { disk = k.attempt.disk; heard = answer })
+alone c h m k answer leads served = alone_with c h k.said m m.doing (record { disk = k.attempt.disk; heard = answer }) (served (values_with k.said m) leads)
+
+-- BUSY WITH ONE THING
+
+and_true : (b : Bool) → (b && true) ≡ false → b ≡ false
+and_true true is = is
+and_true false is = refl
+
+-- with no beat under way the learner is busy
+pub attempt_busy : (learner : learners.Kept) (beat : Option beat_notes.Notes) → beat ≡ None → (learners.is_idle learner && rests beat) ≡ false → learners.is_idle learner ≡ false
+attempt_busy learner beat none busy = and_true (learners.is_idle learner) (subst (λ (b : Option beat_notes.Notes). (learners.is_idle learner && rests b) ≡ false) none busy)
+
+idle_with : (c : Shape) (h : ℕ) (m : log.Memory) (o : Option Doing) (task : Option Task) (a : Notes) → AreDoing c h m (option_map doing_of o) task a → is_idle_with task ≡ true → o ≡ None
+idle_with c h m (Some t) (Some task) a are idle = absurd (cc)
+idle_with c h m (Some t) None a are idle = absurd are
+idle_with c h m None task a are idle = refl
+
+pub rests_by : (c : Shape) (h : ℕ) (o : Option (List beat_answers.Answered)) (beat : Option beat_notes.Notes) → IsBeating c h o beat → rests beat ≡ rests_in o
+rests_by c h None None going = refl
+rests_by c h (Some heard) (Some notes) going = refl
+rests_by c h None (Some notes) going = absurd going
+rests_by c h (Some heard) None going = absurd going
+
+idle_by : (c : Shape) (h : ℕ) (m : Memory) (l : log.Memory) (o : Option Doing) (task : Option Task) (a : Notes) (beat : Option beat_notes.Notes) → AreDoing c h l (option_map doing_of o) task a → IsBeating c h m.beats.heard beat
+    → (is_idle_with task && rests beat) ≡ is_idle_in m o
+idle_by c h m l None None a beat are going = rests_by c h m.beats.heard beat going
+idle_by c h m l (Some t) (Some task) a beat are going = refl
+idle_by c h m l None (Some task) a beat are going = absurd are
+idle_by c h m l (Some t) None a beat are going = absurd are
+
+-- the host is idle where what is kept of it is
+pub idle_is : (c : Shape) (h : ℕ) (m : Memory) (k : Kept) → LeadsTo c h m k → is_idle k ≡ is_idle_in m m.doing
+idle_is c h m k is = idle_by c h m (values_with k.learner.said m) m.doing k.learner.task k.learner.attempt k.beat is.learner.doing is.beat
+
+-- where the learner is idle no attempt is under way
+pub idle_doing : (c : Shape) (h : ℕ) (m : Memory) (k : learners.Kept) → learners.LeadsTo c h (values_with k.said m) k → learners.is_idle k ≡ true → m.doing ≡ None
+idle_doing c h m k leads idle = idle_with c h (values_with k.said m) m.doing k.task k.attempt leads.doing idle
+
+-- an attempt hears of an answer what its parts tell
+pub heard_same : (heard : code_heard.Heard) → heard_of heard ≡ heard_as (device_answer heard)
+heard_same (code_answer.Booted boot) = refl
+heard_same code_answer.Done = refl
+heard_same (code_answer.Told row) = refl
+heard_same (code_answer.Fault fault) = refl
+
+-- an attempt hears what the host does
+pub from_attempt : (c : Shape) (h : ℕ) (m : Memory) (o : Option Doing) (d : ℕ) (heard : code_heard.Heard) → is_some o ≡ true → hears c h m o (record { disk = d; heard = heard_of heard }) ≡ hears_from c h m o d (device_answer heard)
+from_attempt c h m None d heard some = absurd (cc)
+from_attempt c h m (Some t) d heard some = ap (λ (y : Heard). hears c h m (Some t) (record { disk = d; heard = y })) (heard_same heard)
+
+-- A BEAT GOES ON
+
+-- where a test tells that there is none, there is none
+pub none_by : {A : Type 0} (o : Option A) → IsNone o → o ≡ None
+none_by None is = refl
+none_by (Some x) is = absurd (cc)
+
+-- none is under way
+pub no_beat_nine : (c : Shape) (h : ℕ) (o : Option (List beat_answers.Answered)) → IsBeating c h o None → IsWithinNine c o
+no_beat_nine c h None going = tt
+no_beat_nine c h (Some heard) going = absurd going
+
+is_due : (st : beat.Status) → None ≡ beat_kept.end_of_status st → (d : ℕ) × (st ≡ beat.Due d)
+is_due (beat.Due d) is = (d, refl)
+is_due (beat.Ended end) is = absurd (cc)
+
+is_ended : (st : beat.Status) (end : beat.End) → Some end ≡ beat_kept.end_of_status st → st ≡ beat.Ended end
+is_ended (beat.Due d) end is = absurd (cc)
+is_ended (beat.Ended other) end is = (let same : end ≡ other = cc in ap beat.Ended (sym same))
+
+heard_by : (c : Shape) (h : ℕ) (o : Option (List beat_answers.Answered)) (b : beat_notes.Notes) → IsBeating c h o (Some b) → (heard : List beat_answers.Answered) × (o ≡ Some heard) × beat_kept.LeadsTo (beat_of c h) heard b
+heard_by c h None b going = absurd going
+heard_by c h (Some heard) b going = (heard, refl, going)
+
+module _ (c : Shape) (h : ℕ) (m : Memory) (k : Kept) (b : beat_notes.Notes) (leads : LeadsTo c h m (record k { beat = Some b })) (is : IsAlone k.learner b) (answer : code_heard.Heard) where
+  none : m.doing ≡ None
+  none = idle_doing c h m k.learner leads.learner is.idle
+
+  going : (heard : List beat_answers.Answered) × (m.beats.heard ≡ Some heard) × beat_kept.LeadsTo (beat_of c h) heard b
+  going = heard_by c h m.beats.heard b leads.beat
+
+  abbrev heard : List beat_answers.Answered
+  heard = going.0 ++ beat_kept.answer_of b answer ∷ []
+
+  abbrev behind : beat.Status
+  behind = beat.status (beat_of c h) (beat_answers.on heard)
+
+  heard_is : hears_from c h m m.doing b.disk (device_answer answer) ≡ beat_by h m heard behind
+  heard_is = ap (λ (o : Option Doing). hears_from c h m o b.disk (device_answer answer)) none ∙ ap (λ (o : Option (List beat_answers.Answered)). hears_beat c h m o (beat_kept.answer_of b answer)) going.1
+
+  -- the call that is due is the beat's
+  pub beat_next : (call : ℕ × device.Call) → ((s : beat.Setup) (answers : List beat_answers.Answered) → beat_kept.LeadsTo s answers b → beat.next_call s (beat_answers.on answers) ≡ Some call) → next_in c h m ≡ Some call
+  beat_next call due = ap (λ (o : Option Doing). next_doing c h m o) none ∙ ap (λ (o : Option (List beat_answers.Answered)). next_beat c h o) going.1 ∙ due (beat_of c h) going.0 going.2
+
+  -- no attempt is under way
+  pub beat_rests : m.doing ≡ None
+  beat_rests = none
+
+  -- it has heard fewer than nine answers a disk before this one
+  pub beat_nine : ((s : beat.Setup) (answers : List beat_answers.Answered) → beat_kept.LeadsTo s answers b → length (answers ++ beat_kept.answer_of b answer ∷ []) ≤ 9 * s.disks) → IsWithinNine c m.beats.heard
+  beat_nine bound =
+      subst (IsWithinNine c) (sym going.1)
+      (let all = bound (beat_of c h) going.0 going.2 in omega (arith, all, length-append going.0 (beat_kept.answer_of b answer ∷ [])))
+
+  learner_still : (bs : Beats) (said : Option HostAnswer) → learners.LeadsTo c h (values_with k.learner.said (with_beats m bs said)) k.learner
+  learner_still bs said =
+      subst (λ (o : Option Doing). learners.LeadsTo c h (record { learned = map spelling m.learned; floor = m.floor; doing = option_map doing_of o; said = k.learner.said }) k.learner) none leads.learner
+
+  module _ (new : beat_notes.Notes) (heard_leads : (s : beat.Setup) (answers : List beat_answers.Answered) → beat_kept.LeadsTo s answers b → beat_kept.LeadsTo s (answers ++ beat_kept.answer_of b answer ∷ []) new) (same : beat_kept.IsSameBeat b new)
+      (end : Option code_end.End) (ended : (s : beat.Setup) (answers : List beat_answers.Answered) → beat_kept.LeadsTo s answers new → option_map (beat_kept.end_of new) end ≡ beat_kept.end_of_status (beat.status s (beat_answers.on answers))) where
+    leads_then : beat_kept.LeadsTo (beat_of c h) heard new
+    leads_then = heard_leads (beat_of c h) going.0 going.2
+
+    end_is : option_map (beat_kept.end_of new) end ≡ beat_kept.end_of_status behind
+    end_is = ended (beat_of c h) heard leads_then
+
+    -- a call is due
+    pub beat_goes : end ≡ None → LeadsTo c h (hears_from c h m m.doing b.disk (device_answer answer)) (record { learner = k.learner; prefix = k.prefix; said = None; beat = Some new; readings = k.readings })
+    beat_goes is_none =
+        let due = is_due behind (sym (ap (option_map (beat_kept.end_of new)) is_none) ∙ end_is) in
+        subst (λ (n : Memory). LeadsTo c h n (record { learner = k.learner; prefix = k.prefix; said = None; beat = Some new; readings = k.readings })) (sym (heard_is ∙ ap (beat_by h m heard) due.1))
+        (record { learner = learner_still (record { readings = m.beats.readings; heard = Some heard }) None; prefix = leads.prefix; said = refl; readings = leads.readings; beat = leads_then })
+
+    -- it has ended
+    pub beat_fails : end ≡ Some code_ends.NoMajority → LeadsTo c h (hears_from c h m m.doing b.disk (device_answer answer)) (record { learner = k.learner; prefix = k.prefix; said = Some (Refused refusal.NoMajority); beat = None; readings = k.readings })
+    beat_fails is_end =
+        let over = is_ended behind beat.NoMajority (sym (ap (option_map (beat_kept.end_of new)) is_end) ∙ end_is) in
+        subst (λ (n : Memory). LeadsTo c h n (record { learner = k.learner; prefix = k.prefix; said = Some (Refused refusal.NoMajority); beat = None; readings = k.readings })) (sym (heard_is ∙ ap (beat_by h m heard) over))
+        (record { learner = learner_still (record { readings = m.beats.readings; heard = None }) (Some (Refused refusal.NoMajority)); prefix = leads.prefix; said = refl; readings = leads.readings; beat = tt })
+
+    pub beat_ends : end ≡ Some code_ends.Beaten → (after : Readings) → after ≡ new.readings → (host : ℕ) → host ≡ suggested k.learner.host (option_map (take k.learner.shape.disks) k.readings) (take k.learner.shape.disks after)
+        → LeadsTo c h (hears_from c h m m.doing b.disk (device_answer answer)) (record { learner = k.learner; prefix = k.prefix; said = Some (Beaten host); beat = None; readings = Some after })
+    beat_ends is_end after after_is host host_is =
+        let over = is_ended behind (beat.Beaten (beat_kept.readings_of new)) (sym (ap (option_map (beat_kept.end_of new)) is_end) ∙ end_is) in
+        let shape : k.learner.shape ≡ c = leads.learner.shape in
+        let disks : new.disks ≡ c.disks = same.disks ∙ is.as_many ∙ ap (λ (s : Shape). s.disks) shape in
+        let read : take c.disks after ≡ beat_kept.readings_of new = ap (take c.disks) after_is ∙ ap (λ (n : ℕ). take n new.readings) (sym disks) in
+        let told : host ≡ suggested h m.beats.readings (beat_kept.readings_of new) =
+        host_is
+        ∙ ap (λ (g : ℕ). suggested g (option_map (take k.learner.shape.disks) k.readings) (take k.learner.shape.disks after)) leads.learner.is_host
+        ∙ ap (λ (s : Shape). suggested h (option_map (take s.disks) k.readings) (take s.disks after)) shape
+        ∙ ap (λ (o : Option Readings). suggested h o (take c.disks after)) leads.readings
+        ∙ ap (suggested h m.beats.readings) read in
+        subst (λ (n : Memory). LeadsTo c h n (record { learner = k.learner; prefix = k.prefix; said = Some (Beaten host); beat = None; readings = Some after })) (sym (heard_is ∙ ap (beat_by h m heard) over))
+        (record {
+          learner = learner_still (record { readings = Some (beat_kept.readings_of new); heard = None }) (Some (Beaten (suggested h m.beats.readings (beat_kept.readings_of new))));
+          prefix = leads.prefix;
+          said = ap (λ (g : ℕ). Some (Beaten g)) told;
+          readings = ap Some read;
+          beat = tt;
+        })

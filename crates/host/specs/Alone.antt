@@ -1,6 +1,7 @@
--- How an attempt is answered whose host is left alone.
-use Rattle.std.specs.Prelude.{ℕ, [], ◌∷◌, ◌++◌, Option, Some, None}
+-- How many answers an attempt and a beat hear, and how an attempt is answered whose host is left alone.
+use Rattle.std.specs.Prelude.{◌<◌, ◌*◌, ℕ, List, [], ◌∷◌, ◌++◌, length, Option, Some, None}
 use Rattle.attempt.specs.Answers.{Answered}
+use Rattle.beats.specs.Answers as beat_answers
 use Rattle.slot_log.specs.Alone.{IsAnsweredIn}
 use Rattle.slot_log.specs.Shape.{Shape}
 use Rattle.host.specs.Host.{Memory, Doing, setup_of}
@@ -10,3 +11,8 @@ use Rattle.host.specs.Host.{Memory, Doing, setup_of}
 abbrev pub IsAnsweredAlone : Shape → ℕ → Memory → Option Doing → Answered → Type 0
 IsAnsweredAlone c h m None x = Unit {0}
 IsAnsweredAlone c h m (Some t) x = IsAnsweredIn (setup_of c h m t.operation) (t.heard ++ x ∷ [])
+
+-- the beat under way has heard fewer than nine a disk, so that with one more answer it has heard at most nine
+abbrev pub IsWithinNine : Shape → Option (List beat_answers.Answered) → Type 0
+IsWithinNine c None = Unit {0}
+IsWithinNine c (Some heard) = length heard < 9 * c.disks

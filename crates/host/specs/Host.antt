@@ -1,11 +1,14 @@
 -- A host: what follows from its operations and the answers that it has heard since its start.
 use Rattle.std.specs.Prelude.{◌-◌, ℕ, Bool, true, false, List, [], ◌∷◌, ◌++◌, length, max, nat_lt, nat_le, Option, Some, None, if◌then◌else◌, bytes_eq}
 use Rattle.disk.specs.Disk as device
-use Rattle.attempt.specs.Answers.{Answered, on}
+use Rattle.attempt.specs.Answers.{Answered, on, heard_as}
 use Rattle.attempt.specs.Setup.{Setup}
 use Rattle.attempt.specs.Status.{Status, Due, Ended, End, status, taken}
 use Rattle.attempt.specs.Status as attempt
 use Rattle.attempt.specs.NextCall.{next_call}
+use Rattle.heartbeat.specs.Suggesting.{suggestion}
+use Rattle.beats.specs.Answers as beat_answers
+use Rattle.beats.specs.Status as beat
 use Rattle.lock_command.specs.declared.command.Command.{Command}
 use Rattle.lock_command.specs.Command.{spelling}
 use Rattle.lock_command.specs.Reading.{decoded}
@@ -14,7 +17,7 @@ use Rattle.lock_table.specs.Apply.{applied, table_after}
 use Rattle.slot_log.specs.Shape.{Shape}
 use Rattle.slot_log.specs.declared.outcome.Refusal.TheVariants as refusal
 use Rattle.host.specs.declared.answer.HostAnswer.{HostAnswer}
-use Rattle.host.specs.declared.answer.HostAnswer.TheVariants.{Ack, Recovered, Refused}
+use Rattle.host.specs.declared.answer.HostAnswer.TheVariants.{Ack, Recovered, Beaten, Refused}
 
 -- COMMANDS
 
@@ -34,12 +37,23 @@ pub record Doing : Type 0 where
   pub tries : ℕ
   pub heard : List Answered
 
--- a running host: the commands that it has learned, by slot, its floor on the next slot, and what its last entry made it say
+-- of each disk the counters in its heartbeat area, or nothing
+abbrev pub Readings : Type 0
+Readings = List (Option (List ℕ))
+
+-- what the last beat that ended well read, and what the beat under way has heard
+pub record Beats : Type 0 where
+  pub readings : Option Readings
+  pub heard : Option (List beat_answers.Answered)
+
+-- a running host: the commands that it has learned, by slot, its floor on the next slot, what its last entry made it say, and
+-- its beats
 pub record Memory : Type 0 where
   pub learned : List Command
   pub floor : ℕ
   pub doing : Option Doing
   pub said : Option HostAnswer
+  pub beats : Beats
 
 pub data Host : Type 0 where
   Stopped : Host
@@ -47,20 +61,20 @@ pub data Host : Type 0 where
 
 -- at its start a host knows nothing
 abbrev pub fresh : Memory
-fresh = record { learned = []; floor = 0; doing = None; said = None }
+fresh = record { learned = []; floor = 0; doing = None; said = None; beats = record { readings = None; heard = None } }
 
 abbrev pub says : Memory → HostAnswer → Memory
-says m said = record { learned = m.learned; floor = m.floor; doing = None; said = Some said }
+says m said = record { learned = m.learned; floor = m.floor; doing = None; said = Some said; beats = m.beats }
 
 abbrev pub does : Memory → Doing → Memory
-does m t = record { learned = m.learned; floor = m.floor; doing = Some t; said = None }
+does m t = record { learned = m.learned; floor = m.floor; doing = Some t; said = None; beats = m.beats }
 
 -- a ballot of the next slot counts from now on
 abbrev pub with_floor : Memory → ℕ → Memory
-with_floor m ballot = record { learned = m.learned; floor = max m.floor ballot; doing = None; said = None }
+with_floor m ballot = record { learned = m.learned; floor = max m.floor ballot; doing = None; said = None; beats = m.beats }
 
 abbrev pub learns : Memory → Command → Memory
-learns m command = record { learned = m.learned ++ command ∷ []; floor = 0; doing = None; said = None }
+learns m command = record { learned = m.learned ++ command ∷ []; floor = 0; doing = None; said = None; beats = m.beats }
 
 -- AN OPERATION GOES ON
 
@@ -129,17 +143,66 @@ abbrev pub hears : Shape → ℕ → Memory → Option Doing → Answered → Me
 hears c h m None x = m
 hears c h m (Some t) x = goes_by c m (with_heard t x) (setup_of c h m t.operation)
 
+-- A BEAT
+
+-- a host beats on all disks
+abbrev pub beat_of : Shape → ℕ → beat.Setup
+beat_of c h = record { host = h; disks = c.disks }
+
+-- its beats have come to this, and it says that; what it has learned stays
+abbrev pub with_beats : Memory → Beats → Option HostAnswer → Memory
+with_beats m beats said = record { learned = m.learned; floor = m.floor; doing = None; said = said; beats = beats }
+
+-- a beat begins
+abbrev pub starts_beat : Memory → Memory
+starts_beat m = with_beats m (record { readings = m.beats.readings; heard = Some [] }) None
+
+-- the host that two readings suggest; the host itself where there was none before
+abbrev pub suggested : ℕ → Option Readings → Readings → ℕ
+suggested h None after = h
+suggested h (Some before) after = suggestion before after h
+
+-- a beat has ended; without a majority it leaves no readings, and those before stand
+abbrev pub beat_ended : ℕ → Memory → beat.End → Memory
+beat_ended h m (beat.Beaten readings) = with_beats m (record { readings = Some readings; heard = None }) (Some (Beaten (suggested h m.beats.readings readings)))
+beat_ended h m beat.NoMajority = with_beats m (record { readings = m.beats.readings; heard = None }) (Some (Refused refusal.NoMajority))
+
+abbrev pub beat_by : ℕ → Memory → List beat_answers.Answered → beat.Status → Memory
+beat_by h m heard (beat.Due disk) = with_beats m (record { readings = m.beats.readings; heard = Some heard }) None
+beat_by h m heard (beat.Ended end) = beat_ended h m end
+
+-- the beat under way hears one more answer
+abbrev pub hears_beat : Shape → ℕ → Memory → Option (List beat_answers.Answered) → beat_answers.Answered → Memory
+hears_beat c h m None x = m
+hears_beat c h m (Some heard) x = beat_by h m (heard ++ x ∷ []) (beat.status (beat_of c h) (beat_answers.on (heard ++ x ∷ [])))
+
+-- A DISK ANSWERS
+
+-- the attempt under way hears it, or else the beat
+abbrev pub hears_from : Shape → ℕ → Memory → Option Doing → ℕ → device.Answer → Memory
+hears_from c h m None d answer = hears_beat c h m m.beats.heard (record { disk = d; heard = beat_answers.heard_as answer })
+hears_from c h m (Some t) d answer = hears c h m (Some t) (record { disk = d; heard = heard_as answer })
+
 -- WHAT A HOST DOES NEXT
 
-abbrev pub is_idle_in : Option Doing → Bool
-is_idle_in None = true
-is_idle_in (Some t) = false
+abbrev pub rests : Option (List beat_answers.Answered) → Bool
+rests None = true
+rests (Some heard) = false
+
+-- neither an attempt nor a beat is under way
+abbrev pub is_idle_in : Memory → Option Doing → Bool
+is_idle_in m None = rests m.beats.heard
+is_idle_in m (Some t) = false
 
 abbrev pub is_idle : Memory → Bool
-is_idle m = is_idle_in m.doing
+is_idle m = is_idle_in m m.doing
+
+abbrev pub next_beat : Shape → ℕ → Option (List beat_answers.Answered) → Option (ℕ × device.Call)
+next_beat c h None = None
+next_beat c h (Some heard) = beat.next_call (beat_of c h) (beat_answers.on heard)
 
 abbrev pub next_doing : Shape → ℕ → Memory → Option Doing → Option (ℕ × device.Call)
-next_doing c h m None = None
+next_doing c h m None = next_beat c h m.beats.heard
 next_doing c h m (Some t) = next_call (setup_of c h m t.operation) (on t.heard)
 
 -- the disk and the device call that are due

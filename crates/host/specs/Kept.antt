@@ -1,11 +1,14 @@
 -- What a host keeps, and when that is what follows from its operations and answers.
-use Rattle.std.specs.Prelude.{◌≡◌, ℕ, Bool, List, [], ◌∷◌, map, Option, Some, None}
+use Rattle.std.specs.Prelude.{◌≡◌, ◌&&◌, ℕ, Bool, true, false, List, [], ◌∷◌, map, take, Option, Some, None}
 use Rattle.std.specs.Option.{option_map}
 use Rattle.disk.specs.Disk as device
 use Rattle.lock_command.specs.declared.command.Command.{Command}
 use Rattle.lock_command.specs.Command.{spelling}
 use Rattle.lock_table.specs.declared.reply.Reply.{Reply}
 use Rattle.slot_log.specs.Shape.{Shape}
+use Rattle.beats.specs.Answers as beat_answers
+use Rattle.beats.specs.Kept as beat_kept
+use Rattle.beats.specs.declared.notes.Notes.{Notes}
 use Rattle.slot_log.specs.Kept as learners
 use Rattle.slot_log.specs.Learning as log
 use Rattle.slot_log.specs.declared.operation.Operation as log_operation
@@ -13,22 +16,44 @@ use Rattle.slot_log.specs.declared.operation.Operation.TheVariants as operation
 use Rattle.slot_log.specs.declared.outcome.Outcome as log_outcome
 use Rattle.slot_log.specs.declared.outcome.Outcome.TheVariants as outcome
 use Rattle.host.specs.declared.answer.HostAnswer.{HostAnswer}
-use Rattle.host.specs.declared.answer.HostAnswer.TheVariants.{Ack, Recovered, Refused}
-use Rattle.host.specs.Host.{Operation, Submitting, Recovering, Doing, Memory}
+use Rattle.host.specs.declared.answer.HostAnswer.TheVariants.{Ack, Recovered, Beaten, Refused}
+use Rattle.host.specs.Host.{Operation, Submitting, Recovering, Doing, Memory, Readings, beat_of}
 
--- its learner, the commands learned, and what the last entry made it say
+-- its learner, the commands learned, what the last entry made it say, the beat under way, and what the last beat that ended
+-- well read
 pub record Kept : Type 0 where
   pub learner : learners.Kept
   pub prefix : List Command
   pub said : Option HostAnswer
+  pub beat : Option Notes
+  pub readings : Option Readings
+
+abbrev pub rests : Option Notes → Bool
+rests None = true
+rests (Some notes) = false
 
 -- no operation is under way
 abbrev pub is_idle : Kept → Bool
-is_idle k = learners.is_idle k.learner
+is_idle k = learners.is_idle k.learner && rests k.beat
+
+abbrev pub due_in : learners.Kept → Option Notes → ℕ × device.Call
+due_in learner None = learners.due_call learner
+due_in learner (Some notes) = beat_kept.call_due notes
 
 -- the disk and the device call that are due, where an operation is under way
 abbrev pub due_call : Kept → ℕ × device.Call
-due_call k = learners.due_call k.learner
+due_call k = due_in k.learner k.beat
+
+-- a beat is under way of the same host and on the same disks, while the learner is idle
+pub record IsAlone (learner : learners.Kept) (notes : Notes) : Type 0 where
+  pub idle : learners.is_idle learner ≡ true
+  pub going : notes.end ≡ None
+  pub is_host : notes.host ≡ learner.host
+  pub as_many : notes.disks ≡ learner.shape.disks
+
+abbrev pub IsOneAtATime : learners.Kept → Option Notes → Type 0
+IsOneAtATime learner None = Unit {0}
+IsOneAtATime learner (Some notes) = IsAlone learner notes
 
 -- what there is, as a list
 abbrev pub option_list : {A : Type 0} → Option A → List A
@@ -41,17 +66,22 @@ abbrev pub operation_of : Operation → log_operation.Operation
 operation_of (Submitting command) = operation.Placing (spelling command)
 operation_of Recovering = operation.Recovering
 
-abbrev pub outcome_of : HostAnswer → log_outcome.Outcome
-outcome_of (Ack slot reply) = outcome.Placed slot
-outcome_of (Recovered length) = outcome.Recovered length
-outcome_of (Refused refusal) = outcome.Refused refusal
+abbrev pub outcome_in : Option HostAnswer → Option log_outcome.Outcome
+outcome_in None = None
+outcome_in (Some (Ack slot reply)) = Some (outcome.Placed slot)
+outcome_in (Some (Recovered length)) = Some (outcome.Recovered length)
+outcome_in (Some (Beaten host)) = None
+outcome_in (Some (Refused refusal)) = Some (outcome.Refused refusal)
 
 abbrev pub doing_of : Doing → log.Doing
 doing_of t = record { operation = operation_of t.operation; tries = t.tries; heard = t.heard }
 
--- what a host knows, as its learner does
+-- what a host knows, as its learner does, which told this last
+abbrev pub values_with : Option log_outcome.Outcome → Memory → log.Memory
+values_with told m = record { learned = map spelling m.learned; floor = m.floor; doing = option_map doing_of m.doing; said = told }
+
 abbrev pub values_of : Memory → log.Memory
-values_of m = record { learned = map spelling m.learned; floor = m.floor; doing = option_map doing_of m.doing; said = option_map outcome_of m.said }
+values_of m = values_with (outcome_in m.said) m
 
 -- the answer that an outcome is, with the reply to the command that was learned with it
 abbrev pub answer_of : Option log_outcome.Outcome → Option Reply → Option HostAnswer
@@ -61,10 +91,26 @@ answer_of (Some (outcome.Placed slot)) (Some reply) = Some (Ack slot reply)
 answer_of (Some (outcome.Recovered length)) reply = Some (Recovered length)
 answer_of (Some (outcome.Refused refusal)) reply = Some (Refused refusal)
 
+-- no command is acknowledged
+abbrev pub AcknowledgesNone : Option HostAnswer → Type 0
+AcknowledgesNone None = Unit {0}
+AcknowledgesNone (Some (Ack slot reply)) = ⊥
+AcknowledgesNone (Some (Recovered length)) = Unit {0}
+AcknowledgesNone (Some (Beaten host)) = Unit {0}
+AcknowledgesNone (Some (Refused refusal)) = Unit {0}
+
 -- WHAT FOLLOWS
+
+-- the same beat, if any, which has heard this
+abbrev pub IsBeating : Shape → ℕ → Option (List beat_answers.Answered) → Option Notes → Type 0
+IsBeating c h None None = Unit {0}
+IsBeating c h (Some heard) (Some notes) = beat_kept.LeadsTo (beat_of c h) heard notes
+IsBeating c h heard notes = ⊥
 
 -- What is known leads to this: it is what the host keeps.
 pub record LeadsTo (c : Shape) (h : ℕ) (m : Memory) (k : Kept) : Type 0 where
-  pub learner : learners.LeadsTo c h (values_of m) k.learner
+  pub learner : learners.LeadsTo c h (values_with k.learner.said m) k.learner
   pub prefix : k.prefix ≡ m.learned
   pub said : k.said ≡ m.said
+  pub readings : option_map (take c.disks) k.readings ≡ m.beats.readings
+  pub beat : IsBeating c h m.beats.heard k.beat

@@ -8,6 +8,8 @@ pub enum HostAnswer {
     Ack { slot: u16, reply: Reply },
     /// So many commands are learned, and they were all.
     Recovered { length: u16 },
+    /// A beat ended well, and suggests this host.
+    Beaten { host: u8 },
     Refused(Refusal),
 }
 

@@ -1,4 +1,4 @@
-ghost use Rattle.std.specs.Prelude.{◌≡◌, ◌≤◌, ◌<◌, ◌++◌, ◌∷◌, [], ℕ, true, false, IfOk, Option, Some, None, is_some, vec_len, vec_capacity};
+ghost use Rattle.std.specs.Prelude.{◌≡◌, ◌≤◌, ◌<◌, ◌++◌, ◌∷◌, [], ℕ, true, false, IfOk, Option, Some, None, is_some, take, vec_len, vec_capacity};
 ghost use Rattle.std.specs.Option.{option_map};
 ghost use Rattle.paxos_block.specs.Places.{image_length};
 ghost use Rattle.attempt.specs.History.{Fits};
@@ -11,17 +11,20 @@ ghost use Rattle.slot_log.specs.Kept as learners;
 ghost use Rattle.slot_log.specs.Kept.{offered_of};
 ghost use Rattle.slot_log.specs.Learning as log;
 ghost use Rattle.slot_log.specs.Shape.{Shape};
-ghost use Rattle.host.specs.Alone.{IsAnsweredAlone};
-ghost use Rattle.host.specs.Host.{Memory, Submitting, Recovering, fresh, goes_on, hears, is_idle_in, next_in, reply_after};
-ghost use Rattle.host.specs.Kept.{Kept, LeadsTo, is_idle, due_call, option_list};
+ghost use Rattle.host.specs.Alone.{IsAnsweredAlone, IsWithinNine};
+ghost use Rattle.beats.specs.Calls.{device_answer};
+ghost use Rattle.host.specs.Host.{Memory, Submitting, Recovering, fresh, goes_on, hears, hears_from, starts_beat, suggested, is_idle_in, next_in, reply_after};
+ghost use Rattle.host.specs.Kept.{Kept, LeadsTo, AcknowledgesNone, is_idle, due_call, option_list};
 
 use crate::answer::HostAnswer;
+use beats::{Beat, End, Readings};
 use disk::NoMemory;
+use heartbeat::suggest;
 use lock_command::{Command, HostNumber, decode};
 use lock_table::{Reply, Table};
 use paxos_block::Value;
 use phases::{Heard, Need};
-use slot_log::{Config, Learner, Outcome};
+use slot_log::{Config, Learner, Outcome, Refusal};
 use std::alloc::Global;
 use std::marker::Model;
 
@@ -31,30 +34,38 @@ use std::marker::Model;
 #[derive(Drop)]
 pub struct HostCore {
     host: HostNumber,
+    config: Config,
     learner: Learner,
     prefix: Vec<Command>,
     table: Table,
     said: Option<HostAnswer>,
+    beat: Option<Beat>,
+    /// Of the last beat that ended well.
+    readings: Option<Readings>,
 }
 
 impl Model for HostCore {
     ghost use Rattle.std.specs.Prelude.{◌≡◌, ◌≤◌, None, map, vec_capacity};
+    ghost use Rattle.torn_block.specs.declared.layout.TheConstants.{DISKS};
     ghost use Rattle.lock_command.specs.Command.{spelling};
     ghost use Rattle.lock_table.specs.Apply.{table_after};
     ghost use Rattle.lock_table.specs.Picture.{IsPictureOf};
     ghost use Rattle.slot_log.specs.Kept.{offered_of};
-    ghost use Rattle.host.specs.Kept.{Kept};
+    ghost use Rattle.host.specs.Kept.{Kept, IsOneAtATime};
 
     ghost Value = { Kept };
 
-    ghost view = { λ core. record { learner = core.learner; prefix = core.prefix.items; said = core.said } };
+    ghost view = { λ core. record { learner = core.learner; prefix = core.prefix.items; said = core.said; beat = core.beat; readings = core.readings } };
 
     ghost invariant = { λ core. record {
       host : core.learner.host ≡ core.host;
+      config : core.learner.shape ≡ core.config;
+      few : core.config.disks ≤ DISKS;
       judged : offered_of core.learner ≡ None;
       prefix : core.learner.learned ≡ map spelling core.prefix.items;
       room : core.learner.shape.slots ≤ vec_capacity core.prefix;
       table : IsPictureOf core.table (table_after core.prefix.items);
+      beat : IsOneAtATime core.learner core.beat;
     } };
 }
 
@@ -71,20 +82,23 @@ impl HostCore {
         };
         Ok(HostCore {
             host,
+            config,
             learner,
             prefix,
             table,
             said: None,
+            beat: None,
+            readings: None,
         })
     }
 
     /// Whether an operation may begin.
     pub fn idle(&self) -> bool
         ensures known { (c : Shape) (h : ℕ) (m : Memory) → LeadsTo c h m self.now →
-            result ≡ is_idle_in m.doing }
+            result ≡ is_idle_in m m.doing }
         ensures idle { result ≡ is_idle self.now }
     {
-        self.learner.idle()
+        self.learner.idle() && self.beat.is_none()
     }
 
     /// The host's number.
@@ -145,6 +159,16 @@ impl HostCore {
         self.said = HostAnswer::of(self.learner.said(), None);
     }
 
+    /// Begins a beat: this host's heartbeat blocks get their next sequence numbers, and the counters of all hosts are read.
+    pub fn beat(&mut self)
+        requires idle { is_idle self.old ≡ true }
+        ensures { (c : Shape) (h : ℕ) (m : Memory) → LeadsTo c h m self.old →
+            LeadsTo c h (starts_beat m) self.new }
+    {
+        self.beat = Some(Beat::new(self.host.get(), self.config.disks()));
+        self.said = None;
+    }
+
     /// The device call that is due.
     pub fn call(&self) -> Need<'_>
         requires { is_idle self.now ≡ false }
@@ -154,7 +178,10 @@ impl HostCore {
         ensures range { IsWithin (image_length self.now.learner.shape.slots) result.call }
         ensures disk { result.disk < self.now.learner.shape.disks }
     {
-        self.learner.call()
+        match &self.beat {
+            Some(beat) => beat.call(),
+            None => self.learner.call(),
+        }
     }
 
     /// Hears the answer to the call that is due.
@@ -162,10 +189,33 @@ impl HostCore {
         requires busy { is_idle self.old ≡ false }
         requires fits { Fits (due_call self.old).1 (heard_of heard.now) }
         ensures leads { (c : Shape) (h : ℕ) (m : Memory) → LeadsTo c h m self.old →
-            LeadsTo c h (hears c h m m.doing (record { disk = (due_call self.old).0; heard = heard_of heard.now })) self.new }
+            LeadsTo c h (hears_from c h m m.doing (due_call self.old).0 (device_answer heard.now)) self.new }
         // By Committed, Empty or BallotsSpent within 17 calls a disk, if no other host makes a call on the slot meanwhile.
         ensures alone { (c : Shape) (h : ℕ) (m : Memory) → LeadsTo c h m self.old →
             IsAnsweredAlone c h m m.doing (record { disk = (due_call self.old).0; heard = heard_of heard.now }) }
+        // With this answer a beat has heard at most nine a disk, and it acknowledges nothing.
+        ensures nine { (c : Shape) (h : ℕ) (m : Memory) → LeadsTo c h m self.old →
+            IsWithinNine c m.beats.heard }
+        ensures silent { is_some self.old.beat ≡ true → AcknowledgesNone self.new.said }
+    {
+        if self.beat.is_none() {
+            self.hear_attempt(heard);
+        } else {
+            self.hear_beat(heard);
+        }
+    }
+
+    // The attempt under way hears the answer.
+    fn hear_attempt(&mut self, heard: &Heard<'_>)
+        requires resting { self.old.beat ≡ None }
+        requires busy { is_idle self.old ≡ false }
+        requires fits { Fits (due_call self.old).1 (heard_of heard.now) }
+        ensures leads { (c : Shape) (h : ℕ) (m : Memory) → LeadsTo c h m self.old →
+            LeadsTo c h (hears c h m m.doing (record { disk = (due_call self.old).0; heard = heard_of heard.now })) self.new }
+        ensures alone { (c : Shape) (h : ℕ) (m : Memory) → LeadsTo c h m self.old →
+            IsAnsweredAlone c h m m.doing (record { disk = (due_call self.old).0; heard = heard_of heard.now }) }
+        // No beat hears it.
+        ensures tries { (c : Shape) (h : ℕ) (m : Memory) → LeadsTo c h m self.old → is_some m.doing ≡ true }
     {
         self.learner.hear(heard);
         let Some(value) = self.learner.offered() else {
@@ -174,6 +224,51 @@ impl HostCore {
         };
         let reply = judge(&mut self.learner, &mut self.prefix, &mut self.table, &value);
         self.said = HostAnswer::of(self.learner.said(), reply);
+    }
+
+    // The beat under way hears the answer.
+    fn hear_beat(&mut self, heard: &Heard<'_>)
+        requires beats { is_some self.old.beat ≡ true }
+        requires fits { Fits (due_call self.old).1 (heard_of heard.now) }
+        ensures leads { (c : Shape) (h : ℕ) (m : Memory) → LeadsTo c h m self.old →
+            LeadsTo c h (hears_from c h m m.doing (due_call self.old).0 (device_answer heard.now)) self.new }
+        ensures nine { (c : Shape) (h : ℕ) (m : Memory) → LeadsTo c h m self.old →
+            IsWithinNine c m.beats.heard }
+        ensures silent { AcknowledgesNone self.new.said }
+        // No attempt hears it.
+        ensures rests { (c : Shape) (h : ℕ) (m : Memory) → LeadsTo c h m self.old → m.doing ≡ None }
+    {
+        let Some(beat) = &mut self.beat else {
+            return;
+        };
+        beat.hear(heard);
+        match beat.end() {
+            None => self.said = None,
+            Some(End::NoMajority) => {
+                self.said = Some(HostAnswer::Refused(Refusal::NoMajority));
+                self.beat = None;
+            }
+            Some(End::Beaten) => {
+                let after = beat.readings();
+                self.beat = None;
+                let host = self.suggested(&after);
+                self.readings = Some(after);
+                self.said = Some(HostAnswer::Beaten { host });
+            }
+        }
+    }
+
+    // The host that these readings suggest after those of the last beat that ended well.
+    fn suggested(&self, after: &Readings) -> u8
+        ensures { result ≡ suggested self.now.learner.host
+            (option_map (take self.now.learner.shape.disks) self.now.readings)
+            (take self.now.learner.shape.disks after.now) }
+    {
+        let disks = usize::from(self.config.disks());
+        match &self.readings {
+            None => self.host.get(),
+            Some(before) => suggest(&before[..disks], &after[..disks], self.host.get()),
+        }
     }
 
     /// Stops the host. What it knew is gone.

@@ -8,7 +8,7 @@ use Rattle.std.proofs.lemmas.Grind.{flat_map-append}
 use Rattle.torn_block.specs.declared.layout.TheConstants.{DISKS}
 use Rattle.slot_log.specs.Shape.{Shape}
 use Rattle.lock_script.specs.declared.event.Event.{Event}
-use Rattle.lock_script.specs.declared.event.Event.TheVariants.{Start, Stop, Submit, Recover, Step, Tear, FailCall, DiskCrash, DiskGone}
+use Rattle.lock_script.specs.declared.event.Event.TheVariants.{Start, Stop, Submit, Recover, Beat, Step, Tear, FailCall, DiskCrash, DiskGone}
 use Rattle.lock_script.specs.declared.line.Line.{Line}
 use Rattle.lock_script.specs.declared.line.Line.TheVariants.{Cluster, Once, Steps, Show}
 use Rattle.lock_script.specs.declared.show.Show as shown
@@ -28,6 +28,7 @@ on_some_disk disks (Start host) few fits = fits
 on_some_disk disks (Stop host) few fits = fits
 on_some_disk disks (Submit command tries) few fits = fits
 on_some_disk disks (Recover host tries) few fits = fits
+on_some_disk disks (Beat host) few fits = fits
 on_some_disk disks (Step host) few fits = fits
 on_some_disk disks (Tear host given) few fits = fits
 on_some_disk disks (FailCall host given) few fits = fits
@@ -39,6 +40,7 @@ on_a_disk_of disks (Start host) fits on = fits
 on_a_disk_of disks (Stop host) fits on = fits
 on_a_disk_of disks (Submit command tries) fits on = fits
 on_a_disk_of disks (Recover host tries) fits on = fits
+on_a_disk_of disks (Beat host) fits on = fits
 on_a_disk_of disks (Step host) fits on = fits
 on_a_disk_of disks (Tear host given) fits on = fits
 on_a_disk_of disks (FailCall host given) fits on = fits
@@ -50,6 +52,7 @@ is_on_its_disk disks (Start host) fits = refl
 is_on_its_disk disks (Stop host) fits = refl
 is_on_its_disk disks (Submit command tries) fits = refl
 is_on_its_disk disks (Recover host tries) fits = refl
+is_on_its_disk disks (Beat host) fits = refl
 is_on_its_disk disks (Step host) fits = refl
 is_on_its_disk disks (Tear host given) fits = refl
 is_on_its_disk disks (FailCall host given) fits = refl

@@ -4,7 +4,7 @@ use Rattle.std.specs.Option.{is_none}
 use Rattle.slot_log.specs.Shape.{Shape}
 use Rattle.lock_command.specs.Reading.{◌>>=◌, passed}
 use Rattle.lock_script.specs.declared.event.Event.{Event}
-use Rattle.lock_script.specs.declared.event.Event.TheVariants.{Start, Stop, Submit, Recover, Step, Tear, FailCall, DiskCrash, DiskGone}
+use Rattle.lock_script.specs.declared.event.Event.TheVariants.{Start, Stop, Submit, Recover, Beat, Step, Tear, FailCall, DiskCrash, DiskGone}
 use Rattle.lock_script.specs.declared.line.Line.{Line}
 use Rattle.lock_script.specs.declared.line.Line.TheVariants.{Cluster, Once, Steps, Show}
 use Rattle.lock_script.specs.declared.show.Show as shown
@@ -28,6 +28,7 @@ is_on_disk_of disks (Start host) = true
 is_on_disk_of disks (Stop host) = true
 is_on_disk_of disks (Submit command tries) = true
 is_on_disk_of disks (Recover host tries) = true
+is_on_disk_of disks (Beat host) = true
 is_on_disk_of disks (Step host) = true
 is_on_disk_of disks (Tear host given) = true
 is_on_disk_of disks (FailCall host given) = true

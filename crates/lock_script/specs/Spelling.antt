@@ -10,7 +10,7 @@ use Rattle.lock_command.specs.declared.command.Action.TheVariants.{Enqueue, Conv
 use Rattle.lock_command.specs.Command.{Fits as FitsCommand}
 use Rattle.slot_log.specs.Shape.{Shape}
 use Rattle.lock_script.specs.declared.event.Event.{Event}
-use Rattle.lock_script.specs.declared.event.Event.TheVariants.{Start, Stop, Submit, Recover, Step, Tear, FailCall, DiskCrash, DiskGone}
+use Rattle.lock_script.specs.declared.event.Event.TheVariants.{Start, Stop, Submit, Recover, Beat, Step, Tear, FailCall, DiskCrash, DiskGone}
 use Rattle.lock_script.specs.declared.line.Line.{Line}
 use Rattle.lock_script.specs.declared.show.View.{View}
 use Rattle.lock_script.specs.declared.show.View.TheVariants.{Queues, Blocking}
@@ -71,6 +71,7 @@ event_words (Start host) = codes "start" ∷ decimal host ∷ []
 event_words (Stop host) = codes "stop" ∷ decimal host ∷ []
 event_words (Submit command tries) = codes "submit" ∷ decimal command.host ∷ decimal tries ∷ command_words command
 event_words (Recover host tries) = codes "recover" ∷ decimal host ∷ decimal tries ∷ []
+event_words (Beat host) = codes "beat" ∷ decimal host ∷ []
 event_words (Step host) = codes "step" ∷ decimal host ∷ []
 event_words (Tear host given) = codes "tear" ∷ decimal host ∷ hex_word given ∷ []
 event_words (FailCall host given) = codes "fail" ∷ decimal host ∷ hex_word given ∷ []
@@ -92,6 +93,7 @@ FitsEvent disks (Start host) = host < HOSTS
 FitsEvent disks (Stop host) = host < HOSTS
 FitsEvent disks (Submit command tries) = FitsCommand command × IsTries tries
 FitsEvent disks (Recover host tries) = (host < HOSTS) × IsTries tries
+FitsEvent disks (Beat host) = host < HOSTS
 FitsEvent disks (Step host) = host < HOSTS
 FitsEvent disks (Tear host given) = (host < HOSTS) × AreGiven given
 FitsEvent disks (FailCall host given) = (host < HOSTS) × AreGiven given

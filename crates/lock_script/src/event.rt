@@ -15,6 +15,8 @@ pub enum Event {
     Submit { command: Command, tries: u8 },
     /// An idle host begins to learn all that is in the log.
     Recover { host: HostNumber, tries: u8 },
+    /// An idle host begins to write its next heartbeat and to read those of all hosts.
+    Beat(HostNumber),
     /// A busy host makes its next device call, which does not fail.
     Step(HostNumber),
     /// A busy host stops within its next call, if that is a write: its range takes the given bytes.
@@ -43,6 +45,7 @@ impl Event {
                 host: *host,
                 tries: *tries,
             },
+            Event::Beat(host) => Event::Beat(*host),
             Event::Step(host) => Event::Step(*host),
             Event::Tear { host, given } => Event::Tear {
                 host: *host,

@@ -2,7 +2,7 @@ use crate::{Event, Run, ScriptFault, View, read_script};
 use std::test::Fail;
 
 /// Lines that may stand behind `cluster 3 16`, each with the events that it brings.
-const GOOD: [(&[u8], usize); 25] = [
+const GOOD: [(&[u8], usize); 26] = [
     (b"start 0", 1),
     (b"stop 7", 1),
     (b"submit 0 1 enqueue 1 1 1 EX db", 1),
@@ -18,6 +18,7 @@ const GOOD: [(&[u8], usize); 25] = [
     (b"submit 0 1 status 1 2 3", 1),
     (b"submit 0 1 purge 1 2 7", 1),
     (b"recover 0 255", 1),
+    (b"beat 7", 1),
     (b"step 0", 1),
     (b"step 0 1", 1),
     (b"step 0 100000", 100_000),
@@ -34,7 +35,7 @@ const GOOD: [(&[u8], usize); 25] = [
 ];
 
 /// Lines that may not stand there.
-const BAD: [&[u8]; 48] = [
+const BAD: [&[u8]; 50] = [
     b"start 8",
     b"start 00",
     b"start 01",
@@ -54,7 +55,9 @@ const BAD: [&[u8]; 48] = [
     b" ",
     b" # start 0",
     b"cluster 3 16",
-    b"beat 0",
+    b"beat",
+    b"beat 8",
+    b"beat 0 1",
     b"blocking 8",
     b"step 0 0",
     b"step 0 100001",

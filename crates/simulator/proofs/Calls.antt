@@ -11,16 +11,17 @@ use Rattle.disk.specs.Simulated.{SimState, refusal_of, crashed}
 use Rattle.paxos_block.specs.Places.{image_length}
 use Rattle.torn_block.specs.declared.layout.TheConstants.{HOSTS}
 use Rattle.slot_log.specs.Shape.{Shape}
-use Rattle.attempt.specs.Answers.{heard_as}
-use Rattle.host.specs.Host.{Host, Running, Memory, hears, Doing, is_idle_in, next_in, next_of, next_doing}
+use Rattle.beats.specs.Answers.{Answered}
+use Rattle.host.specs.Host.{Host, Running, Memory, hears_from, Doing, is_idle_in, rests, next_in, next_of, next_doing, next_beat}
 use Rattle.host.specs.Kept as hosts
+use Rattle.host.proofs.Hosts.{idle_is}
 use Rattle.world.specs.Entry.{Filled, Called, Torn, Crashed, Lost, disk_step, host_step, called_by}
 use Rattle.world.specs.World.{World, world}
 use Rattle.world.specs.Happens.{Step, Tear, FailCall, DiskCrash, DiskGone, brings_if, are_some, has_disk, answer_of, taken_by, stepped, failed_by, failed, torn_by, torn, entry_of}
 use Rattle.simulator.specs.Calls.{is_write}
 use Rattle.simulator.specs.Kept.{Kept, calm, is_busy, IsHost, LeadsTo, Brings}
 use Rattle.simulator.proofs.Changes.{nothing, something}
-use Rattle.simulator.proofs.Shown.{saying, by_disk, by_both, says_by, says_nothing_by, idle_is, sized_set}
+use Rattle.simulator.proofs.Shown.{saying, by_disk, by_both, says_by, says_nothing_by, sized_set}
 use Rattle.simulator.proofs.Events.{self_eq, stopped_at, running_at}
 
 -- one given byte is enough
@@ -29,8 +30,12 @@ some_given given some = lt-ltb 0 (length given) some
 
 module _ (log : List Filled) (old : Kept) (leads : LeadsTo log old) where
   -- an idle host has no call
-  no_doing : (c : Shape) (h : ℕ) (m : Memory) (o : Option Doing) → is_idle_in o ≡ true → next_doing c h m o ≡ None
-  no_doing c h m None is = refl
+  no_beat : (c : Shape) (h : ℕ) (o : Option (List Answered)) → rests o ≡ true → next_beat c h o ≡ None
+  no_beat c h None is = refl
+  no_beat c h (Some heard) is = absurd (cc)
+
+  no_doing : (c : Shape) (h : ℕ) (m : Memory) (o : Option Doing) → is_idle_in m o ≡ true → next_doing c h m o ≡ None
+  no_doing c h m None is = no_beat c h m.beats.heard is
   no_doing c h m (Some t) is = absurd (cc)
 
   not_true : (b : Bool) → not b ≡ false → b ≡ true
@@ -92,16 +97,16 @@ module _ (log : List Filled) (old : Kept) (leads : LeadsTo log old) where
         → there ≡ record x { disk = called_by x.disk call (answer_of x.disk call) [] }
         → length there.disk.bytes ≡ length x.disk.bytes
         → ((c : Shape) (g : ℕ) (m : Memory) → hosts.LeadsTo c g m core
-        → hosts.LeadsTo c g (hears c g m m.doing (record { disk = k; heard = heard_as (answer_of x.disk call) })) new)
+        → hosts.LeadsTo c g (hears_from c g m m.doing k (answer_of x.disk call)) new)
         → Brings log (Step h) old (record { shape = old.shape; disks = set old.disks k there; hosts = set old.hosts h (Some new) }) (saying h new.said)
     steps there new is_there as_long hears_then =
         let w = world old.shape log in
         let a = answer_of (w.disk k) call in
         let e : Filled = Called h k call a [] in
         let r = running_at log old leads h core is in
-        let m : Memory = hears old.shape h r.0 r.0.doing (record { disk = k; heard = heard_as a }) in
+        let m : Memory = hears_from old.shape h r.0 r.0.doing k a in
         let heard : hosts.LeadsTo old.shape h m new = subst
-        (λ (d : DiskState). hosts.LeadsTo old.shape h (hears old.shape h r.0 r.0.doing (record { disk = k; heard = heard_as (answer_of d call) })) new) same_disk
+        (λ (d : DiskState). hosts.LeadsTo old.shape h (hears_from old.shape h r.0 r.0.doing k (answer_of d call)) new) same_disk
         (hears_then old.shape h r.0 r.2) in
         let host : host_step old.shape h (w.host h) e ≡ Running m = ap (λ (y : Host). host_step old.shape h y e) r.1 in
         something log old leads (Step h) e (record { shape = old.shape; disks = set old.disks k there; hosts = set old.hosts h (Some new) }) (saying h new.said)
@@ -123,13 +128,13 @@ module _ (log : List Filled) (old : Kept) (leads : LeadsTo log old) where
     pub fails : (given : List ℕ) (there : SimState) (new : hosts.Kept) → 0 < length given → refusal_of x.disk call ≡ None
         → there ≡ record x { disk = called_by x.disk call (Fault Failed) (taken_by call given) }
         → length there.disk.bytes ≡ length x.disk.bytes
-        → ((c : Shape) (g : ℕ) (m : Memory) → hosts.LeadsTo c g m core → hosts.LeadsTo c g (hears c g m m.doing (record { disk = k; heard = heard_as (Fault Failed) })) new)
+        → ((c : Shape) (g : ℕ) (m : Memory) → hosts.LeadsTo c g m core → hosts.LeadsTo c g (hears_from c g m m.doing k (Fault Failed)) new)
         → Brings log (FailCall h given) old (record { shape = old.shape; disks = set old.disks k there; hosts = set old.hosts h (Some new) }) (saying h new.said)
     fails given there new some clear is_there as_long hears_then =
         let w = world old.shape log in
         let e : Filled = Called h k call (Fault Failed) (taken_by call given) in
         let r = running_at log old leads h core is in
-        let m : Memory = hears old.shape h r.0 r.0.doing (record { disk = k; heard = heard_as (Fault Failed) }) in
+        let m : Memory = hears_from old.shape h r.0 r.0.doing k (Fault Failed) in
         let heard : hosts.LeadsTo old.shape h m new = hears_then old.shape h r.0 r.2 in
         let host : host_step old.shape h (w.host h) e ≡ Running m = ap (λ (y : Host). host_step old.shape h y e) r.1 in
         something log old leads (FailCall h given) e (record { shape = old.shape; disks = set old.disks k there; hosts = set old.hosts h (Some new) }) (saying h new.said)

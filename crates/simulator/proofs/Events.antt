@@ -9,19 +9,20 @@ use Rattle.slot_log.specs.Shape.{Shape}
 use Rattle.lock_command.specs.declared.command.Command.{Command}
 use Rattle.lock_command.specs.Command.{spelling, Fits as FitsCommand}
 use Rattle.lock_command.specs.Reading.{decoded}
-use Rattle.host.specs.Host.{Host, Stopped, Running, Memory, Submitting, Recovering, fresh, goes_on, idles, is_stopped}
+use Rattle.host.specs.Host.{Host, Stopped, Running, Memory, Submitting, Recovering, fresh, goes_on, starts_beat, idles, is_stopped}
 use Rattle.host.specs.Kept as hosts
+use Rattle.host.proofs.Hosts.{idle_is}
 use Rattle.world.specs.Entry as entries
-use Rattle.world.specs.Entry.{Filled, Called, Torn, Crashed, Lost, is_on, is_of, disk_step, host_step, started}
+use Rattle.world.specs.Entry.{Filled, Called, Torn, Crashed, Lost, is_on, is_of, disk_step, host_step, started, beats as beats_then}
 use Rattle.world.specs.World.{world}
-use Rattle.world.specs.Happens.{Start, Stop, Submit, Recover, brings_if, submitted}
+use Rattle.world.specs.Happens.{Start, Stop, Submit, Recover, Beat, brings_if, submitted}
 use Rattle.world.proofs.Follow.{command_reads_back}
 use Rattle.host.specs.declared.answer.HostAnswer.{HostAnswer}
 use Rattle.world.specs.Happens.{lines_after}
 use Rattle.simulator.specs.Events.{lines_of}
 use Rattle.simulator.specs.Kept.{Kept, is_free, IsHost, LeadsTo, Brings}
 use Rattle.simulator.proofs.Changes.{nothing, something}
-use Rattle.simulator.proofs.Shown.{stopped_by, running_by, saying, by_host, says_by, says_nothing_by, idle_is}
+use Rattle.simulator.proofs.Shown.{stopped_by, running_by, saying, by_host, says_by, says_nothing_by}
 
 and_no : (b : Bool) → (b && false) ≡ false
 and_no true = refl
@@ -97,6 +98,9 @@ module _ (log : List Filled) (old : Kept) (leads : LeadsTo log old) where
   recovers_not h tries o is busy =
       nothing log old leads (Recover h tries) (ap (λ (b : Bool). brings_if (b && nat_lt 0 tries) (Some (entries.Recover h tries))) (not_idle h o is busy))
 
+  pub beats_not : (h : ℕ) (o : Option hosts.Kept) → get_or old.hosts h None ≡ o → is_free o ≡ false → Brings log (Beat h) old old None
+  beats_not h o is busy = nothing log old leads (Beat h) (ap (λ (b : Bool). brings_if b (Some (entries.Beat h))) (not_idle h o is busy))
+
   -- without tries
   pub submits_untried : (h : ℕ) (command : Command) (tries : ℕ) → tries ≡ 0 → Brings log (Submit h command tries) old old None
   submits_untried h command tries none =
@@ -110,11 +114,13 @@ module _ (log : List Filled) (old : Kept) (leads : LeadsTo log old) where
       (ap (λ (n : ℕ). brings_if (idles ((world old.shape log).host h) && nat_lt 0 n) (Some (entries.Recover h tries))) none
       ∙ ap (λ (b : Bool). brings_if b (Some (entries.Recover h tries))) (and_no (idles ((world old.shape log).host h))))
 
+  idle_then : (h : ℕ) (core : hosts.Kept) → get_or old.hosts h None ≡ Some core → hosts.is_idle core ≡ true → idles ((world old.shape log).host h) ≡ true
+  idle_then h core is idle = let r = running_at h core is in ap idles r.1 ∙ sym (idle_is old.shape h r.0 core r.2) ∙ idle
+
   idle_test : (h tries : ℕ) (core : hosts.Kept) → 0 < tries → get_or old.hosts h None ≡ Some core → hosts.is_idle core ≡ true
       → (idles ((world old.shape log).host h) && nat_lt 0 tries) ≡ true
   idle_test h tries core some is idle =
-      let r = running_at h core is in
-      ap (λ (b : Bool). b && nat_lt 0 tries) (ap idles r.1 ∙ sym (idle_is old.shape h r.0 core r.2) ∙ idle) ∙ lt-ltb 0 tries some
+      ap (λ (b : Bool). b && nat_lt 0 tries) (idle_then h core is idle) ∙ lt-ltb 0 tries some
 
   pub submits : (h : ℕ) (command : Command) (tries : ℕ) (core new : hosts.Kept) → h < HOSTS → command.host ≡ h → FitsCommand command → 0 < tries
       → get_or old.hosts h None ≡ Some core → hosts.is_idle core ≡ true
@@ -149,3 +155,18 @@ module _ (log : List Filled) (old : Kept) (leads : LeadsTo log old) where
       (by_host log old leads e h (Some new) within (λ d. refl) (λ g. refl) (subst (λ (x : Host). IsHost old.shape h x (Some new)) (sym steps) kept))
       leads.sized
       (λ place. says_by log old leads e h (goes_on old.shape r.0 Recovering tries) new (self_eq h) steps kept place)
+
+  pub beats : (h : ℕ) (core new : hosts.Kept) → h < HOSTS → get_or old.hosts h None ≡ Some core → hosts.is_idle core ≡ true
+      → ((c : Shape) (g : ℕ) (m : Memory) → hosts.LeadsTo c g m core → hosts.LeadsTo c g (starts_beat m) new)
+      → Brings log (Beat h) old (record old { hosts = set old.hosts h (Some new) }) None
+  beats h core new within is idle goes =
+      let e : Filled = entries.Beat h in
+      let r = running_at h core is in
+      let steps : host_step old.shape h ((world old.shape log).host h) e ≡ Running (starts_beat r.0) = ap beats_then r.1 in
+      let kept : hosts.LeadsTo old.shape h (starts_beat r.0) new = goes old.shape h r.0 r.2 in
+      something log old leads (Beat h) e (record old { hosts = set old.hosts h (Some new) }) None
+      (ap (λ (b : Bool). brings_if b (Some e)) (idle_then h core is idle)) refl
+      (by_host log old leads e h (Some new) within (λ d. refl) (λ g. refl) (subst (λ (x : Host). IsHost old.shape h x (Some new)) (sym steps) kept))
+      leads.sized
+      (λ place. subst (λ (o : Option HostAnswer). lines_of place (saying h o) ≡ lines_after (world old.shape (log ++ e ∷ [])) place (Some h)) kept.said
+      (says_by log old leads e h (starts_beat r.0) new (self_eq h) steps kept place))

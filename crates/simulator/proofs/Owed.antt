@@ -6,7 +6,7 @@ use Rattle.std.proofs.Math.ListN.{set}
 use Rattle.std.proofs.lemmas.List.{get_or_read, set-get_or, length-replicate, get_or-replicate}
 use Rattle.disk.specs.declared.fault.DiskFault.{DiskFault}
 use Rattle.disk.specs.declared.fault.DiskFault.TheVariants.{Failed}
-use Rattle.disk.specs.Disk.{Call, Fault}
+use Rattle.disk.specs.Disk.{Call, Answer, Fault}
 use Rattle.disk.specs.Simulated.{SimState, refusal_of, fresh_disk}
 use Rattle.disk.specs.Steps.{shape_fresh}
 use Rattle.paxos_block.specs.Places.{image_length}
@@ -14,16 +14,14 @@ use Rattle.torn_block.specs.declared.layout.TheConstants.{HOSTS}
 use Rattle.slot_log.specs.Shape.{Shape}
 use Rattle.lock_command.specs.declared.command.Command.{Command}
 use Rattle.lock_command.specs.Command.{Fits as FitsCommand}
-use Rattle.attempt.specs.Answers as attempt
-use Rattle.attempt.specs.Answers.{heard_as}
 use Rattle.phases.specs.declared.need.Need.{Need}
 use Rattle.phases.specs.declared.need.DeviceCall as code_call
 use Rattle.phases.specs.Calls.{call_of_need, device_call_of, IsWithin}
-use Rattle.host.specs.Host.{Stopped, Memory, Submitting, Recovering, fresh, goes_on, hears, next_in}
+use Rattle.host.specs.Host.{Stopped, Memory, Submitting, Recovering, fresh, goes_on, hears_from, next_in, starts_beat}
 use Rattle.host.specs.Kept as hosts
 use Rattle.world.specs.Entry.{Filled, called_by}
 use Rattle.world.specs.World.{world}
-use Rattle.world.specs.Happens.{Event, Start, Stop, Submit, Recover, Step, Tear, FailCall, DiskCrash, DiskGone, answer_of, taken_by}
+use Rattle.world.specs.Happens.{Event, Start, Stop, Submit, Recover, Beat, Step, Tear, FailCall, DiskCrash, DiskGone, answer_of, taken_by}
 use Rattle.simulator.specs.declared.parts.Said.{Said}
 use Rattle.simulator.specs.declared.parts.Parts.TheInside.{Inside}
 use Rattle.simulator.specs.Calls.{is_write, may_crash, crashed_if, lost_if}
@@ -123,6 +121,9 @@ module _ (old : Kept) (h i : ℕ) (same : i ≡ h) (within : i < HOSTS) where
     pub recovers_busy : (tries : ℕ) → is_free o ≡ false → (log : List Filled) → LeadsTo log old → Brings log (Recover h tries) old old None
     recovers_busy tries busy log leads = subst (λ (j : ℕ). Brings log (Recover j tries) old old None) same (events.recovers_not log old leads i tries o is busy)
 
+    pub beats_busy : is_free o ≡ false → (log : List Filled) → LeadsTo log old → Brings log (Beat h) old old None
+    beats_busy busy log leads = subst (λ (j : ℕ). Brings log (Beat j) old old None) same (events.beats_not log old leads i o is busy)
+
   -- a call that is no write is not torn
   pub tears_no_write : (core : hosts.Kept) (need : Need) → get_or old.hosts i None ≡ Some core
       → ((c : Shape) (g : ℕ) (m : Memory) → hosts.LeadsTo c g m core → next_in c g m ≡ Some (call_of_need need))
@@ -149,6 +150,12 @@ module _ (old : Kept) (h i : ℕ) (same : i ≡ h) (within : i < HOSTS) where
         named (λ j. Recover j tries) log old (record old { hosts = set old.hosts i (Some new) }) i h new.said said same is_said
         (events.recovers log old leads i tries core new within some found idle goes)
 
+  pub beats : (core new : hosts.Kept) → get_or old.hosts i None ≡ Some core → hosts.is_idle core ≡ true → ((c : Shape) (g : ℕ) (m : Memory) → hosts.LeadsTo c g m core → hosts.LeadsTo c g (starts_beat m) new)
+      → (log : List Filled) → LeadsTo log old → Brings log (Beat h) old (record old { hosts = set old.hosts i (Some new) }) None
+  beats core new found idle goes log leads =
+      subst (λ (j : ℕ). Brings log (Beat j) old (record old { hosts = set old.hosts i (Some new) }) None) same
+      (events.beats log old leads i core new within found idle goes)
+
   -- A CALL
 
   module _ (core : hosts.Kept) (need : Need) (j : ℕ) (x : SimState) (found : get_or old.hosts i None ≡ Some core)
@@ -165,18 +172,18 @@ module _ (old : Kept) (h i : ℕ) (same : i ≡ h) (within : i < HOSTS) where
     due_disk = ap (λ (p : ℕ × Call). p.0) (sym due) ∙ sym on
 
     -- it hears on this disk
-    hears_at : (heard other : attempt.Heard) (new : hosts.Kept) → heard ≡ other
-        → ((c : Shape) (g : ℕ) (m : Memory) → hosts.LeadsTo c g m core → hosts.LeadsTo c g (hears c g m m.doing (record { disk = (hosts.due_call core).0; heard = heard })) new)
-        → (c : Shape) (g : ℕ) (m : Memory) → hosts.LeadsTo c g m core → hosts.LeadsTo c g (hears c g m m.doing (record { disk = j; heard = other })) new
+    hears_at : (heard other : Answer) (new : hosts.Kept) → heard ≡ other
+        → ((c : Shape) (g : ℕ) (m : Memory) → hosts.LeadsTo c g m core → hosts.LeadsTo c g (hears_from c g m m.doing (hosts.due_call core).0 heard) new)
+        → (c : Shape) (g : ℕ) (m : Memory) → hosts.LeadsTo c g m core → hosts.LeadsTo c g (hears_from c g m m.doing j other) new
     hears_at heard other new alike hears_then c g m leads =
-        subst (λ (e : attempt.Heard). hosts.LeadsTo c g (hears c g m m.doing (record { disk = j; heard = e })) new) alike
-        (subst (λ (k : ℕ). hosts.LeadsTo c g (hears c g m m.doing (record { disk = k; heard = heard })) new) due_disk (hears_then c g m leads))
+        subst (λ (e : Answer). hosts.LeadsTo c g (hears_from c g m m.doing j e) new) alike
+        (subst (λ (k : ℕ). hosts.LeadsTo c g (hears_from c g m m.doing k heard) new) due_disk (hears_then c g m leads))
 
-    pub steps : (new : hosts.Kept) (there : SimState) (heard : attempt.Heard) (said : Option Said)
+    pub steps : (new : hosts.Kept) (there : SimState) (heard : Answer) (said : Option Said)
         → there ≡ record x { disk = called_by x.disk (device_call_of need.call) (answer_of x.disk (device_call_of need.call)) [] }
         → length there.disk.bytes ≡ length x.disk.bytes
-        → heard ≡ heard_as (answer_of x.disk (device_call_of need.call))
-        → ((c : Shape) (g : ℕ) (m : Memory) → hosts.LeadsTo c g m core → hosts.LeadsTo c g (hears c g m m.doing (record { disk = (hosts.due_call core).0; heard = heard })) new)
+        → heard ≡ answer_of x.disk (device_call_of need.call)
+        → ((c : Shape) (g : ℕ) (m : Memory) → hosts.LeadsTo c g m core → hosts.LeadsTo c g (hears_from c g m m.doing (hosts.due_call core).0 heard) new)
         → said ≡ option_map (λ answer. record { host = h; answer = answer }) new.said
         → (log : List Filled) → LeadsTo log old → Brings log (Step h) old (record { shape = old.shape; disks = set old.disks j there; hosts = set old.hosts i (Some new) }) said
     steps new there heard said left as_long alike hears_then is_said log leads =
@@ -188,7 +195,7 @@ module _ (old : Kept) (h i : ℕ) (same : i ≡ h) (within : i < HOSTS) where
         → there ≡ record x { disk = called_by x.disk (device_call_of need.call) (Fault Failed) (taken_by (device_call_of need.call) given) }
         → length there.disk.bytes ≡ length x.disk.bytes
         → ((c : Shape) (g : ℕ) (m : Memory) → hosts.LeadsTo c g m core
-        → hosts.LeadsTo c g (hears c g m m.doing (record { disk = (hosts.due_call core).0; heard = heard_as (Fault Failed) })) new)
+        → hosts.LeadsTo c g (hears_from c g m m.doing (hosts.due_call core).0 (Fault Failed)) new)
         → said ≡ option_map (λ answer. record { host = h; answer = answer }) new.said
         → (log : List Filled) → LeadsTo log old
         → Brings log (FailCall h given) old (record { shape = old.shape; disks = set old.disks j there; hosts = set old.hosts i (Some new) }) said

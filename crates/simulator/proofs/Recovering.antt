@@ -14,7 +14,7 @@ use Rattle.host.specs.Host.{Submitting, Host, Stopped, Running, begins, says, fu
 use Rattle.world.specs.Entry as entries
 use Rattle.world.specs.Entry.{Filled, host_step}
 use Rattle.world.specs.World.{World, world}
-use Rattle.world.specs.Happens.{Event, Start, Stop, Submit, Recover, Step, Tear, FailCall, DiskCrash, DiskGone, Line, brings_if, taken_by, torn_by, torn, submitted, host_of, entry_of}
+use Rattle.world.specs.Happens.{Event, Start, Stop, Submit, Recover, Beat, Step, Tear, FailCall, DiskCrash, DiskGone, Line, brings_if, taken_by, torn_by, torn, submitted, host_of, entry_of}
 use Rattle.world.proofs.Projections.{host_here}
 use Rattle.simulator.specs.declared.parts.Said.{Said}
 use Rattle.simulator.specs.Answers.{may_recover}
@@ -39,6 +39,10 @@ module _ (c : Shape) (h n : ℕ) where
   starts_silent : (g : ℕ) (old : Host) → is_stopped old ≡ true → Silent old (entries.Start g)
   starts_silent g Stopped stopped says = cc
   starts_silent g (Running m) stopped says = cc
+
+  beats_silent : (g : ℕ) (old : Host) → Silent old (entries.Beat g)
+  beats_silent g Stopped says = cc
+  beats_silent g (Running m) says = cc
 
   submits_silent : (g : ℕ) (command : Command) (tries : ℕ) (old : Host) → Silent old (entries.Submit g command tries)
   submits_silent g command tries Stopped says = cc
@@ -88,6 +92,10 @@ module _ (c : Shape) (h n : ℕ) where
         (let one : entries.Stop g ≡ f = cc in
         let says_none = ap (λ (e : Filled). said_of (host_step c h (w.host h) e)) one ∙ says_so in
         cc)))
+    only_these (Beat g) is =
+        absurd (given_if (idles (w.host g)) (Some (entries.Beat g)) f ⊥ is (λ passed same.
+        (let one : entries.Beat g ≡ f = cc in
+        beats_silent g (w.host h) (ap (λ (e : Filled). said_of (host_step c h (w.host h) e)) one ∙ says_so))))
     only_these (Submit g command tries) is =
         absurd (given_if (idles (w.host g) && nat_lt 0 tries) (submitted g tries (decoded (spelling command))) f ⊥ is (λ passed same. no_submit g tries (decoded (spelling command)) same))
     only_these (Tear g given) is = absurd (given_if _ (option_and_then (torn w g given) (next_of c g (w.host g))) f ⊥ is (λ passed same. no_tear g given (next_of c g (w.host g)) same))

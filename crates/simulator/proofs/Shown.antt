@@ -16,12 +16,6 @@ use Rattle.simulator.specs.Kept.{Kept, calm, IsHost, Shows, LeadsTo, Brings}
 use Rattle.std.specs.Option.{option_map}
 use Rattle.std.proofs.lemmas.List.{get_or-set_same, get_or-set_other}
 use Rattle.std.proofs.lemmas.Bool.{cases_Bool, eqb-true, eqb-false}
-use Rattle.host.specs.Host.{Doing, is_idle_in}
-use Rattle.host.specs.Kept.{doing_of}
-use Rattle.slot_log.specs.Kept as learners
-use Rattle.slot_log.specs.Learning as learning
-use Rattle.slot_log.specs.declared.operation.Task.{Task}
-use Rattle.phases.specs.declared.notes.Notes.{Notes}
 use Rattle.world.specs.Happens.{Event}
 use Rattle.simulator.proofs.Changes.{one_disk, no_disk, one_host, no_host}
 use Rattle.slot_log.specs.Shape.{Shape}
@@ -48,17 +42,6 @@ lines_said place h (Some answer) = refl
 pub saying_is : (h : ℕ) (o : Option HostAnswer) → option_map (λ answer. record { host = h; answer = answer }) o ≡ saying h o
 saying_is h None = refl
 saying_is h (Some answer) = refl
-
--- whether an operation is under way
-doing_is : (c : Shape) (h : ℕ) (m : learning.Memory) (o : Option Doing) (t : Option Task) (attempt : Notes)
-    → learners.AreDoing c h m (option_map doing_of o) t attempt → learners.is_idle_with t ≡ is_idle_in o
-doing_is c h m None None attempt are = refl
-doing_is c h m (Some d) (Some t) attempt are = refl
-doing_is c h m None (Some t) attempt are = absurd are
-doing_is c h m (Some d) None attempt are = absurd are
-
-pub idle_is : (c : Shape) (h : ℕ) (m : Memory) (k : hosts.Kept) → hosts.LeadsTo c h m k → hosts.is_idle k ≡ is_idle_in m.doing
-idle_is c h m k is = doing_is c h (hosts.values_of m) m.doing k.learner.task k.learner.attempt is.learner.doing
 
 -- an event of a host, named by another number of it
 pub named : (event : ℕ → Event) (log : List Filled) (old new : Kept) (i h : ℕ) (o : Option HostAnswer) (said : Option Said)

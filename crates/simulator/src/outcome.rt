@@ -1,5 +1,6 @@
 ghost use Rattle.std.specs.Prelude.{◌≡◌, IfErr, OnOk};
 ghost use Rattle.attempt.specs.Answers.{heard_as};
+ghost use Rattle.beats.specs.Calls.{device_answer};
 ghost use Rattle.phases.specs.Calls.{heard_of};
 ghost use Rattle.simulator.specs.Calls.{answer_in};
 
@@ -30,7 +31,8 @@ impl Outcome {
 
     /// What the host hears.
     pub fn heard<'a>(&self, row: &'a [u8; ROW_LENGTH]) -> Heard<'a>
-        ensures { heard_of result ≡ heard_as (answer_in self.now row.now) }
+        ensures answer { device_answer result ≡ answer_in self.now row.now }
+        ensures heard { heard_of result ≡ heard_as (answer_in self.now row.now) }
     {
         match self {
             Outcome::Booted(boot) => Heard::Booted(*boot),

@@ -4,7 +4,7 @@ ghost use Rattle.paxos_block.specs.Places.{image_length};
 ghost use Rattle.std.specs.Option.{option_map};
 ghost use Rattle.slot_log.specs.Shape.{Shape};
 ghost use Rattle.world.specs.Entry.{Filled};
-ghost use Rattle.world.specs.Happens.{Start, Stop, Submit, Recover, Step, Tear, FailCall, DiskCrash, DiskGone};
+ghost use Rattle.world.specs.Happens.{Start, Stop, Submit, Recover, Beat, Step, Tear, FailCall, DiskCrash, DiskGone};
 ghost use Rattle.simulator.specs.Events.{event_of};
 ghost use Rattle.simulator.specs.Kept.{Kept, LeadsTo, Brings, calm, is_busy, is_free};
 
@@ -89,6 +89,10 @@ impl Parts {
             }
             Event::Submit { command, tries } => Ok(self.submit(command, *tries)),
             Event::Recover { host, tries } => Ok(self.recover(*host, *tries)),
+            Event::Beat(host) => {
+                self.beat(*host);
+                Ok(None)
+            }
             Event::Step(host) => Ok(self.step(*host)),
             Event::Tear { host, given } => {
                 self.tear(*host, given.as_slice());
@@ -159,6 +163,19 @@ impl Parts {
         };
         core.recover(tries);
         answer_of(host, core)
+    }
+
+    fn beat(&mut self, host: HostNumber)
+        ensures { (log : List Filled) → LeadsTo log self.old → Brings log (Beat host) self.old self.new None }
+    {
+        let at = usize::from(host.get());
+        if !is_free(&self.hosts[at]) {
+            return;
+        }
+        let Some(core) = &mut self.hosts[at] else {
+            unreachable!()
+        };
+        core.beat();
     }
 
     fn step(&mut self, host: HostNumber) -> Option<Said>

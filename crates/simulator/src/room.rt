@@ -52,7 +52,7 @@ impl Room {
         let Said { host, answer } = said;
         let picture = match answer {
             HostAnswer::Recovered { .. } => Some(self.filled(parts, host)),
-            HostAnswer::Ack { .. } | HostAnswer::Refused(_) => None,
+            HostAnswer::Ack { .. } | HostAnswer::Beaten { .. } | HostAnswer::Refused(_) => None,
         };
         Answer {
             place,
@@ -88,6 +88,7 @@ fn may_recover(event: &Event) -> bool
         Event::Start(_)
         | Event::Stop(_)
         | Event::Submit { .. }
+        | Event::Beat(_)
         | Event::Tear { .. }
         | Event::DiskCrash { .. }
         | Event::DiskGone(_) => false,

@@ -5,13 +5,14 @@ use Rattle.std.proofs.lemmas.Bool.{cases_Bool, eqb-true}
 use Rattle.disk.specs.Disk.{DiskState}
 use Rattle.slot_log.specs.Shape.{Shape}
 use Rattle.host.specs.Host.{Host}
-use Rattle.world.specs.Entry.{Filled, Start, Stop, Submit, Recover, Called, Torn, Crashed, Lost, is_on, is_of, disk_step, host_step}
+use Rattle.world.specs.Entry.{Filled, Start, Stop, Submit, Recover, Beat, Called, Torn, Crashed, Lost, is_on, is_of, disk_step, host_step}
 use Rattle.world.specs.World.{World, world}
 use Rattle.world.specs.Happens.{Event, Line, entry_of, host_of, happens, happen, with_entry, lines_after, lines_at, answers_from, answers}
 use Rattle.disk.specs.Simulated.{fresh_disk}
 use Rattle.torn_block.specs.Block.{sequence_of, body_of, number_bytes, tail_with}
 use Rattle.torn_block.specs.Place.{copy_in}
 use Rattle.paxos_block.specs.Row.{row_said}
+use Rattle.heartbeat.specs.Beat.{area_said, beat_body}
 use Rattle.paxos_block.specs.Saying.{zeros, heading, body_saying, number_at, claim_of, is_said}
 use Rattle.lock_command.specs.Command.{number}
 use Rattle.lock_command.specs.Reading.{lock_at, request_at, mode_of, name_at, enqueue_at, convert_at, action_at, command_at}
@@ -37,6 +38,7 @@ hosts_after c hosts (Start h) = at_one hosts h (host_step c h (hosts h) (Start h
 hosts_after c hosts (Stop h) = at_one hosts h (host_step c h (hosts h) (Stop h))
 hosts_after c hosts (Submit h command tries) = at_one hosts h (host_step c h (hosts h) (Submit h command tries))
 hosts_after c hosts (Recover h tries) = at_one hosts h (host_step c h (hosts h) (Recover h tries))
+hosts_after c hosts (Beat h) = at_one hosts h (host_step c h (hosts h) (Beat h))
 hosts_after c hosts (Called h d call answer left) = at_one hosts h (host_step c h (hosts h) (Called h d call answer left))
 hosts_after c hosts (Torn h d call left) = at_one hosts h (host_step c h (hosts h) (Torn h d call left))
 hosts_after c hosts other = hosts
@@ -91,6 +93,7 @@ module _ (c : Shape) (log : List Filled) where
   disks_next (Stop h) k = sym (disk_there c log (Stop h) k refl)
   disks_next (Submit h command tries) k = sym (disk_there c log (Submit h command tries) k refl)
   disks_next (Recover h tries) k = sym (disk_there c log (Recover h tries) k refl)
+  disks_next (Beat h) k = sym (disk_there c log (Beat h) k refl)
   disks_next (Called h d call answer left) k = disk_at (Called h d call answer left) d (λ j. refl) k
   disks_next (Torn h d call left) k = disk_at (Torn h d call left) d (λ j. refl) k
   disks_next (Crashed d left) k = disk_at (Crashed d left) d (λ j. refl) k
@@ -101,6 +104,7 @@ module _ (c : Shape) (log : List Filled) where
   hosts_next (Stop h) g = host_at (Stop h) h (λ j. refl) g
   hosts_next (Submit h command tries) g = host_at (Submit h command tries) h (λ j. refl) g
   hosts_next (Recover h tries) g = host_at (Recover h tries) h (λ j. refl) g
+  hosts_next (Beat h) g = host_at (Beat h) h (λ j. refl) g
   hosts_next (Called h d call answer left) g = host_at (Called h d call answer left) h (λ j. refl) g
   hosts_next (Torn h d call left) g = host_at (Torn h d call left) h (λ j. refl) g
   hosts_next (Crashed d left) g = sym (host_there c log (Crashed d left) g refl)
@@ -143,7 +147,7 @@ same_world c log (e ∷ es) =
 
 -- the definitions that speak of bytes, and of the lock table, are opened for it
 unfoldable pub played : ℕ → ℕ → List Event → List Line
-unfolding fresh_disk sequence_of body_of number_bytes tail_with copy_in row_said zeros heading body_saying number_at claim_of is_said number lock_at request_at mode_of name_at enqueue_at convert_at action_at command_at applied settled
+unfolding fresh_disk sequence_of body_of number_bytes tail_with copy_in row_said area_said beat_body zeros heading body_saying number_at claim_of is_said number lock_at request_at mode_of name_at enqueue_at convert_at action_at command_at applied settled
 played disks slots events = answers_beside (sized disks slots) events
 
 -- what computing gives is what the hosts say

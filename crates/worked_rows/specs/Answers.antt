@@ -13,7 +13,7 @@ use Rattle.paxos_block.specs.Row.{row_said}
 use Rattle.paxos_block.specs.Votes.{says_in}
 use Rattle.slot_log.specs.Shape.{Shape}
 use Rattle.slot_log.specs.declared.outcome.Refusal.{Refusal}
-use Rattle.host.specs.declared.answer.HostAnswer.TheVariants.{Ack, Recovered, Refused}
+use Rattle.host.specs.declared.answer.HostAnswer.TheVariants.{Ack, Recovered, Beaten, Refused}
 use Rattle.host.specs.Host.{Host, Stopped, Running, learned_of}
 use Rattle.world.specs.World.{World, world}
 use Rattle.world.specs.Happens.{Event, Line, run, answers}
@@ -47,6 +47,10 @@ queued place host slot = replied place host slot reply.Queued
 -- at this event the host has recovered so many commands
 abbrev pub recovered : ℕ → ℕ → ℕ → Line
 recovered place host commands = record { place = place; host = host; said = Recovered commands }
+
+-- at this event the host's beat suggests a host
+abbrev pub beaten : ℕ → ℕ → ℕ → Line
+beaten place host suggested = record { place = place; host = host; said = Beaten suggested }
 
 -- at this event the host is refused
 abbrev pub refused : ℕ → ℕ → Refusal → Line

@@ -1,11 +1,11 @@
 -- The events of the rows, each under the row's name.
-use Rattle.std.specs.Prelude.{ℕ, true, false, List, [], ◌∷◌, ◌++◌, replicate}
+use Rattle.std.specs.Prelude.{◌*◌, ℕ, true, false, List, [], ◌∷◌, ◌++◌, replicate}
 use Rattle.lock_modes.specs.declared.mode.Mode.{Mode}
 use Rattle.lock_modes.specs.declared.mode.Mode.TheVariants.{Null, ConcurrentRead, ConcurrentWrite, ProtectedRead, ProtectedWrite, Exclusive}
 use Rattle.lock_command.specs.declared.command.Command.{Command}
 use Rattle.lock_command.specs.declared.command.Action.{Action}
 use Rattle.lock_command.specs.declared.command.Action.TheVariants.{Enqueue, Convert, Release, Status, Purge}
-use Rattle.world.specs.Happens.{Event, Start, Stop, Submit, Recover, Step, Tear, FailCall, DiskCrash, DiskGone}
+use Rattle.world.specs.Happens.{Event, Start, Stop, Submit, Recover, Beat, Step, Tear, FailCall, DiskCrash, DiskGone}
 
 -- COMMANDS
 
@@ -175,6 +175,24 @@ abbrev pub outrun_on_a_lost_disk : List Event
 outrun_on_a_lost_disk = Start 0 ∷ Start 1 ∷ Submit 0 (takes_db 0) 2 ∷ steps 0 9
     ++ Submit 1 (takes_db 1) 1 ∷ steps 1 9 ++ FailCall 1 (0 ∷ []) ∷ FailCall 1 (0 ∷ []) ∷ Submit 1 (takes_db 1) 1 ∷ steps 1 15
     ++ steps 0 7 ++ DiskGone 0 ∷ steps 0 13
+
+-- HOSTS BEAT
+
+-- nine calls on each disk
+abbrev pub beats : ℕ → ℕ → List Event
+beats host disks = Beat host ∷ steps host (9 * disks)
+
+-- on one disk: host 1, host 0, and host 1 again
+abbrev pub two_hosts_beat : List Event
+two_hosts_beat = Start 0 ∷ Start 1 ∷ beats 1 1 ++ beats 0 1 ++ beats 1 1
+
+-- disk 0 of three fails behind the read of its area; host 1 beats; then disk 2 is lost, and host 0 beats again
+abbrev pub area_of_a_dropped_disk : List Event
+area_of_a_dropped_disk = Start 0 ∷ Start 1 ∷ Beat 0 ∷ steps 0 3 ++ FailCall 0 (0 ∷ []) ∷ steps 0 18 ++ beats 1 3 ++ DiskGone 2 ∷ Beat 0 ∷ steps 0 19
+
+-- between two beats of host 1 host 0 beats, and one of host 1 has no majority
+abbrev pub beat_without_a_majority : List Event
+beat_without_a_majority = Start 0 ∷ Start 1 ∷ beats 1 3 ++ beats 0 3 ++ Beat 1 ∷ FailCall 1 (0 ∷ []) ∷ FailCall 1 (0 ∷ []) ∷ beats 1 3
 
 -- EVENTS THAT DO NOT APPLY
 

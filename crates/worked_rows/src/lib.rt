@@ -4,6 +4,7 @@
 mod answered;
 mod attempts;
 mod faults;
+mod heartbeats;
 mod locks;
 mod stops;
 
@@ -22,6 +23,7 @@ pub use faults::{
     floor_of_an_outrun, no_floor_without_a_ballot, recovery_after_a_failed_first_write,
     two_disks_lost,
 };
+pub use heartbeats::{area_of_a_dropped_disk, beat_without_a_majority, two_hosts_beat};
 pub use locks::{
     conversion_before_those_that_wait, deadlock_of_two_conversions, nobody_overtakes,
     one_has_to_wait, purge_of_a_host, refused_where_it_would_queue,

@@ -28,8 +28,10 @@ use Rattle.lock_command.specs.Reading.{decoded}
 use Rattle.slot_log.specs.Shape.{Shape}
 use Rattle.slot_log.specs.declared.outcome.Refusal.TheVariants as refusal
 use Rattle.host.specs.declared.answer.HostAnswer.TheVariants.{Refused}
-use Rattle.host.specs.Host.{Operation, Submitting, Recovering, Doing, Memory, Host, Stopped, Running, setup_of, says, begins, full_answer, goes_on, is_submitted, after_learning, learns, takes, tries_again, ended, by_status, with_heard, with_floor, hears, next_doing, next_of}
-use Rattle.world.specs.Entry.{Filled, Start, Stop, Submit, Recover, Called, Torn, Crashed, Lost, is_of, host_step, started, begins as begins_on}
+use Rattle.host.specs.Host.{Operation, Submitting, Recovering, Doing, Memory, Host, Stopped, Running, setup_of, says, begins, full_answer, goes_on, is_submitted, after_learning, learns, takes, tries_again, ended, by_status, with_heard, with_floor, hears, next_doing, next_of, hears_from, hears_beat, beat_by, beat_of}
+use Rattle.beats.specs.Answers as beat_answers
+use Rattle.beats.specs.Status as beat
+use Rattle.world.specs.Entry.{Filled, Start, Stop, Submit, Recover, Beat, Called, Torn, Crashed, Lost, is_of, host_step, started, beats, begins as begins_on}
 use Rattle.world.specs.World.{World, world, MayFollow, IsRun}
 use Rattle.world.proofs.Projections.{host_here, host_there}
 use Rattle.world.specs.Chosen.{at, Hears, IsChosenAt}
@@ -140,18 +142,35 @@ module _ (c : Shape) (h : ℕ) where
   goes m t ballot (Due phase disk) now is = record { history = is; due = λ some. due_call (setup_of c h m t.operation) (on t.heard) phase disk now }
   goes m t ballot (Ended end) now is = over m t ballot end
 
+  -- a beat has no attempt
+  beat_heard_by : (m : Memory) (heard : List beat_answers.Answered) (st : beat.Status) → IsHeard (Running (beat_by h m heard st))
+  beat_heard_by m heard (beat.Due disk) = tt
+  beat_heard_by m heard (beat.Ended (beat.Beaten readings)) = tt
+  beat_heard_by m heard (beat.Ended beat.NoMajority) = tt
+
+  beat_heard : (m : Memory) (o : Option (List beat_answers.Answered)) (x : beat_answers.Answered) → m.doing ≡ None → IsHeard (Running (hears_beat c h m o x))
+  beat_heard m None x none = subst (IsHeardIn m) (sym none) tt
+  beat_heard m (Some heard) x none = beat_heard_by m (heard ++ x ∷ []) (beat.status (beat_of c h) (beat_answers.on (heard ++ x ∷ [])))
+
+  beat_begun : (old : Host) → IsHeard (beats old)
+  beat_begun Stopped = tt
+  beat_begun (Running m) = tt
+
   -- and behind an answer to the call that was due
-  heard_more : (m : Memory) (o : Option Doing) (x : Answered) → IsHeardIn m o → IsAnswerTo (next_doing c h m o) x → IsHeard (Running (hears c h m o x))
-  heard_more m None x is answers = absurd answers
-  heard_more m (Some t) x is answers =
+  heard_more : (m : Memory) (t : Doing) (x : Answered) → IsUnderWay (setup_of c h m t.operation) t.heard → IsAnswerTo (next_doing c h m (Some t)) x → IsHeard (Running (hears c h m (Some t) x))
+  heard_more m t x is answers =
       let s = setup_of c h m t.operation in
       goes m (with_heard t x) (taken s (on (t.heard ++ x ∷ []))) (status s (on (t.heard ++ x ∷ []))) refl (history_more s t.heard x is.history answers)
 
+  heard_from : (m : Memory) (o : Option Doing) → m.doing ≡ o → (k : ℕ) (call : Call) (answer : Answer) → next_doing c h m o ≡ Some (k, call) → Fits call (heard_as answer) → IsHeardIn m o → IsHeard (Running (hears_from c h m o k answer))
+  heard_from m None none k call answer next fits is = beat_heard m m.beats.heard (record { disk = k; heard = beat_answers.heard_as answer }) none
+  heard_from m (Some t) does k call answer next fits is =
+      heard_more m t (record { disk = k; heard = heard_as answer }) is
+      (subst (λ (o : Option (ℕ × Call)). IsAnswerTo o (record { disk = k; heard = heard_as answer })) (sym next) (refl, fits))
+
   heard_on : (old : Host) (k : ℕ) (call : Call) (answer : Answer) → next_of c h old ≡ Some (k, call) → Fits call (heard_as answer) → IsHeard old → (left : List ℕ) → IsHeard (host_step c h old (Called h k call answer left))
   heard_on Stopped k call answer next fits is left = tt
-  heard_on (Running m) k call answer next fits is left =
-      heard_more m m.doing (record { disk = k; heard = heard_as answer }) is
-      (subst (λ (o : Option (ℕ × Call)). IsAnswerTo o (record { disk = k; heard = heard_as answer })) (sym next) (refl, fits))
+  heard_on (Running m) k call answer next fits is left = heard_from m m.doing refl k call answer next fits is
 
   operated : (old : Host) (operation : Operation) (tries : ℕ) (e : Filled) → host_step c h old e ≡ begins_on c old operation tries → IsHeard (host_step c h old e)
   operated Stopped operation tries e is = subst IsHeard (sym is) tt
@@ -167,6 +186,7 @@ module _ (c : Shape) (h : ℕ) where
   step_heard w (Stop g) of m is = tt
   step_heard w (Submit g command tries) of m is = operated (w.host h) (Submitting command) tries (Submit g command tries) refl
   step_heard w (Recover g tries) of m is = operated (w.host h) Recovering tries (Recover g tries) refl
+  step_heard w (Beat g) of m is = beat_begun (w.host h)
   step_heard w (Called g k call answer left) of m is =
       let next : next_of c h (w.host h) ≡ Some (k, call) = subst (λ (i : ℕ). next_of c i (w.host i) ≡ Some (k, call)) (eqb-true g h of) m.0 in
       heard_on (w.host h) k call answer next (step_fits (w.disk k) _ call answer m.1) is left

@@ -4,3 +4,4 @@ pub mod Projections
 pub mod Rows
 pub mod Runs
 pub mod Safe
+pub mod Beats

@@ -2,16 +2,16 @@
 use Rattle.std.specs.Prelude.{◌+◌, ◌==◌, ℕ, Bool, false, List, [], ◌∷◌, length, replicate, filter}
 use Rattle.disk.specs.declared.fault.DiskFault.TheVariants.{Reset, Failed, Gone}
 use Rattle.disk.specs.Disk.{DiskState, Call, Attach, Read, Write, Sync, Answer, Fault, written, done_by, lost}
-use Rattle.attempt.specs.Answers.{heard_as}
 use Rattle.lock_command.specs.declared.command.Command.{Command}
 use Rattle.slot_log.specs.Shape.{Shape}
-use Rattle.host.specs.Host.{Operation, Submitting, Recovering, Host, Stopped, Running, fresh, goes_on, hears}
+use Rattle.host.specs.Host.{Operation, Submitting, Recovering, Host, Stopped, Running, fresh, goes_on, starts_beat, hears_from}
 
 pub data Filled : Type 0 where
   Start : (host : ℕ) → Filled
   Stop : (host : ℕ) → Filled
   Submit : (host : ℕ) → (command : Command) → (tries : ℕ) → Filled
   Recover : (host : ℕ) → (tries : ℕ) → Filled
+  Beat : (host : ℕ) → Filled
   -- a device call with its answer, and what a write that failed left in its range
   Called : (host disk : ℕ) → (call : Call) → (answer : Answer) → (left : List ℕ) → Filled
   -- a host stopped within a write, which left these bytes in its range
@@ -35,6 +35,7 @@ is_of h (Start g) = g == h
 is_of h (Stop g) = g == h
 is_of h (Submit g command tries) = g == h
 is_of h (Recover g tries) = g == h
+is_of h (Beat g) = g == h
 is_of h (Called g d call answer left) = g == h
 is_of h (Torn g d call left) = g == h
 is_of h other = false
@@ -90,16 +91,22 @@ abbrev pub begins : Shape → Host → Operation → ℕ → Host
 begins c Stopped operation tries = Stopped
 begins c (Running m) operation tries = Running (goes_on c m operation tries)
 
+-- or a beat
+abbrev pub beats : Host → Host
+beats Stopped = Stopped
+beats (Running m) = Running (starts_beat m)
+
 -- a running host hears an answer of a disk
 abbrev pub hears_on : Shape → ℕ → Host → ℕ → Answer → Host
 hears_on c h Stopped d answer = Stopped
-hears_on c h (Running m) d answer = Running (hears c h m m.doing (record { disk = d; heard = heard_as answer }))
+hears_on c h (Running m) d answer = Running (hears_from c h m m.doing d answer)
 
 abbrev pub host_step : Shape → ℕ → Host → Filled → Host
 host_step c h old (Start g) = started old
 host_step c h old (Stop g) = Stopped
 host_step c h old (Submit g command tries) = begins c old (Submitting command) tries
 host_step c h old (Recover g tries) = begins c old Recovering tries
+host_step c h old (Beat g) = beats old
 host_step c h old (Called g d call answer left) = hears_on c h old d answer
 host_step c h old (Torn g d call left) = Stopped
 host_step c h old other = old

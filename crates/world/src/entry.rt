@@ -25,6 +25,7 @@ pub enum Entry {
         host: HostNumber,
         tries: u8,
     },
+    Beat(HostNumber),
     /// A host made a device call on a disk. It succeeded, or was answered by a fault.
     Called {
         host: HostNumber,

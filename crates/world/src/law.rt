@@ -1,5 +1,5 @@
 // What an entry changes, that events make runs, and what follows of hosts and of a log that is known.
-ghost use Rattle.std.specs.Prelude.{◌≡◌, ◌++◌, ◌∷◌, ◌<◌, ◌≤◌, [], ℕ, true, false, List, length, take, slice_get, Some};
+ghost use Rattle.std.specs.Prelude.{◌≡◌, ◌++◌, ◌∷◌, ◌<◌, ◌≤◌, ◌*◌, [], ℕ, true, false, List, length, take, slice_get, Some};
 ghost use Rattle.disk.specs.Disk.{Call};
 ghost use Rattle.disk.specs.Crash.{IsWhole};
 ghost use Rattle.attempt.specs.Answers.{Answered, on};
@@ -8,8 +8,10 @@ ghost use Rattle.attempt.specs.Setup.{Setup};
 ghost use Rattle.attempt.specs.Status.{Ended, Committed, status};
 ghost use Rattle.lock_command.specs.declared.command.Command.{Command};
 ghost use Rattle.lock_command.specs.Command.{Fits as FitsCommand};
+ghost use Rattle.beats.specs.Answers.{Answered as Beaten};
+ghost use Rattle.beats.specs.History.{IsHistory as IsBeatHistory};
 ghost use Rattle.slot_log.specs.Shape.{Shape};
-ghost use Rattle.host.specs.Host.{Doing, Memory, Running, setup_of, next_of};
+ghost use Rattle.host.specs.Host.{Doing, Memory, Running, setup_of, beat_of, is_idle, next_of};
 ghost use Rattle.world.specs.Entry.{Filled, is_on, is_of, disk_step, host_step};
 ghost use Rattle.world.specs.World.{world, ReadsBack, MayFollow, IsRun};
 ghost use Rattle.world.specs.Happens.{Event, entry_of, happens, run, lines_at, answers};
@@ -74,6 +76,20 @@ pub fn attempts_hear_histories()
     ensures committed { (c : Shape) (log : List Filled) (i : ℕ) (s : Setup)
         (heard : List Answered) (value : List ℕ) → IsRun c log → Hears c log i s heard →
         status s (on heard) ≡ Ended (Committed value) → IsChosenAt c log i s.slot value }
+{}
+
+/// What a busy host's beat has heard in a run is a history of it, of fewer than nine answers a disk:
+/// with one more it has heard at most nine. A call on some disk is due.
+pub fn beats_hear_histories()
+    ensures now { (c : Shape) (log : List Filled) (h : ℕ) (m : Memory) (heard : List Beaten) →
+        IsRun c log → (world c log).host h ≡ Running m → m.beats.heard ≡ Some heard →
+        IsBeatHistory (beat_of c h) heard }
+    ensures nine { (c : Shape) (log : List Filled) (h : ℕ) (m : Memory) (heard : List Beaten) →
+        1 ≤ c.disks → IsRun c log → (world c log).host h ≡ Running m → m.beats.heard ≡ Some heard →
+        length heard < 9 * c.disks }
+    ensures due { (c : Shape) (log : List Filled) (h : ℕ) (m : Memory) → 1 ≤ c.disks →
+        IsRun c log → (world c log).host h ≡ Running m → is_idle m ≡ false →
+        (k : ℕ) × (call : Call) × (k < c.disks) × (next_of c h (Running m) ≡ Some (k, call)) }
 {}
 
 /// A list whose log is known has no other, and of two hosts' prefixes one begins the other. What

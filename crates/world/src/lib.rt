@@ -6,6 +6,6 @@ mod law;
 
 pub use entry::{CallKind, Entry};
 pub use law::{
-    attempts_hear_histories, changes_its_own, commands_read_back, events_make_a_run, goes_on,
-    safe_lists_have_one_log,
+    attempts_hear_histories, beats_hear_histories, changes_its_own, commands_read_back,
+    events_make_a_run, goes_on, safe_lists_have_one_log,
 };

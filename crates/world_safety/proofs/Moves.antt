@@ -11,5 +11,6 @@ pub mod Ending
 pub mod Moving
 pub mod Operating
 pub mod Calling
+pub mod Beating
 pub mod Crashing
 pub mod Entries

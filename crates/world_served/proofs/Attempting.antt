@@ -10,23 +10,25 @@ use Rattle.attempt.specs.Status as attempt
 use Rattle.attempt.specs.Status.{Status, Due, Ended, status, taken}
 use Rattle.lock_command.specs.declared.command.Command.{Command}
 use Rattle.lock_command.specs.Reading.{decoded}
+use Rattle.beats.specs.Answers as beat_answers
 use Rattle.slot_log.specs.Shape.{Shape}
 use Rattle.slot_log.specs.declared.outcome.Refusal.TheVariants as refusal
 use Rattle.host.specs.declared.answer.HostAnswer.TheVariants.{Refused}
-use Rattle.host.specs.Host.{Operation, Doing, Memory, Host, Stopped, Running, setup_of, says, begins, full_answer, goes_on, with_floor, learns, is_submitted, after_learning, takes, tries_again, by_status, hears as hears_more, next_doing, next_of}
+use Rattle.host.specs.Host.{Operation, Doing, Memory, Host, Stopped, Running, setup_of, says, begins, full_answer, goes_on, with_floor, learns, is_submitted, after_learning, takes, tries_again, by_status, hears_from, next_of}
 use Rattle.world.specs.Entry.{Filled, Called, is_of, host_step}
 use Rattle.world.specs.World.{World, IsRun}
 use Rattle.world.specs.Chosen.{at, Hears, IsCallOf}
 use Rattle.world.proofs.Histories.{heard_then}
 use Rattle.world.proofs.Runs.{each}
 use Rattle.world_safety.specs.Next.{next_world}
+use Rattle.world_safety.proofs.Moves.Beating.{hears_none}
 use Rattle.world_safety.proofs.Runs.Places.{at_next, at_end}
 use Rattle.world_safety.proofs.Runs.Tracks.{moves_at, tied_at}
 use Rattle.world_served.specs.Alone.{IsAlone, MostAnswerEach}
 use Rattle.world_served.specs.Served.{calls_between}
 use Rattle.world_served.proofs.Answered.{served}
 use Rattle.world_served.proofs.Counting.{none_at_first, one_more, no_more, at_end as calls_at_end}
-use Rattle.world_served.proofs.Hearing.{no_others_call, rests_then, rests_still}
+use Rattle.world_served.proofs.Hearing.{others_quiet, rests_then, rests_still}
 use Rattle.world_served.proofs.Resting.{Rests, rests_none}
 
 -- what a new attempt has heard is nothing
@@ -86,7 +88,7 @@ module _ (c : Shape) (host : ℕ) where
     status_so m t b (Ended attempt.NoMajority) known = λ u is. absurd (cc)
     status_so m t b (Ended attempt.BallotsSpent) known = λ u is. absurd (cc)
 
-module _ (c : Shape) (log : List Filled) (run : IsRun c log) (i j host : ℕ) (alone : IsAlone log i j host) where
+module _ (c : Shape) (log : List Filled) (run : IsRun c log) (i j host : ℕ) (alone : IsAlone c log i j host) where
   abbrev RestsAt : ℕ → Type 0
   RestsAt k = RestsOf c host (at c log k) (calls_between log i k host)
 
@@ -100,15 +102,15 @@ module _ (c : Shape) (log : List Filled) (run : IsRun c log) (i j host : ℕ) (a
         → (m : Memory) → o ≡ Running m → RestsIn c host (next_world c (at c log k) (Called host d call answer left)).disk (calls_between log i k host + 1) m
     called d call answer left is Stopped was o now m same = absurd (let stopped : next_of c host Stopped ≡ Some (d, call) = ap (next_of c host) (sym was) ∙ (each c log k _ run is).0 in cc)
     called d call answer left is (Running q) was o now m same =
-        let both : Running (hears_more c host q q.doing (record { disk = d; heard = heard_as answer })) ≡ Running m = now ∙ same in
-        let one : hears_more c host q q.doing (record { disk = d; heard = heard_as answer }) ≡ m = cc in
+        let both : Running (hears_from c host q q.doing d answer) ≡ Running m = now ∙ same in
+        let one : hears_from c host q q.doing d answer ≡ m = cc in
         subst (RestsIn c host (next_world c (at c log k) (Called host d call answer left)).disk (calls_between log i k host + 1)) one (go q.doing refl)
       where
-        go : (o : Option Doing) → q.doing ≡ o → RestsIn c host (next_world c (at c log k) (Called host d call answer left)).disk (calls_between log i k host + 1) (hears_more c host q o (record { disk = d; heard = heard_as answer }))
-        go None idle =
-            let there : next_doing c host q q.doing ≡ Some (d, call) = ap (next_of c host) (sym was) ∙ (each c log k _ run is).0 in
-            let none : next_doing c host q None ≡ Some (d, call) = ap (next_doing c host q) (sym idle) ∙ there in
-            absurd (cc)
+        go : (o : Option Doing) → q.doing ≡ o → RestsIn c host (next_world c (at c log k) (Called host d call answer left)).disk (calls_between log i k host + 1) (hears_from c host q o d answer)
+        go None idle = λ t does less. absurd (
+            let none = hears_none c host q q.beats.heard (record { disk = d; heard = beat_answers.heard_as answer }) idle in
+            let both : None ≡ Some t = sym none ∙ does in
+            cc)
         go (Some t) does =
             let x : Answered = record { disk = d; heard = heard_as answer } in
             let s = setup_of c host q t.operation in
@@ -130,7 +132,7 @@ module _ (c : Shape) (log : List Filled) (run : IsRun c log) (i j host : ℕ) (a
     still : (e : Filled) → slice_get log k ≡ Some e → is_of host e ≡ false → RestsOf c host (next_world c (at c log k) e) (calls_between log i k host)
     still e is off m running t does less =
         let was : (at c log k).host host ≡ Running m = sym (ap (λ (b : Bool). cond b (host_step c host ((at c log k).host host) e) ((at c log k).host host)) off) ∙ running in
-        rests_still c (at c log k) (moves_at c log run k) (tied_at c log run k) host m t was does e (no_others_call log i j host alone k behind before e is off) (known m was t does less)
+        rests_still c (at c log k) (moves_at c log run k) (tied_at c log run k) host m t was does e (others_quiet c log run i j host alone k behind before e is off) (known m was t does less)
 
     -- whatever the entry
     by_entry : (o : Option Filled) → slice_get log k ≡ o → RestsAt (suc k)
@@ -158,7 +160,7 @@ module _ (c : Shape) (log : List Filled) (run : IsRun c log) (i j host : ℕ) (a
   rests_at k behind le = let same : (k - suc i) + suc i ≡ k = omega arith in subst RestsAt same (rests_to (k - suc i) (omega arith))
 
 -- so an attempt that has heard each of its answers meanwhile is served
-module _ (c : Shape) (log : List Filled) (run : IsRun c log) (i k : ℕ) (s : Setup) (heard : List Answered) (hears : Hears c log k s heard) (alone : IsAlone log i (suc k) hears.host) (behind : i < k) where
+module _ (c : Shape) (log : List Filled) (run : IsRun c log) (i k : ℕ) (s : Setup) (heard : List Answered) (hears : Hears c log k s heard) (alone : IsAlone c log i (suc k) hears.host) (behind : i < k) where
   -- with its last answer, too
   attempt_so : (length (hears.doing.heard ++ record { disk = hears.disk; heard = heard_as hears.answer } ∷ []) ≤ calls_between log i (suc k) hears.host) → (r : Setup) → r ≡ setup_of c hears.host hears.memory hears.doing.operation
       → (xs : List Answered) → xs ≡ hears.doing.heard ++ record { disk = hears.disk; heard = heard_as hears.answer } ∷ [] → Hears c log k r xs → MostAnswerEach r (on xs) → IsServed r xs (status r (on xs))

@@ -62,18 +62,23 @@ beyond (x ∷ row) (suc g) long = beyond row g (omega arith)
 abbrev pub shown : DiskState → ℕ → ℕ → PBlock
 shown disk slot g = says_in (row_seen (row_of slot disk.bytes)) g
 
--- so what it shows of another host is as before
-pub shown_kept : (slots slot host g : ℕ) (disk new : DiskState) (call : Call) (answer : Answer) → slot < slots → host < HOSTS → g ≢ host → IsImage slots disk → IsWithin (VoteOf slot host) call → Step disk call answer new
+-- so what it shows of a host, whose block is another than the call's, is as before
+pub shown_beside : (slots slot g : ℕ) (mine : Spot) (disk new : DiskState) (call : Call) (answer : Answer) → slot < slots → IsSpot slots mine → mine ≢ VoteOf slot g → IsImage slots disk → IsWithin mine call → Step disk call answer new
     → shown new slot g ≡ shown disk slot g
-shown_kept slots slot host g disk new call answer slot_below host_below off image within step =
+shown_beside slots slot g mine disk new call answer slot_below is_mine differ image within step =
     elim (cases_lt g HOSTS) [
       | inl below ↦
           ap (λ (b : SeenBlock). b.says)
           (seen_at-row_seen (row_of slot new.bytes) g below
           ∙ ap seen_in
           (block_of-row_of slot g new.bytes below
-          ∙ block_kept slots (VoteOf slot host) (VoteOf slot g) disk new call answer (slot_below, host_below) (slot_below, below) (λ same. off (let one : host ≡ g = cc in sym one)) image within step
+          ∙ block_kept slots mine (VoteOf slot g) disk new call answer is_mine (slot_below, below) differ image within step
           ∙ sym (block_of-row_of slot g disk.bytes below))
           ∙ sym (seen_at-row_seen (row_of slot disk.bytes) g below))
       | inr over ↦ ap (λ (b : SeenBlock). b.says) (beyond (row_seen (row_of slot new.bytes)) g over ∙ sym (beyond (row_seen (row_of slot disk.bytes)) g over))
     ]
+
+pub shown_kept : (slots slot host g : ℕ) (disk new : DiskState) (call : Call) (answer : Answer) → slot < slots → host < HOSTS → g ≢ host → IsImage slots disk → IsWithin (VoteOf slot host) call → Step disk call answer new
+    → shown new slot g ≡ shown disk slot g
+shown_kept slots slot host g disk new call answer slot_below host_below off =
+    shown_beside slots slot g (VoteOf slot host) disk new call answer slot_below (slot_below, host_below) (λ same. off (let one : host ≡ g = cc in sym one))

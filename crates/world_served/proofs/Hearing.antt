@@ -1,40 +1,67 @@
 -- What an entry leaves of the rows that an attempt has read: of the attempt's own call, and of whatever else may happen meanwhile.
 use Rattle.std.specs.Prelude.{cond, slice_get}
-use Rattle.std.proofs.Common.{ℕ, ◌<◌, ◌≡◌, ◌≢◌, ◌==◌, Bool, true, false, Some, List, [], ◌∷◌, ◌++◌, length, refl, sym, subst, ap, arith}
-use Rattle.std.proofs.lemmas.Bool.{both_ways, eq-eqb, ne_eqb}
-use Rattle.disk.specs.Disk.{DiskState, Call, Answer, Step}
+use Rattle.std.proofs.Common.{ℕ, ◌<◌, ◌≡◌, ◌≢◌, ◌==◌, ◌⊎◌, inl, inr, Bool, true, false, Some, None, List, [], ◌∷◌, ◌++◌, length, refl, sym, subst, ap, ◌∙◌, arith}
+use Rattle.std.proofs.lemmas.Bool.{both_ways, eq-eqb, eqb-true, ne_eqb}
+use Rattle.disk.specs.declared.fault.DiskFault.TheVariants.{Failed}
+use Rattle.disk.specs.Disk.{DiskState, Call, Answer, Fault, Step}
+use Rattle.paxos_block.specs.Places.{BeatOf}
 use Rattle.attempt.specs.Answers.{Answered, Answers, on, heard_as}
 use Rattle.attempt.specs.Setup.{Setup}
 use Rattle.attempt.specs.NextCall.{call_by}
 use Rattle.attempt.proofs.More.{on_more, by_disk}
+use Rattle.beats.specs.Answers as beat_answers
 use Rattle.slot_log.specs.Shape.{Shape}
-use Rattle.host.specs.Host.{Doing, Memory, Running, setup_of, next_of}
-use Rattle.world.specs.Entry.{Filled, Start, Stop, Submit, Recover, Called, Torn, Crashed, Lost, is_on, is_of, disk_step}
-use Rattle.world.specs.World.{World}
+use Rattle.host.specs.Host.{Doing, Memory, Host, Running, setup_of, beat_of, next_of}
+use Rattle.world.specs.Entry.{Filled, Start, Stop, Submit, Recover, Beat, Called, Torn, Crashed, Lost, is_on, is_of, disk_step}
+use Rattle.world.specs.World.{World, IsRun}
+use Rattle.world.specs.Chosen.{at}
+use Rattle.world.proofs.Runs.{each}
 use Rattle.world_safety.specs.Tied.{Moves, IsTrying, IsDoing, IsRunning, HostAt, Tied}
 use Rattle.world_safety.proofs.Blocks.Owning.{boot_kept}
 use Rattle.world_safety.proofs.Blocks.Settled.{current, row_is}
-use Rattle.world_safety.proofs.Moves.Due.{Due, due_of}
+use Rattle.world_safety.proofs.Moves.Beating.{beat_within}
+use Rattle.world_safety.proofs.Moves.Calling.{tears}
+use Rattle.world_safety.proofs.Moves.Due.{Attempts, Beats, busy, Due, due_of}
+use Rattle.world_safety.proofs.Moves.Moving.{running_at}
+use Rattle.world_safety.proofs.Runs.Tracks.{moves_at, tied_at}
 use Rattle.world_served.specs.Alone.{IsAlone}
-use Rattle.world_served.proofs.Blocks.{shown_kept}
+use Rattle.world_served.proofs.Blocks.{shown_kept, shown_beside}
 use Rattle.world_served.proofs.Resting.{RestsOn, Rests, rests_on, rests_more}
 
--- no call is made, and no write is torn
-abbrev pub IsNoCall : Filled → Type 0
-IsNoCall (Called g d call answer left) = ⊥
-IsNoCall (Torn g d call left) = ⊥
-IsNoCall other = Unit {0}
+-- no call is made, and no write is torn, but of a beat
+abbrev pub IsQuiet : Shape → World → Filled → Type 0
+IsQuiet c w (Called g k call answer left) = Beats c g k call (w.host g) × Step (w.disk k) call answer (disk_step (w.disk k) (Called g k call answer left))
+IsQuiet c w (Torn g k call left) = Beats c g k call (w.host g) × Step (w.disk k) call (Fault Failed) (disk_step (w.disk k) (Torn g k call left))
+IsQuiet c w other = Unit {0}
 
--- so it is of the others while a host is alone
-pub no_others_call : (log : List Filled) (i j host : ℕ) → IsAlone log i j host → (k : ℕ) → i < k → k < j → (e : Filled) → slice_get log k ≡ Some e → is_of host e ≡ false → IsNoCall e
-no_others_call log i j host alone k behind before (Start g) is off = tt
-no_others_call log i j host alone k behind before (Stop g) is off = tt
-no_others_call log i j host alone k behind before (Submit g other n) is off = tt
-no_others_call log i j host alone k behind before (Recover g n) is off = tt
-no_others_call log i j host alone k behind before (Called g d call answer left) is off = both_ways (g == host) off (eq-eqb g host (alone.calls k g d call answer left behind before is))
-no_others_call log i j host alone k behind before (Torn g d call left) is off = alone.tears k g d call left behind before is
-no_others_call log i j host alone k behind before (Crashed d left) is off = tt
-no_others_call log i j host alone k behind before (Lost d) is off = tt
+-- who tries no slot and has a call to make beats
+beats_only : (c : Shape) (h k : ℕ) (call : Call) (host : Host) → ((m : Memory) → host ≡ Running m → m.doing ≡ None) → Attempts host ⊎ Beats c h k call host → Beats c h k call host
+beats_only c h k call host rests who = elim who [
+  | inl tries ↦ absurd (let both : None ≡ Some tries.doing = sym (rests tries.memory tries.running) ∙ tries.does in cc)
+  | inr beats ↦ beats
+]
+
+module _ (c : Shape) (log : List Filled) (run : IsRun c log) (i j host : ℕ) (alone : IsAlone c log i j host) (k : ℕ) (behind : i < k) (before : k < j) where
+  -- so it is of the others while a host is alone
+  pub others_quiet : (e : Filled) → slice_get log k ≡ Some e → is_of host e ≡ false → IsQuiet c (at c log k) e
+  others_quiet (Start g) is off = tt
+  others_quiet (Stop g) is off = tt
+  others_quiet (Submit g other n) is off = tt
+  others_quiet (Recover g n) is off = tt
+  others_quiet (Beat g) is off = tt
+  others_quiet (Called g d call answer left) is off =
+      let may = each c log k (Called g d call answer left) run is in
+      elim (alone.calls k g d call answer left behind before is) [
+        | inl same ↦ absurd (both_ways (g == host) off (eq-eqb g host same))
+        | inr rests ↦ (beats_only c g d call ((at c log k).host g) rests (busy c g d call ((at c log k).host g) may.0), may.1)
+      ]
+  others_quiet (Torn g d call left) is off =
+      let may = each c log k (Torn g d call left) run is in (
+        beats_only c g d call ((at c log k).host g) (alone.tears k g d call left behind before is) (busy c g d call ((at c log k).host g) may.0),
+        tears c (at c log k) (moves_at c log run k) (tied_at c log run k) g d call left may.1,
+      )
+  others_quiet (Crashed d left) is off = tt
+  others_quiet (Lost d) is off = tt
 
 module _ (c : Shape) (w : World) (ms : Moves) (tied : Tied c w ms) (h : ℕ) (m : Memory) (t : Doing) (running : w.host h ≡ Running m) (does : m.doing ≡ Some t) where
   abbrev s : Setup
@@ -97,13 +124,31 @@ module _ (c : Shape) (w : World) (ms : Moves) (tied : Tied c w ms) (h : ℕ) (m 
 
   -- WHAT ELSE MAY HAPPEN
 
-  pub rests_still : (e : Filled) → IsNoCall e → Rests h slot w.disk f → Rests h slot (λ d. cond (is_on d e) (disk_step (w.disk d) e) (w.disk d)) f
+  -- a call of another's beat
+  beat_leaves : (g k : ℕ) (call : Call) (answer : Answer) (e : Filled) → Beats c g k call (w.host g) → Step (w.disk k) call answer (disk_step (w.disk k) e) → RestsOn h slot (w.disk k) (f k) → RestsOn h slot (disk_step (w.disk k) e) (f k)
+  beat_leaves g k call answer e beats step =
+      let below = (running_at c w ms tied g beats.memory beats.running).below in
+      let inside = beat_within (beat_of c g) (beat_answers.on beats.heard) k call beats.due in
+      rests_on h slot (w.disk k) (disk_step (w.disk k) e) (f k) (λ current. (
+        record { good = current.good; boot = current.boot ∙ boot_kept (w.disk k) (disk_step (w.disk k) e) call answer step },
+        λ i off. shown_beside c.slots slot i (BeatOf g) (w.disk k) (disk_step (w.disk k) e) call answer trying.fits below (λ same. cc) (tied.images k) inside step,
+      ))
+
+  beats_leave : (g k : ℕ) (call : Call) (answer : Answer) (e : Filled) → Beats c g k call (w.host g) → Step (w.disk k) call answer (disk_step (w.disk k) e) → Rests h slot w.disk f → (d : ℕ) → RestsOn h slot (cond (k == d) (disk_step (w.disk d) e) (w.disk d)) (f d)
+  beats_leave g k call answer e beats step before d = go (k == d) refl
+    where
+      go : (b : Bool) → (k == d) ≡ b → RestsOn h slot (cond b (disk_step (w.disk d) e) (w.disk d)) (f d)
+      go true here = subst (λ (i : ℕ). RestsOn h slot (disk_step (w.disk i) e) (f i)) (eqb-true k d here) (beat_leaves g k call answer e beats step (before k))
+      go false there = before d
+
+  pub rests_still : (e : Filled) → IsQuiet c w e → Rests h slot w.disk f → Rests h slot (λ d. cond (is_on d e) (disk_step (w.disk d) e) (w.disk d)) f
   rests_still (Start g) quiet before d = before d
   rests_still (Stop g) quiet before d = before d
   rests_still (Submit g command tries) quiet before d = before d
   rests_still (Recover g tries) quiet before d = before d
-  rests_still (Called g k call answer left) quiet before d = absurd quiet
-  rests_still (Torn g k call left) quiet before d = absurd quiet
+  rests_still (Beat g) quiet before d = before d
+  rests_still (Called g k call answer left) quiet before d = beats_leave g k call answer (Called g k call answer left) quiet.0 quiet.1 before d
+  rests_still (Torn g k call left) quiet before d = beats_leave g k call (Fault Failed) (Torn g k call left) quiet.0 quiet.1 before d
   rests_still (Crashed k left) quiet before d = go (k == d)
     where
       go : (b : Bool) → RestsOn h slot (cond b (disk_step (w.disk d) (Crashed k left)) (w.disk d)) (f d)

@@ -18,8 +18,9 @@ use Rattle.lock_command.specs.declared.command.Command.{Command}
 use Rattle.lock_command.specs.Command.{spelling}
 use Rattle.lock_command.specs.Reading.{decoded}
 use Rattle.slot_log.specs.Shape.{Shape}
-use Rattle.host.specs.Host.{Operation, Submitting, Doing, Memory, Host, Running, setup_of, input_of, learned_of, does, learns, is_submitted, after_learning, takes, by_status, hears}
-use Rattle.world.specs.Entry.{Filled, Start, Stop, Submit, Recover, Called, Torn, Crashed, Lost, is_of, host_step}
+use Rattle.host.specs.Host.{Operation, Submitting, Doing, Memory, Host, Running, setup_of, input_of, learned_of, does, learns, is_submitted, after_learning, takes, by_status, hears_from, Beats}
+use Rattle.host.proofs.Hosts.{beats-by_status}
+use Rattle.world.specs.Entry.{Filled, Start, Stop, Submit, Recover, Beat, Called, Torn, Crashed, Lost, is_of, host_step}
 use Rattle.world.specs.World.{World, MayFollow, IsRun}
 use Rattle.world.specs.Chosen.{at, Hears, IsChosenAt}
 use Rattle.world.proofs.Histories.{heard_then, committed}
@@ -27,6 +28,7 @@ use Rattle.world.proofs.Runs.{each}
 use Rattle.world_safety.specs.Goes.{ProposesWith}
 use Rattle.world_safety.specs.Next.{next_world}
 use Rattle.world_safety.proofs.Runs.Tracks.{moves_at, tied_at, submitted_before, IsPutBefore, put_by_then}
+use Rattle.world_served.specs.Alone.{TriesNone}
 use Rattle.world_served.specs.Served.{IsLeftAlone}
 use Rattle.world_served.proofs.Answered.{served}
 use Rattle.world_served.proofs.Counting.{one_past}
@@ -59,7 +61,7 @@ module _ (c : Shape) (log : List Filled) (run : IsRun c log) (some : 1 ≤ c.dis
   IsOwn w = serving.IsOwn c log i host command marks w
 
   module _ (k : ℕ) (behind : i < k) (before : k < j) (d : ℕ) (call : Call) (answer : Answer) (left : List ℕ) (entry : slice_get log k ≡ Some (Called host d call answer left)) (calls : ℕ)
-      (earlier : (p : ℕ) → i < p → p ≤ k → IsOwn (at c log p)) (m : Memory) (running : (at c log k).host host ≡ Running m) (t : Doing) (doing : m.doing ≡ Some t) (is : serving.IsServing c log i host command marks calls (at c log k) m t) where
+      (earlier : (p : ℕ) → i < p → p ≤ k → IsOwn (at c log p)) (m : Memory) (running : (at c log k).host host ≡ Running m) (t : Doing) (doing : m.doing ≡ Some t) (no_beat : m.beats.heard ≡ None) (is : serving.IsServing c log i host command marks calls (at c log k) m t) where
     abbrev w : World
     w = at c log k
 
@@ -148,9 +150,15 @@ module _ (c : Shape) (log : List Filled) (run : IsRun c log) (some : 1 ≤ c.dis
         put_late (Stop g) found of votes late = votes
         put_late (Submit g other_command n) found of votes late = votes
         put_late (Recover g n) found of votes late = votes
+        put_late (Beat g) found of votes late = votes
         put_late (Called g n other_call other_answer bytes) found of votes late =
-            let its = alone.alone.calls by.place g n other_call other_answer bytes late (let b = by.before in omega arith) found in
-            put_own by.put.host (sym (eqb-true g by.put.host of) ∙ its) by.put.memory by.put.doing by.put.running by.put.does by.put.input late
+            elim (alone.alone.calls by.place g n other_call other_answer bytes late (let b = by.before in omega arith) found) [
+              | inl its ↦ put_own by.put.host (sym (eqb-true g by.put.host of) ∙ its) by.put.memory by.put.doing by.put.running by.put.does by.put.input late
+              | inr rests ↦
+                  (let none = subst (TriesNone c log by.place) (eqb-true g by.put.host of) rests by.put.memory by.put.running in
+                  let both : None ≡ Some by.put.doing = sym none ∙ by.put.does in
+                  absurd (cc))
+            ]
         put_late (Torn g n other_call bytes) found of votes late = votes
         put_late (Crashed n bytes) found of votes late = votes
         put_late (Lost n) found of votes late = votes
@@ -168,6 +176,7 @@ module _ (c : Shape) (log : List Filled) (run : IsRun c log) (some : 1 ≤ c.dis
         put_early (Stop g) found of votes early = absurd votes
         put_early (Submit g other_command n) found of votes early = absurd votes
         put_early (Recover g n) found of votes early = absurd votes
+        put_early (Beat g) found of votes early = absurd votes
         put_early (Called g n other_call other_answer bytes) found of votes early =
             let put = by.put in
             alone.marked (length m.learned) by.place (ballot (setup_of c put.host put.memory put.doing.operation) (on (put.doing.heard ++ record { disk = n; heard = heard_as other_answer } ∷ []))) value early
@@ -248,7 +257,7 @@ module _ (c : Shape) (log : List Filled) (run : IsRun c log) (some : 1 ≤ c.dis
 
     -- the host behind the entry
     now : host_step c host (w.host host) e ≡ Running new
-    now = ap (λ (old : Host). host_step c host old e) running ∙ ap (λ (o : Option Doing). Running (hears c host m o x)) doing
+    now = ap (λ (old : Host). host_step c host old e) running ∙ ap (λ (o : Option Doing). Running (hears_from c host m o d answer)) doing
 
     -- with its answer what holds goes on
     pub answered_so : Serves (calls + 1) after
@@ -256,5 +265,6 @@ module _ (c : Shape) (log : List Filled) (run : IsRun c log) (some : 1 ≤ c.dis
         record {
           memory = new;
           running = ap (λ (b : Bool). cond b (host_step c host (w.host host) e) (w.host host)) (eq-eqb host host refl) ∙ now;
+          no_beat = ap (λ (b : Beats). b.heard) (beats-by_status c m going (taken s (on heard)) (status s (on heard))) ∙ no_beat;
           so_far = status_so (taken s (on heard)) (status s (on heard)) refl ends;
         }

@@ -1,6 +1,6 @@
 -- The first submission over one disk: its calls are computed, and with them the premises of the law hold.
 use Rattle.std.specs.Prelude.{take, drop, slice_get, option_map}
-use Rattle.std.proofs.Common.{ℕ, zero, suc, ◌<◌, ◌≡◌, Option, Some, None, List, [], ◌∷◌, length, refl, sym, subst, ap, ◌∙◌, arith}
+use Rattle.std.proofs.Common.{ℕ, zero, suc, ◌<◌, ◌≡◌, inl, Option, Some, None, List, [], ◌∷◌, length, refl, sym, subst, ap, ◌∙◌, arith}
 use Rattle.std.proofs.Math.Seq.{take-length}
 use Rattle.disk.specs.Disk.{DiskState, Call, Answer}
 use Rattle.disk.specs.Simulated.{fresh_disk}
@@ -116,8 +116,8 @@ left_alone =
       submitted = plays_all.is_second;
       order = omega arith;
       alone = record {
-        calls = λ k g d call answer left behind before found. own_host g d call answer left (plays_all.own k (Called g d call answer left) behind found);
-        tears = λ k g d call left behind before found. no_tear g d call left (plays_all.own k (Torn g d call left) behind found);
+        calls = λ k g d call answer left behind before found. inl (own_host g d call answer left (plays_all.own k (Called g d call answer left) behind found));
+        tears = λ k g d call left behind before found. absurd (no_tear g d call left (plays_all.own k (Torn g d call left) behind found));
         goes_on = λ k e behind before found of. plays_all.own k e behind found;
       };
       answered = λ k s heard hears behind before same. plays_all.well k s heard hears behind;

@@ -6,7 +6,9 @@ use Rattle.disk.specs.Disk.{Call, Answer}
 use Rattle.attempt.specs.Numbers.{count}
 use Rattle.lock_command.specs.declared.command.Command.{Command}
 use Rattle.slot_log.specs.Shape.{Shape}
-use Rattle.host.specs.Host.{Submitting, Doing, Memory, Host, Stopped, Running, idles, learned_of, said_of, does, goes_on, next_doing, next_of}
+use Rattle.beats.specs.Answers as beat_answers
+use Rattle.host.specs.Host.{Submitting, Doing, Memory, Beats, Host, Stopped, Running, rests, is_idle, is_idle_in, idles, learned_of, said_of, does, goes_on, next_beat, next_doing, next_of}
+use Rattle.host.proofs.Hosts.{beats-goes_on}
 use Rattle.world.specs.Entry.{Filled, Submit, Called, is_of, host_step}
 use Rattle.world.specs.World.{World, IsRun}
 use Rattle.world.specs.Chosen.{at, IsCallOf}
@@ -16,9 +18,21 @@ use Rattle.world_safety.proofs.Runs.Places.{at_next, at_end, host_next}
 use Rattle.world_safety.proofs.Runs.Tracks.{moves_at, tied_at}
 use Rattle.world_served.specs.Served.{IsLeftAlone, IsServedBy, calls_between}
 use Rattle.world_served.proofs.Counting.{none_yet, one_more, no_more, at_end as calls_at_end}
-use Rattle.world_served.proofs.Hearing.{IsNoCall, no_others_call, rests_still}
+use Rattle.world_served.proofs.Hearing.{IsQuiet, others_quiet, rests_still}
 use Rattle.world_served.proofs.Serving as serving
 use Rattle.world_served.proofs.Learning.{answered_so}
+
+-- no beat of an idle host is under way
+idle_beats : (m : Memory) → IsTrue (is_idle m) → m.beats.heard ≡ None
+idle_beats m idle = go m.doing idle
+  where
+    by_rests : (o : Option (List beat_answers.Answered)) → IsTrue (rests o) → o ≡ None
+    by_rests None is = refl
+    by_rests (Some heard) is = absurd (true≢false (sym is))
+
+    go : (o : Option Doing) → IsTrue (is_idle_in m o) → m.beats.heard ≡ None
+    go None is = by_rests m.beats.heard is
+    go (Some t) is = absurd (true≢false (sym is))
 
 module _ (c : Shape) (log : List Filled) (run : IsRun c log) (some : 1 ≤ c.disks) (i j host tries : ℕ) (command : Command) (marks : ℕ → Bool) (alone : IsLeftAlone c log i j host tries command marks) where
   abbrev SoFar : ℕ → World → Memory → Option Doing → Type 0
@@ -33,7 +47,7 @@ module _ (c : Shape) (log : List Filled) (run : IsRun c log) (some : 1 ≤ c.dis
   -- OTHER ENTRIES
 
   -- what another host does, and what becomes of disks, leaves the submission as it was
-  module _ (k : ℕ) (e : Filled) (entry : slice_get log k ≡ Some e) (off : is_of host e ≡ false) (calls : ℕ) (quiet : IsNoCall e) where
+  module _ (k : ℕ) (e : Filled) (entry : slice_get log k ≡ Some e) (off : is_of host e ≡ false) (calls : ℕ) (quiet : IsQuiet c (at c log k) e) where
     -- the attempt's rows rest as they did
     still : (m : Memory) → (at c log k).host host ≡ Running m → (o : Option Doing) → m.doing ≡ o → SoFar calls (at c log k) m o → SoFar calls (next_world c (at c log k) e) m o
     still m running None does so = so
@@ -55,6 +69,7 @@ module _ (c : Shape) (log : List Filled) (run : IsRun c log) (some : 1 ≤ c.dis
         record {
           memory = serves.memory;
           running = ap (λ (b : Bool). cond b (host_step c host ((at c log k).host host) e) ((at c log k).host host)) off ∙ serves.running;
+          no_beat = serves.no_beat;
           so_far = still serves.memory serves.running serves.memory.doing refl serves.so_far;
         }
 
@@ -72,6 +87,7 @@ module _ (c : Shape) (log : List Filled) (run : IsRun c log) (some : 1 ≤ c.dis
       record {
         memory = goes_on c m (Submitting command) tries;
         running = host_next c log i (Submit host command tries) host alone.submitted (eq-eqb host host refl) ∙ ap (λ (old : Host). host_step c host old (Submit host command tries)) is;
+        no_beat = ap (λ (b : Beats). b.heard) (beats-goes_on c m (Submitting command) tries) ∙ idle_beats m idle;
         so_far = serving.goes_on_so c log i host command marks some 0 (at c log (suc i)) m (Submitting command) tries 0 refl
             (let same : length m.learned ≡ serving.base c log i host command marks = ap (λ (old : Host). length (learned_of old)) (sym is) in omega arith)
             (λ slot above below. absurd (omega arith)) (omega arith) (omega arith);
@@ -87,24 +103,25 @@ module _ (c : Shape) (log : List Filled) (run : IsRun c log) (some : 1 ≤ c.dis
       }
 
   -- a host that has nothing under way makes no call
-  no_call : (k d : ℕ) (call : Call) (m : Memory) → (at c log k).host host ≡ Running m → m.doing ≡ None → next_of c host ((at c log k).host host) ≡ Some (d, call) → ⊥
-  no_call k d call m running idle next =
+  no_call : (k d : ℕ) (call : Call) (m : Memory) → (at c log k).host host ≡ Running m → m.doing ≡ None → m.beats.heard ≡ None → next_of c host ((at c log k).host host) ≡ Some (d, call) → ⊥
+  no_call k d call m running idle no_beat next =
       let there : next_doing c host m m.doing ≡ Some (d, call) = ap (next_of c host) (sym running) ∙ next in
       let none : next_doing c host m None ≡ Some (d, call) = ap (next_doing c host m) (sym idle) ∙ there in
+      let neither : next_beat c host None ≡ Some (d, call) = ap (next_beat c host) (sym no_beat) ∙ none in
       absurd (cc)
 
   module _ (k : ℕ) (behind : i < k) (before : k < j) (to : ServesTo k) where
     -- a call of the host
-    called : (d : ℕ) (call : Call) (answer : Answer) (left : List ℕ) → slice_get log k ≡ Some (Called host d call answer left) → (m : Memory) → (at c log k).host host ≡ Running m → (o : Option Doing) → m.doing ≡ o → SoFar (calls_between log i k host) (at c log k) m o
+    called : (d : ℕ) (call : Call) (answer : Answer) (left : List ℕ) → slice_get log k ≡ Some (Called host d call answer left) → (m : Memory) → (at c log k).host host ≡ Running m → m.beats.heard ≡ None → (o : Option Doing) → m.doing ≡ o → SoFar (calls_between log i k host) (at c log k) m o
         → Serves (calls_between log i k host + 1) (next_world c (at c log k) (Called host d call answer left))
-    called d call answer left is m running None does so = absurd (no_call k d call m running does (each c log k _ run is).0)
-    called d call answer left is m running (Some t) does so = answered_so c log run some i j host tries command marks alone k behind before d call answer left is (calls_between log i k host) to.earlier m running t does so
+    called d call answer left is m running no_beat None does so = absurd (no_call k d call m running does no_beat (each c log k _ run is).0)
+    called d call answer left is m running no_beat (Some t) does so = answered_so c log run some i j host tries command marks alone k behind before d call answer left is (calls_between log i k host) to.earlier m running t does no_beat so
 
     -- which is all that it does meanwhile
     own_entry : (e : Filled) → slice_get log k ≡ Some e → is_of host e ≡ true → IsCallOf host e → Serves (calls_between log i k host + 1) (next_world c (at c log k) e)
     own_entry e is of call =
         subst (λ (o : Filled). Serves (calls_between log i k host + 1) (next_world c (at c log k) o)) (sym call.is)
-        (called call.disk call.call call.answer call.left (is ∙ ap Some call.is) to.now.memory to.now.running to.now.memory.doing refl to.now.so_far)
+        (called call.disk call.call call.answer call.left (is ∙ ap Some call.is) to.now.memory to.now.running to.now.no_beat to.now.memory.doing refl to.now.so_far)
 
     -- whatever the entry
     by_entry : (o : Option Filled) → slice_get log k ≡ o → Serves (calls_between log i (suc k) host) (at c log (suc k))
@@ -114,7 +131,7 @@ module _ (c : Shape) (log : List Filled) (run : IsRun c log) (some : 1 ≤ c.dis
       | inl of ↦ subst (λ (n : ℕ). Serves n (at c log (suc k))) (sym (one_more log i host k e behind is of))
           (subst (Serves (calls_between log i k host + 1)) (sym (at_next c log k e is)) (own_entry e is of (alone.alone.goes_on k e behind before is of)))
       | inr off ↦ subst (λ (n : ℕ). Serves n (at c log (suc k))) (sym (no_more log i host k e behind is off))
-          (subst (Serves (calls_between log i k host)) (sym (at_next c log k e is)) (still_so k e is off (calls_between log i k host) (no_others_call log i j host alone.alone k behind before e is off) to.now))
+          (subst (Serves (calls_between log i k host)) (sym (at_next c log k e is)) (still_so k e is off (calls_between log i k host) (others_quiet c log run i j host alone.alone k behind before e is off) to.now))
     ]
 
     -- so at the next place

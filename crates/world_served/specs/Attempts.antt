@@ -15,5 +15,5 @@ use Rattle.world_served.specs.Served.{calls_between}
 -- or has ended Committed, Empty or BallotsSpent.
 abbrev pub ServesAttempts : Shape → List Filled → Type 0
 ServesAttempts c log =
-    (i k : ℕ) (s : Setup) (heard : List Answered) (hears : Hears c log k s heard) → IsAlone log i (suc k) hears.host → i < k
+    (i k : ℕ) (s : Setup) (heard : List Answered) (hears : Hears c log k s heard) → IsAlone c log i (suc k) hears.host → i < k
     → length heard ≤ calls_between log i (suc k) hears.host → MostAnswerEach s (on heard) → IsServed s heard (status s (on heard))

@@ -33,7 +33,7 @@ calls_between log i j host = length (of_host host (drop (i + 1) (take j log)))
 pub record IsLeftAlone (c : Shape) (log : List Filled) (i j host tries : ℕ) (command : Command) (marks : ℕ → Bool) : Type 0 where
   pub submitted : slice_get log i ≡ Some (Submit host command tries)
   pub order : i < j
-  pub alone : IsAlone log i j host
+  pub alone : IsAlone c log i j host
   pub answered : IsAnsweredWell c log i j host
   pub marked : MarksOpen c log i host marks
 

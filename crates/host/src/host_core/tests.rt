@@ -37,6 +37,9 @@ enum Step {
     Recover {
         at: usize,
     },
+    Beat {
+        at: usize,
+    },
     /// The host makes so many calls.
     Make {
         at: usize,
@@ -140,6 +143,7 @@ impl Scene {
                 submit(host, *client, *lock, *tries)?;
             }
             Step::Recover { at } => recover(self.hosts.get_mut(*at).ok_or("host")?)?,
+            Step::Beat { at } => beat(self.hosts.get_mut(*at).ok_or("host")?)?,
             Step::Make { at, calls } => {
                 let host = self.hosts.get_mut(*at).ok_or("host")?;
                 assert_eq!(rt; drive(host, &mut self.disks, *calls), *calls);
@@ -202,6 +206,14 @@ fn recover(host: &mut HostCore) -> Result<(), Fail> {
         return Err(Fail::from("busy"));
     }
     host.recover(1);
+    Ok(())
+}
+
+fn beat(host: &mut HostCore) -> Result<(), Fail> {
+    if !host.idle() {
+        return Err(Fail::from("busy"));
+    }
+    host.beat();
     Ok(())
 }
 
@@ -507,4 +519,56 @@ fn outrun_once_and_tried_again(rt: HostRuntime) -> Result<(), Fail> {
         },
     ];
     play(&rt, rt.alloc(), 3, 4, &steps)
+}
+
+// Each host reads the counters of the other before its own next one; what moved between its two beats is the other's first
+// beat.
+#[test]
+fn two_hosts_beat(rt: HostRuntime) -> Result<(), Fail> {
+    let steps = [
+        Step::Start { number: 0 },
+        Step::Start { number: 1 },
+        Step::Beat { at: 1 },
+        Step::End { at: 1, calls: 9 },
+        Step::Says {
+            at: 1,
+            answer: HostAnswer::Beaten { host: 1 },
+        },
+        Step::Beat { at: 0 },
+        Step::End { at: 0, calls: 9 },
+        Step::Says {
+            at: 0,
+            answer: HostAnswer::Beaten { host: 0 },
+        },
+        Step::Beat { at: 1 },
+        Step::End { at: 1, calls: 9 },
+        Step::Says {
+            at: 1,
+            answer: HostAnswer::Beaten { host: 0 },
+        },
+    ];
+    play(&rt, rt.alloc(), 1, 1, &steps)
+}
+
+#[test]
+fn a_beat_without_a_majority(rt: HostRuntime) -> Result<(), Fail> {
+    let steps = [
+        Step::Start { number: 2 },
+        Step::Beat { at: 0 },
+        Step::End { at: 0, calls: 27 },
+        Step::Says {
+            at: 0,
+            answer: HostAnswer::Beaten { host: 2 },
+        },
+        Step::Lose { disk: 0 },
+        Step::Beat { at: 0 },
+        Step::Make { at: 0, calls: 3 },
+        Step::Fail { disk: 1 },
+        Step::End { at: 0, calls: 1 },
+        Step::Says {
+            at: 0,
+            answer: HostAnswer::Refused(Refusal::NoMajority),
+        },
+    ];
+    play(&rt, rt.alloc(), 3, 1, &steps)
 }

@@ -66,7 +66,7 @@ acks_heard m t other new slot reply same is =
 
 -- an acknowledgement is of the command that was submitted
 pub acks_at : (c : Shape) (log : List Filled) (i h slot : ℕ) (reply : Reply) → IsRun c log → SaysAt c log i h (Ack slot reply) → AcksAt c log i h slot reply
-acks_at c log i h slot reply run says = elim (whence c log i h (Ack slot reply) run says).is [
+acks_at c log i h slot reply run says = elim (whence c log i h (Ack slot reply) tt run says).is [
   | inl first ↦ absurd (full_acks first.operation (length first.memory.learned) slot reply first.says.0)
   | inr later ↦
       (let call = later.0 in

@@ -11,14 +11,16 @@ use Rattle.attempt.proofs.Statuses.{HasNone, told_by}
 use Rattle.lock_command.specs.declared.command.Command.{Command}
 use Rattle.lock_command.specs.Command.{spelling}
 use Rattle.lock_command.specs.Reading.{decoded}
+use Rattle.beats.specs.Answers as beat_answers
 use Rattle.slot_log.specs.Shape.{Shape}
 use Rattle.slot_log.specs.declared.outcome.Refusal.TheVariants as refusal
 use Rattle.host.specs.declared.answer.HostAnswer.TheVariants.{Recovered, Refused}
-use Rattle.host.specs.Host.{Operation, Submitting, Recovering, Doing, Memory, Host, Stopped, Running, setup_of, says, begins, full_answer, goes_on, with_floor, learns, is_submitted, after_learning, takes, tries_again, by_status, with_heard, hears, is_stopped}
-use Rattle.world.specs.Entry.{Filled, Start, Stop, Submit, Recover, Called, Torn, Crashed, Lost, is_of, started, begins as begins_on, host_step}
+use Rattle.host.specs.Host.{Operation, Submitting, Recovering, Doing, Memory, Host, Stopped, Running, setup_of, says, begins, full_answer, goes_on, with_floor, learns, is_submitted, after_learning, takes, tries_again, by_status, with_heard, hears_from, hears_beat, is_stopped}
+use Rattle.world.specs.Entry.{Filled, Start, Stop, Submit, Recover, Beat, Called, Torn, Crashed, Lost, is_of, started, beats, begins as begins_on, host_step}
 use Rattle.world.specs.World.{MayFollow, IsRun}
 use Rattle.world.specs.Chosen.{at, SaysAt, IsCallOf, IsRecovery}
 use Rattle.world_safety.specs.Claims.{AllBegun}
+use Rattle.world_safety.proofs.Moves.Beating.{hears_none}
 use Rattle.world_safety.proofs.Runs.Places.{by_place}
 use Rattle.world_safety.proofs.Runs.Saying.{full_recovers, status_recovers, beginning_of, AtItsBeginning, AtACall, memory_at, heard_at, whence}
 
@@ -115,9 +117,17 @@ module _ (c : Shape) (log : List Filled) (h : ℕ) where
       let same : Called h k call answer left ≡ other = cc in
       record { disk = k; call = call; answer = answer; left = left; is = sym same }
 
+  -- a beat recovers nothing
+  beat_begun : (i : ℕ) (m : Memory) → m.doing ≡ None → (o : Option (List beat_answers.Answered)) (x : beat_answers.Answered) → HasBegun log (suc i) h (Running (hears_beat c h m o x))
+  beat_begun i m rests o x = λ t does recovers. absurd (let none = hears_none c h m o x rests in let both : None ≡ Some t = sym none ∙ does in cc)
+
+  starts_beat_begun : (i : ℕ) (host : Host) → HasBegun log (suc i) h (beats host)
+  starts_beat_begun i Stopped = tt
+  starts_beat_begun i (Running m) = λ t does recovers. absurd (cc)
+
   hears_begun : (i k : ℕ) (call : Call) (answer : Answer) (left : List ℕ) → slice_get log i ≡ Some (Called h k call answer left) → (m : Memory) (o : Option Doing) → m.doing ≡ o → HasBegun log i h (Running m)
-      → HasBegun log (suc i) h (Running (hears c h m o (record { disk = k; heard = heard_as answer })))
-  hears_begun i k call answer left is m None does known = later i (own_call i k call answer left is) (Running m) known
+      → HasBegun log (suc i) h (Running (hears_from c h m o k answer))
+  hears_begun i k call answer left is m None does known = beat_begun i m does m.beats.heard (record { disk = k; heard = beat_answers.heard_as answer })
   hears_begun i k call answer left is m (Some t) does known = λ d now recovers.
       let s = setup_of c h m t.operation in
       let x : Answered = record { disk = k; heard = heard_as answer } in
@@ -147,6 +157,7 @@ module _ (c : Shape) (log : List Filled) (h : ℕ) where
   step_begun i (Stop g) is may of known = tt
   step_begun i (Submit g command tries) is may of known = submitted_begun i command tries ((at c log i).host h)
   step_begun i (Recover g tries) is may of known = recovered_begun i tries (is ∙ ap (λ (j : ℕ). Some (Recover j tries)) (eqb-true g h of)) ((at c log i).host h)
+  step_begun i (Beat g) is may of known = starts_beat_begun i ((at c log i).host h)
   step_begun i (Called g k call answer left) is may of known = called_begun i k call answer left (is ∙ ap (λ (j : ℕ). Some (Called j k call answer left)) (eqb-true g h of)) ((at c log i).host h) known
   step_begun i (Torn g k call left) is may of known = tt
   step_begun i (Crashed k left) is may of known = absurd (cc)
@@ -204,7 +215,7 @@ module _ (c : Shape) (log : List Filled) (run : IsRun c log) (j h n : ℕ) (says
       )
 
 pub all_begun : (c : Shape) (log : List Filled) → IsRun c log → AllBegun c log
-all_begun c log run j h n says = elim (whence c log j h (Recovered n) run says).is [
+all_begun c log run j h n says = elim (whence c log j h (Recovered n) tt run says).is [
   | inl first ↦ at_once c log run j h n says first
   | inr later ↦ at_a_call c log run j h n says later.0 later.1
 ]

@@ -60,7 +60,7 @@ module _ (c : Shape) (log : List Filled) (run : IsRun c log) where
   idle_before Stopped m t idle is does = absurd (cc)
   idle_before (Running n) m t idle is does =
       let same : n ≡ m = cc in
-      let busy : is_idle_in n.doing ≡ false = ap is_idle_in (ap (λ (k : Memory). k.doing) same ∙ does) in
+      let busy : is_idle_in n n.doing ≡ false = ap (is_idle_in n) (ap (λ (k : Memory). k.doing) same ∙ does) in
       cc
 
   -- A host does not try slot n at place i.

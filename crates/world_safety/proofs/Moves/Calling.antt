@@ -7,7 +7,7 @@ use Rattle.attempt.specs.Answers.{Answered, on, heard_as}
 use Rattle.attempt.specs.Setup.{Setup}
 use Rattle.attempt.specs.Status.{status, taken}
 use Rattle.slot_log.specs.Shape.{Shape}
-use Rattle.host.specs.Host.{Doing, Memory, Host, Stopped, Running, setup_of, by_status, hears as hears_more, next_of}
+use Rattle.host.specs.Host.{Doing, Memory, Host, Stopped, Running, setup_of, by_status, hears_from, next_of}
 use Rattle.world.specs.Entry.{Called, Torn, disk_step, host_step}
 use Rattle.world.specs.World.{World, Tears}
 use Rattle.agreement.specs.Event.{Event}
@@ -63,7 +63,7 @@ module _ (c : Shape) (w : World) (ms : Moves) (tied : Tied c w ms) where
     late = answered_late c w2 (ms ++ hears_it.early) h m t heard hears_it.tied run.below trying.fits trying.input hears_it.learned hears_it.follows hears_it.knows hears_it.votes
 
     now : host_step c h (w.host h) (Called h k call answer left) ≡ Running new
-    now = ap (λ (host : Host). host_step c h host (Called h k call answer left)) running ∙ ap (λ (o : Option Doing). Running (hears_more c h m o x)) does
+    now = ap (λ (host : Host). host_step c h host (Called h k call answer left)) running ∙ ap (λ (o : Option Doing). Running (hears_from c h m o k answer)) does
 
     was : (n : ℕ) → Some (length m.learned) ≡ Some n → IsTryingAt w h n
     was n same = record { memory = m; doing = t; running = running; does = does; is = (let one : length m.learned ≡ n = cc in one) }

@@ -1,6 +1,6 @@
 -- What is known of a device call that is answered: of its host, of the attempt, and of the disk.
 use Rattle.std.specs.Prelude.{take, drop, ◌-◌}
-use Rattle.std.proofs.Common.{ℕ, ◌+◌, ◌≡◌, Option, Some, None, List, length, refl, sym, subst, ap, ◌∙◌, arith}
+use Rattle.std.proofs.Common.{ℕ, ◌+◌, ◌≡◌, ◌⊎◌, inl, inr, Option, Some, None, List, length, refl, sym, subst, ap, ◌∙◌, arith}
 use Rattle.std.proofs.Common.{length-drop}
 use Rattle.std.proofs.lemmas.List.{length-take-le}
 use Rattle.disk.specs.Disk.{DiskState, Call, Answer, Step}
@@ -20,8 +20,10 @@ use Rattle.attempt.proofs.Histories.{IsReached, history_reached, visit}
 use Rattle.attempt.proofs.Replies.{IsAnswer, answer_is, next_is}
 use Rattle.attempt.proofs.Statuses.{IsDueAt, due_is}
 use Rattle.attempt.proofs.Visitors.{IsWaiting, waiting_is}
+use Rattle.beats.specs.Answers as beat_answers
+use Rattle.beats.specs.Status as beat
 use Rattle.slot_log.specs.Shape.{Shape}
-use Rattle.host.specs.Host.{Doing, Memory, Host, Stopped, Running, setup_of, next_doing, next_of}
+use Rattle.host.specs.Host.{Doing, Memory, Host, Stopped, Running, setup_of, beat_of, next_beat, next_doing, next_of}
 use Rattle.world.specs.Entry.{Called, disk_step}
 use Rattle.world.specs.World.{World}
 use Rattle.world.proofs.Histories.{step_fits}
@@ -34,14 +36,35 @@ use Rattle.world_safety.proofs.Blocks.Settled.{row_is}
 use Rattle.attempt.proofs.Votes.{MayWrite, row_shows}
 use Rattle.world_safety.proofs.Blocks.Within.{within, may_write}
 
--- who has a call to make is running, and tries a slot
-pub busy : (c : Shape) (h k : ℕ) (call : Call) (host : Host) → next_of c h host ≡ Some (k, call) → (m : Memory) × (t : Doing) × (host ≡ Running m) × (m.doing ≡ Some t)
+-- WHO HAS A CALL TO MAKE
+
+-- it is running, and tries a slot
+pub record Attempts (host : Host) : Type 0 where
+  pub memory : Memory
+  pub doing : Doing
+  pub running : host ≡ Running memory
+  pub does : memory.doing ≡ Some doing
+
+-- or tries none, but beats, and this call is next of the beat
+pub record Beats (c : Shape) (h k : ℕ) (call : Call) (host : Host) : Type 0 where
+  pub memory : Memory
+  pub running : host ≡ Running memory
+  pub rests : memory.doing ≡ None
+  pub heard : List beat_answers.Answered
+  pub beats : memory.beats.heard ≡ Some heard
+  pub due : beat.next_call (beat_of c h) (beat_answers.on heard) ≡ Some (k, call)
+
+pub busy : (c : Shape) (h k : ℕ) (call : Call) (host : Host) → next_of c h host ≡ Some (k, call) → Attempts host ⊎ Beats c h k call host
 busy c h k call Stopped next = absurd (cc)
 busy c h k call (Running m) next = go m.doing refl next
   where
-    go : (o : Option Doing) → m.doing ≡ o → next_doing c h m o ≡ Some (k, call) → (n : Memory) × (t : Doing) × (Running m ≡ Running n) × (n.doing ≡ Some t)
-    go None does due = absurd (cc)
-    go (Some t) does due = (m, t, refl, does)
+    beats_by : (o : Option (List beat_answers.Answered)) → m.doing ≡ None → m.beats.heard ≡ o → next_beat c h o ≡ Some (k, call) → Beats c h k call (Running m)
+    beats_by None none heard due = absurd (cc)
+    beats_by (Some heard) none beats due = record { memory = m; running = refl; rests = none; heard = heard; beats = beats; due = due }
+
+    go : (o : Option Doing) → m.doing ≡ o → next_doing c h m o ≡ Some (k, call) → Attempts (Running m) ⊎ Beats c h k call (Running m)
+    go None does due = inr (beats_by m.beats.heard does refl due)
+    go (Some t) does due = inl (record { memory = m; doing = t; running = refl; does = does })
 
 -- A device call of a host that tries a slot is its next, and with the answer the disk makes a step.
 pub record IsCall (c : Shape) (w : World) (ms : Moves) (h k : ℕ) (call : Call) (answer : Answer) (left : List ℕ) (m : Memory) (t : Doing) : Type 0 where

@@ -1,10 +1,11 @@
 -- Each entry that may follow is a few moves of the machines.
-use Rattle.std.proofs.Common.{refl}
+use Rattle.std.proofs.Common.{refl, inl, inr}
 use Rattle.slot_log.specs.Shape.{Shape}
-use Rattle.world.specs.Entry.{Filled, Start, Stop, Submit, Recover, Called, Torn, Crashed, Lost}
+use Rattle.world.specs.Entry.{Filled, Start, Stop, Submit, Recover, Beat, Called, Torn, Crashed, Lost}
 use Rattle.world.specs.World.{World, MayFollow}
 use Rattle.world_safety.specs.Goes.{Goes}
 use Rattle.world_safety.specs.Tied.{Moves, Tied}
+use Rattle.world_safety.proofs.Moves.Beating.{starts_beat_goes, beat_called_goes, beat_torn_goes}
 use Rattle.world_safety.proofs.Moves.Operating.{starts_goes, stops_goes, submits_goes, recovers_goes}
 use Rattle.world_safety.proofs.Moves.Due.{busy}
 use Rattle.world_safety.proofs.Moves.Calling.{called_goes, torn_goes, tears}
@@ -18,11 +19,14 @@ module _ (c : Shape) (w : World) (ms : Moves) (tied : Tied c w ms) where
   goes (Stop h) may = stops_goes c w ms tied h
   goes (Submit h command tries) may = submits_goes c w ms tied h command tries may.1 (w.host h) refl may.0
   goes (Recover h tries) may = recovers_goes c w ms tied h tries (w.host h) refl may.0
-  goes (Called h k call answer left) may =
-      let who = busy c h k call (w.host h) may.0 in
-      called_goes c w ms tied h k call answer left may.0 may.1 who.0 who.1 who.2 who.3
-  goes (Torn h k call left) may =
-      let who = busy c h k call (w.host h) may.0 in
-      torn_goes c w ms tied h k call left may.0 (tears c w ms tied h k call left may.1) who.0 who.1 who.2 who.3
+  goes (Beat h) may = starts_beat_goes c w ms tied h (w.host h) refl may
+  goes (Called h k call answer left) may = elim (busy c h k call (w.host h) may.0) [
+    | inl tries ↦ called_goes c w ms tied h k call answer left may.0 may.1 tries.memory tries.doing tries.running tries.does
+    | inr beats ↦ beat_called_goes c w ms tied h k call answer left beats may.1
+  ]
+  goes (Torn h k call left) may = elim (busy c h k call (w.host h) may.0) [
+    | inl tries ↦ torn_goes c w ms tied h k call left may.0 (tears c w ms tied h k call left may.1) tries.memory tries.doing tries.running tries.does
+    | inr beats ↦ beat_torn_goes c w ms tied h k call left beats (tears c w ms tied h k call left may.1)
+  ]
   goes (Crashed k left) may = crash_goes c w ms tied k left may.2
   goes (Lost k) may = lost_goes c w ms tied k

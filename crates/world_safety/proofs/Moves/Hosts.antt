@@ -153,13 +153,13 @@ pub record Late (c : Shape) (w : World) (ms : Moves) (h : ℕ) (trying : Option 
 module _ (c : Shape) (w : World) (ms : Moves) (h : ℕ) (m : Memory) (tied : TiedBut c w ms h) (below : h < HOSTS) (learned : (slots_after ms).learned h ≡ map spelling m.learned) (trying : Option ℕ) where
   -- it says something, and is idle
   pub says_late : (said : HostAnswer) (floor : ℕ) → ((n : ℕ) → said ≡ Recovered n → (c.slots ≤ length m.learned) ⊎ FoundEmpty c ms h trying (length m.learned))
-      → Late c w ms h trying (record { learned = m.learned; floor = floor; doing = None; said = Some said })
+      → Late c w ms h trying (record { learned = m.learned; floor = floor; doing = None; said = Some said; beats = m.beats })
   says_late said floor empty =
       let none = sym (append-nil ms) in
       record {
         late = [];
         tied = subst (λ (l : Moves). TiedBut c w l h) none tied;
-        running = subst (λ (l : Moves). IsRunning c w l h (record { learned = m.learned; floor = floor; doing = None; said = Some said })) none (record { below = below; learned = learned; doing = tt });
+        running = subst (λ (l : Moves). IsRunning c w l h (record { learned = m.learned; floor = floor; doing = None; said = Some said; beats = m.beats })) none (record { below = below; learned = learned; doing = tt });
         quiet = λ k v input. input;
         begun = λ t is. absurd (cc);
         empty = λ n is. subst (λ (l : Moves). (c.slots ≤ length m.learned) ⊎ FoundEmpty c l h trying (length m.learned)) none (empty n (let same : said ≡ Recovered n = cc in same));

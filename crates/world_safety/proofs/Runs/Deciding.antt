@@ -12,7 +12,7 @@ use Rattle.attempt.specs.Standing.{HasBallot, HasProposal}
 use Rattle.attempt.specs.Visits.{visited, are_enough}
 use Rattle.slot_log.specs.Shape.{Shape}
 use Rattle.host.specs.Host.{Doing, Memory, Host, Stopped, Running, setup_of}
-use Rattle.world.specs.Entry.{Filled, Start, Stop, Submit, Recover, Called, Torn, Crashed, Lost}
+use Rattle.world.specs.Entry.{Filled, Start, Stop, Submit, Recover, Beat, Called, Torn, Crashed, Lost}
 use Rattle.world.specs.Chosen.{at, IsChosenAt}
 
 -- either so, or not
@@ -134,6 +134,7 @@ module _ (c : Shape) (log : List Filled) (i : ℕ) where
   entry_tells (Stop h) is = not_called (Stop h) is (λ g k call answer left same. absurd (cc))
   entry_tells (Submit h command tries) is = not_called (Submit h command tries) is (λ g k call answer left same. absurd (cc))
   entry_tells (Recover h tries) is = not_called (Recover h tries) is (λ g k call answer left same. absurd (cc))
+  entry_tells (Beat h) is = not_called (Beat h) is (λ g k call answer left same. absurd (cc))
   entry_tells (Torn h k call left) is = not_called (Torn h k call left) is (λ g k call answer left same. absurd (cc))
   entry_tells (Crashed k left) is = not_called (Crashed k left) is (λ g k call answer left same. absurd (cc))
   entry_tells (Lost k) is = not_called (Lost k) is (λ g k call answer left same. absurd (cc))

@@ -12,10 +12,12 @@ use Rattle.lock_command.specs.Reading.{decoded}
 use Rattle.slot_log.specs.Shape.{Shape}
 use Rattle.slot_log.specs.declared.outcome.Refusal.TheVariants as refusal
 use Rattle.host.specs.declared.answer.HostAnswer.{HostAnswer}
-use Rattle.host.specs.declared.answer.HostAnswer.TheVariants.{Ack, Recovered, Refused}
-use Rattle.host.specs.Host.{Operation, Submitting, Recovering, Doing, Memory, Host, Stopped, Running, setup_of, says, does, begins, full_answer, goes_on, with_floor, learns, reply_after, is_submitted, after_learning, takes, tries_again, ended, by_status, with_heard, hears}
+use Rattle.host.specs.declared.answer.HostAnswer.TheVariants.{Ack, Recovered, Beaten, Refused}
+use Rattle.host.specs.Host.{Operation, Submitting, Recovering, Doing, Memory, Host, Stopped, Running, setup_of, says, does, begins, full_answer, goes_on, with_floor, learns, reply_after, is_submitted, after_learning, takes, tries_again, ended, by_status, with_heard, hears_from, hears_beat, beat_by, beat_of, with_beats, suggested, Beats}
+use Rattle.beats.specs.Answers as beat_answers
+use Rattle.beats.specs.Status as beat
 use Rattle.host.proofs.Hosts.{decoded_spelled}
-use Rattle.world.specs.Entry.{Filled, Start, Stop, Submit, Recover, Called, Torn, Crashed, Lost, is_of, started, host_step}
+use Rattle.world.specs.Entry.{Filled, Start, Stop, Submit, Recover, Beat, Called, Torn, Crashed, Lost, is_of, started, beats, host_step}
 use Rattle.world.specs.World.{ReadsBack, MayFollow, IsRun}
 use Rattle.world.specs.Chosen.{at, Hears}
 use Rattle.world.proofs.Histories.{committed}
@@ -48,7 +50,7 @@ module _ (c : Shape) (log : List Filled) where
   -- WHAT A HOST COMES TO
 
   module _ (i h : ℕ) where
-    says_true : (m : Memory) (floor : ℕ) (said : HostAnswer) → AreChosen c log i m.learned → ((n : ℕ) → said ≡ Recovered n → n ≡ length m.learned) → IsTrue c log i h (record { learned = m.learned; floor = floor; doing = None; said = Some said })
+    says_true : (m : Memory) (floor : ℕ) (said : HostAnswer) → AreChosen c log i m.learned → ((n : ℕ) → said ≡ Recovered n → n ≡ length m.learned) → IsTrue c log i h (record { learned = m.learned; floor = floor; doing = None; said = Some said; beats = m.beats })
     says_true m floor said are recovered = record { learned = are; begun = λ t is. absurd (cc); recovered = λ n is. recovered n (let same : said ≡ Recovered n = cc in same) }
 
     does_true : (m : Memory) (t : Doing) → AreChosen c log i m.learned → IsBegun log i h t.operation → IsTrue c log i h (does m t)
@@ -126,9 +128,26 @@ module _ (c : Shape) (log : List Filled) where
         } in
         record { place = i; before = omega arith; is = committed c log i s (t.heard ++ x ∷ []) value run hears ended }
 
+    -- a beat tells nothing of the log
+    beaten_true : (m : Memory) (bs : Beats) (said : Option HostAnswer) → IsTrue c log (suc i) h m → ((n : ℕ) → said ≡ Some (Recovered n) → ⊥) → IsTrue c log (suc i) h (with_beats m bs said)
+    beaten_true m bs said known none = record { learned = known.learned; begun = λ t is. absurd (cc); recovered = λ n is. absurd (none n is) }
+
+    beat_by_true : (m : Memory) → IsTrue c log (suc i) h m → (heard : List beat_answers.Answered) (st : beat.Status) → IsTrue c log (suc i) h (beat_by h m heard st)
+    beat_by_true m known heard (beat.Due disk) = beaten_true m (record { readings = m.beats.readings; heard = Some heard }) None known (λ n is. absurd (cc))
+    beat_by_true m known heard (beat.Ended (beat.Beaten readings)) = beaten_true m (record { readings = Some readings; heard = None }) (Some (Beaten (suggested h m.beats.readings readings))) known (λ n is. absurd (cc))
+    beat_by_true m known heard (beat.Ended beat.NoMajority) = beaten_true m (record { readings = m.beats.readings; heard = None }) (Some (Refused refusal.NoMajority)) known (λ n is. absurd (cc))
+
+    beat_true : (m : Memory) → IsTrue c log (suc i) h m → (o : Option (List beat_answers.Answered)) (x : beat_answers.Answered) → IsTrue c log (suc i) h (hears_beat c h m o x)
+    beat_true m known None x = known
+    beat_true m known (Some heard) x = beat_by_true m known (heard ++ x ∷ []) (beat.status (beat_of c h) (beat_answers.on (heard ++ x ∷ [])))
+
+    starts_beat_true : (host : Host) → IsTrueOf c log (suc i) h host → IsTrueOf c log (suc i) h (beats host)
+    starts_beat_true Stopped known = tt
+    starts_beat_true (Running m) known = beaten_true m (record { readings = m.beats.readings; heard = Some [] }) None known (λ n is. absurd (cc))
+
     hears_true : (k : ℕ) (call : Call) (answer : Answer) (left : List ℕ) → slice_get log i ≡ Some (Called h k call answer left) → (m : Memory) → (at c log i).host h ≡ Running m → (o : Option Doing) → m.doing ≡ o → IsTrue c log (suc i) h m
-        → IsTrue c log (suc i) h (hears c h m o (record { disk = k; heard = heard_as answer }))
-    hears_true k call answer left is m running None does known = known
+        → IsTrue c log (suc i) h (hears_from c h m o k answer)
+    hears_true k call answer left is m running None does known = beat_true m known m.beats.heard (record { disk = k; heard = beat_answers.heard_as answer })
     hears_true k call answer left is m running (Some t) does known =
         let s = setup_of c h m t.operation in
         let x : Answered = record { disk = k; heard = heard_as answer } in
@@ -158,6 +177,7 @@ module _ (c : Shape) (log : List Filled) where
         ((at c log i).host h) known
     step_true (Recover g tries) is may of known =
         operated_true (Recover g tries) Recovering tries (λ m. refl) refl (λ found same. absurd (cc)) ((at c log i).host h) known
+    step_true (Beat g) is may of known = starts_beat_true ((at c log i).host h) known
     step_true (Called g k call answer left) is may of known =
         called_true k call answer left (is ∙ ap (λ (j : ℕ). Some (Called j k call answer left)) (eqb-true g h of)) ((at c log i).host h) refl known
     step_true (Torn g k call left) is may of known = tt

@@ -1,4 +1,4 @@
--- Whence an answer comes: from the status of an attempt behind a device call, or from an operation that finds all slots learned.
+-- Whence an acknowledgement or a recovery comes: from the status of an attempt behind a device call, or from an operation that finds all slots learned.
 use Rattle.std.specs.Prelude.{IsTrue, nat_lt, nat_le, ◌-◌, slice_get, if◌then◌else◌}
 use Rattle.std.proofs.Common.{ℕ, suc, ◌+◌, ◌≤◌, ◌≡◌, ◌⊎◌, inl, inr, Bool, true, false, Option, Some, None, List, [], ◌∷◌, ◌++◌, length, refl, sym, subst, ap, ◌∙◌, arith}
 use Rattle.std.proofs.lemmas.Bool.{eqb-true, ltb-false}
@@ -9,16 +9,18 @@ use Rattle.attempt.specs.Status.{Status, Due, Ended, status, taken}
 use Rattle.lock_command.specs.declared.command.Command.{Command}
 use Rattle.lock_command.specs.Reading.{decoded}
 use Rattle.lock_table.specs.declared.reply.Reply.{Reply}
+use Rattle.beats.specs.Answers as beat_answers
+use Rattle.beats.specs.Status as beat
 use Rattle.slot_log.specs.Shape.{Shape}
 use Rattle.slot_log.specs.declared.outcome.Refusal.TheVariants as refusal
 use Rattle.host.specs.declared.answer.HostAnswer.{HostAnswer}
-use Rattle.host.specs.declared.answer.HostAnswer.TheVariants.{Ack, Recovered, Refused}
-use Rattle.host.specs.Host.{Operation, Submitting, Recovering, Doing, Memory, Host, Stopped, Running, setup_of, says, begins, full_answer, goes_on, with_floor, learns, is_submitted, after_learning, takes, tries_again, by_status, with_heard, goes_by, hears, is_stopped, said_of}
-use Rattle.world.specs.Entry.{Filled, Start, Stop, Submit, Recover, Called, Torn, Crashed, Lost, is_of, started, begins as begins_on, host_step}
+use Rattle.host.specs.declared.answer.HostAnswer.TheVariants.{Ack, Recovered, Beaten, Refused}
+use Rattle.host.specs.Host.{Operation, Submitting, Recovering, Doing, Memory, Host, Stopped, Running, setup_of, says, begins, full_answer, goes_on, with_floor, learns, is_submitted, after_learning, takes, tries_again, by_status, with_heard, goes_by, hears_from, hears_beat, beat_by, beat_of, is_stopped, next_of, said_of}
+use Rattle.world.specs.Entry.{Filled, Start, Stop, Submit, Recover, Beat, Called, Torn, Crashed, Lost, is_of, started, beats, begins as begins_on, host_step}
 use Rattle.world.specs.World.{MayFollow, IsRun}
 use Rattle.world.specs.Chosen.{at, Hears, SaysAt}
 use Rattle.world.proofs.Runs.{each}
-use Rattle.world_safety.proofs.Moves.Due.{busy}
+use Rattle.world_safety.proofs.Moves.Due.{Attempts, Beats, busy}
 use Rattle.world_safety.proofs.Runs.Places.{host_next}
 
 -- WHAT A STATUS MAKES A HOST SAY
@@ -87,6 +89,32 @@ module _ (c : Shape) (m : Memory) (t : Doing) (b : ℕ) where
   status_commits (Ended (attempt.Outrun mbal)) slot reply is = absurd (let no = again (with_floor (with_floor m b) mbal) (Ack slot reply) is in cc)
   status_commits (Ended attempt.NoMajority) slot reply is = absurd (cc)
   status_commits (Ended attempt.BallotsSpent) slot reply is = absurd (cc)
+
+-- WHAT A BEAT MAKES A HOST SAY
+
+-- an acknowledgement, or a recovery
+abbrev pub IsOfLog : HostAnswer → Type 0
+IsOfLog (Ack slot reply) = Unit {0}
+IsOfLog (Recovered n) = Unit {0}
+IsOfLog (Beaten host) = ⊥
+IsOfLog (Refused refusal) = ⊥
+
+-- a beat says neither
+beat_says : (h : ℕ) (m : Memory) (heard : List beat_answers.Answered) (st : beat.Status) (said : HostAnswer) → IsOfLog said → (beat_by h m heard st).said ≡ Some said → ⊥
+beat_says h m heard (beat.Due disk) said of is = absurd (cc)
+beat_says h m heard (beat.Ended (beat.Beaten readings)) (Beaten host) of is = of
+beat_says h m heard (beat.Ended (beat.Beaten readings)) (Refused refusal) of is = of
+beat_says h m heard (beat.Ended (beat.Beaten readings)) (Ack slot reply) of is = absurd (cc)
+beat_says h m heard (beat.Ended (beat.Beaten readings)) (Recovered n) of is = absurd (cc)
+beat_says h m heard (beat.Ended beat.NoMajority) (Beaten host) of is = of
+beat_says h m heard (beat.Ended beat.NoMajority) (Refused refusal) of is = of
+beat_says h m heard (beat.Ended beat.NoMajority) (Ack slot reply) of is = absurd (cc)
+beat_says h m heard (beat.Ended beat.NoMajority) (Recovered n) of is = absurd (cc)
+
+-- nor does a host with which one begins
+begins_beat_says : (old : Host) (said : HostAnswer) → said_of (beats old) ≡ Some said → ⊥
+begins_beat_says Stopped said is = absurd (cc)
+begins_beat_says (Running m) said is = absurd (cc)
 
 -- AT AN ENTRY
 
@@ -161,40 +189,64 @@ module _ (c : Shape) (log : List Filled) (i h : ℕ) (said : HostAnswer) where
   by_host : (e other : Filled) → slice_get log i ≡ Some e → e ≡ other → slice_get log i ≡ Some other
   by_host e other is same = is ∙ ap (λ (x : Filled). Some x) same
 
-  whence_by : (e : Filled) → slice_get log i ≡ Some e → MayFollow c (at c log i) e → is_of h e ≡ true → (at c log (i + 1)).host h ≡ host_step c h ((at c log i).host h) e → said_of (host_step c h ((at c log i).host h) e) ≡ Some said → Whence
-  whence_by (Start g) entry may of now is = begun ((at c log i).host h) (subst (λ (j : ℕ). IsTrue (is_stopped ((at c log i).host j))) (eqb-true g h of) may.1) is
-  whence_by (Stop g) entry may of now is = absurd (cc)
-  whence_by (Submit g command tries) entry may of now is =
-      operated ((at c log i).host h) (Submitting command) tries (by_host (Submit g command tries) (Submit h command tries) entry (ap (λ (j : ℕ). Submit j command tries) (eqb-true g h of))) is
-  whence_by (Recover g tries) entry may of now is =
-      operated ((at c log i).host h) Recovering tries (by_host (Recover g tries) (Recover h tries) entry (ap (λ (j : ℕ). Recover j tries) (eqb-true g h of))) is
-  whence_by (Called g k call answer left) entry may of now is =
-      let who = busy c g k call ((at c log i).host g) may.0 in
-      let own : (at c log i).host h ≡ Running who.0 = subst (λ (j : ℕ). (at c log i).host j ≡ Running who.0) (eqb-true g h of) who.2 in
+  abbrev CalledBy : ℕ → Call → Answer → List ℕ → Filled
+  CalledBy k call answer left = Called h k call answer left
+
+  -- an attempt hears the answer
+  attempted : (k : ℕ) (call : Call) (answer : Answer) (left : List ℕ) → slice_get log i ≡ Some (CalledBy k call answer left) → Attempts ((at c log i).host h) → (at c log (i + 1)).host h ≡ host_step c h ((at c log i).host h) (CalledBy k call answer left)
+      → said_of (host_step c h ((at c log i).host h) (CalledBy k call answer left)) ≡ Some said → Whence
+  attempted k call answer left entry who now is =
       let x : Answered = record { disk = k; heard = heard_as answer } in
-      let goes : host_step c h ((at c log i).host h) (Called g k call answer left) ≡ Running (goes_by c who.0 (with_heard who.1 x) (setup_of c h who.0 who.1.operation)) =
-      ap (λ (host : Host). host_step c h host (Called g k call answer left)) own ∙ ap (λ (o : Option Doing). Running (hears c h who.0 o x)) who.3 in
+      let goes : host_step c h ((at c log i).host h) (CalledBy k call answer left) ≡ Running (goes_by c who.memory (with_heard who.doing x) (setup_of c h who.memory who.doing.operation)) =
+      ap (λ (host : Host). host_step c h host (CalledBy k call answer left)) who.running ∙ ap (λ (o : Option Doing). Running (hears_from c h who.memory o k answer)) who.does in
       let here : AtACall c log i h said = record {
         disk = k;
         call = call;
         answer = answer;
         left = left;
-        entry = by_host (Called g k call answer left) (Called h k call answer left) entry (ap (λ (j : ℕ). Called j k call answer left) (eqb-true g h of));
-        memory = who.0;
-        doing = who.1;
-        running = own;
-        does = who.3;
+        entry = entry;
+        memory = who.memory;
+        doing = who.doing;
+        running = who.running;
+        does = who.does;
         runs_on = now ∙ goes;
       } in
       record { is = inr (here, ap said_of (sym goes) ∙ is) }
-  whence_by (Torn g k call left) entry may of now is = absurd (cc)
-  whence_by (Crashed k left) entry may of now is = absurd (cc)
-  whence_by (Lost k) entry may of now is = absurd (cc)
 
-  -- each answer comes from one of the two
-  pub whence : IsRun c log → SaysAt c log i h said → Whence
-  whence run says =
+  -- or a beat
+  beaten : (k : ℕ) (call : Call) (answer : Answer) (left : List ℕ) → Beats c h k call ((at c log i).host h) → IsOfLog said → said_of (host_step c h ((at c log i).host h) (CalledBy k call answer left)) ≡ Some said → ⊥
+  beaten k call answer left who of is =
+      let m = who.memory in
+      let x : beat_answers.Answered = record { disk = k; heard = beat_answers.heard_as answer } in
+      let heard = who.heard ++ x ∷ [] in
+      let st = beat.status (beat_of c h) (beat_answers.on heard) in
+      let goes : host_step c h ((at c log i).host h) (CalledBy k call answer left) ≡ Running (beat_by h m heard st) =
+      ap (λ (host : Host). host_step c h host (CalledBy k call answer left)) who.running ∙ ap (λ (o : Option Doing). Running (hears_from c h m o k answer)) who.rests
+      ∙ ap (λ (o : Option (List beat_answers.Answered)). Running (hears_beat c h m o x)) who.beats in
+      beat_says h m heard st said of (ap said_of (sym goes) ∙ is)
+
+  whence_by : IsOfLog said → (e : Filled) → slice_get log i ≡ Some e → MayFollow c (at c log i) e → is_of h e ≡ true → (at c log (i + 1)).host h ≡ host_step c h ((at c log i).host h) e → said_of (host_step c h ((at c log i).host h) e) ≡ Some said → Whence
+  whence_by log_says (Start g) entry may of now is = begun ((at c log i).host h) (subst (λ (j : ℕ). IsTrue (is_stopped ((at c log i).host j))) (eqb-true g h of) may.1) is
+  whence_by log_says (Stop g) entry may of now is = absurd (cc)
+  whence_by log_says (Submit g command tries) entry may of now is =
+      operated ((at c log i).host h) (Submitting command) tries (by_host (Submit g command tries) (Submit h command tries) entry (ap (λ (j : ℕ). Submit j command tries) (eqb-true g h of))) is
+  whence_by log_says (Recover g tries) entry may of now is =
+      operated ((at c log i).host h) Recovering tries (by_host (Recover g tries) (Recover h tries) entry (ap (λ (j : ℕ). Recover j tries) (eqb-true g h of))) is
+  whence_by log_says (Beat g) entry may of now is = absurd (begins_beat_says ((at c log i).host h) said is)
+  whence_by log_says (Called g k call answer left) entry may of now is =
+      let own = by_host (Called g k call answer left) (CalledBy k call answer left) entry (ap (λ (j : ℕ). Called j k call answer left) (eqb-true g h of)) in
+      elim (busy c h k call ((at c log i).host h) (subst (λ (j : ℕ). next_of c j ((at c log i).host j) ≡ Some (k, call)) (eqb-true g h of) may.0)) [
+        | inl who ↦ attempted k call answer left own who now is
+        | inr who ↦ absurd (beaten k call answer left who log_says is)
+      ]
+  whence_by log_says (Torn g k call left) entry may of now is = absurd (cc)
+  whence_by log_says (Crashed k left) entry may of now is = absurd (cc)
+  whence_by log_says (Lost k) entry may of now is = absurd (cc)
+
+  -- each acknowledgement and each recovery comes from one of the two
+  pub whence : IsOfLog said → IsRun c log → SaysAt c log i h said → Whence
+  whence log_says run says =
       let number : suc i ≡ i + 1 = omega arith in
       let now : (at c log (i + 1)).host h ≡ host_step c h ((at c log i).host h) says.entry =
       subst (λ (j : ℕ). (at c log j).host h ≡ host_step c h ((at c log i).host h) says.entry) number (host_next c log i says.entry h says.is says.of_host) in
-      whence_by says.entry says.is (each c log i says.entry run says.is) says.of_host now (ap said_of (sym now) ∙ says.says)
+      whence_by log_says says.entry says.is (each c log i says.entry run says.is) says.of_host now (ap said_of (sym now) ∙ says.says)

@@ -8,7 +8,7 @@ use Rattle.slot_log.specs.Shape.{Shape}
 use Rattle.attempt.specs.Answers.{Answered}
 use Rattle.phases.specs.Calls.{IsWithin, call_of_need, heard_of}
 use Rattle.host.specs.Kept.{due_call}
-use Rattle.dlm_images.proofs.Driving.{IsDriven, IsHeardBy, driven_at_first, driven_more, within_more, answers_due, idle_at_last, set_keeps}
+use Rattle.dlm_images.proofs.Driving.{IsDriven, IsHeardBy, attempt_hears, driven_at_first, driven_more, within_more, answers_due, idle_at_last, set_keeps}
 use Rattle.dlm_images.proofs.operation.drive.Goals as goal
 
 pub loop-made-init : goal.loop-made-init
@@ -37,7 +37,8 @@ loop-made-preserved g c = record {
       (record {
         busy = λ s h m leads. sym (c.idle.ensures.known s h m leads) ∙ c.if-idle.false;
         fits = λ s h m leads. answers_due _ (call_of_need c.call-need.result) (due_call c.loop-made.host) x (c.call-need.ensures.next s h m leads) c.call-need.ensures.due refl c.answer_of-heard.ensures.fits;
-        leads = λ s h m leads. c.hear.ensures.leads s h m leads;
+        leads = attempt_hears c.args.host.now c.loop-made.host c.hear.new.self _ c.args.host.now.learner.shape c.loop-made.invariant.driven (due_call c.loop-made.host).0 c.answer_of-heard.result
+            (λ s h m leads. sym (c.idle.ensures.known s h m leads) ∙ c.if-idle.false) c.hear.ensures.leads;
         alone = λ s h m leads. c.hear.ensures.alone s h m leads;
       })
       c.loop-made.invariant.driven;

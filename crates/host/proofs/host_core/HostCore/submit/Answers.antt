@@ -3,8 +3,8 @@ use Rattle.slot_log.specs.Learning as log
 use Rattle.slot_log.specs.declared.operation.Operation.TheVariants as operation
 use Rattle.slot_log.specs.declared.outcome.Outcome.{Outcome}
 use Rattle.host.specs.Host.{Submitting, goes_on}
-use Rattle.host.specs.Kept.{Kept, LeadsTo, values_of, answer_of}
-use Rattle.host.proofs.Hosts.{values_of-goes_on, learned-goes_on, carries-goes_on, follows}
+use Rattle.host.specs.Kept.{Kept, LeadsTo, values_with, values_of, answer_of}
+use Rattle.host.proofs.Hosts.{values_of-goes_on, learned-goes_on, carries-goes_on, follows, beats-goes_on, beats_kept}
 use Rattle.host.proofs.host_core.HostCore.submit.Goals as goal
 
 pub returns : goal.returns
@@ -14,9 +14,11 @@ returns c c' h m leads =
     let submitted = Submitting c.args.command in
     let Known : Kept → Type 0 = λ v. LeadsTo c' h m v in
     let known = subst Known (sym c.self.view_is) leads in
-    follows c' h (goes_on c' m submitted tries) _ (record { learner = c.place.new.self; prefix = s.prefix.items; said = c.of-self-inside.result }) None
-    (c.place.ensures.leads c' h (values_of m) known.learner)
+    let kept = beats_kept c' h m (goes_on c' m submitted tries) s.readings s.beat (beats-goes_on c' m submitted tries) known.readings known.beat in
+    follows c' h (goes_on c' m submitted tries) _ (record { learner = c.place.new.self; prefix = s.prefix.items; said = c.of-self-inside.result; beat = s.beat; readings = s.readings }) None
+    (c.place.ensures.leads c' h (values_with s.learner.said m) known.learner)
     (ap (λ (value : List ℕ). log.goes_on c' (values_of m) (operation.Placing value) tries) c.encode.ensures.spelling ∙ values_of-goes_on c' m submitted tries)
     (known.prefix ∙ sym (learned-goes_on c' m submitted tries))
     (c.of-self-inside.ensures ∙ ap (λ (o : Option Outcome). answer_of o None) c.said.ensures.said)
     (carries-goes_on None c' m submitted tries)
+    kept.0 kept.1

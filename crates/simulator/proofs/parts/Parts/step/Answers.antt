@@ -4,7 +4,6 @@ use Rattle.world.specs.Happens.{Step}
 use Rattle.simulator.proofs.Changes.{reached, seen, unseen}
 use Rattle.simulator.proofs.Owed as owed
 use Rattle.simulator.proofs.Owed.{kept_in, read_at}
-use Rattle.attempt.specs.Answers.{heard_as}
 use Rattle.simulator.proofs.parts.Parts.step.Goals as goal
 
 pub returns-then-not-is_busy : goal.returns-then-not-is_busy
@@ -64,7 +63,7 @@ invariant_of-self c =
     reached event old _ c.answer_of.result c.self.invariant
     (owed.steps old c.args.host i same within c.in-Some.core c.call-need.result c.from.result c.index_mut-disk.result.now found c.call-need.ensures.next
     c.call-need.ensures.due c.from.ensures inside c.index_mut-disk.ensures.value c.hear.new.self c.make-outcome.new.disk _ c.answer_of.result c.make-outcome.ensures.disk
-    c.make-outcome.ensures.size (c.heard.ensures ∙ ap heard_as c.make-outcome.ensures.answer) c.hear.ensures.leads c.answer_of.ensures)
+    c.make-outcome.ensures.size (c.heard.ensures.answer ∙ c.make-outcome.ensures.answer) c.hear.ensures.leads c.answer_of.ensures)
 
 pub returns : goal.returns
 returns c =
@@ -80,4 +79,4 @@ returns c =
     seen event old c.args.self.now _ c.answer_of.result c.self.view_is
     (owed.steps old c.args.host i same within c.in-Some.core c.call-need.result c.from.result c.index_mut-disk.result.now found c.call-need.ensures.next
     c.call-need.ensures.due c.from.ensures inside c.index_mut-disk.ensures.value c.hear.new.self c.make-outcome.new.disk _ c.answer_of.result c.make-outcome.ensures.disk
-    c.make-outcome.ensures.size (c.heard.ensures ∙ ap heard_as c.make-outcome.ensures.answer) c.hear.ensures.leads c.answer_of.ensures)
+    c.make-outcome.ensures.size (c.heard.ensures.answer ∙ c.make-outcome.ensures.answer) c.hear.ensures.leads c.answer_of.ensures)

@@ -1,0 +1,130 @@
+-- In a run each host's beat has heard a history, and a busy host has a call to make.
+use Rattle.std.proofs.Common.{ℕ, ◌*◌, ◌<◌, ◌≤◌, ◌≡◌, true, false, Option, Some, None, List, [], ◌∷◌, ◌++◌, length, refl, sym, subst, ap, ◌∙◌, inl, inr}
+use Rattle.std.proofs.lemmas.Bool.{eqb-true, cases_Bool}
+use Rattle.disk.specs.Disk.{Call, Answer}
+use Rattle.beats.specs.Answers.{Answered, on, heard_as}
+use Rattle.beats.specs.History.{Fits, IsAnswerTo, IsHistory}
+use Rattle.beats.specs.Status.{Setup, Status, Due, Ended, Beaten, NoMajority, status}
+use Rattle.beats.proofs.Histories as histories
+use Rattle.beats.proofs.Histories.{fits_too, history_more, starts}
+use Rattle.slot_log.specs.Shape.{Shape}
+use Rattle.host.specs.Host.{Operation, Submitting, Recovering, Doing, Memory, Host, Stopped, Running, hears_from, hears_beat, beat_by, beat_of, is_idle, is_idle_in, next_beat, next_doing, next_of}
+use Rattle.host.proofs.Hosts.{beats-goes_on, beats_heard}
+use Rattle.world.specs.Entry.{Filled, Start, Stop, Submit, Recover, Beat, Called, Torn, Crashed, Lost, is_of, host_step, started, beats, begins as begins_on}
+use Rattle.world.specs.World.{World, world, MayFollow, IsRun}
+use Rattle.world.proofs.Histories.{step_fits, has_call}
+use Rattle.world.proofs.Projections.{host_here, host_there}
+use Rattle.world.proofs.Runs.{by_run}
+
+-- a beat under way has heard a history, and has a call to make
+record IsUnderWay (s : Setup) (heard : List Answered) : Type 0 where
+  pub history : IsHistory s heard
+  pub due : 1 ≤ s.disks → (d : ℕ) × (status s (on heard) ≡ Due d)
+
+module _ (c : Shape) (h : ℕ) where
+  -- so is that of a busy host
+  abbrev IsBeating : Option (List Answered) → Type 0
+  IsBeating None = Unit {0}
+  IsBeating (Some heard) = IsUnderWay (beat_of c h) heard
+
+  abbrev IsHeard : Host → Type 0
+  IsHeard Stopped = Unit {0}
+  IsHeard (Running m) = IsBeating m.beats.heard
+
+  -- so it is where a beat begins
+  begun : (old : Host) → IsHeard (beats old)
+  begun Stopped = tt
+  begun (Running m) = record { history = tt; due = λ some. (0, starts (beat_of c h) some) }
+
+  -- or another operation
+  operated : (old : Host) (operation : Operation) (tries : ℕ) → IsHeard old → IsHeard (begins_on c old operation tries)
+  operated Stopped operation tries is = tt
+  operated (Running m) operation tries is = subst (λ (b : _). IsBeating b.heard) (sym (beats-goes_on c m operation tries)) is
+
+  -- and behind an answer to the call that was due
+  goes : (m : Memory) (heard : List Answered) (st : Status) → status (beat_of c h) (on heard) ≡ st → IsHistory (beat_of c h) heard → IsHeard (Running (beat_by h m heard st))
+  goes m heard (Due d) now is = record { history = is; due = λ some. (d, now) }
+  goes m heard (Ended (Beaten readings)) now is = tt
+  goes m heard (Ended NoMajority) now is = tt
+
+  beat_heard : (m : Memory) (o : Option (List Answered)) → m.beats.heard ≡ o → (k : ℕ) (call : Call) (answer : Answer) → next_beat c h o ≡ Some (k, call) → Fits call (heard_as answer) → IsBeating o
+      → IsHeard (Running (hears_beat c h m o (record { disk = k; heard = heard_as answer })))
+  beat_heard m None none k call answer next fits is = absurd (cc)
+  beat_heard m (Some heard) same k call answer next fits is =
+      let s = beat_of c h in
+      let x : Answered = record { disk = k; heard = heard_as answer } in
+      goes m (heard ++ x ∷ []) (status s (on (heard ++ x ∷ []))) refl
+      (history_more s heard x is.history (subst (λ (o : Option (ℕ × Call)). IsAnswerTo o x) (sym next) (refl, fits)))
+
+  heard_from : (m : Memory) (o : Option Doing) → m.doing ≡ o → (k : ℕ) (call : Call) (answer : Answer) → next_doing c h m o ≡ Some (k, call) → Fits call (heard_as answer) → IsBeating m.beats.heard → IsHeard (Running (hears_from c h m o k answer))
+  heard_from m None none k call answer next fits is = beat_heard m m.beats.heard refl k call answer next fits is
+  heard_from m (Some t) does k call answer next fits is = subst (λ (b : _). IsBeating b.heard) (sym (beats_heard c h m (Some t) _)) is
+
+  heard_on : (old : Host) (k : ℕ) (call : Call) (answer : Answer) → next_of c h old ≡ Some (k, call) → Fits call (heard_as answer) → IsHeard old → (left : List ℕ) → IsHeard (host_step c h old (Called h k call answer left))
+  heard_on Stopped k call answer next fits is left = tt
+  heard_on (Running m) k call answer next fits is left = heard_from m m.doing refl k call answer next fits is
+
+  start_heard : (old : Host) → IsHeard old → IsHeard (started old)
+  start_heard Stopped is = tt
+  start_heard (Running m) is = is
+
+  -- an entry of the host keeps it so
+  step_heard : (w : World) (e : Filled) → is_of h e ≡ true → MayFollow c w e → IsHeard (w.host h) → IsHeard (host_step c h (w.host h) e)
+  step_heard w (Start g) of m is = start_heard (w.host h) is
+  step_heard w (Stop g) of m is = tt
+  step_heard w (Submit g command tries) of m is = operated (w.host h) (Submitting command) tries is
+  step_heard w (Recover g tries) of m is = operated (w.host h) Recovering tries is
+  step_heard w (Beat g) of m is = begun (w.host h)
+  step_heard w (Called g k call answer left) of m is =
+      let next : next_of c h (w.host h) ≡ Some (k, call) = subst (λ (i : ℕ). next_of c i (w.host i) ≡ Some (k, call)) (eqb-true g h of) m.0 in
+      heard_on (w.host h) k call answer next (fits_too call answer (step_fits (w.disk k) _ call answer m.1)) is left
+  step_heard w (Torn g k call left) of m is = tt
+  step_heard w (Crashed k left) of m is = absurd (cc)
+  step_heard w (Lost k) of m is = absurd (cc)
+
+-- every beat of a run has heard a history
+run_heard : (c : Shape) (log : List Filled) → IsRun c log → (h : ℕ) → IsHeard c h ((world c log).host h)
+run_heard c log run =
+    by_run c (λ (l : List Filled). (h : ℕ) → IsHeard c h ((world c l).host h)) (λ h. tt)
+    (λ l e may is h. elim (cases_Bool (is_of h e)) [
+      | inl of ↦ subst (IsHeard c h) (sym (host_here c l e h of)) (step_heard c h (world c l) e of may (is h))
+      | inr off ↦ subst (IsHeard c h) (sym (host_there c l e h off)) (is h)
+    ])
+    log run
+
+module _ (c : Shape) (log : List Filled) (h : ℕ) (m : Memory) where
+  under_way : (heard : List Answered) → IsRun c log → (world c log).host h ≡ Running m → m.beats.heard ≡ Some heard → IsUnderWay (beat_of c h) heard
+  under_way heard run running beats = subst (IsBeating c h) beats (subst (IsHeard c h) running (run_heard c log run h))
+
+  pub history : (heard : List Answered) → IsRun c log → (world c log).host h ≡ Running m → m.beats.heard ≡ Some heard → IsHistory (beat_of c h) heard
+  history heard run running beats = (under_way heard run running beats).history
+
+  -- fewer than nine answers a disk
+  pub nine : (heard : List Answered) → 1 ≤ c.disks → IsRun c log → (world c log).host h ≡ Running m → m.beats.heard ≡ Some heard → length heard < 9 * c.disks
+  nine heard some run running beats =
+      let is = under_way heard run running beats in
+      let due = is.due some in
+      histories.going (beat_of c h) heard due.0 is.history due.1
+
+  -- a call of the beat is due
+  beat_call : (heard : List Answered) → 1 ≤ c.disks → IsRun c log → (world c log).host h ≡ Running m → m.beats.heard ≡ Some heard → (k : ℕ) × (call : Call) × (k < c.disks) × (next_beat c h (Some heard) ≡ Some (k, call))
+  beat_call heard some run running beats =
+      let s = beat_of c h in
+      let due = (under_way heard run running beats).due some in
+      let is = histories.due_is s (on heard) due.0 due.1 in
+      let next = histories.has_call s (on heard) due.0 due.1 in
+      (due.0, next.0, is.below, next.1)
+
+  -- or of an attempt
+  pub busy_call : 1 ≤ c.disks → IsRun c log → (world c log).host h ≡ Running m → is_idle m ≡ false → (k : ℕ) × (call : Call) × (k < c.disks) × (next_of c h (Running m) ≡ Some (k, call))
+  busy_call some run running busy = go m.doing refl busy
+    where
+      by_beat : (o : Option (List Answered)) → m.doing ≡ None → m.beats.heard ≡ o → is_idle_in (record m { beats = record m.beats { heard = o } }) None ≡ false → (k : ℕ) × (call : Call) × (k < c.disks) × (next_of c h (Running m) ≡ Some (k, call))
+      by_beat None none beats busy = absurd (cc)
+      by_beat (Some heard) none beats busy =
+          let call = beat_call heard some run running beats in
+          (call.0, call.1, call.2, ap (next_doing c h m) none ∙ ap (next_beat c h) beats ∙ call.3)
+
+      go : (o : Option Doing) → m.doing ≡ o → is_idle_in m o ≡ false → (k : ℕ) × (call : Call) × (k < c.disks) × (next_of c h (Running m) ≡ Some (k, call))
+      go None none busy = by_beat m.beats.heard none refl busy
+      go (Some t) does busy = has_call c log h m t some run running does
