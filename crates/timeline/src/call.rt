@@ -48,6 +48,8 @@ pub enum Phase {
     First,
     /// To vote.
     Second,
+    /// To tell that the host lives, and to read who else does.
+    Beat,
 }
 
 impl Phase {
@@ -70,6 +72,7 @@ impl Phase {
             Phase::Opening => "o",
             Phase::First => "p",
             Phase::Second => "v",
+            Phase::Beat => "t",
         }
     }
 }

@@ -62,7 +62,7 @@ fn turn_of(parts: &Parts, happened: &Happened, before: usize) -> Option<Turn> {
 }
 
 fn is_later_read(call: &Call) -> bool {
-    call.kind == Kind::Read && call.phase != Phase::Opening
+    call.kind == Kind::Read && matches!(call.phase, Phase::First | Phase::Second)
 }
 
 fn is_attach_due(core: &HostCore) -> bool {

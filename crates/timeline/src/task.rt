@@ -10,6 +10,7 @@ pub enum Task {
     Status,
     Purge,
     Recover,
+    Beat,
 }
 
 impl Task {
@@ -35,6 +36,7 @@ impl Task {
             Task::Status => "status",
             Task::Purge => "purge",
             Task::Recover => "recover",
+            Task::Beat => "beat",
         }
     }
 }

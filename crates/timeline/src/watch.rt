@@ -21,12 +21,14 @@ struct Device {
     is_lost: bool,
 }
 
-/// Follows a cluster from outside: whether an event applies, and which call of an attempt a step is.
+/// Follows a cluster from outside: whether an event applies, and which call of an attempt, or of a beat, a step is.
 #[derive(Drop)]
 pub struct Watch {
     /// Of each host, one for each disk.
     visits: Vec<Visit>,
     devices: Vec<Device>,
+    /// Of each host, whether its last operation was a beat.
+    beats: [bool; HOSTS],
 }
 
 impl Watch {
@@ -50,7 +52,11 @@ impl Watch {
                 })
                 .map_err(AllocError::from)?;
         }
-        Ok(Watch { visits, devices })
+        Ok(Watch {
+            visits,
+            devices,
+            beats: [false; HOSTS],
+        })
     }
 
     /// What an event will do to a cluster, if it applies.
@@ -64,14 +70,28 @@ impl Watch {
                 parts.host(host.get())?;
                 Some(Happened::Stopped(*host))
             }
-            Event::Submit { command, .. } => began(parts, command.host, Task::of(&command.action)),
-            Event::Recover { host, .. } => began(parts, *host, Task::Recover),
+            Event::Submit { command, .. } => self.began(
+                parts,
+                command.host,
+                Task::of(&command.action),
+            ),
+            Event::Recover { host, .. } => self.began(parts, *host, Task::Recover),
+            Event::Beat(host) => self.began(parts, *host, Task::Beat),
             Event::Step(host) => self.called(parts, *host, Ending::Done),
             Event::Tear { host, .. } => self.called(parts, *host, Ending::Torn),
             Event::FailCall { host, .. } => self.called(parts, *host, Ending::Failed),
             Event::DiskCrash { disk, .. } => self.crashed(*disk),
             Event::DiskGone(disk) => self.lost(*disk),
         }
+    }
+
+    /// The operation that an idle host begins.
+    fn began(&mut self, parts: &Parts, host: HostNumber, task: Task) -> Option<Happened> {
+        if !parts.host(host.get())?.idle() {
+            return None;
+        }
+        self.beats[usize::from(host.get())] = task == Task::Beat;
+        Some(Happened::Began { host, task })
     }
 
     /// The next call of a host, which is to end so, unless its disk refuses it.
@@ -91,7 +111,12 @@ impl Watch {
         if ending == Ending::Torn && kind != Kind::Write {
             return None;
         }
-        let phase = Phase::of(self.number(host, disk, kind));
+        let number = self.number(host, disk, kind);
+        let phase = if self.beats[usize::from(host.get())] {
+            Phase::Beat
+        } else {
+            Phase::of(number)
+        };
         let call = Call {
             disk,
             kind,
@@ -146,15 +171,6 @@ impl Watch {
         }
         self.devices[at].is_lost = true;
         Some(Happened::Lost(disk))
-    }
-}
-
-/// The operation that an idle host begins.
-fn began(parts: &Parts, host: HostNumber, task: Task) -> Option<Happened> {
-    if parts.host(host.get())?.idle() {
-        Some(Happened::Began { host, task })
-    } else {
-        None
     }
 }
 
