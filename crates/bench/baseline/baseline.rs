@@ -391,6 +391,63 @@ fn apply(table: &mut Table, count: u32) -> bool {
     (0..count).all(|place| table.apply(&command_at(place)) != Reply::Refused)
 }
 
+// BLOCKING: whether 32 clients with eight locks each wait for one another in a circle
+
+fn waiting_table() -> Table {
+    let mut table = Table::default();
+    for place in 0..256 {
+        let action = Action::Enqueue(place + 1, name(&[b'A' + (place / 8) as u8]), Mode::Exclusive);
+        table.apply(&Command { client: (place % 32) as u8, request: u64::from(place / 32) + 1, action });
+    }
+    table.records.sort_by_key(|record| (record.name, matches!(record.state, State::Waiting(_)), record.lock));
+    table
+}
+
+fn in_the_way(i: usize, x: &Record, j: usize, y: &Record) -> bool {
+    let (wanted, converts) = match x.state {
+        State::Granted(_) => return false,
+        State::Converting(_, wanted) => (wanted, true),
+        State::Waiting(wanted) => (wanted, false),
+    };
+    match y.state {
+        State::Granted(held) => x.lock != y.lock && !compatible(held, wanted),
+        State::Converting(held, _) => {
+            (x.lock != y.lock && !compatible(held, wanted)) || (converts && j < i) || !converts
+        }
+        State::Waiting(_) => !converts && j < i,
+    }
+}
+
+/// The first client of a circle, if there is one.
+fn circle(locks: &[Record]) -> Option<usize> {
+    let mut edges = [false; 65536];
+    for (i, x) in locks.iter().enumerate() {
+        for (j, y) in locks.iter().enumerate() {
+            let pair = 256 * usize::from(x.client) + usize::from(y.client);
+            if !edges[pair] && in_the_way(i, x, j, y) && x.name == y.name {
+                edges[pair] = true;
+            }
+        }
+    }
+    let mut left = [true; 256];
+    loop {
+        let mut taken = false;
+        for a in 0..256 {
+            if left[a] && !(0..256).fold(false, |held, b| held | (edges[256 * a + b] & left[b])) {
+                left[a] = false;
+                taken = true;
+            }
+        }
+        if !taken {
+            return left.iter().position(|&left| left);
+        }
+    }
+}
+
+fn blocking(table: &mut Table, count: u32) -> bool {
+    (0..count).all(|_| circle(black_box(&table.records)).is_none())
+}
+
 // THE FIRST PATH: host 0 alone, over one disk
 
 #[derive(Clone, Copy)]
@@ -650,6 +707,7 @@ fn main() {
     timed("block_write", 200_000, || Disk::new(2048), |disk, count| block_write(disk, count).is_ok());
     timed("decode_row", 200_000, || written_row().unwrap(), decode_rows);
     timed("apply", 1_000_000, standing_table, apply);
+    timed("blocking", 1_000, waiting_table, blocking);
     let host = || Host {
         disk: Disk::new(2048 + ROW * 4096),
         table: Table::default(),

@@ -17,6 +17,7 @@ mod run;
 mod slow_disk;
 mod threads;
 mod timing;
+mod waits;
 mod whole_attempt;
 mod words;
 

@@ -11,6 +11,7 @@ use crate::learn::Learn;
 use crate::overlap::{Order, slow_recoveries};
 use crate::threads::work_done;
 use crate::timing::{Ratio, Timing};
+use crate::waits::Waits;
 use crate::whole_attempt::WholeAttempt;
 use crate::words::Task;
 use cluster::Entry;
@@ -29,6 +30,7 @@ pub fn run_all<R: Print + Wait + Clock + AllocGlobal>(rt: &R, task: Task) -> Res
     run_one::<R, BlockWrite>(rt, task, "block_write", 200_000)?;
     run_one::<R, DecodeRow>(rt, task, "decode_row", 200_000)?;
     run_one::<R, Apply>(rt, task, "apply", 1_000_000)?;
+    run_one::<R, Waits>(rt, task, "blocking", 1_000)?;
     let locked = run_first_path(rt, task)?;
     let direct = run_one::<R, Direct>(rt, task, "direct", 4096)?;
     print_ratio(rt, "first_path/direct", locked, direct)?;

@@ -1,6 +1,7 @@
 ghost use Rattle.std.specs.Prelude.{◌≡◌, ◌+◌, IfOk, All, map, take};
 ghost use Rattle.world.specs.World.{world};
 ghost use Rattle.world.specs.Happens.{run, answers};
+ghost use Rattle.world_served.specs.Served.{ServesAlone};
 ghost use Rattle.simulator.specs.Events.{events_of};
 ghost use Rattle.simulator.specs.Answers.{line_of, IsPicturedIn};
 ghost use Rattle.simulator.specs.OneLog.{TellsOneLog};
@@ -13,6 +14,7 @@ use lock_script::Event;
 use slot_log::Config;
 use std::alloc::Global;
 use std::marker::Model;
+use world_served::alone_submissions_are_served;
 
 /// What the hosts answered, in the order of the events.
 #[derive(Drop)]
@@ -43,7 +45,11 @@ pub fn run(alloc: Global, config: Config, events: &[Event]) -> Result<Report, No
     ensures answers { IfOk result (λ report. map line_of report ≡ answers config (events_of events.now)) }
     ensures pictures { IfOk result (λ report. All (IsPicturedIn config (events_of events.now)) report) }
     ensures one_log { IfOk result (λ report. TellsOneLog config (events_of events.now) report) }
+    // A submission whose host is left alone is served, within seventeen calls a disk and slot.
+    ensures alone { ServesAlone config (run config (events_of events.now)) }
 {
+    let _disks = config.disks();
+    alone_submissions_are_served();
     let mut parts = Parts::new(alloc, config)?;
     let mut room = Room::new();
     let mut answers = Vec::new(alloc);

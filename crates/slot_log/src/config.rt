@@ -41,7 +41,8 @@ impl Config {
     }
 
     pub fn disks(self) -> u8
-        ensures { result ≡ self.disks }
+        ensures value { result ≡ self.disks }
+        ensures range { (1 ≤ result) × (result ≤ DISKS) }
     {
         self.disks
     }

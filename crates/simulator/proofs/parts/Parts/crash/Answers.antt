@@ -2,16 +2,9 @@ use Rattle.std.proofs.Common.{◌<◌, None, arith}
 use Rattle.world.specs.Happens.{DiskCrash}
 use Rattle.simulator.proofs.Changes.{reached, seen, unseen}
 use Rattle.simulator.proofs.Owed as owed
-use Rattle.simulator.proofs.Owed.{kept_in, read_at}
+use Rattle.simulator.proofs.Owed.{kept_in}
 use Rattle.simulator.proofs.Calls.{crashes_out}
 use Rattle.simulator.proofs.parts.Parts.crash.Goals as goal
-
-pub crash_disk-requires-clause-calm : goal.crash_disk-requires-clause-calm
-crash_disk-requires-clause-calm c =
-    let old = kept_in c.self.inside in
-    let i = c.from-at.result in
-    let inside : i < old.shape.disks = omega (arith, c.if-at-len.true, c.len.ensures, c.self.invariant.leads.shows.disk_count) in
-    owed.calm_at old c.self.invariant i c.index_mut-disk.result.now inside c.index_mut-disk.ensures.value
 
 pub invariant_of-self : goal.invariant_of-self
 invariant_of-self c =

@@ -1,0 +1,60 @@
+use crate::benchmark::Benchmark;
+use crate::failure::Failure;
+use inspect::{Blocking, blocking};
+use lock_command::{
+    Action, ClientNumber, Command, HostNumber, LockName, LockNumber, RequestNumber,
+};
+use lock_modes::Mode;
+use lock_table::{Picture, Reply, Table};
+use std::alloc::Global;
+
+/// The names, a letter each.
+const NAMES: &[u8; 32] = b"ABCDEFGHIJKLMNOPQRSTUVWXYZabcdef";
+
+/// Whether 32 clients with eight locks each keep one another waiting in a circle. Each of 32 names has eight locks, of which the first is
+/// granted and the others wait.
+#[derive(Drop)]
+pub struct Waits {
+    picture: Picture,
+}
+
+impl Benchmark for Waits {
+    fn new(alloc: Global) -> Result<Self, Failure> {
+        let mut table = Table::new(alloc)?;
+        for place in 0..256 {
+            let Some(command) = enqueue_at(place) else {
+                return Err(Failure::Wrong);
+            };
+            if let Reply::Refused(_) = table.apply(&command) {
+                return Err(Failure::Wrong);
+            }
+        }
+        Ok(Waits {
+            picture: table.picture(alloc)?,
+        })
+    }
+
+    fn run(&mut self, count: u32) -> Result<(), Failure> {
+        for _ in 0..count {
+            if let Blocking::Cycle(_) = blocking(&self.picture) {
+                return Err(Failure::Wrong);
+            }
+        }
+        Ok(())
+    }
+}
+
+/// The enqueue at this place, from 0.
+fn enqueue_at(place: u16) -> Option<Command> {
+    Some(Command {
+        host: HostNumber::new(0)?,
+        client: ClientNumber::new((place % 32) as u8),
+        request: RequestNumber::new(u64::from(place / 32) + 1)?,
+        action: Action::Enqueue {
+            lock: LockNumber::new(place.checked_add(1)?)?,
+            name: LockName::new(&[NAMES[usize::from(place / 8) % NAMES.len()]])?,
+            mode: Mode::Exclusive,
+            no_queue: false,
+        },
+    })
+}
