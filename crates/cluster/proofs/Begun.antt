@@ -9,27 +9,28 @@ use Rattle.lock_command.specs.Command.{Fits as FitsCommand}
 use Rattle.torn_block.specs.declared.layout.TheConstants.{HOSTS}
 use Rattle.slot_log.specs.Shape.{Shape}
 use Rattle.host.specs.declared.answer.HostAnswer.{HostAnswer}
-use Rattle.host.specs.Host.{Host, Running, fresh, Operation, Submitting, Recovering, Memory, Doing, goes_on, begins, says, full_answer, is_idle_in, idles, is_stopped, said_of}
+use Rattle.host.specs.Host.{Host, Running, fresh, Operation, Memory, Doing, goes_on, begins, says, full_answer, starts_beat, is_idle_in, idles, is_stopped, said_of}
 use Rattle.host.specs.Kept.{Kept, LeadsTo}
-use Rattle.world.specs.Entry.{Filled, Start, Stop, Submit, Recover, host_step, is_of}
-use Rattle.world.specs.World.{world, IsRun}
+use Rattle.world.specs.Entry.{Filled, Start, Stop, Submit, Recover, Beat, host_step, is_of}
+use Rattle.world.specs.World.{IsRun}
 use Rattle.world.proofs.Runs as runs
 use Rattle.world.proofs.Projections.{host_here}
 use Rattle.world.proofs.Follow.{command_reads_back}
 use Rattle.cluster_tie.specs.Parts.{Own, own_of, adds, of_host}
 use Rattle.cluster.specs.declared.receipt.Receipt.{Receipt}
 use Rattle.cluster.specs.Receipts.{still, receipt_by, receipts_at, receipts_of}
-use Rattle.cluster.specs.Seat.{host_in, IsKeptFor, IsDoing, IsRunning}
+use Rattle.cluster.specs.Seat.{host_in, IsKeptFor, IsBeating, IsDoing, IsRunning}
 use Rattle.cluster.proofs.Adding.{host_adds, receipts_adds}
+use Rattle.cluster.proofs.Operating.{idle_rests}
 use Rattle.cluster.proofs.Parts.{host_is}
 
-kept_if : (c : Shape) (m : Memory) (operation : Operation) (tries : ℕ) (sub : Option Command) → IsKeptFor operation sub → (b : Bool) → nat_lt (length m.learned) c.slots ≡ b
+kept_if : (c : Shape) (m : Memory) → m.beats.heard ≡ None → (operation : Operation) (tries : ℕ) (sub : Option Command) → IsKeptFor operation sub → (b : Bool) → nat_lt (length m.learned) c.slots ≡ b
     → let new = if b then begins m operation tries else says m (full_answer operation (length m.learned)) in IsDoing c new new.doing sub
-kept_if c m operation tries sub kept true is = (ltb-true (length m.learned) c.slots is, kept)
-kept_if c m operation tries sub kept false is = tt
+kept_if c m rest operation tries sub kept true is = (ltb-true (length m.learned) c.slots is, kept, refl, rest)
+kept_if c m rest operation tries sub kept false is = subst (IsBeating (says m (full_answer operation (length m.learned)))) (sym rest) tt
 
-kept_on : (c : Shape) (m : Memory) (operation : Operation) (tries : ℕ) (sub : Option Command) → IsKeptFor operation sub → let new = goes_on c m operation tries in IsDoing c new new.doing sub
-kept_on c m operation tries sub kept = kept_if c m operation tries sub kept (nat_lt (length m.learned) c.slots) refl
+kept_on : (c : Shape) (m : Memory) → m.beats.heard ≡ None → (operation : Operation) (tries : ℕ) (sub : Option Command) → IsKeptFor operation sub → let new = goes_on c m operation tries in IsDoing c new new.doing sub
+kept_on c m rest operation tries sub kept = kept_if c m rest operation tries sub kept (nat_lt (length m.learned) c.slots) refl
 
 same_if : (m first other : Memory) (b : Bool) → first.learned ≡ m.learned → other.learned ≡ m.learned → (if b then first else other).learned ≡ m.learned
 same_if m first other true is_first is_other = is_first
@@ -39,25 +40,25 @@ same_if m first other false is_first is_other = is_other
 learned_same : (c : Shape) (m : Memory) (operation : Operation) (tries : ℕ) → (goes_on c m operation tries).learned ≡ m.learned
 learned_same c m operation tries = same_if m (begins m operation tries) (says m (full_answer operation (length m.learned))) (nat_lt (length m.learned) c.slots) refl refl
 
-none_by : (h place : ℕ) (o : Option Doing) (said : Option HostAnswer) → is_idle_in o ≡ true → receipt_by h place o said ≡ []
-none_by h place None said idle = refl
-none_by h place (Some t) said idle = absurd (cc idle)
+none_by : (h place : ℕ) (m : Memory) (o : Option Doing) (said : Option HostAnswer) → is_idle_in m o ≡ true → receipt_by h place o said ≡ []
+none_by h place m None said idle = refl
+none_by h place m (Some t) said idle = absurd (cc idle)
 
 module _ (c : Shape) (own : Own) (core new : Kept) (before sub : Option Command) (at tries : ℕ) (operation : Operation) (e : Filled)
     (step : (m : Memory) → host_step c own.number (Running m) e ≡ Running (goes_on c m operation tries))
     (others : (xs : List Receipt) → still xs e ≡ xs)
     (kept : IsKeptFor operation sub)
     (r : IsRunning c own core before)
-    (idle : is_idle_in r.memory.doing ≡ true)
+    (idle : is_idle_in r.memory r.memory.doing ≡ true)
     (next : (c : Shape) (h : ℕ) (m : Memory) → LeadsTo c h m core → LeadsTo c h (goes_on c m operation tries) new) where
   is_begun : host_in c (adds own at e) ≡ Running (goes_on c r.memory operation tries)
   is_begun = host_adds c own at e ∙ ap (λ (s : Host). host_step c own.number s e) r.is ∙ step r.memory
 
   pub begun : IsRunning c (adds own at e) new sub
-  begun = record { memory = goes_on c r.memory operation tries; is = is_begun; leads = next c own.number r.memory r.leads; doing = kept_on c r.memory operation tries sub kept }
+  begun = record { memory = goes_on c r.memory operation tries; is = is_begun; leads = next c own.number r.memory r.leads; doing = kept_on c r.memory (idle_rests r.memory idle) operation tries sub kept }
 
   none_at : receipts_at c own.number (host_in c own) at e ≡ []
-  none_at = ap (λ (s : Host). receipts_at c own.number s at e) r.is ∙ none_by own.number at r.memory.doing (said_of (host_step c own.number (Running r.memory) e)) idle
+  none_at = ap (λ (s : Host). receipts_at c own.number s at e) r.is ∙ none_by own.number at r.memory r.memory.doing (said_of (host_step c own.number (Running r.memory) e)) idle
 
   pub none_more : receipts_of c own ≡ receipts_of c (adds own at e)
   none_more = sym (receipts_adds c own at e ∙ (λ i. others (receipts_of c own) i ++ none_at i) ∙ append-nil (receipts_of c own))
@@ -69,6 +70,30 @@ module _ (c : Shape) (own : Own) (core new : Kept) (before sub : Option Command)
       let same = ap (λ (l : List Command). length l) (learned_same c r.memory operation tries) in
       omega (arith, less, was, now, same)
 
+-- A BEAT BEGINS
+
+module _ (c : Shape) (own : Own) (core new : Kept) (sub : Option Command) (at : ℕ) (r : IsRunning c own core sub) (idle : is_idle_in r.memory r.memory.doing ≡ true)
+    (next : (c : Shape) (h : ℕ) (m : Memory) → LeadsTo c h m core → LeadsTo c h (starts_beat m) new) where
+  abbrev beat_entry : Filled
+  beat_entry = Beat own.number
+
+  pub beat_begun : IsRunning c (adds own at beat_entry) new sub
+  beat_begun = record { memory = starts_beat r.memory; is = host_adds c own at beat_entry ∙ ap (λ (s : Host). host_step c own.number s beat_entry) r.is; leads = next c own.number r.memory r.leads; doing = refl }
+
+  none_with : receipts_at c own.number (host_in c own) at beat_entry ≡ []
+  none_with = ap (λ (s : Host). receipts_at c own.number s at beat_entry) r.is ∙ none_by own.number at r.memory r.memory.doing (said_of (host_step c own.number (Running r.memory) beat_entry)) idle
+
+  pub none_beaten : receipts_of c own ≡ receipts_of c (adds own at beat_entry)
+  none_beaten = sym (receipts_adds c own at beat_entry ∙ ap (λ (l : List Receipt). receipts_of c own ++ l) none_with ∙ append-nil (receipts_of c own))
+
+  pub as_many_beaten : (acks : ℕ) → acks ≤ length core.prefix → acks ≤ length new.prefix
+  as_many_beaten acks less =
+      let was = ap (λ (l : List Command). length l) r.leads.prefix in
+      let now = ap (λ (l : List Command). length l) (next c own.number r.memory r.leads).prefix in
+      omega (arith, less, was, now)
+
+-- RUNS
+
 -- a run goes on by a submission
 pub submits : (c : Shape) (log : List Filled) (seat : Own) (command : Command) (tries : ℕ) → IsRun c log → seat.entries ≡ of_host seat.number log → idles (host_in c seat) ≡ true → FitsCommand command → command.host ≡ seat.number → 1 ≤ tries → IsRun c (log ++ Submit seat.number command tries ∷ [])
 submits c log seat command tries run of_seat idle fits is_host tried =
@@ -77,6 +102,9 @@ submits c log seat command tries run of_seat idle fits is_host tried =
 pub recovers : (c : Shape) (log : List Filled) (seat : Own) (tries : ℕ) → IsRun c log → seat.entries ≡ of_host seat.number log → idles (host_in c seat) ≡ true → 1 ≤ tries → IsRun c (log ++ Recover seat.number tries ∷ [])
 recovers c log seat tries run of_seat idle tried =
     runs.more c log (Recover seat.number tries) run (ap idles (host_is c log seat of_seat) ∙ idle, omega (arith, tried))
+
+pub beats : (c : Shape) (log : List Filled) (seat : Own) → IsRun c log → seat.entries ≡ of_host seat.number log → idles (host_in c seat) ≡ true → IsRun c (log ++ Beat seat.number ∷ [])
+beats c log seat run of_seat idle = runs.more c log (Beat seat.number) run (ap idles (host_is c log seat of_seat) ∙ idle)
 
 -- and by the start of a host that has no entry
 pub starts : (c : Shape) (log : List Filled) (h : ℕ) → IsRun c log → [] ≡ of_host h log → h < HOSTS → IsRun c (log ++ Start h ∷ [])

@@ -1,41 +1,31 @@
 -- What a seat keeps, before and behind an answer.
-use Rattle.std.proofs.Common.{◌≡◌, ◌+◌, ◌≤◌, ◌<◌, ℕ, Bool, true, false, List, ◌++◌, length, Option, Some, None, refl, sym, ap, subst, ◌∙◌, arith, length-append}
-use Rattle.std.specs.Option.{option_map}
+use Rattle.std.proofs.Common.{◌≡◌, ◌≤◌, ◌<◌, ℕ, true, false, List, ◌++◌, length, Option, Some, None, refl, sym, ap, ◌∙◌, arith, length-append}
+use Rattle.std.specs.Prelude.{is_some}
 use Rattle.disk.specs.Disk.{Call, Answer}
-use Rattle.attempt.specs.Answers.{Answered, heard_as}
+use Rattle.beats.specs.Answers.{Answered as Beaten}
 use Rattle.lock_command.specs.declared.command.Command.{Command}
-use Rattle.phases.specs.declared.notes.Notes.{Notes}
 use Rattle.slot_log.specs.Shape.{Shape}
-use Rattle.slot_log.specs.Learning as log
-use Rattle.slot_log.specs.Kept as learners
-use Rattle.slot_log.specs.declared.operation.Task.{Task}
-use Rattle.host.specs.declared.answer.HostAnswer.{HostAnswer}
-use Rattle.host.specs.Host.{Host, Running, Memory, Doing, hears, is_idle_in, idles, next_doing, next_in, next_of, said_of}
-use Rattle.host.specs.Kept.{Kept, LeadsTo, is_idle, values_of, doing_of}
+use Rattle.host.specs.Host.{Host, Running, Memory, Doing, hears_from, rests, is_idle_in, idles, next_beat, next_doing, next_in, next_of}
+use Rattle.host.specs.Kept.{Kept, LeadsTo, is_idle, rests as rests_in}
+use Rattle.host.proofs.Hosts.{idle_is, rests_by}
 use Rattle.world.specs.Entry.{Called, host_step}
 use Rattle.cluster_tie.specs.Parts.{Own, adds}
 use Rattle.cluster.specs.declared.receipt.Receipt.{Receipt}
-use Rattle.cluster.specs.Receipts as receipts
 use Rattle.cluster.specs.Receipts.{receipt_by, receipts_said, receipts_at, receipts_of}
-use Rattle.cluster.specs.Seat.{host_in, due_in, due_or, IsDueOn, IsDoing, IsRunning}
+use Rattle.cluster.specs.Seat.{host_in, due_in, IsDueOn, IsDoing, IsRunning}
 use Rattle.cluster.proofs.Adding.{host_adds, receipts_adds}
 use Rattle.cluster.proofs.Heard.{hears_keeps, hears_counts, said_is}
 
-same_idle : (c : Shape) (h : ℕ) (v : log.Memory) (o : Option Doing) (task : Option Task) (attempt : Notes) → learners.AreDoing c h v (option_map doing_of o) task attempt → learners.is_idle_with task ≡ is_idle_in o
-same_idle c h v None None attempt is = refl
-same_idle c h v None (Some task) attempt is = absurd is
-same_idle c h v (Some t) None attempt is = absurd is
-same_idle c h v (Some t) (Some task) attempt is = refl
+due_beats : (c : Shape) (h : ℕ) (o : Option (List Beaten)) (due : ℕ × Call) → next_beat c h o ≡ Some due → rests o ≡ false
+due_beats c h None due is = absurd (cc is)
+due_beats c h (Some heard) due is = refl
 
-pub idle_is : (c : Shape) (h : ℕ) (m : Memory) (k : Kept) → LeadsTo c h m k → is_idle k ≡ is_idle_in m.doing
-idle_is c h m k leads = same_idle c h (values_of m) m.doing k.learner.task k.learner.attempt leads.learner.doing
-
-due_busy : (c : Shape) (h : ℕ) (m : Memory) (o : Option Doing) (due : ℕ × Call) → next_doing c h m o ≡ Some due → is_idle_in o ≡ false
-due_busy c h m None due is = absurd (cc is)
+due_busy : (c : Shape) (h : ℕ) (m : Memory) (o : Option Doing) (due : ℕ × Call) → next_doing c h m o ≡ Some due → is_idle_in m o ≡ false
+due_busy c h m None due is = due_beats c h m.beats.heard due is
 due_busy c h m (Some t) due is = refl
 
 module _ (c : Shape) (own : Own) (core : Kept) (sub : Option Command) (r : IsRunning c own core sub) where
-  pub idles_is : idles (host_in c own) ≡ is_idle_in r.memory.doing
+  pub idles_is : idles (host_in c own) ≡ is_idle_in r.memory r.memory.doing
   idles_is = ap idles r.is
 
   pub idles_core : idles (host_in c own) ≡ is_idle core
@@ -44,28 +34,36 @@ module _ (c : Shape) (own : Own) (core : Kept) (sub : Option Command) (r : IsRun
   pub next_is : next_of c own.number (host_in c own) ≡ next_in c own.number r.memory
   next_is = ap (next_of c own.number) r.is
 
-  -- a call is due where an operation is under way
-  pub busy : (k : ℕ) → IsDueOn c own k → is_idle_in r.memory.doing ≡ false
+  -- a call is due where a task is under way
+  pub busy : (k : ℕ) → IsDueOn c own k → is_idle_in r.memory r.memory.doing ≡ false
   busy k due = due_busy c own.number r.memory r.memory.doing (k, (due_in c own).1) (sym next_is ∙ due)
 
   pub busy_core : (k : ℕ) → IsDueOn c own k → is_idle core ≡ false
   busy_core k due = idle_is c own.number r.memory core r.leads ∙ busy k due
 
-  pub below : (o : Option Doing) → is_idle_in o ≡ false → IsDoing c r.memory o sub → length r.memory.learned < c.slots
+  -- with no beat under way, an attempt is
+  resting : core.beat ≡ None → is_idle_in r.memory r.memory.doing ≡ false → is_some r.memory.doing ≡ true
+  resting none at_work = go r.memory.doing at_work
+    where
+      rest : rests r.memory.beats.heard ≡ true
+      rest = sym (rests_by c own.number r.memory.beats.heard core.beat r.leads.beat) ∙ ap rests_in none
+
+      go : (o : Option Doing) → is_idle_in r.memory o ≡ false → is_some o ≡ true
+      go None off = absurd (let both : true ≡ false = sym rest ∙ off in cc both)
+      go (Some t) off = refl
+
+  pub below : (o : Option Doing) → is_some o ≡ true → IsDoing c r.memory o sub → length r.memory.learned < c.slots
   below None at_work is = absurd (cc at_work)
   below (Some t) at_work is = is.0
 
-  -- there is room for one receipt more
-  pub few : (acks : ℕ) → is_idle_in r.memory.doing ≡ false → acks ≤ length core.prefix → acks < c.slots
-  few acks at_work less = let slots = below r.memory.doing at_work r.doing in let same = ap (λ (l : List Command). length l) r.leads.prefix in omega (arith, slots, same, less)
+  -- so there is room for one receipt more
+  pub few : (acks : ℕ) → core.beat ≡ None → is_idle_in r.memory r.memory.doing ≡ false → acks ≤ length core.prefix → acks < c.slots
+  few acks none at_work less = let slots = below r.memory.doing (resting none at_work) r.doing in let same = ap (λ (l : List Command). length l) r.leads.prefix in omega (arith, slots, same, less)
 
-  module _ (new : Kept) (at k : ℕ) (call : Call) (answer : Answer) (left : List ℕ) (at_work : is_idle_in r.memory.doing ≡ false)
-      (next : (c : Shape) (h : ℕ) (m : Memory) → LeadsTo c h m core → LeadsTo c h (hears c h m m.doing (record { disk = k; heard = heard_as answer })) new) where
-    abbrev x : Answered
-    x = record { disk = k; heard = heard_as answer }
-
+  module _ (new : Kept) (at k : ℕ) (call : Call) (answer : Answer) (left : List ℕ) (at_work : is_idle_in r.memory r.memory.doing ≡ false)
+      (next : (c : Shape) (h : ℕ) (m : Memory) → LeadsTo c h m core → LeadsTo c h (hears_from c h m m.doing k answer) new) where
     abbrev after : Memory
-    after = hears c own.number r.memory r.memory.doing x
+    after = hears_from c own.number r.memory r.memory.doing k answer
 
     is_after : host_in c (adds own at (Called own.number k call answer left)) ≡ Running after
     is_after = host_adds c own at (Called own.number k call answer left) ∙ ap (λ (s : Host). host_step c own.number s (Called own.number k call answer left)) r.is
@@ -74,11 +72,11 @@ module _ (c : Shape) (own : Own) (core : Kept) (sub : Option Command) (r : IsRun
     leads_after = next c own.number r.memory r.leads
 
     pub runs_on : IsRunning c (adds own at (Called own.number k call answer left)) new sub
-    runs_on = record { memory = after; is = is_after; leads = leads_after; doing = hears_keeps c own.number sub r.memory r.memory.doing x at_work r.doing }
+    runs_on = record { memory = after; is = is_after; leads = leads_after; doing = hears_keeps c own.number sub r.memory r.memory.doing k answer at_work r.doing }
 
     -- what was written down is what the entry acknowledges
     said : receipts_said own.number at sub new.said ≡ receipt_by own.number at r.memory.doing after.said
-    said = ap (receipts_said own.number at sub) leads_after.said ∙ said_is c own.number at sub r.memory r.memory.doing after.said at_work r.doing
+    said = ap (receipts_said own.number at sub) leads_after.said ∙ said_is c own.number at sub r.memory r.memory.doing k answer at_work r.doing
 
     pub acknowledged : (before acks : List Receipt) → before ≡ receipts_of c own → acks ≡ before ++ receipts_said own.number at sub new.said → acks ≡ receipts_of c (adds own at (Called own.number k call answer left))
     acknowledged before acks was is =
@@ -88,7 +86,7 @@ module _ (c : Shape) (own : Own) (core : Kept) (sub : Option Command) (r : IsRun
 
     pub counted : (before acks : List Receipt) → acks ≡ before ++ receipts_said own.number at sub new.said → length before ≤ length core.prefix → length acks ≤ length new.prefix
     counted before acks is less =
-        let more = hears_counts c own.number at sub r.memory r.memory.doing x at_work r.doing in
+        let more = hears_counts c own.number at sub r.memory r.memory.doing k answer at_work r.doing in
         let all = ap (λ (l : List Receipt). length l) (is ∙ ap (λ (l : List Receipt). before ++ l) said) ∙ length-append before (receipt_by own.number at r.memory.doing after.said) in
         let was = ap (λ (l : List Command). length l) r.leads.prefix in
         let now = ap (λ (l : List Command). length l) leads_after.prefix in

@@ -1,5 +1,6 @@
 -- What operations add to a host's own list, and what they answer.
-use Rattle.std.specs.Prelude.{◌≡◌, ◌⊎◌, ◌+◌, ℕ, Bool, true, false, List, [], ◌∷◌, ◌++◌, length, Option, Some, None}
+use Rattle.std.specs.Prelude.{◌≡◌, ◌⊎◌, ◌+◌, ℕ, true, false, List, [], ◌∷◌, ◌++◌, length, Option, Some, None}
+use Rattle.beats.specs.Answers.{Answered}
 use Rattle.lock_command.specs.declared.command.Command.{Command}
 use Rattle.slot_log.specs.Shape.{Shape}
 use Rattle.host.specs.declared.answer.HostAnswer.{HostAnswer}
@@ -13,7 +14,7 @@ use Rattle.cluster.specs.Seat.{host_in}
 use Rattle.cluster.specs.declared.fault.HostFault.{HostFault}
 use Rattle.cluster.specs.declared.fault.HostFault.TheVariants.{Refused, NoMemory, JournalFull, SeatTaken, SeatsMissing, OpenCall}
 use Rattle.cluster.specs.declared.operate.Resumed.{Resumed}
-use Rattle.cluster.specs.declared.operate.Resumed.TheVariants.{Submitted, Recovered}
+use Rattle.cluster.specs.declared.operate.Resumed.TheVariants.{Submitted, Recovered, Beaten}
 use Rattle.cluster.specs.declared.receipt.Receipt.{Receipt}
 
 -- ANSWERS
@@ -22,12 +23,14 @@ use Rattle.cluster.specs.declared.receipt.Receipt.{Receipt}
 abbrev pub IsLast : Receipt → List Receipt → Type 0
 IsLast receipt all = (before : List Receipt) × (all ≡ before ++ receipt ∷ [])
 
--- The host is idle, and what it said last is this answer: an acknowledgement with the last receipt of the list, or how many commands it has learned.
+-- The host is idle, and what it said last is this answer: an acknowledgement with the last receipt of the list, how many commands it has learned, or
+-- which host a beat suggests.
 abbrev pub Answers : Shape → Resumed → Own → Type 0
 Answers c (Submitted receipt) own =
     (idles (host_in c own) ≡ true) × (said_of (host_in c own) ≡ Some (said.Ack receipt.slot receipt.reply)) × IsLast receipt (receipts_of c own)
 Answers c (Recovered n) own =
     (idles (host_in c own) ≡ true) × (said_of (host_in c own) ≡ Some (said.Recovered n)) × (n ≡ length (learned_of (host_in c own)))
+Answers c (Beaten host) own = (idles (host_in c own) ≡ true) × (said_of (host_in c own) ≡ Some (said.Beaten host))
 
 -- WHAT WAS ADDED
 
@@ -62,45 +65,50 @@ Fails c e fault old new = IsUnbegun fault old new ⊎ ((place : ℕ) × Stops c 
 abbrev pub Restarts : Own → Own → Type 0
 Restarts old new = (place : ℕ) × (new ≡ adds (adds old place (Stop old.number)) (place + 1) (Start old.number))
 
--- WHILE AN OPERATION IS UNDER WAY
+-- WHILE A TASK IS UNDER WAY
 
--- the host may answer the operation so
-abbrev pub IsAnswer : Operation → List Command → Option HostAnswer → Type 0
-IsAnswer (Submitting command) learned None = ⊥
-IsAnswer (Submitting command) learned (Some (said.Ack slot reply)) = Unit {0}
-IsAnswer (Submitting command) learned (Some (said.Recovered n)) = ⊥
-IsAnswer (Submitting command) learned (Some (said.Refused refusal)) = Unit {0}
-IsAnswer Recovering learned None = ⊥
-IsAnswer Recovering learned (Some (said.Ack slot reply)) = ⊥
-IsAnswer Recovering learned (Some (said.Recovered n)) = n ≡ length learned
-IsAnswer Recovering learned (Some (said.Refused refusal)) = Unit {0}
+-- what a host carries out: an operation on the log, or a beat
+pub data Task : Type 0 where
+  Attempting : (operation : Operation) → Task
+  Beating : Task
 
--- the operation is under way, or was answered
-abbrev pub IsCarried : Operation → Memory → Option Doing → Type 0
-IsCarried operation m None = IsAnswer operation m.learned m.said
-IsCarried operation m (Some t) = (t.operation ≡ operation) × (m.said ≡ None)
+-- the host may answer the task so
+abbrev pub IsAnswer : Task → List Command → Option HostAnswer → Type 0
+IsAnswer task learned None = ⊥
+IsAnswer (Attempting (Submitting command)) learned (Some (said.Ack slot reply)) = Unit {0}
+IsAnswer (Attempting Recovering) learned (Some (said.Recovered n)) = n ≡ length learned
+IsAnswer Beating learned (Some (said.Beaten host)) = Unit {0}
+IsAnswer task learned (Some (said.Refused refusal)) = Unit {0}
+IsAnswer task learned other = ⊥
+
+-- the beat is under way, or the task was answered
+abbrev pub IsCarriedBeside : Task → Memory → Option (List Answered) → Type 0
+IsCarriedBeside task m None = IsAnswer task m.learned m.said
+IsCarriedBeside task m (Some heard) = (task ≡ Beating) × (m.said ≡ None)
+
+-- or the operation is, and no beat
+abbrev pub IsCarried : Task → Memory → Option Doing → Type 0
+IsCarried task m None = IsCarriedBeside task m m.beats.heard
+IsCarried task m (Some t) = (Attempting t.operation ≡ task) × (m.said ≡ None) × (m.beats.heard ≡ None)
 
 -- a submission that was acknowledged has the last receipt
-abbrev pub HasReceipt : Shape → Own → Operation → Option HostAnswer → Type 0
-HasReceipt c own (Submitting command) None = Unit {0}
-HasReceipt c own (Submitting command) (Some (said.Ack slot reply)) =
+abbrev pub HasReceipt : Shape → Own → Task → Option HostAnswer → Type 0
+HasReceipt c own (Attempting (Submitting command)) (Some (said.Ack slot reply)) =
     (place : ℕ) × IsLast (record { host = own.number; command = command; slot = slot; reply = reply; place = place }) (receipts_of c own)
-HasReceipt c own (Submitting command) (Some (said.Recovered n)) = Unit {0}
-HasReceipt c own (Submitting command) (Some (said.Refused refusal)) = Unit {0}
-HasReceipt c own Recovering said = Unit {0}
+HasReceipt c own task said = Unit {0}
 
 -- so it is of the host that its own list leads to
-pub record Carries (c : Shape) (operation : Operation) (own : Own) : Type 0 where
+pub record Carries (c : Shape) (task : Task) (own : Own) : Type 0 where
   pub memory : Memory
   pub is : host_in c own ≡ Running memory
-  pub doing : IsCarried operation memory memory.doing
-  pub receipt : HasReceipt c own operation memory.said
+  pub doing : IsCarried task memory memory.doing
+  pub receipt : HasReceipt c own task memory.said
 
--- whichever operation it is
+-- whichever task it is
 abbrev pub CarriesOne : Shape → Own → Type 0
-CarriesOne c own = (operation : Operation) × Carries c operation own
+CarriesOne c own = (task : Task) × Carries c task own
 
--- the operation that is over was refused so
+-- the task that is over was refused so
 abbrev pub IsRefusedBy : Shape → HostFault → Own → Type 0
 IsRefusedBy c (Refused refusal) own = said_of (host_in c own) ≡ Some (said.Refused refusal)
 IsRefusedBy c NoMemory own = ⊥

@@ -1,6 +1,7 @@
 -- A host's seat, as its own list of entries, and when what it keeps is what follows from that.
-use Rattle.std.specs.Prelude.{◌≡◌, ◌<◌, ◌≤◌, ℕ, List, length, Option, Some, None}
+use Rattle.std.specs.Prelude.{◌≡◌, ◌<◌, ℕ, List, length, Option, Some, None}
 use Rattle.disk.specs.Disk.{Call, Attach}
+use Rattle.beats.specs.Answers.{Answered}
 use Rattle.lock_command.specs.declared.command.Command.{Command}
 use Rattle.slot_log.specs.Shape.{Shape}
 use Rattle.host.specs.Host.{Host, Stopped, Running, Memory, Operation, Submitting, Recovering, Doing, next_of}
@@ -29,10 +30,15 @@ abbrev pub IsKeptFor : Operation → Option Command → Type 0
 IsKeptFor (Submitting command) submitting = submitting ≡ Some command
 IsKeptFor Recovering submitting = submitting ≡ None
 
--- an operation under way is on a slot, and its command is kept
+-- nothing is told while a beat is under way
+abbrev pub IsBeating : Memory → Option (List Answered) → Type 0
+IsBeating m None = Unit {0}
+IsBeating m (Some heard) = m.said ≡ None
+
+-- nor while an attempt is, which is on a slot; its command is kept, and no beat is under way
 abbrev pub IsDoing : Shape → Memory → Option Doing → Option Command → Type 0
-IsDoing c m None submitting = Unit {0}
-IsDoing c m (Some t) submitting = (length m.learned < c.slots) × IsKeptFor t.operation submitting
+IsDoing c m None submitting = IsBeating m m.beats.heard
+IsDoing c m (Some t) submitting = (length m.learned < c.slots) × IsKeptFor t.operation submitting × (m.said ≡ None) × (m.beats.heard ≡ None)
 
 -- the host runs, and this is what it keeps
 pub record IsRunning (c : Shape) (own : Own) (core : Kept) (submitting : Option Command) : Type 0 where

@@ -1,6 +1,6 @@
 ghost use Rattle.std.specs.Prelude.{◌≡◌, ◌≤◌, ◌+◌, ◌++◌, ◌∷◌, [], true, OnOk, OnErr, IfErr, ◌⊎◌, length};
 ghost use Rattle.host.specs.Host.{idles};
-ghost use Rattle.world.specs.Entry.{Submit, Recover};
+ghost use Rattle.world.specs.Entry.{Submit, Recover, Beat};
 ghost use Rattle.cluster_tie.specs.Parts.{adds};
 ghost use Rattle.cluster.specs.Seat.{host_in};
 
@@ -91,6 +91,35 @@ impl<'a, N: Named> Journal<'a, N> {
         self.entries.push_reserved(Entry::Recover { host, tries });
         seat.core.recover(tries);
         seat.submitting = None;
+        Ok(())
+    }
+}
+
+impl<'a, N: Named> Journal<'a, N> {
+    // The host begins a beat.
+    pub(crate) fn beat(&mut self, seat: &mut HostSeat<N>) -> Result<(), HostFault>
+        requires { idles (host_in N.shape seat.old) ≡ true }
+        ensures seat { OnOk result (seat.new ≡ adds seat.old (length self.old.log) (Beat seat.old.number)) }
+        ensures journal { OnOk result (self.new ≡ record self.old { log = self.old.log ++ Beat seat.old.number ∷ [] }) }
+        ensures unchanged { OnErr result ((seat.new ≡ seat.old) × (self.new ≡ self.old)) }
+        ensures causes { IfErr result (λ fault. (fault ≡ HostFault.JournalFull) ⊎ (fault ≡ HostFault.NoMemory)) }
+    {
+        self.beat_as::<Brand>(seat)
+    }
+
+    fn beat_as<E: Told>(&mut self, seat: &mut HostSeat<N>) -> Result<(), HostFault>
+        requires told { E.entry ≡ Beat seat.old.number }
+        requires idle { idles (host_in N.shape seat.old) ≡ true }
+        ensures seat { OnOk result (seat.new ≡ adds seat.old (length self.old.log) E.entry) }
+        ensures journal { OnOk result (self.new ≡ record self.old { log = self.old.log ++ E.entry ∷ [] }) }
+        ensures unchanged { OnErr result ((seat.new ≡ seat.old) × (self.new ≡ self.old)) }
+        ensures causes { IfErr result (λ fault. (fault ≡ HostFault.JournalFull) ⊎ (fault ≡ HostFault.NoMemory)) }
+    {
+        has_room(&mut self.entries, self.promised)?;
+        let host = seat.core.host();
+        self.ties.append_host::<E>(&mut self.tie, &mut seat.tie);
+        self.entries.push_reserved(Entry::Beat(host));
+        seat.core.beat();
         Ok(())
     }
 }

@@ -1,6 +1,6 @@
 ghost use Rattle.std.specs.Prelude.{◌≡◌, ◌⊎◌, ◌≤◌, ◌+◌, ℕ, true, false, length, IfOk, IfErr, OnOk, OnErr};
 ghost use Rattle.host.specs.Host.{idles, learned_of};
-ghost use Rattle.world.specs.Entry.{Submit, Recover};
+ghost use Rattle.world.specs.Entry.{Submit, Recover, Beat};
 ghost use Rattle.cluster.specs.Cluster.{GoesOn};
 ghost use Rattle.cluster.specs.Operations.{Answers, CarriesOne, Fails, IsRefusedBy, Operates, Restarts, Stops};
 ghost use Rattle.cluster.specs.Seat.{host_in};
@@ -17,11 +17,12 @@ use lock_command::Command;
 use std::alloc::Global;
 use std::sync::Wait;
 
-/// What an operation gave: a receipt, or how many commands were recovered.
+/// What an operation gave: a receipt, how many commands were recovered, or the host that a beat suggests.
 #[derive(Clone, Copy, Debug)]
 pub enum Resumed {
     Submitted(Receipt),
     Recovered(u16),
+    Beaten(u8),
 }
 
 impl<'a, N: Named, D: Disk + Drop> Cluster<'a, N, D> {
@@ -46,7 +47,7 @@ impl<'a, N: Named, D: Disk + Drop> Cluster<'a, N, D> {
         self.go_on(rt, seat, gate)?;
         match outcome(seat)? {
             Resumed::Submitted(receipt) => Ok(receipt),
-            Resumed::Recovered(_) => unreachable!(),
+            Resumed::Recovered(_) | Resumed::Beaten(_) => unreachable!(),
         }
     }
 
@@ -68,7 +69,28 @@ impl<'a, N: Named, D: Disk + Drop> Cluster<'a, N, D> {
         self.go_on(rt, seat, gate)?;
         match outcome(seat)? {
             Resumed::Recovered(length) => Ok(length),
-            Resumed::Submitted(_) => unreachable!(),
+            Resumed::Submitted(_) | Resumed::Beaten(_) => unreachable!(),
+        }
+    }
+
+    /// Writes the host's next heartbeat on the disks and reads those of all hosts, and tells which
+    /// host they suggest.
+    pub fn beat<G: Gate>(
+        &self,
+        rt: &impl Wait,
+        seat: &mut HostSeat<N>,
+        gate: &mut G,
+    ) -> Result<u8, HostFault>
+        requires { idles (host_in N.shape seat.old) ≡ true }
+        ensures steps { OnOk result (Operates N.shape (Beat seat.old.number) seat.old seat.new) }
+        ensures answer { IfOk result (λ host. Answers N.shape (Resumed.Beaten host) seat.new) }
+        ensures err { IfErr result (λ fault. Fails N.shape (Beat seat.old.number) fault seat.old seat.new) }
+    {
+        self.journal.lock(rt).beat(seat)?;
+        self.go_on(rt, seat, gate)?;
+        match outcome(seat)? {
+            Resumed::Beaten(host) => Ok(host),
+            Resumed::Submitted(_) | Resumed::Recovered(_) => unreachable!(),
         }
     }
 
@@ -141,6 +163,7 @@ fn outcome<N: Named>(seat: &HostSeat<N>) -> Result<Resumed, HostFault>
             None => unreachable!(),
         },
         Some(HostAnswer::Recovered { length }) => Ok(Resumed::Recovered(length)),
+        Some(HostAnswer::Beaten { host }) => Ok(Resumed::Beaten(host)),
         Some(HostAnswer::Refused(refusal)) => Err(HostFault::Refused(refusal)),
         None => unreachable!(),
     }

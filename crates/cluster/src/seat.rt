@@ -1,10 +1,11 @@
-ghost use Rattle.std.specs.Prelude.{◌≡◌, ◌<◌, ◌++◌, ℕ, false, Some, vec_len, vec_capacity};
+ghost use Rattle.std.specs.Prelude.{◌≡◌, ◌<◌, ◌++◌, ℕ, false, Some, None, vec_len, vec_capacity};
 ghost use Rattle.attempt.specs.History.{Fits};
 ghost use Rattle.lock_table.specs.Apply.{table_after};
 ghost use Rattle.lock_table.specs.Picture.{IsPictureOf};
+ghost use Rattle.beats.specs.Calls.{device_answer};
 ghost use Rattle.paxos_block.specs.Places.{image_length};
 ghost use Rattle.phases.specs.Calls.{call_of_need, heard_of, IsWithin};
-ghost use Rattle.host.specs.Host.{Memory, idles, said_of, learned_of, next_of, hears};
+ghost use Rattle.host.specs.Host.{Memory, idles, said_of, learned_of, next_of, hears_from};
 ghost use Rattle.host.specs.Kept.{LeadsTo, is_idle, due_call};
 ghost use Rattle.slot_log.specs.Shape.{Shape};
 ghost use Rattle.cluster.specs.Operations.{CarriesOne};
@@ -120,9 +121,10 @@ pub(crate) fn hear(
 )
     requires busy { is_idle core.old ≡ false }
     requires fits { Fits (due_call core.old).1 (heard_of heard.now) }
-    requires room { vec_len acks.old < vec_capacity acks.old }
+    // A beat brings no receipt.
+    requires room { core.old.beat ≡ None → vec_len acks.old < vec_capacity acks.old }
     ensures leads { (c : Shape) (h : ℕ) (m : Memory) → LeadsTo c h m core.old →
-        LeadsTo c h (hears c h m m.doing (record { disk = (due_call core.old).0; heard = heard_of heard.now })) core.new }
+        LeadsTo c h (hears_from c h m m.doing (due_call core.old).0 (device_answer heard.now)) core.new }
     ensures acks { acks.new.items ≡ acks.old.items ++ receipts_said core.old.learner.host place submitting core.new.said }
     ensures room { vec_capacity acks.new ≡ vec_capacity acks.old }
 {

@@ -90,6 +90,7 @@ impl Replay {
                 tries,
             } => self.submits(*host, command, *tries, place)?,
             Entry::Recover { host, tries } => self.recovers(*host, *tries),
+            Entry::Beat(host) => self.beats(*host),
             Entry::Called {
                 host,
                 disk,
@@ -157,6 +158,17 @@ impl Replay {
         }
         replica.core.recover(tries);
         replica.submitting = None;
+        true
+    }
+
+    fn beats(&mut self, host: HostNumber) -> bool {
+        let Some(replica) = self.host(host) else {
+            return false;
+        };
+        if !replica.core.idle() {
+            return false;
+        }
+        replica.core.beat();
         true
     }
 

@@ -342,13 +342,64 @@ fn faults_read_back(rt: HostRuntime) -> Result<(), Fail> {
 }
 
 #[derive(Drop)]
+struct Beaten {
+    suggested: Vec<u8>,
+    same: bool,
+}
+
+// Beats, where the host is idle.
+fn beaten<N: Named, D: Disk + Drop>(
+    rt: &impl Wait,
+    cluster: &Cluster<'_, N, D>,
+    seat: &mut HostSeat<N>,
+) -> Option<u8> {
+    if !seat.idle() {
+        return None;
+    }
+    cluster.beat(rt, seat, &mut OpenGate).ok()
+}
+
+// Two hosts beat in turn, twice each.
+fn beats_in_turn<N: Named, R: Wait>(rt: &R, alloc: Global, opening: Opening) -> Option<Beaten>
+    requires { IsNamed opening N.shape N.table N.name N.parts N.all }
+{
+    let config = opening.config();
+    let (ties, foundation) = opening.named::<N>(alloc).ok()?;
+    let cluster = Cluster::simulated(alloc, &ties, foundation).ok()?;
+    let mut one = cluster.seat(rt, alloc, HostNumber::new(3)?).ok()?;
+    let mut other = cluster.seat(rt, alloc, HostNumber::new(5)?).ok()?;
+    let mut suggested = Vec::new(alloc);
+    for _ in 0..2 {
+        suggested.push(beaten(rt, &cluster, &mut other)?).ok()?;
+        suggested.push(beaten(rt, &cluster, &mut one)?).ok()?;
+    }
+    let mut seats = Vec::new(alloc);
+    seats.push(one).ok()?;
+    seats.push(other).ok()?;
+    let record = cluster.finish(seats).ok()?;
+    let same = audit(alloc, config, &record, &[0]).ok()?;
+    Some(Beaten { suggested, same })
+}
+
+// A first beat suggests its own host, a later one the least that has beaten since.
+#[test]
+fn two_hosts_beat(rt: HostRuntime) -> Result<(), Fail> {
+    let config = Config::new(3, 4).ok_or("a size")?;
+    let opening = Opening::new(rt.alloc(), config)?;
+    let beaten = beats_in_turn::<Brand, HostRuntime>(&rt, rt.alloc(), opening).ok_or("a record")?;
+    assert_eq!(rt; beaten.suggested.as_slice(), [5u8, 3, 3, 3].as_slice());
+    assert!(rt; beaten.same);
+    Ok(())
+}
+
+#[derive(Drop)]
 struct Crowd {
     acks: usize,
     same: bool,
     harm: usize,
 }
 
-// A host submits so many commands, and starts anew and recovers after a few. It goes on where an operation is refused.
+// A host submits so many commands, beats now and then, and starts anew and recovers after a few. It goes on where an operation is refused.
 fn works<N: Named, R: Wait + Clock>(
     rt: &R,
     alloc: Global,
@@ -369,6 +420,15 @@ fn works<N: Named, R: Wait + Clock>(
                 thread::sleep(rt, Duration::from_millis(u64::from(host.get()) * 2 + 1));
             }
             Err(_) => return None,
+        }
+        if round % 4 == 1 {
+            if !seat.idle() {
+                return None;
+            }
+            match cluster.beat(rt, &mut seat, &mut OpenGate) {
+                Ok(_) | Err(HostFault::Refused(_)) => {}
+                Err(_) => return None,
+            }
         }
         if round == 3 || round == 9 {
             cluster.restart(rt, alloc, &mut seat).ok()?;

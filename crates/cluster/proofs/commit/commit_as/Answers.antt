@@ -1,22 +1,19 @@
-use Rattle.std.proofs.Common.{rules, ◌≡◌, ℕ, ◌+◌, ◌-◌, ◌≤◌, ◌<◌, ◌++◌, ◌∷◌, [], Some, None, List, Option, length, refl, sym, ap, subst, ◌∙◌, arith, false}
-use Rattle.std.proofs.lemmas.List.{length-map}
-use Rattle.disk.specs.Disk.{DiskState, Call, Answer}
-use Rattle.attempt.specs.Answers.{Answered, heard_as}
+use Rattle.std.proofs.Common.{◌≡◌, ℕ, ◌<◌, ◌++◌, ◌∷◌, [], List, length, sym, ap, subst, ◌∙◌, arith, false}
+use Rattle.disk.specs.Disk.{Call, Answer}
 use Rattle.phases.specs.Calls.{call_of_need}
 use Rattle.slot_log.specs.Shape.{Shape}
-use Rattle.host.specs.Host.{Memory, hears, is_idle_in}
+use Rattle.host.specs.Host.{Memory, hears_from, is_idle_in}
 use Rattle.host.specs.Kept.{LeadsTo}
 use Rattle.world.specs.Entry.{Filled, disk_step}
-use Rattle.world.specs.Plain.{plain, plains, kind_of, fault_in}
+use Rattle.world.specs.Plain.{plain, plains, kind_of}
 use Rattle.world.specs.World.{IsRun}
 use Rattle.world.specs.declared.entry.Entry.{Entry}
 use Rattle.world.specs.declared.entry.Entry.TheVariants as kept
 use Rattle.cluster_tie.specs.Parts.{Own, adds}
-use Rattle.cluster.specs.Book.{BookState, answer_in, disk_in, image_on, Makes, IsBook, IsFollowedBy}
+use Rattle.cluster.specs.Book.{BookState, answer_in, disk_in, image_on, Makes}
 use Rattle.cluster.specs.Commit.{called_by, left_by}
 use Rattle.cluster.specs.Receipts.{receipts_said, receipts_of}
-use Rattle.cluster.specs.declared.receipt.Receipt.{Receipt}
-use Rattle.cluster.specs.Seat.{host_in, due_in, due_or, IsDueOn, IsRunning}
+use Rattle.cluster.specs.Seat.{due_in, due_or, IsRunning}
 use Rattle.cluster.proofs.Adding.{disk_adds}
 use Rattle.cluster.proofs.Journals.{plains_more, place_is}
 use Rattle.cluster.proofs.Parts.{calls}
@@ -55,13 +52,13 @@ module _ (g : _) (c : goal.After-book-1 g) where
   entry_is : ◌≡◌ {A = Entry} (kept.Called c.host.result c.book.inside.number c.kind.result c.fault.result) (plain (called_by shape own book c.args.touched.outcome))
   entry_is i = kept.Called ((c.host.ensures ∙ host_same) i) (sym c.book.invariant.number i) ((c.kind.ensures ∙ ap (λ (p : ℕ × Call). kind_of p.1) (sym due)) i) (c.fault.ensures book.row i)
 
-  next : (s : Shape) (h : ℕ) (m : Memory) → LeadsTo s h m c.seat.inside.core → LeadsTo s h (hears s h m m.doing (record { disk = book.own.number; heard = heard_as (answer_in c.args.touched.outcome book.row) })) c.hear.new.core
+  next : (s : Shape) (h : ℕ) (m : Memory) → LeadsTo s h m c.seat.inside.core → LeadsTo s h (hears_from s h m m.doing book.own.number (answer_in c.args.touched.outcome book.row)) c.hear.new.core
   next s h m leads =
-      subst (λ (x : Answered). LeadsTo s h (hears s h m m.doing x) c.hear.new.core)
-      (λ i. record { disk = (ap (λ (p : ℕ × Call). p.0) (sym c.call.ensures.due ∙ sym due)) i; heard = c.heard-heard.ensures.same i })
+      subst (λ (p : ℕ × Answer). LeadsTo s h (hears_from s h m m.doing p.0 p.1) c.hear.new.core)
+      (λ i. ((ap (λ (p : ℕ × Call). p.0) (sym c.call.ensures.due ∙ sym due)) i, c.heard-heard.ensures.answer i))
       (c.hear.ensures.leads s h m leads)
 
-  at_work : is_idle_in c.seat.invariant.running.memory.doing ≡ false
+  at_work : is_idle_in c.seat.invariant.running.memory c.seat.invariant.running.memory.doing ≡ false
   at_work = busy shape own c.seat.inside.core c.seat.inside.submitting c.seat.invariant.running book.own.number made.due
 
   new_is : adds own (length log) (called_by shape own book c.args.touched.outcome) ≡ c.append.new.host
