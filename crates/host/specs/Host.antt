@@ -6,7 +6,7 @@ use Rattle.attempt.specs.Setup.{Setup}
 use Rattle.attempt.specs.Status.{Status, Due, Ended, End, status, taken}
 use Rattle.attempt.specs.Status as attempt
 use Rattle.attempt.specs.NextCall.{next_call}
-use Rattle.heartbeat.specs.Suggesting.{suggestion}
+use Rattle.heartbeat.specs.Suggesting.{Readings, suggestion}
 use Rattle.beats.specs.Answers as beat_answers
 use Rattle.beats.specs.Status as beat
 use Rattle.lock_command.specs.declared.command.Command.{Command}
@@ -36,10 +36,6 @@ pub record Doing : Type 0 where
   pub operation : Operation
   pub tries : ℕ
   pub heard : List Answered
-
--- of each disk the counters in its heartbeat area, or nothing
-abbrev pub Readings : Type 0
-Readings = List (Option (List ℕ))
 
 -- what the last beat that ended well read, and what the beat under way has heard
 pub record Beats : Type 0 where

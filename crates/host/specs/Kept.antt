@@ -6,6 +6,7 @@ use Rattle.lock_command.specs.declared.command.Command.{Command}
 use Rattle.lock_command.specs.Command.{spelling}
 use Rattle.lock_table.specs.declared.reply.Reply.{Reply}
 use Rattle.slot_log.specs.Shape.{Shape}
+use Rattle.heartbeat.specs.Suggesting.{Readings}
 use Rattle.beats.specs.Answers as beat_answers
 use Rattle.beats.specs.Kept as beat_kept
 use Rattle.beats.specs.declared.notes.Notes.{Notes}
@@ -17,7 +18,7 @@ use Rattle.slot_log.specs.declared.outcome.Outcome as log_outcome
 use Rattle.slot_log.specs.declared.outcome.Outcome.TheVariants as outcome
 use Rattle.host.specs.declared.answer.HostAnswer.{HostAnswer}
 use Rattle.host.specs.declared.answer.HostAnswer.TheVariants.{Ack, Recovered, Beaten, Refused}
-use Rattle.host.specs.Host.{Operation, Submitting, Recovering, Doing, Memory, Readings, beat_of}
+use Rattle.host.specs.Host.{Operation, Submitting, Recovering, Doing, Memory, beat_of}
 
 -- its learner, the commands learned, what the last entry made it say, the beat under way, and what the last beat that ended
 -- well read

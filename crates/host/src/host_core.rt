@@ -170,6 +170,7 @@ impl HostCore {
     }
 
     /// The device call that is due.
+    #[inline]
     pub fn call(&self) -> Need<'_>
         requires { is_idle self.now ≡ false }
         ensures next { (c : Shape) (h : ℕ) (m : Memory) → LeadsTo c h m self.now →

@@ -348,7 +348,7 @@ struct Beaten {
 }
 
 // Beats, where the host is idle.
-fn beaten<N: Named, D: Disk + Drop>(
+fn beat_once<N: Named, D: Disk + Drop>(
     rt: &impl Wait,
     cluster: &Cluster<'_, N, D>,
     seat: &mut HostSeat<N>,
@@ -370,8 +370,8 @@ fn beats_in_turn<N: Named, R: Wait>(rt: &R, alloc: Global, opening: Opening) -> 
     let mut other = cluster.seat(rt, alloc, HostNumber::new(5)?).ok()?;
     let mut suggested = Vec::new(alloc);
     for _ in 0..2 {
-        suggested.push(beaten(rt, &cluster, &mut other)?).ok()?;
-        suggested.push(beaten(rt, &cluster, &mut one)?).ok()?;
+        suggested.push(beat_once(rt, &cluster, &mut other)?).ok()?;
+        suggested.push(beat_once(rt, &cluster, &mut one)?).ok()?;
     }
     let mut seats = Vec::new(alloc);
     seats.push(one).ok()?;
