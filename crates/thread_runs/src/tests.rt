@@ -399,7 +399,7 @@ struct Crowd {
     harm: usize,
 }
 
-// A host submits so many commands, beats now and then, and starts anew and recovers after a few. It goes on where an operation is refused.
+// A host submits so many commands, beats now and then, and starts anew and recovers after a few.
 fn works<N: Named, R: Wait + Clock>(
     rt: &R,
     alloc: Global,
@@ -409,39 +409,69 @@ fn works<N: Named, R: Wait + Clock>(
 ) -> Option<HostSeat<N>> {
     let mut seat = cluster.seat(rt, alloc, host).ok()?;
     for round in 0..rounds {
-        let command = turn(seat.host(), round + 1)?;
-        if !seat.idle() {
-            return None;
-        }
-        match cluster.submit(rt, &mut seat, &mut OpenGate, command, 4) {
-            Ok(_) => {}
-            // Whoever was outrun lets the others go on for a while.
-            Err(HostFault::Refused(_)) => {
-                thread::sleep(rt, Duration::from_millis(u64::from(host.get()) * 2 + 1));
-            }
-            Err(_) => return None,
-        }
+        take_turn(rt, cluster, &mut seat, round + 1)?;
         if round % 4 == 1 {
-            if !seat.idle() {
-                return None;
-            }
-            match cluster.beat(rt, &mut seat, &mut OpenGate) {
-                Ok(_) | Err(HostFault::Refused(_)) => {}
-                Err(_) => return None,
-            }
+            beat_if_idle(rt, cluster, &mut seat)?;
         }
         if round == 3 || round == 9 {
-            cluster.restart(rt, alloc, &mut seat).ok()?;
-            if !seat.idle() {
-                return None;
-            }
-            match cluster.recover(rt, &mut seat, &mut OpenGate, 255) {
-                Ok(_) | Err(HostFault::Refused(_)) => {}
-                Err(_) => return None,
-            }
+            start_anew(rt, alloc, cluster, &mut seat)?;
         }
     }
     Some(seat)
+}
+
+// Submits the command of this round. Whoever is outrun lets the others go on for a while.
+fn take_turn<N: Named, R: Wait + Clock>(
+    rt: &R,
+    cluster: &Cluster<'_, N, SimDisk>,
+    seat: &mut HostSeat<N>,
+    round: u16,
+) -> Option<()> {
+    let command = turn(seat.host(), round)?;
+    if !seat.idle() {
+        return None;
+    }
+    let pause = u64::from(seat.host().get()) * 2 + 1;
+    match cluster.submit(rt, seat, &mut OpenGate, command, 4) {
+        Ok(_) => Some(()),
+        Err(HostFault::Refused(_)) => {
+            thread::sleep(rt, Duration::from_millis(pause));
+            Some(())
+        }
+        Err(_) => None,
+    }
+}
+
+// Beats, refused or not.
+fn beat_if_idle<N: Named>(
+    rt: &impl Wait,
+    cluster: &Cluster<'_, N, SimDisk>,
+    seat: &mut HostSeat<N>,
+) -> Option<()> {
+    if !seat.idle() {
+        return None;
+    }
+    match cluster.beat(rt, seat, &mut OpenGate) {
+        Ok(_) | Err(HostFault::Refused(_)) => Some(()),
+        Err(_) => None,
+    }
+}
+
+// Stops and starts, and recovers, refused or not.
+fn start_anew<N: Named>(
+    rt: &impl Wait,
+    alloc: Global,
+    cluster: &Cluster<'_, N, SimDisk>,
+    seat: &mut HostSeat<N>,
+) -> Option<()> {
+    cluster.restart(rt, alloc, seat).ok()?;
+    if !seat.idle() {
+        return None;
+    }
+    match cluster.recover(rt, seat, &mut OpenGate, 255) {
+        Ok(_) | Err(HostFault::Refused(_)) => Some(()),
+        Err(_) => None,
+    }
 }
 
 // By turns an enqueue of the host's lock, which may have to wait for those of others, and its release.
