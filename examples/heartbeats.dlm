@@ -1,4 +1,4 @@
-# Hosts beat, and each beat suggests the least host that has beaten since the one before it: the least host that lives.
+# Hosts beat, and each beat suggests the least host whose counter has moved since the one before it.
 cluster 3 4
 start 0
 start 1
