@@ -46,7 +46,7 @@ pub fn run(alloc: Global, config: Config, events: &[Event]) -> Result<Report, No
     ensures pictures { IfOk result (λ report. All (IsPicturedIn config (events_of events.now)) report) }
     ensures one_log { IfOk result (λ report. TellsOneLog config (events_of events.now) report) }
     // A submission whose host is left alone is served, within seventeen calls a disk and slot.
-    ensures alone { ServesAlone config (run config (events_of events.now)) }
+    ensures alone { IfOk result (λ _. ServesAlone config (run config (events_of events.now))) }
 {
     let _disks = config.disks();
     alone_submissions_are_served();

@@ -1,4 +1,4 @@
-use Rattle.std.proofs.Common.{◌+◌, ◌++◌, ◌∷◌, [], List, Option, Some, take, ap, ◌∙◌, sym, subst}
+use Rattle.std.proofs.Common.{◌≤◌, ◌+◌, ◌++◌, ◌∷◌, [], List, Option, Some, take, ap, ◌∙◌, sym, subst, arith}
 use Rattle.world.specs.Entry.{Filled}
 use Rattle.world.specs.Happens.{run}
 use Rattle.simulator.specs.declared.answer.Answer.{Answer}
@@ -54,3 +54,8 @@ returns-clause-one_log c =
     let before = c.loop-place.invariant in
     tells c.args.config (events_of c.args.events.now) c.loop-place.answers.items
     (all_listed c.args.config c.args.events.now c.loop-place.place c.loop-place.parts c.loop-place.answers.items c.loop-place-test.false before) before.pictures
+
+pub returns-clause-alone : goal.returns-clause-alone
+returns-clause-alone c =
+    let disks = c.disks-disks.ensures in
+    c.alone_submissions_are_served.ensures.events c.args.config (events_of c.args.events.now) (omega (arith, disks.value, disks.range.0))
