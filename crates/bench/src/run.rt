@@ -83,7 +83,10 @@ pub fn print_threads<R: Print + Threads + Wait + Clock + AllocGlobal + Sync>(
     for (name, order) in [("at_once", Order::AtOnce), ("in_turn", Order::InTurn)] {
         let calls = slow_recoveries(rt, order)?;
         let each = calls.spent / 1_000 / (calls.made as u64).max(1);
-        println!(rt; "slow_disks_{name} {} calls, {each} microseconds a call", calls.made)?;
+        println!(rt;
+            "slow_disks_{name} {} calls, {each} microseconds a call",
+            calls.made
+        )?;
     }
     Ok(())
 }

@@ -2,10 +2,10 @@
 #![tactic(auto)]
 
 mod device_call;
-mod replay;
-mod same;
 #[cfg(test)]
 mod pair_disk;
+mod replay;
+mod same;
 #[cfg(test)]
 mod tests;
 

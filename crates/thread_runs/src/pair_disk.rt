@@ -72,8 +72,11 @@ impl<R: Clock> Disk for PairDisk<'_, R> {
     ghost use Rattle.std.specs.Prelude.{refl};
 
     ghost state = { λ d. d.disk.disk };
+
     ghost device = { λ d. device_of d.disk.disk };
+
     ghost failures = { λ d. d.disk.failures };
+
     ghost told = { λ d tells. refl };
 
     fn size(&self) -> u64 {
