@@ -155,6 +155,21 @@ fn conversion_before_waiting_locks(rt: HostRuntime) -> Result<(), Fail> {
 }
 
 #[test]
+fn conversion_once_the_others_are_gone(rt: HostRuntime) -> Result<(), Fail> {
+    let table = &mut Table::new(rt.alloc())?;
+    let held = Reply::State(LockState::Granted(ALONE));
+    let steps = [
+        (0, 1, 1, Ask::Enqueue(1, READ, b'a'), Reply::Granted),
+        (0, 2, 1, Ask::Enqueue(2, READ, b'a'), Reply::Granted),
+        (0, 1, 2, Ask::Convert(1, ALONE), Reply::Queued),
+        (0, 2, 2, Ask::Release(2), Reply::Released),
+        (0, 2, 3, Ask::Status(1), held),
+    ];
+    assert!(rt; replies(table, &steps)?);
+    Ok(())
+}
+
+#[test]
 fn later_waiters_do_not_overtake(rt: HostRuntime) -> Result<(), Fail> {
     let table = &mut Table::new(rt.alloc())?;
     let steps = [
