@@ -1,3 +1,6 @@
+mod flat;
+mod random;
+
 use crate::{LockState, Picture, Refusal, Reply, Table};
 use lock_command::{
     Action, ClientNumber, Command, HostNumber, LockName, LockNumber, RequestNumber,
