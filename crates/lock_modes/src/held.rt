@@ -94,6 +94,16 @@ impl Held {
             && self.lets(Mode::Exclusive, mode)
     }
 
+    /// Whether a lock that holds a mode may hold another in its place, beside all others that are counted.
+    pub fn admits_without(&self, own: Mode, wanted: Mode) -> bool
+        requires own_counted { 0 < count_of self.now own }
+        ensures admitted { (others : Held) → AddsMode others self.now own → IsTrue result ↔ Admits others wanted }
+    {
+        let mut others = *self;
+        others.remove(own);
+        others.admits(wanted)
+    }
+
     /// Whether the locks that hold one mode let another be held beside them.
     fn lets(&self, held: Mode, wanted: Mode) -> bool
         ensures { IsTrue result ↔ Lets self.now wanted held }

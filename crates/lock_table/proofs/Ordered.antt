@@ -20,7 +20,7 @@ module _ {X : Type 0} (cmp : X → X → Ordering) where
   IsAscending [] = Unit {0}
   IsAscending (x ∷ xs) = Each (λ y. lt y x ≡ false) xs × IsAscending xs
 
-  each_more : (P Q : X → Type 0) → ((x : X) → P x → Q x) → (xs : List X) → Each P xs → Each Q xs
+  pub each_more : (P Q : X → Type 0) → ((x : X) → P x → Q x) → (xs : List X) → Each P xs → Each Q xs
   each_more P Q more [] each = tt
   each_more P Q more (x ∷ xs) each = (more x each.0, each_more P Q more xs each.1)
 
@@ -36,7 +36,7 @@ module _ {X : Type 0} (cmp : X → X → Ordering) where
   each_any [] = tt
   each_any (x ∷ xs) = (tt, each_any xs)
 
-  clash : (b : Bool) → b ≡ true → b ≡ false → ⊥
+  pub clash : (b : Bool) → b ≡ true → b ≡ false → ⊥
   clash b yes_is no_is = let both : true ≡ false = sym yes_is ∙ no_is in cc
 
   none_kept : (P : X → Bool) (ys : List X) → Each (λ z. P z ≡ false) ys → filter P ys ≡ []
@@ -168,5 +168,8 @@ module _ {X : Type 0} (cmp : X → X → Ordering) where
         let more : suc k + 1 ≡ suc (k + 1) = omega arith in
         rw more (sorted_at (y ∷ ys) k d up.1 (omega (arith, far)))
 
+    pub sorted_from_ascending : (xs : List X) → IsAscending xs → IsSorted cmp xs
+    sorted_from_ascending xs up k d from far = sorted_at xs k d up far
+
     pub IsSorted-in_order : (xs : List X) → IsSorted cmp (in_order cmp xs)
-    IsSorted-in_order xs k d from far = sorted_at (in_order cmp xs) k d (ascends_from [] xs tt) far
+    IsSorted-in_order xs = sorted_from_ascending (in_order cmp xs) (ascends_from [] xs tt)

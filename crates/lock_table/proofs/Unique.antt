@@ -22,12 +22,13 @@ use Rattle.lock_table.specs.declared.record.KnownClient.{KnownClient}
 use Rattle.lock_table.specs.State.{is_converting, is_waiting}
 use Rattle.lock_table.specs.Locks.{is_lock, is_on, converts_on, waits_on}
 use Rattle.lock_table.specs.Apply.{Plain, is_client}
+use Rattle.lock_table.specs.Placed.{in_order}
 use Rattle.lock_table.specs.Picture.{rank_of, number_among, printed_cmp, client_cmp, HasSameLocks, IsPictureOf}
 use Rattle.lock_table.proofs.Parts.{filter_within}
 use Rattle.lock_table.proofs.Alike.{same_back, same_through}
 use Rattle.lock_table.proofs.Apart.{same_name-itself}
 use Rattle.lock_table.proofs.Pictures.{printed_total, printed_order, client_order}
-use Rattle.lock_table.proofs.Ordered.{Each, IsAscending}
+use Rattle.lock_table.proofs.Ordered.{Each, IsAscending, IsSorted-in_order}
 
 module _ {X : Type 0} (cmp : X → X → Ordering) (order : IsStrictWeakOrder (λ x y. is_lt (cmp x y))) where
   abbrev lt : X → X → Bool
@@ -39,7 +40,7 @@ module _ {X : Type 0} (cmp : X → X → Ordering) (order : IsStrictWeakOrder (�
   clash : (b : Bool) → b ≡ true → b ≡ false → ⊥
   clash b yes_is no_is = let both : true ≡ false = sym yes_is ∙ no_is in cc
 
-  not_below_itself : (x : X) → lt x x ≡ false
+  pub not_below_itself : (x : X) → lt x x ≡ false
   not_below_itself x = elim (lt x x) as (λ t. lt x x ≡ t → t ≡ false) [
     | true ↦ λ e. sym e ∙ order.one_way x x e
     | false ↦ λ e. refl
@@ -48,11 +49,11 @@ module _ {X : Type 0} (cmp : X → X → Ordering) (order : IsStrictWeakOrder (�
   ties_itself : (x : X) → ties x x ≡ true
   ties_itself x = λ i. not (not_below_itself x i) && not (not_below_itself x i)
 
-  each_at : (P : X → Type 0) (xs : List X) → ((k : ℕ) (d : X) → k < length xs → P (get_or xs k d)) → Each cmp P xs
+  pub each_at : (P : X → Type 0) (xs : List X) → ((k : ℕ) (d : X) → k < length xs → P (get_or xs k d)) → Each cmp P xs
   each_at P [] at = tt
   each_at P (x ∷ xs) at = (at 0 x (omega arith), each_at P xs (λ k d inside. at (suc k) d (omega (arith, inside))))
 
-  ascends : (xs : List X) → IsSorted cmp xs → IsAscending cmp xs
+  pub ascends : (xs : List X) → IsSorted cmp xs → IsAscending cmp xs
   ascends [] up = tt
   ascends (x ∷ xs) up = (
     each_at (λ y. lt y x ≡ false) xs (λ k d inside. sorted_far lt order (x ∷ xs) up 0 (suc k) d (omega arith) (omega (arith, inside))),
@@ -133,7 +134,7 @@ numbers_equal a b h =
       ] refl g
     ] h
 
-names_equal : (a b : List ℕ) → slice_cmp nat_cmp a b ≡ Equal → same_name b a ≡ true
+pub names_equal : (a b : List ℕ) → slice_cmp nat_cmp a b ≡ Equal → same_name b a ≡ true
 names_equal a b h =
     let told : bytes_eq a b ≡ true = sym (is_eq-slice_cmp a b) ∙ ap is_eq h in
     let same : a ≡ b = (bytes_eq-Decides a b).0 told in
@@ -196,3 +197,10 @@ one_shown plain shown other p q =
     let clients : shown.clients ≡ other.clients = one_sorted client_cmp client_order shown.clients other.clients p.by_number q.by_number
     (client_ties shown.clients other.clients (λ client. p.clients client ∙ sym (q.clients client))) in
     λ i. record { locks = locks i; clients = clients i }
+
+-- tables with the same locks are shown alike
+pub ordered_alike : (a b : List LockRecord) → HasSameLocks (in_order printed_cmp a) (in_order printed_cmp b) → in_order printed_cmp a ≡ in_order printed_cmp b
+unfolding lock_ties
+ordered_alike a b same =
+    one_sorted printed_cmp printed_order (in_order printed_cmp a) (in_order printed_cmp b) (IsSorted-in_order printed_cmp printed_order a) (IsSorted-in_order printed_cmp printed_order b)
+    (λ x. ties_alike (in_order printed_cmp a) (in_order printed_cmp b) same x x.state refl)

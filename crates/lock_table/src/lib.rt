@@ -2,13 +2,15 @@
 #![tactic(auto)]
 
 mod clients;
+mod index;
 mod laws;
 mod locks;
 mod no_memory;
+mod numbers;
 mod picture;
 mod plain;
+mod printed;
 mod purge;
-mod queues;
 mod record;
 mod reply;
 mod table;

@@ -1,7 +1,5 @@
-ghost use Rattle.std.specs.Prelude.{◌≡◌, ◌+◌, ◌<◌, ◌≤◌, IfOk, length, insert, vec_len, vec_capacity};
+ghost use Rattle.std.specs.Prelude.{◌≡◌, IfOk};
 ghost use Rattle.lock_table.specs.Apply.{no_locks};
-ghost use Rattle.lock_table.specs.Picture.{printed_cmp, client_cmp};
-ghost use Rattle.lock_table.specs.Placed.{placed, in_order};
 
 use crate::clients::CLIENTS;
 use crate::locks::LOCKS;
@@ -44,13 +42,14 @@ impl Picture {
     }
 
     /// Lists what a table shows, in place of what was listed. It takes no memory.
-    #[tactic(auto, unfolding(crate::specs::Placed::pictured))]
     pub fn fill(&mut self, table: &Table)
         ensures shown { self.new ≡ table.now }
     {
         let plain = table.plain();
-        show_locks(&mut self.locks, plain.locks());
-        show_clients(&mut self.clients, plain.clients());
+        self.locks.clear();
+        let _ = self.locks.extend_from_slice(plain.locks());
+        self.clients.clear();
+        let _ = self.clients.extend_from_slice(plain.clients());
     }
 
     /// The locks, in printed order.
@@ -66,53 +65,4 @@ impl Picture {
     {
         &self.clients
     }
-}
-
-fn show_locks(shown: &mut Vec<LockRecord>, locks: &[LockRecord])
-    requires { length locks.now ≤ vec_capacity shown.old }
-    ensures items { shown.new.items ≡ in_order printed_cmp locks.now }
-    ensures room { vec_capacity shown.old ≤ vec_capacity shown.new }
-{
-    shown.clear();
-    for record in locks {
-        let at = place_of_lock(shown, record);
-        let _ = shown.insert(at, *record);
-    }
-}
-
-fn show_clients(shown: &mut Vec<KnownClient>, clients: &[KnownClient])
-    requires { length clients.now ≤ vec_capacity shown.old }
-    ensures items { shown.new.items ≡ in_order client_cmp clients.now }
-    ensures room { vec_capacity shown.old ≤ vec_capacity shown.new }
-{
-    shown.clear();
-    for known in clients {
-        let at = place_of_client(shown, known);
-        let _ = shown.insert(at, *known);
-    }
-}
-
-/// Where a record belongs: in front of the first that it stands before.
-fn place_of_lock(shown: &[LockRecord], new: &LockRecord) -> usize
-    ensures bound { result ≤ length shown.now }
-    ensures place { insert shown.now result new.now ≡ placed printed_cmp new.now shown.now }
-{
-    for at in 0..shown.len() {
-        if new.stands_before(&shown[at]) {
-            return at;
-        }
-    }
-    shown.len()
-}
-
-fn place_of_client(shown: &[KnownClient], new: &KnownClient) -> usize
-    ensures bound { result ≤ length shown.now }
-    ensures place { insert shown.now result new.now ≡ placed client_cmp new.now shown.now }
-{
-    for at in 0..shown.len() {
-        if new.client.get() < shown[at].client.get() {
-            return at;
-        }
-    }
-    shown.len()
 }

@@ -1,5 +1,7 @@
 ghost use Rattle.std.specs.Prelude.{◌≡◌, ◌≤◌, IfOk, length};
 ghost use Rattle.lock_table.specs.Apply.{no_locks, applied, carried_out};
+ghost use Rattle.lock_table.specs.Picture.{printed_cmp, client_cmp};
+ghost use Rattle.lock_table.specs.Placed.{in_order};
 
 use crate::clients::{CLIENTS, Clients};
 use crate::locks::{LOCKS, Locks};
@@ -9,7 +11,7 @@ use lock_command::Command;
 use std::alloc::{AllocError, Global};
 use std::marker::Model;
 
-/// The locks as one flat list, and the known clients.
+/// The locks in printed order, and the known clients by number. Contracts see them as a plain table.
 #[derive(Drop)]
 pub struct PlainTable {
     locks: Locks,
@@ -38,7 +40,10 @@ impl PlainTable {
     /// Carries a command out, unless its client repeats a request.
     #[tactic(auto, unfolding(crate::specs::Apply::applied))]
     pub fn apply(&mut self, command: &Command) -> Reply
-        ensures table { self.new ≡ (applied self.old command.now).table }
+        requires printed { in_order printed_cmp self.old.locks ≡ self.old.locks }
+        requires by_number { in_order client_cmp self.old.clients ≡ self.old.clients }
+        ensures locks { self.new.locks ≡ in_order printed_cmp (applied self.old command.now).table.locks }
+        ensures clients { self.new.clients ≡ in_order client_cmp (applied self.old command.now).table.clients }
         ensures reply { result ≡ (applied self.old command.now).reply }
     {
         match self.clients.get(command.client) {
@@ -76,12 +81,12 @@ impl PlainTable {
         }
     }
 
-    /// The locks, in the order of the list.
+    /// The locks in printed order.
     pub fn locks(&self) -> &[LockRecord]
         ensures locks { result.now ≡ self.now.locks }
         ensures few { length result.now ≤ LOCKS }
     {
-        self.locks.records()
+        self.locks.printed()
     }
 
     pub fn clients(&self) -> &[KnownClient]

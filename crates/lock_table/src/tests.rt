@@ -1,3 +1,6 @@
+mod flat;
+mod random;
+
 use crate::{LockState, Picture, Refusal, Reply, Table};
 use lock_command::{
     Action, ClientNumber, Command, HostNumber, LockName, LockNumber, RequestNumber,
@@ -151,6 +154,21 @@ fn conversion_before_waiting_locks(rt: HostRuntime) -> Result<(), Fail> {
         (b'a', 4, 4, 0, LockState::Waiting(SHARED)),
     ];
     assert!(rt; lists(&table.picture(rt.alloc())?, &lines));
+    Ok(())
+}
+
+#[test]
+fn conversion_once_the_others_are_gone(rt: HostRuntime) -> Result<(), Fail> {
+    let table = &mut Table::new(rt.alloc())?;
+    let held = Reply::State(LockState::Granted(ALONE));
+    let steps = [
+        (0, 1, 1, Ask::Enqueue(1, READ, b'a'), Reply::Granted),
+        (0, 2, 1, Ask::Enqueue(2, READ, b'a'), Reply::Granted),
+        (0, 1, 2, Ask::Convert(1, ALONE), Reply::Queued),
+        (0, 2, 2, Ask::Release(2), Reply::Released),
+        (0, 2, 3, Ask::Status(1), held),
+    ];
+    assert!(rt; replies(table, &steps)?);
     Ok(())
 }
 

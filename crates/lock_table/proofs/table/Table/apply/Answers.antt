@@ -1,21 +1,29 @@
-use Rattle.std.proofs.Common.{◌∙◌}
-use Rattle.lock_table.specs.Apply.{Plain}
+use Rattle.std.proofs.Common.{◌≡◌, ◌∙◌, sym, subst}
+use Rattle.lock_table.specs.Apply.{Plain, applied}
 use Rattle.lock_table.specs.Picture.{IsPictureOf}
 use Rattle.lock_table.specs.Placed.{pictured}
-use Rattle.lock_table.proofs.Behave.{distinct-applied}
+use Rattle.lock_table.specs.Indexed.{IsShown}
 use Rattle.lock_table.proofs.Pictures.{picture_applied}
+use Rattle.lock_table.proofs.Shown.{pictured_itself, shown_after}
 use Rattle.lock_table.proofs.table.Table.apply.Goals as goal
 
+-- the table that the command leaves is shown as the plain table's
+next_is : (c : goal.After-apply) → c.apply.new.self ≡ pictured (applied c.self.inside.plain c.args.command.now).table
+unfolding pictured
+next_is c = λ i. record { locks = c.apply.ensures.locks i; clients = c.apply.ensures.clients i }
+
 shown_inside : (c : goal.After-apply) (plain : Plain) → IsPictureOf c.args.self.now plain → IsPictureOf (pictured c.self.inside.plain) plain
-shown_inside c plain shown = rw c.self.view_is shown
+shown_inside c plain shown =
+    subst (λ (t : Plain). IsPictureOf t plain) (sym (pictured_itself c.self.inside.plain c.self.invariant ∙ c.self.view_is)) shown
 
 pub invariant_of-self : goal.invariant_of-self
-invariant_of-self c = rw c.apply.ensures.table (distinct-applied c.self.inside.plain c.args.command.now c.self.invariant)
+invariant_of-self c = subst (λ (t : Plain). IsShown t) (sym (next_is c)) (shown_after c.self.inside.plain c.args.command.now c.self.invariant)
 
 pub returns-clause-reply : goal.returns-clause-reply
 returns-clause-reply c plain shown =
-    c.apply.ensures.reply ∙ (picture_applied c.self.inside.plain plain c.args.command.now c.self.invariant (shown_inside c plain shown)).0
+    c.apply.ensures.reply ∙ (picture_applied c.self.inside.plain plain c.args.command.now c.self.invariant.distinct (shown_inside c plain shown)).0
 
 pub returns-clause-table : goal.returns-clause-table
 returns-clause-table c plain shown =
-    rw c.apply.ensures.table (picture_applied c.self.inside.plain plain c.args.command.now c.self.invariant (shown_inside c plain shown)).1
+    subst (λ (t : Plain). IsPictureOf t (applied plain c.args.command.now).table) (sym (next_is c))
+    (picture_applied c.self.inside.plain plain c.args.command.now c.self.invariant.distinct (shown_inside c plain shown)).1

@@ -1,0 +1,35 @@
+-- Names that are listed once where they stand together.
+use Rattle.std.proofs.Common.{◌≡◌, ℕ, zero, suc, Bool, true, false, ◌||◌, List, [], ◌∷◌, Option, Some, None, refl, sym, ap, ◌∙◌}
+use Rattle.std.specs.List.{list_any, slice_get}
+use Rattle.std.specs.Option.{option_eq}
+use Rattle.lock_command.specs.Name.{same_name}
+use Rattle.lock_table.proofs.Apart.{name_is}
+
+or_true : (b : Bool) → (b || true) ≡ true
+or_true true = refl
+or_true false = refl
+
+any_at : (P : List ℕ → Bool) (names : List (List ℕ)) (i : ℕ) (n : List ℕ) → slice_get names i ≡ Some n → P n ≡ true → list_any P names ≡ true
+any_at P [] i n stands passes = let impossible : ⊥ = cc in absurd impossible
+any_at P (x ∷ names) zero n stands passes =
+    let same : x ≡ n = cc in
+    ap (λ b. b || list_any P names) (ap P same ∙ passes)
+any_at P (x ∷ names) (suc i) n stands passes =
+    ap (λ b. P x || b) (any_at P names i n stands passes) ∙ or_true (P x)
+
+or_none : (b : Bool) → b ≡ (b || false)
+or_none true = refl
+or_none false = refl
+
+-- a name that is the same as one that stands in the list adds nothing
+pub last_is_listed : (name : List ℕ) (names : List (List ℕ)) (i : ℕ) (last : Option (List ℕ)) → last ≡ slice_get names i → option_eq same_name last (Some name) ≡ true
+    → (other : List ℕ) → list_any (λ n. same_name n other) names ≡ (list_any (λ n. same_name n other) names || same_name name other)
+last_is_listed name names i None stands same other = let impossible : ⊥ = cc in absurd impossible
+last_is_listed name names i (Some n) stands same other =
+    let is : n ≡ name = name_is n name same in
+    elim (same_name name other) as (λ t. same_name name other ≡ t → list_any (λ n. same_name n other) names ≡ (list_any (λ n. same_name n other) names || t)) [
+      | true ↦ λ e.
+          let listed : list_any (λ n. same_name n other) names ≡ true = any_at (λ n. same_name n other) names i n (sym stands) (ap (λ k. same_name k other) is ∙ e) in
+          listed ∙ sym (or_true (list_any (λ n. same_name n other) names))
+      | false ↦ λ e. or_none (list_any (λ n. same_name n other) names)
+    ] refl

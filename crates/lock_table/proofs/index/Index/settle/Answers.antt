@@ -1,0 +1,39 @@
+use Rattle.std.proofs.Common.{◌≡◌, ◌<◌, ◌∙◌, sym, ap, Some, None, true, false, arith, length}
+use Rattle.lock_table.specs.declared.record.LockState.TheVariants.{Granted}
+use Rattle.lock_table.specs.State.{goal_of}
+use Rattle.lock_table.specs.Locks.{head_of, admits, settled, put, granted, in_state, queue}
+use Rattle.lock_table.proofs.Turns.{settled-blocked, settled-idle}
+use Rattle.lock_table.proofs.Shown.{shown, granted_next, granted_fewer}
+use Rattle.lock_table.proofs.index.Index.settle.Goals as goal
+
+pub returns-then-not-admits : goal.returns-then-not-admits
+returns-then-not-admits c =
+    let r = c.in-Some.first in
+    let now = c.loop-first.self in
+    let turn : head_of now c.args.name ≡ Some r = sym c.in-Some.ensures.head in
+    let may : admits now r.lock r.name (goal_of r.state) ≡ false = ap (admits now r.lock r.name) (sym c.goal-wanted.ensures) ∙ sym c.if-not-admits.ensures in
+    sym c.in-Some.ensures.printed ∙ ap shown (sym (settled-blocked now c.args.name r turn may)) ∙ c.loop-first.invariant
+
+pub loop-first-smaller : goal.loop-first-smaller
+loop-first-smaller c =
+    let r = c.in-Some.first in
+    let now = c.loop-first.self in
+    let turn : head_of now c.args.name ≡ Some r = sym c.in-Some.ensures.head in
+    let next : c.restate.new.self ≡ shown (put now (granted r)) = c.restate.ensures ∙ ap (λ m. shown (put now (in_state r (Granted m)))) c.goal-wanted.ensures in
+    let fewer = granted_fewer now c.args.name r c.in-Some.ensures.distinct turn in
+    omega (arith, ap (λ l. length (queue l c.args.name)) next)
+
+pub loop-first-preserved : goal.loop-first-preserved
+loop-first-preserved c =
+    let r = c.in-Some.first in
+    let now = c.loop-first.self in
+    let turn : head_of now c.args.name ≡ Some r = sym c.in-Some.ensures.head in
+    let may : admits now r.lock r.name (goal_of r.state) ≡ true = ap (admits now r.lock r.name) (sym c.goal-wanted.ensures) ∙ sym c.if-not-admits.ensures in
+    let next : c.restate.new.self ≡ shown (put now (granted r)) = c.restate.ensures ∙ ap (λ m. shown (put now (in_state r (Granted m)))) c.goal-wanted.ensures in
+    ap (λ l. shown (settled l c.args.name)) next ∙ granted_next now c.args.name r c.in-Some.ensures.distinct turn may ∙ c.loop-first.invariant
+
+pub returns : goal.returns
+returns c =
+    let now = c.loop-first.self in
+    let turn : head_of now c.args.name ≡ None = sym c.in_default.ensures.head in
+    sym c.in_default.ensures.printed ∙ ap shown (sym (settled-idle now c.args.name turn)) ∙ c.loop-first.invariant

@@ -1,0 +1,16 @@
+use Rattle.std.proofs.Common.{◌≡◌, ap, ◌∙◌, arith, rules}
+use Rattle.std.proofs.lemmas.Grind.{common_steps}
+use Rattle.lock_table.specs.declared.record.LockState.TheVariants.{Granted}
+use Rattle.lock_table.specs.Locks.{put, in_state, settled}
+use Rattle.lock_table.proofs.Numbered.{IsDistinct-put}
+use Rattle.lock_table.proofs.Shown.{shown, shown-settled}
+use Rattle.lock_table.proofs.locks.Locks.cancel.Goals as goal
+
+pub returns-in-Converting-clause-locks : goal.returns-in-Converting-clause-locks
+returns-in-Converting-clause-locks c =
+    let own = c.in-Some.cancelled in
+    let now = c.self.inside.index in
+    let new = in_state own (Granted c.in-Converting.held) in
+    let direct : c.settle.new.self ≡ shown (settled (put now new) own.name) =
+    c.settle.ensures ∙ ap (λ l. shown (settled l own.name)) c.restate.ensures ∙ shown-settled own.name (put now new) (IsDistinct-put now new c.in-Some.ensures.distinct) in
+    first_of (search rules, grind (arith, common_steps, direct))

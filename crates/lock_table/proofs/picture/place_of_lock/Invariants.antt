@@ -1,8 +1,0 @@
-use Rattle.std.proofs.Common.{◌≡◌, ◌++◌, take, drop}
-use Rattle.lock_table.specs.Picture.{printed_cmp}
-use Rattle.lock_table.specs.Placed.{placed}
-use Rattle.lock_table.proofs.picture.place_of_lock.Given as goal
-
--- the place is not among those that were looked at
-abbrev pub invariant-loop-at : goal.invariant-loop-at
-invariant-loop-at l = placed printed_cmp l.new l.shown ≡ take l.at l.shown ++ placed printed_cmp l.new (drop l.at l.shown)

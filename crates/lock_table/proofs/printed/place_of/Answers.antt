@@ -1,0 +1,22 @@
+use Rattle.std.proofs.Common.{◌≡◌, ◌<◌, true, length, get_or, arith, sym, ap, ◌∙◌, rules}
+use Rattle.lock_table.specs.Locks.{is_lock}
+use Rattle.std.proofs.lemmas.Bool.{not-false}
+use Rattle.lock_table.specs.Picture.{printed_cmp}
+use Rattle.lock_table.proofs.Pictures.{printed_order}
+use Rattle.lock_table.proofs.Cuts.{found_from}
+use Rattle.lock_table.proofs.Keyed.{inside_where_found, remove_where_stands}
+use Rattle.lock_table.proofs.printed.place_of.Goals as goal
+
+pub loop-at-init : goal.loop-at-init
+loop-at-init c =
+    let own = c.args.own.now in
+    found_from printed_cmp printed_order (is_lock own.lock) own c.args.printed.now c.locks_before-at.result c.locks_before-at.ensures.point.0 c.requires.there
+
+pub returns-clause-place : goal.returns-clause-place
+returns-clause-place c =
+    let xs = c.args.printed.now in
+    let own = c.args.own.now in
+    let at = c.loop-at.at in
+    let inside : at < length xs = inside_where_found (is_lock own.lock) xs at own c.loop-at.invariant in
+    let stands : is_lock own.lock (get_or xs at c.index-printed-at.result) ≡ true = not-false _ (sym c.loop-at-test.ensures) in
+    remove_where_stands (is_lock own.lock) xs at c.index-printed-at.result inside stands (c.requires.distinct own.lock)

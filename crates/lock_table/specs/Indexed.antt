@@ -1,0 +1,47 @@
+-- What a table keeps of its locks: the list that it shows, and the same records by number.
+use Rattle.std.specs.Prelude.{◌≡◌, ◌≤◌, ℕ, Bool, not, ◌&&◌, List, filter, length}
+use Rattle.std.specs.List.Sorted.{IsSorted}
+use Rattle.std.specs.Ordering.{nat_cmp, ordering_then, is_lt}
+use Rattle.std.specs.Cmp.Lexicographic.{slice_cmp}
+use Rattle.std.specs.declared.cmp.Ordering.{Ordering}
+use Rattle.lock_table.specs.declared.record.LockRecord.{LockRecord}
+use Rattle.lock_table.specs.declared.record.KnownClient.{KnownClient}
+use Rattle.lock_table.specs.State.{is_waiting}
+use Rattle.lock_table.specs.Locks.{is_lock, is_on, IsDistinct}
+use Rattle.lock_table.specs.Apply.{Plain, is_client}
+use Rattle.lock_table.specs.Picture.{rank_of, printed_cmp, client_cmp}
+use Rattle.lock_table.specs.Placed.{in_order}
+
+-- by rising lock number
+abbrev pub number_cmp : LockRecord → LockRecord → Ordering
+number_cmp a b = nat_cmp a.lock b.lock
+
+-- the lock is printed before all locks of the name that queue
+abbrev pub stands_before_queue : List ℕ → LockRecord → Bool
+stands_before_queue name r = is_lt (ordering_then (slice_cmp nat_cmp r.name name) (nat_cmp (rank_of r.state) 1))
+
+-- the lock is printed before all locks of the name
+abbrev pub stands_before_name : List ℕ → LockRecord → Bool
+stands_before_name name r = is_lt (slice_cmp nat_cmp r.name name)
+
+-- the lock holds a mode of the name
+abbrev pub holds_on : List ℕ → LockRecord → Bool
+holds_on name r = is_on name r && not (is_waiting r.state)
+
+-- the locks stand in printed order, each once, and beside them stand the same records by rising number
+pub record IsIndexed (printed numbers : List LockRecord) : Type 0 where
+  pub sorted : IsSorted printed_cmp printed
+  pub distinct : IsDistinct printed
+  pub rising : IsSorted number_cmp numbers
+  pub same : (lock : ℕ) → filter (is_lock lock) numbers ≡ filter (is_lock lock) printed
+
+-- the known clients stand by rising number, each once
+pub record AreKnown (clients : List KnownClient) : Type 0 where
+  pub rising : IsSorted client_cmp clients
+  pub distinct : (client : ℕ) → length (filter (is_client client) clients) ≤ 1
+
+-- a plain table that stands in the order in which it is shown, each lock once
+pub record IsShown (t : Plain) : Type 0 where
+  pub distinct : IsDistinct t.locks
+  pub printed : in_order printed_cmp t.locks ≡ t.locks
+  pub by_number : in_order client_cmp t.clients ≡ t.clients

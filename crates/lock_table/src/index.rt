@@ -1,0 +1,166 @@
+ghost use Rattle.std.specs.Prelude.{◌≡◌, ◌+◌, ◌<◌, ◌≤◌, ◌↔◌, [], IfOk, IfSome, IsTrue, filter, length, not, vec_len, vec_capacity};
+ghost use Rattle.lock_table.specs.Apply.{is_through};
+ghost use Rattle.lock_table.specs.Locks.{lock_in, without, put, has_queue, head_of, admits, in_state, settled, settled_all, IsDistinct};
+ghost use Rattle.lock_table.specs.Picture.{printed_cmp};
+ghost use Rattle.lock_table.specs.Placed.{in_order};
+
+use crate::locks::LOCKS;
+use crate::record::{LockRecord, LockState};
+use crate::{numbers, printed};
+use lock_command::{HostNumber, LockName, LockNumber};
+use lock_modes::Mode;
+use std::alloc::{AllocError, Global};
+use std::marker::Model;
+
+/// The locks in printed order, in which those of a name stand together and its queues in their order; and the same
+/// records by rising lock number. So a lock, a name and the head of its queues are found by a binary search.
+#[derive(Drop)]
+pub struct Index {
+    printed: Vec<LockRecord>,
+    numbers: Vec<LockRecord>,
+}
+
+impl Model for Index {
+    ghost use Rattle.std.specs.Prelude.{List, ◌≤◌, vec_len, vec_capacity};
+    ghost use Rattle.lock_table.specs.declared.locks.TheConstants.{LOCKS};
+    ghost use Rattle.lock_table.specs.declared.record.LockRecord.{LockRecord};
+    ghost use Rattle.lock_table.specs.Indexed.{IsIndexed};
+
+    ghost Value = { List LockRecord };
+
+    ghost view = { λ index. index.printed.items };
+
+    ghost invariant = { λ index. IsIndexed index.printed.items index.numbers.items × (vec_len index.printed ≤ LOCKS) × (LOCKS ≤ vec_capacity index.printed) × (LOCKS ≤ vec_capacity index.numbers) };
+}
+
+impl Index {
+    /// No locks, and room for the most that there may be.
+    pub fn new(alloc: Global) -> Result<Self, AllocError>
+        ensures { IfOk result (λ index. index ≡ []) }
+    {
+        Ok(Index {
+            printed: Vec::with_capacity(alloc, LOCKS)?,
+            numbers: Vec::with_capacity(alloc, LOCKS)?,
+        })
+    }
+
+    /// The locks in printed order.
+    pub fn printed(&self) -> &[LockRecord]
+        ensures locks { result.now ≡ self.now }
+        ensures few { length result.now ≤ LOCKS }
+        ensures distinct { IsDistinct self.now }
+    {
+        &self.printed
+    }
+
+    pub fn is_full(&self) -> bool
+        ensures { IsTrue result ↔ (LOCKS ≤ length self.now) }
+    {
+        self.printed.len() >= LOCKS
+    }
+
+    /// The record of a lock number.
+    pub fn lock_in(&self, lock: LockNumber) -> Option<LockRecord>
+        ensures found { result ≡ lock_in self.now lock }
+        ensures there { IfSome result (λ r. lock_in self.now r.lock ≡ Some r) }
+        ensures printed { in_order printed_cmp self.now ≡ self.now }
+        ensures distinct { IsDistinct self.now }
+    {
+        numbers::numbered(&self.numbers, lock)
+    }
+
+    /// The lock whose turn it is on a name.
+    fn head(&self, name: LockName) -> Option<LockRecord>
+        ensures head { result ≡ head_of self.now name }
+        ensures there { IfSome result (λ r. lock_in self.now r.lock ≡ Some r) }
+        ensures printed { in_order printed_cmp self.now ≡ self.now }
+        ensures distinct { IsDistinct self.now }
+    {
+        printed::head(&self.printed, name)
+    }
+
+    /// Whether a lock of the name stands in a queue.
+    pub fn has_queue(&self, name: LockName) -> bool
+        ensures { result ≡ has_queue self.now name }
+    {
+        self.head(name).is_some()
+    }
+
+    /// Whether no other lock of the name holds a mode that conflicts with this one.
+    pub fn admits(&self, lock: LockNumber, name: LockName, mode: Mode) -> bool
+        ensures { result ≡ admits self.now lock name mode }
+    {
+        printed::admits(&self.printed, lock, name, mode)
+    }
+
+    /// Puts in a lock that is new.
+    pub fn put_new(&mut self, new: LockRecord)
+        requires absent { lock_in self.old new.lock ≡ None }
+        requires room { length self.old < LOCKS }
+        ensures { self.new ≡ in_order printed_cmp (put self.old new) }
+    {
+        numbers::put_new(&mut self.numbers, new);
+        printed::put_in(&mut self.printed, &new);
+    }
+
+    /// Puts a lock in another state, and so behind all others of its queue.
+    pub fn restate(&mut self, own: LockRecord, state: LockState)
+        requires { lock_in self.old own.lock ≡ Some own }
+        ensures { self.new ≡ in_order printed_cmp (put self.old (in_state own state)) }
+    {
+        let new = own.with_state(state);
+        numbers::replace(&mut self.numbers, new);
+        printed::take_out(&mut self.printed, &own);
+        printed::put_in(&mut self.printed, &new);
+    }
+
+    /// Takes a lock away.
+    pub fn take_away(&mut self, own: LockRecord)
+        requires { lock_in self.old own.lock ≡ Some own }
+        ensures { self.new ≡ without self.old own.lock }
+    {
+        numbers::take_away(&mut self.numbers, own.lock);
+        printed::take_out(&mut self.printed, &own);
+    }
+
+    /// Takes away the locks that were enqueued through a host.
+    pub fn take_through(&mut self, host: HostNumber)
+        ensures left { self.new ≡ filter (λ r. not (is_through host r)) self.old }
+        ensures printed { in_order printed_cmp self.new ≡ self.new }
+    {
+        keep_others(&mut self.numbers, host);
+        keep_others(&mut self.printed, host);
+    }
+
+    /// Grants, while the lock whose turn it is may be granted.
+    pub fn settle(&mut self, name: LockName)
+        ensures { self.new ≡ in_order printed_cmp (settled self.old name) }
+    {
+        while let Some(first) = self.head(name) {
+            let wanted = first.state.goal();
+            if !self.admits(first.lock, first.name, wanted) {
+                return;
+            }
+            self.restate(first, LockState::Granted(wanted));
+        }
+    }
+
+    /// Settles each of the names in turn.
+    pub fn settle_all(&mut self, names: &[LockName])
+        requires printed { in_order printed_cmp self.old ≡ self.old }
+        requires distinct { IsDistinct self.old }
+        ensures { self.new ≡ in_order printed_cmp (settled_all self.old names.now) }
+    {
+        for name in names {
+            self.settle(*name);
+        }
+    }
+}
+
+fn keep_others(records: &mut Vec<LockRecord>, host: HostNumber)
+    ensures items { records.new.items ≡ filter (λ r. not (is_through host r)) records.old.items }
+    ensures len { vec_len records.new ≤ vec_len records.old }
+    ensures room { vec_capacity records.new ≡ vec_capacity records.old }
+{
+    records.retain(|record| record.host != host);
+}
