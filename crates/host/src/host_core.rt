@@ -170,7 +170,8 @@ impl HostCore {
     }
 
     /// The device call that is due.
-    #[inline]
+    // Out of line it would be written to memory and read back at each step.
+    #[inline(always)]
     pub fn call(&self) -> Need<'_>
         requires { is_idle self.now ≡ false }
         ensures next { (c : Shape) (h : ℕ) (m : Memory) → LeadsTo c h m self.now →
