@@ -8,24 +8,8 @@ crate=$top/crates/bench
 proved=$crate/out/bench
 plain=$crate/out/baseline
 
-is_current() {
-    [[ -x $proved ]] && [[ -z $(find "$top/crates.txt" "$top/crates" \
-        -name out -prune -o \( -name '*.rt' -o -name '*.antt' -o -name crates.txt \) \
-        -newer "$proved" -print -quit) ]]
-}
-
-# `rt run` proves and builds, and runs what it built: here without a word, so that nothing is measured yet.
-build() {
-    cd -- "$crate" && rt run >&2 && touch -- "$proved"
-}
-
-if ! is_current; then
-    echo "bench.sh: building $(basename -- "$proved")" >&2
-    if ! (build); then
-        echo "bench.sh: not built" >&2
-        exit 125
-    fi
-fi
+source "$top/build.sh"
+ensure_built bench
 rustc -O --edition 2024 -o "$plain" "$crate/baseline/baseline.rs"
 
 # Both print the same lines: a name and a figure, or a name, a count and nanoseconds an operation.

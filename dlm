@@ -1,26 +1,14 @@
 #!/usr/bin/env bash
-# Runs dlm, and builds it first where it is missing or older than a source.
+# Runs dlm, and proves and builds it first where that has to be done.
 set -euo pipefail
 
-top=$(dirname -- "$(readlink -f -- "${BASH_SOURCE[0]}")")
-program=$top/crates/dlm/out/dlm
+# Standard error may be closed.
+{ : >&2; } 2>/dev/null || exec 2>/dev/null
 
-is_current() {
-    [[ -x $program ]] && [[ -z $(find "$top/crates.txt" "$top/crates" \
-        -name out -prune -o \( -name '*.rt' -o -name '*.antt' -o -name crates.txt \) \
-        -newer "$program" -print -quit) ]]
-}
-
-# `rt run` proves and builds, and runs what it built: here on the stored script, with all that it prints sent to standard error.
-build() {
-    cd -- "$top/crates/dlm" && rt run -- run stdin </dev/null >&2 && touch -- "$program"
-}
-
-if ! is_current; then
-    echo "dlm: building $program" >&2
-    if ! (build); then
-        echo "dlm: not built" >&2
-        exit 125
-    fi
-fi
-exec "$program" "$@"
+here=${BASH_SOURCE[0]}
+[[ $here == */* ]] || here=./$here
+[[ ! -L $here ]] || here=$(readlink -f -- "$here")
+top=${here%/*}
+source "$top/build.sh"
+ensure_built dlm run stdin
+exec "$top/crates/dlm/out/dlm" "$@"

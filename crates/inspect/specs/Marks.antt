@@ -1,5 +1,5 @@
 -- A table of edges between clients, a flag for each pair of them.
-use Rattle.std.specs.Prelude.{◌≡◌, ◌<◌, ◌+◌, ◌*◌, ℕ, Bool, true, false, List, slice_index_or, slice_get, Some}
+use Rattle.std.specs.Prelude.{◌≡◌, ◌<◌, ◌≤◌, ◌+◌, ◌*◌, ℕ, Bool, true, false, List, slice_index_or, slice_get, Some}
 use Rattle.lock_table.specs.declared.record.LockRecord.{LockRecord}
 use Rattle.inspect.specs.Blocked.{is_blocked_by}
 
@@ -18,6 +18,15 @@ abbrev pub MarksPair : List LockRecord → ℕ → ℕ → List Bool → Type 0
 MarksPair locks i j edges =
     (x y : LockRecord) → slice_get locks i ≡ Some x → slice_get locks j ≡ Some y → is_blocked_by i x j y ≡ true → Marked edges x.client y.client
 
--- so are the clients of all locks before place n
+-- the locks from one place up to another have one name
+abbrev pub IsRun : List LockRecord → ℕ → ℕ → Type 0
+IsRun locks start end =
+    (j : ℕ) (x y : LockRecord) → start ≤ j → j < end → slice_get locks start ≡ Some x → slice_get locks j ≡ Some y → x.name ≡ y.name
+
+-- marked where the locks between these places block that at place i
+abbrev pub MarksRun : List LockRecord → ℕ → ℕ → ℕ → List Bool → Type 0
+MarksRun locks i start end edges = (j : ℕ) → start ≤ j → j < end → MarksPair locks i j edges
+
+-- or all locks before place n
 abbrev pub MarksPlace : List LockRecord → ℕ → ℕ → List Bool → Type 0
 MarksPlace locks i n edges = (j : ℕ) → j < n → MarksPair locks i j edges

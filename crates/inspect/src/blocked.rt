@@ -5,14 +5,8 @@ ghost use Rattle.inspect.specs.Blocked.{is_held_against, in_one_queue, is_in_the
 use lock_modes::{Mode, compatible};
 use lock_table::{LockRecord, LockState};
 
-/// Whether lock `x`, at place `i` of a picture, is blocked by `y`, at place `j`.
-pub fn is_blocked_by(i: usize, x: &LockRecord, j: usize, y: &LockRecord) -> bool
-    ensures { result ≡ is_blocked_by i x.now j y.now }
-{
-    is_in_the_way(i, x, j, y) && x.name == y.name
-}
-
-fn is_in_the_way(i: usize, x: &LockRecord, j: usize, y: &LockRecord) -> bool
+/// Whether lock `y`, at place `j` of a picture, keeps lock `x`, at place `i`, from what it wants, where both have one name.
+pub fn is_in_the_way(i: usize, x: &LockRecord, j: usize, y: &LockRecord) -> bool
     ensures { result ≡ is_in_the_way i x.now j y.now }
 {
     (x.lock != y.lock && is_held_against(&x.state, &y.state))

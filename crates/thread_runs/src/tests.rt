@@ -465,6 +465,15 @@ fn start_anew<N: Named>(
     seat: &mut HostSeat<N>,
 ) -> Option<()> {
     cluster.restart(rt, alloc, seat).ok()?;
+    recover_if_idle(rt, cluster, seat)
+}
+
+// Recovers, refused or not.
+fn recover_if_idle<N: Named>(
+    rt: &impl Wait,
+    cluster: &Cluster<'_, N, SimDisk>,
+    seat: &mut HostSeat<N>,
+) -> Option<()> {
     if !seat.idle() {
         return None;
     }

@@ -2,17 +2,19 @@ use Rattle.std.proofs.Common.{inl, inr, arith}
 use Rattle.inspect.proofs.MarkLemmas.{places_more, all_marked, none_marked}
 use Rattle.inspect.proofs.edges.edges_of.Goals as goal
 
-pub loop-i-init : goal.loop-i-init
-loop-i-init c = record {
+pub loop-start-init : goal.loop-start-init
+loop-start-init c = record {
+  fits = omega arith;
   sound = λ a b m. absurd (none_marked 65536 a b m);
-  complete = λ k lt. absurd (omega (arith, lt));
+  complete = λ k lt j none. absurd (omega (arith, none));
 }
 
-pub loop-i-preserved : goal.loop-i-preserved
-loop-i-preserved c = record {
-  sound = λ a b m. elim (c.mark_blockers.ensures.sound a b m) [ inl before ↦ c.loop-i.invariant.sound a b before | inr is ↦ is ];
-  complete = places_more c.args.locks.now c.loop-i.i _ c.loop-i.edges c.mark_blockers.new.edges c.mark_blockers.ensures.kept c.loop-i.invariant.complete c.mark_blockers.ensures.complete;
+pub loop-start-preserved : goal.loop-start-preserved
+loop-start-preserved c = record {
+  fits = c.end_of_run-end.ensures.fits;
+  sound = λ a b m. elim (c.mark_blocked.ensures.sound a b m) [ inl before ↦ c.loop-start.invariant.sound a b before | inr is ↦ is ];
+  complete = λ k lt. places_more c.args.locks.now k c.loop-start.start _ c.loop-start.edges c.mark_blocked.new.edges c.mark_blocked.ensures.kept (c.loop-start.invariant.complete k lt) (c.mark_blocked.ensures.complete k lt);
 }
 
 pub returns-clause-complete : goal.returns-clause-complete
-returns-clause-complete c = all_marked c.args.locks.now c.loop-i.edges (λ k lt. c.loop-i.invariant.complete k (omega (arith, lt)))
+returns-clause-complete c = all_marked c.args.locks.now c.loop-start.edges (λ k lt j ltj. c.loop-start.invariant.complete k lt j (let le = c.loop-start-test.false in omega (arith, le, ltj)))

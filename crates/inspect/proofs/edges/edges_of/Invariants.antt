@@ -1,10 +1,14 @@
-use Rattle.std.proofs.Common.{◌<◌, ℕ, length}
+use Rattle.std.proofs.Common.{◌<◌, ◌≤◌, ◌-◌, ℕ, length}
 use Rattle.inspect.specs.Blocked.{IsBlockedBy}
 use Rattle.inspect.specs.Marks.{Marked, MarksPlace}
 use Rattle.inspect.proofs.edges.edges_of.Given as goal
 
-abbrev pub invariant-loop-i : goal.invariant-loop-i
-invariant-loop-i l = record {
+abbrev pub invariant-loop-start : goal.invariant-loop-start
+invariant-loop-start l = record {
+  fits : l.start ≤ length l.locks;
   sound : (a b : ℕ) → Marked l.edges a b → IsBlockedBy l.locks a b;
-  complete : (k : ℕ) → k < l.i → MarksPlace l.locks k (length l.locks) l.edges;
+  complete : (k : ℕ) → k < length l.locks → MarksPlace l.locks k l.start l.edges;
 }
+
+abbrev pub decreases-loop-start : goal.decreases-loop-start
+decreases-loop-start l = length l.locks - l.start

@@ -1,0 +1,65 @@
+# To be sourced by `dlm` and `bench.sh`, which set `top` to the root: builds a program where it is missing, or where its code or contracts
+# changed since its last build began.
+
+# Sets `sources` to the folders of the code and the contracts of a crate and those that it stands on. What stands in proofs/ changes nothing that runs.
+find_sources() {
+    local name libraries crate folder
+    while read -r name libraries; do
+        [[ $name != "$1:" ]] || break
+    done < "$top/crates.txt"
+    sources=("$top/crates.txt")
+    for crate in "$1" $libraries; do
+        for folder in "$top/crates/$crate/"{src,specs}; do
+            [[ ! -d $folder ]] || sources+=("$folder")
+        done
+    done
+}
+
+# A file that was deleted is noticed by the time of its folder.
+is_current() {
+    local sources newer
+    [[ -x $top/crates/$1/out/$1 ]] || return 1
+    find_sources "$1"
+    newer=$(find "${sources[@]}" -newer "$top/crates/$1/out/$1" -print -quit) && [[ -z $newer ]]
+}
+
+# A line for each crate that is proved; all that `rt` prints goes into the log.
+show_progress() {
+    local line crate
+    while IFS= read -r line; do
+        printf '%s\n' "$line" >&3
+        case $line in
+            'crate '*) crate=${line#crate } crate=${crate%%:*} ;;
+            'logic=proved functions='*) line=${line#*functions=} && echo "$1: $crate: ${line%% *} functions proved" >&2 ;;
+        esac
+    done 3> "$2"
+}
+
+# `rt run` proves and builds, and runs what it built, here on the arguments. The program gets the time at which that began.
+build() {
+    local crate=$1 stamp ended=0
+    shift
+    stamp=$(mktemp)
+    (cd -- "$top/crates/$crate" && rt run -- "$@" < /dev/null 2>&1) | show_progress "$crate" "$stamp.log" || ended=1
+    mkdir -p -- "$top/crates/$crate/out"
+    mv -- "$stamp.log" "$top/crates/$crate/out/build.log"
+    [[ $ended -ne 0 ]] || touch -r "$stamp" -- "$top/crates/$crate/out/$crate"
+    rm -- "$stamp"
+    return $ended
+}
+
+# ensure_built CRATE [ARGUMENT..]: ends with status 125 where that cannot be done.
+ensure_built() {
+    if is_current "$1"; then
+        return
+    fi
+    if ! command -v rt > /dev/null; then
+        echo "$1: to prove and build it there has to be Rattle's command rt on the path" >&2
+        exit 125
+    fi
+    echo "$1: proving and building it, which takes minutes where nothing was proved before" >&2
+    if ! build "$@"; then
+        echo "$1: not built: $top/crates/$1/out/build.log says why" >&2
+        exit 125
+    fi
+}
