@@ -23,6 +23,11 @@ is_current() {
     newer=$(find "${sources[@]}" -newer "$top/crates/$1/out/$1" -print -quit) && [[ -z $newer ]]
 }
 
+# Standard error may be closed.
+say() {
+    echo "$1: $2" >&2 || true
+}
+
 # A line for each crate that is proved; all that `rt` prints goes into the log.
 show_progress() {
     local line crate
@@ -30,7 +35,7 @@ show_progress() {
         printf '%s\n' "$line" >&3
         case $line in
             'crate '*) crate=${line#crate } crate=${crate%%:*} ;;
-            'logic=proved functions='*) line=${line#*functions=} && echo "$1: $crate: ${line%% *} functions proved" >&2 ;;
+            'logic=proved functions='*) line=${line#*functions=} && say "$1" "$crate: ${line%% *} functions proved" ;;
         esac
     done 3> "$2"
 }
@@ -54,12 +59,12 @@ ensure_built() {
         return
     fi
     if ! command -v rt > /dev/null; then
-        echo "$1: to prove and build it there has to be Rattle's command rt on the path" >&2
+        say "$1" "to prove and build it there has to be Rattle's command rt on the path"
         exit 125
     fi
-    echo "$1: proving and building it, which takes minutes where nothing was proved before" >&2
+    say "$1" "proving and building it, which takes minutes where nothing was proved before"
     if ! build "$@"; then
-        echo "$1: not built: $top/crates/$1/out/build.log says why" >&2
+        say "$1" "not built: $top/crates/$1/out/build.log says why"
         exit 125
     fi
 }

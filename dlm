@@ -2,9 +2,6 @@
 # Runs dlm, and proves and builds it first where that has to be done.
 set -euo pipefail
 
-# Standard error may be closed.
-{ : >&2; } 2>/dev/null || exec 2>/dev/null
-
 here=${BASH_SOURCE[0]}
 [[ $here == */* ]] || here=./$here
 [[ ! -L $here ]] || here=$(readlink -f -- "$here")

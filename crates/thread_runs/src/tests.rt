@@ -1,4 +1,4 @@
-ghost use Rattle.std.specs.Prelude.{◌≡◌, IfSome};
+ghost use Rattle.std.specs.Prelude.{◌≡◌, ◌≤◌, IfSome};
 ghost use Rattle.cluster.specs.Opening.{IsNamed};
 
 use crate::audit;
@@ -38,6 +38,16 @@ fn command(host: HostNumber, lock: u16, request: u64) -> Option<Command>
     })
 }
 
+// A host that has just been started. Nothing is said of it, so that whoever asks for it has no list of entries to carry along.
+fn seat_of<N: Named, D: Disk + Drop>(
+    rt: &impl Wait,
+    alloc: Global,
+    cluster: &Cluster<'_, N, D>,
+    host: u8,
+) -> Option<HostSeat<N>> {
+    cluster.seat(rt, alloc, HostNumber::new(host)?).ok()
+}
+
 // Submits an enqueue of a lock, where the host is idle.
 fn submitted<N: Named, D: Disk + Drop, G: Gate>(
     rt: &impl Wait,
@@ -46,11 +56,13 @@ fn submitted<N: Named, D: Disk + Drop, G: Gate>(
     gate: &mut G,
     lock: u16,
     tries: u8,
-) -> Result<Option<Receipt>, HostFault> {
+) -> Result<Option<Receipt>, HostFault>
+    requires { 1 ≤ tries }
+{
     let Some(command) = command(seat.host(), lock, 1) else {
         return Ok(None);
     };
-    if !seat.idle() || tries == 0 {
+    if !seat.idle() {
         return Ok(None);
     }
     Ok(Some(cluster.submit(rt, seat, gate, command, tries)?))
@@ -94,8 +106,8 @@ fn one_host_held<N: Named + Send + Sync, R: Threads + Wait + Clock + Sync>(
     let config = opening.config();
     let (ties, foundation) = opening.named::<N>(alloc).ok()?;
     let cluster = Cluster::simulated(alloc, &ties, foundation).ok()?;
-    let mut one = cluster.seat(rt, alloc, HostNumber::new(0)?).ok()?;
-    let mut other = cluster.seat(rt, alloc, HostNumber::new(1)?).ok()?;
+    let mut one = seat_of(rt, alloc, &cluster, 0)?;
+    let mut other = seat_of(rt, alloc, &cluster, 1)?;
     let held = AtomicBool::new(false);
     let done = AtomicBool::new(false);
     let (shared, is_held, is_done) = (&cluster, &held, &done);
@@ -209,8 +221,8 @@ fn two_hosts_met<N: Named + Send + Sync, R: Threads + Wait + Clock + Sync>(
     let flags = Flags::new();
     let disks = pair(rt, alloc, config, &flags).ok()?;
     let cluster = Cluster::new(alloc, disks, &ties, foundation).ok()?;
-    let one = cluster.seat(rt, alloc, HostNumber::new(0)?).ok()?;
-    let other = cluster.seat(rt, alloc, HostNumber::new(1)?).ok()?;
+    let one = seat_of(rt, alloc, &cluster, 0)?;
+    let other = seat_of(rt, alloc, &cluster, 1)?;
     let (one, other) = serve_both(rt, &cluster, &flags.begun, one, other);
     let acks = usize::from(one.receipt.is_some()) + usize::from(other.receipt.is_some());
     let mut seats = Vec::new(alloc);
@@ -291,7 +303,7 @@ fn harm_read_back<N: Named, R: Wait>(rt: &R, alloc: Global, opening: Opening) ->
     let config = opening.config();
     let (ties, foundation) = opening.named::<N>(alloc).ok()?;
     let cluster = Cluster::simulated(alloc, &ties, foundation).ok()?;
-    let mut seat = cluster.seat(rt, alloc, HostNumber::new(0)?).ok()?;
+    let mut seat = seat_of(rt, alloc, &cluster, 0)?;
     let mut gate = Crashes {
         rt,
         cluster: &cluster,
@@ -359,6 +371,22 @@ fn beat_once<N: Named, D: Disk + Drop>(
     cluster.beat(rt, seat, &mut OpenGate).ok()
 }
 
+// What two hosts are suggested that beat in turn, twice each.
+fn suggested_in_turn<N: Named>(
+    rt: &impl Wait,
+    alloc: Global,
+    cluster: &Cluster<'_, N, SimDisk>,
+    first: &mut HostSeat<N>,
+    second: &mut HostSeat<N>,
+) -> Option<Vec<u8>> {
+    let mut suggested = Vec::new(alloc);
+    for _ in 0..2 {
+        suggested.push(beat_once(rt, cluster, first)?).ok()?;
+        suggested.push(beat_once(rt, cluster, second)?).ok()?;
+    }
+    Some(suggested)
+}
+
 // Two hosts beat in turn, twice each.
 fn beats_in_turn<N: Named, R: Wait>(rt: &R, alloc: Global, opening: Opening) -> Option<Beaten>
     requires { IsNamed opening N.shape N.table N.name N.parts N.all }
@@ -366,13 +394,9 @@ fn beats_in_turn<N: Named, R: Wait>(rt: &R, alloc: Global, opening: Opening) -> 
     let config = opening.config();
     let (ties, foundation) = opening.named::<N>(alloc).ok()?;
     let cluster = Cluster::simulated(alloc, &ties, foundation).ok()?;
-    let mut one = cluster.seat(rt, alloc, HostNumber::new(3)?).ok()?;
-    let mut other = cluster.seat(rt, alloc, HostNumber::new(5)?).ok()?;
-    let mut suggested = Vec::new(alloc);
-    for _ in 0..2 {
-        suggested.push(beat_once(rt, &cluster, &mut other)?).ok()?;
-        suggested.push(beat_once(rt, &cluster, &mut one)?).ok()?;
-    }
+    let mut one = seat_of(rt, alloc, &cluster, 3)?;
+    let mut other = seat_of(rt, alloc, &cluster, 5)?;
+    let suggested = suggested_in_turn(rt, alloc, &cluster, &mut other, &mut one)?;
     let mut seats = Vec::new(alloc);
     seats.push(one).ok()?;
     seats.push(other).ok()?;
@@ -488,21 +512,23 @@ fn turn(host: HostNumber, round: u16) -> Option<Command>
     ensures { IfSome result (λ command. command.host ≡ host) }
 {
     let lock = LockNumber::new(u16::from(host.get()) + 1)?;
-    let action = if round % 2 == 1 {
-        Action::Enqueue {
-            lock,
-            name: LockName::new(b"db")?,
-            mode: Mode::ProtectedWrite,
-            no_queue: false,
-        }
-    } else {
-        Action::Release(lock)
-    };
     Some(Command {
         host,
         client: ClientNumber::new(host.get() + 1),
         request: RequestNumber::new(u64::from(round))?,
-        action,
+        action: action_in(round, lock)?,
+    })
+}
+
+fn action_in(round: u16, lock: LockNumber) -> Option<Action> {
+    if round % 2 == 0 {
+        return Some(Action::Release(lock));
+    }
+    Some(Action::Enqueue {
+        lock,
+        name: LockName::new(b"db")?,
+        mode: Mode::ProtectedWrite,
+        no_queue: false,
     })
 }
 
