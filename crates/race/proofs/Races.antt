@@ -1,10 +1,10 @@
 -- A cluster's record, and what its hosts told, make a race.
 use Rattle.std.specs.Prelude.{◌↔◌, IsTrue}
-use Rattle.std.proofs.Common.{◌≡◌, ◌<◌, ℕ, Bool, List, [], ◌∷◌, ◌++◌, length, get_or, slice_get, take, Some, refl, sym, ap, subst, ◌∙◌}
+use Rattle.std.proofs.Common.{◌≡◌, ◌<◌, ℕ, Bool, List, [], length, get_or, slice_get, take, Some, sym, ap, subst, ◌∙◌}
 use Rattle.lock_command.specs.declared.command.Command.{Command}
 use Rattle.lock_table.specs.declared.reply.Reply.{Reply}
 use Rattle.slot_log.specs.Shape.{Shape}
-use Rattle.host.specs.Host.{Host, learned_of, reply_after}
+use Rattle.host.specs.Host.{learned_of, reply_after}
 use Rattle.world.specs.Entry.{Filled}
 use Rattle.world.specs.World.{world}
 use Rattle.world.specs.Chosen.{IsAcknowledgedAt}

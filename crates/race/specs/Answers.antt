@@ -1,5 +1,5 @@
 -- What a host of a race is answered, and what its own list of entries and the one log say of that.
-use Rattle.std.specs.Prelude.{◌≡◌, ℕ, List, take, slice_get, Option, Some}
+use Rattle.std.specs.Prelude.{◌≡◌, ℕ, List, take, slice_get, Some}
 use Rattle.lock_command.specs.declared.command.Command.{Command}
 use Rattle.lock_table.specs.declared.reply.Reply.{Reply}
 use Rattle.slot_log.specs.Shape.{Shape}

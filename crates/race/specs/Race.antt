@@ -2,12 +2,11 @@
 use Rattle.std.specs.Prelude.{◌≡◌, ◌<◌, ◌↔◌, ℕ, Bool, IsTrue, List, length, slice_index_or}
 use Rattle.lock_command.specs.declared.command.Command.{Command}
 use Rattle.slot_log.specs.Shape.{Shape}
-use Rattle.host.specs.Host.{learned_of, idles}
+use Rattle.host.specs.Host.{learned_of}
 use Rattle.world.specs.Entry.{Filled}
 use Rattle.world.specs.World.{world, IsRun}
 use Rattle.world.specs.Headline.{IsSafe, HasNoSecondLog}
 use Rattle.cluster_tie.specs.Parts.{Own}
-use Rattle.cluster.specs.Seat.{host_in}
 use Rattle.race.specs.Agreement.{Agree}
 use Rattle.race.specs.Answers.{IsAnswer, IsTold}
 use Rattle.race.specs.declared.answer.Answer.{Answer}

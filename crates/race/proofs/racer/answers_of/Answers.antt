@@ -1,4 +1,4 @@
-use Rattle.std.proofs.Common.{◌≡◌, ◌+◌, ◌<◌, ℕ, List, length, slice_index_or, sym, subst, arith}
+use Rattle.std.proofs.Common.{◌+◌, ◌<◌, ℕ, List, slice_index_or, sym, subst, arith}
 use Rattle.race.specs.Answers.{IsTold}
 use Rattle.race.specs.declared.answer.Answer.{Answer}
 use Rattle.race.proofs.Racing.{told_more}
