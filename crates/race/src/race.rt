@@ -43,6 +43,8 @@ struct Raced<N: Named> {
 }
 
 /// Races the hosts from 0 to `last`, each in a thread of its own.
+///
+/// The whole race is refused where memory is: for the cluster, the hosts, the channel or the answers. A host's own refusal is its answer.
 pub fn run_race<R: Threads + Wait + AllocGlobal + Sync>(
     rt: &R,
     last: HostNumber,
