@@ -6,7 +6,7 @@ _dlm() {
 
     COMPREPLY=()
     case $COMP_CWORD:$task in
-        1:*) words="run format submit table" ;;
+        1:*) words="run format submit table race" ;;
         2:run)
             compopt -o filenames
             mapfile -t COMPREPLY < <(compgen -f -- "$word")
@@ -17,6 +17,7 @@ _dlm() {
             mapfile -t COMPREPLY < <(compgen -d -- "$word")
             return
             ;;
+        2:race) words="1 2 3 4 5 6 7 8" ;;
         3:format) words="1 2 3 4 5 6 7" ;;
         3:submit | 3:table) words="0 1 2 3 4 5 6 7" ;;
         4:submit) words="enqueue convert release cancel status purge" ;;

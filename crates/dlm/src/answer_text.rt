@@ -50,7 +50,7 @@ impl fmt::Display for RefusalText {
 }
 
 /// The number and the name of a refusal of an operation.
-fn refusal_text(refusal: Refusal) -> &'static str
+pub fn refusal_text(refusal: Refusal) -> &'static str
     ensures { result.now ≡ refusal_text refusal }
 {
     match refusal {

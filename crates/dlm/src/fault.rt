@@ -1,4 +1,5 @@
 use crate::answer_text::RefusalText;
+use cluster::HostFault;
 use disk::ImageFault;
 use dlm_images::FolderFault;
 use host::Refusal;
@@ -14,6 +15,8 @@ pub enum Fault {
     Operation(RefusalText),
     #[error("21 NoMemory")]
     NoMemory,
+    #[error("22 JournalFull")]
+    JournalFull,
     /// The number of the script's first bad line, from 1.
     #[error("23 BadLine {0}")]
     BadLine(usize),
@@ -29,8 +32,14 @@ pub enum Fault {
     /// The number of an image that cannot be opened, read, made or written.
     #[error("26 Unreadable disk{0}")]
     UnreadableImage(u8),
+    #[error("27 SeatTaken")]
+    SeatTaken,
+    #[error("28 SeatsMissing")]
+    SeatsMissing,
     #[error("29 AlreadyThere")]
     AlreadyThere,
+    #[error("35 OpenCall")]
+    OpenCall,
 }
 
 impl Fault {
@@ -68,6 +77,19 @@ impl From<FolderFault> for Fault {
                 ImageFault::WrongHeader => Fault::WrongHeader(disk),
                 ImageFault::Unreadable => Fault::UnreadableImage(disk),
             },
+        }
+    }
+}
+
+impl From<HostFault> for Fault {
+    fn from(fault: HostFault) -> Self {
+        match fault {
+            HostFault::Refused(refusal) => Fault::from(refusal),
+            HostFault::NoMemory => Fault::NoMemory,
+            HostFault::JournalFull => Fault::JournalFull,
+            HostFault::SeatTaken => Fault::SeatTaken,
+            HostFault::SeatsMissing => Fault::SeatsMissing,
+            HostFault::OpenCall => Fault::OpenCall,
         }
     }
 }

@@ -32,6 +32,14 @@ pub fn host_of(word: &str) -> Result<HostNumber, WordsFault> {
     }
 }
 
+/// The last of so many hosts.
+pub fn last_host_of(word: &str) -> Result<HostNumber, WordsFault> {
+    match HostNumber::new((number(word, 1, HOSTS as u64)? - 1) as u8) {
+        Some(last) => Ok(last),
+        None => Err(WordsFault::Usage),
+    }
+}
+
 /// The number, as a script spells it.
 fn number(word: &str, least: u64, most: u64) -> Result<u64, WordsFault>
     ensures { IfOk result (λ n. (least ≤ n) × (n ≤ most)) }

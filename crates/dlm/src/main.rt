@@ -1,4 +1,4 @@
-//! The program: runs a script over simulated disks, and works over the images of a folder.
+//! The program: runs a script over simulated disks, works over the images of a folder, and races host threads.
 #![tactic(auto)]
 
 mod answer_text;
@@ -8,29 +8,52 @@ mod given_words;
 mod images;
 mod mode_text;
 mod program;
+mod racing;
 mod reply_text;
 mod run;
 mod words;
 
 use program::{decline, run_words};
 use std::env;
-use std::io::BufWriter;
+use std::fs::OpenFile;
+use std::io::{BufWriter, Write};
+use std::os::unix::fs::FileExt;
 use std::process::ExitCode;
+use std::rt::Files;
+use std::sync::Wait;
+use std::thread::Threads;
 use words::WordsFault;
 
 fn main(rt: HostRuntime) -> ExitCode {
-    let status = match run_arguments(&rt) {
-        Ok(status) => status,
+    let status = match arguments_of(&rt) {
+        Ok(arguments) => {
+            match run_arguments(&rt, arguments.as_slice(), rt.stdout(), &mut rt.stderr()) {
+                Ok(status) => status,
+                Err(fault) => decline(fault, &mut rt.stderr()),
+            }
+        }
         Err(fault) => decline(fault, &mut rt.stderr()),
     };
     ExitCode::from(status)
 }
 
-/// Runs the program on its own words and streams.
-fn run_arguments(rt: &HostRuntime) -> Result<u8, WordsFault> {
+/// The program's own words.
+fn arguments_of(rt: &HostRuntime) -> Result<Vec<String>, WordsFault> {
+    Ok(env::args(rt)?.skip(1).collect(rt.alloc())?)
+}
+
+/// Runs the program on its words and streams.
+fn run_arguments<R: Files + Input + AllocGlobal + Threads + Wait + Sync, O: Write + Drop, E: Write>(
+    rt: &R,
+    arguments: &[String],
+    out: O,
+    err: &mut E,
+) -> Result<u8, WordsFault>
+where
+    R::File: FileExt + OpenFile + Drop,
+{
     let alloc = rt.alloc();
-    let arguments: Vec<String> = env::args(rt)?.skip(1).collect(alloc)?;
     let words: Vec<&str> = arguments.iter().map(|word| word.as_str()).collect(alloc)?;
-    let mut out = BufWriter::new(alloc, rt.stdout())?;
-    Ok(run_words(rt, words.as_slice(), &mut out, &mut rt.stderr()))
+    let mut out = BufWriter::new(alloc, out)?;
+    Ok(run_words(rt, words.as_slice(), &mut out, err))
 }

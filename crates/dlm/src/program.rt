@@ -3,22 +3,24 @@ ghost use Rattle.std.specs.Io.KnownBytes.{Keeps};
 
 use crate::failure::Failure;
 use crate::fault::Fault;
-use crate::images;
 use crate::run::run_script;
 use crate::words::{Task, WordsFault, task_of};
+use crate::{images, racing};
 use simulator::read_script;
 use std::alloc::Global;
 use std::fs::OpenFile;
 use std::io::{Read, Write};
 use std::os::unix::fs::FileExt;
 use std::rt::Files;
+use std::sync::Wait;
+use std::thread::Threads;
 use std::{fs, io};
 
 #[cfg(test)]
 mod tests;
 
 /// Does what the words ask for, prints on `out` and a refusal on `err`, and returns the status.
-pub fn run_words<R: Files + Input + AllocGlobal, O: Write, E: Write>(
+pub fn run_words<R: Files + Input + AllocGlobal + Threads + Wait + Sync, O: Write, E: Write>(
     rt: &R,
     words: &[&str],
     out: &mut O,
@@ -36,7 +38,7 @@ where
     }
 }
 
-fn carry_out<R: Files + Input + AllocGlobal, O: Write>(
+fn carry_out<R: Files + Input + AllocGlobal + Threads + Wait + Sync, O: Write>(
     rt: &R,
     task: &Task<'_>,
     out: &mut O,
@@ -53,6 +55,7 @@ where
         } => images::format(rt, folder, config, cluster, out),
         Task::Submit { folder, command } => images::submit(rt, folder, command, out),
         Task::Table { folder, host } => images::table(rt, folder, host, out),
+        Task::Race { last } => racing::race_hosts(rt, last, out),
     }
 }
 

@@ -1,7 +1,7 @@
 ghost use Rattle.std.specs.Prelude.{◌≡◌};
 ghost use Rattle.dlm.specs.declared.words.WordsFault.TheVariants.{NoMemory};
 
-use crate::given_words::{cluster_of, command_of, config_of, host_of};
+use crate::given_words::{cluster_of, command_of, config_of, host_of, last_host_of};
 use clap::error::ErrorKind;
 use clap::{Arg, ArgAction, ArgMatches, Error};
 use host::Config;
@@ -31,6 +31,10 @@ pub enum Task<'a> {
     Table {
         folder: &'a str,
         host: HostNumber,
+    },
+    /// Race the hosts up to this one.
+    Race {
+        last: HostNumber,
     },
 }
 
@@ -80,6 +84,7 @@ pub fn task_of<'a>(alloc: Global, words: &'a [&'a str]) -> Result<Task<'a>, Word
         Some(("format", format)) => format_task(format),
         Some(("submit", submit)) => submit_task(alloc, submit),
         Some(("table", table)) => table_task(table),
+        Some(("race", race)) => race_task(race),
         _ => Err(WordsFault::Usage),
     }
 }
@@ -102,7 +107,8 @@ fn program<'a>(alloc: Global) -> Result<clap::Command<'a>, AllocError> {
         .subcommand(run_command(alloc)?)?
         .subcommand(format_command(alloc)?)?
         .subcommand(submit_command(alloc)?)?
-        .subcommand(table_command(alloc)?)
+        .subcommand(table_command(alloc)?)?
+        .subcommand(race_command(alloc)?)
 }
 
 /// A word that has to be given.
@@ -143,6 +149,12 @@ fn table_command<'a>(alloc: Global) -> Result<clap::Command<'a>, AllocError> {
         .arg(word(alloc, "host"))
 }
 
+fn race_command<'a>(alloc: Global) -> Result<clap::Command<'a>, AllocError> {
+    clap::Command::new(alloc, "race")
+        .disable_help_flag(true)
+        .arg(word(alloc, "hosts"))
+}
+
 fn run_task<'a>(run: &ArgMatches<'a>) -> Result<Task<'a>, WordsFault> {
     Ok(Task::Run {
         script: given(run, "script")?,
@@ -172,6 +184,11 @@ fn table_task<'a>(table: &ArgMatches<'a>) -> Result<Task<'a>, WordsFault> {
     let folder = given(table, "folder")?;
     let host = host_of(given(table, "host")?)?;
     Ok(Task::Table { folder, host })
+}
+
+fn race_task<'a>(race: &ArgMatches<'a>) -> Result<Task<'a>, WordsFault> {
+    let last = last_host_of(given(race, "hosts")?)?;
+    Ok(Task::Race { last })
 }
 
 /// The word that was given under this name.

@@ -2,6 +2,7 @@ use super::*;
 use rows::ROWS;
 
 mod folders;
+mod races;
 mod rows;
 
 #[test]
@@ -38,7 +39,7 @@ fn nothing_runs_where_a_line_is_bad(rt: HostRuntime) {
 
 #[test]
 fn words_that_are_no_task(rt: HostRuntime) {
-    let lists: [&[&str]; 10] = [
+    let lists: [&[&str]; 15] = [
         &[],
         &["run"],
         &["run", "a", "b"],
@@ -49,6 +50,11 @@ fn words_that_are_no_task(rt: HostRuntime) {
         &["run", "-h"],
         &["run", "-"],
         &["--", "run", "a"],
+        &["race"],
+        &["race", "0"],
+        &["race", "9"],
+        &["race", "01"],
+        &["race", "1", "2"],
     ];
     for words in lists {
         let mut out = Vec::new(rt.alloc());

@@ -30,7 +30,10 @@ fn new_folder<R: Files + AllocGlobal>(rt: &R, name: &str) -> Result<(), Fail> {
 }
 
 /// Takes the steps in turn.
-fn follow<R: Files + Input + AllocGlobal + Abort>(rt: &R, steps: &[Step]) -> Result<(), Fail>
+fn follow<R: Files + Input + AllocGlobal + Threads + Wait + Sync + Abort>(
+    rt: &R,
+    steps: &[Step],
+) -> Result<(), Fail>
 where
     R::File: FileExt + OpenFile + Drop,
 {
@@ -40,7 +43,10 @@ where
     Ok(())
 }
 
-fn take<R: Files + Input + AllocGlobal + Abort>(rt: &R, step: Step) -> Result<(), Fail>
+fn take<R: Files + Input + AllocGlobal + Threads + Wait + Sync + Abort>(
+    rt: &R,
+    step: Step,
+) -> Result<(), Fail>
 where
     R::File: FileExt + OpenFile + Drop,
 {
@@ -60,7 +66,7 @@ where
     }
 }
 
-fn gives<R: Files + Input + AllocGlobal + Abort>(
+fn gives<R: Files + Input + AllocGlobal + Threads + Wait + Sync + Abort>(
     rt: &R,
     text: &str,
     status: u8,

@@ -1,0 +1,84 @@
+ghost use Rattle.std.specs.Prelude.{◌≡◌, OnOk};
+ghost use Rattle.std.specs.Io.KnownBytes.{Appends};
+ghost use Rattle.dlm.specs.Text.{host_fault_text};
+ghost use Rattle.dlm.specs.Printed.{race_line, race_text};
+
+use crate::answer_text::refusal_text;
+use crate::failure::Failure;
+use crate::fault::Fault;
+use crate::reply_text::ReplyText;
+use cluster::HostFault;
+use lock_command::HostNumber;
+use race::{Answer, Race, run_race};
+use std::alloc::AllocGlobal;
+use std::io::Write;
+use std::sync::Wait;
+use std::thread::Threads;
+use std::{fmt, io};
+
+/// Races the hosts from 0 to `last`, and prints what each is answered, and whether they agree.
+pub fn race_hosts<R: Threads + Wait + AllocGlobal + Sync, O: Write>(
+    rt: &R,
+    last: HostNumber,
+    out: &mut O,
+) -> Result<(), Failure> {
+    let race = run_race(rt, last).map_err(Fault::from)?;
+    print_race(&race, out)?;
+    out.flush()?;
+    Ok(())
+}
+
+fn print_race<O: Write>(race: &Race, out: &mut O) -> io::Result<()>
+    ensures { OnOk result (Appends (O.contents out.old) (O.contents out.new) (race_text race.now.answers.items race.now.agree)) }
+{
+    for (host, answer) in race.answers.iter().enumerate() {
+        print_answer(host, *answer, out)?;
+    }
+    let line: &[u8] = if race.agree { b"agree\n" } else { b"differ\n" };
+    out.write_all(line)
+}
+
+fn print_answer<O: Write>(host: usize, answer: Answer, out: &mut O) -> io::Result<()>
+    ensures { OnOk result (Appends (O.contents out.old) (O.contents out.new) (race_line host answer)) }
+{
+    let answer = RaceText(answer);
+    writeln!(out, "host {host} {answer}")
+}
+
+/// What a host of a race is answered, as it is printed behind the host.
+#[derive(Clone, Copy)]
+struct RaceText(Answer);
+
+impl fmt::Display for RaceText {
+    ghost use Rattle.std.specs.Prelude.{Some};
+    ghost use Rattle.dlm.specs.Text.{race_answer_text};
+
+    ghost output = { λ a. Some (race_answer_text a.0) };
+
+    fn fmt<W: fmt::Write>(&self, f: &mut fmt::Formatter<W>) -> fmt::Result {
+        match self.0 {
+            Answer::Acknowledged { slot, reply } => {
+                let reply = ReplyText(reply);
+                write!(f, "ack {slot} {reply}")
+            }
+            Answer::Refused(fault) => {
+                let fault = host_fault_text(fault);
+                write!(f, "refused {fault}")
+            }
+        }
+    }
+}
+
+/// The number and the name of what a cluster of host threads refuses.
+fn host_fault_text(fault: HostFault) -> &'static str
+    ensures { result.now ≡ host_fault_text fault }
+{
+    match fault {
+        HostFault::Refused(refusal) => refusal_text(refusal),
+        HostFault::NoMemory => "21 NoMemory",
+        HostFault::JournalFull => "22 JournalFull",
+        HostFault::SeatTaken => "27 SeatTaken",
+        HostFault::SeatsMissing => "28 SeatsMissing",
+        HostFault::OpenCall => "35 OpenCall",
+    }
+}

@@ -1,0 +1,4 @@
+pub mod Bids
+pub mod Answers
+pub mod Agreement
+pub mod Race

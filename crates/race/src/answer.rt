@@ -1,0 +1,9 @@
+use cluster::HostFault;
+use lock_table::Reply;
+
+/// What a host's bid came to: where it stands in the log, with the lock table's reply, or why it was refused.
+#[derive(Clone, Copy, Debug, PartialEq, Eq)]
+pub enum Answer {
+    Acknowledged { slot: u16, reply: Reply },
+    Refused(HostFault),
+}

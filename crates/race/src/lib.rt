@@ -1,0 +1,16 @@
+//! A race of host threads: each bids for one lock over shared disks, and the log settles it.
+#![tactic(auto)]
+
+mod answer;
+mod bid;
+mod outcome;
+mod prefixes;
+mod race;
+mod racer;
+mod seats;
+#[cfg(test)]
+mod tests;
+
+pub use answer::Answer;
+pub use cluster::HostFault;
+pub use race::{Race, run_race};

@@ -1,0 +1,46 @@
+use crate::{Answer, run_race};
+use lock_command::HostNumber;
+use lock_table::Reply;
+use std::test::Fail;
+
+// One host has its lock at once, in the first slot.
+#[test]
+fn one_host(rt: HostRuntime) -> Result<(), Fail> {
+    let race = run_race(&rt, HostNumber::new(0).ok_or("a host")?)?;
+    assert!(rt; race.agree);
+    assert_eq!(rt;
+        race.answers.as_slice(),
+        [Answer::Acknowledged {
+            slot: 0,
+            reply: Reply::Granted
+        }]
+        .as_slice()
+    );
+    Ok(())
+}
+
+// Of eight hosts one has the lock, and the others wait; each stands in a slot of its own.
+#[test]
+fn eight_hosts(rt: HostRuntime) -> Result<(), Fail> {
+    let race = run_race(&rt, HostNumber::new(7).ok_or("a host")?)?;
+    assert!(rt; race.agree);
+    assert_eq!(rt; race.answers.len(), 8);
+    let mut taken = [false; 8];
+    let mut granted: usize = 0;
+    for answer in &race.answers {
+        match answer {
+            Answer::Acknowledged { slot, reply } => {
+                let slot = usize::from(*slot);
+                assert!(rt; slot < 8 && !taken[slot]);
+                taken[slot] = true;
+                match reply {
+                    Reply::Granted => granted = granted.saturating_add(1),
+                    other => assert_eq!(rt; *other, Reply::Queued),
+                }
+            }
+            Answer::Refused(fault) => assert!(rt; false, "{fault}"),
+        }
+    }
+    assert_eq!(rt; granted, 1);
+    Ok(())
+}
