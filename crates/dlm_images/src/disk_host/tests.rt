@@ -86,5 +86,6 @@ fn host_that_stays_open(rt: HostRuntime) -> Result<(), Fail> {
     let mut other = again.host(rt.alloc(), HostNumber::new(1).ok_or("a host")?)?;
     assert_eq!(rt; other.recover(8)?, 3);
     assert_eq!(rt; shown(rt.alloc(), &other)?.as_slice(), want.as_slice());
+    fs::remove_dir_all(&rt, folder)?;
     Ok(())
 }
