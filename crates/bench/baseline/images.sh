@@ -8,6 +8,7 @@ top=$(dirname -- "$(dirname -- "$(dirname -- "$here")")")
 "$top/dlm" run /dev/null >/dev/null 2>&1 || true
 dlm=$top/crates/dlm/out/dlm
 plain=$here/../out/images
+mkdir -p -- "$here/../out"
 rustc -O --edition 2024 -o "$plain" "$here/images.rs"
 
 work=$(mktemp -d -p "${1:-/dev/shm}")
@@ -50,4 +51,4 @@ second=("$plain" submit "$work/copy")
 compare submit 200 "$work/empty"
 first=("$dlm" table "$work/copy" 1)
 second=("$plain" replay "$work/copy" 1000)
-compare replay_1000 10 "$work/full"
+compare replay_1000 30 "$work/full"

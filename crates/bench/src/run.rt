@@ -29,6 +29,7 @@ pub fn run_all<R: Print + Wait + Clock + AllocGlobal>(rt: &R, task: Task) -> Res
     print_ratio(rt, "disk_calls_4m/disk_calls_2k", large, small)?;
     run_one::<R, BlockWrite>(rt, task, "block_write", 200_000)?;
     run_one::<R, DecodeRow>(rt, task, "decode_row", 200_000)?;
+    run_one::<R, DecodeRow>(rt, task, "decode_row_untested", 200_000)?;
     run_one::<R, Apply>(rt, task, "apply", 1_000_000)?;
     run_one::<R, Waits>(rt, task, "blocking", 1_000)?;
     let locked = run_first_path(rt, task)?;

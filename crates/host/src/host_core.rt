@@ -187,6 +187,8 @@ impl HostCore {
     }
 
     /// Hears the answer to the call that is due.
+    // Out of line the answer would be written to memory and looked at again.
+    #[inline(always)]
     pub fn hear(&mut self, heard: &Heard<'_>)
         requires busy { is_idle self.old ≡ false }
         requires fits { Fits (due_call self.old).1 (heard_of heard.now) }
@@ -208,6 +210,7 @@ impl HostCore {
     }
 
     // The attempt under way hears the answer.
+    #[inline(always)]
     fn hear_attempt(&mut self, heard: &Heard<'_>)
         requires resting { self.old.beat ≡ None }
         requires busy { is_idle self.old ≡ false }
@@ -229,6 +232,7 @@ impl HostCore {
     }
 
     // The beat under way hears the answer.
+    #[inline(never)]
     fn hear_beat(&mut self, heard: &Heard<'_>)
         requires beats { is_some self.old.beat ≡ true }
         requires fits { Fits (due_call self.old).1 (heard_of heard.now) }
@@ -278,6 +282,7 @@ impl HostCore {
 }
 
 // A value that the learner offers is learned if it is a command, and then carried out. Gives the reply to it.
+#[inline(never)]
 fn judge(
     learner: &mut Learner,
     prefix: &mut Vec<Command>,

@@ -2,18 +2,19 @@
 use Rattle.std.specs.Prelude.{◌≡◌, ◌≢◌, ◌==◌, ◌&&◌, ◌+◌, ◌-◌, ◌≤◌, ◌<◌, ◌^◌, ◌++◌, ℕ, Bool, true, false, List, [], ◌∷◌, length, take, drop, slice_index, Option, Some, None, is_some, IfSome, nat_eq, nat_le, if◌then◌else◌}
 use Rattle.std.proofs.Common.{zero, suc, refl, sym, ap, ◌∙◌, subst, arith, inl, inr, length-drop}
 use Rattle.std.specs.List.{list_all}
-use Rattle.std.proofs.lemmas.List.{take_rest, take_at, drop_at, drop-drop, take-append-drop, length-replicate, get_or_append_left}
+use Rattle.std.proofs.lemmas.List.{take_rest, take_at, drop_at, drop-drop, take-append-drop, take-take, length-replicate, get_or_append_left}
 use Rattle.std.proofs.lemmas.Bool.{and_parts, and_from, leb-true, le-leb, eqb-true, eq-eqb, cases_Bool, cond-true, cond-false, false_from_ne_true, both_ways, ne_eqb}
 use Rattle.std.specs.Cmp.Lexicographic.{pointwise, bytes_decides}
-use Rattle.byteorder.specs.Endian.{big_number}
+use Rattle.byteorder.specs.Endian.{big_number, big_bytes}
 use Rattle.byteorder.specs.Numbers.{big_number-reads_back, length-bytes_high_first}
-use Rattle.torn_block.specs.Numbers.{AreBytes, AreBytes-drop, spelled_8}
+use Rattle.torn_block.specs.Numbers.{AreBytes, AreBytes-drop, spelled_8, spelled_4}
 use Rattle.torn_block.specs.Block.{number_bytes}
 use Rattle.torn_block.specs.declared.layout.TheConstants.{VALUE_LENGTH, HEADING_LENGTH}
-use Rattle.paxos_block.specs.declared.block.TheConstants.{VOTE_LENGTH, BALLOTS_LENGTH}
+use Rattle.paxos_block.specs.declared.block.TheConstants.{VOTE_LENGTH, BALLOTS_LENGTH, VOTED_START, BLANK_START}
 use Rattle.paxos_block.specs.declared.number.TheConstants.{NUMBER_LENGTH}
 use Rattle.paxos_block.specs.declared.block.PBlock.{PBlock}
 use Rattle.paxos_block.specs.Ballot.{IsBallotOf, is_ballot_of, may_vote, may_promise, owner_of}
+use Rattle.paxos_block.specs.Headers.{short_at}
 use Rattle.paxos_block.specs.Saying.{zeros, MaySay, IsVoteOf, flag_of, heading, value_bytes, body_saying, number_at, claim_of, may_say, is_said, said_by}
 
 and-true : (b : Bool) → (b && true) ≡ b
@@ -357,3 +358,45 @@ module _ (front back : List ℕ) (seven : length front ≡ HEADING_LENGTH) (rest
   pub zero_value_fails : zero_behind ≡ false → drop BALLOTS_LENGTH back ≢ zeros VALUE_LENGTH
   zero_value_fails t is =
       both_ways zero_behind t (ap (list_all (λ b. b == 0)) (take_rest back 16 ∙ is) ∙ zero_since VALUE_LENGTH)
+
+-- ---- a heading by the numbers in its first and in its last four bytes
+
+pub heading_ends : (voted : Bool) → short_at 0 (drop 3 (heading voted)) ≡ 0
+unfolding heading short_at
+heading_ends voted = refl
+
+pub heading_starts : (voted : Bool) → short_at 0 (heading voted) ≡ (if voted then VOTED_START else BLANK_START)
+unfolding heading short_at
+heading_starts true = refl
+heading_starts false = refl
+
+heading_joined : (voted : Bool) → take 3 (take 4 (heading voted)) ++ big_bytes 4 0 ≡ heading voted
+unfolding heading
+heading_joined voted = refl
+
+heading_start_stands : (voted : Bool) → big_bytes 4 (short_at 0 (heading voted)) ≡ take 4 (heading voted)
+unfolding heading short_at
+heading_start_stands true = refl
+heading_start_stands false = refl
+
+module _ (front : List ℕ) (seven : length front ≡ HEADING_LENGTH) (fits : AreBytes front) where
+  start_stands : big_bytes 4 (short_at 0 front) ≡ take 4 front
+  unfolding short_at
+  start_stands = spelled_4 front fits (omega arith)
+
+  end_stands : big_bytes 4 (short_at 0 (drop 3 front)) ≡ drop 3 front
+  unfolding short_at
+  end_stands =
+      let four : 4 ≡ length front - 3 = omega arith in
+      spelled_4 (drop 3 front) (AreBytes-drop 3 front fits) (omega (arith, length-drop 3 front))
+      ∙ ap (λ (n : ℕ). take n (drop 3 front)) four
+      ∙ take_rest front 3
+
+  -- what starts and ends as a heading is that heading
+  pub headed : (voted : Bool) → short_at 0 front ≡ (if voted then VOTED_START else BLANK_START) → short_at 0 (drop 3 front) ≡ 0 → front ≡ heading voted
+  headed voted start end =
+      let first = sym start_stands ∙ ap (big_bytes 4) (start ∙ sym (heading_starts voted)) ∙ heading_start_stands voted in
+      sym (take-append-drop 3 front)
+      ∙ ap (λ (l : List ℕ). l ++ drop 3 front) (sym (take-take 3 4 front (omega arith)) ∙ ap (take 3) first)
+      ∙ ap (λ (l : List ℕ). take 3 (take 4 (heading voted)) ++ l) (sym end_stands ∙ ap (big_bytes 4) end)
+      ∙ heading_joined voted

@@ -6,7 +6,7 @@ ghost use Rattle.paxos_block.specs.Saying.{MaySay, body_saying, claim_of, said_b
 ghost use Rattle.paxos_block.specs.Votes.{later_of};
 
 use crate::ballot::is_ballot_of;
-use crate::number::{NUMBER_LENGTH, number_in, put_number};
+use crate::number::{NUMBER_LENGTH, SHORT_LENGTH, number_in, put_number, short_in};
 use torn_block::{BODY_LENGTH, Body, HEADING_LENGTH, VALUE_LENGTH, VERSION};
 
 /// The bytes of a body behind its heading: two ballots and an input.
@@ -22,6 +22,11 @@ const FLAG_AT: usize = 1;
 const VOTED: [u8; HEADING_LENGTH] = [VERSION, 1, 0, 0, 0, 0, 0];
 
 const BLANK: [u8; HEADING_LENGTH] = [VERSION, 0, 0, 0, 0, 0, 0];
+
+// The first four bytes of these, as numbers.
+const VOTED_START: u32 = 0x0101_0000;
+
+const BLANK_START: u32 = 0x0100_0000;
 
 const NO_VALUE: Value = [0; VALUE_LENGTH];
 
@@ -167,26 +172,29 @@ fn value_in(bytes: &[u8]) -> Value
     value
 }
 
-// Whether the bytes of a value are zeros. They are compared with zeros in one go, since a row may have sixteen such.
+// Whether the bytes of a value are zeros. As an array they are compared with zeros in one go: a row may have sixteen such.
 fn has_no_value(bytes: &[u8]) -> bool
     requires { length bytes.now ≡ VALUE_LENGTH }
     ensures { result ≡ list_all (λ b. b == 0) bytes.now }
 {
-    bytes == NO_VALUE.as_slice()
+    value_in(bytes) == NO_VALUE
 }
 
-// Whether there is an input, by a body's heading. None where that is no heading.
+// Whether there is an input, by a body's heading. None where that is no heading. Its seven bytes are looked at as two
+// numbers, which overlap.
 fn flag_in(front: &[u8]) -> Option<bool>
+    requires { length front.now ≡ HEADING_LENGTH }
     ensures { MatchOption result
         ((voted : Bool) → front.now ≢ heading voted)
         (λ voted. front.now ≡ heading voted) }
 {
-    if front == VOTED.as_slice() {
-        Some(true)
-    } else if front == BLANK.as_slice() {
-        Some(false)
-    } else {
-        None
+    if short_in(&front[HEADING_LENGTH - SHORT_LENGTH..]) != 0 {
+        return None;
+    }
+    match short_in(front) {
+        VOTED_START => Some(true),
+        BLANK_START => Some(false),
+        _ => None,
     }
 }
 

@@ -1,15 +1,17 @@
-ghost use Rattle.std.specs.Prelude.{◌≡◌, ℕ, IsTrue, length, IfOk, OnErr};
+ghost use Rattle.std.specs.Prelude.{◌≡◌, ℕ, List, IsTrue, length, OnOk, OnErr};
+ghost use Rattle.torn_block.specs.Block.{value_of};
 ghost use Rattle.torn_block.specs.Damage;
 ghost use Rattle.torn_block.specs.Damage.{IsDamagedBlock};
+ghost use Rattle.torn_block.specs.Plan.{IsReading};
 ghost use Rattle.paxos_block.specs.Saying.{claim_of};
 ghost use Rattle.paxos_block.specs.Row as rows;
-ghost use Rattle.paxos_block.specs.Row.{IsCell, IsSound, blank_cell};
+ghost use Rattle.paxos_block.specs.Row.{IsCell, IsSound, blank_cell, says_of};
 
 use crate::block::{PBlock, VOTE_LENGTH, claim, is_said};
 use crate::damaged::Damaged;
 use torn_block::{
-    BLOCK_LENGTH, BODY_LENGTH, Block128, Body, COPY_LENGTH, HEADING_LENGTH, block_in, has_twins,
-    is_open, is_sequence, sequence_in,
+    BLOCK_LENGTH, Block128, Body, COPY_LENGTH, HEADING_LENGTH, has_twins, is_open, is_sequence,
+    sequence_in,
 };
 
 /// A host's block of a slot, as it was read.
@@ -24,16 +26,26 @@ pub struct Cell {
 impl Cell {
     /// A block whose gates are both shut.
     pub const BLANK: Cell = Cell {
-        block: Block128 {
-            current: None,
-            sequence: 0,
-            body: Body {
-                bytes: [0; BODY_LENGTH],
-            },
-            next_is_open: false,
-        },
+        block: Block128::BLANK,
         says: PBlock::BLANK,
     };
+
+    /// Reads the cell that these bytes of a host's block are, in place. Of a damaged one it stays as it was.
+    // Out of line, or given back, what the block says would be copied twice more.
+    #[inline(always)]
+    pub(crate) fn read(&mut self, host: u8, bytes: &[u8]) -> Result<(), Damaged>
+        requires { length bytes.now ≡ BLOCK_LENGTH }
+        ensures cell { OnOk result (IsCell host bytes.now self.new) }
+        ensures damaged { OnErr result (IsDamagedBlock (IsSound host) bytes.now) }
+    {
+        let (first, second) = bytes.split_at(COPY_LENGTH);
+        if is_damaged(host, first, second) {
+            return Err(Damaged);
+        }
+        self.block.read(bytes);
+        self.says = says_in(&self.block);
+        Ok(())
+    }
 }
 
 // Whether the gates of a block are both shut.
@@ -45,24 +57,18 @@ pub(crate) fn is_blank(bytes: &[u8]) -> bool
     !is_open(first) && !is_open(second)
 }
 
-// The cell that these bytes of a host's block are.
-pub(crate) fn cell_in(host: u8, bytes: &[u8]) -> Result<Cell, Damaged>
-    requires { length bytes.now ≡ BLOCK_LENGTH }
-    ensures cell { IfOk result (IsCell host bytes.now) }
-    ensures damaged { OnErr result (IsDamagedBlock (IsSound host) bytes.now) }
+// What a block says, as it was read.
+#[inline(always)]
+fn says_in(block: &Block128) -> PBlock
+    ensures { (bytes : List ℕ) → IsReading bytes block.now → result ≡ says_of (value_of bytes) }
 {
-    let (first, second) = bytes.split_at(COPY_LENGTH);
-    if is_damaged(host, first, second) {
-        return Err(Damaged);
-    }
-    let block = block_in(bytes);
-    let says = match block.current {
+    match block.current {
         None => PBlock::BLANK,
         Some(_) => claim_in(&block.body),
-    };
-    Ok(Cell { block, says })
+    }
 }
 
+#[inline(always)]
 fn claim_in(body: &Body) -> PBlock
     ensures { result ≡ claim_of body.now.bytes }
 {

@@ -5,7 +5,7 @@ ghost use Rattle.paxos_block.specs.Row.{IsRow, IsDamagedRow, SeenBlock, row_said
 ghost use Rattle.paxos_block.specs.Votes.{top_of, others_top_of, latest_in};
 
 use crate::block::PBlock;
-use crate::cell::{Cell, cell_in, is_blank};
+use crate::cell::{Cell, is_blank};
 use crate::damaged::Damaged;
 use torn_block::{BLOCK_LENGTH, HOSTS, ROW_LENGTH};
 
@@ -17,12 +17,12 @@ pub struct Row {
 }
 
 impl Row {
-    /// A row to read into: no host has a block.
+    /// No host has a block.
     pub const BLANK: Row = Row {
         cells: [Cell::BLANK; HOSTS],
     };
 
-    /// Reads the row that these bytes are, in place. Where they are damaged, some cells are left as they were.
+    /// Reads the row that these bytes are, in place. Where they are damaged, some cells may be left blank.
     pub fn read(&mut self, bytes: &[u8; ROW_LENGTH]) -> Result<(), Damaged>
         ensures damaged { IsErr result ↔ IsDamagedRow bytes.now }
         ensures row { OnOk result (IsRow bytes.now self.new) }
@@ -30,15 +30,15 @@ impl Row {
         ensures unsaid { IsErr result ↔ (row_said bytes.now ≡ None) }
         ensures said { OnOk result (IsSomeAnd (row_said bytes.now) (λ seen. AreSeenAs seen self.new)) }
     {
+        // All at once: most rows have one or two written blocks.
+        *self = Row::BLANK;
         for host in 0..HOSTS {
             let place = BLOCK_LENGTH * host;
             let block = &bytes[place..place + BLOCK_LENGTH];
             if is_blank(block) {
-                self.cells[host] = Cell::BLANK;
                 continue;
             }
-            let cell = cell_in(host as u8, block)?;
-            self.cells[host] = cell;
+            self.cells[host].read(host as u8, block)?;
         }
         Ok(())
     }

@@ -129,6 +129,7 @@ impl Notes {
     }
 
     /// Hears the answer to the call that is due.
+    #[inline(always)]
     pub fn hear(&mut self, heard: &Heard<'_>)
         requires sound { IsSound self.old }
         requires going { self.old.end ≡ None }

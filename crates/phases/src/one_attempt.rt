@@ -70,6 +70,7 @@ impl Attempt {
     }
 
     /// Hears the answer to the call that is due.
+    #[inline(always)]
     pub fn hear(&mut self, heard: &Heard<'_>)
         requires going { self.old.end ≡ None }
         requires fits { Fits (call_due self.old).1 (heard_of heard.now) }

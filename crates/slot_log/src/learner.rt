@@ -147,6 +147,7 @@ impl Learner {
     }
 
     /// Hears the answer to the call that is due.
+    #[inline(always)]
     pub fn hear(&mut self, heard: &Heard<'_>)
         requires busy { is_idle self.old ≡ false }
         requires judged { offered_of self.old ≡ None }
@@ -271,7 +272,8 @@ impl Learner {
         self.said = None;
     }
 
-    // An attempt has ended, without a value.
+    // An attempt has ended, without a value. Few answers end one, so this is out of the way of the others.
+    #[inline(never)]
     fn end(&mut self, end: End, task: Task)
         requires idle { is_idle self.old ≡ true }
         requires tries { 1 ≤ task.tries }

@@ -36,6 +36,49 @@ pub struct Block128 {
     pub next_is_open: bool,
 }
 
+impl Block128 {
+    /// A block whose gates are both shut.
+    pub const BLANK: Block128 = Block128 {
+        current: None,
+        sequence: 0,
+        body: Body {
+            bytes: [0; BODY_LENGTH],
+        },
+        next_is_open: false,
+    };
+
+    /// Reads the block that these bytes, a part of a longer list, are, in place.
+    // Out of line, or given back, its body would be copied twice more.
+    #[inline(always)]
+    pub fn read(&mut self, bytes: &[u8])
+        requires { length bytes.now ≡ BLOCK_LENGTH }
+        ensures { IsReading bytes.now self.new }
+    {
+        let (first, second) = bytes.split_at(COPY_LENGTH);
+        match current_in(first, second) {
+            None => *self = blank_before(first),
+            Some(Half::First) => self.take(Half::First, first, second),
+            Some(Half::Second) => self.take(Half::Second, second, first),
+        }
+    }
+
+    // Takes the copy of these bytes for the current one, and that of those for the other.
+    #[inline(always)]
+    fn take(&mut self, current: Half, kept: &[u8], target: &[u8])
+        requires kept { length kept.now ≡ COPY_LENGTH }
+        requires target { length target.now ≡ COPY_LENGTH }
+        ensures current { self.new.current ≡ Some current }
+        ensures sequence { self.new.sequence ≡ sequence_of kept.now }
+        ensures body { self.new.body.bytes ≡ body_of kept.now }
+        ensures next { self.new.next_is_open ≡ Block.is_open target.now }
+    {
+        self.current = Some(current);
+        self.sequence = sequence_in(kept);
+        take_body(&mut self.body.bytes, kept);
+        self.next_is_open = is_open(target);
+    }
+}
+
 /// The block that these bytes are.
 pub fn read_block(bytes: &[u8; BLOCK_LENGTH]) -> Block128
     ensures { IsReading bytes.now result }
@@ -48,29 +91,9 @@ pub fn block_in(bytes: &[u8]) -> Block128
     requires { length bytes.now ≡ BLOCK_LENGTH }
     ensures { IsReading bytes.now result }
 {
-    let (first, second) = bytes.split_at(COPY_LENGTH);
-    match current_in(first, second) {
-        None => blank_before(first),
-        Some(Half::First) => reading(Half::First, first, second),
-        Some(Half::Second) => reading(Half::Second, second, first),
-    }
-}
-
-// A block whose current copy is this one, of these bytes, and whose other copy has those.
-fn reading(current: Half, kept: &[u8], target: &[u8]) -> Block128
-    requires kept { length kept.now ≡ COPY_LENGTH }
-    requires target { length target.now ≡ COPY_LENGTH }
-    ensures current { result.current ≡ Some current }
-    ensures sequence { result.sequence ≡ sequence_of kept.now }
-    ensures body { result.body.bytes ≡ body_of kept.now }
-    ensures next { result.next_is_open ≡ Block.is_open target.now }
-{
-    Block128 {
-        current: Some(current),
-        sequence: sequence_in(kept),
-        body: body_in(kept),
-        next_is_open: is_open(target),
-    }
+    let mut block = Block128::BLANK;
+    block.read(bytes);
+    block
 }
 
 // A blank block, whose first copy has these bytes.
@@ -82,12 +105,8 @@ fn blank_before(target: &[u8]) -> Block128
     ensures next { result.next_is_open ≡ Block.is_open target.now }
 {
     Block128 {
-        current: None,
-        sequence: 0,
-        body: Body {
-            bytes: [0; BODY_LENGTH],
-        },
         next_is_open: is_open(target),
+        ..Block128::BLANK
     }
 }
 
@@ -124,15 +143,6 @@ fn current_in(first: &[u8], second: &[u8]) -> Option<Half>
         (false, true) => Some(Half::Second),
         (false, false) => None,
     }
-}
-
-fn body_in(copy: &[u8]) -> Body
-    requires { length copy.now ≡ COPY_LENGTH }
-    ensures { result.bytes ≡ body_of copy.now }
-{
-    let mut bytes = [0; BODY_LENGTH];
-    take_body(&mut bytes, copy);
-    Body { bytes }
 }
 
 fn take_body(bytes: &mut [u8], copy: &[u8])

@@ -1,5 +1,5 @@
-use Rattle.std.proofs.Common.{rules, ◌≡◌, ◌<◌, ◌+◌, ◌∙◌, ℕ, List, ◌∷◌, length, sym, subst, arith, refl, zero, suc, inl, inr, get_or, set}
-use Rattle.std.proofs.lemmas.List.{get_or-set_same, get_or-set_other, length-set}
+use Rattle.std.proofs.Common.{rules, ◌≡◌, ◌<◌, ◌+◌, ◌∙◌, ℕ, List, sym, subst, arith, inl, inr, get_or, set}
+use Rattle.std.proofs.lemmas.List.{get_or-replicate, get_or-set_same, get_or-set_other, length-set}
 use Rattle.std.proofs.lemmas.Bool.{cases_lt}
 use Rattle.paxos_block.specs.declared.cell.Cell.{Cell}
 use Rattle.paxos_block.specs.Row.{IsCell, IsSound, is_sound, blank_cell}
@@ -21,16 +21,33 @@ next_done bytes cells host cell sofar below is =
                 (let same : host ≡ k = omega arith in
                 subst (λ (j : ℕ). IsCell j (block_of j bytes) (get_or (set cells host cell) j d)) same (subst (IsCell host (block_of host bytes)) (sym (get_or-set_same cells host cell d (omega (arith, sofar.count)))) is))
           ];
+      rest = λ k from under d. get_or-set_other cells host k cell d (λ same. absurd (omega arith)) ∙ sofar.rest k (omega arith) under d;
+    }
+
+-- a block whose gates are both shut has the blank cell that stands already
+next_blank : (bytes : List ℕ) (cells : List Cell) (host : ℕ) → Cells bytes cells host → host < 8 → IsCell host (block_of host bytes) blank_cell → Cells bytes cells (host + 1)
+next_blank bytes cells host sofar below is =
+    record {
+      count = sofar.count;
+      done =
+          λ k under d.
+          elim (cases_lt k host) [
+            | inl lt ↦ sofar.done k lt d
+            | inr ge ↦
+                (let same : host ≡ k = omega arith in
+                subst (λ (j : ℕ). IsCell j (block_of j bytes) (get_or cells j d)) same (subst (IsCell host (block_of host bytes)) (sym (sofar.rest host (omega arith) below d)) is))
+          ];
+      rest = λ k from under d. sofar.rest k (omega arith) under d;
     }
 
 pub loop-host-init : goal.loop-host-init
-loop-host-init c = record { count = search rules; done = λ k under d. absurd (omega arith) }
+loop-host-init c = record { count = search rules; done = λ k under d. absurd (omega arith); rest = λ k from under d. get_or-replicate 8 k blank_cell d under }
 
 pub loop-host-preserved : goal.loop-host-preserved
-loop-host-preserved c = next_done c.args.bytes.now c.loop-host.self.cells c.loop-host.host c.in_ok-cell.cell c.loop-host.invariant (omega arith) c.in_ok-cell.ensures.cell
+loop-host-preserved c = next_done c.args.bytes.now c.loop-host.self.cells c.loop-host.host c.read.new.self c.loop-host.invariant (omega arith) c.in_ok-read.ensures.cell
 
 pub loop-host-preserved-then-is_blank : goal.loop-host-preserved-then-is_blank
-loop-host-preserved-then-is_blank c = next_done c.args.bytes.now c.loop-host.self.cells c.loop-host.host blank_cell c.loop-host.invariant (omega arith) (c.is_blank.ensures c.if-is_blank.true c.loop-host.host)
+loop-host-preserved-then-is_blank c = next_blank c.args.bytes.now c.loop-host.self.cells c.loop-host.host c.loop-host.invariant (omega arith) (c.is_blank.ensures c.if-is_blank.true c.loop-host.host)
 
 pub returns-clause-row : goal.returns-clause-row
 returns-clause-row c = λ host below. c.loop-host.invariant.done host (omega arith)
@@ -42,9 +59,9 @@ returns-clause-damaged c = (
       absurd (sound_is_not_damaged (IsSound damage.0) (is_sound damage.0) (block_of damage.0 c.args.bytes.now) (c.loop-host.invariant.done damage.0 (let below = damage.1 in omega arith) blank_cell).sound damage.2)),
 )
 
-pub returns-in_err-cell-clause-unsaid : goal.returns-in_err-cell-clause-unsaid
-returns-in_err-cell-clause-unsaid c =
-    let none = damaged_row c.args.bytes.now c.told-bytes (λ i. omega (arith, c.fits-bytes i)) (c.loop-host.host, omega arith, c.in_err-cell.ensures.damaged) in
+pub returns-in_err-read-clause-unsaid : goal.returns-in_err-read-clause-unsaid
+returns-in_err-read-clause-unsaid c =
+    let none = damaged_row c.args.bytes.now c.told-bytes (λ i. omega (arith, c.fits-bytes i)) (c.loop-host.host, omega arith, c.in_err-read.ensures.damaged) in
     ((λ t. none), (λ is. search rules))
 
 pub returns-clause-unsaid : goal.returns-clause-unsaid
