@@ -17,4 +17,6 @@ pub mod Inputs
 pub mod Missing
 pub mod Slots
 pub mod Logging
+pub mod Guards
 pub mod Racing
+pub mod TwoSlots

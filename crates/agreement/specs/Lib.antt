@@ -6,3 +6,4 @@ pub mod Chosen
 pub mod Log
 pub mod Claims
 pub mod Race
+pub mod TwoSlots

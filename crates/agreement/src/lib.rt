@@ -1,16 +1,17 @@
 //! Disk Paxos over registers: why a slot has one value, a log no gap, and a recovery misses nothing.
 #![tactic(auto)]
 
-ghost use Rattle.std.specs.Prelude.{◌≡◌, ◌∷◌, ◌++◌, ℕ, suc, List, Some, None};
-ghost use Rattle.agreement.specs.State.{HOSTS, seen};
+ghost use Rattle.std.specs.Prelude.{◌≡◌, ◌∷◌, ◌++◌, [], ℕ, suc, List, Some, None};
+ghost use Rattle.agreement.specs.State.{HOSTS, blank, seen, writing_one};
 ghost use Rattle.agreement.specs.Event.{Event, IsRun, state_after, at_rest};
 ghost use Rattle.agreement.specs.Event.Event.{Starts};
 ghost use Rattle.agreement.specs.Chosen.{IsChosen, IsCommitted, IsEmpty};
 ghost use Rattle.agreement.specs.Log.{Move, IsHistory, slots_after, events_of_slot};
 ghost use Rattle.agreement.specs.Log.Move.{At};
 ghost use Rattle.agreement.specs.Race.{says, seven_proposed, eight_proposed, until_vanished, eight_chosen, race};
+ghost use Rattle.agreement.specs.TwoSlots.{begun_on_disk_2, until_crashed, until_learned, until_restarted, until_recovered, until_empty, history};
 ghost use Rattle.agreement.specs.Claims.{BindsGreater, StaysChosen, OneChosen, OnlyInputs, StaysProposed, OneProposal, CommitsChosen, Binds, NoneChosen, WritesAtRest};
-ghost use Rattle.agreement.specs.Claims.{IsInOrder, LearnsChosen, OneChosenEach, OneLog, HasLog, LogGrows, LearnsLog, ChosenBelow, LearnedBelow};
+ghost use Rattle.agreement.specs.Claims.{IsInOrder, LearnsChosen, OneChosenEach, OneLog, IsLog, HasLog, LogGrows, LearnsLog, ChosenBelow, LearnedBelow};
 
 /// Agreement: what is chosen by a ballot is the value of each proposal of a greater one, and stays chosen; and at any two
 /// places of a run one value is chosen, whatever the ballots.
@@ -112,4 +113,18 @@ pub fn race_of_two()
     ensures committed { IsCommitted 3 (state_after (until_vanished ++ eight_chosen)) 1 2 8 }
     ensures again { IsCommitted 3 (state_after race) 0 (suc HOSTS) 8 }
     ensures once { (v : ℕ) → IsChosen 3 (state_after race) v → v ≡ 8 }
+{}
+
+/// A history of two slots, computed. A disk crashes within the write of a ballot, host 0 learns 7 and forgets it in a restart,
+/// host 1 recovers 7 and finds slot 1 empty, and then has 9 chosen there. The log is 7 when it begins to look, and 7, 9 at the end.
+pub fn log_of_two_slots()
+    ensures is_history { IsHistory 3 history }
+    ensures in_writing { (((slots_after begun_on_disk_2).slot 0).cell 0 2).writing ≡ Some (says 1 0 None) }
+    ensures vanished { ((slots_after until_crashed).slot 0).cell 0 2 ≡ at_rest blank writing_one }
+    ensures learned { (slots_after until_learned).learned 0 ≡ 7 ∷ [] }
+    ensures forgotten { (slots_after until_restarted).learned 0 ≡ [] }
+    ensures recovered { (slots_after until_recovered).learned 1 ≡ 7 ∷ [] }
+    ensures empty { IsEmpty 3 ((slots_after until_empty).slot 1) 1 }
+    ensures before { IsLog 3 (slots_after until_recovered) (7 ∷ []) }
+    ensures log { IsLog 3 (slots_after history) (7 ∷ 9 ∷ []) }
 {}

@@ -4,7 +4,7 @@ use Rattle.lock_modes.specs.declared.mode.Mode.{Mode}
 use Rattle.lock_modes.specs.declared.mode.Mode.TheVariants.{Null, ConcurrentRead, ConcurrentWrite, ProtectedRead, ProtectedWrite, Exclusive}
 use Rattle.lock_command.specs.declared.command.Command.{Command}
 use Rattle.lock_command.specs.declared.command.Action.{Action}
-use Rattle.lock_command.specs.declared.command.Action.TheVariants.{Enqueue, Convert, Release, Status, Purge}
+use Rattle.lock_command.specs.declared.command.Action.TheVariants.{Enqueue, Convert, Release, Cancel, Status, Purge}
 use Rattle.world.specs.Happens.{Event, Start, Stop, Submit, Recover, Beat, Step, Tear, FailCall, DiskCrash, DiskGone}
 
 -- COMMANDS
@@ -73,6 +73,28 @@ outrun_in_phase_two = Start 0 ∷ Start 1 ∷ Submit 0 (takes_db 0) 1 ∷ steps 
 abbrev pub outrun_on_both_tries : List Event
 outrun_on_both_tries = Start 0 ∷ Start 1 ∷ Submit 0 (takes_db 0) 2 ∷ steps 0 4 ++ Recover 1 1 ∷ steps 1 10 ++ steps 0 10 ++ Recover 1 1 ∷ steps 1 10 ++ steps 0 6
 
+-- host 0 has two tries, and is outrun by host 2 once on each of two slots; in between it learns host 7's command
+abbrev pub tries_go_on_over_slots : List Event
+tries_go_on_over_slots = Start 0 ∷ Start 7 ∷ Start 2 ∷ Submit 7 (takes_db 7) 1 ∷ steps 7 17 ++ Submit 0 (asks 0 2 1 (lock 2 db Exclusive)) 2 ∷ steps 0 3
+    ++ Recover 2 1 ∷ steps 2 17 ++ steps 0 7 ++ steps 0 17 ++ steps 0 3 ++ steps 2 10 ++ steps 0 7
+
+-- host 0 has two tries, learns host 7's command on slot 0, and is outrun once on slot 1
+abbrev pub learned_slot_leaves_the_tries : List Event
+learned_slot_leaves_the_tries = Start 0 ∷ Start 7 ∷ Submit 7 (takes_db 7) 1 ∷ steps 7 17 ++ Submit 0 (asks 0 2 1 (lock 2 db Exclusive)) 2 ∷ steps 0 20
+    ++ Recover 7 1 ∷ steps 7 10 ++ steps 0 7 ++ steps 0 17
+
+-- host 3 comes in between host 7's reads and its write; both have as many tries as a byte can count
+abbrev pub host_7_behind_host_3 : List Event
+host_7_behind_host_3 = Start 7 ∷ Start 3 ∷ Submit 7 (asks 7 7 1 (lock 7 db Exclusive)) 255 ∷ steps 7 4 ++ Submit 3 (asks 3 3 1 (lock 3 db Exclusive)) 255 ∷ steps 3 17 ++ steps 7 300
+
+-- over three disks host 0 stops when its vote is confirmed on two of them, and submits the same again
+abbrev pub own_vote_of_an_earlier_start : List Event
+own_vote_of_an_earlier_start = submits ++ steps 0 45 ++ Stop 0 ∷ submits ++ steps 0 102
+
+-- where all slots are learned a recovery is answered at once
+abbrev pub recovery_of_a_full_log : List Event
+recovery_of_a_full_log = first_reply ++ Recover 0 1 ∷ Submit 0 (takes_db 0) 1 ∷ []
+
 -- THE LOCK TABLE BEHIND THE LOG
 
 -- each is submitted through its host with one try, and takes 17 calls
@@ -115,6 +137,48 @@ purge_of_a_host = Start 0 ∷ Start 1 ∷ in_turn (asks 0 2 1 (lock 2 (98 ∷ []
     ++ in_turn (asks 1 1 2 (lock 3 (98 ∷ []) ProtectedRead) ∷ [])
     ++ Submit 0 (asks 0 2 2 (on_a 4 ProtectedRead)) 1 ∷ steps 0 51
     ++ in_turn (asks 0 3 1 (Purge 1) ∷ asks 0 2 1 (Status 4) ∷ [])
+
+-- while a conversion waits for client 3's lock, client 4's mode would be admitted by all that is held
+abbrev pub conversion_holds_waiting_locks_back : List Event
+conversion_holds_waiting_locks_back = Start 0 ∷ in_turn (asks 0 1 1 (on_a 1 ConcurrentRead) ∷ asks 0 2 1 (on_a 2 ConcurrentRead) ∷ asks 0 3 1 (on_a 3 ProtectedWrite)
+    ∷ asks 0 1 2 (changed 1 Exclusive) ∷ asks 0 4 1 (on_a 4 ConcurrentRead) ∷ asks 0 3 2 (Release 3) ∷ [])
+
+-- of two conversions the second one could be granted behind the release, and the first one could not
+abbrev pub blocked_conversion_holds_the_next_back : List Event
+blocked_conversion_holds_the_next_back = Start 0 ∷ in_turn (asks 0 1 1 (on_a 1 ConcurrentRead) ∷ asks 0 2 1 (on_a 2 ConcurrentRead) ∷ asks 0 3 1 (on_a 3 ProtectedWrite)
+    ∷ asks 0 4 1 (on_a 4 ConcurrentRead) ∷ asks 0 1 2 (changed 1 Exclusive) ∷ asks 0 2 2 (changed 2 ProtectedRead) ∷ asks 0 3 2 (Release 3) ∷ [])
+
+-- client 2 asks to convert its lock before client 1 does
+abbrev pub conversions_in_order_of_coming : List Event
+conversions_in_order_of_coming = Start 0 ∷ in_turn (asks 0 1 1 (on_a 1 ConcurrentRead) ∷ asks 0 2 1 (on_a 2 ConcurrentRead) ∷ asks 0 3 1 (on_a 3 ProtectedWrite)
+    ∷ asks 0 2 2 (changed 2 ProtectedRead) ∷ asks 0 1 2 (changed 1 ConcurrentWrite) ∷ asks 0 3 2 (Release 3) ∷ [])
+
+-- beside a conversion that waits client 3 changes a lock that is held, to a mode that the held ones forbid and to one that they admit
+abbrev pub held_mode_of_a_queued_conversion_counts : List Event
+held_mode_of_a_queued_conversion_counts = Start 0 ∷ in_turn (asks 0 1 1 (on_a 1 ProtectedRead) ∷ asks 0 2 1 (on_a 2 ProtectedRead) ∷ asks 0 3 1 (on_a 3 Null)
+    ∷ asks 0 1 2 (changed 1 Exclusive) ∷ asks 0 3 2 (Convert 3 ConcurrentWrite true) ∷ asks 0 3 3 (Convert 3 ProtectedRead true) ∷ [])
+
+-- conversions of no lock, of others' locks, of one that waits and of one that converts
+abbrev pub refused_conversions : List Event
+refused_conversions = Start 0 ∷ in_turn (asks 0 1 1 (on_a 1 ProtectedRead) ∷ asks 0 2 1 (on_a 2 ProtectedRead) ∷ asks 0 3 1 (on_a 3 Exclusive)
+    ∷ asks 0 1 2 (changed 9 ProtectedRead) ∷ asks 0 1 3 (changed 2 ProtectedRead) ∷ asks 0 1 4 (changed 3 ProtectedRead) ∷ asks 0 3 2 (changed 3 ProtectedRead)
+    ∷ asks 0 1 5 (changed 1 Exclusive) ∷ asks 0 1 6 (changed 1 ProtectedRead) ∷ asks 0 2 2 (changed 1 ProtectedRead) ∷ [])
+
+-- cancels of no lock, of others' locks, and of one that is granted
+abbrev pub refused_cancels : List Event
+refused_cancels = Start 0 ∷ in_turn (asks 0 1 1 (on_a 1 ProtectedRead) ∷ asks 0 2 1 (on_a 2 Exclusive) ∷ asks 0 1 2 (Cancel 9) ∷ asks 0 2 2 (Cancel 1)
+    ∷ asks 0 1 3 (Cancel 2) ∷ asks 0 1 4 (Cancel 1) ∷ [])
+
+-- each of two clients enqueues through one host and converts through the other; then what came through host 0 is purged
+abbrev pub purge_goes_by_the_enqueue : List Event
+purge_goes_by_the_enqueue = Start 0 ∷ Start 1 ∷ in_turn (asks 1 0 1 (on_a 1 ConcurrentRead) ∷ []) ++ Submit 0 (asks 0 1 1 (on_a 2 ConcurrentRead)) 1 ∷ steps 0 34
+    ++ in_turn (asks 0 0 2 (changed 1 ConcurrentWrite) ∷ []) ++ Submit 1 (asks 1 1 2 (Convert 2 ProtectedRead true)) 1 ∷ steps 1 51
+    ++ Submit 0 (asks 0 5 1 (Purge 0)) 1 ∷ steps 0 34
+
+-- on each of two names a lock that came through host 0 waits for one that came through host 1, which is purged
+abbrev pub purge_settles_each_name : List Event
+purge_settles_each_name = Start 0 ∷ Start 1 ∷ in_turn (asks 1 1 1 (on_a 1 Exclusive) ∷ asks 1 1 2 (lock 2 (98 ∷ []) Exclusive) ∷ [])
+    ++ Submit 0 (asks 0 2 1 (on_a 3 Exclusive)) 1 ∷ steps 0 51 ++ in_turn (asks 0 2 2 (lock 4 (98 ∷ []) Exclusive) ∷ asks 0 3 1 (Purge 1) ∷ asks 0 2 3 (Status 3) ∷ asks 0 2 4 (Status 4) ∷ [])
 
 -- HOSTS STOP
 
@@ -175,6 +239,33 @@ abbrev pub outrun_on_a_lost_disk : List Event
 outrun_on_a_lost_disk = Start 0 ∷ Start 1 ∷ Submit 0 (takes_db 0) 2 ∷ steps 0 9
     ++ Submit 1 (takes_db 1) 1 ∷ steps 1 9 ++ FailCall 1 (0 ∷ []) ∷ FailCall 1 (0 ∷ []) ∷ Submit 1 (takes_db 1) 1 ∷ steps 1 15
     ++ steps 0 7 ++ DiskGone 0 ∷ steps 0 13
+
+-- WHAT IS LEFT BEHIND
+
+-- the write that opens the vote's gate fails, and leaves this byte; then the host recovers
+abbrev pub gate_of_a_failed_write : ℕ → ℕ → List Event
+gate_of_a_failed_write byte calls = submits ++ steps 0 14 ++ FailCall 0 (byte ∷ []) ∷ Recover 0 1 ∷ steps 0 calls
+
+-- the last read fails, behind a vote that is synced
+abbrev pub failed_last_read : List Event
+failed_last_read = submits ++ steps 0 16 ++ FailCall 0 (0 ∷ []) ∷ Recover 0 1 ∷ steps 0 27
+
+-- the same, and the disk crashes before the recovery; then it crashes twice within it
+abbrev pub crashes_within_a_recovery : List Event
+crashes_within_a_recovery = submits ++ steps 0 16 ++ FailCall 0 (0 ∷ []) ∷ DiskCrash 0 (0 ∷ []) ∷ Recover 0 1 ∷ steps 0 10
+    ++ DiskCrash 0 (255 ∷ []) ∷ DiskCrash 0 (165 ∷ []) ∷ Recover 0 1 ∷ steps 0 10
+
+-- a body is torn, and takes three bytes in turn
+abbrev pub body_torn_to_three_bytes : List Event
+body_torn_to_three_bytes = submits ++ steps 0 5 ++ Tear 0 (1 ∷ 165 ∷ 255 ∷ []) ∷ recovers 0 ++ steps 0 10
+
+-- a disk crashes behind the sync of a vote's body, and its host goes on
+abbrev pub crash_behind_a_body : List Event
+crash_behind_a_body = submits ++ steps 0 13 ++ DiskCrash 0 (1 ∷ 2 ∷ 165 ∷ []) ∷ Recover 0 1 ∷ steps 0 27
+
+-- disk 1 of three crashes twice within an attempt, and once behind it; then host 7 recovers
+abbrev pub disk_that_crashes_again : List Event
+disk_that_crashes_again = submits ++ steps 0 5 ++ DiskCrash 1 (0 ∷ []) ∷ DiskCrash 1 (0 ∷ []) ∷ steps 0 46 ++ Stop 0 ∷ DiskCrash 1 (165 ∷ []) ∷ Start 7 ∷ Recover 7 255 ∷ steps 7 81
 
 -- HOSTS BEAT
 

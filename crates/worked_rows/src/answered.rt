@@ -73,6 +73,52 @@ pub fn outrun_once_and_tried_again()
         granted 70 1 0 ∷ queued 179 0 1 ∷ [] }
 {}
 
+/// Tries go on over slots: of two one is used on slot 0, and with the other, on slot 1, the host is
+/// refused at once.
+///
+/// `cluster 1 4 | start 0 | start 7 | start 2 | submit 7 1 enqueue 1 1 1 EX db | step 7 17 |`
+/// `submit 0 2 enqueue 2 1 2 EX db | step 0 3 | recover 2 1 | step 2 17 | step 0 7 | step 0 17 |`
+/// `step 0 3 | step 2 10 | step 0 7`
+pub fn tries_go_on_over_slots()
+    ensures { said_over 1 4 events.tries_go_on_over_slots ≡
+        granted 20 7 0 ∷ recovered 79 2 1 ∷ refused 86 0 refusal.Outrun ∷ [] }
+{}
+
+/// A slot that is learned leaves the tries as they were: of two one is used on slot 1, and the other
+/// is enough.
+///
+/// `cluster 1 4 | start 0 | start 7 | submit 7 1 enqueue 1 1 1 EX db | step 7 17 |`
+/// `submit 0 2 enqueue 2 1 2 EX db | step 0 20 | recover 7 1 | step 7 10 | step 0 7 | step 0 17`
+pub fn learned_slot_leaves_the_tries()
+    ensures { said_over 1 4 events.learned_slot_leaves_the_tries ≡
+        granted 19 7 0 ∷ recovered 51 7 1 ∷ queued 75 0 1 ∷ [] }
+{}
+
+/// Host 3 takes a greater ballot than host 7 had, which then learns its command.
+///
+/// `cluster 1 4 | start 7 | start 3 | submit 7 255 enqueue 7 1 7 EX db | step 7 4 |`
+/// `submit 3 255 enqueue 3 1 3 EX db | step 3 17 | step 7 300`
+pub fn host_7_behind_host_3()
+    ensures { said_over 1 4 events.host_7_behind_host_3 ≡ granted 24 3 0 ∷ queued 54 7 1 ∷ [] }
+{}
+
+/// A host finds the vote of its earlier start, of the same command, and is acknowledged by it.
+///
+/// `cluster 3 4 | start 0 | submit 0 1 enqueue 1 1 1 EX db | step 0 45 | stop 0 | start 0 |`
+/// `submit 0 1 enqueue 1 1 1 EX db | step 0 102`
+pub fn own_vote_of_an_earlier_start()
+    ensures { said_over 3 4 events.own_vote_of_an_earlier_start ≡ granted 100 0 0 ∷ [] }
+{}
+
+/// Where all slots are learned a recovery is answered at once, and a submit refused.
+///
+/// `cluster 1 1 | start 0 | submit 0 1 enqueue 1 1 1 EX db | step 0 17 | recover 0 1 |`
+/// `submit 0 1 enqueue 1 1 1 EX db`
+pub fn recovery_of_a_full_log()
+    ensures { said_over 1 1 events.recovery_of_a_full_log ≡
+        granted 18 0 0 ∷ recovered 19 0 1 ∷ refused 20 0 refusal.LogFull ∷ [] }
+{}
+
 /// Events that do not apply bring no entry, and change no answer but its place.
 ///
 /// `cluster 1 1 | stop 0 | submit 0 1 enqueue 1 1 1 EX db | recover 0 1 | step 0 1 | tear 0 00 | ..`

@@ -5,3 +5,5 @@ pub mod Rows
 pub mod Runs
 pub mod Safe
 pub mod Beats
+pub mod Saying
+pub mod Reaching

@@ -4,3 +4,4 @@ pub mod Plain
 pub mod Happens
 pub mod Chosen
 pub mod Headline
+pub mod Lines

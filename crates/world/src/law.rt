@@ -16,6 +16,7 @@ ghost use Rattle.world.specs.Entry.{Filled, is_on, is_of, disk_step, host_step};
 ghost use Rattle.world.specs.World.{world, ReadsBack, MayFollow, IsRun};
 ghost use Rattle.world.specs.Happens.{Event, entry_of, happens, run, lines_at, answers};
 ghost use Rattle.world.specs.Chosen.{at, Hears, IsChosenAt};
+ghost use Rattle.world.specs.Lines.{LinesAreSaid, EventsReachEach, EventsReachAll};
 ghost use Rattle.world.specs.Headline.{IsSafe, HasNoSecondLog, OneBeginsOther, Headline, HeadlineOfEvents};
 
 /// An entry is a step of its own disk and of its own host, and changes no other.
@@ -55,6 +56,19 @@ pub fn events_make_a_run()
     ensures one_answer_more { (c : Shape) (events : List Event) (event : Event) →
         answers c (events ++ event ∷ []) ≡ answers c events
         ++ lines_at c (run c events) (length events) (entry_of c (world c (run c events)) event) }
+{}
+
+/// The answers of any events are what their hosts say: each line is said at the entry of its event,
+/// and whatever a host says at an entry is a line.
+pub fn lines_are_said()
+    ensures { (c : Shape) (events : List Event) → LinesAreSaid c events }
+{}
+
+/// No run is left out by the events: whatever entry may follow a run, some event brings such an
+/// entry; so whatever disks and hosts a run leaves, a run of events leaves them.
+pub fn events_reach_all()
+    ensures each { EventsReachEach }
+    ensures all { EventsReachAll }
 {}
 
 /// A command whose numbers are in their ranges is what its spelling reads as, so it may be submitted.

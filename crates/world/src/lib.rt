@@ -7,5 +7,5 @@ mod law;
 pub use entry::{CallKind, Entry};
 pub use law::{
     attempts_hear_histories, beats_hear_histories, changes_its_own, commands_read_back,
-    events_make_a_run, goes_on, safe_lists_have_one_log,
+    events_make_a_run, events_reach_all, goes_on, lines_are_said, safe_lists_have_one_log,
 };

@@ -1,0 +1,39 @@
+-- What the answers of events owe to what hosts say, and the events to what may follow.
+use Rattle.std.specs.Prelude.{◌≡◌, ℕ, true, List, length, take, slice_get, Some}
+use Rattle.slot_log.specs.Shape.{Shape}
+use Rattle.host.specs.declared.answer.HostAnswer.{HostAnswer}
+use Rattle.world.specs.Entry.{Filled, is_on, is_of, disk_step, host_step}
+use Rattle.world.specs.World.{World, world, MayFollow, IsRun}
+use Rattle.world.specs.Happens.{Event, Line, entry_of, run, answers}
+use Rattle.world.specs.Chosen.{SaysAt}
+
+-- LINES
+
+-- how many entries the first n events bring
+abbrev pub place_of : Shape → List Event → ℕ → ℕ
+place_of c events n = length (run c (take n events))
+
+-- Each line is what its host says at the entry of its event; and whatever a host says at an entry is a line, of the event that brought it.
+pub record LinesAreSaid (c : Shape) (events : List Event) : Type 0 where
+  pub said : (k : ℕ) (x : Line) → slice_get (answers c events) k ≡ Some x → SaysAt c (run c events) (place_of c events x.place) x.host x.said
+  pub told : (i host : ℕ) (said : HostAnswer) → SaysAt c (run c events) i host said
+      → (k : ℕ) × (n : ℕ) × (slice_get (answers c events) k ≡ Some (record { place = n; host = host; said = said })) × (place_of c events n ≡ i)
+
+-- NO RUN IS LEFT OUT
+
+-- The event brings an entry of the same disk and host, which makes of these what the given entry makes of them.
+pub record BringsSuch (c : Shape) (w : World) (event : Event) (e : Filled) : Type 0 where
+  pub brought : Filled
+  pub is : entry_of c w event ≡ Some brought
+  pub on_disk : (k : ℕ) → is_on k brought ≡ is_on k e
+  pub disk : (k : ℕ) → is_on k e ≡ true → disk_step (w.disk k) brought ≡ disk_step (w.disk k) e
+  pub of_host : (h : ℕ) → is_of h brought ≡ is_of h e
+  pub host : (h : ℕ) → is_of h e ≡ true → host_step c h (w.host h) brought ≡ host_step c h (w.host h) e
+
+-- whatever entry may follow a run, some event brings such an entry
+abbrev pub EventsReachEach : Type 0
+EventsReachEach = (c : Shape) (log : List Filled) (e : Filled) → IsRun c log → MayFollow c (world c log) e → (event : Event) × BringsSuch c (world c log) event e
+
+-- so whatever disks and hosts a run leaves, a run of events leaves them
+abbrev pub EventsReachAll : Type 0
+EventsReachAll = (c : Shape) (log : List Filled) → IsRun c log → (events : List Event) × (world c (run c events) ≡ world c log)
