@@ -3,7 +3,8 @@ ghost use Rattle.cluster.specs.Opening.{IsNamed};
 
 use crate::failure::Failure;
 use crate::timing::{ROUNDS, Timing};
-use cluster::{Cluster, Config, Named, OpenGate, Opening};
+use cluster::{Cluster, Config, HostSeat, Named, OpenGate, Opening, Receipt};
+use disk::SimDisk;
 use lock_command::{
     Action, ClientNumber, Command, HostNumber, LockName, LockNumber, RequestNumber,
 };
@@ -52,17 +53,39 @@ fn submissions<N: Named, R: Wait + Clock + AllocGlobal>(
     let cluster = Cluster::simulated(alloc, &ties, foundation)?;
     let mut seat = cluster.seat(rt, alloc, host)?;
     let start = Instant::now(rt)?;
-    for place in 0..count {
-        let Some(command) = command_at(seat.host(), place) else {
-            return Err(Failure::Wrong);
-        };
-        if !seat.idle() {
-            return Err(Failure::Wrong);
-        }
-        cluster.submit(rt, &mut seat, &mut OpenGate, command, 1)?;
-    }
+    submit_each(rt, &cluster, &mut seat, count)?;
     let spent = start.elapsed(rt)?;
     Ok(u64::try_from(spent.as_nanos()).unwrap_or(u64::MAX))
+}
+
+// So many submissions, one after the other.
+fn submit_each<N: Named>(
+    rt: &impl Wait,
+    cluster: &Cluster<'_, N, SimDisk>,
+    seat: &mut HostSeat<N>,
+    count: u32,
+) -> Result<(), Failure> {
+    for place in 0..count {
+        submit_at(rt, cluster, seat, place)?;
+    }
+    Ok(())
+}
+
+fn submit_at<N: Named>(
+    rt: &impl Wait,
+    cluster: &Cluster<'_, N, SimDisk>,
+    seat: &mut HostSeat<N>,
+    place: u32,
+) -> Result<Receipt, Failure> {
+    let Some(command) = command_at(seat.host(), place) else {
+        return Err(Failure::Wrong);
+    };
+    if !seat.idle() {
+        return Err(Failure::Wrong);
+    }
+    cluster
+        .submit(rt, seat, &mut OpenGate, command, 1)
+        .map_err(Failure::from)
 }
 
 /// The enqueue at this place of the log, from 0.

@@ -69,14 +69,16 @@ pub fn two_slow_disks<R: Clock>(
     ensures large { IfOk result (λ disks. All (λ d. image_length config.slots ≤ length d.disk.disk.bytes) disks.items) }
     ensures fresh { IfOk result (λ disks. All (λ d. cut (image_length config.slots) d.disk.disk ≡ fresh_disk (image_length config.slots)) disks.items) }
 {
-    larger_disks_serve();
-    let first = SlowDisk {
-        disk: SimDisk::new(alloc, config.image_length())?,
-        rt,
-    };
-    let second = SlowDisk {
-        disk: SimDisk::new(alloc, config.image_length())?,
-        rt,
-    };
+    let first = slow_disk(rt, alloc, config)?;
+    let second = slow_disk(rt, alloc, config)?;
     Ok(vec![in alloc; first, second].map_err(AllocError::from)?)
+}
+
+fn slow_disk<R: Clock>(rt: &R, alloc: Global, config: Config) -> Result<SlowDisk<'_, R>, NoMemory>
+    ensures large { IfOk result (λ d. image_length config.slots ≤ length d.disk.disk.bytes) }
+    ensures fresh { IfOk result (λ d. cut (image_length config.slots) d.disk.disk ≡ fresh_disk (image_length config.slots)) }
+{
+    larger_disks_serve();
+    let disk = SimDisk::new(alloc, config.image_length())?;
+    Ok(SlowDisk { disk, rt })
 }

@@ -89,14 +89,24 @@ fn submits<N: Named>(
 ) -> Option<HostSeat<N>> {
     let mut seat = cluster.seat(rt, alloc, host).ok()?;
     for round in 0..rounds {
-        let command = command_at(seat.host(), round)?;
-        if !seat.idle() {
-            return None;
-        }
-        match cluster.submit(rt, &mut seat, &mut OpenGate, command, 255) {
-            Ok(_) | Err(HostFault::Refused(_)) => {}
-            Err(_) => return None,
-        }
+        submit_once(rt, cluster, &mut seat, round)?;
     }
     Some(seat)
+}
+
+// Submits the command of this round, refused or not.
+fn submit_once<N: Named>(
+    rt: &impl Wait,
+    cluster: &Cluster<'_, N, SimDisk>,
+    seat: &mut HostSeat<N>,
+    round: u32,
+) -> Option<()> {
+    let command = command_at(seat.host(), round)?;
+    if !seat.idle() {
+        return None;
+    }
+    match cluster.submit(rt, seat, &mut OpenGate, command, 255) {
+        Ok(_) | Err(HostFault::Refused(_)) => Some(()),
+        Err(_) => None,
+    }
 }

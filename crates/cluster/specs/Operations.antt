@@ -7,7 +7,7 @@ use Rattle.host.specs.declared.answer.HostAnswer.{HostAnswer}
 use Rattle.host.specs.declared.answer.HostAnswer.TheVariants as said
 use Rattle.host.specs.Host.{Operation, Submitting, Recovering, Doing, Memory, Running, idles, said_of, learned_of}
 use Rattle.world.specs.Entry.{Filled, Start, Stop}
-use Rattle.cluster_tie.specs.Parts.{Own, adds}
+use Rattle.cluster_tie.specs.Parts.{Own, own_of, adds}
 use Rattle.cluster.specs.Cluster.{GoesOn}
 use Rattle.cluster.specs.Receipts.{receipts_of}
 use Rattle.cluster.specs.Seat.{host_in}
@@ -60,6 +60,11 @@ IsUnbegun SeatsMissing old new = ⊥
 -- nothing was begun; or the operation was, by this entry, and stopped
 abbrev pub Fails : Shape → Filled → HostFault → Own → Own → Type 0
 Fails c e fault old new = IsUnbegun fault old new ⊎ ((place : ℕ) × Stops c fault (adds old place e) new)
+
+-- the host has started, and has done nothing yet
+pub record IsStarted (host : ℕ) (own : Own) : Type 0 where
+  pub place : ℕ
+  pub is : own ≡ own_of host ((place, Start host) ∷ [])
 
 -- the host stopped and started again
 abbrev pub Restarts : Own → Own → Type 0

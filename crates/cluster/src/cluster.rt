@@ -2,13 +2,13 @@ ghost use Rattle.std.specs.Prelude.{◌≡◌, ◌⊎◌, ◌≤◌, ◌<◌, �
 ghost use Rattle.disk.specs.Simulated.{fresh_disk};
 ghost use Rattle.paxos_block.specs.Places.{image_length};
 ghost use Rattle.host.specs.Host.{idles, said_of};
-ghost use Rattle.world.specs.Entry.{Start};
 ghost use Rattle.world.specs.World.{opening_disk};
 ghost use Rattle.torn_block.specs.declared.layout.TheConstants.{HOSTS};
-ghost use Rattle.cluster_tie.specs.Parts.{own_of, adds, AreFresh};
+ghost use Rattle.cluster_tie.specs.Parts.{adds, AreFresh};
 ghost use Rattle.cluster.specs.Book.{image_on};
 ghost use Rattle.cluster.specs.Cluster.{IsStep, Ends};
 ghost use Rattle.cluster.specs.Journal.{AreWaiting};
+ghost use Rattle.cluster.specs.Operations.{IsStarted};
 ghost use Rattle.cluster.specs.Seat.{host_in};
 
 use crate::book::DiskBook;
@@ -82,7 +82,7 @@ impl<'a, N: Named, D: Disk + Drop> Cluster<'a, N, D> {
         alloc: Global,
         host: HostNumber,
     ) -> Result<HostSeat<N>, HostFault>
-        ensures ok { IfOk result (λ s. (place : ℕ) × (s ≡ own_of host ((place, Start host) ∷ []))) }
+        ensures ok { IfOk result (IsStarted host) }
         ensures causes { IfErr result (λ fault. (fault ≡ HostFault.SeatTaken) ⊎ (fault ≡ HostFault.JournalFull) ⊎ (fault ≡ HostFault.NoMemory)) }
     {
         self.journal.lock(rt).seat(alloc, host)

@@ -65,7 +65,7 @@ fn submitted<N: Named, D: Disk + Drop, G: Gate>(
     if !seat.idle() {
         return Ok(None);
     }
-    Ok(Some(cluster.submit(rt, seat, gate, command, tries)?))
+    cluster.submit(rt, seat, gate, command, tries).map(Some)
 }
 
 // Holds its host before its 17th call until the flag is set.
