@@ -23,20 +23,9 @@ module _ (s : Setup) where
   from_front before (y ∷ xs) x is answers =
       (is.0, from_front (before ++ y ∷ []) xs x is.1 (subst (λ (l : List Answered). IsAnswerTo (next_call s (on l)) x) (sym (append_assoc before (y ∷ []) xs)) answers))
 
-  -- and back
-  to_front : (before xs : List Answered) (x : Answered) → IsHistoryFrom s before (xs ++ x ∷ []) → IsHistoryFrom s before xs × IsAnswerTo (next_call s (on (before ++ xs))) x
-  to_front before [] x is = (tt, subst (λ (l : List Answered). IsAnswerTo (next_call s (on l)) x) (sym (append-nil before)) is.0)
-  to_front before (y ∷ xs) x is =
-      let rest = to_front (before ++ y ∷ []) xs x is.1 in
-      ((is.0, rest.0), subst (λ (l : List Answered). IsAnswerTo (next_call s (on l)) x) (append_assoc before (y ∷ []) xs) rest.1)
-
   -- from the start on
   pub history_more : (xs : List Answered) (x : Answered) → IsHistory s xs → IsAnswerTo (next_call s (on xs)) x → IsHistory s (xs ++ x ∷ [])
   history_more xs x is answers = from_front [] xs x is answers
-
-  -- and back
-  pub history_less : (xs : List Answered) (x : Answered) → IsHistory s (xs ++ x ∷ []) → IsHistory s xs × IsAnswerTo (next_call s (on xs)) x
-  history_less xs x is = to_front [] xs x is
 
   module _ (P : List Answered → Type 0) (next : (xs : List Answered) (x : Answered) → P xs → IsAnswerTo (next_call s (on xs)) x → P (xs ++ x ∷ [])) where
     -- what holds then holds further on

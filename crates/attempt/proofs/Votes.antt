@@ -8,7 +8,7 @@ use Rattle.torn_block.specs.declared.layout.TheConstants.{HOSTS, BLOCK_LENGTH, B
 use Rattle.torn_block.specs.declared.block.Half.TheVariants.{First, Second}
 use Rattle.torn_block.specs.Block.{is_open, sequence_of, body_of, copy_of, choice, value_at, value_of}
 use Rattle.torn_block.specs.Damage.{block_of}
-use Rattle.torn_block.specs.DamageLaws.{length-body_of}
+use Rattle.torn_block.proofs.DamageLaws.{length-body_of}
 use Rattle.paxos_block.specs.declared.block.PBlock.{PBlock}
 use Rattle.paxos_block.specs.Ballot.{IsBallotOf}
 use Rattle.paxos_block.specs.Row.{IsSaid, SeenBlock, seen_in, seen_at, row_said}

@@ -11,7 +11,8 @@ use Rattle.torn_block.specs.declared.write_steps.WriteCall.{WriteCall}
 use Rattle.torn_block.specs.declared.write_steps.WriteCall.TheVariants.{CloseGate, SyncClosed, PutBody, SyncBody, OpenGate, SyncOpened}
 use Rattle.torn_block.specs.Block.{next_sequence_at}
 use Rattle.torn_block.specs.Damage.{block_of}
-use Rattle.torn_block.specs.Plan.{Plan, IsReading, told_value, plan_by, need_at, next_after, device_call, plan_calls}
+use Rattle.torn_block.specs.Plan.{Plan, IsReading, told_value, plan_by, need_at, next_after, device_call}
+use Rattle.torn_block.proofs.PlanLaws.{plan_calls}
 use Rattle.torn_block.specs.Stage.{Write128, next_call as call_behind, call_of}
 use Rattle.paxos_block.specs.Places.{place_of, BeatOf}
 use Rattle.phases.specs.Kept.{made, write_due}

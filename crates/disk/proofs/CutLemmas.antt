@@ -1,13 +1,12 @@
 -- What happens among the first positions of a disk happens to the disk that is cut to them.
-use Rattle.std.specs.Prelude.{slice_range}
 use Rattle.std.proofs.Common.{◌≡◌, ◌+◌, ◌-◌, ◌≤◌, ℕ, zero, suc, Bool, true, false, List, [], ◌∷◌, ◌++◌, length, take, drop, replicate, refl, sym, ap, ◌∙◌, subst, arith}
 use Rattle.std.proofs.lemmas.List.{length-replicate, length-take-le}
 use Rattle.disk.specs.declared.fault.DiskFault.TheVariants.{Reset, Failed, Gone}
 use Rattle.disk.specs.Disk.{DiskState, Call, Attach, Read, Write, Sync, Answer, Booted, Told, Done, Fault, FailureLeaves, Succeeds, Step, Crashes, put_at, written, synced}
 use Rattle.disk.specs.Filling.{filled, nth_given}
 use Rattle.disk.specs.Simulated.{crashed, fresh_disk}
-use Rattle.disk.specs.Steps.{step_keeps}
-use Rattle.disk.specs.Crash.{length-put}
+use Rattle.disk.proofs.StepLemmas.{step_keeps}
+use Rattle.disk.proofs.CrashLemmas.{length-put}
 use Rattle.disk.proofs.FillingLemmas.{filled_keeps}
 use Rattle.disk.specs.Cut.{cut, HasFirst, IsInFirst}
 

@@ -6,7 +6,7 @@ use Rattle.std.proofs.lemmas.List.FromFn.{length-map-range_with_len, get_or-map-
 use Rattle.std.proofs.lemmas.Nat.Bits.{bit_at-zero}
 use Rattle.std.specs.Int.{bit_at}
 use Rattle.disk.specs.Disk.{put_at}
-use Rattle.disk.specs.Crash.{length-put, put-below, put-inside, put-above}
+use Rattle.disk.proofs.CrashLemmas.{length-put, put-below, put-inside, put-above}
 use Rattle.disk.specs.declared.word.Word.{Word}
 use Rattle.disk.specs.Marks.{blank, is_marked_in, is_marked, marks}
 

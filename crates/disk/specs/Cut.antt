@@ -1,5 +1,5 @@
 -- A disk that is larger than what is used of it.
-use Rattle.std.specs.Prelude.{◌+◌, ◌≤◌, ℕ, List, length, take}
+use Rattle.std.specs.Prelude.{◌+◌, ◌≤◌, ℕ, length, take}
 use Rattle.disk.specs.Disk.{DiskState, Call, Attach, Read, Write, Sync}
 
 -- the first n positions, as a disk of their own

@@ -6,12 +6,13 @@ use Rattle.std.proofs.lemmas.Bool.{cases_Bool, false_from_ne_true, cond-true, co
 use Rattle.std.proofs.lemmas.List.Folds.{list_any_at}
 use Rattle.std.proofs.lemmas.List.FromFn.{length-range_with_len, get_or-range_with_len, length-map-range_with_len, get_or-map-range_with_len}
 use Rattle.torn_block.specs.declared.layout.TheConstants.{HOSTS, BLOCK_LENGTH, ROW_LENGTH}
-use Rattle.torn_block.specs.Numbers.{AreBytes, AreBytes-take, AreBytes-drop}
-use Rattle.torn_block.specs.Place.{length-block_in}
+use Rattle.torn_block.specs.Numbers.{AreBytes}
+use Rattle.torn_block.proofs.NumberLaws.{AreBytes-take, AreBytes-drop}
+use Rattle.torn_block.proofs.PlaceLaws.{length-block_in}
 use Rattle.torn_block.specs.Damage.{IsSoundBlock, IsDamagedBlock, block_of}
-use Rattle.torn_block.specs.DamageLaws.{damaged_tells, sound_block_tells, sound_is_not_damaged}
+use Rattle.torn_block.proofs.DamageLaws.{damaged_tells, sound_block_tells, sound_is_not_damaged}
 use Rattle.heartbeat.specs.Beat.{IsBeat, is_beat, is_damaged_block, hosts, area_said, counters_in, counter_of, IsDamagedArea, AreCounters}
-use Rattle.heartbeat.specs.BeatLaws.{beat_tells, beat_since}
+use Rattle.heartbeat.proofs.BeatLaws.{beat_tells, beat_since}
 
 sound_is_undamaged : (block : List ℕ) → length block ≡ BLOCK_LENGTH → IsSoundBlock IsBeat block → is_damaged_block block ≡ false
 sound_is_undamaged block long sound =

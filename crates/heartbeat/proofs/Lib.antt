@@ -1,2 +1,3 @@
 pub mod AreaLemmas
+pub mod BeatLaws
 pub mod Hosts

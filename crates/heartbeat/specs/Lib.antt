@@ -1,3 +1,2 @@
 pub mod Beat
-pub mod BeatLaws
 pub mod Suggesting

@@ -10,7 +10,8 @@ use Rattle.torn_block.specs.Block.{number_bytes}
 use Rattle.torn_block.specs.declared.layout.TheConstants.{VERSION, DISKS, SLOTS, HEADER_LENGTH}
 use Rattle.paxos_block.specs.declared.header.TheConstants.{GATE, SLOTS_AT, CLUSTER_AT, ZEROS_AT}
 use Rattle.paxos_block.specs.declared.header.Header.{Header}
-use Rattle.torn_block.specs.Numbers.{AreBytes, AreBytes-drop, spelled_8, spelled_4}
+use Rattle.torn_block.specs.Numbers.{AreBytes}
+use Rattle.torn_block.proofs.NumberLaws.{AreBytes-drop, spelled_8, spelled_4}
 use Rattle.paxos_block.specs.Saying.{zeros, number_at}
 use Rattle.paxos_block.proofs.SayingLemmas.{zero_tells, zero_since, length-number, length-zeros}
 use Rattle.paxos_block.specs.Places.{image_length}
@@ -88,11 +89,6 @@ module _ (header : Header) (is : IsHeader header) (fits : header.cluster < 2 ^ 6
   pub header_back : header_in (header_saying header) ≡ header
   unfolding header_in
   header_back = λ i. record { disk = reads_disk i; disks = reads_disks i; slots = reads_slots i; cluster = reads_cluster i }
-
-  pub length-header_saying : length (header_saying header) ≡ HEADER_LENGTH
-  unfolding header_saying
-  length-header_saying =
-      omega (arith, length-append (short_bytes header.slots) (header_end header), length-append (number_bytes header.cluster) (zeros (HEADER_LENGTH - ZEROS_AT)), length-short header.slots, length-number header.cluster, length-zeros (HEADER_LENGTH - ZEROS_AT))
 
 pub right_since : (disk long : ℕ) (bytes : List ℕ) (header : Header) → IsRight disk long bytes header → (is_right disk long bytes ≡ true) × (header_in bytes ≡ header)
 right_since disk long bytes header right =

@@ -1,8 +1,9 @@
 -- What a crash may make of a block, and what leaves that as it was.
 use Rattle.std.proofs.Common.{ℕ, ◌≡◌, List, refl, sym, subst, ap, ◌∙◌}
 use Rattle.disk.specs.Disk.{DiskState, Call, Attach, Read, Write, Sync, Answer, Step}
-use Rattle.disk.specs.Crash.{MayLeave, may_leave_now, may_leave_synced}
-use Rattle.disk.specs.Steps.{step_keeps}
+use Rattle.disk.specs.Crash.{MayLeave}
+use Rattle.disk.proofs.CrashLemmas.{may_leave_now, may_leave_synced}
+use Rattle.disk.proofs.StepLemmas.{step_keeps}
 use Rattle.torn_block.specs.Place.{block_in}
 use Rattle.torn_block.specs.Register.{IsAtRest}
 

@@ -4,16 +4,18 @@ use Rattle.std.proofs.Common.{refl, sym, ◌∙◌, ap, subst, arith, inl, inr}
 use Rattle.std.proofs.lemmas.List.{drop-drop, take-take, drop-take}
 use Rattle.std.proofs.lemmas.Bool.{cases_order}
 use Rattle.disk.specs.Disk.{DiskState, Call, Attach, Read, Write, Sync, Answer, Step}
-use Rattle.disk.specs.Crash.{may_leave_now, may_leave_synced, may_leave_written}
-use Rattle.disk.specs.Steps.{WritesOn, shape_keeps, step_keeps}
+use Rattle.disk.proofs.CrashLemmas.{may_leave_now, may_leave_synced, may_leave_written}
+use Rattle.disk.specs.Steps.{WritesOn}
+use Rattle.disk.proofs.StepLemmas.{shape_keeps, step_keeps}
 use Rattle.torn_block.specs.declared.layout.TheConstants.{BLOCK_LENGTH, HOSTS, ROW_LENGTH}
 use Rattle.torn_block.specs.declared.write_steps.WriteCall.{WriteCall}
 use Rattle.torn_block.specs.Block.{value_of}
 use Rattle.torn_block.specs.Stage.{Write128, IsDue, IsPlaced}
-use Rattle.torn_block.specs.StageLaws.{due_elsewhere}
-use Rattle.torn_block.specs.Place.{block_in, block_elsewhere}
+use Rattle.torn_block.proofs.StageLaws.{due_elsewhere}
+use Rattle.torn_block.specs.Place.{block_in}
+use Rattle.torn_block.proofs.PlaceLaws.{block_elsewhere}
 use Rattle.torn_block.specs.Register.{Register, Reads, LiesOn, LeavesBlock}
-use Rattle.torn_block.specs.RegisterLaws.{ranges, stands_elsewhere}
+use Rattle.torn_block.proofs.RegisterLaws.{ranges, stands_elsewhere}
 use Rattle.std.specs.Prelude.{slice_index_or}
 use Rattle.std.specs.List.{HoldsAt}
 use Rattle.torn_block.specs.Plan.{told_value}

@@ -13,9 +13,10 @@ use Rattle.torn_block.specs.declared.block.Block128.{Block128}
 use Rattle.torn_block.specs.declared.layout.TheConstants.{HOSTS, COPY_LENGTH, BLOCK_LENGTH, BODY_LENGTH, ROW_LENGTH}
 use Rattle.torn_block.specs.Block.{is_open, sequence_of, body_of, tail_with, value_of, value_at, choice, copy_of, current_of, target_at}
 use Rattle.torn_block.specs.Damage.{IsSoundBlock, IsDamagedBlock, block_of, first_of, second_of, is_sequence, has_fault, has_twins}
-use Rattle.torn_block.specs.DamageLaws.{is_sequence_tells, is_sequence_since, open_copy_spelled, long_body, damaged_tells, sound_block_tells, sound_is_not_damaged}
-use Rattle.torn_block.specs.Numbers.{AreBytes, AreBytes-drop, AreBytes-take}
-use Rattle.torn_block.specs.Place.{reads_sequence, reads_body, length-block_in}
+use Rattle.torn_block.proofs.DamageLaws.{is_sequence_tells, is_sequence_since, open_copy_spelled, long_body, damaged_tells, sound_block_tells, sound_is_not_damaged}
+use Rattle.torn_block.specs.Numbers.{AreBytes}
+use Rattle.torn_block.proofs.NumberLaws.{AreBytes-drop, AreBytes-take}
+use Rattle.torn_block.proofs.PlaceLaws.{reads_sequence, reads_body, length-block_in}
 use Rattle.torn_block.specs.Plan.{IsReading}
 use Rattle.paxos_block.specs.declared.header.TheConstants.{GATE}
 use Rattle.paxos_block.specs.declared.block.PBlock.{PBlock}

@@ -7,7 +7,8 @@ use Rattle.std.proofs.lemmas.Bool.{and_parts, and_from, leb-true, le-leb, eqb-tr
 use Rattle.std.specs.Cmp.Lexicographic.{pointwise, bytes_decides}
 use Rattle.byteorder.specs.Endian.{big_number, big_bytes}
 use Rattle.byteorder.specs.Numbers.{big_number-reads_back, length-bytes_high_first}
-use Rattle.torn_block.specs.Numbers.{AreBytes, AreBytes-drop, spelled_8, spelled_4}
+use Rattle.torn_block.specs.Numbers.{AreBytes}
+use Rattle.torn_block.proofs.NumberLaws.{AreBytes-drop, spelled_8, spelled_4}
 use Rattle.torn_block.specs.Block.{number_bytes}
 use Rattle.torn_block.specs.declared.layout.TheConstants.{VALUE_LENGTH, HEADING_LENGTH}
 use Rattle.paxos_block.specs.declared.block.TheConstants.{VOTE_LENGTH, BALLOTS_LENGTH, VOTED_START, BLANK_START}

@@ -4,7 +4,8 @@ use Rattle.std.proofs.Common.{refl, sym, ap, ◌∙◌, subst, arith, inl, inr, 
 use Rattle.std.proofs.lemmas.List.{drop_more, length-replicate, get_or-replicate}
 use Rattle.std.proofs.lemmas.Bool.{cases_lt, eqb-true, both_ways}
 use Rattle.disk.specs.Disk.{DiskState, Step, Done, Torn, FailureLeaves, put_at, written, done_by}
-use Rattle.disk.specs.Crash.{MayLeave, IsWhole, put-below, put-inside, put-above, length-put}
+use Rattle.disk.specs.Crash.{MayLeave, IsWhole}
+use Rattle.disk.proofs.CrashLemmas.{put-below, put-inside, put-above, length-put}
 use Rattle.torn_block.specs.declared.block.Half.{Half}
 use Rattle.torn_block.specs.declared.block.Half.TheVariants.{First, Second}
 use Rattle.torn_block.specs.declared.write_steps.WriteCall.{WriteCall}
@@ -12,9 +13,10 @@ use Rattle.torn_block.specs.declared.write_steps.WriteCall.TheVariants.{CloseGat
 use Rattle.torn_block.specs.declared.layout.TheConstants.{COPY_LENGTH, BLOCK_LENGTH, BODY_LENGTH}
 use Rattle.torn_block.specs.Block.{is_open, sequence_of, tail_with, other, copy_of, choice, value_at, target_at, target_of, next_sequence_at, next_sequence, value_of}
 use Rattle.torn_block.specs.Damage.{IsSoundBlock, first_of, second_of}
-use Rattle.torn_block.specs.Place.{block_in, copy_in, offset_fits, length-copy_in, length-tail_with, reads_sequence}
+use Rattle.torn_block.specs.Place.{block_in, copy_in}
+use Rattle.torn_block.proofs.PlaceLaws.{offset_fits, length-copy_in, length-tail_with, reads_sequence}
 use Rattle.torn_block.specs.Stage.{Write128, MayBe, IsWritten, Copies, IsDue, IsDone, IsPlaced, Stands, gate_of, closing, new_tail, call_of, next_call}
-use Rattle.torn_block.specs.StageLaws.{done_leads_on}
+use Rattle.torn_block.proofs.StageLaws.{done_leads_on}
 use Rattle.paxos_block.specs.declared.header.TheConstants.{GATE}
 use Rattle.paxos_block.specs.declared.block.PBlock.{PBlock}
 use Rattle.paxos_block.specs.Row.{copy_saying, IsSound}

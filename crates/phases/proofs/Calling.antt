@@ -8,7 +8,8 @@ use Rattle.torn_block.specs.declared.layout.TheConstants.{ROW_LENGTH}
 use Rattle.torn_block.specs.declared.write_steps.WriteCall.{WriteCall}
 use Rattle.torn_block.specs.declared.write_steps.WriteCall.TheVariants.{CloseGate, SyncClosed, PutBody, SyncBody, OpenGate, SyncOpened}
 use Rattle.torn_block.specs.Stage.{call_of}
-use Rattle.torn_block.specs.Plan.{Plan, IsReading, plan_by, plan_calls, need_at, device_call}
+use Rattle.torn_block.specs.Plan.{Plan, IsReading, plan_by, need_at, device_call}
+use Rattle.torn_block.proofs.PlanLaws.{plan_calls}
 use Rattle.paxos_block.specs.Places.{place_of, VoteOf, row_place}
 use Rattle.paxos_block.specs.Saying.{body_saying}
 use Rattle.paxos_block.specs.declared.block.PBlock.{PBlock}

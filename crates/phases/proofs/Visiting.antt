@@ -194,31 +194,3 @@ module _ (s : Setup) (f : Answers) (n : Notes) (d : ℕ) (there : d < s.disks) (
 
       no_more : (k : ℕ) → k + 0 ≡ k
       no_more k = omega arith
-
-  fresh : (a : List Heard) → length a ≡ 0 → nat_le LAST_SEQUENCE (block_in (last_row a) s.host).sequence ≡ false
-  fresh [] none = refl
-  fresh (x ∷ a) some = absurd (omega arith)
-
-  -- it is opened
-  pub begins_opening : n.phase ≡ phase.Opening → IsBegun s f (record n { disk = d; stage = stage.Attaching })
-  begins_opening first =
-      let r = is.rows in
-      let none : length (f d) ≡ 0 = begins ∙ ap (λ (q : code_phase.Phase). start (phase_in q)) first in
-      record {
-        passed = record {
-          rows = record { is_host = r.is_host; is_slot = r.is_slot; as_many = r.as_many; input = r.input; highest = r.highest; best = r.best };
-          come = is.come;
-          not_outrun = is.not_outrun;
-          opened = is.opened;
-          says = is.says;
-          past = is.past;
-          ahead = is.ahead;
-          behind = is.behind;
-          visits = is.visits;
-        };
-        there = there;
-        waits = waits_here (stuck_is ∙ fresh (f d) none) short;
-        suits = subst (λ (q : code_phase.Phase). Suits q stage.Attaching) (sym first) tt;
-        answers = ap (λ (q : code_phase.Phase). start (phase_in q)) (sym first);
-        writes = tt;
-      }

@@ -8,7 +8,7 @@ use Rattle.disk.specs.declared.fault.DiskFault.{DiskFault}
 use Rattle.disk.specs.declared.fault.DiskFault.TheVariants.{Failed}
 use Rattle.disk.specs.Disk.{Call, Answer, Fault}
 use Rattle.disk.specs.Simulated.{SimState, refusal_of, fresh_disk}
-use Rattle.disk.specs.Steps.{shape_fresh}
+use Rattle.disk.proofs.StepLemmas.{shape_fresh}
 use Rattle.paxos_block.specs.Places.{image_length}
 use Rattle.torn_block.specs.declared.layout.TheConstants.{HOSTS}
 use Rattle.slot_log.specs.Shape.{Shape}

@@ -1,11 +1,7 @@
 pub mod Block
 pub mod Damage
-pub mod DamageLaws
 pub mod Numbers
 pub mod Place
 pub mod Plan
 pub mod Register
-pub mod RegisterLaws
 pub mod Stage
-pub mod StageLaws
-pub mod Writing

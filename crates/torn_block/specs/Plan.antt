@@ -10,9 +10,8 @@ use Rattle.torn_block.specs.declared.write_steps.BlockNeed.{BlockNeed}
 use Rattle.torn_block.specs.declared.write_steps.BlockNeed.TheVariants as needs
 use Rattle.torn_block.specs.Block.{is_open, copy_of, current_of, value_of, tail_with, target_at, target_of, next_sequence_at}
 use Rattle.torn_block.specs.Place.{offset_of}
-use Rattle.torn_block.specs.Stage.{Write128, gate_of, new_tail, call_of, next_call}
+use Rattle.torn_block.specs.Stage.{next_call}
 use Rattle.disk.specs.Disk.{Call, Write, Sync}
-use Rattle.std.proofs.Common.{ap, ◌∙◌, refl, arith}
 
 -- the value that it tells
 abbrev pub told_value : Block128 → Option (ℕ × List ℕ)
@@ -77,29 +76,3 @@ next_after (Some call) = next_call call
 abbrev pub device_call : ℕ → ℕ → Need → Call
 device_call place boot (PutAt at bytes) = Write boot (place + at) bytes
 device_call place boot MakeSure = Sync boot
-
--- The calls of a plan are those of the block that was read.
-module _ (w : Write128) (read : Block128) (is : IsReading w.block read) where
-  abbrev plan : Plan
-  plan = plan_by read w.body
-
-  same_target : (plan_by read w.body).target ≡ target_of w.block
-  same_target = ap target_at is.current
-
-  same_tail : (plan_by read w.body).tail ≡ new_tail w
-  same_tail = ap (λ (v : Option (ℕ × List ℕ)). tail_with (next_sequence_at v) w.body) is.value
-
-  gate_same : w.place + offset_of (target_at read.current) ≡ gate_of w
-  gate_same = ap (λ (h : Half). w.place + offset_of h) same_target
-
-  pub plan_calls : (call : WriteCall) (boot : ℕ) → device_call w.place boot (need_at (plan_by read w.body) call) ≡ call_of call w boot
-  plan_calls CloseGate boot =
-      ap (λ (g : ℕ). Write boot g (if read.next_is_open then 0 ∷ [] else [])) gate_same
-      ∙ ap (λ (b : Bool). Write boot (gate_of w) (if b then 0 ∷ [] else [])) is.next_is_open
-  plan_calls SyncClosed boot = refl
-  plan_calls PutBody boot =
-      let e : w.place + (offset_of (target_at read.current) + 1) ≡ gate_of w + 1 = omega (arith, gate_same) in
-      ap (λ (g : ℕ). Write boot g (plan_by read w.body).tail) e ∙ ap (λ (l : List ℕ). Write boot (gate_of w + 1) l) same_tail
-  plan_calls SyncBody boot = refl
-  plan_calls OpenGate boot = ap (λ (g : ℕ). Write boot g (165 ∷ [])) gate_same
-  plan_calls SyncOpened boot = refl

@@ -5,13 +5,14 @@ use Rattle.std.proofs.Common.{ℕ, zero, suc, ◌<◌, ◌≤◌, ◌≡◌, ◌
 use Rattle.std.proofs.lemmas.Bool.{cases_lt}
 use Rattle.std.proofs.lemmas.List.FromFn.{get_or-map-range_with_len}
 use Rattle.disk.specs.Disk.{DiskState, Call, Answer, Step, put_at}
-use Rattle.disk.specs.Crash.{length-put, put-below, put-above}
-use Rattle.disk.specs.Steps.{step_keeps}
+use Rattle.disk.proofs.CrashLemmas.{length-put, put-below, put-above}
+use Rattle.disk.proofs.StepLemmas.{step_keeps}
 use Rattle.torn_block.specs.declared.layout.TheConstants.{HOSTS}
 use Rattle.torn_block.specs.Damage.{block_of}
-use Rattle.torn_block.specs.Place.{block_in, block_elsewhere}
+use Rattle.torn_block.specs.Place.{block_in}
+use Rattle.torn_block.proofs.PlaceLaws.{block_elsewhere}
 use Rattle.torn_block.specs.Register.{LiesOn}
-use Rattle.torn_block.specs.RegisterLaws.{ranges}
+use Rattle.torn_block.proofs.RegisterLaws.{ranges}
 use Rattle.paxos_block.specs.declared.block.PBlock.{PBlock}
 use Rattle.paxos_block.specs.Places.{Spot, VoteOf, place_of, IsSpot, IsImage, IsWithin, row_of}
 use Rattle.paxos_block.specs.Row.{SeenBlock, blank_seen, hosts, is_damaged_block, seen_in, seen_at, row_seen, row_said}

@@ -7,7 +7,7 @@ use Rattle.disk.specs.Crash.{MayLeave}
 use Rattle.torn_block.specs.declared.layout.TheConstants.{HOSTS, ROW_LENGTH}
 use Rattle.torn_block.specs.Place.{block_in}
 use Rattle.torn_block.specs.Register.{IsAtRest}
-use Rattle.torn_block.specs.RegisterLaws.{known_synced}
+use Rattle.torn_block.proofs.RegisterLaws.{known_synced}
 use Rattle.paxos_block.specs.declared.block.PBlock.{PBlock}
 use Rattle.paxos_block.specs.Places.{row_place, row_of, IsImage}
 use Rattle.paxos_block.specs.Row.{SeenBlock, seen_in}

@@ -4,17 +4,18 @@ use Rattle.std.proofs.Common.{ℕ, ◌+◌, ◌<◌, ◌≤◌, ◌≡◌, inl, 
 use Rattle.std.proofs.lemmas.Bool.Decides.{nat_tests}
 use Rattle.disk.specs.declared.fault.DiskFault.TheVariants.{Failed}
 use Rattle.disk.specs.Disk.{DiskState, Call, Attach, Read, Write, Sync, Answer, Booted, Told, Done, Fault, IsUnder, success_of, Step}
-use Rattle.disk.specs.Crash.{may_leave_now}
-use Rattle.disk.specs.Steps.{step_keeps}
+use Rattle.disk.proofs.CrashLemmas.{may_leave_now}
+use Rattle.disk.proofs.StepLemmas.{step_keeps}
 use Rattle.torn_block.specs.declared.layout.TheConstants.{HOSTS, BLOCK_LENGTH, BODY_LENGTH, ROW_LENGTH, LAST_SEQUENCE}
 use Rattle.torn_block.specs.declared.write_steps.WriteCall.{WriteCall}
 use Rattle.torn_block.specs.declared.write_steps.WriteCall.TheVariants.{CloseGate, SyncClosed, PutBody, SyncBody, OpenGate, SyncOpened}
 use Rattle.torn_block.specs.Block.{value_of, next_sequence_at}
 use Rattle.torn_block.specs.Damage.{IsSoundBlock}
-use Rattle.torn_block.specs.Place.{block_in, length-block_in}
+use Rattle.torn_block.specs.Place.{block_in}
+use Rattle.torn_block.proofs.PlaceLaws.{length-block_in}
 use Rattle.torn_block.specs.Register.{Value, StandsFor}
 use Rattle.torn_block.specs.Stage.{Write128, call_of, old_value, new_value, in_writing, IsDue, IsPlaced}
-use Rattle.torn_block.specs.StageLaws.{due_reads, failure_reads, settled_begins}
+use Rattle.torn_block.proofs.StageLaws.{due_reads, failure_reads, settled_begins}
 use Rattle.paxos_block.specs.declared.block.PBlock.{PBlock}
 use Rattle.paxos_block.specs.Places.{VoteOf, place_of, row_place, row_of, IsImage, IsSoundAt}
 use Rattle.paxos_block.specs.Row.{IsSound, SeenBlock, seen_in, sequence_in, row_said}

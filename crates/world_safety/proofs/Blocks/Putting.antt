@@ -7,9 +7,9 @@ use Rattle.torn_block.specs.declared.layout.TheConstants.{BODY_LENGTH, LAST_SEQU
 use Rattle.torn_block.specs.declared.write_steps.WriteCall.{WriteCall}
 use Rattle.torn_block.specs.declared.write_steps.WriteCall.TheVariants.{CloseGate, SyncClosed, PutBody, SyncBody, OpenGate, SyncOpened}
 use Rattle.torn_block.specs.Register.{at_rest}
-use Rattle.torn_block.specs.RegisterLaws.{known_synced}
+use Rattle.torn_block.proofs.RegisterLaws.{known_synced}
 use Rattle.torn_block.specs.Stage.{Write128, call_of, next_call, old_value, new_value, IsDue, Stands as Next}
-use Rattle.torn_block.specs.StageLaws.{done_reads, done_leads_on}
+use Rattle.torn_block.proofs.StageLaws.{done_reads, done_leads_on}
 use Rattle.paxos_block.specs.declared.block.PBlock.{PBlock}
 use Rattle.paxos_block.specs.Saying.{MaySay, body_saying}
 use Rattle.paxos_block.proofs.WriteLemmas.{sound_when_done}

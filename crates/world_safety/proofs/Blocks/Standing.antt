@@ -9,7 +9,7 @@ use Rattle.torn_block.specs.Block.{is_open, sequence_of, copy_of, choice, value_
 use Rattle.torn_block.specs.Damage.{IsSoundBlock}
 use Rattle.torn_block.specs.Place.{block_in}
 use Rattle.torn_block.specs.Register.{Value, Reads, at_rest, IsAtRest}
-use Rattle.torn_block.specs.RegisterLaws.{rests_crashed, stands_at_rest, fresh_rests}
+use Rattle.torn_block.proofs.RegisterLaws.{rests_crashed, stands_at_rest, fresh_rests}
 use Rattle.paxos_block.specs.Places.{VoteOf, place_of}
 use Rattle.paxos_block.specs.Row.{IsSound}
 use Rattle.paxos_block.proofs.Outcomes.{Outcomes}

@@ -5,7 +5,7 @@ use Rattle.torn_block.specs.declared.layout.TheConstants.{HOSTS, BODY_LENGTH}
 use Rattle.torn_block.specs.declared.write_steps.WriteCall.{WriteCall}
 use Rattle.torn_block.specs.declared.write_steps.WriteCall.TheVariants.{CloseGate, SyncClosed, PutBody, SyncBody, OpenGate, SyncOpened}
 use Rattle.torn_block.specs.Block.{is_open, copy_of, target_of, next_sequence}
-use Rattle.torn_block.specs.Place.{offset_fits, length-tail_with}
+use Rattle.torn_block.proofs.PlaceLaws.{offset_fits, length-tail_with}
 use Rattle.torn_block.specs.Stage.{call_of}
 use Rattle.paxos_block.specs.Places.{VoteOf, IsWithin}
 use Rattle.paxos_block.specs.Row.{SeenBlock}

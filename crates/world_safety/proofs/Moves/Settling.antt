@@ -3,7 +3,7 @@ use Rattle.std.specs.Prelude.{map}
 use Rattle.std.proofs.Common.{ℕ, ◌≡◌, ◌≢◌, ◌==◌, inl, inr, Bool, true, false, cond, Some, None, List, [], ◌∷◌, ◌++◌, length, append-nil, refl, sym, subst, ap, ◌∙◌}
 use Rattle.std.proofs.lemmas.Bool.{cases_eq}
 use Rattle.disk.specs.Disk.{DiskState, Call, Answer}
-use Rattle.disk.specs.Crash.{may_leave_now}
+use Rattle.disk.proofs.CrashLemmas.{may_leave_now}
 use Rattle.torn_block.specs.Block.{value_of}
 use Rattle.torn_block.specs.Place.{block_in}
 use Rattle.torn_block.specs.Register.{Value, IsAtRest}

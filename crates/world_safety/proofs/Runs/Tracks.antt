@@ -1,7 +1,7 @@
 -- The machines at each place of a run, and what is chosen there.
 use Rattle.std.specs.Prelude.{slice_get, ◌-◌}
 use Rattle.std.proofs.Common.{ℕ, zero, suc, ◌+◌, ◌<◌, ◌≤◌, ◌≡◌, inl, inr, Option, Some, None, List, [], ◌∷◌, ◌++◌, append-nil, append_assoc, refl, sym, subst, ap, ◌∙◌, arith}
-use Rattle.disk.specs.Steps.{shape_fresh}
+use Rattle.disk.proofs.StepLemmas.{shape_fresh}
 use Rattle.paxos_block.specs.Places.{image_length}
 use Rattle.attempt.specs.Answers.{Answered, on, heard_as}
 use Rattle.attempt.specs.Proposal.{ballot}

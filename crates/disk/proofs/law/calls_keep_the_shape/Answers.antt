@@ -1,4 +1,4 @@
-use Rattle.disk.specs.Steps.{shape_fresh, shape_keeps}
+use Rattle.disk.proofs.StepLemmas.{shape_fresh, shape_keeps}
 use Rattle.disk.proofs.law.calls_keep_the_shape.Goals as goal
 
 pub returns-clause-fresh : goal.returns-clause-fresh

@@ -2,7 +2,7 @@ use Rattle.std.proofs.Common.{rules, ◌≡◌, ◌<◌, ◌+◌, ◌∙◌, ℕ
 use Rattle.std.proofs.lemmas.List.{get_or-set_same, get_or-set_other, length-set}
 use Rattle.std.proofs.lemmas.Bool.{cases_lt}
 use Rattle.torn_block.specs.Damage.{block_of}
-use Rattle.torn_block.specs.DamageLaws.{sound_is_not_damaged}
+use Rattle.torn_block.proofs.DamageLaws.{sound_is_not_damaged}
 use Rattle.heartbeat.specs.Beat.{IsBeat, IsCounter, is_beat}
 use Rattle.heartbeat.proofs.AreaLemmas.{damaged_area, sound_area, counters_are}
 use Rattle.heartbeat.proofs.area.decode_area.Invariants.{Counters}

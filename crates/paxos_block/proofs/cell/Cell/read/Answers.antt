@@ -1,7 +1,7 @@
 use Rattle.std.proofs.Common.{◌∙◌, ℕ, List, sym, ap, arith}
 use Rattle.paxos_block.specs.Row.{IsSound, is_sound}
 use Rattle.torn_block.specs.Damage.{second_of, is_damaged}
-use Rattle.torn_block.specs.DamageLaws.{damaged_tells, sound_block_tells}
+use Rattle.torn_block.proofs.DamageLaws.{damaged_tells, sound_block_tells}
 use Rattle.paxos_block.proofs.RowLemmas.{sound_tells, sound_since}
 use Rattle.paxos_block.proofs.cell.Cell.read.Goals as goal
 

@@ -4,7 +4,7 @@ use Rattle.std.proofs.lemmas.Bool.{cases_lt}
 use Rattle.paxos_block.specs.declared.cell.Cell.{Cell}
 use Rattle.paxos_block.specs.Row.{IsCell, IsSound, is_sound, blank_cell}
 use Rattle.torn_block.specs.Damage.{block_of}
-use Rattle.torn_block.specs.DamageLaws.{sound_is_not_damaged}
+use Rattle.torn_block.proofs.DamageLaws.{sound_is_not_damaged}
 use Rattle.paxos_block.proofs.RowLemmas.{damaged_row, row_is_said, row_is_not_unsaid}
 use Rattle.paxos_block.proofs.row.Row.read.Invariants.{Cells}
 use Rattle.paxos_block.proofs.row.Row.read.Goals as goal

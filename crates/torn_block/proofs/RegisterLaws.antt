@@ -3,13 +3,16 @@ use Rattle.std.specs.Prelude.{◌≡◌, ◌+◌, ◌≤◌, ◌==◌, ℕ, zero
 use Rattle.std.proofs.Common.{refl, sym, ◌∙◌, ap, subst, arith, inl, inr, get_or}
 use Rattle.std.proofs.lemmas.List.{length-replicate}
 use Rattle.disk.specs.Disk.{DiskState, KeepsSynced, Call, Write, Sync, Answer, Done, Step, Crashes, put_at, written, synced}
-use Rattle.disk.specs.Crash.{MayLeave, IsWhole, may_leave_now, may_leave_synced, may_leave_written, may_leave_crashed, put-below, put-above, length-put}
+use Rattle.disk.specs.Crash.{MayLeave, IsWhole}
+use Rattle.disk.proofs.CrashLemmas.{may_leave_now, may_leave_synced, may_leave_written, may_leave_crashed, put-below, put-above, length-put}
 use Rattle.disk.specs.Simulated.{fresh_disk}
-use Rattle.disk.specs.Steps.{WritesOn, step_keeps}
+use Rattle.disk.specs.Steps.{WritesOn}
+use Rattle.disk.proofs.StepLemmas.{step_keeps}
 use Rattle.torn_block.specs.declared.block.Half.{Half}
 use Rattle.torn_block.specs.declared.block.Half.TheVariants.{First, Second}
 use Rattle.torn_block.specs.Block.{is_open, sequence_of, choice, value_at, value_by, value_of}
-use Rattle.torn_block.specs.Place.{block_in, block_elsewhere, copy_in, offset_of, get_or-copy_in}
+use Rattle.torn_block.specs.Place.{block_in, copy_in, offset_of}
+use Rattle.torn_block.proofs.PlaceLaws.{block_elsewhere, get_or-copy_in}
 use Rattle.torn_block.specs.Register.{Value, Register, Reads, at_rest, Settles, StandsFor, IsAtRest, LiesOn, IsOutside, LeavesBlock}
 
 settles_kept : (confirmed : Value) (writing : Option Value) (value : Value) → value ≡ confirmed → Settles (record { confirmed = confirmed; writing = writing }) (at_rest value)

@@ -9,7 +9,8 @@ use Rattle.torn_block.specs.declared.block.Half.TheVariants.{First, Second}
 use Rattle.torn_block.specs.Block.{is_open, sequence_of, body_of, tail_with, number_bytes, copy_of}
 use Rattle.byteorder.specs.Numbers.{length-bytes_high_first}
 use Rattle.std.proofs.lemmas.List.{length-take}
-use Rattle.torn_block.specs.Numbers.{AreBytes, AreBytes-drop, AreBytes-take, spelled_8}
+use Rattle.torn_block.specs.Numbers.{AreBytes}
+use Rattle.torn_block.proofs.NumberLaws.{AreBytes-drop, AreBytes-take, spelled_8}
 use Rattle.torn_block.specs.Damage.{first_of, second_of, IsSequence, IsSoundBlock, HasTwins, IsDamagedBlock, is_sequence, has_fault, has_twins, is_damaged}
 
 pub is_sequence_tells : (number : ℕ) → is_sequence number ≡ true → IsSequence number

@@ -4,19 +4,22 @@ use Rattle.std.proofs.Common.{refl, sym, ◌∙◌, ap, subst, arith, inl, inr, 
 use Rattle.std.proofs.lemmas.List.{ext_get_or, get_or-drop}
 use Rattle.std.proofs.lemmas.Bool.Decides.{nat_tests}
 use Rattle.disk.specs.Disk.{DiskState, Read, Told, Answer, Call, Step, Done, Torn, FailureLeaves, put_at, written, synced}
-use Rattle.disk.specs.Crash.{MayLeave, ChangesOnly, may_leave_now, may_leave_synced, may_leave_written, put-inside, put-below, put-above, length-put}
+use Rattle.disk.specs.Crash.{MayLeave, ChangesOnly}
+use Rattle.disk.proofs.CrashLemmas.{may_leave_now, may_leave_synced, may_leave_written, put-inside, put-below, put-above, length-put}
 use Rattle.torn_block.specs.declared.layout.TheConstants.{BLOCK_LENGTH, BODY_LENGTH, COPY_LENGTH, TAIL_LENGTH}
 use Rattle.torn_block.specs.declared.block.Half.{Half}
 use Rattle.torn_block.specs.declared.block.Half.TheVariants.{First, Second}
 use Rattle.torn_block.specs.declared.write_steps.WriteCall.{WriteCall}
 use Rattle.torn_block.specs.declared.write_steps.WriteCall.TheVariants.{CloseGate, SyncClosed, PutBody, SyncBody, OpenGate, SyncOpened}
 use Rattle.torn_block.specs.Block.{is_open, sequence_of, body_of, other, copy_of, value_by, value_of, target_of, next_sequence}
-use Rattle.torn_block.specs.Place.{block_in, copy_in, offset_fits, other_same, tail_same, gate_same, elsewhere_same, nothing_same, length-copy_in, get_or-copy_in, length-tail_with, reads_sequence, reads_body}
-use Rattle.torn_block.specs.Writing.{closed_first, closed_second, opened_first, opened_second}
-use Rattle.disk.specs.Steps.{WritesOn, step_keeps}
-use Rattle.torn_block.specs.Place.{block_read}
+use Rattle.torn_block.specs.Place.{block_in, copy_in}
+use Rattle.torn_block.proofs.PlaceLaws.{offset_fits, other_same, tail_same, gate_same, elsewhere_same, nothing_same, length-copy_in, get_or-copy_in, length-tail_with, reads_sequence, reads_body}
+use Rattle.torn_block.proofs.Writing.{closed_first, closed_second, opened_first, opened_second}
+use Rattle.disk.specs.Steps.{WritesOn}
+use Rattle.disk.proofs.StepLemmas.{step_keeps}
+use Rattle.torn_block.proofs.PlaceLaws.{block_read}
 use Rattle.torn_block.specs.Register.{Reads, StandsFor, IsAtRest, LeavesBlock}
-use Rattle.torn_block.specs.RegisterLaws.{ranges}
+use Rattle.torn_block.proofs.RegisterLaws.{ranges}
 use Rattle.torn_block.specs.Stage.{Write128, gate_of, closing, new_tail, call_of, next_call, old_value, new_value, MayBe, IsWritten, IsNow, Copies, IsDue, IsDone, Stands, IsPlaced, IsSettled, in_writing}
 
 -- the value by the copy that is written and the other one

@@ -1,0 +1,7 @@
+pub mod DamageLaws
+pub mod NumberLaws
+pub mod PlaceLaws
+pub mod PlanLaws
+pub mod RegisterLaws
+pub mod StageLaws
+pub mod Writing
