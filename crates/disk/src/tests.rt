@@ -1,6 +1,6 @@
 ghost use Rattle.std.specs.Prelude.{◌≡◌, IfOk, length};
 
-use crate::{Boot, Disk, DiskFault, SimDisk};
+use crate::{Boot, Disk, DiskFault, SimDisk, calls_keep_the_shape, larger_disks_serve};
 use std::alloc::Global;
 use std::test::Fail;
 
@@ -41,4 +41,11 @@ fn failing_write_leaves_the_given_bytes(rt: HostRuntime) -> Result<(), Fail> {
     disk.read(boot, 0, &mut bytes)?;
     assert_eq!(rt; bytes, [1, 7, 8, 7, 5, 6, 0, 0]);
     Ok(())
+}
+
+// Their contracts are what they are for.
+#[test]
+fn laws(_rt: HostRuntime) {
+    calls_keep_the_shape();
+    larger_disks_serve();
 }

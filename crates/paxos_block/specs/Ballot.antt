@@ -1,5 +1,5 @@
 -- Ballots, the host that each belongs to, and majorities of disks.
-use Rattle.std.specs.Prelude.{◌≡◌, ◌==◌, ◌&&◌, ◌+◌, ◌-◌, ◌/◌, ◌%◌, ◌^◌, ◌≤◌, ℕ, Bool, true, false, nat_le}
+use Rattle.std.specs.Prelude.{◌≡◌, ◌==◌, ◌&&◌, ◌+◌, ◌-◌, ◌/◌, ◌%◌, ◌^◌, ◌<◌, ◌≤◌, ℕ, Bool, true, false, nat_le}
 use Rattle.torn_block.specs.declared.layout.TheConstants.{HOSTS}
 
 -- the host that a ballot belongs to
@@ -11,6 +11,15 @@ pub record IsBallotOf (host ballot : ℕ) : Type 0 where
   pub positive : 1 ≤ ballot
   pub within : ballot ≤ 2 ^ 62
   pub owned : owner_of ballot ≡ host
+
+-- of the host's ballots above the number it is the least
+pub record IsLeastAbove (host number ballot : ℕ) : Type 0 where
+  pub above : number < ballot
+  pub least : (other : ℕ) → IsBallotOf host other → number < other → ballot ≤ other
+
+-- no ballot of the host is above the number
+abbrev pub HasNoneAbove : ℕ → ℕ → Type 0
+HasNoneAbove host number = (other : ℕ) → IsBallotOf host other → other ≤ number
 
 -- so many of the disks are a majority
 abbrev pub majority : ℕ → ℕ

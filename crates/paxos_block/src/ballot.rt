@@ -1,7 +1,7 @@
 ghost use Rattle.std.specs.Prelude.{◌≡◌, ◌↔◌, ◌<◌, ◌≤◌, ◌^◌, IsTrue, IfSome, IfNone};
 ghost use Rattle.torn_block.specs.declared.layout.TheConstants.{HOSTS};
 ghost use Rattle.paxos_block.specs.Ballot;
-ghost use Rattle.paxos_block.specs.Ballot.{IsBallotOf};
+ghost use Rattle.paxos_block.specs.Ballot.{IsBallotOf, IsLeastAbove, HasNoneAbove};
 ghost use Rattle.paxos_block.specs.Votes;
 
 use torn_block::HOSTS;
@@ -28,7 +28,9 @@ pub fn ballot_above(host: u8, number: u64) -> Option<u64>
     requires { host < HOSTS }
     ensures found { IfSome result (λ ballot. ballot ≡ Votes.ballot_above host number) }
     ensures owned { IfSome result (IsBallotOf host) }
+    ensures least { IfSome result (IsLeastAbove host number) }
     ensures spent { IfNone result (2 ^ 62 < Votes.ballot_above host number) }
+    ensures none { IfNone result (HasNoneAbove host number) }
 {
     if number >= LAST_BALLOT {
         return None;
@@ -74,6 +76,27 @@ mod tests {
         }
         assert!(rt; !is_ballot_of(7, 0));
         assert!(rt; !is_ballot_of(0, LAST_BALLOT + 1));
+    }
+
+    // The numbers at the ends: below a host's first ballot, at each of its ballots, and at the last.
+    #[test]
+    fn least_ballots(rt: HostRuntime) {
+        for (number, least) in [(0, 1), (1, 9), (8, 9), (9, 17)] {
+            assert_eq!(rt; ballot_above(0, number), Some(least), "{number}");
+        }
+        for (number, least) in [(0, 4), (3, 4), (4, 12), (11, 12), (12, 20)] {
+            assert_eq!(rt; ballot_above(3, number), Some(least), "{number}");
+        }
+        for (number, least) in [(0, 8), (7, 8), (8, 16)] {
+            assert_eq!(rt; ballot_above(7, number), Some(least), "{number}");
+        }
+        // 2^62 is host 7's, and 2^62 - 7 host 0's.
+        assert_eq!(rt; ballot_above(0, LAST_BALLOT - 8), Some(LAST_BALLOT - 7));
+        assert_eq!(rt; ballot_above(0, LAST_BALLOT - 7), None);
+        assert_eq!(rt; ballot_above(7, LAST_BALLOT - 8), Some(LAST_BALLOT));
+        assert_eq!(rt; ballot_above(7, LAST_BALLOT - 1), Some(LAST_BALLOT));
+        assert_eq!(rt; ballot_above(7, LAST_BALLOT), None);
+        assert_eq!(rt; ballot_above(0, u64::MAX), None);
     }
 
     #[test]

@@ -1,7 +1,10 @@
 // What a crash leaves of a block that is written, driven over a simulated disk of one block.
 ghost use Rattle.std.specs.Prelude.{◌≡◌, ◌≤◌, ◌<◌, ◌^◌, OnOk, length};
 
-use crate::{BLOCK_LENGTH, BODY_LENGTH, BlockNeed, Body, COPY_LENGTH, WriteSteps, read_block};
+use crate::{
+    BLOCK_LENGTH, BODY_LENGTH, BlockNeed, Body, COPY_LENGTH, Half, LAST_SEQUENCE, OPEN_GATE,
+    WriteSteps, read_block, registers, six_calls,
+};
 use disk::{Boot, Disk, DiskFault, SimDisk};
 use std::test::Fail;
 
@@ -98,4 +101,99 @@ fn torn_body_then_torn_gate(rt: HostRuntime) -> Result<(), Fail> {
     disk.crash(&[0xA5]);
     assert_eq!(rt; value(&mut disk)?, None);
     Ok(())
+}
+
+// Bytes of which no two are the same.
+const COUNTED: Body = Body {
+    bytes: [
+        1, 2, 3, 4, 5, 6, 7, 8, 9, 10, 11, 12, 13, 14, 15, 16, 17, 18, 19, 20, 21, 22, 23, 24, 25,
+        26, 27, 28, 29, 30, 31, 32, 33, 34, 35, 36, 37, 38, 39, 40, 41, 42, 43, 44, 45, 46, 47, 48,
+        49, 50, 51, 52, 53, 54, 55,
+    ],
+};
+
+// The copy of this body with sequence number 1: gate, seven bytes, the number, and the rest.
+const COUNTED_COPY: [u8; COPY_LENGTH] = [
+    0xA5, 1, 2, 3, 4, 5, 6, 7, 0, 0, 0, 0, 0, 0, 0, 1, 8, 9, 10, 11, 12, 13, 14, 15, 16, 17, 18,
+    19, 20, 21, 22, 23, 24, 25, 26, 27, 28, 29, 30, 31, 32, 33, 34, 35, 36, 37, 38, 39, 40, 41, 42,
+    43, 44, 45, 46, 47, 48, 49, 50, 51, 52, 53, 54, 55,
+];
+
+// An open copy with this byte throughout its body.
+fn copy_of(byte: u8, sequence: u64) -> [u8; COPY_LENGTH] {
+    let mut copy = [byte; COPY_LENGTH];
+    copy[0] = OPEN_GATE;
+    copy[8..16].copy_from_slice(&sequence.to_be_bytes());
+    copy
+}
+
+fn block_of(first: &[u8; COPY_LENGTH], second: &[u8; COPY_LENGTH]) -> [u8; BLOCK_LENGTH] {
+    let mut block = [0; BLOCK_LENGTH];
+    block[..COPY_LENGTH].copy_from_slice(first);
+    block[COPY_LENGTH..].copy_from_slice(second);
+    block
+}
+
+#[test]
+fn bytes_of_a_copy(rt: HostRuntime) -> Result<(), Fail> {
+    let mut disk = SimDisk::new(rt.alloc(), BLOCK_LENGTH as u64)?;
+    write(&mut disk, &COUNTED, 6)?;
+    let (_, bytes) = opened(&mut disk)?;
+    assert_eq!(rt; bytes, block_of(&COUNTED_COPY, &[0; COPY_LENGTH]));
+    assert_eq!(rt; value(&mut disk)?, Some(COUNTED));
+    Ok(())
+}
+
+#[test]
+fn which_copy_counts(rt: HostRuntime) {
+    // The sequence numbers of two open copies, and the one that counts. Of a tie it is the first.
+    let rows = [
+        (1, 2, Half::Second),
+        (2, 1, Half::First),
+        (7, 7, Half::First),
+        (255, 256, Half::Second),
+        (LAST_SEQUENCE, 1, Half::First),
+    ];
+    for (first, second, counts) in rows {
+        let block = read_block(&block_of(&copy_of(1, first), &copy_of(2, second)));
+        assert_eq!(rt; block.current, Some(counts), "{first}, {second}");
+    }
+}
+
+#[test]
+fn spent_sequence_number(rt: HostRuntime) {
+    let blank = [0; COPY_LENGTH];
+    for (sequence, is_spent) in [
+        (1, false),
+        (LAST_SEQUENCE - 1, false),
+        (LAST_SEQUENCE, true),
+    ] {
+        let block = read_block(&block_of(&copy_of(1, sequence), &blank));
+        assert_eq!(rt;
+            WriteSteps::new(&block, &B).is_err(),
+            is_spent,
+            "{sequence}"
+        );
+    }
+}
+
+#[test]
+fn done_with_the_sixth_call(rt: HostRuntime) {
+    let blank = read_block(&[0; BLOCK_LENGTH]);
+    if let Ok(mut steps) = WriteSteps::new(&blank, &A) {
+        for call in 0..6 {
+            assert!(rt; !steps.is_done(), "{call}");
+            assert!(rt; steps.next().is_some(), "{call}");
+            steps.done();
+        }
+        assert!(rt; steps.is_done());
+        assert!(rt; steps.next().is_none());
+    }
+}
+
+// Their contracts are what they are for.
+#[test]
+fn laws(_rt: HostRuntime) {
+    registers();
+    six_calls();
 }

@@ -7,3 +7,5 @@ pub mod Safe
 pub mod Beats
 pub mod Saying
 pub mod Reaching
+pub mod Accounting
+pub mod ShortRuns

@@ -5,3 +5,5 @@ pub mod Happens
 pub mod Chosen
 pub mod Headline
 pub mod Lines
+pub mod Account
+pub mod Examples

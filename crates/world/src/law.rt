@@ -16,6 +16,7 @@ ghost use Rattle.world.specs.Entry.{Filled, is_on, is_of, disk_step, host_step};
 ghost use Rattle.world.specs.World.{world, ReadsBack, MayFollow, IsRun};
 ghost use Rattle.world.specs.Happens.{Event, entry_of, happens, run, lines_at, answers};
 ghost use Rattle.world.specs.Chosen.{at, Hears, IsChosenAt};
+ghost use Rattle.world.specs.Account.{AccountsFor, GivesUp};
 ghost use Rattle.world.specs.Lines.{LinesAreSaid, EventsReachEach, EventsReachAll};
 ghost use Rattle.world.specs.Headline.{IsSafe, HasNoSecondLog, OneBeginsOther, Headline, HeadlineOfEvents};
 
@@ -90,6 +91,14 @@ pub fn attempts_hear_histories()
     ensures committed { (c : Shape) (log : List Filled) (i : ℕ) (s : Setup)
         (heard : List Answered) (value : List ℕ) → IsRun c log → Hears c log i s heard →
         status s (on heard) ≡ Ended (Committed value) → IsChosenAt c log i s.slot value }
+{}
+
+/// What a host has learned, its floor, and when it gives up, are told by the attempts that ended since
+/// its start: the commands that they committed, slot by slot; the greatest ballot that those on the
+/// next slot took or were outrun by; and the last of an operation's tries to be outrun.
+pub fn hosts_account_for_themselves()
+    ensures learned_and_floor { AccountsFor }
+    ensures outrun { GivesUp }
 {}
 
 /// What a busy host's beat has heard in a run is a history of it, of fewer than nine answers a disk:

@@ -153,3 +153,33 @@ fn each_byte_changed(rt: HostRuntime) {
         }
     }
 }
+
+// Host 0 has promised 9 behind a vote at 1, hosts 1 and 3 have voted at 2, host 5 has promised 14, and the others' blocks are blank.
+#[test]
+fn what_a_row_tells(rt: HostRuntime) {
+    let vote = |mbal: u64, bal: u64, byte: u8| PBlock {
+        mbal,
+        bal,
+        inp: Some([byte; 32]),
+    };
+    let mut row = Row::BLANK;
+    row.cells[0].says = vote(9, 1, 1);
+    row.cells[1].says = vote(2, 2, 2);
+    row.cells[3].says = vote(4, 2, 3);
+    row.cells[5].says = PBlock {
+        mbal: 14,
+        bal: 0,
+        inp: None,
+    };
+    assert_eq!(rt; row.cell(3).says, vote(4, 2, 3));
+    assert_eq!(rt; row.cell(7).says, PBlock::BLANK);
+    assert_eq!(rt; row.greatest_mbal(), 14);
+    assert_eq!(rt; row.others_mbal(5), 9);
+    assert_eq!(rt; row.others_mbal(0), 14);
+    // Of the votes at 2 the first one, but for host 1's own; a vote that is no later than the given one is not taken.
+    assert_eq!(rt; row.latest_vote(2, PBlock::BLANK), vote(2, 2, 2));
+    assert_eq!(rt; row.latest_vote(1, PBlock::BLANK), vote(4, 2, 3));
+    assert_eq!(rt; row.latest_vote(2, vote(6, 2, 6)), vote(6, 2, 6));
+    assert_eq!(rt; Row::BLANK.greatest_mbal(), 0);
+    assert_eq!(rt; Row::BLANK.latest_vote(0, PBlock::BLANK), PBlock::BLANK);
+}
