@@ -1,6 +1,6 @@
 -- Whose turn it is on a name, where the locks stand in printed order.
-use Rattle.std.proofs.Common.{◌≡◌, ◌≤◌, ◌<◌, ◌+◌, ℕ, Bool, true, false, cond, not, ◌&&◌, ◌||◌, List, [], ◌∷◌, ◌++◌, length, take, drop, Option, Some, None, is_some, refl, sym, ap, subst, ◌∙◌, arith}
-use Rattle.std.specs.List.{filter, find, list_any}
+use Rattle.std.proofs.Common.{◌≡◌, ℕ, Bool, true, false, cond, ◌&&◌, ◌||◌, List, [], ◌∷◌, ◌++◌, take, drop, Option, Some, None, is_some, refl, sym, ap, subst, ◌∙◌, arith}
+use Rattle.std.specs.List.{find}
 use Rattle.std.specs.List.Sorted.{IsSorted, IsPartitionedBy, IsPartitionPoint}
 use Rattle.std.specs.Ordering.{is_lt, nat_cmp, ordering_then, ordering_reverse}
 use Rattle.std.specs.Cmp.Lexicographic.{slice_cmp}
@@ -14,7 +14,7 @@ use Rattle.lock_table.specs.declared.record.LockRecord.{LockRecord}
 use Rattle.lock_table.specs.declared.record.LockState.{LockState}
 use Rattle.lock_table.specs.declared.record.LockState.TheVariants.{Granted, Converting, Waiting}
 use Rattle.lock_table.specs.State.{is_converting, is_waiting, is_queued}
-use Rattle.lock_table.specs.Locks.{is_lock, is_on, option_or, converts_on, waits_on, head_of, has_queue}
+use Rattle.lock_table.specs.Locks.{is_on, option_or, converts_on, waits_on, head_of, has_queue}
 use Rattle.lock_table.specs.Picture.{rank_of, number_among, printed_cmp}
 use Rattle.lock_table.specs.Indexed.{stands_before_queue}
 use Rattle.lock_table.proofs.Parts.{first}

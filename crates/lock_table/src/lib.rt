@@ -13,6 +13,7 @@ mod printed;
 mod purge;
 mod record;
 mod reply;
+mod shelf;
 mod table;
 
 pub use clients::CLIENTS;
