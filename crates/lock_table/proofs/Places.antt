@@ -1,8 +1,8 @@
 -- Lists of places, and the locks that stand there.
-use Rattle.std.proofs.Common.{◌≡◌, ◌≢◌, nat_lt, ◌≤◌, ◌<◌, ◌+◌, ℕ, zero, suc, true, false, cond, ◌==◌, nat_le, List, [], ◌∷◌, ◌++◌, length, get_or, take, drop, insert, remove, set, map, refl, sym, ap, ◌∙◌, arith, length-append}
+use Rattle.std.proofs.Common.{◌≡◌, ◌≢◌, nat_lt, ◌≤◌, ◌<◌, ◌+◌, ℕ, zero, suc, true, false, cond, ◌==◌, nat_le, List, [], ◌∷◌, ◌++◌, length, get_or, take, drop, insert, remove, set, map, refl, sym, ap, subst, ◌∙◌, arith, length-append}
 use Rattle.std.specs.List.{filter}
 use Rattle.std.proofs.lemmas.Bool.{eq-eqb, le-leb, ltb-true, ltb-false}
-use Rattle.std.proofs.lemmas.List.{take-append-drop, drop_more, get_or-map, length-map, get_or-set_same, get_or-set_other, get_or_read}
+use Rattle.std.proofs.lemmas.List.{take-append-drop, drop_more, get_or-map, length-map, length-set, get_or-set_same, get_or-set_other, get_or_read}
 use Rattle.std.proofs.lemmas.List.Edits.{length-insert, length-remove}
 use Rattle.std.proofs.lemmas.List.Elements.{filter-append}
 use Rattle.lock_table.specs.declared.record.LockRecord.{LockRecord}
@@ -110,6 +110,15 @@ shelved_insert records next order free left i q sound taken more inside = record
   apart = λ p. omega (arith, sound.apart p, taken p, times-insert p q order i);
   all = omega (arith, sound.all, more, length-insert {X = ℕ} order i q inside);
 }
+
+-- a lock in place of another
+pub shelved_set : (records : List LockRecord) (order free : List ℕ) (i : ℕ) (r : LockRecord) → IsShelved records order free → IsShelved (set records i r) order free
+shelved_set records order free i r sound =
+    let same : length (set records i r) ≡ length records = length-set records i r in
+    record {
+      apart = λ p. subst (λ (n : ℕ). times p order + (times p free + cond (nat_le n p) 1 0) ≤ 1) (sym same) (sound.apart p);
+      all = sound.all ∙ sym same;
+    }
 
 pub shown_insert : (records next : List LockRecord) (order free : List ℕ) (i q : ℕ) → IsShelved records order free → ((p : ℕ) → idle records free p ≡ 0 → at_place next p ≡ at_place records p)
     → at_places next (insert order i q) ≡ insert (at_places records order) i (at_place next q)

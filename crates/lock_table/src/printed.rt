@@ -2,7 +2,7 @@ ghost use Rattle.std.specs.Prelude.{◌≡◌, ◌<◌, ◌≤◌, length, filte
 ghost use Rattle.std.specs.List.Sorted.{IsSorted, IsPartitionPoint};
 ghost use Rattle.std.specs.Ordering.{is_lt};
 ghost use Rattle.lock_table.specs.Apply.{is_through};
-ghost use Rattle.lock_table.specs.Indexed.{stands_before_name, stands_before_queue};
+ghost use Rattle.lock_table.specs.Indexed.{stands_before_rank};
 ghost use Rattle.lock_table.specs.Locks.{lock_in, without, head_of, admits, IsDistinct};
 ghost use Rattle.lock_table.specs.Picture.{printed_cmp};
 ghost use Rattle.lock_table.specs.Placed.{placed};
@@ -63,13 +63,14 @@ fn place_of(printed: &Shelf, own: &LockRecord) -> usize
     at
 }
 
-/// How many locks are printed before those that queue on a name.
-fn locks_before_queue(printed: &Shelf, name: LockName) -> usize
-    requires { IsSorted printed_cmp printed.now }
+/// How many locks are printed before those of a name that have a rank: 0 if granted, 1 if they convert, 2 if they wait.
+fn locks_before_rank(printed: &Shelf, name: LockName, rank: u8) -> usize
+    requires sorted { IsSorted printed_cmp printed.now }
+    requires rank { rank ≤ 2 }
     ensures bound { result ≤ length printed.now }
-    ensures point { IsPartitionPoint (λ r. stands_before_queue name r ≡ true) (λ r. stands_before_queue name r ≡ false) printed.now result }
+    ensures point { IsPartitionPoint (λ r. stands_before_rank name rank r ≡ true) (λ r. stands_before_rank name rank r ≡ false) printed.now result }
 {
-    locks_while!(printed, record => record.stands_before_queue(name))
+    locks_while!(printed, record => record.stands_before_rank(name, rank))
 }
 
 /// The lock whose turn it is on a name: the first that converts, else the first that waits.
@@ -77,30 +78,19 @@ pub fn head(printed: &Shelf, name: LockName) -> Option<LockRecord>
     requires { IsSorted printed_cmp printed.now }
     ensures { result ≡ head_of printed.now name }
 {
-    let first = printed.lock_at(locks_before_queue(printed, name))?;
+    let first = printed.lock_at(locks_before_rank(printed, name, 1))?;
     (first.name == name).then_some(first)
 }
 
-/// How many locks are printed before those of a name.
-fn locks_before_name(printed: &Shelf, name: LockName) -> usize
-    requires { IsSorted printed_cmp printed.now }
-    ensures bound { result ≤ length printed.now }
-    ensures point { IsPartitionPoint (λ r. stands_before_name name r ≡ true) (λ r. stands_before_name name r ≡ false) printed.now result }
-{
-    locks_while!(printed, record => record.stands_before_name(name))
-}
-
-/// Whether no other lock of the name holds a mode that conflicts with this one. Those that hold one are looked at.
+/// Whether no other lock of the name holds a mode that conflicts with this one. Of those that hold one the bits are looked at.
 pub fn admits(printed: &Shelf, lock: LockNumber, name: LockName, mode: Mode) -> bool
     requires { IsSorted printed_cmp printed.now }
     ensures { result ≡ admits printed.now lock name mode }
 {
-    for at in locks_before_name(printed, name)..printed.len() {
-        let other = printed.get(at);
-        if !other.holds_on(name) {
-            return true;
-        }
-        if other.stands_against(lock, name, mode) {
+    let from = locks_before_rank(printed, name, 0);
+    let to = locks_before_rank(printed, name, 2);
+    for at in from..to {
+        if printed.holds_against(at, mode) && printed.get(at).lock != lock {
             return false;
         }
     }

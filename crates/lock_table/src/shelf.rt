@@ -1,9 +1,13 @@
 ghost use Rattle.std.specs.Prelude.{◌≡◌, ◌+◌, ◌<◌, ◌≤◌, ◌==◌, ℕ, [], IfOk, cond, length, insert, remove, slice_set, slice_index_or, vec_len, vec_capacity};
 ghost use Rattle.std.specs.List.{slice_get};
+ghost use Rattle.lock_table.specs.declared.record.LockRecord.{LockRecord};
+ghost use Rattle.lock_table.specs.State.{holds_against};
 ghost use Rattle.lock_table.specs.Shelved.{at_place, idle, times};
 
+use crate::bits::bits_against;
 use crate::locks::LOCKS;
 use crate::record::LockRecord;
+use lock_modes::Mode;
 use std::alloc::{AllocError, Global};
 use std::marker::Model;
 
@@ -16,10 +20,13 @@ pub struct Shelf {
     order: Vec<u8>,
     /// The places that were given up.
     free: Vec<u8>,
+    /// The bits of what the locks hold, in their order.
+    held: Vec<u8>,
 }
 
 impl Model for Shelf {
-    ghost use Rattle.std.specs.Prelude.{List, ◌≤◌, vec_len, vec_capacity};
+    ghost use Rattle.std.specs.Prelude.{List, ◌≡◌, ◌≤◌, vec_len, vec_capacity};
+    ghost use Rattle.lock_table.specs.Bits.{held_bits};
     ghost use Rattle.lock_table.specs.declared.locks.TheConstants.{LOCKS};
     ghost use Rattle.lock_table.specs.declared.record.LockRecord.{LockRecord};
     ghost use Rattle.lock_table.specs.Shelved.{IsShelved, at_places};
@@ -28,7 +35,7 @@ impl Model for Shelf {
 
     ghost view = { λ shelf. at_places shelf.records.items shelf.order.items };
 
-    ghost invariant = { λ shelf. IsShelved shelf.records.items shelf.order.items shelf.free.items × (vec_len shelf.records ≤ LOCKS) × (LOCKS ≤ vec_capacity shelf.records) × (LOCKS ≤ vec_capacity shelf.order) × (LOCKS ≤ vec_capacity shelf.free) };
+    ghost invariant = { λ shelf. IsShelved shelf.records.items shelf.order.items shelf.free.items × (vec_len shelf.records ≤ LOCKS) × (LOCKS ≤ vec_capacity shelf.records) × (LOCKS ≤ vec_capacity shelf.order) × (LOCKS ≤ vec_capacity shelf.free) × (LOCKS ≤ vec_capacity shelf.held) × (shelf.held.items ≡ held_bits (at_places shelf.records.items shelf.order.items)) };
 }
 
 impl Shelf {
@@ -40,6 +47,7 @@ impl Shelf {
             records: Vec::with_capacity(alloc, LOCKS)?,
             order: Vec::with_capacity(alloc, LOCKS)?,
             free: Vec::with_capacity(alloc, LOCKS)?,
+            held: Vec::with_capacity(alloc, LOCKS)?,
         })
     }
 
@@ -70,6 +78,14 @@ impl Shelf {
         }
     }
 
+    /// Whether a lock holds a mode that conflicts with the wanted one.
+    pub fn holds_against(&self, at: usize, wanted: Mode) -> bool
+        requires { at < length self.now }
+        ensures { (d : LockRecord) → result ≡ holds_against wanted (slice_index_or self.now at d).state }
+    {
+        self.held[at] & bits_against(wanted) != 0
+    }
+
     /// Lists the locks.
     pub fn list(&self, into: &mut Vec<LockRecord>)
         requires empty { into.old.items ≡ [] }
@@ -90,6 +106,7 @@ impl Shelf {
     {
         let place = take_place(&mut self.records, &mut self.free, new);
         let _ = self.order.insert(at, place);
+        let _ = self.held.insert(at, new.state.held_bit());
     }
 
     /// Takes a lock out.
@@ -100,6 +117,7 @@ impl Shelf {
     {
         let place = self.order.remove(at);
         let _ = self.free.push(place);
+        let _ = self.held.remove(at);
     }
 
     /// Puts a lock in place of another.
@@ -109,6 +127,7 @@ impl Shelf {
     {
         let place = usize::from(self.order[at]);
         self.records[place] = new;
+        self.held[at] = new.state.held_bit();
     }
 }
 

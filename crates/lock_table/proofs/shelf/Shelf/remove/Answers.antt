@@ -1,5 +1,7 @@
 use Rattle.std.proofs.Common.{◌≡◌, [], ◌∷◌, ◌++◌, remove, subst, List, ℕ, sym, ap, ◌∙◌, arith, rules}
 use Rattle.std.proofs.lemmas.List.{length-map}
+use Rattle.lock_table.specs.declared.record.LockRecord.{LockRecord}
+use Rattle.lock_table.specs.Bits.{held_bit, held_bits}
 use Rattle.lock_table.specs.Shelved.{at_place, at_places, IsShelved}
 use Rattle.lock_table.proofs.Places.{inside_order, shelved_remove, map-remove}
 use Rattle.lock_table.proofs.shelf.Shelf.remove.Goals as goal
@@ -16,6 +18,11 @@ invariant_of-self c =
       omega arith,
       omega (arith, c.remove-place.ensures.capacity),
       omega (arith, c.push.ensures.capacity),
+      omega (arith, c.remove.ensures.capacity),
+      c.remove.ensures.items
+          ∙ ap (λ l. remove l c.args.at) c.self.invariant.6
+          ∙ sym (map-remove (λ (r : LockRecord). held_bit r.state) (at_places c.self.inside.records.items c.self.inside.order.items) c.args.at)
+          ∙ ap held_bits (sym (map-remove (at_place c.self.inside.records.items) order c.args.at) ∙ ap (at_places c.self.inside.records.items) (sym c.remove-place.ensures.items)),
     )
 
 pub returns-clause-locks : goal.returns-clause-locks
