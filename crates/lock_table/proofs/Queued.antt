@@ -1,6 +1,6 @@
 -- Whose turn it is on a name, where the locks stand in printed order.
-use Rattle.std.proofs.Common.{◌≡◌, ◌≤◌, ◌<◌, ◌+◌, ℕ, Bool, true, false, cond, not, ◌&&◌, ◌||◌, List, [], ◌∷◌, ◌++◌, length, take, drop, Option, Some, None, is_some, refl, sym, ap, subst, ◌∙◌, arith}
-use Rattle.std.specs.List.{filter, find, list_any}
+use Rattle.std.proofs.Common.{◌≡◌, ◌≤◌, ℕ, zero, suc, Bool, true, false, cond, ◌&&◌, ◌||◌, List, [], ◌∷◌, ◌++◌, take, drop, Option, Some, None, is_some, refl, sym, ap, subst, ◌∙◌, arith}
+use Rattle.std.specs.List.{find}
 use Rattle.std.specs.List.Sorted.{IsSorted, IsPartitionedBy, IsPartitionPoint}
 use Rattle.std.specs.Ordering.{is_lt, nat_cmp, ordering_then, ordering_reverse}
 use Rattle.std.specs.Cmp.Lexicographic.{slice_cmp}
@@ -14,9 +14,9 @@ use Rattle.lock_table.specs.declared.record.LockRecord.{LockRecord}
 use Rattle.lock_table.specs.declared.record.LockState.{LockState}
 use Rattle.lock_table.specs.declared.record.LockState.TheVariants.{Granted, Converting, Waiting}
 use Rattle.lock_table.specs.State.{is_converting, is_waiting, is_queued}
-use Rattle.lock_table.specs.Locks.{is_lock, is_on, option_or, converts_on, waits_on, head_of, has_queue}
+use Rattle.lock_table.specs.Locks.{is_on, option_or, converts_on, waits_on, head_of, has_queue}
 use Rattle.lock_table.specs.Picture.{rank_of, number_among, printed_cmp}
-use Rattle.lock_table.specs.Indexed.{stands_before_queue}
+use Rattle.lock_table.specs.Indexed.{stands_before_rank}
 use Rattle.lock_table.proofs.Parts.{first}
 use Rattle.lock_table.proofs.Ordered.{Each, IsAscending, each_more}
 use Rattle.lock_table.proofs.Unique.{ascends, names_equal}
@@ -25,9 +25,27 @@ use Rattle.lock_table.proofs.Pictures.{printed_order}
 use Rattle.lock_table.proofs.Keyed.{is_lt_nat, first_if}
 use Rattle.lock_table.proofs.Cuts.{each_in_front, each_behind, ascends_behind, find_none, find_behind, partitioned, below_down}
 
--- a lock that would convert first of all on the name
-probe : List ℕ → LockRecord
-probe name = record { lock = 0; client = 0; host = 0; name = name; state = Converting Null Null }
+-- a lock that would stand first of all of the name in its state
+probe : List ℕ → LockState → LockRecord
+probe name state = record { lock = 0; client = 0; host = 0; name = name; state = state }
+
+-- a state of each rank
+state_of : ℕ → LockState
+state_of zero = Granted Null
+state_of (suc zero) = Converting Null Null
+state_of (suc (suc rank)) = Waiting Null
+
+rank_of-state_of : (rank : ℕ) → rank ≤ 2 → rank_of (state_of rank) ≡ rank
+unfolding state_of
+rank_of-state_of zero few = refl
+rank_of-state_of (suc zero) few = refl
+rank_of-state_of (suc (suc zero)) few = refl
+rank_of-state_of (suc (suc (suc rank))) few = absurd (omega (arith, few))
+
+number_of_none : (s : LockState) → number_among s 0 ≡ 0
+number_of_none (Granted mode) = refl
+number_of_none (Converting held wanted) = refl
+number_of_none (Waiting wanted) = refl
 
 last_is_never_less : (o p q : Ordering) → is_lt q ≡ false → is_lt (ordering_then o (ordering_then p q)) ≡ is_lt (ordering_then o p)
 last_is_never_less Less p q h = refl
@@ -36,14 +54,16 @@ last_is_never_less Equal Less q h = refl
 last_is_never_less Equal Greater q h = refl
 last_is_never_less Equal Equal q h = h
 
-before_probe : (name : List ℕ) (r : LockRecord) → is_lt (printed_cmp r (probe name)) ≡ stands_before_queue name r
+before_probe : (name : List ℕ) (rank : ℕ) (r : LockRecord) → rank ≤ 2 → is_lt (printed_cmp r (probe name (state_of rank))) ≡ stands_before_rank name rank r
 unfolding probe
-before_probe name r = last_is_never_less (slice_cmp nat_cmp r.name name) (nat_cmp (rank_of r.state) 1) (nat_cmp (number_among r.state r.lock) 0)
+before_probe name rank r few =
+    (λ i. is_lt (ordering_then (slice_cmp nat_cmp r.name name) (ordering_then (nat_cmp (rank_of r.state) (rank_of-state_of rank few i)) (nat_cmp (number_among r.state r.lock) (number_of_none (state_of rank) i)))))
+    ∙ last_is_never_less (slice_cmp nat_cmp r.name name) (nat_cmp (rank_of r.state) rank) (nat_cmp (number_among r.state r.lock) 0)
     (is_lt_nat (number_among r.state r.lock) 0 ∙ le-ltb (number_among r.state r.lock) 0 (omega arith))
 
-pub queue_partitioned : (name : List ℕ) (xs : List LockRecord) → IsSorted printed_cmp xs → IsPartitionedBy (stands_before_queue name) xs
-queue_partitioned name xs up = partitioned printed_cmp printed_order (stands_before_queue name) (λ x y not_less passes.
-    sym (before_probe name x) ∙ below_down printed_cmp printed_order (probe name) x y not_less (before_probe name y ∙ passes)) xs up
+pub rank_partitioned : (name : List ℕ) (rank : ℕ) (xs : List LockRecord) → rank ≤ 2 → IsSorted printed_cmp xs → IsPartitionedBy (stands_before_rank name rank) xs
+rank_partitioned name rank xs few up = partitioned printed_cmp printed_order (stands_before_rank name rank) (λ x y not_less passes.
+    sym (before_probe name rank x few) ∙ below_down printed_cmp printed_order (probe name (state_of rank)) x y not_less (before_probe name rank y few ∙ passes)) xs up
 
 abbrev IsQuiet : List ℕ → LockRecord → Type 0
 IsQuiet name r = (converts_on name r ≡ false) × (waits_on name r ≡ false)
@@ -56,7 +76,7 @@ quiet_in_front (Waiting wanted) h = let impossible : ⊥ = cc in absurd impossib
 pub tied_names : (name : List ℕ) (r : LockRecord) → is_on name r ≡ true → slice_cmp nat_cmp r.name name ≡ Equal
 tied_names name r own = ap (λ n. slice_cmp nat_cmp n name) (name_is r.name name own) ∙ tied_itself nat_list_cmp_total name
 
-before_own : (name : List ℕ) (r : LockRecord) → is_on name r ≡ true → stands_before_queue name r ≡ is_lt (nat_cmp (rank_of r.state) 1)
+before_own : (name : List ℕ) (r : LockRecord) → is_on name r ≡ true → stands_before_rank name 1 r ≡ is_lt (nat_cmp (rank_of r.state) 1)
 before_own name r own = ap (λ o. is_lt (ordering_then o (nat_cmp (rank_of r.state) 1))) (tied_names name r own)
 
 both_no : (b c d : Bool) → (b ≡ true → (c ≡ false) × (d ≡ false)) → ((b && c) ≡ false) × ((b && d) ≡ false)
@@ -64,7 +84,7 @@ both_no true c d h = h refl
 both_no false c d h = (refl, refl)
 
 -- nobody in front queues on the name
-front_is_quiet : (name : List ℕ) (r : LockRecord) → stands_before_queue name r ≡ true → IsQuiet name r
+front_is_quiet : (name : List ℕ) (r : LockRecord) → stands_before_rank name 1 r ≡ true → IsQuiet name r
 front_is_quiet name r before = both_no (is_on name r) (is_converting r.state) (is_waiting r.state) (λ own. quiet_in_front r.state (sym (before_own name r own) ∙ before))
 
 -- a name that is neither the same nor before stands behind
@@ -86,7 +106,7 @@ first_later Less p h = h
 first_later Equal p h = refl
 first_later Greater p h = refl
 
-behind : (name : List ℕ) (b : LockRecord) → stands_before_queue name b ≡ false → is_on name b ≡ false → slice_cmp nat_cmp name b.name ≡ Less
+behind : (name : List ℕ) (b : LockRecord) → stands_before_rank name 1 b ≡ false → is_on name b ≡ false → slice_cmp nat_cmp name b.name ≡ Less
 behind name b later other = name_behind name b (first_later (slice_cmp nat_cmp b.name name) (nat_cmp (rank_of b.state) 1) later) other
 
 -- and so does all that does not stand before it
@@ -137,7 +157,7 @@ no_head_behind name xs quiet =
     (find_none printed_cmp (converts_on name) xs (each_more printed_cmp (IsQuiet name) (λ c. converts_on name c ≡ false) (λ c h. h.0) xs quiet) i)
     (find_none printed_cmp (waits_on name) xs (each_more printed_cmp (IsQuiet name) (λ c. waits_on name c ≡ false) (λ c h. h.1) xs quiet) i))
 
-head_behind : (name : List ℕ) (B : List LockRecord) → Each printed_cmp (λ r. stands_before_queue name r ≡ false) B → IsAscending printed_cmp B → head_of B name ≡ first_if (is_on name) (first B)
+head_behind : (name : List ℕ) (B : List LockRecord) → Each printed_cmp (λ r. stands_before_rank name 1 r ≡ false) B → IsAscending printed_cmp B → head_of B name ≡ first_if (is_on name) (first B)
 head_behind name [] later up = refl
 head_behind name (b ∷ C) later up =
     elim (is_on name b) as (λ t. is_on name b ≡ t → head_of (b ∷ C) name ≡ cond t (Some b) None) [
@@ -151,12 +171,12 @@ head_behind name (b ∷ C) later up =
     ] refl
 
 -- the lock whose turn it is stands where those end that stand before the queues of the name, if it is one of the name
-pub head_at_cut : (name : List ℕ) (xs : List LockRecord) (i : ℕ) → IsSorted printed_cmp xs → IsPartitionPoint (λ r. stands_before_queue name r ≡ true) (λ r. stands_before_queue name r ≡ false) xs i
+pub head_at_cut : (name : List ℕ) (xs : List LockRecord) (i : ℕ) → IsSorted printed_cmp xs → IsPartitionPoint (λ r. stands_before_rank name 1 r ≡ true) (λ r. stands_before_rank name 1 r ≡ false) xs i
     → head_of xs name ≡ first_if (is_on name) (first (drop i xs))
 head_at_cut name xs i up point =
     let whole = take-append-drop i xs in
-    let quiet = each_more printed_cmp (λ r. stands_before_queue name r ≡ true) (IsQuiet name) (λ r h. front_is_quiet name r h) (take i xs) (each_in_front printed_cmp (λ r. stands_before_queue name r ≡ true) xs i point.0) in
-    let later = each_behind printed_cmp (λ r. stands_before_queue name r ≡ false) xs i point.1 in
+    let quiet = each_more printed_cmp (λ r. stands_before_rank name 1 r ≡ true) (IsQuiet name) (λ r h. front_is_quiet name r h) (take i xs) (each_in_front printed_cmp (λ r. stands_before_rank name 1 r ≡ true) xs i point.0) in
+    let later = each_behind printed_cmp (λ r. stands_before_rank name 1 r ≡ false) xs i point.1 in
     let rise : IsAscending printed_cmp (take i xs ++ drop i xs) = subst (λ (l : List LockRecord). IsAscending printed_cmp l) (sym whole) (ascends printed_cmp printed_order xs up) in
     ap (λ l. head_of l name) (sym whole)
     ∙ (λ j. option_or

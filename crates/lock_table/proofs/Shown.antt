@@ -1,6 +1,6 @@
 -- The locks in printed order, and what a change makes of them.
-use Rattle.std.proofs.Common.{◌≡◌, ◌≤◌, ◌<◌, ◌+◌, ℕ, Bool, true, false, cond, not, nat_lt, get_or, drop, insert, set, List, [], ◌∷◌, ◌++◌, length, Option, Some, None, IfSome, IsSome, refl, sym, ap, subst, ◌∙◌, arith}
-use Rattle.std.specs.List.{filter, find, list_any}
+use Rattle.std.proofs.Common.{◌≡◌, ◌≤◌, ◌<◌, ◌+◌, ℕ, Bool, true, false, cond, not, nat_lt, get_or, drop, insert, set, List, [], ◌∷◌, length, Option, Some, None, IfSome, IsSome, refl, sym, ap, subst, ◌∙◌, arith}
+use Rattle.std.specs.List.{filter, find}
 use Rattle.std.specs.List.Sorted.{IsSorted, IsPartitionPoint}
 use Rattle.std.specs.Ordering.{is_lt}
 use Rattle.std.proofs.lemmas.Bool.{eq-eqb}
@@ -10,7 +10,7 @@ use Rattle.std.proofs.lemmas.List.Sums.{fold_push}
 use Rattle.lock_table.specs.declared.record.LockRecord.{LockRecord}
 use Rattle.lock_table.specs.declared.record.KnownClient.{KnownClient}
 use Rattle.lock_table.specs.State.{goal_of}
-use Rattle.lock_table.specs.Locks.{is_lock, is_on, option_or, converts_on, waits_on, lock_in, without, put, head_of, admits, granted, queue, settled, settled_all, IsDistinct}
+use Rattle.lock_table.specs.Locks.{is_lock, option_or, converts_on, waits_on, lock_in, without, put, head_of, admits, granted, queue, settled, settled_all, IsDistinct}
 use Rattle.lock_command.specs.declared.command.Command.{Command}
 use Rattle.lock_table.specs.Apply.{Plain, is_client, kept, applied}
 use Rattle.lock_table.specs.Picture.{printed_cmp, client_cmp, HasSameLocks}
@@ -18,15 +18,15 @@ use Rattle.lock_table.specs.Placed.{placed, in_order, pictured}
 use Rattle.lock_table.specs.Indexed.{IsIndexed, IsShown, AreKnown, number_cmp}
 use Rattle.lock_table.proofs.Parts.{AlikeBy-filter, AlikeBy-append, find_alike, length_alike}
 use Rattle.lock_table.proofs.Numbered.{numbered, numbered-cons, without_absent, IsDistinct-filter, IsDistinct-put}
-use Rattle.lock_table.proofs.Alike.{same_back, same_through, same-settled, same-distinct, same-length, same-queue}
+use Rattle.lock_table.proofs.Alike.{same_back, same_through, same-settled, same-distinct, same-queue}
 use Rattle.lock_table.proofs.Apart.{IsDistinct-settled, IsDistinct-settled_all}
 use Rattle.lock_table.proofs.Settled.{is_among, same-settled_all}
-use Rattle.lock_table.proofs.Turns.{settled-granted, settled-blocked, settled-idle, length-queue-granted}
+use Rattle.lock_table.proofs.Turns.{settled-granted, length-queue-granted}
 use Rattle.lock_table.proofs.Behave.{distinct-applied}
 use Rattle.lock_table.proofs.Pictures.{printed_order, client_order, picture_of_pictured}
 use Rattle.lock_table.proofs.Ordered.{IsSorted-in_order}
 use Rattle.lock_table.proofs.Unique.{ordered_alike}
-use Rattle.lock_table.proofs.Cuts.{in_order_sorted, IsSorted-placed}
+use Rattle.lock_table.proofs.Cuts.{in_order_sorted}
 use Rattle.lock_table.proofs.Keyed.{absent_count, key_order, rising_insert, insert_at_cut, set_at_cut, distinct_at_end, in_key_order}
 
 abbrev pub lock_of : LockRecord → ℕ

@@ -16,17 +16,9 @@ use Rattle.lock_table.specs.Placed.{in_order}
 abbrev pub number_cmp : LockRecord → LockRecord → Ordering
 number_cmp a b = nat_cmp a.lock b.lock
 
--- the lock is printed before all locks of the name that queue
-abbrev pub stands_before_queue : List ℕ → LockRecord → Bool
-stands_before_queue name r = is_lt (ordering_then (slice_cmp nat_cmp r.name name) (nat_cmp (rank_of r.state) 1))
-
--- the lock is printed before all locks of the name
-abbrev pub stands_before_name : List ℕ → LockRecord → Bool
-stands_before_name name r = is_lt (slice_cmp nat_cmp r.name name)
-
--- the lock holds a mode of the name
-abbrev pub holds_on : List ℕ → LockRecord → Bool
-holds_on name r = is_on name r && not (is_waiting r.state)
+-- the lock is printed before all locks of the name that have this rank
+abbrev pub stands_before_rank : List ℕ → ℕ → LockRecord → Bool
+stands_before_rank name rank r = is_lt (ordering_then (slice_cmp nat_cmp r.name name) (nat_cmp (rank_of r.state) rank))
 
 -- the locks stand in printed order, each once, and beside them stand the same records by rising number
 pub record IsIndexed (printed numbers : List LockRecord) : Type 0 where

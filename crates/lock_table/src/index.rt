@@ -6,6 +6,7 @@ ghost use Rattle.lock_table.specs.Placed.{in_order};
 
 use crate::locks::LOCKS;
 use crate::record::{LockRecord, LockState};
+use crate::shelf::Shelf;
 use crate::{numbers, printed};
 use lock_command::{HostNumber, LockName, LockNumber};
 use lock_modes::Mode;
@@ -16,21 +17,21 @@ use std::marker::Model;
 /// records by rising lock number. So a lock, a name and the head of its queues are found by a binary search.
 #[derive(Drop)]
 pub struct Index {
-    printed: Vec<LockRecord>,
+    printed: Shelf,
     numbers: Vec<LockRecord>,
 }
 
 impl Model for Index {
-    ghost use Rattle.std.specs.Prelude.{List, ◌≤◌, vec_len, vec_capacity};
+    ghost use Rattle.std.specs.Prelude.{List, ◌≤◌, vec_capacity};
     ghost use Rattle.lock_table.specs.declared.locks.TheConstants.{LOCKS};
     ghost use Rattle.lock_table.specs.declared.record.LockRecord.{LockRecord};
     ghost use Rattle.lock_table.specs.Indexed.{IsIndexed};
 
     ghost Value = { List LockRecord };
 
-    ghost view = { λ index. index.printed.items };
+    ghost view = { λ index. index.printed };
 
-    ghost invariant = { λ index. IsIndexed index.printed.items index.numbers.items × (vec_len index.printed ≤ LOCKS) × (LOCKS ≤ vec_capacity index.printed) × (LOCKS ≤ vec_capacity index.numbers) };
+    ghost invariant = { λ index. IsIndexed index.printed index.numbers.items × (LOCKS ≤ vec_capacity index.numbers) };
 }
 
 impl Index {
@@ -39,15 +40,14 @@ impl Index {
         ensures { IfOk result (λ index. index ≡ []) }
     {
         Ok(Index {
-            printed: Vec::with_capacity(alloc, LOCKS)?,
+            printed: Shelf::new(alloc)?,
             numbers: Vec::with_capacity(alloc, LOCKS)?,
         })
     }
 
     /// The locks in printed order.
-    pub fn printed(&self) -> &[LockRecord]
+    pub fn printed(&self) -> &Shelf
         ensures locks { result.now ≡ self.now }
-        ensures few { length result.now ≤ LOCKS }
         ensures distinct { IsDistinct self.now }
     {
         &self.printed
@@ -129,7 +129,7 @@ impl Index {
         ensures printed { in_order printed_cmp self.new ≡ self.new }
     {
         keep_others(&mut self.numbers, host);
-        keep_others(&mut self.printed, host);
+        printed::take_through(&mut self.printed, host);
     }
 
     /// Grants, while the lock whose turn it is may be granted.

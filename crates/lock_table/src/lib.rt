@@ -1,6 +1,7 @@
 //! The lock table: who holds which mode of which name, who waits for it, and the reply to each client's last request.
 #![tactic(auto)]
 
+mod bits;
 mod clients;
 mod index;
 mod laws;
@@ -13,12 +14,13 @@ mod printed;
 mod purge;
 mod record;
 mod reply;
+mod shelf;
 mod table;
 
 pub use clients::CLIENTS;
 pub use laws::{
     a_table_has_one_picture, heads_could_not_be_granted, held_modes_are_compatible,
-    requests_count_once, settling_is_complete,
+    lock_numbers_are_distinct, requests_count_once, settling_is_complete,
 };
 pub use locks::LOCKS;
 pub use no_memory::NoMemory;

@@ -1,11 +1,18 @@
 ghost use Rattle.std.specs.Prelude.{◌≡◌, ◌+◌, ◌<◌, ◌≤◌, ℕ, IsSome, length, filter, nat_lt, true, false, vec_len, vec_capacity};
+ghost use Rattle.std.specs.List.{slice_get};
 ghost use Rattle.std.specs.List.Sorted.{IsSorted, IsPartitionPoint};
 ghost use Rattle.lock_table.specs.Indexed.{number_cmp};
 ghost use Rattle.lock_table.specs.Locks.{is_lock, lock_in, without, put, IsDistinct};
 
-use crate::printed::record_at;
 use crate::record::LockRecord;
 use lock_command::LockNumber;
+
+/// The record at a place.
+fn record_at(records: &[LockRecord], at: usize) -> Option<LockRecord>
+    ensures { result ≡ slice_get records.now at }
+{
+    records.get(at).copied()
+}
 
 /// How many records have a lower lock number.
 fn lower_numbers(numbers: &[LockRecord], lock: LockNumber) -> usize

@@ -47,7 +47,7 @@ impl Picture {
     {
         let plain = table.plain();
         self.locks.clear();
-        let _ = self.locks.extend_from_slice(plain.locks());
+        plain.locks().list(&mut self.locks);
         self.clients.clear();
         let _ = self.clients.extend_from_slice(plain.clients());
     }

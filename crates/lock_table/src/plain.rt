@@ -5,8 +5,9 @@ ghost use Rattle.lock_table.specs.Placed.{in_order};
 
 use crate::clients::{CLIENTS, Clients};
 use crate::locks::{LOCKS, Locks};
-use crate::record::{KnownClient, LockRecord};
+use crate::record::KnownClient;
 use crate::reply::{Refusal, Reply};
+use crate::shelf::Shelf;
 use lock_command::Command;
 use std::alloc::{AllocError, Global};
 use std::marker::Model;
@@ -82,9 +83,8 @@ impl PlainTable {
     }
 
     /// The locks in printed order.
-    pub fn locks(&self) -> &[LockRecord]
+    pub fn locks(&self) -> &Shelf
         ensures locks { result.now ≡ self.now.locks }
-        ensures few { length result.now ≤ LOCKS }
     {
         self.locks.printed()
     }

@@ -1,53 +1,55 @@
-ghost use Rattle.std.specs.Prelude.{◌≡◌, ◌+◌, ◌<◌, ◌≤◌, length, insert, remove, not, true, false, vec_len, vec_capacity};
-ghost use Rattle.std.specs.List.{slice_get};
+ghost use Rattle.std.specs.Prelude.{◌≡◌, ◌<◌, ◌≤◌, length, filter, insert, remove, not, true, false};
 ghost use Rattle.std.specs.List.Sorted.{IsSorted, IsPartitionPoint};
 ghost use Rattle.std.specs.Ordering.{is_lt};
-ghost use Rattle.lock_table.specs.Indexed.{stands_before_name, stands_before_queue};
+ghost use Rattle.lock_table.specs.Apply.{is_through};
+ghost use Rattle.lock_table.specs.Indexed.{stands_before_rank};
 ghost use Rattle.lock_table.specs.Locks.{lock_in, without, head_of, admits, IsDistinct};
 ghost use Rattle.lock_table.specs.Picture.{printed_cmp};
 ghost use Rattle.lock_table.specs.Placed.{placed};
 
+use crate::locks::LOCKS;
 use crate::record::LockRecord;
-use lock_command::{LockName, LockNumber};
+use crate::shelf::Shelf;
+use lock_command::{HostNumber, LockName, LockNumber};
 use lock_modes::Mode;
 
-/// The record at a place.
-pub fn record_at(records: &[LockRecord], at: usize) -> Option<LockRecord>
-    ensures { result ≡ slice_get records.now at }
-{
-    records.get(at).copied()
+/// How many locks there are in front of the first that fails a test, where all behind it fail too.
+macro_rules! locks_while {
+    ($printed:expr, $record:ident => $test:expr) => {{
+        let mut from = 0;
+        let mut size = $printed.len();
+        while size > 0 {
+            let half = size - size / 2;
+            let $record = $printed.get(from + half - 1);
+            if $test {
+                from += half;
+            }
+            size /= 2;
+        }
+        from
+    }};
 }
 
 /// Where a record joins those in printed order: behind all that it does not stand before.
-fn joining_place(printed: &[LockRecord], new: &LockRecord) -> usize
+fn joining_place(printed: &Shelf, new: &LockRecord) -> usize
     requires { IsSorted printed_cmp printed.now }
     ensures bound { result ≤ length printed.now }
     ensures place { insert printed.now result new.now ≡ placed printed_cmp new.now printed.now }
 {
-    let new = *new;
-    printed.partition_point(
-        |record: &LockRecord| -> bool
-            ensures { result ≡ not (is_lt (printed_cmp new record.now)) }
-        { !new.stands_before(record) },
-    )
+    locks_while!(printed, record => !new.stands_before(record))
 }
 
 /// How many locks are printed before one.
-fn locks_before(printed: &[LockRecord], own: &LockRecord) -> usize
+fn locks_before(printed: &Shelf, own: &LockRecord) -> usize
     requires { IsSorted printed_cmp printed.now }
     ensures bound { result ≤ length printed.now }
     ensures point { IsPartitionPoint (λ r. is_lt (printed_cmp r own.now) ≡ true) (λ r. is_lt (printed_cmp r own.now) ≡ false) printed.now result }
 {
-    let own = *own;
-    printed.partition_point(
-        |record: &LockRecord| -> bool
-            ensures { result ≡ is_lt (printed_cmp record.now own) }
-        { record.stands_before(&own) },
-    )
+    locks_while!(printed, record => record.stands_before(own))
 }
 
 /// Where the record of a lock stands. Of those that queue, all in front of it are looked at.
-fn place_of(printed: &[LockRecord], own: &LockRecord) -> usize
+fn place_of(printed: &Shelf, own: &LockRecord) -> usize
     requires sorted { IsSorted printed_cmp printed.now }
     requires distinct { IsDistinct printed.now }
     requires there { lock_in printed.now own.now.lock ≡ Some own.now }
@@ -55,58 +57,40 @@ fn place_of(printed: &[LockRecord], own: &LockRecord) -> usize
     ensures place { remove printed.now result ≡ without printed.now own.now.lock }
 {
     let mut at = locks_before(printed, own);
-    while printed[at].lock != own.lock {
+    while printed.get(at).lock != own.lock {
         at += 1;
     }
     at
 }
 
-/// How many locks are printed before those that queue on a name.
-fn locks_before_queue(printed: &[LockRecord], name: LockName) -> usize
-    requires { IsSorted printed_cmp printed.now }
+/// How many locks are printed before those of a name that have a rank: 0 if granted, 1 if they convert, 2 if they wait.
+fn locks_before_rank(printed: &Shelf, name: LockName, rank: u8) -> usize
+    requires sorted { IsSorted printed_cmp printed.now }
+    requires rank { rank ≤ 2 }
     ensures bound { result ≤ length printed.now }
-    ensures point { IsPartitionPoint (λ r. stands_before_queue name r ≡ true) (λ r. stands_before_queue name r ≡ false) printed.now result }
+    ensures point { IsPartitionPoint (λ r. stands_before_rank name rank r ≡ true) (λ r. stands_before_rank name rank r ≡ false) printed.now result }
 {
-    printed.partition_point(
-        |record: &LockRecord| -> bool
-            ensures { result ≡ stands_before_queue name record.now }
-        { record.stands_before_queue(name) },
-    )
+    locks_while!(printed, record => record.stands_before_rank(name, rank))
 }
 
 /// The lock whose turn it is on a name: the first that converts, else the first that waits.
-pub fn head(printed: &[LockRecord], name: LockName) -> Option<LockRecord>
+pub fn head(printed: &Shelf, name: LockName) -> Option<LockRecord>
     requires { IsSorted printed_cmp printed.now }
     ensures { result ≡ head_of printed.now name }
 {
-    let first = record_at(printed, locks_before_queue(printed, name))?;
+    let first = printed.lock_at(locks_before_rank(printed, name, 1))?;
     (first.name == name).then_some(first)
 }
 
-/// How many locks are printed before those of a name.
-fn locks_before_name(printed: &[LockRecord], name: LockName) -> usize
-    requires { IsSorted printed_cmp printed.now }
-    ensures bound { result ≤ length printed.now }
-    ensures point { IsPartitionPoint (λ r. stands_before_name name r ≡ true) (λ r. stands_before_name name r ≡ false) printed.now result }
-{
-    printed.partition_point(
-        |record: &LockRecord| -> bool
-            ensures { result ≡ stands_before_name name record.now }
-        { record.stands_before_name(name) },
-    )
-}
-
-/// Whether no other lock of the name holds a mode that conflicts with this one. Those that hold one are looked at.
-pub fn admits(printed: &[LockRecord], lock: LockNumber, name: LockName, mode: Mode) -> bool
+/// Whether no other lock of the name holds a mode that conflicts with this one. Of those that hold one the bits are looked at.
+pub fn admits(printed: &Shelf, lock: LockNumber, name: LockName, mode: Mode) -> bool
     requires { IsSorted printed_cmp printed.now }
     ensures { result ≡ admits printed.now lock name mode }
 {
-    for at in locks_before_name(printed, name)..printed.len() {
-        let other = &printed[at];
-        if !other.holds_on(name) {
-            return true;
-        }
-        if other.stands_against(lock, name, mode) {
+    let from = locks_before_rank(printed, name, 0);
+    let to = locks_before_rank(printed, name, 2);
+    for at in from..to {
+        if printed.holds_against(at, mode) && printed.get(at).lock != lock {
             return false;
         }
     }
@@ -114,26 +98,34 @@ pub fn admits(printed: &[LockRecord], lock: LockNumber, name: LockName, mode: Mo
 }
 
 /// Puts a record in its place.
-pub fn put_in(printed: &mut Vec<LockRecord>, new: &LockRecord)
-    requires sorted { IsSorted printed_cmp printed.old.items }
-    requires room { vec_len printed.old < vec_capacity printed.old }
-    ensures items { printed.new.items ≡ placed printed_cmp new.now printed.old.items }
-    ensures len { vec_len printed.new ≡ vec_len printed.old + 1 }
-    ensures room { vec_capacity printed.old ≤ vec_capacity printed.new }
+pub fn put_in(printed: &mut Shelf, new: &LockRecord)
+    requires sorted { IsSorted printed_cmp printed.old }
+    requires room { length printed.old < LOCKS }
+    ensures items { printed.new ≡ placed printed_cmp new.now printed.old }
 {
-    let place = joining_place(printed, new);
-    let _ = printed.insert(place, *new);
+    printed.insert(joining_place(printed, new), *new);
 }
 
 /// Takes the record of a lock out.
-pub fn take_out(printed: &mut Vec<LockRecord>, own: &LockRecord)
-    requires sorted { IsSorted printed_cmp printed.old.items }
-    requires distinct { IsDistinct printed.old.items }
-    requires there { lock_in printed.old.items own.now.lock ≡ Some own.now }
-    ensures items { printed.new.items ≡ without printed.old.items own.now.lock }
-    ensures len { vec_len printed.new + 1 ≡ vec_len printed.old }
-    ensures room { vec_capacity printed.old ≤ vec_capacity printed.new }
+pub fn take_out(printed: &mut Shelf, own: &LockRecord)
+    requires sorted { IsSorted printed_cmp printed.old }
+    requires distinct { IsDistinct printed.old }
+    requires there { lock_in printed.old own.now.lock ≡ Some own.now }
+    ensures items { printed.new ≡ without printed.old own.now.lock }
+    ensures room { length printed.new < LOCKS }
 {
-    let place = place_of(printed, own);
-    let _ = printed.remove(place);
+    printed.remove(place_of(printed, own));
+}
+
+/// Takes out the locks that were enqueued through a host.
+pub fn take_through(printed: &mut Shelf, host: HostNumber)
+    ensures items { printed.new ≡ filter (λ r. not (is_through host r)) printed.old }
+{
+    let mut at = printed.len();
+    while at > 0 {
+        at -= 1;
+        if printed.get(at).host == host {
+            printed.remove(at);
+        }
+    }
 }

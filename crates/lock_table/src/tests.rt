@@ -1,7 +1,7 @@
 mod flat;
 mod random;
 
-use crate::{LockState, Picture, Refusal, Reply, Table};
+use crate::{LockState, Picture, Refusal, Reply, Table, lock_numbers_are_distinct};
 use lock_command::{
     Action, ClientNumber, Command, HostNumber, LockName, LockNumber, RequestNumber,
 };
@@ -247,6 +247,23 @@ fn purge_and_a_stale_number(rt: HostRuntime) -> Result<(), Fail> {
         (b'a', 4, 2, 0, LockState::Granted(SHARED)),
         (b'b', 2, 2, 0, LockState::Granted(ALONE)),
     ];
+    assert!(rt; lists(&table.picture(rt.alloc())?, &lines));
+    Ok(())
+}
+
+#[test]
+fn a_lock_number_is_taken_once(rt: HostRuntime) -> Result<(), Fail> {
+    lock_numbers_are_distinct();
+    let table = &mut Table::new(rt.alloc())?;
+    let taken = Reply::Refused(Refusal::LockInUse);
+    let steps = [
+        (0, 1, 1, Ask::Enqueue(7, READ, b'a'), Reply::Granted),
+        (0, 2, 1, Ask::Enqueue(7, READ, b'b'), taken),
+        (0, 1, 2, Ask::Release(7), Reply::Released),
+        (0, 2, 2, Ask::Enqueue(7, READ, b'b'), Reply::Granted),
+    ];
+    assert!(rt; replies(table, &steps)?);
+    let lines = [(b'b', 7, 2, 0, LockState::Granted(READ))];
     assert!(rt; lists(&table.picture(rt.alloc())?, &lines));
     Ok(())
 }

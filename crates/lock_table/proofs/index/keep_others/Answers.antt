@@ -1,5 +1,4 @@
 use Rattle.std.proofs.Common.{◌≡◌, not, rules}
-use Rattle.std.specs.List.{filter}
 use Rattle.lock_table.specs.Apply.{is_through}
 use Rattle.lock_table.proofs.Retained.{retained}
 use Rattle.lock_table.proofs.index.keep_others.Goals as goal

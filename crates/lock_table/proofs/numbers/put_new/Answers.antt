@@ -1,4 +1,4 @@
-use Rattle.std.proofs.Common.{◌≡◌, insert, sym, ap, ◌∙◌, rules}
+use Rattle.std.proofs.Common.{◌≡◌, insert, ap, ◌∙◌, rules}
 use Rattle.std.specs.List.{filter}
 use Rattle.lock_table.specs.Locks.{is_lock}
 use Rattle.lock_table.proofs.Shown.{lock_of}

@@ -1,4 +1,4 @@
-use Rattle.std.proofs.Common.{◌≡◌, ◌<◌, true, length, get_or, arith, sym, ap, ◌∙◌, rules}
+use Rattle.std.proofs.Common.{◌≡◌, ◌<◌, true, length, get_or, sym, ap, ◌∙◌}
 use Rattle.lock_table.specs.Locks.{is_lock}
 use Rattle.std.proofs.lemmas.Bool.{not-false}
 use Rattle.lock_table.specs.Picture.{printed_cmp}
@@ -18,5 +18,5 @@ returns-clause-place c =
     let own = c.args.own.now in
     let at = c.loop-at.at in
     let inside : at < length xs = inside_where_found (is_lock own.lock) xs at own c.loop-at.invariant in
-    let stands : is_lock own.lock (get_or xs at c.index-printed-at.result) ≡ true = not-false _ (sym c.loop-at-test.ensures) in
-    remove_where_stands (is_lock own.lock) xs at c.index-printed-at.result inside stands (c.requires.distinct own.lock)
+    let stands : is_lock own.lock (get_or xs at c.get.result.now) ≡ true = ap (is_lock own.lock) (sym c.get.ensures.lock) ∙ not-false _ (sym c.loop-at-test.ensures) in
+    remove_where_stands (is_lock own.lock) xs at c.get.result.now inside stands (c.requires.distinct own.lock)

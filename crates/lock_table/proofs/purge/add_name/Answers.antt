@@ -1,8 +1,6 @@
-use Rattle.std.proofs.Common.{◌≡◌, ◌-◌, ℕ, length, Some, true, false, sym, ap, ◌∙◌}
+use Rattle.std.proofs.Common.{◌≡◌, ◌-◌, length, sym, ap, ◌∙◌}
 use Rattle.std.specs.List.{slice_get}
-use Rattle.std.specs.Option.{option_eq}
 use Rattle.std.proofs.lemmas.Bool.{not-false}
-use Rattle.lock_command.specs.Name.{same_name}
 use Rattle.lock_table.proofs.Named.{last_is_listed}
 use Rattle.lock_table.proofs.purge.add_name.Goals as goal
 

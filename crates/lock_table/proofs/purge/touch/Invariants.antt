@@ -6,10 +6,10 @@ use Rattle.lock_table.specs.Locks.{is_on}
 use Rattle.lock_table.proofs.purge.touch.Given as goal
 
 -- the locks and names so far, and those of the rest
-abbrev pub invariant-loop-record : goal.invariant-loop-record
-invariant-loop-record l = record {
-  count : l.count + length (filter (is_through l.host) (drop l.record-index l.locks)) ≡ length (filter (is_through l.host) l.locks);
-  names : (name : List ℕ) → (list_any (λ n. same_name n name) l.names.items || list_any (is_on name) (filter (is_through l.host) (drop l.record-index l.locks))) ≡ list_any (is_on name) (filter (is_through l.host) l.locks);
-  few : vec_len l.names ≤ l.record-index;
+abbrev pub invariant-loop-at : goal.invariant-loop-at
+invariant-loop-at l = record {
+  count : l.count + length (filter (is_through l.host) (drop l.at l.locks)) ≡ length (filter (is_through l.host) l.locks);
+  names : (name : List ℕ) → (list_any (λ n. same_name n name) l.names.items || list_any (is_on name) (filter (is_through l.host) (drop l.at l.locks))) ≡ list_any (is_on name) (filter (is_through l.host) l.locks);
+  few : vec_len l.names ≤ l.at;
   room : vec_capacity l.fn.names ≤ vec_capacity l.names;
 }

@@ -1,4 +1,4 @@
-use Rattle.std.proofs.Common.{◌≡◌, nat_lt, true, false, List, insert, None, sym, ap, subst, ◌∙◌, arith, rules}
+use Rattle.std.proofs.Common.{◌≡◌, nat_lt, true, false, List, insert, sym, ap, subst, ◌∙◌, rules}
 use Rattle.std.specs.List.{find}
 use Rattle.std.specs.List.Sorted.{IsPartitionPoint}
 use Rattle.lock_table.specs.declared.record.KnownClient.{KnownClient}

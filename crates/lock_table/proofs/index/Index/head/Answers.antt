@@ -1,4 +1,4 @@
-use Rattle.std.proofs.Common.{◌≡◌, List, Some, IfSome, sym, ap, subst, ◌∙◌}
+use Rattle.std.proofs.Common.{◌≡◌, List, Some, sym, ap, subst, ◌∙◌}
 use Rattle.lock_table.specs.declared.record.LockRecord.{LockRecord}
 use Rattle.lock_table.specs.Locks.{lock_in, head_of}
 use Rattle.lock_table.specs.Picture.{printed_cmp}
@@ -8,10 +8,10 @@ use Rattle.lock_table.proofs.index.Index.head.Goals as goal
 
 pub returns-clause-there : goal.returns-clause-there
 returns-clause-there c =
-    let xs = c.self.inside.printed.items in
-    let is : c.head.result ≡ head_of xs c.args.name = c.head.ensures ∙ ap (λ l. head_of l c.args.name) c.deref.ensures.value in
+    let xs = c.self.inside.printed in
+    let is : c.head.result ≡ head_of xs c.args.name = c.head.ensures in
     if_some c.head.result (λ r. lock_in c.args.self.now r.lock ≡ Some r) (λ r e.
     ap (λ l. lock_in l r.lock) (sym c.self.view_is) ∙ turn_by_number c.args.name xs r c.self.invariant.0.distinct (sym is ∙ e))
 
 pub returns-clause-printed : goal.returns-clause-printed
-returns-clause-printed c = subst (λ (l : List LockRecord). in_order printed_cmp l ≡ l) c.self.view_is (shown_sorted c.self.inside.printed.items c.self.invariant.0.sorted)
+returns-clause-printed c = subst (λ (l : List LockRecord). in_order printed_cmp l ≡ l) c.self.view_is (shown_sorted c.self.inside.printed c.self.invariant.0.sorted)

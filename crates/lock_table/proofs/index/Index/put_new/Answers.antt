@@ -1,4 +1,4 @@
-use Rattle.std.proofs.Common.{◌≡◌, ◌<◌, List, length, None, sym, ap, subst, ◌∙◌, arith, rules}
+use Rattle.std.proofs.Common.{◌≡◌, List, length, sym, ap, subst, ◌∙◌, arith}
 use Rattle.lock_table.specs.declared.record.LockRecord.{LockRecord}
 use Rattle.lock_table.specs.Indexed.{IsIndexed}
 use Rattle.lock_table.specs.Locks.{lock_in, without, put}
@@ -9,29 +9,30 @@ use Rattle.lock_table.proofs.index.Index.put_new.Goals as goal
 
 pub put_new-requires-clause-absent : goal.put_new-requires-clause-absent
 put_new-requires-clause-absent c =
-    numbers_find c.self.inside.printed.items c.self.inside.numbers.items c.self.invariant.0 c.args.new.lock
+    numbers_find c.self.inside.printed c.self.inside.numbers.items c.self.invariant.0 c.args.new.lock
     ∙ ap (λ l. lock_in l c.args.new.lock) c.self.view_is
     ∙ c.requires.absent
 
 pub put_new-requires-clause-room : goal.put_new-requires-clause-room
 put_new-requires-clause-room c =
-    let same = numbers_length c.self.inside.printed.items c.self.inside.numbers.items c.self.invariant.0 in
+    let same = numbers_length c.self.inside.printed c.self.inside.numbers.items c.self.invariant.0 in
     let here = ap length c.self.view_is in
     omega (arith, same, here, c.requires.room)
 
-placed_is : (c : goal.After-put_in) → c.put_in.new.printed.items ≡ placed printed_cmp c.args.new (without c.self.inside.printed.items c.args.new.lock)
-placed_is c = c.put_in.ensures.items ∙ ap (placed printed_cmp c.args.new) (sym (without_new c.self.inside.printed.items c.args.new.lock (ap (λ l. lock_in l c.args.new.lock) c.self.view_is ∙ c.requires.absent)))
+placed_is : (c : goal.After-put_in) → c.put_in.new.printed ≡ placed printed_cmp c.args.new (without c.self.inside.printed c.args.new.lock)
+placed_is c = c.put_in.ensures.items ∙ ap (placed printed_cmp c.args.new) (sym (without_new c.self.inside.printed c.args.new.lock (ap (λ l. lock_in l c.args.new.lock) c.self.view_is ∙ c.requires.absent)))
 
 pub invariant_of-self : goal.invariant_of-self
 invariant_of-self c =
     let here = ap length c.self.view_is in (
       subst (λ (l : List LockRecord). IsIndexed l c.put_new.new.numbers.items) (sym (placed_is c))
-          (indexed_put c.self.inside.printed.items c.self.inside.numbers.items c.self.invariant.0 c.args.new c.put_new.new.numbers.items c.put_new.ensures.rising c.put_new.ensures.alike),
-      omega (arith, here, c.requires.room, c.put_in.ensures.len),
-      omega (arith, c.put_in.ensures.room),
+          (indexed_put c.self.inside.printed c.self.inside.numbers.items c.self.invariant.0 c.args.new c.put_new.new.numbers.items c.put_new.ensures.rising c.put_new.ensures.alike),
       omega (arith, c.put_new.ensures.room),
     )
 
 pub returns : goal.returns
 returns c =
-    placed_is c ∙ sym (shown_put c.self.inside.printed.items c.args.new c.self.invariant.0.sorted) ∙ ap (λ l. in_order printed_cmp (put l c.args.new)) c.self.view_is
+    placed_is c ∙ sym (shown_put c.self.inside.printed c.args.new c.self.invariant.0.sorted) ∙ ap (λ l. in_order printed_cmp (put l c.args.new)) c.self.view_is
+
+pub put_in-requires-clause-room : goal.put_in-requires-clause-room
+put_in-requires-clause-room c = let here = ap length c.self.view_is in omega (arith, here, c.requires.room)

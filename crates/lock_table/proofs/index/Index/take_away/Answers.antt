@@ -1,25 +1,21 @@
-use Rattle.std.proofs.Common.{◌≡◌, List, not, Some, IsSome, refl, sym, ap, subst, ◌∙◌, arith, rules}
-use Rattle.lock_table.specs.declared.record.LockRecord.{LockRecord}
-use Rattle.lock_table.specs.Indexed.{IsIndexed}
-use Rattle.lock_table.specs.Locks.{is_lock, lock_in, without}
+use Rattle.std.proofs.Common.{◌≡◌, not, Some, refl, ap, ◌∙◌, arith}
+use Rattle.lock_table.specs.Locks.{is_lock, lock_in}
 use Rattle.lock_table.proofs.Shown.{indexed_filter, numbers_find, numbers_distinct}
 use Rattle.lock_table.proofs.index.Index.take_away.Goals as goal
 
 pub take_away-requires-clause-distinct : goal.take_away-requires-clause-distinct
-take_away-requires-clause-distinct c = numbers_distinct c.self.inside.printed.items c.self.inside.numbers.items c.self.invariant.0
+take_away-requires-clause-distinct c = numbers_distinct c.self.inside.printed c.self.inside.numbers.items c.self.invariant.0
 
 pub take_away-requires-clause-there : goal.take_away-requires-clause-there
 take_away-requires-clause-there c =
     let own = c.args.own in
     let there : lock_in c.self.inside.numbers.items own.lock ≡ Some own =
-    numbers_find c.self.inside.printed.items c.self.inside.numbers.items c.self.invariant.0 own.lock ∙ ap (λ l. lock_in l own.lock) c.self.view_is ∙ c.requires in
+    numbers_find c.self.inside.printed c.self.inside.numbers.items c.self.invariant.0 own.lock ∙ ap (λ l. lock_in l own.lock) c.self.view_is ∙ c.requires in
     rw there refl
 
 pub invariant_of-self : goal.invariant_of-self
 invariant_of-self c = (
   rw (c.take_out.ensures.items, c.take_away.ensures.items)
-      (indexed_filter c.self.inside.printed.items c.self.inside.numbers.items c.self.invariant.0 (λ r. not (is_lock c.args.own.lock r))),
-  omega (arith, c.take_out.ensures.len),
-  omega (arith, c.take_out.ensures.room),
+      (indexed_filter c.self.inside.printed c.self.inside.numbers.items c.self.invariant.0 (λ r. not (is_lock c.args.own.lock r))),
   omega (arith, c.take_away.ensures.room),
 )

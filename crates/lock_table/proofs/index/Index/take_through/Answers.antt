@@ -1,19 +1,19 @@
-use Rattle.std.proofs.Common.{◌≡◌, List, not, sym, ap, subst, ◌∙◌, arith, rules}
+use Rattle.std.proofs.Common.{List, not, sym, subst, rules}
+use Rattle.std.specs.List.{filter}
 use Rattle.lock_table.specs.declared.record.LockRecord.{LockRecord}
 use Rattle.lock_table.specs.Apply.{is_through}
 use Rattle.lock_table.specs.Indexed.{IsIndexed}
-use Rattle.lock_table.specs.Picture.{printed_cmp}
-use Rattle.lock_table.specs.Placed.{in_order}
 use Rattle.lock_table.proofs.Shown.{indexed_filter, shown_sorted}
 use Rattle.lock_table.proofs.index.Index.take_through.Goals as goal
 
-kept : (c : goal.After-keep_others-2) → IsIndexed c.keep_others-2.new.records.items c.keep_others.new.records.items
+kept : (c : goal.After-take_through) → IsIndexed c.take_through.new.printed c.keep_others.new.records.items
 kept c =
-    rw (c.keep_others-2.ensures.items, c.keep_others.ensures.items)
-    (indexed_filter c.self.inside.printed.items c.self.inside.numbers.items c.self.invariant.0 (λ r. not (is_through c.args.host r)))
+    let fact = indexed_filter c.self.inside.printed c.self.inside.numbers.items c.self.invariant.0 (λ r. not (is_through c.args.host r)) in
+    subst (λ (l : List LockRecord). IsIndexed l c.keep_others.new.records.items) (sym c.take_through.ensures.items)
+    (subst (λ (l : List LockRecord). IsIndexed (filter (λ r. not (is_through c.args.host r)) c.self.inside.printed) l) (sym c.keep_others.ensures.items) fact)
 
 pub invariant_of-self : goal.invariant_of-self
-invariant_of-self c = (kept c, search rules, search rules, search rules)
+invariant_of-self c = (kept c, search rules)
 
 pub returns-clause-printed : goal.returns-clause-printed
-returns-clause-printed c = shown_sorted c.keep_others-2.new.records.items (kept c).sorted
+returns-clause-printed c = shown_sorted c.take_through.new.printed (kept c).sorted

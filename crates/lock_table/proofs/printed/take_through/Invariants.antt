@@ -1,0 +1,11 @@
+use Rattle.std.proofs.Common.{◌≡◌, ◌≤◌, not, length}
+use Rattle.lock_table.specs.Apply.{is_through}
+use Rattle.lock_table.proofs.Partly.{partly}
+use Rattle.lock_table.proofs.printed.take_through.Given as goal
+
+-- of what is behind is left what has to be
+abbrev pub invariant-loop-at : goal.invariant-loop-at
+invariant-loop-at l = (l.printed ≡ partly (λ r. not (is_through l.host r)) l.initial.printed l.at) × (l.at ≤ length l.initial.printed)
+
+abbrev pub decreases-loop-at : goal.decreases-loop-at
+decreases-loop-at l = l.at

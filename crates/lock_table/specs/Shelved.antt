@@ -1,0 +1,30 @@
+-- Locks at places that they keep, and the order in which they stand.
+use Rattle.std.specs.Prelude.{◌≡◌, ℕ, ◌+◌, ◌≤◌, ◌==◌, nat_le, cond, List, [], map, filter, length, slice_index_or}
+use Rattle.lock_modes.specs.declared.mode.Mode.TheVariants.{Null}
+use Rattle.lock_table.specs.declared.record.LockRecord.{LockRecord}
+use Rattle.lock_table.specs.declared.record.LockState.TheVariants.{Waiting}
+
+-- what stands behind the last place
+abbrev pub no_lock : LockRecord
+no_lock = record { lock = 0; client = 0; host = 0; name = []; state = Waiting Null }
+
+-- the lock at a place
+abbrev pub at_place : List LockRecord → ℕ → LockRecord
+at_place records place = slice_index_or records place no_lock
+
+-- the locks at several places
+abbrev pub at_places : List LockRecord → List ℕ → List LockRecord
+at_places records places = map (at_place records) places
+
+-- how often a place is listed
+abbrev pub times : ℕ → List ℕ → ℕ
+times place places = length (filter (λ p. p == place) places)
+
+-- how often a place is given up, or behind the last
+abbrev pub idle : List LockRecord → List ℕ → ℕ → ℕ
+idle records free place = times place free + cond (nat_le (length records) place) 1 0
+
+-- each place is in the order once, or given up once, or behind the last
+pub record IsShelved (records : List LockRecord) (order free : List ℕ) : Type 0 where
+  pub apart : (place : ℕ) → times place order + idle records free place ≤ 1
+  pub all : length order + length free ≡ length records

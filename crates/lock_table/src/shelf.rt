@@ -1,0 +1,155 @@
+ghost use Rattle.std.specs.Prelude.{◌≡◌, ◌+◌, ◌<◌, ◌≤◌, ◌==◌, ℕ, [], IfOk, cond, length, insert, remove, slice_set, slice_index_or, vec_len, vec_capacity};
+ghost use Rattle.std.specs.List.{slice_get};
+ghost use Rattle.lock_table.specs.declared.record.LockRecord.{LockRecord};
+ghost use Rattle.lock_table.specs.State.{holds_against};
+ghost use Rattle.lock_table.specs.Shelved.{at_place, idle, times};
+
+use crate::bits::bits_against;
+use crate::locks::LOCKS;
+use crate::record::LockRecord;
+use lock_modes::Mode;
+use std::alloc::{AllocError, Global};
+use std::marker::Model;
+
+/// Locks in an order, each at a place that it keeps while others come and go. So no record is moved.
+#[derive(Drop)]
+pub struct Shelf {
+    /// By place. What stands at a free place means nothing.
+    records: Vec<LockRecord>,
+    /// The places in the order of their locks.
+    order: Vec<u8>,
+    /// The places that were given up.
+    free: Vec<u8>,
+    /// The bits of what the locks hold, in their order.
+    held: Vec<u8>,
+}
+
+impl Model for Shelf {
+    ghost use Rattle.std.specs.Prelude.{List, ◌≡◌, ◌≤◌, vec_len, vec_capacity};
+    ghost use Rattle.lock_table.specs.Bits.{held_bits};
+    ghost use Rattle.lock_table.specs.declared.locks.TheConstants.{LOCKS};
+    ghost use Rattle.lock_table.specs.declared.record.LockRecord.{LockRecord};
+    ghost use Rattle.lock_table.specs.Shelved.{IsShelved, at_places};
+
+    ghost Value = { List LockRecord };
+
+    ghost view = { λ shelf. at_places shelf.records.items shelf.order.items };
+
+    ghost invariant = { λ shelf. IsShelved shelf.records.items shelf.order.items shelf.free.items × (vec_len shelf.records ≤ LOCKS) × (LOCKS ≤ vec_capacity shelf.records) × (LOCKS ≤ vec_capacity shelf.order) × (LOCKS ≤ vec_capacity shelf.free) × (LOCKS ≤ vec_capacity shelf.held) × (shelf.held.items ≡ held_bits (at_places shelf.records.items shelf.order.items)) };
+}
+
+impl Shelf {
+    /// No locks, and room for the most that there may be.
+    pub fn new(alloc: Global) -> Result<Self, AllocError>
+        ensures { IfOk result (λ shelf. shelf ≡ []) }
+    {
+        Ok(Shelf {
+            records: Vec::with_capacity(alloc, LOCKS)?,
+            order: Vec::with_capacity(alloc, LOCKS)?,
+            free: Vec::with_capacity(alloc, LOCKS)?,
+            held: Vec::with_capacity(alloc, LOCKS)?,
+        })
+    }
+
+    pub fn len(&self) -> usize
+        ensures len { result ≡ length self.now }
+        ensures few { result ≤ LOCKS }
+    {
+        self.order.len()
+    }
+
+    /// The lock that stands so far behind the first.
+    pub fn get(&self, at: usize) -> &LockRecord
+        requires { at < length self.now }
+        ensures lock { result.now ≡ slice_index_or self.now at result.now }
+        ensures few { at < LOCKS }
+    {
+        &self.records[usize::from(self.order[at])]
+    }
+
+    /// The same, if there is one.
+    pub fn lock_at(&self, at: usize) -> Option<LockRecord>
+        ensures { result ≡ slice_get self.now at }
+    {
+        if at < self.len() {
+            Some(*self.get(at))
+        } else {
+            None
+        }
+    }
+
+    /// Whether a lock holds a mode that conflicts with the wanted one.
+    pub fn holds_against(&self, at: usize, wanted: Mode) -> bool
+        requires { at < length self.now }
+        ensures { (d : LockRecord) → result ≡ holds_against wanted (slice_index_or self.now at d).state }
+    {
+        self.held[at] & bits_against(wanted) != 0
+    }
+
+    /// Lists the locks.
+    pub fn list(&self, into: &mut Vec<LockRecord>)
+        requires empty { into.old.items ≡ [] }
+        requires room { LOCKS ≤ vec_capacity into.old }
+        ensures locks { into.new.items ≡ self.now }
+        ensures room { vec_capacity into.old ≤ vec_capacity into.new }
+    {
+        for at in 0..self.len() {
+            let _ = into.push(*self.get(at));
+        }
+    }
+
+    /// Puts a lock in.
+    pub fn insert(&mut self, at: usize, new: LockRecord)
+        requires inside { at ≤ length self.old }
+        requires room { length self.old < LOCKS }
+        ensures { self.new ≡ insert self.old at new }
+    {
+        let place = take_place(&mut self.records, &mut self.free, new);
+        let _ = self.order.insert(at, place);
+        let _ = self.held.insert(at, new.state.held_bit());
+    }
+
+    /// Takes a lock out.
+    pub fn remove(&mut self, at: usize)
+        requires { at < length self.old }
+        ensures locks { self.new ≡ remove self.old at }
+        ensures room { length self.new < LOCKS }
+    {
+        let place = self.order.remove(at);
+        let _ = self.free.push(place);
+        let _ = self.held.remove(at);
+    }
+
+    /// Puts a lock in place of another.
+    pub fn set(&mut self, at: usize, new: LockRecord)
+        requires { at < length self.old }
+        ensures { self.new ≡ slice_set self.old at new }
+    {
+        let place = usize::from(self.order[at]);
+        self.records[place] = new;
+        self.held[at] = new.state.held_bit();
+    }
+}
+
+/// Puts a record at a place where none stands.
+fn take_place(records: &mut Vec<LockRecord>, free: &mut Vec<u8>, new: LockRecord) -> u8
+    requires few { vec_len records.old ≤ LOCKS }
+    requires room { vec_len records.old < LOCKS + vec_len free.old }
+    requires reserved { LOCKS ≤ vec_capacity records.old }
+    requires below { (place : ℕ) → 1 ≤ times place free.old.items → place < vec_len records.old }
+    ensures own { at_place records.new.items result ≡ new }
+    ensures others { (place : ℕ) → idle records.old.items free.old.items place ≡ 0 → at_place records.new.items place ≡ at_place records.old.items place }
+    ensures idle { (place : ℕ) → idle records.old.items free.old.items place ≡ idle records.new.items free.new.items place + cond (result == place) 1 0 }
+    ensures len { vec_len records.new + vec_len free.old ≡ vec_len records.old + vec_len free.new + 1 }
+    ensures few { vec_len records.new ≤ LOCKS }
+    ensures reserved { LOCKS ≤ vec_capacity records.new }
+    ensures free_reserved { vec_capacity free.new ≡ vec_capacity free.old }
+{
+    if let Some(place) = free.pop() {
+        records[usize::from(place)] = new;
+        return place;
+    }
+    let place = records.len() as u8;
+    let _ = records.push(new);
+    place
+}
