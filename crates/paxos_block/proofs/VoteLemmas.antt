@@ -1,12 +1,12 @@
 -- The ballot that a host takes, and what it may say at it.
-use Rattle.std.proofs.Common.{◌≡◌, ◌+◌, ◌^◌, ◌<◌, ◌≤◌, ℕ, zero, suc, Bool, true, false, List, nat_lt, nat_le, Option, Some, None, refl, sym, ap, subst, inl, inr, arith}
+use Rattle.std.proofs.Common.{◌≡◌, ◌+◌, ◌<◌, ◌≤◌, ℕ, zero, suc, Bool, true, false, List, nat_lt, nat_le, Option, Some, None, refl, sym, ap, subst, inl, inr, arith}
 use Rattle.std.proofs.lemmas.Bool.Decides.{nat_tests}
 use Rattle.std.proofs.lemmas.Bool.{cases_lt}
 use Rattle.torn_block.specs.declared.layout.TheConstants.{HOSTS, LAST_SEQUENCE}
 use Rattle.torn_block.specs.Block.{next_sequence_at}
 use Rattle.paxos_block.specs.declared.ballot.TheConstants.{LAST_BALLOT}
 use Rattle.paxos_block.specs.declared.block.PBlock.{PBlock}
-use Rattle.paxos_block.specs.Ballot.{owner_of, IsBallotOf, IsLeastAbove, HasNoneAbove}
+use Rattle.paxos_block.specs.Ballot.{owner_of, IsBallotOf}
 use Rattle.paxos_block.specs.Row.{IsSaid, sequence_in}
 use Rattle.paxos_block.specs.Saying.{IsVoteOf, MaySay}
 use Rattle.paxos_block.specs.Votes.{ballot_above, greatest, later_of}
@@ -28,24 +28,6 @@ owned_by host n false below is = rw is (omega arith)
 
 pub owned : (host n : ℕ) → host < HOSTS → owner_of (ballot_above host n) ≡ host
 owned host n below = owned_by host n (nat_lt n (host + 1)) below refl
-
-least_by : (host n other : ℕ) (b : Bool) → nat_lt n (host + 1) ≡ b → IsBallotOf host other → n < other → ballot_above host n ≤ other
-least_by host n other true is ballot above = rw is (omega (arith, ballot.positive, ballot.owned))
-least_by host n other false is ballot above = let far : host + 1 ≤ n = grind (arith, nat_tests) in rw is (omega (arith, far, ballot.positive, ballot.owned))
-
--- no ballot of the host lies between
-pub least : (host n other : ℕ) → IsBallotOf host other → n < other → ballot_above host n ≤ other
-least host n other ballot above = least_by host n other (nat_lt n (host + 1)) refl ballot above
-
-pub least_above : (host n : ℕ) → IsLeastAbove host n (ballot_above host n)
-least_above host n = record { above = above host n; least = λ other ballot past. least host n other ballot past }
-
--- where the least is greater than any ballot there is none
-pub none_above : (host n : ℕ) → 2 ^ 62 < ballot_above host n → HasNoneAbove host n
-none_above host n spent other ballot = elim (cases_lt n other) [
-  | inl past ↦ absurd (omega (arith, least host n other ballot past, ballot.within, spent))
-  | inr low ↦ low
-]
 
 pub not_spent : (b : ℕ) → nat_lt LAST_BALLOT b ≡ false → b ≤ LAST_BALLOT
 not_spent b fits = grind (arith, nat_tests)
