@@ -15,6 +15,7 @@ mod learn;
 mod overlap;
 mod run;
 mod slow_disk;
+mod tables;
 mod threads;
 mod timing;
 mod waits;
@@ -25,11 +26,13 @@ use failure::Failure;
 use run::{print_threads, run_all};
 use std::env;
 use std::process::ExitCode;
+use tables::print_tables;
 use words::{Task, task_of};
 
 fn main(rt: HostRuntime) -> ExitCode {
     let ended = match asked(&rt) {
         Ok(Task::Threads) => print_threads(&rt),
+        Ok(Task::Tables) => print_tables(&rt),
         Ok(task) => run_all(&rt, task),
         Err(failure) => Err(failure),
     };

@@ -63,7 +63,7 @@ fn run_first_path<R: Print + Wait + Clock + AllocGlobal>(
             println!(rt; "first_path/second {rate}")?;
             Ok(Some(timing))
         }
-        Task::Threads => Ok(None),
+        Task::Threads | Task::Tables => Ok(None),
     }
 }
 
@@ -110,7 +110,7 @@ fn run_one<R: Print + Clock + AllocGlobal, B: Benchmark>(
             println!(rt; "{name} {timing}")?;
             Ok(Some(timing))
         }
-        Task::Threads => Ok(None),
+        Task::Threads | Task::Tables => Ok(None),
     }
 }
 

@@ -11,6 +11,8 @@ pub enum Task {
     Measure,
     /// Tell how much host threads get done at the same time.
     Threads,
+    /// Tell what the commands of each kind take.
+    Tables,
 }
 
 /// The task that the words name.
@@ -19,6 +21,7 @@ pub fn task_of(words: &[&str]) -> Result<Task, Failure> {
         [] => Ok(Task::Check),
         ["times"] => Ok(Task::Measure),
         ["threads"] => Ok(Task::Threads),
+        ["tables"] => Ok(Task::Tables),
         _ => Err(Failure::Usage),
     }
 }

@@ -1,0 +1,184 @@
+use crate::failure::Failure;
+use lock_command::{
+    Action, ClientNumber, Command, HostNumber, LockName, LockNumber, RequestNumber,
+};
+use lock_modes::Mode;
+use lock_table::{Reply, Table};
+use std::alloc::{AllocGlobal, Global};
+use std::time::{Clock, Instant};
+
+/// How many clients there are. Each command of a kind comes from one of them, all eight after one another.
+const CLIENTS: usize = 8;
+
+/// How often all kinds of commands come in turn.
+const TURNS: u64 = 300;
+
+/// How often they do so in a table made anew. The shortest counts.
+const ROUNDS: u32 = 30;
+
+/// The kinds of commands. After each turn the table is as before.
+#[derive(Clone, Copy, Debug, PartialEq, Eq)]
+enum Kind {
+    Enqueue,
+    Convert,
+    Status,
+    Release,
+    /// The enqueue of a lock that has to wait.
+    Wait,
+    /// Of a lock that waits.
+    Cancel,
+    /// An enqueue through the host that is purged then.
+    Through,
+    /// Of the eight locks that were enqueued through a host.
+    Purge,
+}
+
+/// In the order in which they come.
+const KINDS: [(Kind, &str); 8] = [
+    (Kind::Enqueue, "enqueue"),
+    (Kind::Convert, "convert"),
+    (Kind::Status, "status"),
+    (Kind::Release, "release"),
+    (Kind::Wait, "wait"),
+    (Kind::Cancel, "cancel"),
+    (Kind::Through, "through"),
+    (Kind::Purge, "purge"),
+];
+
+/// A table in which so many locks stand all the while, on one name or each on a name of its own.
+#[derive(Clone, Copy, Debug)]
+struct Shape {
+    standing: u16,
+    one_name: bool,
+}
+
+/// Prints what a command of each kind takes in tables of some 8 and 256 locks: `KIND_LOCKS_NAMES` and nanoseconds.
+pub fn print_tables<R: Print + Clock + AllocGlobal>(rt: &R) -> Result<(), Failure> {
+    for (locks, standing) in [(8, 4), (256, 248)] {
+        for (names, one_name) in [("one", true), ("own", false)] {
+            let best = best_of(rt, rt.alloc(), Shape { standing, one_name })?;
+            for at in 0..KINDS.len() {
+                let (kind, name) = KINDS[at];
+                let count = if kind == Kind::Purge {
+                    TURNS
+                } else {
+                    TURNS * CLIENTS as u64
+                };
+                let each = best[at] / count;
+                let tenth = best[at].saturating_mul(10) / count % 10;
+                println!(rt; "{name}_{locks}_{names} {each}.{tenth}")?;
+            }
+        }
+    }
+    Ok(())
+}
+
+/// The shortest nanoseconds that the commands of each kind take in all turns.
+fn best_of<R: Clock>(rt: &R, alloc: Global, shape: Shape) -> Result<[u64; 8], Failure> {
+    let mut best = [u64::MAX; 8];
+    for _ in 0..ROUNDS {
+        let mut table = standing(alloc, shape)?;
+        let mut spent = [0u64; 8];
+        for turn in 0..TURNS {
+            for at in 0..KINDS.len() {
+                let taken = together(rt, &mut table, shape, KINDS[at].0, turn * 8 + at as u64)?;
+                spent[at] = spent[at].saturating_add(taken);
+            }
+        }
+        for at in 0..KINDS.len() {
+            best[at] = best[at].min(spent[at]);
+        }
+    }
+    Ok(best)
+}
+
+/// A table with the locks that stand all the while.
+fn standing(alloc: Global, shape: Shape) -> Result<Table, Failure> {
+    let mut table = Table::new(alloc)?;
+    for place in 0..shape.standing {
+        let client = CLIENTS as u8;
+        let Some(command) = command_at(shape, Kind::Enqueue, client, place, u64::from(place)) else {
+            return Err(Failure::Wrong);
+        };
+        if table.apply(&command) != Reply::Granted {
+            return Err(Failure::Wrong);
+        }
+    }
+    Ok(table)
+}
+
+/// The nanoseconds that the eight commands of a kind take, or the one purge.
+fn together<R: Clock>(
+    rt: &R,
+    table: &mut Table,
+    shape: Shape,
+    kind: Kind,
+    request: u64,
+) -> Result<u64, Failure> {
+    let Some(first) = command_at(shape, kind, 0, shape.standing, request) else {
+        return Err(Failure::Wrong);
+    };
+    let mut commands = [first; CLIENTS];
+    for at in 1..CLIENTS {
+        let place = shape.standing.saturating_add(at as u16);
+        let Some(next) = command_at(shape, kind, at as u8, place, request) else {
+            return Err(Failure::Wrong);
+        };
+        commands[at] = next;
+    }
+    let few = if kind == Kind::Purge { 1 } else { CLIENTS };
+    let start = Instant::now(rt)?;
+    for command in &commands[..few] {
+        if let Reply::Refused(_) = table.apply(command) {
+            return Err(Failure::Wrong);
+        }
+    }
+    let taken = start.elapsed(rt)?;
+    Ok(u64::try_from(taken.as_nanos()).unwrap_or(u64::MAX))
+}
+
+/// The command of a kind for the lock at a place. The numbers of the locks do not rise as the places do.
+fn command_at(shape: Shape, kind: Kind, client: u8, place: u16, request: u64) -> Option<Command> {
+    let number = place.wrapping_mul(37) % 256;
+    let lock = LockNumber::new(number.saturating_add(1))?;
+    let free = name_at(shape, place)?;
+    let taken = name_at(shape, place % shape.standing.max(1))?;
+    let no_queue = false;
+    let (name, mode) = match kind {
+        Kind::Wait => (taken, Mode::Exclusive),
+        _ => (free, Mode::ConcurrentRead),
+    };
+    let action = match kind {
+        Kind::Enqueue | Kind::Wait | Kind::Through => Action::Enqueue {
+            lock,
+            name,
+            mode,
+            no_queue,
+        },
+        Kind::Convert => Action::Convert {
+            lock,
+            mode: Mode::ConcurrentWrite,
+            no_queue,
+        },
+        Kind::Status => Action::Status(lock),
+        Kind::Release => Action::Release(lock),
+        Kind::Cancel => Action::Cancel(lock),
+        Kind::Purge => Action::Purge(HostNumber::new(1)?),
+    };
+    Some(Command {
+        host: HostNumber::new(if kind == Kind::Through { 1 } else { 0 })?,
+        client: ClientNumber::new(client),
+        request: RequestNumber::new(request.saturating_add(1))?,
+        action,
+    })
+}
+
+/// The name of the lock at a place.
+fn name_at(shape: Shape, place: u16) -> Option<LockName> {
+    let at = if shape.one_name { 0 } else { place };
+    let mut text = *b"row-000";
+    text[4] = b'0' + (at / 100 % 10) as u8;
+    text[5] = b'0' + (at / 10 % 10) as u8;
+    text[6] = b'0' + (at % 10) as u8;
+    LockName::new(&text)
+}
