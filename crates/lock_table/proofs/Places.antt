@@ -111,30 +111,8 @@ shelved_insert records next order free left i q sound taken more inside = record
   all = omega (arith, sound.all, more, length-insert {X = ℕ} order i q inside);
 }
 
--- a lock in place of another
-pub shelved_set : (records : List LockRecord) (order free : List ℕ) (i : ℕ) (r : LockRecord) → IsShelved records order free → IsShelved (set records i r) order free
-shelved_set records order free i r sound =
-    let same : length (set records i r) ≡ length records = length-set records i r in
-    record {
-      apart = λ p. subst (λ (n : ℕ). times p order + (times p free + cond (nat_le n p) 1 0) ≤ 1) (sym same) (sound.apart p);
-      all = sound.all ∙ sym same;
-    }
-
 pub shown_insert : (records next : List LockRecord) (order free : List ℕ) (i q : ℕ) → IsShelved records order free → ((p : ℕ) → idle records free p ≡ 0 → at_place next p ≡ at_place records p)
     → at_places next (insert order i q) ≡ insert (at_places records order) i (at_place next q)
 shown_insert records next order free i q sound others =
     map-insert (at_place next) order i q
     ∙ ap (λ l. insert l i (at_place next q)) (at_places-same next records order (λ p listed. others p (omega (arith, sound.apart p, listed))))
-
-pub at_places-set : (records : List LockRecord) (order : List ℕ) (i d : ℕ) (r : LockRecord) → i < length order → get_or order i d < length records → times (get_or order i d) order ≤ 1
-    → at_places (set records (get_or order i d) r) order ≡ set (at_places records order) i r
-at_places-set records [] i d r inside there once = absurd (omega (arith, inside))
-at_places-set records (q ∷ order) zero d r inside there once =
-    let none : times q order ≡ 0 = omega (arith, once, times-cons q q order, times-itself q) in
-    (λ i. get_or-set_same records q r no_lock there i ∷ at_places-same (set records q r) records order (λ p listed. get_or-set_other records q p r no_lock (λ e. absurd (omega (arith, listed, none, ap (λ k. times k order) e)))) i)
-at_places-set records (q ∷ order) (suc i) d r inside there once =
-    let p = get_or order i d in
-    let few : times p order ≤ 1 = omega (arith, once, times-cons p q order) in
-    let listed : 1 ≤ times p order = omega (arith, times-remove p order i d (omega (arith, inside)), times-itself p) in
-    let other : q ≢ p = λ e. absurd (omega (arith, once, times-cons p q order, listed, ap {B = ℕ} (λ k. cond (k == p) 1 0) e, times-itself p)) in
-    (λ j. get_or-set_other records p q r no_lock other j ∷ at_places-set records order i d r (omega (arith, inside)) there few j)

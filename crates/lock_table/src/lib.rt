@@ -4,6 +4,7 @@
 mod bits;
 mod clients;
 mod index;
+mod keys;
 mod laws;
 mod locks;
 mod no_memory;

@@ -7,6 +7,7 @@ ghost use Rattle.lock_table.specs.Locks.{lock_in, without, head_of, admits, IsDi
 ghost use Rattle.lock_table.specs.Picture.{printed_cmp};
 ghost use Rattle.lock_table.specs.Placed.{placed};
 
+use crate::keys::key_of;
 use crate::locks::LOCKS;
 use crate::record::LockRecord;
 use crate::shelf::Shelf;
@@ -15,12 +16,12 @@ use lock_modes::Mode;
 
 /// How many locks there are in front of the first that fails a test, where all behind it fail too.
 macro_rules! locks_while {
-    ($printed:expr, $record:ident => $test:expr) => {{
+    ($printed:expr, $at:ident => $test:expr) => {{
         let mut from = 0;
         let mut size = $printed.len();
         while size > 0 {
             let half = size - size / 2;
-            let $record = $printed.get(from + half - 1);
+            let $at = from + half - 1;
             if $test {
                 from += half;
             }
@@ -36,7 +37,7 @@ fn joining_place(printed: &Shelf, new: &LockRecord) -> usize
     ensures bound { result ≤ length printed.now }
     ensures place { insert printed.now result new.now ≡ placed printed_cmp new.now printed.now }
 {
-    locks_while!(printed, record => !new.stands_before(record))
+    locks_while!(printed, at => !new.stands_before(printed.get(at)))
 }
 
 /// How many locks are printed before one.
@@ -45,7 +46,7 @@ fn locks_before(printed: &Shelf, own: &LockRecord) -> usize
     ensures bound { result ≤ length printed.now }
     ensures point { IsPartitionPoint (λ r. is_lt (printed_cmp r own.now) ≡ true) (λ r. is_lt (printed_cmp r own.now) ≡ false) printed.now result }
 {
-    locks_while!(printed, record => record.stands_before(own))
+    locks_while!(printed, at => printed.get(at).stands_before(own))
 }
 
 /// Where the record of a lock stands. Of those that queue, all in front of it are looked at.
@@ -70,7 +71,8 @@ fn locks_before_rank(printed: &Shelf, name: LockName, rank: u8) -> usize
     ensures bound { result ≤ length printed.now }
     ensures point { IsPartitionPoint (λ r. stands_before_rank name rank r ≡ true) (λ r. stands_before_rank name rank r ≡ false) printed.now result }
 {
-    locks_while!(printed, record => record.stands_before_rank(name, rank))
+    let key = key_of(&name, rank);
+    locks_while!(printed, at => printed.key(at) < key)
 }
 
 /// The lock whose turn it is on a name: the first that converts, else the first that waits.

@@ -1,10 +1,13 @@
-ghost use Rattle.std.specs.Prelude.{◌≡◌, ◌+◌, ◌<◌, ◌≤◌, ◌==◌, ℕ, [], IfOk, cond, length, insert, remove, slice_set, slice_index_or, vec_len, vec_capacity};
+ghost use Rattle.std.specs.Prelude.{◌≡◌, ◌+◌, ◌<◌, ◌≤◌, ◌==◌, ℕ, [], IfOk, cond, length, insert, remove, slice_index_or, vec_len, vec_capacity};
 ghost use Rattle.std.specs.List.{slice_get};
+ghost use Rattle.lock_command.specs.Name.{IsName};
 ghost use Rattle.lock_table.specs.declared.record.LockRecord.{LockRecord};
 ghost use Rattle.lock_table.specs.State.{holds_against};
+ghost use Rattle.lock_table.specs.Keys.{lock_key};
 ghost use Rattle.lock_table.specs.Shelved.{at_place, idle, times};
 
 use crate::bits::bits_against;
+use crate::keys::key_of;
 use crate::locks::LOCKS;
 use crate::record::LockRecord;
 use lock_modes::Mode;
@@ -22,11 +25,14 @@ pub struct Shelf {
     free: Vec<u8>,
     /// The bits of what the locks hold, in their order.
     held: Vec<u8>,
+    /// By place, what the names and ranks of the locks are found by.
+    keys: Vec<u128>,
 }
 
 impl Model for Shelf {
     ghost use Rattle.std.specs.Prelude.{List, ◌≡◌, ◌≤◌, vec_len, vec_capacity};
     ghost use Rattle.lock_table.specs.Bits.{held_bits};
+    ghost use Rattle.lock_table.specs.Keys.{IsKeyed};
     ghost use Rattle.lock_table.specs.declared.locks.TheConstants.{LOCKS};
     ghost use Rattle.lock_table.specs.declared.record.LockRecord.{LockRecord};
     ghost use Rattle.lock_table.specs.Shelved.{IsShelved, at_places};
@@ -35,7 +41,7 @@ impl Model for Shelf {
 
     ghost view = { λ shelf. at_places shelf.records.items shelf.order.items };
 
-    ghost invariant = { λ shelf. IsShelved shelf.records.items shelf.order.items shelf.free.items × (vec_len shelf.records ≤ LOCKS) × (LOCKS ≤ vec_capacity shelf.records) × (LOCKS ≤ vec_capacity shelf.order) × (LOCKS ≤ vec_capacity shelf.free) × (LOCKS ≤ vec_capacity shelf.held) × (shelf.held.items ≡ held_bits (at_places shelf.records.items shelf.order.items)) };
+    ghost invariant = { λ shelf. IsShelved shelf.records.items shelf.order.items shelf.free.items × (vec_len shelf.records ≤ LOCKS) × (LOCKS ≤ vec_capacity shelf.records) × (LOCKS ≤ vec_capacity shelf.order) × (LOCKS ≤ vec_capacity shelf.free) × (LOCKS ≤ vec_capacity shelf.held) × (shelf.held.items ≡ held_bits (at_places shelf.records.items shelf.order.items)) × (vec_len shelf.keys ≡ LOCKS) × IsKeyed shelf.records.items shelf.order.items shelf.keys.items };
 }
 
 impl Shelf {
@@ -48,6 +54,7 @@ impl Shelf {
             order: Vec::with_capacity(alloc, LOCKS)?,
             free: Vec::with_capacity(alloc, LOCKS)?,
             held: Vec::with_capacity(alloc, LOCKS)?,
+            keys: Vec::from_elem(alloc, 0, LOCKS)?,
         })
     }
 
@@ -78,6 +85,15 @@ impl Shelf {
         }
     }
 
+    /// What a lock's name and rank are found by.
+    pub fn key(&self, at: usize) -> u128
+        requires { at < length self.now }
+        ensures key { (d : LockRecord) → result ≡ lock_key (slice_index_or self.now at d) }
+        ensures name { (d : LockRecord) → IsName (slice_index_or self.now at d).name }
+    {
+        self.keys[usize::from(self.order[at])]
+    }
+
     /// Whether a lock holds a mode that conflicts with the wanted one.
     pub fn holds_against(&self, at: usize, wanted: Mode) -> bool
         requires { at < length self.now }
@@ -104,7 +120,9 @@ impl Shelf {
         requires room { length self.old < LOCKS }
         ensures { self.new ≡ insert self.old at new }
     {
+        let key = key_of(&new.name, new.state.rank());
         let place = take_place(&mut self.records, &mut self.free, new);
+        self.keys[usize::from(place)] = key;
         let _ = self.order.insert(at, place);
         let _ = self.held.insert(at, new.state.held_bit());
     }
@@ -118,16 +136,6 @@ impl Shelf {
         let place = self.order.remove(at);
         let _ = self.free.push(place);
         let _ = self.held.remove(at);
-    }
-
-    /// Puts a lock in place of another.
-    pub fn set(&mut self, at: usize, new: LockRecord)
-        requires { at < length self.old }
-        ensures { self.new ≡ slice_set self.old at new }
-    {
-        let place = usize::from(self.order[at]);
-        self.records[place] = new;
-        self.held[at] = new.state.held_bit();
     }
 }
 

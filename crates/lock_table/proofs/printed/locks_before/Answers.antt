@@ -9,6 +9,6 @@ use Rattle.lock_table.proofs.printed.locks_before.Goals.{then-stands_before, els
 pub loop-size-preserved : goal.loop-size-preserved
 loop-size-preserved c =
     elim c.if-stands_before.branch [
-      | then-stands_before w ↦ halved_passed (λ r. is_lt (printed_cmp r c.args.own.now)) c.args.printed.now (partitioned printed_cmp printed_order (λ r. is_lt (printed_cmp r c.args.own.now)) (λ x y. below_down printed_cmp printed_order c.args.own.now x y) c.args.printed.now c.requires) c.loop-size.from c.loop-size.size c.loop-size.invariant c.loop-size-test.true c.get-record.result.now c.get-record.ensures.lock c.if-stands_before.from (sym w.if-stands_before.ensures) w.from-is
-      | else-stands_before w ↦ halved_failed (λ r. is_lt (printed_cmp r c.args.own.now)) c.args.printed.now (partitioned printed_cmp printed_order (λ r. is_lt (printed_cmp r c.args.own.now)) (λ x y. below_down printed_cmp printed_order c.args.own.now x y) c.args.printed.now c.requires) c.loop-size.from c.loop-size.size c.loop-size.invariant c.loop-size-test.true c.get-record.result.now c.get-record.ensures.lock c.if-stands_before.from (sym w.if-stands_before.ensures) w.from-is
+      | then-stands_before w ↦ halved_passed (λ r. is_lt (printed_cmp r c.args.own.now)) c.args.printed.now (partitioned printed_cmp printed_order (λ r. is_lt (printed_cmp r c.args.own.now)) (λ x y. below_down printed_cmp printed_order c.args.own.now x y) c.args.printed.now c.requires) c.loop-size.from c.loop-size.size c.loop-size.invariant c.loop-size-test.true c.get.result.now c.get.ensures.lock c.if-stands_before.from (sym w.if-stands_before.ensures) w.from-is
+      | else-stands_before w ↦ halved_failed (λ r. is_lt (printed_cmp r c.args.own.now)) c.args.printed.now (partitioned printed_cmp printed_order (λ r. is_lt (printed_cmp r c.args.own.now)) (λ x y. below_down printed_cmp printed_order c.args.own.now x y) c.args.printed.now c.requires) c.loop-size.from c.loop-size.size c.loop-size.invariant c.loop-size-test.true c.get.result.now c.get.ensures.lock c.if-stands_before.from (sym w.if-stands_before.ensures) w.from-is
     ]

@@ -1,0 +1,146 @@
+-- Names as numbers that rise as the names do.
+use Rattle.std.proofs.Common.{◌≡◌, ◌≤◌, ◌<◌, ◌+◌, ◌*◌, ℕ, zero, suc, Bool, true, false, cond, ◌==◌, ◌&&◌, nat_le, nat_lt, List, [], ◌∷◌, length, get_or, refl, sym, ap, ◌∙◌, inl, inr, arith}
+use Rattle.std.specs.List.{list_all}
+use Rattle.std.specs.Ordering.{is_lt, nat_cmp, ordering_then}
+use Rattle.std.specs.Cmp.Lexicographic.{slice_cmp}
+use Rattle.std.specs.declared.cmp.Ordering.{Ordering}
+use Rattle.std.specs.declared.cmp.Ordering.TheVariants.{Less, Equal, Greater}
+use Rattle.std.proofs.lemmas.Bool.{cases_lt, and_parts, leb-true, lt-ltb, le-ltb, eq-eqb, ne_eqb}
+use Rattle.std.proofs.Math.Nat.{mul-le-mul_left}
+use Rattle.lock_command.specs.Name.{is_name_byte, IsName}
+use Rattle.lock_table.specs.declared.record.LockRecord.{LockRecord}
+use Rattle.lock_table.specs.declared.record.LockState.{LockState}
+use Rattle.lock_table.specs.declared.record.LockState.TheVariants.{Granted, Converting, Waiting}
+use Rattle.lock_table.specs.Picture.{rank_of}
+use Rattle.lock_table.specs.Indexed.{stands_before_rank}
+use Rattle.lock_table.specs.Keys.{spelled, key_of, lock_key}
+use Rattle.lock_table.proofs.Keyed.{is_lt_nat}
+
+-- what a digit in front of so many others counts
+abbrev pub weight : ℕ → ℕ
+weight zero = 1
+weight (suc n) = weight n * 256
+
+weight_some : (n : ℕ) → 1 ≤ weight n
+weight_some zero = omega arith
+weight_some (suc n) = let some = weight_some n in omega (arith, some)
+
+pub weight_rises : (n m : ℕ) → n ≤ m → weight n ≤ weight m
+weight_rises n zero below = let none : n ≡ zero = omega (arith, below) in omega (arith, ap {B = ℕ} weight none)
+weight_rises n (suc m) below =
+    elim (cases_lt m n) as (λ w. weight n ≤ weight (suc m)) [
+      | inl above ↦ let same : n ≡ suc m = omega (arith, above, below) in omega (arith, ap {B = ℕ} weight same)
+      | inr under ↦ let rest = weight_rises n m under in omega (arith, rest)
+    ]
+
+less : (a b : ℕ) → a < b → nat_cmp a b ≡ Less
+less a b h = ap (λ t. cond t Less (cond (a == b) Equal Greater)) (lt-ltb a b h)
+
+equal : (a b : ℕ) → a ≡ b → nat_cmp a b ≡ Equal
+equal a b h = (λ i. cond (le-ltb a b (omega (arith, h)) i) Less (cond (eq-eqb a b h i) Equal Greater))
+
+greater : (a b : ℕ) → b < a → nat_cmp a b ≡ Greater
+greater a b h = (λ i. cond (le-ltb a b (omega (arith, h)) i) Less (cond (ne_eqb a b (λ e. absurd (omega (arith, h, e))) i) Equal Greater))
+
+second : (a b r s : ℕ) → a ≡ b → nat_cmp (a + r) (b + s) ≡ nat_cmp r s
+second a b r s same =
+    elim (cases_lt r s) as (λ u. nat_cmp (a + r) (b + s) ≡ nat_cmp r s) [
+      | inl below ↦ less (a + r) (b + s) (omega (arith, same, below)) ∙ sym (less r s below)
+      | inr above ↦ elim (cases_lt s r) as (λ u. nat_cmp (a + r) (b + s) ≡ nat_cmp r s) [
+        | inl behind ↦ greater (a + r) (b + s) (omega (arith, same, behind)) ∙ sym (greater r s behind)
+        | inr under ↦ equal (a + r) (b + s) (omega (arith, same, above, under)) ∙ sym (equal r s (omega (arith, above, under)))
+      ]
+    ]
+
+-- numbers of two digits compare by the first, then by the second
+digits : (w x y r s : ℕ) → r < w → s < w → nat_cmp (x * w + r) (y * w + s) ≡ ordering_then (nat_cmp x y) (nat_cmp r s)
+digits w x y r s low high =
+    elim (cases_lt x y) as (λ u. nat_cmp (x * w + r) (y * w + s) ≡ ordering_then (nat_cmp x y) (nat_cmp r s)) [
+      | inl below ↦
+          let far : w * (x + 1) ≤ w * y = mul-le-mul_left w (omega (arith, below)) in
+          less (x * w + r) (y * w + s) (omega (arith, far, low)) ∙ sym (ap (λ o. ordering_then o (nat_cmp r s)) (less x y below))
+      | inr above ↦ elim (cases_lt y x) as (λ u. nat_cmp (x * w + r) (y * w + s) ≡ ordering_then (nat_cmp x y) (nat_cmp r s)) [
+        | inl behind ↦
+            let far : w * (y + 1) ≤ w * x = mul-le-mul_left w (omega (arith, behind)) in
+            greater (x * w + r) (y * w + s) (omega (arith, far, high)) ∙ sym (ap (λ o. ordering_then o (nat_cmp r s)) (greater x y behind))
+        | inr under ↦
+            let same : x ≡ y = omega (arith, above, under) in
+            let also : x * w ≡ y * w = ap (λ (n : ℕ). n * w) same in
+            second (x * w) (y * w) r s also ∙ sym (ap (λ o. ordering_then o (nat_cmp r s)) (equal x y same))
+      ]
+    ]
+
+spelled_none : (n : ℕ) → spelled n [] ≡ 0
+unfolding spelled
+spelled_none zero = refl
+spelled_none (suc n) = ap (λ m. m * 256 + 0) (spelled_none n)
+
+spelled_first : (n x : ℕ) (xs : List ℕ) → spelled (suc n) (x ∷ xs) ≡ x * weight n + spelled n xs
+unfolding spelled
+spelled_first zero x xs = omega arith
+spelled_first (suc n) x xs = let rest = spelled_first n x xs in ap (λ m. m * 256 + get_or xs n 0) rest ∙ omega arith
+
+byte_fits : (b : ℕ) → is_name_byte b ≡ true → (1 ≤ b) × (b < 256)
+byte_fits b fits =
+    let parts = and_parts (nat_le 0x21 b) (nat_le b 0x7E) fits in
+    let low = leb-true 0x21 b parts.0 in
+    let high = leb-true b 0x7E parts.1 in
+    (omega (arith, low), omega (arith, high))
+
+byte_at : (xs : List ℕ) (k : ℕ) → list_all is_name_byte xs ≡ true → get_or xs k 0 < 256
+byte_at [] k all = omega arith
+byte_at (x ∷ xs) zero all = (byte_fits x (and_parts (is_name_byte x) (list_all is_name_byte xs) all).0).1
+byte_at (x ∷ xs) (suc k) all = byte_at xs k (and_parts (is_name_byte x) (list_all is_name_byte xs) all).1
+
+pub spelled_small : (n : ℕ) (xs : List ℕ) → list_all is_name_byte xs ≡ true → spelled n xs < weight n
+unfolding spelled
+spelled_small zero xs all = omega arith
+spelled_small (suc n) xs all =
+    let rest = spelled_small n xs all in
+    let last = byte_at xs n all in
+    omega (arith, rest, last)
+
+-- a first byte counts more than nothing
+some_first : (n x : ℕ) (xs : List ℕ) → 1 ≤ x → 0 < spelled (suc n) (x ∷ xs)
+some_first n x xs some =
+    let far : weight n * 1 ≤ weight n * x = mul-le-mul_left (weight n) some in
+    let first = spelled_first n x xs in
+    let unit = weight_some n in
+    omega (arith, far, first, unit)
+
+spelled_cmp : (n : ℕ) (a b : List ℕ) → length a ≤ n → length b ≤ n → list_all is_name_byte a ≡ true → list_all is_name_byte b ≡ true → nat_cmp (spelled n a) (spelled n b) ≡ slice_cmp nat_cmp a b
+spelled_cmp n [] [] short few these those = equal (spelled n []) (spelled n []) refl
+spelled_cmp zero [] (y ∷ b) short few these those = absurd (omega (arith, few))
+spelled_cmp (suc n) [] (y ∷ b) short few these those =
+    let some = (byte_fits y (and_parts (is_name_byte y) (list_all is_name_byte b) those).0).0 in
+    less (spelled (suc n) []) (spelled (suc n) (y ∷ b)) (omega (arith, spelled_none (suc n), some_first n y b some))
+spelled_cmp zero (x ∷ a) b short few these those = absurd (omega (arith, short))
+spelled_cmp (suc n) (x ∷ a) [] short few these those =
+    let some = (byte_fits x (and_parts (is_name_byte x) (list_all is_name_byte a) these).0).0 in
+    greater (spelled (suc n) (x ∷ a)) (spelled (suc n) []) (omega (arith, spelled_none (suc n), some_first n x a some))
+spelled_cmp (suc n) (x ∷ a) (y ∷ b) short few these those =
+    let this = (and_parts (is_name_byte x) (list_all is_name_byte a) these).1 in
+    let that = (and_parts (is_name_byte y) (list_all is_name_byte b) those).1 in
+    (λ i. nat_cmp (spelled_first n x a i) (spelled_first n y b i))
+    ∙ digits (weight n) x y (spelled n a) (spelled n b) (spelled_small n a this) (spelled_small n b that)
+    ∙ ap (ordering_then (nat_cmp x y)) (spelled_cmp n a b (omega (arith, short)) (omega (arith, few)) this that)
+
+name_parts : (name : List ℕ) → IsName name → (length name ≤ 15) × (list_all is_name_byte name ≡ true)
+name_parts name named =
+    let parts = and_parts (nat_le 1 (length name) && nat_le (length name) 15) (list_all is_name_byte name) named in
+    (leb-true (length name) 15 (and_parts (nat_le 1 (length name)) (nat_le (length name) 15) parts.0).1, parts.1)
+
+pub key_cmp : (a b : List ℕ) (k l : ℕ) → IsName a → IsName b → k < 256 → l < 256 → nat_cmp (key_of a k) (key_of b l) ≡ ordering_then (slice_cmp nat_cmp a b) (nat_cmp k l)
+key_cmp a b k l this that low high =
+    let these = name_parts a this in
+    let those = name_parts b that in
+    digits 256 (spelled 15 a) (spelled 15 b) k l low high ∙ ap (λ o. ordering_then o (nat_cmp k l)) (spelled_cmp 15 a b these.0 those.0 these.1 those.1)
+
+pub rank_small : (s : LockState) → rank_of s < 256
+rank_small (Granted mode) = omega arith
+rank_small (Converting held wanted) = omega arith
+rank_small (Waiting wanted) = omega arith
+
+-- keys tell which locks stand before a name and a rank
+pub before_by_key : (name : List ℕ) (rank : ℕ) (r : LockRecord) → IsName r.name → IsName name → rank < 256 → nat_lt (lock_key r) (key_of name rank) ≡ stands_before_rank name rank r
+before_by_key name rank r this that few = sym (is_lt_nat (lock_key r) (key_of name rank)) ∙ ap is_lt (key_cmp r.name name (rank_of r.state) rank this that (rank_small r.state) few)

@@ -1,0 +1,11 @@
+use Rattle.std.proofs.Common.{◌≡◌, ◌<◌}
+use Rattle.lock_table.specs.Keys.{spelled}
+use Rattle.lock_table.proofs.Spelled.{weight}
+use Rattle.lock_table.proofs.keys.spelled.Given as goal
+
+-- the bytes so far
+abbrev pub invariant-loop-at : goal.invariant-loop-at
+invariant-loop-at l = record {
+  key : l.key ≡ spelled l.at l.bytes;
+  small : l.key < weight l.at;
+}

@@ -1,0 +1,32 @@
+ghost use Rattle.std.specs.Prelude.{◌≡◌, ◌<◌, ◌^◌, slice_index};
+ghost use Rattle.lock_command.specs.Name.{IsName};
+ghost use Rattle.lock_table.specs.Keys.{spelled, key_of};
+
+use lock_command::LockName;
+
+/// A number that rises as names do by their bytes, and for one name by the rank.
+pub fn key_of(name: &LockName, rank: u8) -> u128
+    ensures key { result ≡ key_of name.now rank }
+    ensures name { IsName name.now }
+{
+    spelled(name.as_bytes()) * 256 + u128::from(rank)
+}
+
+/// The number of which the first 15 bytes are the digits, with zeros behind the last byte.
+fn spelled(bytes: &[u8]) -> u128
+    ensures spelled { result ≡ spelled 15 bytes.now }
+    ensures small { result < 2 ^ 120 }
+{
+    let mut key: u128 = 0;
+    for at in 0..LockName::LONGEST {
+        key = key * 256 + u128::from(byte_at(bytes, at));
+    }
+    key
+}
+
+/// The byte at a place, or 0 behind the last.
+fn byte_at(bytes: &[u8], at: usize) -> u8
+    ensures { result ≡ slice_index bytes.now at }
+{
+    if at < bytes.len() { bytes[at] } else { 0 }
+}
