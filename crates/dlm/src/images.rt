@@ -1,10 +1,15 @@
+ghost use Rattle.std.specs.Prelude.{◌≡◌, IfOk};
+
 use crate::failure::Failure;
 use crate::fault::Fault;
 use crate::reply_text::ReplyText;
-use dlm_images::{format_folder, open_folder};
+use disk::FileDisk;
+use dlm_images::{Acknowledgement, DiskHost, format_folder, open_folder};
 use host::Config;
 use inspect::queues;
 use lock_command::{Command, HostNumber};
+use lock_table::Table;
+use std::alloc::Global;
 use std::fs::OpenFile;
 use std::io::Write;
 use std::os::unix::fs::FileExt;
@@ -42,14 +47,11 @@ pub fn submit<R: Files + AllocGlobal, O: Write>(
 where
     R::File: FileExt + OpenFile + Drop,
 {
-    let folder = open_folder(rt, folder).map_err(Fault::from)?;
-    let mut host = folder.host(rt.alloc(), command.host).map_err(Fault::from)?;
-    let done = host.submit(command, TRIES).map_err(Fault::from)?;
-    let slot = done.slot;
-    let reply = ReplyText(done.reply);
-    writeln!(out, "ack {slot} {reply}")?;
-    out.flush()?;
-    Ok(())
+    let mut host = host_over(rt, folder, command.host)?;
+    match host.submit(command, TRIES) {
+        Ok(done) => print_ack(done, out),
+        Err(refusal) => Err(Failure::from(Fault::from(refusal))),
+    }
 }
 
 /// Learns the log from the images of a folder, and prints how much that is and the lock table after it.
@@ -62,10 +64,42 @@ pub fn table<R: Files + AllocGlobal, O: Write>(
 where
     R::File: FileExt + OpenFile + Drop,
 {
-    let folder = open_folder(rt, folder).map_err(Fault::from)?;
-    let mut host = folder.host(rt.alloc(), host).map_err(Fault::from)?;
-    let length = host.recover(TRIES).map_err(Fault::from)?;
-    let picture = host.table().picture(rt.alloc()).map_err(Fault::from)?;
+    let mut host = host_over(rt, folder, host)?;
+    match host.recover(TRIES) {
+        Ok(length) => print_table(rt.alloc(), length, host.table(), out),
+        Err(refusal) => Err(Failure::from(Fault::from(refusal))),
+    }
+}
+
+/// A host over the disks of a folder, which has learned nothing yet.
+fn host_over<R: Files + AllocGlobal>(
+    rt: &R,
+    folder: &str,
+    host: HostNumber,
+) -> Result<DiskHost<FileDisk<R::File>>, Fault>
+where
+    R::File: FileExt + OpenFile + Drop,
+    ensures { IfOk result (λ started. started.learner.host ≡ host) }
+{
+    let folder = open_folder(rt, folder)?;
+    folder.host(rt.alloc(), host).map_err(Fault::from)
+}
+
+fn print_ack<O: Write>(done: Acknowledgement, out: &mut O) -> Result<(), Failure> {
+    let slot = done.slot;
+    let reply = ReplyText(done.reply);
+    writeln!(out, "ack {slot} {reply}")?;
+    out.flush()?;
+    Ok(())
+}
+
+fn print_table<O: Write>(
+    alloc: Global,
+    length: u16,
+    table: &Table,
+    out: &mut O,
+) -> Result<(), Failure> {
+    let picture = table.picture(alloc).map_err(Fault::from)?;
     writeln!(out, "recovered {length}")?;
     queues(&picture, out)?;
     out.flush()?;
