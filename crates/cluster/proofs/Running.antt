@@ -28,18 +28,12 @@ module _ (c : Shape) (own : Own) (core : Kept) (sub : Option Command) (r : IsRun
   pub idles_is : idles (host_in c own) ≡ is_idle_in r.memory r.memory.doing
   idles_is = ap idles r.is
 
-  pub idles_core : idles (host_in c own) ≡ is_idle core
-  idles_core = idles_is ∙ sym (idle_is c own.number r.memory core r.leads)
-
   pub next_is : next_of c own.number (host_in c own) ≡ next_in c own.number r.memory
   next_is = ap (next_of c own.number) r.is
 
   -- a call is due where a task is under way
   pub busy : (k : ℕ) → IsDueOn c own k → is_idle_in r.memory r.memory.doing ≡ false
   busy k due = due_busy c own.number r.memory r.memory.doing (k, (due_in c own).1) (sym next_is ∙ due)
-
-  pub busy_core : (k : ℕ) → IsDueOn c own k → is_idle core ≡ false
-  busy_core k due = idle_is c own.number r.memory core r.leads ∙ busy k due
 
   -- with no beat under way, an attempt is
   resting : core.beat ≡ None → is_idle_in r.memory r.memory.doing ≡ false → is_some r.memory.doing ≡ true

@@ -1,6 +1,6 @@
 -- The test of a header decides whether the image is right.
 use Rattle.std.specs.Prelude.{◌≡◌, ◌==◌, ◌&&◌, ◌≤◌, ◌<◌, ◌^◌, ◌-◌, ◌++◌, ℕ, true, nat_lt, nat_le, List, [], ◌∷◌, length, take, drop, slice_index}
-use Rattle.std.proofs.Common.{refl, sym, ap, ◌∙◌, arith, get_or, length-drop, length-append}
+use Rattle.std.proofs.Common.{refl, sym, ap, ◌∙◌, arith, get_or, length-drop}
 use Rattle.std.specs.List.{list_all}
 use Rattle.std.proofs.lemmas.List.{drop_at, drop-drop, take-append-drop}
 use Rattle.std.proofs.lemmas.Bool.{and_parts, and_from, ltb-true, lt-ltb, leb-true, le-leb, eqb-true, eq-eqb}
@@ -13,7 +13,7 @@ use Rattle.paxos_block.specs.declared.header.Header.{Header}
 use Rattle.torn_block.specs.Numbers.{AreBytes}
 use Rattle.torn_block.proofs.NumberLaws.{AreBytes-drop, spelled_8, spelled_4}
 use Rattle.paxos_block.specs.Saying.{zeros, number_at}
-use Rattle.paxos_block.proofs.SayingLemmas.{zero_tells, zero_since, length-number, length-zeros}
+use Rattle.paxos_block.proofs.SayingLemmas.{zero_tells, zero_since, length-number}
 use Rattle.paxos_block.specs.Places.{image_length}
 use Rattle.paxos_block.specs.Headers.{IsHeader, short_bytes, short_at, header_end, header_saying, IsRight, header_in, is_header, is_right}
 

@@ -50,11 +50,6 @@ pub record KeepsAll (s : Setup) (f g : Answers) : Type 0 where
   pub two : AreSameRows Two g f
 
 module _ (s : Setup) (f g : Answers) (same : KeepsAll s f g) where
-  rows_of : (p : Phase) → AreSameRows p g f
-  rows_of Opening = same.opening
-  rows_of One = same.one
-  rows_of Two = same.two
-
   pub keeps_not_outrun : (p : Phase) → NotOutrun s p f → NotOutrun s p g
   keeps_not_outrun Opening is = tt
   keeps_not_outrun One is = ap₂ nat_lt (ballot_same s g f same.opening) (others_same s g f One same.one) ∙ is

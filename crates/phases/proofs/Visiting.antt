@@ -1,6 +1,6 @@
 -- What becomes of the disks of a phase where one is passed over, dropped, or begun on.
 use Rattle.std.specs.Prelude.{nat_lt, nat_le}
-use Rattle.std.proofs.Common.{◌≡◌, ◌≢◌, ◌+◌, ◌<◌, ◌≤◌, ◌&&◌, not, ℕ, Bool, true, false, Option, Some, None, List, [], ◌∷◌, length, is_some, inl, inr, refl, sym, subst, ap, ◌∙◌, arith, slice_set}
+use Rattle.std.proofs.Common.{◌≡◌, ◌≢◌, ◌+◌, ◌<◌, ◌≤◌, ◌&&◌, not, ℕ, Bool, true, false, Option, Some, None, [], ◌∷◌, length, is_some, inl, inr, refl, sym, subst, ap, ◌∙◌, arith, slice_set}
 use Rattle.std.proofs.lemmas.Bool.{cases_eq, cases_lt, le-ltb, lt-ltb, and_left, and_right, eq-eqb}
 use Rattle.std.proofs.lemmas.List.{get_or-set_same, get_or-set_other}
 use Rattle.torn_block.specs.declared.layout.TheConstants.{LAST_SEQUENCE}

@@ -19,7 +19,7 @@ use Rattle.slot_log.specs.Shape.{Shape}
 use Rattle.host.specs.Host.{is_stopped, idles, next_of}
 use Rattle.host.proofs.Hosts.{decoded_spelled}
 use Rattle.world.specs.Entry as entries
-use Rattle.world.specs.Entry.{Filled, Called, Torn, Crashed, Lost, called_by}
+use Rattle.world.specs.Entry.{Filled, Called, Torn, Crashed, called_by}
 use Rattle.world.specs.World.{World, MayFollow, ReadsBack, HasDisk}
 use Rattle.world.specs.Happens.{Event, Start, Stop, Submit, Recover, Beat, Step, Tear, FailCall, DiskCrash, DiskGone, answer_by, answer_of, taken_by, stepped, failed_by, failed, torn_by, torn, brings_if, are_some, has_disk, submitted, entry_of}
 

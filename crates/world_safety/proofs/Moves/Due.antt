@@ -12,7 +12,7 @@ use Rattle.paxos_block.specs.Saying.{body_saying}
 use Rattle.paxos_block.proofs.PlaceLemmas.{stays_image}
 use Rattle.attempt.specs.Calls.{Phase, Kind, Putting}
 use Rattle.attempt.specs.Answers as answers
-use Rattle.attempt.specs.Answers.{Heard, Answered, Answers, on, heard_as, more, all_good, boot_of, last_row, block_in as seen_block}
+use Rattle.attempt.specs.Answers.{Answered, Answers, on, heard_as}
 use Rattle.attempt.specs.Setup.{Setup}
 use Rattle.attempt.specs.History.{IsAnswerTo}
 use Rattle.attempt.specs.NextCall.{call_by, next_call, says_for}

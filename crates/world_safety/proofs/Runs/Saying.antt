@@ -5,7 +5,7 @@ use Rattle.std.proofs.lemmas.Bool.{eqb-true, ltb-false}
 use Rattle.disk.specs.Disk.{Call, Answer}
 use Rattle.attempt.specs.Answers.{Answered, on, heard_as}
 use Rattle.attempt.specs.Status as attempt
-use Rattle.attempt.specs.Status.{Status, Due, Ended, status, taken}
+use Rattle.attempt.specs.Status.{Status, Due, Ended, status}
 use Rattle.lock_command.specs.declared.command.Command.{Command}
 use Rattle.lock_command.specs.Reading.{decoded}
 use Rattle.lock_table.specs.declared.reply.Reply.{Reply}
@@ -148,9 +148,6 @@ module _ (c : Shape) (log : List Filled) (i h : ℕ) (said : HostAnswer) where
   -- what the attempt has heard then
   abbrev pub heard_at : AtACall c log i h said → List Answered
   heard_at call = call.doing.heard ++ record { disk = call.disk; heard = heard_as call.answer } ∷ []
-
-  abbrev pub status_at : AtACall c log i h said → Status
-  status_at call = status (setup_of c h call.memory call.doing.operation) (on (heard_at call))
 
   abbrev pub memory_at : AtACall c log i h said → Memory
   memory_at call = goes_by c call.memory (with_heard call.doing (record { disk = call.disk; heard = heard_as call.answer })) (setup_of c h call.memory call.doing.operation)
