@@ -18,7 +18,7 @@ use Rattle.torn_block.specs.Numbers.{AreBytes}
 use Rattle.torn_block.proofs.NumberLaws.{AreBytes-drop, AreBytes-take}
 use Rattle.torn_block.proofs.PlaceLaws.{reads_sequence, reads_body, length-block_in}
 use Rattle.torn_block.specs.Plan.{IsReading}
-use Rattle.paxos_block.specs.declared.header.TheConstants.{GATE}
+use Rattle.torn_block.specs.declared.block.TheConstants.{OPEN_GATE}
 use Rattle.paxos_block.specs.declared.block.PBlock.{PBlock}
 use Rattle.paxos_block.specs.declared.cell.Cell.{Cell}
 use Rattle.paxos_block.specs.declared.row.Row.{Row}
@@ -32,7 +32,7 @@ sound_tells host copy long fits opened t =
     let a = and_parts (is_sequence sequence) (is_said host (body_of copy)) t in
     let said = said_spelled host (body_of copy) a.1 in
     let whole : copy ≡ copy_saying sequence (claim_of (body_of copy)) =
-    open_copy_spelled copy long fits opened ∙ ap (λ (body : List ℕ). GATE ∷ tail_with sequence body) said.1 in
+    open_copy_spelled copy long fits opened ∙ ap (λ (body : List ℕ). OPEN_GATE ∷ tail_with sequence body) said.1 in
     record {
       sequence = sequence;
       says = claim_of (body_of copy);

@@ -5,7 +5,7 @@ use Rattle.torn_block.specs.declared.layout.TheConstants.{HOSTS, BLOCK_LENGTH, B
 use Rattle.torn_block.specs.Block.{sequence_of, body_of, tail_with, value_of}
 use Rattle.torn_block.specs.Plan.{IsReading, told_value}
 use Rattle.torn_block.specs.Damage.{IsSequence, IsSoundBlock, IsDamaged, block_of, first_of, second_of, is_sequence, is_damaged}
-use Rattle.paxos_block.specs.declared.header.TheConstants.{GATE}
+use Rattle.torn_block.specs.declared.block.TheConstants.{OPEN_GATE}
 use Rattle.paxos_block.specs.declared.block.PBlock.{PBlock}
 use Rattle.paxos_block.specs.declared.cell.Cell.{Cell}
 use Rattle.paxos_block.specs.declared.row.Row.{Row}
@@ -13,7 +13,7 @@ use Rattle.paxos_block.specs.Saying.{zeros, MaySay, body_saying, claim_of, is_sa
 
 -- the open copy that says this under a sequence number
 abbrev pub copy_saying : ℕ → PBlock → List ℕ
-copy_saying sequence says = GATE ∷ tail_with sequence (body_saying says)
+copy_saying sequence says = OPEN_GATE ∷ tail_with sequence (body_saying says)
 
 -- this copy in a host's block says this
 pub record Says (host : ℕ) (copy : List ℕ) (sequence : ℕ) (says : PBlock) : Type 0 where

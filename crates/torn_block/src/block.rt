@@ -7,7 +7,7 @@ ghost use Rattle.torn_block.specs.Plan.{IsReading};
 use crate::layout::{BLOCK_LENGTH, BODY_LENGTH, COPY_LENGTH, HEADING_LENGTH};
 use byteorder::{BigEndian, ByteOrder};
 
-/// The gate of a copy that counts. Any other byte there closes it.
+/// The gate of a copy that counts, and of an image that was formatted to the end. Any other byte there closes it.
 pub const OPEN_GATE: u8 = 0xA5;
 
 /// One of the two copies of a block.

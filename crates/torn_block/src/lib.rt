@@ -14,7 +14,7 @@ pub use layout::{
     BLOCK_LENGTH, BODY_LENGTH, COPY_LENGTH, DISKS, HEADER_LENGTH, HEADING_LENGTH, HOSTS,
     LAST_SEQUENCE, ROW_LENGTH, SLOTS, TAIL_LENGTH, VALUE_LENGTH, VERSION,
 };
-pub use write_steps::{BlockNeed, SequenceSpent, WriteCall, WriteSteps};
+pub use write_steps::{BlockNeed, SequenceSpent, WriteCall, WriteSteps, put_number};
 
 #[cfg(test)]
 mod tests;
