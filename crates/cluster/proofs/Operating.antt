@@ -24,7 +24,7 @@ use Rattle.cluster.specs.declared.fault.HostFault.TheVariants as fault
 use Rattle.cluster.specs.declared.receipt.Receipt.{Receipt}
 use Rattle.cluster.specs.Cluster.{IsStep, Ends, AreSteps, GoesOn}
 use Rattle.cluster.specs.declared.operate.Resumed.TheVariants.{Submitted}
-use Rattle.cluster.specs.Operations.{IsLast, Answers, Stops, Task, Attempting, Beating, IsAnswer, IsCarriedBeside, IsCarried, HasReceipt, Carries, IsRefusedBy}
+use Rattle.cluster.specs.Operations.{IsLast, HasAnswered, Stops, Task, Attempting, Beating, IsAnswer, IsCarriedBeside, IsCarried, HasReceipt, Carries, IsRefusedBy}
 use Rattle.cluster.specs.Receipts.{receipt_by, receipts_of, doing_of}
 use Rattle.cluster.specs.Seat.{host_in, due_in, IsDoing}
 use Rattle.cluster.proofs.Adding.{host_adds, receipts_adds}
@@ -386,7 +386,7 @@ one_last all x y first second =
     let both : Some x ≡ Some y = sym (last_is first.0 x) ∙ ap last_of (sym first.1 ∙ second.1) ∙ last_is second.0 y in cc both
 
 -- the receipt that a submission brought is of its command and its host
-pub is_its : (c : Shape) (command : Command) (own : Own) → Carries c (Attempting (Submitting command)) own → (receipt : Receipt) → Answers c (Submitted receipt) own → (receipt.command ≡ command) × (receipt.host ≡ own.number)
+pub is_its : (c : Shape) (command : Command) (own : Own) → Carries c (Attempting (Submitting command)) own → (receipt : Receipt) → HasAnswered c (Submitted receipt) own → (receipt.command ≡ command) × (receipt.host ≡ own.number)
 is_its c command own carries receipt answers =
     let mine = acked_for c command own carries receipt.slot receipt.reply answers.1 in
     let same = one_last (receipts_of c own) _ receipt mine.1 answers.2 in

@@ -6,8 +6,8 @@ use Rattle.beats.specs.Answers.{Answered as Beaten}
 use Rattle.lock_command.specs.declared.command.Command.{Command}
 use Rattle.slot_log.specs.Shape.{Shape}
 use Rattle.host.specs.Host.{Host, Running, Memory, Doing, hears_from, rests, is_idle_in, idles, next_beat, next_doing, next_in, next_of}
-use Rattle.host.specs.Kept.{Kept, LeadsTo, is_idle, rests as rests_in}
-use Rattle.host.proofs.Hosts.{idle_is, rests_by}
+use Rattle.host.specs.Kept.{Kept, LeadsTo, has_no_beat}
+use Rattle.host.proofs.Hosts.{rests_by}
 use Rattle.world.specs.Entry.{Called, host_step}
 use Rattle.cluster_tie.specs.Parts.{Own, adds}
 use Rattle.cluster.specs.declared.receipt.Receipt.{Receipt}
@@ -40,7 +40,7 @@ module _ (c : Shape) (own : Own) (core : Kept) (sub : Option Command) (r : IsRun
   resting none at_work = go r.memory.doing at_work
     where
       rest : rests r.memory.beats.heard ≡ true
-      rest = sym (rests_by c own.number r.memory.beats.heard core.beat r.leads.beat) ∙ ap rests_in none
+      rest = sym (rests_by c own.number r.memory.beats.heard core.beat r.leads.beat) ∙ ap has_no_beat none
 
       go : (o : Option Doing) → is_idle_in r.memory o ≡ false → is_some o ≡ true
       go None off = absurd (let both : true ≡ false = sym rest ∙ off in cc both)

@@ -15,8 +15,8 @@ use Rattle.beats.specs.declared.notes.Notes.{Notes as BeatNotes}
 use Rattle.phases.specs.Calls.{heard_of}
 use Rattle.phases.specs.declared.heard.Heard as code_heard
 use Rattle.slot_log.specs.Shape.{Shape}
-use Rattle.host.specs.Host.{Operation, Doing, Memory, Beats, fresh, hears, hears_from, goes_on, begins, by_status, takes, after_learning, is_submitted, learns, with_heard, with_floor, tries_again, next_in, rests, is_idle_in}
-use Rattle.host.specs.Kept.{Kept, LeadsTo, IsBeating, is_idle}
+use Rattle.host.specs.Host.{Operation, Doing, Memory, Beats, hears, hears_from, goes_on, begins, by_status, takes, after_learning, is_submitted, learns, with_heard, with_floor, tries_again, next_in, rests, is_idle_in}
+use Rattle.host.specs.Kept.{Kept, LeadsTo, BeatLeadsTo, is_idle}
 use Rattle.host.proofs.Hosts.{idle_is, from_attempt, beats-goes_on, beats-hears}
 use Rattle.std.specs.Prelude.{is_some}
 use Rattle.std.proofs.Common.{true≢false}
@@ -157,12 +157,12 @@ driven_more c old now new x made few by driven =
     }
 
 -- no beat hears the answer, so the attempt does
-none_kept : (c : Shape) (h : ℕ) (o : Option (List Beaten)) (beat : Option BeatNotes) → IsBeating c h o beat → o ≡ None → beat ≡ None
+none_kept : (c : Shape) (h : ℕ) (o : Option (List Beaten)) (beat : Option BeatNotes) → BeatLeadsTo c h o beat → o ≡ None → beat ≡ None
 none_kept c h None None going none = refl
 none_kept c h None (Some notes) going none = absurd going
 none_kept c h (Some heard) beat going none = absurd (cc)
 
-none_known : (c : Shape) (h : ℕ) (o : Option (List Beaten)) (beat : Option BeatNotes) → IsBeating c h o beat → beat ≡ None → o ≡ None
+none_known : (c : Shape) (h : ℕ) (o : Option (List Beaten)) (beat : Option BeatNotes) → BeatLeadsTo c h o beat → beat ≡ None → o ≡ None
 none_known c h None beat going none = refl
 none_known c h (Some heard) None going none = absurd going
 none_known c h (Some heard) (Some notes) going none = absurd (cc)

@@ -20,12 +20,7 @@ use Rattle.lock_table.proofs.Ordered.{Each, each_more}
 use Rattle.lock_table.proofs.Keyed.{is_lt_nat}
 use Rattle.lock_table.proofs.Unique.{names_equal}
 use Rattle.lock_table.proofs.Queued.{tied_names}
-use Rattle.lock_table.proofs.Cuts.{each_in_front, each_behind, partitioned, below_down}
-
-first_not_less : (o p : Ordering) → is_lt (ordering_then o p) ≡ false → is_lt o ≡ false
-first_not_less Less p h = h
-first_not_less Equal p h = refl
-first_not_less Greater p h = refl
+use Rattle.lock_table.proofs.Cuts.{each_in_front, each_behind}
 
 rank_not_lowest : (o : Ordering) (n : ℕ) → is_lt (ordering_then o (nat_cmp n 0)) ≡ is_lt o
 rank_not_lowest Less n = refl

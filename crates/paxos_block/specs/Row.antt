@@ -78,12 +78,12 @@ pub record SeenBlock : Type 0 where
   pub says : PBlock
 
 -- 0 where the block is blank
-abbrev pub sequence_in : Option (ℕ × List ℕ) → ℕ
-sequence_in None = 0
-sequence_in (Some value) = value.0
+abbrev pub sequence_or_zero : Option (ℕ × List ℕ) → ℕ
+sequence_or_zero None = 0
+sequence_or_zero (Some value) = value.0
 
 abbrev pub seen_in : List ℕ → SeenBlock
-seen_in block = record { bytes = block; sequence = sequence_in (value_of block); says = says_of (value_of block) }
+seen_in block = record { bytes = block; sequence = sequence_or_zero (value_of block); says = says_of (value_of block) }
 
 abbrev pub hosts : List ℕ
 hosts = range_with_len 0 HOSTS
@@ -106,7 +106,7 @@ seen_at seen host = slice_index_or seen host blank_seen
 -- the cell is this block: its bytes as read, with this sequence number, and it says the same
 pub record IsSeenAs (seen : SeenBlock) (cell : Cell) : Type 0 where
   pub read : IsReading seen.bytes cell.block
-  pub sequence : sequence_in (told_value cell.block) ≡ seen.sequence
+  pub sequence : sequence_or_zero (told_value cell.block) ≡ seen.sequence
   pub says : cell.says ≡ seen.says
 
 -- the cells of a row are these blocks, one for each host

@@ -4,7 +4,7 @@ use Rattle.std.proofs.Common.{◌≡◌, ◌≢◌, ◌+◌, ◌*◌, ◌<◌, �
 use Rattle.std.proofs.lemmas.Bool.{cases_eq, and_from, and_left, le-leb}
 use Rattle.paxos_block.specs.Row.{SeenBlock}
 use Rattle.attempt.specs.Calls.{Phase, Opening, One, Two, start, goal}
-use Rattle.attempt.specs.Answers.{Heard, Told, Answers, more, is_bad, all_good, told, row_in, last_row, later_row, block_in, boot_of}
+use Rattle.attempt.specs.Answers.{Heard, Told, Answers, more, is_bad, all_good, told, row_in, last_row, later_row, seen_block, boot_of}
 use Rattle.attempt.specs.Setup.{Setup}
 use Rattle.attempt.specs.Visits.{is_stuck, takes_part, waits, visited, is_left, is_left_at, are_enough}
 use Rattle.attempt.specs.Proposal.{ballot}
@@ -196,8 +196,8 @@ remembers_more host a x visit none boot is =
     let last : last_row (a ++ x ∷ []) ≡ last_row a = last_more a x ∙ ap (later_row (last_row a)) none in
     record {
       boot = boot ∙ is.boot;
-      read = subst (λ (o : Option (List SeenBlock)). IsReading (block_in o host).bytes visit.block) (sym last) is.read;
-      sequence = is.sequence ∙ ap (λ (o : Option (List SeenBlock)). (block_in o host).sequence) (sym last);
+      read = subst (λ (o : Option (List SeenBlock)). IsReading (seen_block o host).bytes visit.block) (sym last) is.read;
+      sequence = is.sequence ∙ ap (λ (o : Option (List SeenBlock)). (seen_block o host).sequence) (sym last);
     }
 
 -- THE DISK STAYS THE ONE THAT IS VISITED

@@ -83,11 +83,11 @@ impl Block128 {
 pub fn read_block(bytes: &[u8; BLOCK_LENGTH]) -> Block128
     ensures { IsReading bytes.now result }
 {
-    block_in(bytes)
+    block_from(bytes)
 }
 
 /// The block that these bytes, a part of a longer list, are.
-pub fn block_in(bytes: &[u8]) -> Block128
+pub fn block_from(bytes: &[u8]) -> Block128
     requires { length bytes.now ≡ BLOCK_LENGTH }
     ensures { IsReading bytes.now result }
 {

@@ -7,7 +7,7 @@ mod law;
 mod layout;
 mod write_steps;
 
-pub use block::{Block128, Body, Half, OPEN_GATE, block_in, is_open, read_block, sequence_in};
+pub use block::{Block128, Body, Half, OPEN_GATE, block_from, is_open, read_block, sequence_in};
 pub use damage::{has_twins, is_sequence};
 pub use law::{registers, six_calls};
 pub use layout::{
