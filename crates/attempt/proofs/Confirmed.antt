@@ -14,7 +14,7 @@ use Rattle.paxos_block.specs.Saying.{body_saying}
 use Rattle.paxos_block.specs.Votes.{says_in, others_top_of}
 use Rattle.paxos_block.proofs.VoteLemmas.{greatest_is_greatest}
 use Rattle.attempt.specs.Calls.{Phase, Opening, One, Two, start, goal, Kind, Reading, Putting, seventeen}
-use Rattle.attempt.specs.Answers.{Heard, Done, Told, Answered, Answers, on, is_bad, all_good, told, row_in, later_row, last_row, block_in, boot_of}
+use Rattle.attempt.specs.Answers.{Heard, Done, Told, Answered, Answers, on, is_bad, all_good, told, row_in, later_row, last_row, seen_block, boot_of}
 use Rattle.attempt.specs.Setup.{Setup}
 use Rattle.attempt.specs.Proposal.{ballot, others_top, others_mbal}
 use Rattle.attempt.specs.NextCall.{some_value, says_for, write_on, call_by, next_call}
@@ -177,14 +177,14 @@ module _ (s : Setup) (heard : List Answered) (is : IsHistory s heard) (d : ℕ) 
 
     -- the write of the phase
     abbrev write : Write128
-    write = record { place = place_of (VoteOf s.slot s.host); block = (block_in (last_row (take (start p) (f d))) s.host).bytes; body = body_saying (says_for s p f) }
+    write = record { place = place_of (VoteOf s.slot s.host); block = (seen_block (last_row (take (start p) (f d))) s.host).bytes; body = body_saying (says_for s p f) }
 
     -- each of its calls is of this one write
     write_at : (i : ℕ) → i ≤ 6 → write_on s p d (on (prior i)) ≡ write
     write_at i l =
         let last : last_row (on (prior i) d) ≡ last_row (take (start p) (f d)) = ap last_row (at_step i l).at.before ∙ still i l in
         let same : says_for s p (on (prior i)) ≡ says_for s p f = says_same s p (on (prior i)) f (λ q before e. sym ((lasts_from i l).rows q before e)) in
-        ap₂ (λ (row : Option (List SeenBlock)) (says : PBlock). record { place = place_of (VoteOf s.slot s.host); block = (block_in row s.host).bytes; body = body_saying says }) last same
+        ap₂ (λ (row : Option (List SeenBlock)) (says : PBlock). record { place = place_of (VoteOf s.slot s.host); block = (seen_block row s.host).bytes; body = body_saying says }) last same
 
     -- and under this one boot number
     boot_at : (i : ℕ) → i ≤ 6 → boot_of (on (prior i) d) ≡ boot_of (f d)

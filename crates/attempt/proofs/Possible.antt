@@ -10,7 +10,7 @@ use Rattle.torn_block.specs.Stage.{Write128, call_of}
 use Rattle.paxos_block.specs.Row.{SeenBlock}
 use Rattle.paxos_block.specs.Votes.{says_in}
 use Rattle.attempt.specs.Calls.{Phase, Opening, start, goal, Kind, Attaching, Syncing, Reading, Putting, seventeen}
-use Rattle.attempt.specs.Answers.{Heard, Booted, Done, Told, Fault, Answered, Answers, on, all_good, told, later_row, last_row, block_in}
+use Rattle.attempt.specs.Answers.{Heard, Booted, Done, Told, Fault, Answered, Answers, on, all_good, told, later_row, last_row, seen_block}
 use Rattle.attempt.specs.Setup.{Setup}
 use Rattle.attempt.specs.NextCall.{call_by, next_call}
 use Rattle.attempt.specs.Status.{Status, Due, Ended, status}
@@ -80,16 +80,16 @@ last_plain [] row plain is = absurd (cc)
 last_plain (x ∷ a) row plain is = later_plain (told x) (last_row a) row (λ r at. told_plain x r plain.0 at) (λ r at. last_plain a r plain.1 at) is
 
 -- and its own block is unspent
-empty_unspent : (o : Option (List SeenBlock)) (host : ℕ) → ((row : List SeenBlock) → o ≡ Some row → row ≡ []) → nat_le LAST_SEQUENCE (block_in o host).sequence ≡ false
+empty_unspent : (o : Option (List SeenBlock)) (host : ℕ) → ((row : List SeenBlock) → o ≡ Some row → row ≡ []) → nat_le LAST_SEQUENCE (seen_block o host).sequence ≡ false
 empty_unspent None host plain = refl
-empty_unspent (Some row) host plain = ap (λ (r : List SeenBlock). nat_le LAST_SEQUENCE (block_in (Some r) host).sequence) (plain row refl)
+empty_unspent (Some row) host plain = ap (λ (r : List SeenBlock). nat_le LAST_SEQUENCE (seen_block (Some r) host).sequence) (plain row refl)
 
 -- a disk of plain answers answers well
 plain_well : (s : Setup) (a : List Heard) → ArePlain a → AnswersWell s a
 plain_well s a plain =
     record {
       good = plain_good a plain;
-      unspent = λ p. and_right (length a == start p) (nat_le LAST_SEQUENCE (block_in (last_row a) s.host).sequence) (empty_unspent (last_row a) s.host (λ row is. last_plain a row plain is));
+      unspent = λ p. and_right (length a == start p) (nat_le LAST_SEQUENCE (seen_block (last_row a) s.host).sequence) (empty_unspent (last_row a) s.host (λ row is. last_plain a row plain is));
     }
 
 -- and its rows say the same of all hosts

@@ -4,7 +4,7 @@ use Rattle.std.proofs.Common.{inl, inr, true≢false, ℕ, ◌<◌, ◌≤◌, �
 use Rattle.std.proofs.lemmas.Bool.{and_parts, and_from, and_left, and_right, ne_eqb, lt-ltb, ltb-true, le-ltb, le-leb, leb-true, not-true, both_ways, cases_lt}
 use Rattle.torn_block.specs.declared.layout.TheConstants.{LAST_SEQUENCE}
 use Rattle.attempt.specs.Calls.{Phase, start, goal}
-use Rattle.attempt.specs.Answers.{Heard, Answers, all_good, is_bad, last_row, block_in, more}
+use Rattle.attempt.specs.Answers.{Heard, Answers, all_good, is_bad, last_row, seen_block, more}
 use Rattle.attempt.specs.Setup.{Setup}
 use Rattle.attempt.specs.Visits.{is_stuck, is_past, takes_part, waits, visited, is_left, is_left_at}
 use Rattle.attempt.proofs.Firsts.{none_below, below_none}
@@ -30,7 +30,7 @@ part_if p a is = and_from (all_good a) (nat_le (start p) (length a)) is.good (le
 
 -- a write that is not the next call is not due to a spent block
 pub not_stuck : (s : Setup) (p : Phase) (a : List Heard) → start p < length a → is_stuck s p a ≡ false
-not_stuck s p a l = and_left (length a == start p) (nat_le LAST_SEQUENCE (block_in (last_row a) s.host).sequence) (ne_eqb (length a) (start p) (λ e. omega arith))
+not_stuck s p a l = and_left (length a == start p) (nat_le LAST_SEQUENCE (seen_block (last_row a) s.host).sequence) (ne_eqb (length a) (start p) (λ e. omega arith))
 
 -- a disk that has made all calls of a phase waits for none
 pub waits_over : (s : Setup) (p : Phase) (a : List Heard) → goal p ≤ length a → waits s p a ≡ false

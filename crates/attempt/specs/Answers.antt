@@ -68,9 +68,9 @@ last_row [] = None
 last_row (x ∷ xs) = later_row (told x) (last_row xs)
 
 -- a host's block in a row, blank where there is no row
-abbrev pub block_in : Option (List SeenBlock) → ℕ → SeenBlock
-block_in None host = blank_seen
-block_in (Some row) host = seen_at row host
+abbrev pub seen_block : Option (List SeenBlock) → ℕ → SeenBlock
+seen_block None host = blank_seen
+seen_block (Some row) host = seen_at row host
 
 -- the boot number that the disk was attached under
 abbrev pub boot_of : List Heard → ℕ

@@ -7,7 +7,7 @@ use Rattle.paxos_block.specs.declared.block.PBlock.{PBlock}
 use Rattle.paxos_block.specs.Places.{place_of, VoteOf, row_place}
 use Rattle.paxos_block.specs.Saying.{body_saying}
 use Rattle.attempt.specs.Calls.{Phase, Opening, One, Two, Kind, Attaching, Syncing, Reading, Putting, seventeen}
-use Rattle.attempt.specs.Answers.{Answers, last_row, block_in, boot_of}
+use Rattle.attempt.specs.Answers.{Answers, last_row, seen_block, boot_of}
 use Rattle.attempt.specs.Setup.{Setup}
 use Rattle.attempt.specs.Proposal.{ballot, own, proposal}
 use Rattle.attempt.specs.Status.{Status, Due, Ended, status}
@@ -25,7 +25,7 @@ says_for s Two f = record { mbal = ballot s f; bal = ballot s f; inp = Some (som
 -- the write of a phase goes to the own block, as it was read last
 abbrev pub write_on : Setup → Phase → ℕ → Answers → Write128
 write_on s p d f =
-    record { place = place_of (VoteOf s.slot s.host); block = (block_in (last_row (f d)) s.host).bytes; body = body_saying (says_for s p f) }
+    record { place = place_of (VoteOf s.slot s.host); block = (seen_block (last_row (f d)) s.host).bytes; body = body_saying (says_for s p f) }
 
 abbrev pub call_by : Setup → ℕ → Answers → Kind → device.Call
 call_by s d f Attaching = device.Attach

@@ -2,13 +2,13 @@
 use Rattle.std.specs.Prelude.{◌*◌, ◌==◌, ◌&&◌, ℕ, Bool, true, not, List, length, nat_lt, nat_le, Option, Some, None}
 use Rattle.torn_block.specs.declared.layout.TheConstants.{LAST_SEQUENCE}
 use Rattle.attempt.specs.Calls.{Phase, start, goal}
-use Rattle.attempt.specs.Answers.{Heard, Answers, all_good, last_row, block_in}
+use Rattle.attempt.specs.Answers.{Heard, Answers, all_good, last_row, seen_block}
 use Rattle.attempt.specs.Numbers.{count, first_below}
 use Rattle.attempt.specs.Setup.{Setup}
 
 -- the phase's write is the next call, and the own block's sequence number is spent
 abbrev pub is_stuck : Setup → Phase → List Heard → Bool
-is_stuck s p a = (length a == start p) && nat_le LAST_SEQUENCE (block_in (last_row a) s.host).sequence
+is_stuck s p a = (length a == start p) && nat_le LAST_SEQUENCE (seen_block (last_row a) s.host).sequence
 
 -- the disk has come to this phase, and answered nothing bad
 abbrev pub takes_part : Phase → List Heard → Bool

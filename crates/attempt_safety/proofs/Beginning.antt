@@ -69,8 +69,8 @@ module _ (s : Setup) where
       }
 
   -- with its start the machine follows
-  pub begins : (early : List (Event (List ℕ))) → Follows s [] (state_after (early ++ Starts s.host ∷ []))
-  begins early =
+  pub follows_first : (early : List (Event (List ℕ))) → Follows s [] (state_after (early ++ Starts s.host ∷ []))
+  follows_first early =
       subst (Follows s []) (sym (state_by-append after start early (Starts s.host ∷ [])))
       (follows_none (after (state_after early) (Starts s.host)) (stands_first (state_after early)))
 

@@ -20,7 +20,7 @@ use paxos_block::{AREA_PLACE, beat_place};
 use phases::{DeviceCall, Heard};
 use torn_block::{
     BLOCK_LENGTH, BODY_LENGTH, Block128, BlockNeed, Body, DISKS, HOSTS, ROW_LENGTH, WriteSteps,
-    block_in,
+    block_from,
 };
 
 /// As many as there may be disks.
@@ -246,7 +246,7 @@ fn own_block(host: u8, area: &[u8; ROW_LENGTH]) -> Block128
     ensures { IsReading (block_of host area.now) result }
 {
     let place = BLOCK_LENGTH * usize::from(host);
-    block_in(&area[place..place + BLOCK_LENGTH])
+    block_from(&area[place..place + BLOCK_LENGTH])
 }
 
 // What stands where no write is under way: it is put in its place before it is gone by.

@@ -19,7 +19,7 @@ use Rattle.world.proofs.Follow.{command_reads_back}
 use Rattle.cluster_tie.specs.Parts.{Own, own_of, adds, of_host}
 use Rattle.cluster.specs.declared.receipt.Receipt.{Receipt}
 use Rattle.cluster.specs.Receipts.{still, receipt_by, receipts_at, receipts_of}
-use Rattle.cluster.specs.Seat.{host_in, IsKeptFor, IsBeating, IsDoing, IsRunning}
+use Rattle.cluster.specs.Seat.{host_in, IsKeptFor, IsSilentInBeat, IsDoing, IsRunning}
 use Rattle.cluster.proofs.Adding.{host_adds, receipts_adds}
 use Rattle.cluster.proofs.Operating.{idle_rests}
 use Rattle.cluster.proofs.Parts.{host_is}
@@ -27,7 +27,7 @@ use Rattle.cluster.proofs.Parts.{host_is}
 kept_if : (c : Shape) (m : Memory) → m.beats.heard ≡ None → (operation : Operation) (tries : ℕ) (sub : Option Command) → IsKeptFor operation sub → (b : Bool) → nat_lt (length m.learned) c.slots ≡ b
     → let new = if b then begins m operation tries else says m (full_answer operation (length m.learned)) in IsDoing c new new.doing sub
 kept_if c m rest operation tries sub kept true is = (ltb-true (length m.learned) c.slots is, kept, refl, rest)
-kept_if c m rest operation tries sub kept false is = subst (IsBeating (says m (full_answer operation (length m.learned)))) (sym rest) tt
+kept_if c m rest operation tries sub kept false is = subst (IsSilentInBeat (says m (full_answer operation (length m.learned)))) (sym rest) tt
 
 kept_on : (c : Shape) (m : Memory) → m.beats.heard ≡ None → (operation : Operation) (tries : ℕ) (sub : Option Command) → IsKeptFor operation sub → let new = goes_on c m operation tries in IsDoing c new new.doing sub
 kept_on c m rest operation tries sub kept = kept_if c m rest operation tries sub kept (nat_lt (length m.learned) c.slots) refl

@@ -1,16 +1,11 @@
 -- Steps one after the other.
-use Rattle.std.proofs.Common.{◌≡◌, ℕ, List, [], ◌∷◌, ◌++◌, refl, sym, ap, subst, ◌∙◌, append_assoc}
+use Rattle.std.proofs.Common.{◌≡◌, ℕ, List, [], ◌∷◌, ◌++◌, sym, ap, subst, ◌∙◌, append_assoc}
 use Rattle.std.proofs.lemmas.List.{append-nil}
 use Rattle.slot_log.specs.Shape.{Shape}
 use Rattle.world.specs.Entry.{Filled, Called}
 use Rattle.cluster_tie.specs.Parts.{Placed, Own, own_of, adds}
-use Rattle.cluster.specs.Cluster.{IsStep, Ends, AreSteps, GoesOn}
+use Rattle.cluster.specs.Cluster.{IsStep, AreSteps, GoesOn}
 use Rattle.cluster.specs.Seat.{due_in}
-use Rattle.cluster.specs.declared.fault.HostFault.{HostFault}
-use Rattle.cluster.specs.declared.fault.HostFault.TheVariants.{Refused, NoMemory, JournalFull, SeatTaken, SeatsMissing, OpenCall}
-
-pub stays : (c : Shape) (own : Own) → GoesOn c own own
-stays c own = record { added = []; is = sym (ap (own_of own.number) (append-nil own.entries)); steps = tt }
 
 steps_more : (c : Shape) (own : Own) (xs : List Placed) (x : Placed) → AreSteps c own xs
     → IsStep c (own_of own.number (own.entries ++ xs)) (own_of own.number ((own.entries ++ xs) ++ x ∷ []))
@@ -32,11 +27,3 @@ more c old mid new goes step =
       is = is ∙ ap (own_of old.number) (append_assoc old.entries goes.added (x ∷ []));
       steps = steps_more c old goes.added x goes.steps (subst (λ (p : Own × Own). IsStep c p.0 p.1) (λ i. (goes.is i, is i)) step);
     }
-
-pub ends : (c : Shape) (fault : HostFault) (old mid new : Own) → GoesOn c old mid → Ends c fault mid new → GoesOn c old new
-ends c (Refused refusal) old mid new goes is = more c old mid new goes is.0
-ends c NoMemory old mid new goes is = subst (λ (o : Own). GoesOn c old o) (sym is) goes
-ends c JournalFull old mid new goes is = subst (λ (o : Own). GoesOn c old o) (sym is) goes
-ends c OpenCall old mid new goes is = subst (λ (o : Own). GoesOn c old o) (sym is) goes
-ends c SeatTaken old mid new goes is = absurd is
-ends c SeatsMissing old mid new goes is = absurd is

@@ -17,7 +17,7 @@ use Rattle.host.specs.declared.answer.HostAnswer.{HostAnswer}
 use Rattle.host.specs.declared.answer.HostAnswer.TheVariants.{Ack, Recovered, Beaten, Refused}
 use Rattle.host.specs.Host.{Operation, Submitting, Recovering, Doing, Memory, setup_of, says, begins, full_answer, goes_on, is_submitted, after_learning, learns, takes, with_floor, ended, by_status, with_heard, hears_from, hears_beat, beat_by, beat_of, rests, is_idle_in, reply_after}
 use Rattle.cluster.specs.Receipts.{receipt_for, receipt_by, receipts_said}
-use Rattle.cluster.specs.Seat.{IsKeptFor, IsBeating, IsDoing}
+use Rattle.cluster.specs.Seat.{IsKeptFor, IsSilentInBeat, IsDoing}
 
 -- at most one receipt
 one_for : (h place : ℕ) (operation : Operation) (slot : ℕ) (reply : Reply) → length (receipt_for h place operation slot reply) ≤ 1
@@ -29,8 +29,8 @@ abbrev Rests : Memory → Type 0
 Rests m = m.beats.heard ≡ None
 
 -- so none has to keep quiet
-quiet : (m : Memory) → Rests m → IsBeating m m.beats.heard
-quiet m rest = subst (IsBeating m) (sym rest) tt
+quiet : (m : Memory) → Rests m → IsSilentInBeat m m.beats.heard
+quiet m rest = subst (IsSilentInBeat m) (sym rest) tt
 
 module _ (c : Shape) (h place : ℕ) (sub : Option Command) (t : Doing) (kept : IsKeptFor t.operation sub) (n : ℕ) where
   -- the operation under way is kept, and with a receipt a command more was learned
@@ -103,17 +103,17 @@ none_beaten h place (Some command) host = refl
 -- A BEAT
 
 -- it tells nothing while it is under way, learns nothing, and acknowledges nothing
-record Beats (c : Shape) (h place : ℕ) (sub : Option Command) (m new : Memory) : Type 0 where
+record BeatsSilently (c : Shape) (h place : ℕ) (sub : Option Command) (m new : Memory) : Type 0 where
   pub keeps : IsDoing c new new.doing sub
   pub learned : new.learned ≡ m.learned
   pub said : receipts_said h place sub new.said ≡ []
 
-beats_by : (c : Shape) (h place : ℕ) (sub : Option Command) (m : Memory) (heard : List beat_answers.Answered) (st : beat.Status) → Beats c h place sub m (beat_by h m heard st)
+beats_by : (c : Shape) (h place : ℕ) (sub : Option Command) (m : Memory) (heard : List beat_answers.Answered) (st : beat.Status) → BeatsSilently c h place sub m (beat_by h m heard st)
 beats_by c h place sub m heard (beat.Due disk) = record { keeps = refl; learned = refl; said = none_said h place sub }
 beats_by c h place sub m heard (beat.Ended (beat.Beaten readings)) = record { keeps = tt; learned = refl; said = none_beaten h place sub _ }
 beats_by c h place sub m heard (beat.Ended beat.NoMajority) = record { keeps = tt; learned = refl; said = none_refused h place sub refusal.NoMajority }
 
-beats : (c : Shape) (h place : ℕ) (sub : Option Command) (m : Memory) (o : Option (List beat_answers.Answered)) (x : beat_answers.Answered) → rests o ≡ false → Beats c h place sub m (hears_beat c h m o x)
+beats : (c : Shape) (h place : ℕ) (sub : Option Command) (m : Memory) (o : Option (List beat_answers.Answered)) (x : beat_answers.Answered) → rests o ≡ false → BeatsSilently c h place sub m (hears_beat c h m o x)
 beats c h place sub m None x busy = absurd (cc busy)
 beats c h place sub m (Some heard) x busy = beats_by c h place sub m (heard ++ x ∷ []) (beat.status (beat_of c h) (beat_answers.on (heard ++ x ∷ [])))
 

@@ -5,7 +5,6 @@ use Rattle.disk.specs.Cut.{cut, HasFirst, IsInFirst}
 use Rattle.disk.specs.Steps.{WritesOn}
 use Rattle.disk.proofs.CutLemmas.{cut_steps, first_stay, first_of_fresh}
 use Rattle.paxos_block.specs.Places.{image_length}
-use Rattle.phases.specs.Calls.{device_call_of, IsWithin}
 use Rattle.phases.specs.declared.need.DeviceCall as code_call
 use Rattle.phases.specs.declared.need.DeviceCall.TheVariants as call
 use Rattle.slot_log.specs.Shape.{Shape}
@@ -14,12 +13,6 @@ use Rattle.std.proofs.lemmas.List.{length-take-le}
 use Rattle.cluster_tie.specs.Parts.{Own}
 use Rattle.cluster.specs.Book.{image_on, Makes}
 use Rattle.cluster.specs.Seat.{due_in}
-
-pub in_first : (n : ℕ) (call : code_call.DeviceCall) → IsWithin n call → IsInFirst n (device_call_of call)
-in_first n call.Attach within = within
-in_first n (call.Sync boot) within = within
-in_first n (call.Read boot at) within = within
-in_first n (call.Write boot at bytes) within = within
 
 fits_image : (n : ℕ) (disk : DiskState) (call : Call) → HasFirst n disk → IsInFirst n call → WritesOn (cut n disk) call
 fits_image n disk Attach has within = tt

@@ -1,10 +1,10 @@
 -- The tokens that wait in a journal.
 use Rattle.std.proofs.Common.{◌≡◌, ℕ, zero, suc, Option, map, set, slice_get, None, List, [], ◌∷◌, Some, sym, ap, ◌∙◌, ◌<◌, ◌+◌, length, get_or, arith, ◌++◌, length-append, refl, subst}
-use Rattle.std.proofs.lemmas.List.{get_or_push, get_or_append_left, length-map}
+use Rattle.std.proofs.lemmas.List.{get_or_append_left, length-map}
 use Rattle.world.specs.Entry.{Filled}
 use Rattle.world.specs.Plain.{plain, plains}
 use Rattle.world.specs.declared.entry.Entry.{Entry}
-use Rattle.cluster_tie.specs.Parts.{Own, own_of, AreFresh}
+use Rattle.cluster_tie.specs.Parts.{Own, AreFresh}
 use Rattle.cluster.specs.Journal.{AreWaiting}
 
 got : {A : Type 0} (xs : List A) (k : ℕ) (t : A) → slice_get (map (λ (x : A). Some x) xs) k ≡ Some (Some t) → (k < length xs) × (get_or xs k t ≡ t)
@@ -29,14 +29,6 @@ still (x ∷ xs) (suc i) (suc k) t at = still xs i k t at
 -- the others wait still once one was taken
 pub rest_wait : (hosts now : List (Option Own)) (i : ℕ) → now ≡ set hosts i None → AreWaiting hosts → AreWaiting now
 rest_wait hosts now i is h k t at = h k t (still hosts i k t (sym (ap (λ (l : List (Option Own)). slice_get l k) is) ∙ at))
-
--- the last of some fresh tokens, and the others
-pub fresh_less : (all tokens : List Own) (t : Own) → all ≡ tokens ++ t ∷ [] → AreFresh (length all) all → AreFresh (length tokens) tokens × (t ≡ own_of (length tokens) [])
-fresh_less all tokens t is h =
-    let longer : length all ≡ length tokens + 1 = ap length is ∙ length-append tokens (t ∷ []) in (
-      (refl, λ k d less. sym (get_or_append_left tokens (t ∷ []) d k less) ∙ ap (λ (l : List Own). get_or l k d) (sym is) ∙ h.1 k d (omega arith)),
-      sym (get_or_push tokens t t (length tokens) refl) ∙ ap (λ (l : List Own). get_or l (length tokens) t) (sym is) ∙ h.1 (length tokens) t (omega arith),
-    )
 
 pub plains_more : (log : List Filled) (e : Filled) → plains (log ++ e ∷ []) ≡ plains log ++ plain e ∷ []
 plains_more [] e = refl

@@ -24,7 +24,7 @@ use Rattle.cluster.specs.declared.fault.HostFault.TheVariants as fault
 use Rattle.cluster.specs.declared.receipt.Receipt.{Receipt}
 use Rattle.cluster.specs.Cluster.{IsStep, Ends, AreSteps, GoesOn}
 use Rattle.cluster.specs.declared.operate.Resumed.TheVariants.{Submitted}
-use Rattle.cluster.specs.Operations.{IsLast, Answers, Stops, Task, Attempting, Beating, IsAnswer, IsCarriedBeside, IsCarried, HasReceipt, Carries, IsRefusedBy}
+use Rattle.cluster.specs.Operations.{IsLast, HasAnswered, Stops, Task, Attempting, Beating, IsAnswer, IsCarriedBeside, IsCarried, HasReceipt, Carries, IsRefusedBy}
 use Rattle.cluster.specs.Receipts.{receipt_by, receipts_of, doing_of}
 use Rattle.cluster.specs.Seat.{host_in, due_in, IsDoing}
 use Rattle.cluster.proofs.Adding.{host_adds, receipts_adds}
@@ -282,27 +282,9 @@ answered c task own carries idle = subst (λ (s : Host). IsAnswer task (learned_
     go None k is = by_beat carries.memory.beats.heard k is
     go (Some t) k is = absurd (cc is)
 
-unsaid : (task : Task) (learned : List Command) → IsAnswer task learned None → ⊥
-unsaid (Attempting (Submitting command)) learned is = is
-unsaid (Attempting Recovering) learned is = is
-unsaid Beating learned is = is
-
--- so it has said something
-pub has_said : (c : Shape) (task : Task) (own : Own) → Carries c task own → idles (host_in c own) ≡ true → said_of (host_in c own) ≡ None → ⊥
-has_said c task own carries idle none = unsaid task (learned_of (host_in c own)) (subst (λ (s : Option HostAnswer). IsAnswer task (learned_of (host_in c own)) s) none (answered c task own carries idle))
-
 -- and what it has said answers the task
 pub answered_by : (c : Shape) (task : Task) (own : Own) → Carries c task own → (said : HostAnswer) → said_of (host_in c own) ≡ Some said → IsAnswer task (learned_of (host_in c own)) (Some said)
 answered_by c task own carries said is = subst (λ (s : Option HostAnswer). IsAnswer task (learned_of (host_in c own)) s) is (answered c task own carries (said_idle c task own carries said is))
-
--- it has recovered as many commands as it has learned
-recovered_by : (task : Task) (learned : List Command) (n : ℕ) → IsAnswer task learned (Some (Recovered n)) → n ≡ length learned
-recovered_by (Attempting (Submitting command)) learned n is = absurd is
-recovered_by (Attempting Recovering) learned n is = is
-recovered_by Beating learned n is = absurd is
-
-pub recovered : (c : Shape) (task : Task) (own : Own) → Carries c task own → (n : ℕ) → said_of (host_in c own) ≡ Some (Recovered n) → n ≡ length (learned_of (host_in c own))
-recovered c task own carries n is = recovered_by task (learned_of (host_in c own)) n (answered_by c task own carries (Recovered n) is)
 
 -- a submission neither recovers nor beats
 pub only_acks : (c : Shape) (command : Command) (own : Own) → Carries c (Attempting (Submitting command)) own → (n : ℕ) → said_of (host_in c own) ≡ Some (Recovered n) → ⊥
@@ -404,7 +386,7 @@ one_last all x y first second =
     let both : Some x ≡ Some y = sym (last_is first.0 x) ∙ ap last_of (sym first.1 ∙ second.1) ∙ last_is second.0 y in cc both
 
 -- the receipt that a submission brought is of its command and its host
-pub is_its : (c : Shape) (command : Command) (own : Own) → Carries c (Attempting (Submitting command)) own → (receipt : Receipt) → Answers c (Submitted receipt) own → (receipt.command ≡ command) × (receipt.host ≡ own.number)
+pub is_its : (c : Shape) (command : Command) (own : Own) → Carries c (Attempting (Submitting command)) own → (receipt : Receipt) → HasAnswered c (Submitted receipt) own → (receipt.command ≡ command) × (receipt.host ≡ own.number)
 is_its c command own carries receipt answers =
     let mine = acked_for c command own carries receipt.slot receipt.reply answers.1 in
     let same = one_last (receipts_of c own) _ receipt mine.1 answers.2 in

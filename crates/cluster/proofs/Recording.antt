@@ -12,7 +12,7 @@ use Rattle.world.specs.Entry.{Filled, Start, is_of, host_step}
 use Rattle.world.specs.World.{world, IsRun}
 use Rattle.world.specs.Plain.{plains}
 use Rattle.world.specs.Chosen.{at}
-use Rattle.world.specs.Headline.{Begins, HasOneLog, IsSafe}
+use Rattle.world.specs.Headline.{IsPrefix, HasOneLog, IsSafe}
 use Rattle.world.specs.declared.entry.Entry.{Entry}
 use Rattle.world_safety.proofs.Runs.Places.{host_next}
 use Rattle.cluster_tie.specs.Parts.{Own, own_of, of_host}
@@ -127,7 +127,7 @@ module _ (c : Shape) (log : List Filled) (own : Own) (part : own.entries ≡ of_
   goes_by commands safe =
       let there : (at c log (length log)).host own.number ≡ host_in c own = ap (λ (l : List Filled). (world c l).host own.number) (take_whole log) ∙ host_is c log own part in
       record {
-        prefix = subst (λ (s : Host). Begins (learned_of s) commands) there (safe.prefix (length log) own.number);
+        prefix = subst (λ (s : Host). IsPrefix (learned_of s) commands) there (safe.prefix (length log) own.number);
         placed = λ k r is. safe.acknowledged r.place own.number r.slot r.command r.reply (has_receipts k r is).acknowledged;
         replied = λ k r is. safe.reply r.place own.number r.slot r.command r.reply (has_receipts k r is).acknowledged;
       }

@@ -6,8 +6,8 @@ use Rattle.beats.specs.Answers.{Answered as Beaten}
 use Rattle.lock_command.specs.declared.command.Command.{Command}
 use Rattle.slot_log.specs.Shape.{Shape}
 use Rattle.host.specs.Host.{Host, Running, Memory, Doing, hears_from, rests, is_idle_in, idles, next_beat, next_doing, next_in, next_of}
-use Rattle.host.specs.Kept.{Kept, LeadsTo, is_idle, rests as rests_in}
-use Rattle.host.proofs.Hosts.{idle_is, rests_by}
+use Rattle.host.specs.Kept.{Kept, LeadsTo, has_no_beat}
+use Rattle.host.proofs.Hosts.{rests_by}
 use Rattle.world.specs.Entry.{Called, host_step}
 use Rattle.cluster_tie.specs.Parts.{Own, adds}
 use Rattle.cluster.specs.declared.receipt.Receipt.{Receipt}
@@ -28,9 +28,6 @@ module _ (c : Shape) (own : Own) (core : Kept) (sub : Option Command) (r : IsRun
   pub idles_is : idles (host_in c own) ≡ is_idle_in r.memory r.memory.doing
   idles_is = ap idles r.is
 
-  pub idles_core : idles (host_in c own) ≡ is_idle core
-  idles_core = idles_is ∙ sym (idle_is c own.number r.memory core r.leads)
-
   pub next_is : next_of c own.number (host_in c own) ≡ next_in c own.number r.memory
   next_is = ap (next_of c own.number) r.is
 
@@ -38,15 +35,12 @@ module _ (c : Shape) (own : Own) (core : Kept) (sub : Option Command) (r : IsRun
   pub busy : (k : ℕ) → IsDueOn c own k → is_idle_in r.memory r.memory.doing ≡ false
   busy k due = due_busy c own.number r.memory r.memory.doing (k, (due_in c own).1) (sym next_is ∙ due)
 
-  pub busy_core : (k : ℕ) → IsDueOn c own k → is_idle core ≡ false
-  busy_core k due = idle_is c own.number r.memory core r.leads ∙ busy k due
-
   -- with no beat under way, an attempt is
   resting : core.beat ≡ None → is_idle_in r.memory r.memory.doing ≡ false → is_some r.memory.doing ≡ true
   resting none at_work = go r.memory.doing at_work
     where
       rest : rests r.memory.beats.heard ≡ true
-      rest = sym (rests_by c own.number r.memory.beats.heard core.beat r.leads.beat) ∙ ap rests_in none
+      rest = sym (rests_by c own.number r.memory.beats.heard core.beat r.leads.beat) ∙ ap has_no_beat none
 
       go : (o : Option Doing) → is_idle_in r.memory o ≡ false → is_some o ≡ true
       go None off = absurd (let both : true ≡ false = sym rest ∙ off in cc both)

@@ -25,12 +25,12 @@ IsLast receipt all = (before : List Receipt) × (all ≡ before ++ receipt ∷ [
 
 -- The host is idle, and what it said last is this answer: an acknowledgement with the last receipt of the list, how many commands it has learned, or
 -- which host a beat suggests.
-abbrev pub Answers : Shape → Resumed → Own → Type 0
-Answers c (Submitted receipt) own =
+abbrev pub HasAnswered : Shape → Resumed → Own → Type 0
+HasAnswered c (Submitted receipt) own =
     (idles (host_in c own) ≡ true) × (said_of (host_in c own) ≡ Some (said.Ack receipt.slot receipt.reply)) × IsLast receipt (receipts_of c own)
-Answers c (Recovered n) own =
+HasAnswered c (Recovered n) own =
     (idles (host_in c own) ≡ true) × (said_of (host_in c own) ≡ Some (said.Recovered n)) × (n ≡ length (learned_of (host_in c own)))
-Answers c (Beaten host) own = (idles (host_in c own) ≡ true) × (said_of (host_in c own) ≡ Some (said.Beaten host))
+HasAnswered c (Beaten host) own = (idles (host_in c own) ≡ true) × (said_of (host_in c own) ≡ Some (said.Beaten host))
 
 -- WHAT WAS ADDED
 

@@ -1,5 +1,5 @@
 -- What is left of a cluster.
-use Rattle.std.specs.Prelude.{◌≡◌, ◌<◌, ℕ, List, length, map, take, slice_get, slice_index_or, Some}
+use Rattle.std.specs.Prelude.{◌≡◌, ◌<◌, ℕ, List, length, take, slice_get, slice_index_or, Some}
 use Rattle.lock_command.specs.declared.command.Command.{Command}
 use Rattle.slot_log.specs.Shape.{Shape}
 use Rattle.host.specs.Host.{learned_of, reply_after}
@@ -7,7 +7,7 @@ use Rattle.world.specs.Entry.{Filled}
 use Rattle.world.specs.World.{world, IsRun}
 use Rattle.world.specs.Plain.{plains}
 use Rattle.world.specs.Chosen.{IsAcknowledgedAt}
-use Rattle.world.specs.Headline.{Begins, IsSafe, HasNoSecondLog}
+use Rattle.world.specs.Headline.{IsPrefix, IsSafe, HasNoSecondLog}
 use Rattle.world.specs.declared.entry.Entry.{Entry}
 use Rattle.cluster_tie.specs.Parts.{Own, of_host}
 use Rattle.cluster.specs.Receipts.{receipts_of}
@@ -34,7 +34,7 @@ HasReceipts c log own = (k : ℕ) (r : Receipt) → slice_get (receipts_of c own
 
 -- A seat goes by these commands: its host's own prefix begins them, and each command that it acknowledged stands among them at its slot, with the reply of the lock table there.
 pub record GoesBy (c : Shape) (commands : List Command) (own : Own) : Type 0 where
-  pub prefix : Begins (learned_of (host_in c own)) commands
+  pub prefix : IsPrefix (learned_of (host_in c own)) commands
   pub placed : (k : ℕ) (r : Receipt) → slice_get (receipts_of c own) k ≡ Some r → slice_get commands r.slot ≡ Some r.command
   pub replied : (k : ℕ) (r : Receipt) → slice_get (receipts_of c own) k ≡ Some r → r.reply ≡ reply_after (take r.slot commands) r.command
 

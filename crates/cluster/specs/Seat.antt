@@ -31,13 +31,13 @@ IsKeptFor (Submitting command) submitting = submitting ≡ Some command
 IsKeptFor Recovering submitting = submitting ≡ None
 
 -- nothing is told while a beat is under way
-abbrev pub IsBeating : Memory → Option (List Answered) → Type 0
-IsBeating m None = Unit {0}
-IsBeating m (Some heard) = m.said ≡ None
+abbrev pub IsSilentInBeat : Memory → Option (List Answered) → Type 0
+IsSilentInBeat m None = Unit {0}
+IsSilentInBeat m (Some heard) = m.said ≡ None
 
 -- nor while an attempt is, which is on a slot; its command is kept, and no beat is under way
 abbrev pub IsDoing : Shape → Memory → Option Doing → Option Command → Type 0
-IsDoing c m None submitting = IsBeating m m.beats.heard
+IsDoing c m None submitting = IsSilentInBeat m m.beats.heard
 IsDoing c m (Some t) submitting = (length m.learned < c.slots) × IsKeptFor t.operation submitting × (m.said ≡ None) × (m.beats.heard ≡ None)
 
 -- the host runs, and this is what it keeps

@@ -2,7 +2,7 @@ ghost use Rattle.std.specs.Prelude.{◌≡◌, ◌⊎◌, ◌≤◌, ◌+◌, �
 ghost use Rattle.host.specs.Host.{idles, learned_of};
 ghost use Rattle.world.specs.Entry.{Submit, Recover, Beat};
 ghost use Rattle.cluster.specs.Cluster.{GoesOn};
-ghost use Rattle.cluster.specs.Operations.{Answers, CarriesOne, Fails, IsRefusedBy, Operates, Restarts, Stops};
+ghost use Rattle.cluster.specs.Operations.{HasAnswered, CarriesOne, Fails, IsRefusedBy, Operates, Restarts, Stops};
 ghost use Rattle.cluster.specs.Seat.{host_in};
 
 use crate::cluster::Cluster;
@@ -39,7 +39,7 @@ impl<'a, N: Named, D: Disk + Drop> Cluster<'a, N, D> {
         requires host { command.host ≡ seat.old.number }
         requires tries { 1 ≤ tries }
         ensures steps { OnOk result (Operates N.shape (Submit seat.old.number command tries) seat.old seat.new) }
-        ensures answer { IfOk result (λ receipt. Answers N.shape (Resumed.Submitted receipt) seat.new) }
+        ensures answer { IfOk result (λ receipt. HasAnswered N.shape (Resumed.Submitted receipt) seat.new) }
         ensures command { IfOk result (λ receipt. (receipt.command ≡ command) × (receipt.host ≡ seat.old.number)) }
         ensures err { IfErr result (λ fault. Fails N.shape (Submit seat.old.number command tries) fault seat.old seat.new) }
     {
@@ -62,7 +62,7 @@ impl<'a, N: Named, D: Disk + Drop> Cluster<'a, N, D> {
         requires idle { idles (host_in N.shape seat.old) ≡ true }
         requires tries { 1 ≤ tries }
         ensures steps { OnOk result (Operates N.shape (Recover seat.old.number tries) seat.old seat.new) }
-        ensures answer { IfOk result (λ n. Answers N.shape (Resumed.Recovered n) seat.new) }
+        ensures answer { IfOk result (λ n. HasAnswered N.shape (Resumed.Recovered n) seat.new) }
         ensures err { IfErr result (λ fault. Fails N.shape (Recover seat.old.number tries) fault seat.old seat.new) }
     {
         self.journal.lock(rt).recover(seat, tries)?;
@@ -83,7 +83,7 @@ impl<'a, N: Named, D: Disk + Drop> Cluster<'a, N, D> {
     ) -> Result<u8, HostFault>
         requires { idles (host_in N.shape seat.old) ≡ true }
         ensures steps { OnOk result (Operates N.shape (Beat seat.old.number) seat.old seat.new) }
-        ensures answer { IfOk result (λ host. Answers N.shape (Resumed.Beaten host) seat.new) }
+        ensures answer { IfOk result (λ host. HasAnswered N.shape (Resumed.Beaten host) seat.new) }
         ensures err { IfErr result (λ fault. Fails N.shape (Beat seat.old.number) fault seat.old seat.new) }
     {
         self.journal.lock(rt).beat(seat)?;
@@ -103,7 +103,7 @@ impl<'a, N: Named, D: Disk + Drop> Cluster<'a, N, D> {
     ) -> Result<Resumed, HostFault>
         requires { idles (host_in N.shape seat.old) ≡ false }
         ensures steps { OnOk result (GoesOn N.shape seat.old seat.new) }
-        ensures answer { IfOk result (λ gave. Answers N.shape gave seat.new) }
+        ensures answer { IfOk result (λ gave. HasAnswered N.shape gave seat.new) }
         ensures err { IfErr result (λ fault. Stops N.shape fault seat.old seat.new) }
     {
         seat.carries_one();
@@ -154,7 +154,7 @@ impl<'a, N: Named, D: Disk + Drop> Cluster<'a, N, D> {
 fn outcome<N: Named>(seat: &HostSeat<N>) -> Result<Resumed, HostFault>
     requires over { idles (host_in N.shape seat.now) ≡ true }
     requires carried { CarriesOne N.shape seat.now }
-    ensures answer { IfOk result (λ gave. Answers N.shape gave seat.now) }
+    ensures answer { IfOk result (λ gave. HasAnswered N.shape gave seat.now) }
     ensures refused { IfErr result (λ fault. IsRefusedBy N.shape fault seat.now) }
 {
     match seat.answer() {

@@ -11,7 +11,7 @@ use Rattle.atomic_table.proofs.Lists.{at_set, set_again}
 use Rattle.world.specs.Entry.{Filled, Start, Stop, Submit, Recover, Beat, Called, Torn, Crashed, Lost, is_on, is_of}
 use Rattle.cluster_tie.specs.Parts.{Placed, belongs, placed, disk_of, host_of, Own, own_of, AreFresh}
 use Rattle.cluster_tie.specs.View.{Part, Known, part, keeper, holder, kept_back, handed, lent, own, parts_from, host_parts, all_parts}
-use Rattle.cluster_tie.specs.Rules.{same_role, Each, Shows, Fits, Kept, Tied, grown, Agrees, Appended, appended, seen}
+use Rattle.cluster_tie.specs.Rules.{same_role, Each, IsPartOf, Fits, Kept, Tied, grown, Agrees, Appended, appended, seen}
 
 off : false ≡ true → ⊥
 off e = true≢false (sym e)
@@ -44,7 +44,7 @@ HasRole kind n (p ∷ ps) = ((p.of_disk ≡ kind) × (p.number ≡ n)) ⊎ HasRo
 abbrev pub Covers : Filled → List Part → Type 0
 Covers e ps = (kind : Bool) (n : ℕ) → belongs kind n e ≡ true → HasRole kind n ps
 
-owner_of : (by : ℕ) (owner : Bool → ℕ → ℕ) (log : List Filled) (ps : List Part) (kind : Bool) (n : ℕ) → Each (Shows by owner log) ps → HasRole kind n ps → owner kind n ≡ by
+owner_of : (by : ℕ) (owner : Bool → ℕ → ℕ) (log : List Filled) (ps : List Part) (kind : Bool) (n : ℕ) → Each (IsPartOf by owner log) ps → HasRole kind n ps → owner kind n ≡ by
 owner_of by owner log [] kind n h r = absurd r
 owner_of by owner log (p ∷ ps) kind n h (inl r) = (λ i. owner (sym r.0 i) (sym r.1 i)) ∙ h.0.0
 owner_of by owner log (p ∷ ps) kind n h (inr r) = owner_of by owner log ps kind n h.1 r
@@ -65,36 +65,36 @@ append_nil [] = refl
 append_nil (x ∷ xs) = ap (λ ys. x ∷ ys) (append_nil xs)
 
 -- a part to which the entry does not belong stays
-shows_else : (by : ℕ) (owner : Bool → ℕ → ℕ) (log : List Filled) (e : Filled) (p : Part) (b : Bool) → belongs p.of_disk p.number e ≡ b → (b ≡ true → ⊥) → Shows by owner log p → Shows by owner (log ++ e ∷ []) p
-shows_else by owner log e p true is other h = absurd (other refl)
-shows_else by owner log e p false is other h = (h.0, h.1 ∙ sym (append_nil (placed 0 p.of_disk p.number log)) ∙ ap (λ (b : Bool). placed 0 p.of_disk p.number log ++ cond b ((length log, e) ∷ []) []) (sym is) ∙ sym (part_grows p.of_disk p.number log e))
+part_else : (by : ℕ) (owner : Bool → ℕ → ℕ) (log : List Filled) (e : Filled) (p : Part) (b : Bool) → belongs p.of_disk p.number e ≡ b → (b ≡ true → ⊥) → IsPartOf by owner log p → IsPartOf by owner (log ++ e ∷ []) p
+part_else by owner log e p true is other h = absurd (other refl)
+part_else by owner log e p false is other h = (h.0, h.1 ∙ sym (append_nil (placed 0 p.of_disk p.number log)) ∙ ap (λ (b : Bool). placed 0 p.of_disk p.number log ++ cond b ((length log, e) ∷ []) []) (sym is) ∙ sym (part_grows p.of_disk p.number log e))
 
-shows_grown : (by : ℕ) (owner : Bool → ℕ → ℕ) (log : List Filled) (e : Filled) (p : Part) → Shows by owner log p → Shows by owner (log ++ e ∷ []) (grown (length log) e p)
-shows_grown by owner log e p h = (h.0, ap (λ xs. xs ++ cond (belongs p.of_disk p.number e) ((length log, e) ∷ []) []) h.1 ∙ sym (part_grows p.of_disk p.number log e))
+part_grown : (by : ℕ) (owner : Bool → ℕ → ℕ) (log : List Filled) (e : Filled) (p : Part) → IsPartOf by owner log p → IsPartOf by owner (log ++ e ∷ []) (grown (length log) e p)
+part_grown by owner log e p h = (h.0, ap (λ xs. xs ++ cond (belongs p.of_disk p.number e) ((length log, e) ∷ []) []) h.1 ∙ sym (part_grows p.of_disk p.number log e))
 
-agrees : (by : ℕ) (owner : Bool → ℕ → ℕ) (log now : List Filled) → now ≡ log → (ps : List Part) → Each (Shows by owner log) ps → Each (Agrees now) ps
-agrees by owner log now same ps h = all_more (Shows by owner log) (Agrees now) ps (λ p s. s.1 ∙ ap (placed 0 p.of_disk p.number) (sym same)) h
+agrees : (by : ℕ) (owner : Bool → ℕ → ℕ) (log now : List Filled) → now ≡ log → (ps : List Part) → Each (IsPartOf by owner log) ps → Each (Agrees now) ps
+agrees by owner log now same ps h = all_more (IsPartOf by owner log) (Agrees now) ps (λ p s. s.1 ∙ ap (placed 0 p.of_disk p.number) (sym same)) h
 
 pub appends : (id : ℕ) (log : List Filled) (ps : List Part) (e : Filled) → Covers e ps → (views : List Known) → Kept views → get_elem? views id ≡ some (keeper log ps)
     → Kept (set views id (keeper (log ++ e ∷ []) (map (grown (length log) e) ps))) × Each (Agrees log) ps
 appends id log ps e covers views h at =
     let mine = h.3 id (keeper log ps) at in
     let same : log ≡ h.2 = (mine.0 refl).1 in
-    let parts : Each (Shows id h.1 log) ps = subst (λ (l : List Filled). Each (Shows id h.1 l) ps) (sym same) mine.1 in
+    let parts : Each (IsPartOf id h.1 log) ps = subst (λ (l : List Filled). Each (IsPartOf id h.1 l) ps) (sym same) mine.1 in
     let w = keeper (log ++ e ∷ []) (map (grown (length log) e) ps) in
     let now : List Filled = log ++ e ∷ [] in
     let others : (j : ℕ) (u : Known) → j ≢ id → get_elem? views j ≡ some u → Fits h.0 h.1 now j u
     = λ j u apart is. let f = h.3 j u is in (
       (λ k. absurd (apart ((f.0 k).0 ∙ sym (mine.0 refl).0))),
-      all_more (Shows j h.1 log) (Shows j h.1 now) u.parts
-          (λ p s. shows_else j h.1 log e p (belongs p.of_disk p.number e) refl (λ b. apart (sym s.0 ∙ owner_of id h.1 log ps p.of_disk p.number parts (covers p.of_disk p.number b))) s)
-          (subst (λ (l : List Filled). Each (Shows j h.1 l) u.parts) (sym same) f.1),
+      all_more (IsPartOf j h.1 log) (IsPartOf j h.1 now) u.parts
+          (λ p s. part_else j h.1 log e p (belongs p.of_disk p.number e) refl (λ b. apart (sym s.0 ∙ owner_of id h.1 log ps p.of_disk p.number parts (covers p.of_disk p.number b))) s)
+          (subst (λ (l : List Filled). Each (IsPartOf j h.1 l) u.parts) (sym same) f.1),
     ) in (
       (
         h.0,
         h.1,
         now,
-        fits_set h.0 h.1 now views id w others ((λ _. ((mine.0 refl).0, refl)), all_map (Shows id h.1 log) (Shows id h.1 now) (grown (length log) e) ps (λ p s. shows_grown id h.1 log e p s) parts),
+        fits_set h.0 h.1 now views id w others ((λ _. ((mine.0 refl).0, refl)), all_map (IsPartOf id h.1 log) (IsPartOf id h.1 now) (grown (length log) e) ps (λ p s. part_grown id h.1 log e p s) parts),
       ),
       agrees id h.1 h.2 log same ps mine.1,
     )
@@ -130,14 +130,14 @@ given owner p to kind n = cond (same_role kind n p) to (owner kind n)
 abbrev pub Apart : Part → Part → Type 0
 Apart p q = same_role q.of_disk q.number p ≡ false
 
-stays_given : (by : ℕ) (owner : Bool → ℕ → ℕ) (log : List Filled) (p : Part) (to : ℕ) (q : Part) → Apart p q → Shows by owner log q → Shows by (given owner p to) log q
+stays_given : (by : ℕ) (owner : Bool → ℕ → ℕ) (log : List Filled) (p : Part) (to : ℕ) (q : Part) → Apart p q → IsPartOf by owner log q → IsPartOf by (given owner p to) log q
 stays_given by owner log p to q apart h = (ap (λ (b : Bool). cond b to (owner q.of_disk q.number)) apart ∙ h.0, h.1)
 
-all_given : (by : ℕ) (owner : Bool → ℕ → ℕ) (log : List Filled) (p : Part) (to : ℕ) (qs : List Part) → Each (Apart p) qs → Each (Shows by owner log) qs → Each (Shows by (given owner p to) log) qs
+all_given : (by : ℕ) (owner : Bool → ℕ → ℕ) (log : List Filled) (p : Part) (to : ℕ) (qs : List Part) → Each (Apart p) qs → Each (IsPartOf by owner log) qs → Each (IsPartOf by (given owner p to) log) qs
 all_given by owner log p to [] a h = tt
 all_given by owner log p to (q ∷ qs) a h = (stays_given by owner log p to q a.0 h.0, all_given by owner log p to qs a.1 h.1)
 
-others_given : (j id : ℕ) (owner : Bool → ℕ → ℕ) (log : List Filled) (p : Part) (to : ℕ) → j ≢ id → owner p.of_disk p.number ≡ id → (q : Part) → (b : Bool) → same_role q.of_disk q.number p ≡ b → Shows j owner log q → Shows j (given owner p to) log q
+others_given : (j id : ℕ) (owner : Bool → ℕ → ℕ) (log : List Filled) (p : Part) (to : ℕ) → j ≢ id → owner p.of_disk p.number ≡ id → (q : Part) → (b : Bool) → same_role q.of_disk q.number p ≡ b → IsPartOf j owner log q → IsPartOf j (given owner p to) log q
 others_given j id owner log p to apart its q true is h = absurd (apart (sym h.0 ∙ role_owner owner q.of_disk p.of_disk q.number p.number p.entries [] is ∙ its))
 others_given j id owner log p to apart its q false is h = stays_given j owner log p to q is h
 
@@ -145,7 +145,7 @@ pub splits : (id : ℕ) (v : Known) (p : Part) (ps : List Part) → v.parts ≡ 
     → Kept (set views id (kept_back v) ++ handed v ∷ [])
 splits id v p ps is apart views h at =
     let mine = h.3 id v at in
-    let parts : Each (Shows id h.1 h.2) (p ∷ ps) = subst (Each (Shows id h.1 h.2)) is mine.1 in
+    let parts : Each (IsPartOf id h.1 h.2) (p ∷ ps) = subst (Each (IsPartOf id h.1 h.2)) is mine.1 in
     let to : ℕ = length (set views id (kept_back v)) in
     let owner = given h.1 p to in
     let rest : kept_back v ≡ record { keeps = v.keeps; log = v.log; parts = ps } = ap (λ (l : List Part). record { keeps = v.keeps; log = v.log; parts = drop 1 l }) is in
@@ -153,7 +153,7 @@ splits id v p ps is apart views h at =
     let fits_rest : Fits h.0 owner h.2 id (kept_back v) = subst (Fits h.0 owner h.2 id) (sym rest) (mine.0, all_given id h.1 h.2 p to ps apart parts.1) in
     let fits_one : Fits h.0 owner h.2 to (handed v) = subst (Fits h.0 owner h.2 to) (sym one) ((λ k. absurd (off k)), ((ap (λ (b : Bool). cond b to (h.1 p.of_disk p.number)) (same_itself p.of_disk p.number p.entries), parts.0.1), tt)) in
     let others : (j : ℕ) (u : Known) → j ≢ id → get_elem? views j ≡ some u → Fits h.0 owner h.2 j u
-    = λ j u away there. let f = h.3 j u there in (f.0, all_more (Shows j h.1 h.2) (Shows j owner h.2) u.parts (λ q s. others_given j id h.1 h.2 p to away parts.0.0 q (same_role q.of_disk q.number p) refl s) f.1) in (
+    = λ j u away there. let f = h.3 j u there in (f.0, all_more (IsPartOf j h.1 h.2) (IsPartOf j owner h.2) u.parts (λ q s. others_given j id h.1 h.2 p to away parts.0.0 q (same_role q.of_disk q.number p) refl s) f.1) in (
       h.0,
       owner,
       h.2,
@@ -173,11 +173,11 @@ is_itself n = grind (arith, nat_tests)
 not_other : (n m : ℕ) → n ≢ m → (n == m) ≡ false
 not_other n m apart = grind (arith, nat_tests)
 
-shows_moved : (id other : ℕ) (owner : Bool → ℕ → ℕ) (log : List Filled) (p : Part) → Shows other owner log p → Shows id (moved owner other id) log p
-shows_moved id other owner log p h = (ap (λ (n : ℕ). cond (n == other) id n) h.0 ∙ ap (λ (b : Bool). cond b id other) (is_itself other), h.1)
+part_moved : (id other : ℕ) (owner : Bool → ℕ → ℕ) (log : List Filled) (p : Part) → IsPartOf other owner log p → IsPartOf id (moved owner other id) log p
+part_moved id other owner log p h = (ap (λ (n : ℕ). cond (n == other) id n) h.0 ∙ ap (λ (b : Bool). cond b id other) (is_itself other), h.1)
 
-shows_stays : (j id other : ℕ) → j ≢ other → (owner : Bool → ℕ → ℕ) (log : List Filled) (p : Part) → Shows j owner log p → Shows j (moved owner other id) log p
-shows_stays j id other apart owner log p h = (ap (λ (n : ℕ). cond (n == other) id n) h.0 ∙ ap (λ (b : Bool). cond b id j) (not_other j other apart), h.1)
+part_stays : (j id other : ℕ) → j ≢ other → (owner : Bool → ℕ → ℕ) (log : List Filled) (p : Part) → IsPartOf j owner log p → IsPartOf j (moved owner other id) log p
+part_stays j id other apart owner log p h = (ap (λ (n : ℕ). cond (n == other) id n) h.0 ∙ ap (λ (b : Bool). cond b id j) (not_other j other apart), h.1)
 
 pub joins : (id : ℕ) (v : Known) (other : ℕ) (w : Known) (views : List Known) → Kept views → get_elem? views id ≡ some v → (other ≡ id → ⊥) → get_elem? (set views id (lent v w)) other ≡ some w
     → Kept (set (set views id (lent v w)) other (holder []))
@@ -186,14 +186,14 @@ joins id v other w views h at apart there =
     let away : id ≢ other = λ e. apart (sym e) in
     let theirs = ⊎_elim (λ (t : (other ≡ id) × (lent v w ≡ w)). absurd (apart t.0)) (λ (t : (other ≢ id) × (get_elem? views other ≡ some w)). h.3 other w t.1) (at_set views id other (lent v w) w there) in
     let owner = moved h.1 other id in
-    let both : Fits h.0 owner h.2 id (lent v w) = (mine.0, all_append (Shows id owner h.2) v.parts w.parts (all_more (Shows id h.1 h.2) (Shows id owner h.2) v.parts (shows_stays id id other away h.1 h.2) mine.1) (all_more (Shows other h.1 h.2) (Shows id owner h.2) w.parts (shows_moved id other h.1 h.2) theirs.1)) in (
+    let both : Fits h.0 owner h.2 id (lent v w) = (mine.0, all_append (IsPartOf id owner h.2) v.parts w.parts (all_more (IsPartOf id h.1 h.2) (IsPartOf id owner h.2) v.parts (part_stays id id other away h.1 h.2) mine.1) (all_more (IsPartOf other h.1 h.2) (IsPartOf id owner h.2) w.parts (part_moved id other h.1 h.2) theirs.1)) in (
       h.0,
       owner,
       h.2,
       fits_set h.0 owner h.2 (set views id (lent v w)) other (holder [])
           (λ j u far e. ⊎_elim
           (λ (x : (j ≡ id) × (lent v w ≡ u)). subst (λ (y : ℕ × Known). Fits h.0 owner h.2 y.0 y.1) (λ i. (sym x.0 i, x.1 i)) both)
-          (λ (x : (j ≢ id) × (get_elem? views j ≡ some u)). let f = h.3 j u x.1 in (f.0, all_more (Shows j h.1 h.2) (Shows j owner h.2) u.parts (shows_stays j id other far h.1 h.2) f.1))
+          (λ (x : (j ≢ id) × (get_elem? views j ≡ some u)). let f = h.3 j u x.1 in (f.0, all_more (IsPartOf j h.1 h.2) (IsPartOf j owner h.2) u.parts (part_stays j id other far h.1 h.2) f.1))
           (at_set views id j (lent v w) u e))
           ((λ k. absurd (off k)), tt),
     )
@@ -318,15 +318,15 @@ lent_part log ps kind n xs jm jm' dm dm' is_j is_d is_handed is_lent =
     let handed_is : dm' ≡ (own kind n xs, []) = is_handed ∙ ap (λ (m : Me ℕ Known). (handed m.0, [])) is_d in
     is_lent ∙ (λ i. (lent (is_j i).0 (handed_is i).0, (is_j i).1))
 
-all_shown : (kind : Bool) (n count : ℕ) → Each (Shows 0 (λ _ _. 0) []) (parts_from kind n count)
-all_shown kind n zero = tt
-all_shown kind n (suc count) = ((refl, refl), all_shown kind (n + 1) count)
+each_is_part : (kind : Bool) (n count : ℕ) → Each (IsPartOf 0 (λ _ _. 0) []) (parts_from kind n count)
+each_is_part kind n zero = tt
+each_is_part kind n (suc count) = ((refl, refl), each_is_part kind (n + 1) count)
 
 pub opens : (disks : ℕ) → Kept (keeper [] (all_parts disks) ∷ [])
 opens disks = (0, (λ _ _. 0), [], one)
   where
     one : (by : ℕ) (v : Known) → get_elem? (keeper [] (all_parts disks) ∷ []) by ≡ some v → Fits 0 (λ _ _. 0) [] by v
-    one zero v e = subst (Fits 0 (λ _ _. 0) [] 0) (some-injective _ _ e) ((λ _. (refl, refl)), all_append (Shows 0 (λ _ _. 0) []) (parts_from true 0 disks) host_parts (all_shown true 0 disks) (all_shown false 0 8))
+    one zero v e = subst (Fits 0 (λ _ _. 0) [] 0) (some-injective _ _ e) ((λ _. (refl, refl)), all_append (IsPartOf 0 (λ _ _. 0) []) (parts_from true 0 disks) host_parts (each_is_part true 0 disks) (each_is_part false 0 8))
     one (suc by) v e = absurd (some-ne-none v (sym e))
 
 -- the parts that are still to be dealt

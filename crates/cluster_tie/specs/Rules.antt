@@ -18,13 +18,13 @@ same_role true n p = p.of_disk && (p.number == n)
 same_role false n p = if p.of_disk then false else (p.number == n)
 
 -- the part is that of its owner, and what the list has of it
-abbrev pub Shows : ℕ → (Bool → ℕ → ℕ) → List Filled → Part → Type 0
-Shows by owner log p =
+abbrev pub IsPartOf : ℕ → (Bool → ℕ → ℕ) → List Filled → Part → Type 0
+IsPartOf by owner log p =
     (owner p.of_disk p.number ≡ by) × (p.entries ≡ placed 0 p.of_disk p.number log)
 
 abbrev pub Fits : ℕ → (Bool → ℕ → ℕ) → List Filled → ℕ → Known → Type 0
 Fits seat owner log by v =
-    (v.keeps ≡ true → (by ≡ seat) × (v.log ≡ log)) × Each (Shows by owner log) v.parts
+    (v.keeps ≡ true → (by ≡ seat) × (v.log ≡ log)) × Each (IsPartOf by owner log) v.parts
 
 abbrev pub Kept : List Known → Type 0
 Kept views =

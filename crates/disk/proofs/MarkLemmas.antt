@@ -1,5 +1,5 @@
 -- Which positions are marked after a write, and after a step of the epoch.
-use Rattle.std.proofs.Common.{◌≡◌, ℕ, ◌+◌, ◌-◌, ◌*◌, ◌/◌, ◌%◌, ◌<◌, ◌≤◌, ◌==◌, min, max, Bool, true, false, cond, List, length, get_or, set, replicate, refl, sym, ◌∙◌, ap, inl, inr, arith}
+use Rattle.std.proofs.Common.{◌≡◌, ℕ, ◌+◌, ◌-◌, ◌*◌, ◌/◌, ◌%◌, ◌<◌, ◌≤◌, ◌==◌, min, max, Bool, true, false, cond, List, length, get_or, set, replicate, sym, ◌∙◌, ap, inl, inr, arith}
 use Rattle.std.proofs.lemmas.Bool.{cases_lt, cases_eq, ne_eqb}
 use Rattle.std.proofs.lemmas.List.{length-replicate, get_or-replicate, get_or-set_same, get_or-set_other, get_or_past, ext_get_or}
 use Rattle.std.proofs.lemmas.List.FromFn.{length-map-range_with_len, get_or-map-range_with_len}
@@ -23,11 +23,6 @@ pub record MarksRange (epoch at end : ℕ) (old new : List Word) : Type 0 where
   pub below : (k : ℕ) → k < at → is_marked epoch new k ≡ is_marked epoch old k
   pub inside : (k : ℕ) → at ≤ k → k < end → is_marked epoch new k ≡ true
   pub above : (k : ℕ) → end ≤ k → is_marked epoch new k ≡ is_marked epoch old k
-
--- an empty range
-pub marks_none : (epoch at : ℕ) (old : List Word) → MarksRange epoch at at old old
-marks_none epoch at old =
-    record { below = λ k b. refl; inside = λ k f b. absurd (omega arith); above = λ k a. refl }
 
 -- as a list of flags: the range is put into it
 pub marks_put : (epoch at end size : ℕ) (old new : List Word) → at ≤ end → end ≤ size → MarksRange epoch at end old new → marks epoch new size ≡ put_at (marks epoch old size) at (replicate (end - at) true)

@@ -1,9 +1,9 @@
 -- How long an operation lasts: each answer brings it nearer to its end.
-use Rattle.std.proofs.Common.{◌≡◌, ◌<◌, ◌≤◌, ◌+◌, ◌-◌, ◌*◌, ℕ, zero, suc, Bool, true, false, List, [], ◌∷◌, ◌++◌, length, nat_lt, nat_le, Option, Some, None, refl, sym, ◌∙◌, ap, subst, arith, rules, if◌then◌else◌, slice_get, slice_index_or, slice_set, take, drop}
+use Rattle.std.proofs.Common.{◌≡◌, ◌<◌, ◌≤◌, ◌+◌, ◌-◌, ◌*◌, ℕ, zero, suc, Bool, true, false, List, [], ◌∷◌, ◌++◌, length, nat_lt, nat_le, Option, Some, None, refl, sym, ◌∙◌, ap, subst, arith, if◌then◌else◌, slice_get, slice_set, take, drop}
 use Rattle.std.proofs.Math.Seq.{take-append_seam}
 use Rattle.std.proofs.lemmas.Bool.{ltb-true, leb-false}
 use Rattle.std.proofs.lemmas.List.{length-append}
-use Rattle.attempt.specs.Answers.{Answered, on}
+use Rattle.attempt.specs.Answers.{Answered}
 use Rattle.attempt.specs.History.{IsAnswerTo, Fits}
 use Rattle.attempt.specs.Status as attempt
 use Rattle.attempt.specs.Status.{Status, Due, Ended}
@@ -15,8 +15,8 @@ use Rattle.beats.specs.declared.notes.Notes.{Notes as BeatNotes}
 use Rattle.phases.specs.Calls.{heard_of}
 use Rattle.phases.specs.declared.heard.Heard as code_heard
 use Rattle.slot_log.specs.Shape.{Shape}
-use Rattle.host.specs.Host.{Operation, Doing, Memory, Beats, fresh, hears, hears_from, goes_on, begins, by_status, takes, after_learning, is_submitted, learns, with_heard, with_floor, tries_again, next_in, rests, is_idle_in}
-use Rattle.host.specs.Kept.{Kept, LeadsTo, IsBeating, is_idle}
+use Rattle.host.specs.Host.{Operation, Doing, Memory, Beats, hears, hears_from, goes_on, begins, by_status, takes, after_learning, is_submitted, learns, with_heard, with_floor, tries_again, next_in, rests, is_idle_in}
+use Rattle.host.specs.Kept.{Kept, LeadsTo, BeatLeadsTo, is_idle}
 use Rattle.host.proofs.Hosts.{idle_is, from_attempt, beats-goes_on, beats-hears}
 use Rattle.std.specs.Prelude.{is_some}
 use Rattle.std.proofs.Common.{true≢false}
@@ -115,15 +115,6 @@ heard_more old now new x before fits leads = record {
   leads = λ c h m is. subst (λ (n : Memory). LeadsTo c h n new) (sym (after_one_more c h m before.heard x)) (leads c h (after_answers c h m before.heard) (before.leads c h m is));
 }
 
--- a host with nothing left to do is idle
-idle_by : (c : Shape) (m : Memory) (n : ℕ) (o : Option Doing) → m.beats.heard ≡ None → left_with c n o ≤ 0 → is_idle_in m o ≡ true
-idle_by c m n None rest none = ap rests rest
-idle_by c m n (Some t) rest none = absurd (omega arith)
-
-pub idle_at_last : (c : Shape) (old new : Kept) → IsDriven c old new 0 → is_idle new ≡ true
-idle_at_last c old new driven =
-    idle_is c driven.host driven.memory new driven.leads ∙ idle_by c driven.memory (length driven.memory.learned) driven.memory.doing driven.rest driven.left
-
 -- what is left to do at first
 left_at_first : (c : Shape) (n : ℕ) (o : Option Doing) → c.slots ≤ 4096 → tries_in o ≤ 255 → left_with c n o ≤ 125859960
 left_at_first c n None slots tries = omega arith
@@ -166,12 +157,12 @@ driven_more c old now new x made few by driven =
     }
 
 -- no beat hears the answer, so the attempt does
-none_kept : (c : Shape) (h : ℕ) (o : Option (List Beaten)) (beat : Option BeatNotes) → IsBeating c h o beat → o ≡ None → beat ≡ None
+none_kept : (c : Shape) (h : ℕ) (o : Option (List Beaten)) (beat : Option BeatNotes) → BeatLeadsTo c h o beat → o ≡ None → beat ≡ None
 none_kept c h None None going none = refl
 none_kept c h None (Some notes) going none = absurd going
 none_kept c h (Some heard) beat going none = absurd (cc)
 
-none_known : (c : Shape) (h : ℕ) (o : Option (List Beaten)) (beat : Option BeatNotes) → IsBeating c h o beat → beat ≡ None → o ≡ None
+none_known : (c : Shape) (h : ℕ) (o : Option (List Beaten)) (beat : Option BeatNotes) → BeatLeadsTo c h o beat → beat ≡ None → o ≡ None
 none_known c h None beat going none = refl
 none_known c h (Some heard) None going none = absurd going
 none_known c h (Some heard) (Some notes) going none = absurd (cc)

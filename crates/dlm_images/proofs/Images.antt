@@ -1,9 +1,5 @@
 -- Lists whose elements all meet a condition.
-use Rattle.std.proofs.Common.{◌≡◌, ◌<◌, ◌+◌, ℕ, zero, suc, List, [], ◌∷◌, length, Some, slice_get, slice_set, replicate, refl, subst, Result, Ok, Err, IfOk, arith}
-use Rattle.disk.specs.declared.fault.ImageFault.{ImageFault}
-use Rattle.paxos_block.specs.declared.header.Header.{Header}
-use Rattle.paxos_block.specs.Headers.{IsHeader}
-use Rattle.dlm_images.specs.Sets.{Found}
+use Rattle.std.proofs.Common.{◌≡◌, ◌<◌, ◌+◌, ℕ, zero, suc, List, [], ◌∷◌, Some, slice_get, slice_set, replicate, subst, arith}
 
 -- each element meets it
 abbrev pub Each : {X : Type 0} → (X → Type 0) → List X → Type 0
@@ -33,6 +29,3 @@ EachBelow-more P (y ∷ ys) zero v pv there all zero x below is = let e : v ≡ 
 EachBelow-more P (y ∷ ys) zero v pv there all (suc k) x below is = absurd (omega (arith, below))
 EachBelow-more P (y ∷ ys) (suc i) v pv there all zero x below is = all zero x (omega arith) is
 EachBelow-more P (y ∷ ys) (suc i) v pv there all (suc k) x below is = EachBelow-more P ys i v pv there (λ n z lt e. all (suc n) z (omega (arith, lt)) e) k x (omega (arith, below)) is
-
-abbrev pub AreHeaders : Found → Type 0
-AreHeaders found = Each (λ r. IfOk r IsHeader) found

@@ -6,11 +6,12 @@ use crate::fault::FolderFault;
 use crate::image::image_path;
 use disk::{Boot, Disk, DiskFault, FileDisk, ImageFault};
 use host::Config;
-use paxos_block::{GATE, Header, encode_header, image_length};
+use paxos_block::{Header, encode_header, image_length};
 use std::fs::OpenFile;
 use std::os::unix::fs::FileExt;
 use std::path::PathBuf;
 use std::rt::Files;
+use torn_block::OPEN_GATE;
 
 /// How many zeros are written at once.
 const CHUNK: usize = 4096;
@@ -70,7 +71,7 @@ pub fn lay_out<D: Disk>(device: &mut D, header: &Header) -> Result<(), DiskFault
     bytes[0] = 0;
     device.write(boot, 0, &bytes)?;
     device.sync(boot)?;
-    device.write(boot, 0, &[GATE])?;
+    device.write(boot, 0, &[OPEN_GATE])?;
     device.sync(boot)
 }
 

@@ -64,14 +64,6 @@ module _ (area : List ℕ) where
   unfolding area_said
   unsaid_if_any t = cond-true (list_any is_damaged_at hosts) None (Some area) t
 
-  -- what is said is the area
-  pub said_is : (said : List ℕ) → area_said area ≡ Some said → said ≡ area
-  said_is said is =
-      elim (cases_Bool (list_any is_damaged_at hosts)) [
-        | inl t ↦ (let none = unsaid_if_any t in absurd cc)
-        | inr f ↦ (let some = said_if_none f in cc)
-      ]
-
   module _ (long : length area ≡ ROW_LENGTH) where
     -- an area of sound blocks says them
     pub sound_area : ((host : ℕ) → host < HOSTS → IsSoundBlock IsBeat (block_of host area)) → area_said area ≡ Some area

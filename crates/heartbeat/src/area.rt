@@ -6,8 +6,8 @@ ghost use Rattle.heartbeat.specs.Beat.{IsBeat, beat_body, counter_of, AreCounter
 
 use thiserror::Error;
 use torn_block::{
-    BLOCK_LENGTH, BODY_LENGTH, Body, COPY_LENGTH, HOSTS, ROW_LENGTH, VERSION, block_in, has_twins,
-    is_open, is_sequence, sequence_in,
+    BLOCK_LENGTH, BODY_LENGTH, Body, COPY_LENGTH, HOSTS, ROW_LENGTH, VERSION, block_from,
+    has_twins, is_open, is_sequence, sequence_in,
 };
 
 /// Some open copy of an area is no beat, or both copies of a block are open with one sequence number.
@@ -60,7 +60,7 @@ fn counter_in(bytes: &[u8]) -> Result<u64, Damaged>
     if is_damaged(first, second) {
         return Err(Damaged);
     }
-    let block = block_in(bytes);
+    let block = block_from(bytes);
     Ok(match block.current {
         None => 0,
         Some(_) => block.sequence,

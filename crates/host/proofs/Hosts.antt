@@ -42,8 +42,8 @@ use Rattle.slot_log.specs.declared.outcome.Refusal.TheVariants as refusal
 use Rattle.host.specs.declared.answer.HostAnswer.{HostAnswer}
 use Rattle.host.specs.declared.answer.HostAnswer.TheVariants.{Ack, Recovered, Beaten, Refused}
 use Rattle.host.specs.Alone.{IsAnsweredAlone, IsWithinNine}
-use Rattle.host.specs.Host.{Beats, Memory, Doing, Operation, Submitting, Recovering, input_of, setup_of, says, begins, goes_on, full_answer, learns, takes, after_learning, is_submitted, with_floor, by_status, hears, with_heard, reply_after, hears_from, hears_beat, beat_of, beat_by, with_beats, suggested, is_idle_in, rests as rests_in, next_in, next_doing, next_beat}
-use Rattle.host.specs.Kept.{Kept, LeadsTo, operation_of, outcome_in, doing_of, values_with, values_of, answer_of, option_list, IsBeating, IsAlone, rests, is_idle}
+use Rattle.host.specs.Host.{Beats, Memory, Doing, Operation, Submitting, Recovering, input_of, setup_of, says, begins, goes_on, full_answer, learns, takes, after_learning, is_submitted, with_floor, by_status, hears, with_heard, reply_after, hears_from, hears_beat, beat_of, beat_by, with_beats, suggested, is_idle_in, rests, next_in, next_doing, next_beat}
+use Rattle.host.specs.Kept.{Kept, LeadsTo, operation_of, outcome_in, doing_of, values_with, values_of, answer_of, option_list, BeatLeadsTo, BeatsAlone, has_no_beat, is_idle}
 
 -- ANSWERS
 
@@ -324,7 +324,7 @@ module _ (c : Shape) (h : ℕ) (last : Option Outcome) (m : Memory) (t : Doing) 
 
 -- what follows for a host from what follows for its learner
 pub follows : (c : Shape) (h : ℕ) (m : Memory) (l : log.Memory) (k : Kept) (reply : Option Reply) → learners.LeadsTo c h l k.learner → l ≡ values_of m → k.prefix ≡ m.learned → k.said ≡ answer_of k.learner.said reply → Carries reply m.said
-    → option_map (take c.disks) k.readings ≡ m.beats.readings → IsBeating c h m.beats.heard k.beat → LeadsTo c h m k
+    → option_map (take c.disks) k.readings ≡ m.beats.readings → BeatLeadsTo c h m.beats.heard k.beat → LeadsTo c h m k
 follows c h m l k reply leads is prefix said carries readings beat =
     let Known : log.Memory → Type 0 = λ n. learners.LeadsTo c h n k.learner in
     let known : learners.LeadsTo c h (values_of m) k.learner = subst Known is leads in
@@ -378,10 +378,10 @@ pub beats-hears : (c : Shape) (h : ℕ) (m : Memory) (x : Answered) → (hears c
 beats-hears c h m x = beats_heard c h m m.doing x
 
 -- and what is kept of them
-pub beats_kept : (c : Shape) (h : ℕ) (m new : Memory) (readings : Option Readings) (beat : Option beat_notes.Notes) → new.beats ≡ m.beats → option_map (take c.disks) readings ≡ m.beats.readings → IsBeating c h m.beats.heard beat
-    → (option_map (take c.disks) readings ≡ new.beats.readings) × IsBeating c h new.beats.heard beat
+pub beats_kept : (c : Shape) (h : ℕ) (m new : Memory) (readings : Option Readings) (beat : Option beat_notes.Notes) → new.beats ≡ m.beats → option_map (take c.disks) readings ≡ m.beats.readings → BeatLeadsTo c h m.beats.heard beat
+    → (option_map (take c.disks) readings ≡ new.beats.readings) × BeatLeadsTo c h new.beats.heard beat
 beats_kept c h m new readings beat same are going =
-    (are ∙ ap (λ (b : Beats). b.readings) (sym same), subst (λ (b : Beats). IsBeating c h b.heard beat) (sym same) going)
+    (are ∙ ap (λ (b : Beats). b.readings) (sym same), subst (λ (b : Beats). BeatLeadsTo c h b.heard beat) (sym same) going)
 
 -- LEFT ALONE
 
@@ -402,22 +402,22 @@ and_true true is = is
 and_true false is = refl
 
 -- with no beat under way the learner is busy
-pub attempt_busy : (learner : learners.Kept) (beat : Option beat_notes.Notes) → beat ≡ None → (learners.is_idle learner && rests beat) ≡ false → learners.is_idle learner ≡ false
-attempt_busy learner beat none busy = and_true (learners.is_idle learner) (subst (λ (b : Option beat_notes.Notes). (learners.is_idle learner && rests b) ≡ false) none busy)
+pub attempt_busy : (learner : learners.Kept) (beat : Option beat_notes.Notes) → beat ≡ None → (learners.is_idle learner && has_no_beat beat) ≡ false → learners.is_idle learner ≡ false
+attempt_busy learner beat none busy = and_true (learners.is_idle learner) (subst (λ (b : Option beat_notes.Notes). (learners.is_idle learner && has_no_beat b) ≡ false) none busy)
 
 idle_with : (c : Shape) (h : ℕ) (m : log.Memory) (o : Option Doing) (task : Option Task) (a : Notes) → AreDoing c h m (option_map doing_of o) task a → is_idle_with task ≡ true → o ≡ None
 idle_with c h m (Some t) (Some task) a are idle = absurd (cc)
 idle_with c h m (Some t) None a are idle = absurd are
 idle_with c h m None task a are idle = refl
 
-pub rests_by : (c : Shape) (h : ℕ) (o : Option (List beat_answers.Answered)) (beat : Option beat_notes.Notes) → IsBeating c h o beat → rests beat ≡ rests_in o
+pub rests_by : (c : Shape) (h : ℕ) (o : Option (List beat_answers.Answered)) (beat : Option beat_notes.Notes) → BeatLeadsTo c h o beat → has_no_beat beat ≡ rests o
 rests_by c h None None going = refl
 rests_by c h (Some heard) (Some notes) going = refl
 rests_by c h None (Some notes) going = absurd going
 rests_by c h (Some heard) None going = absurd going
 
-idle_by : (c : Shape) (h : ℕ) (m : Memory) (l : log.Memory) (o : Option Doing) (task : Option Task) (a : Notes) (beat : Option beat_notes.Notes) → AreDoing c h l (option_map doing_of o) task a → IsBeating c h m.beats.heard beat
-    → (is_idle_with task && rests beat) ≡ is_idle_in m o
+idle_by : (c : Shape) (h : ℕ) (m : Memory) (l : log.Memory) (o : Option Doing) (task : Option Task) (a : Notes) (beat : Option beat_notes.Notes) → AreDoing c h l (option_map doing_of o) task a → BeatLeadsTo c h m.beats.heard beat
+    → (is_idle_with task && has_no_beat beat) ≡ is_idle_in m o
 idle_by c h m l None None a beat are going = rests_by c h m.beats.heard beat going
 idle_by c h m l (Some t) (Some task) a beat are going = refl
 idle_by c h m l None (Some task) a beat are going = absurd are
@@ -451,7 +451,7 @@ none_by None is = refl
 none_by (Some x) is = absurd (cc)
 
 -- none is under way
-pub no_beat_nine : (c : Shape) (h : ℕ) (o : Option (List beat_answers.Answered)) → IsBeating c h o None → IsWithinNine c o
+pub no_beat_nine : (c : Shape) (h : ℕ) (o : Option (List beat_answers.Answered)) → BeatLeadsTo c h o None → IsWithinNine c o
 no_beat_nine c h None going = tt
 no_beat_nine c h (Some heard) going = absurd going
 
@@ -463,11 +463,11 @@ is_ended : (st : beat.Status) (end : beat.End) → Some end ≡ beat_kept.end_of
 is_ended (beat.Due d) end is = absurd (cc)
 is_ended (beat.Ended other) end is = (let same : end ≡ other = cc in ap beat.Ended (sym same))
 
-heard_by : (c : Shape) (h : ℕ) (o : Option (List beat_answers.Answered)) (b : beat_notes.Notes) → IsBeating c h o (Some b) → (heard : List beat_answers.Answered) × (o ≡ Some heard) × beat_kept.LeadsTo (beat_of c h) heard b
+heard_by : (c : Shape) (h : ℕ) (o : Option (List beat_answers.Answered)) (b : beat_notes.Notes) → BeatLeadsTo c h o (Some b) → (heard : List beat_answers.Answered) × (o ≡ Some heard) × beat_kept.LeadsTo (beat_of c h) heard b
 heard_by c h None b going = absurd going
 heard_by c h (Some heard) b going = (heard, refl, going)
 
-module _ (c : Shape) (h : ℕ) (m : Memory) (k : Kept) (b : beat_notes.Notes) (leads : LeadsTo c h m (record k { beat = Some b })) (is : IsAlone k.learner b) (answer : code_heard.Heard) where
+module _ (c : Shape) (h : ℕ) (m : Memory) (k : Kept) (b : beat_notes.Notes) (leads : LeadsTo c h m (record k { beat = Some b })) (is : BeatsAlone k.learner b) (answer : code_heard.Heard) where
   none : m.doing ≡ None
   none = idle_doing c h m k.learner leads.learner is.idle
 

@@ -29,13 +29,13 @@ pub record Kept : Type 0 where
   pub beat : Option Notes
   pub readings : Option Readings
 
-abbrev pub rests : Option Notes → Bool
-rests None = true
-rests (Some notes) = false
+abbrev pub has_no_beat : Option Notes → Bool
+has_no_beat None = true
+has_no_beat (Some notes) = false
 
 -- no operation is under way
 abbrev pub is_idle : Kept → Bool
-is_idle k = learners.is_idle k.learner && rests k.beat
+is_idle k = learners.is_idle k.learner && has_no_beat k.beat
 
 abbrev pub due_in : learners.Kept → Option Notes → ℕ × device.Call
 due_in learner None = learners.due_call learner
@@ -46,7 +46,7 @@ abbrev pub due_call : Kept → ℕ × device.Call
 due_call k = due_in k.learner k.beat
 
 -- a beat is under way of the same host and on the same disks, while the learner is idle
-pub record IsAlone (learner : learners.Kept) (notes : Notes) : Type 0 where
+pub record BeatsAlone (learner : learners.Kept) (notes : Notes) : Type 0 where
   pub idle : learners.is_idle learner ≡ true
   pub going : notes.end ≡ None
   pub is_host : notes.host ≡ learner.host
@@ -54,7 +54,7 @@ pub record IsAlone (learner : learners.Kept) (notes : Notes) : Type 0 where
 
 abbrev pub IsOneAtATime : learners.Kept → Option Notes → Type 0
 IsOneAtATime learner None = Unit {0}
-IsOneAtATime learner (Some notes) = IsAlone learner notes
+IsOneAtATime learner (Some notes) = BeatsAlone learner notes
 
 -- what there is, as a list
 abbrev pub option_list : {A : Type 0} → Option A → List A
@@ -103,10 +103,10 @@ AcknowledgesNone (Some (Refused refusal)) = Unit {0}
 -- WHAT FOLLOWS
 
 -- the same beat, if any, which has heard this
-abbrev pub IsBeating : Shape → ℕ → Option (List beat_answers.Answered) → Option Notes → Type 0
-IsBeating c h None None = Unit {0}
-IsBeating c h (Some heard) (Some notes) = beat_kept.LeadsTo (beat_of c h) heard notes
-IsBeating c h heard notes = ⊥
+abbrev pub BeatLeadsTo : Shape → ℕ → Option (List beat_answers.Answered) → Option Notes → Type 0
+BeatLeadsTo c h None None = Unit {0}
+BeatLeadsTo c h (Some heard) (Some notes) = beat_kept.LeadsTo (beat_of c h) heard notes
+BeatLeadsTo c h heard notes = ⊥
 
 -- What is known leads to this: it is what the host keeps.
 pub record LeadsTo (c : Shape) (h : ℕ) (m : Memory) (k : Kept) : Type 0 where
@@ -114,4 +114,4 @@ pub record LeadsTo (c : Shape) (h : ℕ) (m : Memory) (k : Kept) : Type 0 where
   pub prefix : k.prefix ≡ m.learned
   pub said : k.said ≡ m.said
   pub readings : option_map (take c.disks) k.readings ≡ m.beats.readings
-  pub beat : IsBeating c h m.beats.heard k.beat
+  pub beat : BeatLeadsTo c h m.beats.heard k.beat

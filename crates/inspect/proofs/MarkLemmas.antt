@@ -1,6 +1,6 @@
 -- Marks of pairs, as one is set.
 use Rattle.std.proofs.Common.{◌≡◌, ◌≢◌, ◌<◌, ◌≤◌, ◌&&◌, ◌+◌, ◌*◌, ℕ, Bool, true, false, not, List, length, slice_index_or, slice_set, slice_get, Some, refl, sym, ap, ◌∙◌, subst, arith, rules, nat_eq, inl, inr, ◌⊎◌, [], ◌∷◌, zero, suc, replicate, true≢false}
-use Rattle.std.proofs.lemmas.List.{get_or-set_same, get_or-set_other}
+use Rattle.std.proofs.lemmas.List.{get_or-set_other}
 use Rattle.std.proofs.lemmas.Option.{get_or_from_slice_get, slice_get_read}
 use Rattle.std.proofs.lemmas.Bool.{eqb-true, eqb-false}
 use Rattle.lock_table.specs.declared.record.LockRecord.{LockRecord}
@@ -16,15 +16,6 @@ same_or_not i j = on_test (nat_eq i j) refl
     on_test : (b : Bool) → nat_eq i j ≡ b → (i ≡ j) ⊎ (i ≢ j)
     on_test true is = inl (eqb-true i j is)
     on_test false is = inr (eqb-false i j is)
-
-pub set_marked : (edges : List Bool) (a b : ℕ) → length edges ≡ 65536 → a < 256 → b < 256 → Marked (slice_set edges (256 * a + b) true) a b
-set_marked edges a b long a_fits b_fits = record { a_fits = a_fits; b_fits = b_fits; set = get_or-set_same edges (256 * a + b) true false (omega (arith, long, a_fits, b_fits)) }
-
-pub keeps_marked : (edges : List Bool) (n a b : ℕ) → length edges ≡ 65536 → Marked edges a b → Marked (slice_set edges n true) a b
-keeps_marked edges n a b long m = elim (same_or_not (256 * a + b) n) [
-  | inl is ↦ record { a_fits = m.a_fits; b_fits = m.b_fits; set = subst (λ k. slice_index_or (slice_set edges k true) (256 * a + b) false ≡ true) is (get_or-set_same edges (256 * a + b) true false (omega (arith, long, m.a_fits, m.b_fits))) }
-  | inr other ↦ record { a_fits = m.a_fits; b_fits = m.b_fits; set = get_or-set_other edges n (256 * a + b) true false other ∙ m.set }
-]
 
 -- a mark that is set is a mark that was there, or that of the pair
 pub marked_before : (edges : List Bool) (c d a b : ℕ) → c < 256 → d < 256 → Marked (slice_set edges (256 * c + d) true) a b → Marked edges a b ⊎ ((a ≡ c) × (b ≡ d))

@@ -16,12 +16,6 @@ pub record IsRead (word bytes rest : List ℕ) : Type 0 where
   pub same : hex_bytes word ≡ behind bytes (hex_bytes rest)
   pub long : length word ≡ 2 * length bytes + length rest
 
-pub nothing_read : (word : List ℕ) → IsRead word [] word
-nothing_read word = record { same = start (hex_bytes word); long = omega arith } where
-  start : (found : Option (List ℕ)) → found ≡ behind [] found
-  start None = refl
-  start (Some bytes) = refl
-
 joined : (byte : ℕ) (bytes : List ℕ) (rest : Option (List ℕ)) → behind bytes (rest >>= λ more. Some (byte ∷ more)) ≡ behind (bytes ++ byte ∷ []) rest
 joined byte bytes None = refl
 joined byte bytes (Some more) = ap Some (sym (append_assoc bytes (byte ∷ []) more))

@@ -41,9 +41,6 @@ pub record IsRead (bytes : List ℕ) (n : ℕ) (rest : List ℕ) (said : SoFar) 
   pub inside : n ≤ length (lines_of bytes)
   pub in_range : n + length rest ≤ length bytes
 
-pub nothing_read : (bytes : List ℕ) (said : SoFar) → said ≡ record { shape = None; events = []; shows = [] } → IsRead bytes 0 bytes said
-nothing_read bytes said is = record { left = refl; says = subst (Says []) (sym is) (refl, refl, refl); inside = omega arith; in_range = omega arith }
-
 module _ (bytes : List ℕ) (n : ℕ) (rest : List ℕ) (said : SoFar) (read : IsRead bytes n rest said) where
   module _ (line behind : List ℕ) (lines : lines_of rest ≡ line ∷ lines_of behind) (shorter : length behind < length rest) where
     one : IsCut (lines_of bytes) n line (lines_of behind)

@@ -1,5 +1,5 @@
 -- Two plain tables with one picture behave alike.
-use Rattle.std.proofs.Common.{◌≡◌, ℕ, Bool, true, false, cond, not, ◌&&◌, List, [], ◌∷◌, ◌++◌, length, refl, sym, ap, ◌∙◌, arith}
+use Rattle.std.proofs.Common.{◌≡◌, ℕ, Bool, true, false, cond, not, ◌&&◌, List, [], ◌∷◌, ◌++◌, length, sym, ap, ◌∙◌, arith}
 use Rattle.std.specs.List.{filter, list_any}
 use Rattle.std.proofs.lemmas.List.Elements.{filter-append}
 use Rattle.lock_modes.specs.declared.mode.Mode.{Mode}
@@ -11,9 +11,6 @@ use Rattle.lock_table.proofs.Parts.{filter-filter, any_alike, find_alike, length
 
 abbrev lock_of : LockRecord → ℕ
 lock_of r = r.lock
-
-pub same_itself : (a : List LockRecord) → HasSameLocks a a
-same_itself a = record { numbers = λ lock. refl; conversions = λ name. refl; waiting = λ name. refl }
 
 pub same_back : (a b : List LockRecord) → HasSameLocks a b → HasSameLocks b a
 same_back a b s = record { numbers = λ lock. sym (s.numbers lock); conversions = λ name. sym (s.conversions name); waiting = λ name. sym (s.waiting name) }

@@ -28,15 +28,6 @@ pub same_name-itself : (name : List ℕ) → same_name name name ≡ true
 same_name-itself [] = refl
 same_name-itself (x ∷ name) = ap (λ b. b && same_name name name) (eq-eqb x x refl) ∙ same_name-itself name
 
-not_both : (b : Bool) → b ≡ true → b ≡ false → ⊥
-not_both b yes_is no_is = let clash : true ≡ false = sym yes_is ∙ no_is in cc
-
-pub not_alike : (a b : List ℕ) → (a ≡ b → ⊥) → same_name a b ≡ false
-not_alike a b differ = elim (same_name a b) as (λ t. same_name a b ≡ t → t ≡ false) [
-  | true ↦ λ e. absurd (differ (name_is a b e))
-  | false ↦ λ e. refl
-] refl
-
 -- queues and tests of a name read the locks of that name alone
 pub conversions-on : (name : List ℕ) (a : List LockRecord) → conversions (on name a) name ≡ conversions a name
 conversions-on name a = filter_within (converts_on name) (is_on name) (λ r h. and_first _ _ h) a

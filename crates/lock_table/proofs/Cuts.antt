@@ -11,8 +11,8 @@ use Rattle.std.proofs.lemmas.List.Sorted.{sorted_far}
 use Rattle.std.proofs.lemmas.Option.{slice_get_cases}
 use Rattle.lock_table.specs.Placed.{placed, in_order}
 use Rattle.lock_table.proofs.Parts.{first}
-use Rattle.lock_table.proofs.Ordered.{Each, IsAscending, each_more, IsAscending-placed, filter-in_order, sorted_from_ascending, IsSorted-in_order}
-use Rattle.lock_table.proofs.Unique.{ascends, one_sorted, not_below_itself}
+use Rattle.lock_table.proofs.Ordered.{Each, IsAscending, each_more, filter-in_order, IsSorted-in_order}
+use Rattle.lock_table.proofs.Unique.{one_sorted, not_below_itself}
 
 -- what stands at a place is the first of what is behind it
 pub slice_get_is_first : {X : Type 0} (xs : List X) (i : ℕ) → slice_get xs i ≡ first (drop i xs)
@@ -27,13 +27,6 @@ pub record IsHalved {X : Type 0} (p : X → Bool) (xs : List X) (from size : ℕ
   pub front : AllWithin (λ x. p x ≡ true) xs 0 from
   pub behind : AllWithin (λ x. p x ≡ false) xs (from + size) (length xs)
   pub inside : from + size ≤ length xs
-
-pub halved_whole : {X : Type 0} (p : X → Bool) (xs : List X) → IsHalved p xs 0 (length xs)
-halved_whole p xs = record {
-  front = λ k d low high. absurd (omega (arith, high));
-  behind = λ k d low high. absurd (omega (arith, low, high));
-  inside = omega arith;
-}
 
 pub halved_done : {X : Type 0} (p : X → Bool) (xs : List X) (from size : ℕ) → size ≡ 0 → IsHalved p xs from size → IsPartitionPoint (λ x. p x ≡ true) (λ x. p x ≡ false) xs from
 halved_done p xs from size none halved = (halved.front, λ k d low high. halved.behind k d (omega (arith, low, none)) high)
@@ -159,9 +152,6 @@ module _ {X : Type 0} (cmp : X → X → Ordering) where
         one_sorted cmp order (in_order cmp xs) xs (IsSorted-in_order cmp order xs) up
         (λ z. filter-in_order cmp order (λ y. not (lt z y) && not (lt y z)) (λ x y one two.
         order.chain x z y (not-true (lt x z) (and_parts (not (lt z x)) (not (lt x z)) one).1) (not-true (lt z y) (and_parts (not (lt z y)) (not (lt y z)) two).0)) xs)
-
-    pub IsSorted-placed : (x : X) (xs : List X) → IsSorted cmp xs → IsSorted cmp (placed cmp x xs)
-    IsSorted-placed x xs up = sorted_from_ascending cmp order (placed cmp x xs) (IsAscending-placed cmp order x xs (ascends cmp order xs up))
 
     -- what is found stands behind those that are below it
     pub found_from : (P : X → Bool) (own : X) (xs : List X) (i : ℕ) → AllWithin (λ y. lt y own ≡ true) xs 0 i → find P xs ≡ Some own → find P (drop i xs) ≡ Some own

@@ -1,11 +1,11 @@
 -- To place one element after the other sorts, and leaves those that tie in their order.
-use Rattle.std.proofs.Common.{◌≡◌, ◌≤◌, ◌<◌, ◌+◌, ℕ, zero, suc, Bool, true, false, cond, List, [], ◌∷◌, ◌++◌, length, get_or, take, drop, insert, refl, sym, ap, ◌∙◌, arith, append_assoc, length-append}
+use Rattle.std.proofs.Common.{◌≡◌, ◌≤◌, ◌<◌, ◌+◌, ℕ, zero, suc, Bool, true, false, cond, List, [], ◌∷◌, ◌++◌, length, get_or, refl, sym, ap, ◌∙◌, arith, append_assoc, length-append}
 use Rattle.std.specs.List.{filter, fold}
 use Rattle.std.specs.List.Sorted.{IsSorted}
 use Rattle.std.specs.Ordering.{is_lt}
 use Rattle.std.specs.Cmp.{IsStrictWeakOrder}
 use Rattle.std.specs.declared.cmp.Ordering.{Ordering}
-use Rattle.std.proofs.lemmas.List.{append-nil, nil_from_length, drop_more, take_more, drop_all}
+use Rattle.std.proofs.lemmas.List.{append-nil, nil_from_length}
 use Rattle.lock_table.specs.Placed.{placed, in_order}
 
 module _ {X : Type 0} (cmp : X → X → Ordering) where
@@ -56,23 +56,6 @@ module _ {X : Type 0} (cmp : X → X → Ordering) where
     | true ↦ refl
     | false ↦ refl
   ]
-
-  -- an element is put in front of the first that it stands before
-  pub place_here : (x : X) (ys : List X) (i : ℕ) (d : X) → i < length ys → lt x (get_or ys i d) ≡ true → take i ys ++ placed cmp x (drop i ys) ≡ insert ys i x
-  place_here x ys i d in_range less =
-      ap (λ l. take i ys ++ placed cmp x l) (drop_more ys i d in_range)
-      ∙ ap (λ t. take i ys ++ cond t (x ∷ (get_or ys i d ∷ drop (i + 1) ys)) (get_or ys i d ∷ placed cmp x (drop (i + 1) ys))) less
-      ∙ ap (λ l. take i ys ++ x ∷ l) (sym (drop_more ys i d in_range))
-
-  pub place_later : (x : X) (ys : List X) (i : ℕ) (d : X) → i < length ys → lt x (get_or ys i d) ≡ false → take i ys ++ placed cmp x (drop i ys) ≡ take (i + 1) ys ++ placed cmp x (drop (i + 1) ys)
-  place_later x ys i d in_range less =
-      ap (λ l. take i ys ++ placed cmp x l) (drop_more ys i d in_range)
-      ∙ ap (λ t. take i ys ++ cond t (x ∷ (get_or ys i d ∷ drop (i + 1) ys)) (get_or ys i d ∷ placed cmp x (drop (i + 1) ys))) less
-      ∙ sym (append_assoc (take i ys) (get_or ys i d ∷ []) (placed cmp x (drop (i + 1) ys)))
-      ∙ ap (λ l. l ++ placed cmp x (drop (i + 1) ys)) (sym (take_more ys i d in_range))
-
-  pub place_last : (x : X) (ys : List X) (i : ℕ) → length ys ≤ i → take i ys ++ placed cmp x (drop i ys) ≡ insert ys i x
-  place_last x ys i far = ap (λ l. take i ys ++ placed cmp x l) (drop_all i ys far) ∙ ap (λ l. take i ys ++ x ∷ l) (sym (drop_all i ys far))
 
   module _ (order : IsStrictWeakOrder lt) where
     -- what is not below y is below nothing that y is not above

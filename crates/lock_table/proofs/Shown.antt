@@ -64,12 +64,6 @@ shown_put a r up =
     fold_push (λ sorted x. placed printed_cmp x sorted) [] (without a r.lock) r
     ∙ ap (placed printed_cmp r) (shown_sorted (without a r.lock) (IsSortedBy-filter (λ x y. is_lt (printed_cmp x y)) printed_order (λ o. not (is_lock r.lock o)) a up))
 
--- what is left of what is shown
-pub shown_filter : (P : LockRecord → Bool) (a : List LockRecord) → shown a ≡ a → shown (filter P a) ≡ filter P a
-shown_filter P a is =
-    let up : IsSorted printed_cmp a = subst (λ (l : List LockRecord). IsSorted printed_cmp l) is (IsSorted-in_order printed_cmp printed_order a) in
-    shown_sorted (filter P a) (IsSortedBy-filter (λ x y. is_lt (printed_cmp x y)) printed_order P a up)
-
 pub without_new : (a : List LockRecord) (lock : ℕ) → lock_in a lock ≡ None → without a lock ≡ a
 without_new a lock absent = without_absent lock a (absent_count (is_lock lock) a absent)
 

@@ -1,6 +1,6 @@
 -- The test of a header decides whether the image is right.
 use Rattle.std.specs.Prelude.{◌≡◌, ◌==◌, ◌&&◌, ◌≤◌, ◌<◌, ◌^◌, ◌-◌, ◌++◌, ℕ, true, nat_lt, nat_le, List, [], ◌∷◌, length, take, drop, slice_index}
-use Rattle.std.proofs.Common.{refl, sym, ap, ◌∙◌, arith, get_or, length-drop, length-append}
+use Rattle.std.proofs.Common.{refl, sym, ap, ◌∙◌, arith, get_or, length-drop}
 use Rattle.std.specs.List.{list_all}
 use Rattle.std.proofs.lemmas.List.{drop_at, drop-drop, take-append-drop}
 use Rattle.std.proofs.lemmas.Bool.{and_parts, and_from, ltb-true, lt-ltb, leb-true, le-leb, eqb-true, eq-eqb}
@@ -8,12 +8,13 @@ use Rattle.byteorder.specs.Endian.{big_number}
 use Rattle.byteorder.specs.Numbers.{big_number-reads_back, length-bytes_high_first, big_from-lt}
 use Rattle.torn_block.specs.Block.{number_bytes}
 use Rattle.torn_block.specs.declared.layout.TheConstants.{VERSION, DISKS, SLOTS, HEADER_LENGTH}
-use Rattle.paxos_block.specs.declared.header.TheConstants.{GATE, SLOTS_AT, CLUSTER_AT, ZEROS_AT}
+use Rattle.torn_block.specs.declared.block.TheConstants.{OPEN_GATE}
+use Rattle.paxos_block.specs.declared.header.TheConstants.{SLOTS_AT, CLUSTER_AT, ZEROS_AT}
 use Rattle.paxos_block.specs.declared.header.Header.{Header}
 use Rattle.torn_block.specs.Numbers.{AreBytes}
 use Rattle.torn_block.proofs.NumberLaws.{AreBytes-drop, spelled_8, spelled_4}
 use Rattle.paxos_block.specs.Saying.{zeros, number_at}
-use Rattle.paxos_block.proofs.SayingLemmas.{zero_tells, zero_since, length-number, length-zeros}
+use Rattle.paxos_block.proofs.SayingLemmas.{zero_tells, zero_since, length-number}
 use Rattle.paxos_block.specs.Places.{image_length}
 use Rattle.paxos_block.specs.Headers.{IsHeader, short_bytes, short_at, header_end, header_saying, IsRight, header_in, is_header, is_right}
 
@@ -82,7 +83,7 @@ module _ (header : Header) (is : IsHeader header) (fits : header.cluster < 2 ^ 6
   unfolding header_saying
   reads_version = refl
 
-  pub reads_gate : slice_index (header_saying header) 0 ≡ GATE
+  pub reads_gate : slice_index (header_saying header) 0 ≡ OPEN_GATE
   unfolding header_saying
   reads_gate = refl
 
@@ -122,7 +123,7 @@ module _ (bytes : List ℕ) (whole : length bytes ≡ HEADER_LENGTH) (fits : Are
   unfolding number_at
   cluster_fits = big_from-lt 0 8 (drop 8 bytes) (AreBytes-drop 8 bytes fits)
 
-  header_stands : slice_index bytes 0 ≡ GATE → slice_index bytes 1 ≡ VERSION → list_all (λ b. b == 0) (drop ZEROS_AT bytes) ≡ true → bytes ≡ header_saying (header_in bytes)
+  header_stands : slice_index bytes 0 ≡ OPEN_GATE → slice_index bytes 1 ≡ VERSION → list_all (λ b. b == 0) (drop ZEROS_AT bytes) ≡ true → bytes ≡ header_saying (header_in bytes)
   unfolding header_saying header_in
   header_stands gate version zero_end =
       let rest : drop ZEROS_AT bytes ≡ zeros (HEADER_LENGTH - ZEROS_AT) = zero_tells (drop ZEROS_AT bytes) zero_end ∙ ap zeros (omega (arith, length-drop ZEROS_AT bytes)) in
@@ -141,7 +142,7 @@ module _ (bytes : List ℕ) (whole : length bytes ≡ HEADER_LENGTH) (fits : Are
   unfolding header_in
   cluster_in = cluster_fits
 
-  pub right_tells : (disk long : ℕ) → slice_index bytes 0 ≡ GATE → is_right disk long bytes ≡ true → IsRight disk long bytes (header_in bytes)
+  pub right_tells : (disk long : ℕ) → slice_index bytes 0 ≡ OPEN_GATE → is_right disk long bytes ≡ true → IsRight disk long bytes (header_in bytes)
   right_tells disk long gate t =
       let zero_end = list_all (λ b. b == 0) (drop ZEROS_AT bytes) in
       let version = slice_index bytes 1 == VERSION in
@@ -161,5 +162,5 @@ module _ (bytes : List ℕ) (whole : length bytes ≡ HEADER_LENGTH) (fits : Are
       }
 
 -- a right image has its gate open
-pub right_gate : (disk long : ℕ) (bytes : List ℕ) (header : Header) → IsRight disk long bytes header → slice_index bytes 0 ≡ GATE
+pub right_gate : (disk long : ℕ) (bytes : List ℕ) (header : Header) → IsRight disk long bytes header → slice_index bytes 0 ≡ OPEN_GATE
 right_gate disk long bytes header right = ap (λ (l : List ℕ). slice_index l 0) right.spelled ∙ reads_gate header right.may_be right.fits

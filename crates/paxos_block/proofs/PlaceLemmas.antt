@@ -24,7 +24,7 @@ use Rattle.paxos_block.specs.Row.{IsRow, says_of, SeenBlock, seen_in, seen_at, r
 use Rattle.paxos_block.proofs.Outcomes.{Outcomes}
 use Rattle.paxos_block.proofs.RowLemmas.{said_sees}
 use Rattle.torn_block.specs.Damage.{block_of}
-use Rattle.paxos_block.specs.Places.{Shows, Tells, Spot, BeatOf, VoteOf, place_of, row_place, area_place, image_length, IsSpot, IsImage, IsWithin, Holds, row_of, area_of}
+use Rattle.paxos_block.specs.Places.{CellReads, SeenReads, Spot, BeatOf, VoteOf, place_of, row_place, area_place, image_length, IsSpot, IsImage, IsWithin, Holds, row_of, area_of}
 
 abbrev Apart : Spot → Spot → Type 0
 Apart a b = (place_of a + BLOCK_LENGTH ≤ place_of b) ⊎ (place_of b + BLOCK_LENGTH ≤ place_of a)
@@ -128,7 +128,7 @@ pub block_of-area_of : (host : ℕ) (bytes : List ℕ) → host < HOSTS → bloc
 block_of-area_of host bytes below = part_of bytes area_place (BLOCK_LENGTH * host) (omega arith)
 
 -- what a row that is read shows of a host is what its block may read as
-pub shown : (disk : DiskState) (slot host : ℕ) (r : Register) (row : Row) → host < HOSTS → Holds disk (VoteOf slot host) r → IsRow (row_of slot disk.bytes) row → HoldsAt (Shows r) row.cells host
+pub shown : (disk : DiskState) (slot host : ℕ) (r : Register) (row : Row) → host < HOSTS → Holds disk (VoteOf slot host) r → IsRow (row_of slot disk.bytes) row → HoldsAt (CellReads r) row.cells host
 shown disk slot host r row below holds is d =
     let cell = slice_index_or row.cells host d in
     let is_cell = is host below d in
@@ -144,9 +144,9 @@ module _ (disk : DiskState) (slot host : ℕ) (seen : List SeenBlock) (below : h
   seen_there = said_sees (row_of slot disk.bytes) seen host below said ∙ ap seen_in (block_of-row_of slot host disk.bytes below)
 
   -- what a row says of a host tells a value that its register allows
-  tells_there : (r : Register) → Holds disk (VoteOf slot host) r → Tells r (seen_at seen host)
+  tells_there : (r : Register) → Holds disk (VoteOf slot host) r → SeenReads r (seen_at seen host)
   tells_there r holds =
-      subst (Tells r) (sym seen_there) (record { reads = holds disk.bytes (may_leave_now disk); so = λ i. seen_in (block_in (place_of (VoteOf slot host)) disk.bytes) })
+      subst (SeenReads r) (sym seen_there) (record { reads = holds disk.bytes (may_leave_now disk); so = λ i. seen_in (block_in (place_of (VoteOf slot host)) disk.bytes) })
 
-pub told : (disk : DiskState) (slot host : ℕ) (r : Register) (seen : List SeenBlock) → host < HOSTS → Holds disk (VoteOf slot host) r → row_said (row_of slot disk.bytes) ≡ Some seen → Tells r (seen_at seen host)
+pub told : (disk : DiskState) (slot host : ℕ) (r : Register) (seen : List SeenBlock) → host < HOSTS → Holds disk (VoteOf slot host) r → row_said (row_of slot disk.bytes) ≡ Some seen → SeenReads r (seen_at seen host)
 told disk slot host r seen below holds said = tells_there disk slot host seen below said r holds

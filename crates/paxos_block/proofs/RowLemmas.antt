@@ -18,13 +18,13 @@ use Rattle.torn_block.specs.Numbers.{AreBytes}
 use Rattle.torn_block.proofs.NumberLaws.{AreBytes-drop, AreBytes-take}
 use Rattle.torn_block.proofs.PlaceLaws.{reads_sequence, reads_body, length-block_in}
 use Rattle.torn_block.specs.Plan.{IsReading}
-use Rattle.paxos_block.specs.declared.header.TheConstants.{GATE}
+use Rattle.torn_block.specs.declared.block.TheConstants.{OPEN_GATE}
 use Rattle.paxos_block.specs.declared.block.PBlock.{PBlock}
 use Rattle.paxos_block.specs.declared.cell.Cell.{Cell}
 use Rattle.paxos_block.specs.declared.row.Row.{Row}
 use Rattle.paxos_block.specs.Saying.{body_saying, claim_of, is_said}
 use Rattle.paxos_block.proofs.SayingLemmas.{said_back, said_spelled}
-use Rattle.paxos_block.specs.Row.{copy_saying, Says, IsSound, is_sound, blank, says_of, IsSaid, IsDamagedRow, IsCell, IsRow, blank_cell, SeenBlock, sequence_in, seen_in, seen_at, hosts, row_seen, row_said, is_damaged_block, blank_seen, IsSeenAs, AreSeenAs}
+use Rattle.paxos_block.specs.Row.{copy_saying, Says, IsSound, is_sound, blank, says_of, IsSaid, IsDamagedRow, IsCell, IsRow, blank_cell, SeenBlock, sequence_or_zero, seen_in, seen_at, hosts, row_seen, row_said, is_damaged_block, blank_seen, IsSeenAs, AreSeenAs}
 
 pub sound_tells : (host : ℕ) (copy : List ℕ) → length copy ≡ COPY_LENGTH → AreBytes copy → is_open copy ≡ true → is_sound host copy ≡ true → IsSound host copy
 sound_tells host copy long fits opened t =
@@ -32,7 +32,7 @@ sound_tells host copy long fits opened t =
     let a = and_parts (is_sequence sequence) (is_said host (body_of copy)) t in
     let said = said_spelled host (body_of copy) a.1 in
     let whole : copy ≡ copy_saying sequence (claim_of (body_of copy)) =
-    open_copy_spelled copy long fits opened ∙ ap (λ (body : List ℕ). GATE ∷ tail_with sequence body) said.1 in
+    open_copy_spelled copy long fits opened ∙ ap (λ (body : List ℕ). OPEN_GATE ∷ tail_with sequence body) said.1 in
     record {
       sequence = sequence;
       says = claim_of (body_of copy);
@@ -245,7 +245,7 @@ module _ (row : List ℕ) where
       sound_blocks host below = (is host below some_cell).sound
 
       seen_cell : (host : ℕ) (cell : Cell) → IsCell host (block_of host row) cell → IsSeenAs (seen_in (block_of host row)) cell
-      seen_cell host cell c = record { read = c.read; sequence = ap sequence_in c.read.value; says = c.says }
+      seen_cell host cell c = record { read = c.read; sequence = ap sequence_or_zero c.read.value; says = c.says }
 
       -- the cells of a row that is read are those that it says
       pub row_is_said : IsSomeAnd (row_said row) (λ seen. AreSeenAs seen read)

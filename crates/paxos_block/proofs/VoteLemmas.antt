@@ -7,7 +7,7 @@ use Rattle.torn_block.specs.Block.{next_sequence_at}
 use Rattle.paxos_block.specs.declared.ballot.TheConstants.{LAST_BALLOT}
 use Rattle.paxos_block.specs.declared.block.PBlock.{PBlock}
 use Rattle.paxos_block.specs.Ballot.{owner_of, IsBallotOf}
-use Rattle.paxos_block.specs.Row.{IsSaid, sequence_in}
+use Rattle.paxos_block.specs.Row.{IsSaid, sequence_or_zero}
 use Rattle.paxos_block.specs.Saying.{IsVoteOf, MaySay}
 use Rattle.paxos_block.specs.Votes.{ballot_above, greatest, later_of}
 
@@ -85,10 +85,10 @@ may_vote host b value is = record { mbal = is; vote = (is, omega arith) }
 
 -- SEQUENCE NUMBERS
 
-pub unspent : (value : Option (ℕ × List ℕ)) (n : ℕ) → sequence_in value ≡ n → next_sequence_at value ≤ LAST_SEQUENCE → nat_le LAST_SEQUENCE n ≡ false
+pub unspent : (value : Option (ℕ × List ℕ)) (n : ℕ) → sequence_or_zero value ≡ n → next_sequence_at value ≤ LAST_SEQUENCE → nat_le LAST_SEQUENCE n ≡ false
 unspent None n is fits = grind (arith, nat_tests)
 unspent (Some value) n is fits = grind (arith, nat_tests)
 
-pub spent : (value : Option (ℕ × List ℕ)) (n : ℕ) → sequence_in value ≡ n → ¬ (next_sequence_at value ≤ LAST_SEQUENCE) → nat_le LAST_SEQUENCE n ≡ true
+pub spent : (value : Option (ℕ × List ℕ)) (n : ℕ) → sequence_or_zero value ≡ n → ¬ (next_sequence_at value ≤ LAST_SEQUENCE) → nat_le LAST_SEQUENCE n ≡ true
 spent None n is none = absurd (none (omega arith))
 spent (Some value) n is none = let over : LAST_SEQUENCE < value.0 + 1 = omega arith in grind (arith, nat_tests)

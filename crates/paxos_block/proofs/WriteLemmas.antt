@@ -17,7 +17,7 @@ use Rattle.torn_block.specs.Place.{block_in, copy_in}
 use Rattle.torn_block.proofs.PlaceLaws.{offset_fits, length-copy_in, length-tail_with, reads_sequence}
 use Rattle.torn_block.specs.Stage.{Write128, MayBe, IsWritten, Copies, IsDue, IsDone, IsPlaced, Stands, gate_of, closing, new_tail, call_of, next_call}
 use Rattle.torn_block.proofs.StageLaws.{done_leads_on}
-use Rattle.paxos_block.specs.declared.header.TheConstants.{GATE}
+use Rattle.torn_block.specs.declared.block.TheConstants.{OPEN_GATE}
 use Rattle.paxos_block.specs.declared.block.PBlock.{PBlock}
 use Rattle.paxos_block.specs.Row.{copy_saying, IsSound}
 use Rattle.paxos_block.specs.Places.{IsSoundAt, IsWriteOf}
@@ -98,11 +98,11 @@ module _ (host : ℕ) (w : Write128) (says : PBlock) (is : IsWriteOf host says w
 
   new_sound : drop 1 target ≡ new_tail w → is_open target ≡ true → IsSound host target
   new_sound tail opened =
-      let gate : slice_index target 0 ≡ GATE = eqb-true (slice_index target 0) GATE opened in
+      let gate : slice_index target 0 ≡ OPEN_GATE = eqb-true (slice_index target 0) OPEN_GATE opened in
       let spelled : target ≡ copy_saying (next_sequence w.block) says =
       drop_more target 0 0 (omega (arith, long_copy))
       ∙ ap (λ (g : ℕ). g ∷ drop 1 target) gate
-      ∙ ap (λ (l : List ℕ). GATE ∷ l) (tail ∙ ap (tail_with (next_sequence w.block)) is.body) in
+      ∙ ap (λ (l : List ℕ). OPEN_GATE ∷ l) (tail ∙ ap (tail_with (next_sequence w.block)) is.body) in
       record {
         sequence = next_sequence w.block;
         says = says;

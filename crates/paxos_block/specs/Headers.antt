@@ -4,7 +4,8 @@ use Rattle.std.specs.List.{list_all}
 use Rattle.byteorder.specs.Endian.{big_number, big_bytes}
 use Rattle.torn_block.specs.Block.{number_bytes}
 use Rattle.torn_block.specs.declared.layout.TheConstants.{VERSION, DISKS, SLOTS, HEADER_LENGTH}
-use Rattle.paxos_block.specs.declared.header.TheConstants.{GATE, GATE_AT, VERSION_AT, DISK_AT, DISKS_AT, SLOTS_AT, CLUSTER_AT, ZEROS_AT}
+use Rattle.torn_block.specs.declared.block.TheConstants.{OPEN_GATE}
+use Rattle.paxos_block.specs.declared.header.TheConstants.{GATE_AT, VERSION_AT, DISK_AT, DISKS_AT, SLOTS_AT, CLUSTER_AT, ZEROS_AT}
 use Rattle.paxos_block.specs.declared.header.Header.{Header}
 use Rattle.paxos_block.specs.declared.number.TheConstants.{SHORT_LENGTH}
 use Rattle.paxos_block.specs.Saying.{zeros, number_at}
@@ -29,11 +30,11 @@ abbrev pub header_end : Header → List ℕ
 header_end header = number_bytes header.cluster ++ zeros (HEADER_LENGTH - ZEROS_AT)
 
 unfoldable pub header_saying : Header → List ℕ
-header_saying header = GATE ∷ VERSION ∷ header.disk ∷ header.disks ∷ (short_bytes header.slots ++ header_end header)
+header_saying header = OPEN_GATE ∷ VERSION ∷ header.disk ∷ header.disks ∷ (short_bytes header.slots ++ header_end header)
 
 -- the image was formatted to the end: its gate is open
 abbrev pub IsFormatted : List ℕ → Type 0
-IsFormatted bytes = slice_index bytes GATE_AT ≡ GATE
+IsFormatted bytes = slice_index bytes GATE_AT ≡ OPEN_GATE
 
 -- An image of this length, with these first bytes, is right as that of this disk, and its header says this.
 pub record IsRight (disk long : ℕ) (bytes : List ℕ) (header : Header) : Type 0 where

@@ -73,11 +73,11 @@ abbrev pub area_of : List ℕ → List ℕ
 area_of bytes = slice_range bytes area_place (area_place + ROW_LENGTH)
 
 -- A cell shows a value that the register allows, and says what that value says.
-pub record Shows (r : Register) (cell : Cell) : Type 0 where
+pub record CellReads (r : Register) (cell : Cell) : Type 0 where
   pub reads : Reads r (told_value cell.block)
   pub says : cell.says ≡ says_of (told_value cell.block)
 
 -- A block that is seen in a row has a value that the register allows, and all that is seen of it goes by its bytes.
-pub record Tells (r : Register) (seen : SeenBlock) : Type 0 where
+pub record SeenReads (r : Register) (seen : SeenBlock) : Type 0 where
   pub reads : Reads r (value_of seen.bytes)
   pub so : seen ≡ seen_in seen.bytes

@@ -5,7 +5,7 @@ use Rattle.torn_block.specs.declared.layout.TheConstants.{HOSTS, BLOCK_LENGTH, B
 use Rattle.torn_block.specs.Block.{sequence_of, body_of, tail_with, value_of}
 use Rattle.torn_block.specs.Plan.{IsReading, told_value}
 use Rattle.torn_block.specs.Damage.{IsSequence, IsSoundBlock, IsDamaged, block_of, first_of, second_of, is_sequence, is_damaged}
-use Rattle.paxos_block.specs.declared.header.TheConstants.{GATE}
+use Rattle.torn_block.specs.declared.block.TheConstants.{OPEN_GATE}
 use Rattle.paxos_block.specs.declared.block.PBlock.{PBlock}
 use Rattle.paxos_block.specs.declared.cell.Cell.{Cell}
 use Rattle.paxos_block.specs.declared.row.Row.{Row}
@@ -13,7 +13,7 @@ use Rattle.paxos_block.specs.Saying.{zeros, MaySay, body_saying, claim_of, is_sa
 
 -- the open copy that says this under a sequence number
 abbrev pub copy_saying : ℕ → PBlock → List ℕ
-copy_saying sequence says = GATE ∷ tail_with sequence (body_saying says)
+copy_saying sequence says = OPEN_GATE ∷ tail_with sequence (body_saying says)
 
 -- this copy in a host's block says this
 pub record Says (host : ℕ) (copy : List ℕ) (sequence : ℕ) (says : PBlock) : Type 0 where
@@ -78,12 +78,12 @@ pub record SeenBlock : Type 0 where
   pub says : PBlock
 
 -- 0 where the block is blank
-abbrev pub sequence_in : Option (ℕ × List ℕ) → ℕ
-sequence_in None = 0
-sequence_in (Some value) = value.0
+abbrev pub sequence_or_zero : Option (ℕ × List ℕ) → ℕ
+sequence_or_zero None = 0
+sequence_or_zero (Some value) = value.0
 
 abbrev pub seen_in : List ℕ → SeenBlock
-seen_in block = record { bytes = block; sequence = sequence_in (value_of block); says = says_of (value_of block) }
+seen_in block = record { bytes = block; sequence = sequence_or_zero (value_of block); says = says_of (value_of block) }
 
 abbrev pub hosts : List ℕ
 hosts = range_with_len 0 HOSTS
@@ -106,7 +106,7 @@ seen_at seen host = slice_index_or seen host blank_seen
 -- the cell is this block: its bytes as read, with this sequence number, and it says the same
 pub record IsSeenAs (seen : SeenBlock) (cell : Cell) : Type 0 where
   pub read : IsReading seen.bytes cell.block
-  pub sequence : sequence_in (told_value cell.block) ≡ seen.sequence
+  pub sequence : sequence_or_zero (told_value cell.block) ≡ seen.sequence
   pub says : cell.says ≡ seen.says
 
 -- the cells of a row are these blocks, one for each host

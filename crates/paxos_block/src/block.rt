@@ -6,8 +6,8 @@ ghost use Rattle.paxos_block.specs.Saying.{MaySay, body_saying, claim_of, said_b
 ghost use Rattle.paxos_block.specs.Votes.{later_of};
 
 use crate::ballot::is_ballot_of;
-use crate::number::{NUMBER_LENGTH, SHORT_LENGTH, number_in, put_number, short_in};
-use torn_block::{BODY_LENGTH, Body, HEADING_LENGTH, VALUE_LENGTH, VERSION};
+use crate::number::{NUMBER_LENGTH, SHORT_LENGTH, number_in, short_in};
+use torn_block::{BODY_LENGTH, Body, HEADING_LENGTH, VALUE_LENGTH, VERSION, put_number};
 
 /// The bytes of a body behind its heading: two ballots and an input.
 pub const VOTE_LENGTH: usize = BODY_LENGTH - HEADING_LENGTH;

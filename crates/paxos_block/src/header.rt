@@ -3,14 +3,11 @@ ghost use Rattle.paxos_block.specs.Headers;
 ghost use Rattle.paxos_block.specs.Headers.{IsHeader, IsFormatted, IsRight, HasNoHeader, header_saying, header_in};
 
 use crate::number::{
-    NUMBER_LENGTH, SHORT_LENGTH, is_zero, number_in, put_number, put_short, put_zeros, short_in,
+    NUMBER_LENGTH, SHORT_LENGTH, is_zero, number_in, put_short, put_zeros, short_in,
 };
 use crate::place::image_length;
 use disk::ImageFault;
-use torn_block::{DISKS, HEADER_LENGTH, SLOTS, VERSION};
-
-/// The first byte of an image that was formatted to the end, and of an open copy.
-pub const GATE: u8 = 0xA5;
+use torn_block::{DISKS, HEADER_LENGTH, OPEN_GATE, SLOTS, VERSION, put_number};
 
 // Where the fields stand, and the zeros behind them.
 const GATE_AT: usize = 0;
@@ -73,7 +70,7 @@ pub fn decode_header(disk: u8, long: u64, bytes: &[u8; HEADER_LENGTH]) -> Result
     if long < HEADER_LENGTH as u64 {
         return Err(ImageFault::WrongHeader);
     }
-    if bytes[GATE_AT] != GATE {
+    if bytes[GATE_AT] != OPEN_GATE {
         return Err(ImageFault::NotFormatted);
     }
     if !is_right(disk, long, bytes) {
@@ -123,7 +120,7 @@ fn put_header(bytes: &mut [u8], header: &Header)
     let (front, back) = bytes.split_at_mut(SLOTS_AT);
     let (slots, rest) = back.split_at_mut(SHORT_LENGTH);
     let (cluster, end) = rest.split_at_mut(NUMBER_LENGTH);
-    front.copy_from_slice(&[GATE, VERSION, header.disk, header.disks]);
+    front.copy_from_slice(&[OPEN_GATE, VERSION, header.disk, header.disks]);
     put_short(slots, header.slots);
     put_number(cluster, header.cluster);
     put_zeros(end);

@@ -14,7 +14,7 @@ ghost use Rattle.torn_block.specs.Stage.{Write128, call_of, IsDone, IsDue, IsPla
 ghost use Rattle.paxos_block.specs.declared.block.PBlock.{PBlock};
 ghost use Rattle.paxos_block.specs.declared.row.Row.{Row};
 ghost use Rattle.paxos_block.specs.Ballot.{IsBallotOf, majority};
-ghost use Rattle.paxos_block.specs.Places.{place_of, Spot, BeatOf, VoteOf, IsSpot, IsImage, IsWithin, IsSoundAt, IsWriteOf, Holds, Shows, Tells, row_of, area_of};
+ghost use Rattle.paxos_block.specs.Places.{place_of, Spot, BeatOf, VoteOf, IsSpot, IsImage, IsWithin, IsSoundAt, IsWriteOf, Holds, CellReads, SeenReads, row_of, area_of};
 ghost use Rattle.paxos_block.specs.Row.{IsRow, IsSound, IsSaid, IsDamagedRow, says_of, SeenBlock, seen_in, seen_at, row_seen, row_said};
 ghost use Rattle.paxos_block.specs.Saying.{MaySay, body_saying};
 
@@ -69,10 +69,10 @@ pub fn blocks_apart()
         Step disk call answer new → IsImage slots new }
     ensures shown { (disk : DiskState) (slot host : ℕ) (r : Register) (row : Row) → host < HOSTS →
         Holds disk (VoteOf slot host) r → IsRow (row_of slot disk.bytes) row →
-        HoldsAt (Shows r) row.cells host }
+        HoldsAt (CellReads r) row.cells host }
     ensures told { (disk : DiskState) (slot host : ℕ) (r : Register) (seen : List SeenBlock) →
         host < HOSTS → Holds disk (VoteOf slot host) r →
-        row_said (row_of slot disk.bytes) ≡ Some seen → Tells r (seen_at seen host) }
+        row_said (row_of slot disk.bytes) ≡ Some seen → SeenReads r (seen_at seen host) }
     ensures row { (bytes : List ℕ) (slot host : ℕ) → host < HOSTS →
         block_of host (row_of slot bytes) ≡ block_in (place_of (VoteOf slot host)) bytes }
     ensures area { (bytes : List ℕ) (host : ℕ) → host < HOSTS →

@@ -1,7 +1,6 @@
 // Numbers among bytes, the highest byte first, and runs of zeros.
 ghost use Rattle.std.specs.Prelude.{◌≡◌, ◌≤◌, ◌==◌, length};
 ghost use Rattle.std.specs.List.{list_all};
-ghost use Rattle.torn_block.specs.Block.{number_bytes};
 ghost use Rattle.paxos_block.specs.Saying.{number_at, zeros};
 ghost use Rattle.paxos_block.specs.Headers.{short_at, short_bytes};
 
@@ -18,13 +17,6 @@ pub(crate) fn number_in(bytes: &[u8]) -> u64
     ensures { result ≡ number_at 0 bytes.now }
 {
     BigEndian::read_u64(bytes)
-}
-
-pub(crate) fn put_number(bytes: &mut [u8], number: u64)
-    requires { length bytes.old ≡ NUMBER_LENGTH }
-    ensures { bytes.new ≡ number_bytes number }
-{
-    BigEndian::write_u64(bytes, number);
 }
 
 pub(crate) fn short_in(bytes: &[u8]) -> u32

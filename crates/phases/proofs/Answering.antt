@@ -9,7 +9,7 @@ use Rattle.torn_block.specs.declared.write_steps.WriteCall.TheVariants.{CloseGat
 use Rattle.torn_block.specs.Plan.{Plan, IsReading, plan_by, next_after}
 use Rattle.paxos_block.specs.Saying.{body_saying}
 use Rattle.attempt.specs.Calls.{Phase, Opening, One, Two, start, goal}
-use Rattle.attempt.specs.Answers.{Heard, Booted, Done, Told, Answers, more, is_bad, all_good, row_in, boot_of, last_row, block_in}
+use Rattle.attempt.specs.Answers.{Heard, Booted, Done, Told, Answers, more, is_bad, all_good, row_in, boot_of, last_row, seen_block}
 use Rattle.attempt.specs.Setup.{Setup}
 use Rattle.attempt.specs.Standing.{NotOutrun}
 use Rattle.attempt.proofs.Lists.{last_more, row_none, positive}
@@ -83,8 +83,8 @@ module _ (s : Setup) (f : Answers) (n : Notes) (is : Follows s f n) (going : n.e
       let last : last_row (f d ++ Booted boot.number ∷ []) ≡ last_row (f d) = last_more (f d) (Booted boot.number) in
       record {
         boot = ap (λ (a : List Heard). boot_of (a ++ Booted boot.number ∷ [])) (no_answers (f d) none);
-        read = subst (λ o. IsReading (block_in o s.host).bytes visit.block) (sym last) old.read;
-        sequence = old.sequence ∙ ap (λ o. (block_in o s.host).sequence) (sym last);
+        read = subst (λ o. IsReading (seen_block o s.host).bytes visit.block) (sym last) old.read;
+        sequence = old.sequence ∙ ap (λ o. (seen_block o s.host).sequence) (sym last);
       })))
       tt
 
@@ -321,8 +321,8 @@ module _ (s : Setup) (f : Answers) (n : Notes) (is : Follows s f n) (going : n.e
         let host_is : n.host ≡ s.host = v.rows.is_host in
         record {
           boot = boot_stays s f n is going order x some_answers ∙ before.boot ∙ ap (λ (o : Option Visit). (boot_in o).number) (sym one.1);
-          read = subst (λ (o : Option (List SeenBlock)). IsReading (block_in o s.host).bytes cell.block) (sym row_is) (subst (λ (h : ℕ). IsReading (seen_at row h).bytes cell.block) host_is shows.read);
-          sequence = shows.sequence ∙ ap (λ (h : ℕ). (seen_at row h).sequence) host_is ∙ ap (λ (o : Option (List SeenBlock)). (block_in o s.host).sequence) (sym row_is);
+          read = subst (λ (o : Option (List SeenBlock)). IsReading (seen_block o s.host).bytes cell.block) (sym row_is) (subst (λ (h : ℕ). IsReading (seen_at row h).bytes cell.block) host_is shows.read);
+          sequence = shows.sequence ∙ ap (λ (h : ℕ). (seen_at row h).sequence) host_is ∙ ap (λ (o : Option (List SeenBlock)). (seen_block o s.host).sequence) (sym row_is);
         }
 
     -- the disk is done with

@@ -13,7 +13,7 @@ use Rattle.torn_block.proofs.PlanLaws.{plan_calls}
 use Rattle.paxos_block.specs.Places.{place_of, VoteOf, row_place}
 use Rattle.paxos_block.specs.Saying.{body_saying}
 use Rattle.paxos_block.specs.declared.block.PBlock.{PBlock}
-use Rattle.attempt.specs.Calls.{Phase, Opening, Kind, Attaching, Syncing, Reading, Putting, seventeen, start}
+use Rattle.attempt.specs.Calls.{Phase, Opening, Attaching, Syncing, Reading, Putting, seventeen, start}
 use Rattle.attempt.specs.Answers.{Heard, Answered, Answers, on, more, all_good, row_in, boot_of}
 use Rattle.attempt.specs.Setup.{Setup}
 use Rattle.attempt.specs.History.{IsAnswerTo, Fits}
@@ -36,13 +36,6 @@ use Rattle.phases.proofs.Answering.{found}
 use Rattle.phases.proofs.Hearing.{due_there, some_now}
 
 -- THE KIND OF THE CALL THAT IS DUE
-
-abbrev kind_at : Phase → Stage → Option WriteCall → Kind
-kind_at p stage.Attaching due = Attaching
-kind_at p stage.Syncing due = Syncing
-kind_at p stage.Writing None = Reading
-kind_at p stage.Writing (Some call) = Putting p call
-kind_at p stage.Reading due = Reading
 
 kind_of_write : (p : code_phase.Phase) → Suits p stage.Writing → (call : WriteCall) → slice_get seventeen (start (phase_in p) + made (Some call)) ≡ Some (Putting (phase_in p) call)
 kind_of_write phase.Opening suits call = absurd suits

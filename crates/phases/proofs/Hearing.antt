@@ -4,7 +4,7 @@ use Rattle.std.proofs.Common.{◌≡◌, ◌≢◌, ◌+◌, ◌*◌, ◌<◌, �
 use Rattle.std.proofs.lemmas.Bool.{cases_eq, and_from, and_left, le-leb}
 use Rattle.paxos_block.specs.Row.{SeenBlock}
 use Rattle.attempt.specs.Calls.{Phase, Opening, One, Two, start, goal}
-use Rattle.attempt.specs.Answers.{Heard, Told, Answers, more, is_bad, all_good, told, row_in, last_row, later_row, block_in, boot_of}
+use Rattle.attempt.specs.Answers.{Heard, Told, Answers, more, is_bad, all_good, told, row_in, last_row, later_row, seen_block, boot_of}
 use Rattle.attempt.specs.Setup.{Setup}
 use Rattle.attempt.specs.Visits.{is_stuck, takes_part, waits, visited, is_left, is_left_at, are_enough}
 use Rattle.attempt.specs.Proposal.{ballot}
@@ -50,11 +50,6 @@ pub record KeepsAll (s : Setup) (f g : Answers) : Type 0 where
   pub two : AreSameRows Two g f
 
 module _ (s : Setup) (f g : Answers) (same : KeepsAll s f g) where
-  rows_of : (p : Phase) → AreSameRows p g f
-  rows_of Opening = same.opening
-  rows_of One = same.one
-  rows_of Two = same.two
-
   pub keeps_not_outrun : (p : Phase) → NotOutrun s p f → NotOutrun s p g
   keeps_not_outrun Opening is = tt
   keeps_not_outrun One is = ap₂ nat_lt (ballot_same s g f same.opening) (others_same s g f One same.one) ∙ is
@@ -201,8 +196,8 @@ remembers_more host a x visit none boot is =
     let last : last_row (a ++ x ∷ []) ≡ last_row a = last_more a x ∙ ap (later_row (last_row a)) none in
     record {
       boot = boot ∙ is.boot;
-      read = subst (λ (o : Option (List SeenBlock)). IsReading (block_in o host).bytes visit.block) (sym last) is.read;
-      sequence = is.sequence ∙ ap (λ (o : Option (List SeenBlock)). (block_in o host).sequence) (sym last);
+      read = subst (λ (o : Option (List SeenBlock)). IsReading (seen_block o host).bytes visit.block) (sym last) is.read;
+      sequence = is.sequence ∙ ap (λ (o : Option (List SeenBlock)). (seen_block o host).sequence) (sym last);
     }
 
 -- THE DISK STAYS THE ONE THAT IS VISITED

@@ -1,6 +1,6 @@
 -- What becomes of the disks of a phase where one is passed over, dropped, or begun on.
 use Rattle.std.specs.Prelude.{nat_lt, nat_le}
-use Rattle.std.proofs.Common.{◌≡◌, ◌≢◌, ◌+◌, ◌<◌, ◌≤◌, ◌&&◌, not, ℕ, Bool, true, false, Option, Some, None, List, [], ◌∷◌, length, is_some, inl, inr, refl, sym, subst, ap, ◌∙◌, arith, slice_set}
+use Rattle.std.proofs.Common.{◌≡◌, ◌≢◌, ◌+◌, ◌<◌, ◌≤◌, ◌&&◌, not, ℕ, Bool, true, false, Option, Some, None, [], ◌∷◌, length, is_some, inl, inr, refl, sym, subst, ap, ◌∙◌, arith, slice_set}
 use Rattle.std.proofs.lemmas.Bool.{cases_eq, cases_lt, le-ltb, lt-ltb, and_left, and_right, eq-eqb}
 use Rattle.std.proofs.lemmas.List.{get_or-set_same, get_or-set_other}
 use Rattle.torn_block.specs.declared.layout.TheConstants.{LAST_SEQUENCE}
@@ -10,7 +10,7 @@ use Rattle.torn_block.specs.Plan.{Plan, plan_by, told_value}
 use Rattle.paxos_block.specs.Saying.{body_saying}
 use Rattle.paxos_block.proofs.VoteLemmas.{spent, unspent}
 use Rattle.attempt.specs.Calls.{Phase, start, goal}
-use Rattle.attempt.specs.Answers.{Heard, Answers, last_row, block_in}
+use Rattle.attempt.specs.Answers.{Answers, last_row, seen_block}
 use Rattle.attempt.specs.Setup.{Setup}
 use Rattle.attempt.specs.Visits.{is_stuck, takes_part, waits, is_left_at}
 use Rattle.attempt.proofs.Visitors.{part_is, waiting_if}
@@ -123,14 +123,14 @@ module _ (s : Setup) (f : Answers) (n : Notes) (d : ℕ) (there : d < s.disks) (
   remembers : Remembers s.host (f d) visit
   remembers = is.visits.each d visit there kept
 
-  stuck_is : is_stuck s p (f d) ≡ nat_le LAST_SEQUENCE (block_in (last_row (f d)) s.host).sequence
-  stuck_is = ap (λ (t : Bool). t && nat_le LAST_SEQUENCE (block_in (last_row (f d)) s.host).sequence) (eq-eqb (length (f d)) (start p) begins)
+  stuck_is : is_stuck s p (f d) ≡ nat_le LAST_SEQUENCE (seen_block (last_row (f d)) s.host).sequence
+  stuck_is = ap (λ (t : Bool). t && nat_le LAST_SEQUENCE (seen_block (last_row (f d)) s.host).sequence) (eq-eqb (length (f d)) (start p) begins)
 
   -- its write is due to a spent block, so it is dropped
   pub passes_spent : ¬ (next_sequence_at (told_value visit.block) ≤ LAST_SEQUENCE) → d < length n.visits
       → IsPassed s f (record n { visits = slice_set n.visits d None }) (d + 1)
   passes_spent over room =
-      let stuck : is_stuck s p (f d) ≡ true = stuck_is ∙ spent (told_value visit.block) (block_in (last_row (f d)) s.host).sequence remembers.sequence over in
+      let stuck : is_stuck s p (f d) ≡ true = stuck_is ∙ spent (told_value visit.block) (seen_block (last_row (f d)) s.host).sequence remembers.sequence over in
       let gone : is_left_at (Some (d + 1)) s p f d ≡ false = left_then s p f d ∙ and_right (takes_part p (f d)) (not (is_stuck s p (f d))) (ap not stuck) in
       let r = is.rows in
       passed_more s f n (record n { visits = slice_set n.visits d None }) d is refl
@@ -165,7 +165,7 @@ module _ (s : Setup) (f : Answers) (n : Notes) (d : ℕ) (there : d < s.disks) (
   pub begins_write : n.phase ≢ phase.Opening → next_sequence_at (told_value visit.block) ≤ LAST_SEQUENCE → (steps : Plan) → steps ≡ plan_by visit.block (body_saying n.says)
       → IsBegun s f (record n { disk = d; stage = stage.Writing; steps = steps })
   begins_write later room steps plan =
-      let free : is_stuck s p (f d) ≡ false = stuck_is ∙ unspent (told_value visit.block) (block_in (last_row (f d)) s.host).sequence remembers.sequence room in
+      let free : is_stuck s p (f d) ≡ false = stuck_is ∙ unspent (told_value visit.block) (seen_block (last_row (f d)) s.host).sequence remembers.sequence room in
       let due : steps.due ≡ Some CloseGate = ap (λ (x : Plan). x.due) plan in
       let r = is.rows in
       record {

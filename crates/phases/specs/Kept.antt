@@ -7,11 +7,11 @@ use Rattle.torn_block.specs.declared.write_steps.WriteCall.{WriteCall}
 use Rattle.torn_block.specs.declared.write_steps.WriteCall.TheVariants.{CloseGate, SyncClosed, PutBody, SyncBody, OpenGate, SyncOpened}
 use Rattle.torn_block.specs.Plan.{Plan, IsReading, told_value, plan_by, need_at, device_call}
 use Rattle.paxos_block.specs.declared.row.Row.{Row}
-use Rattle.paxos_block.specs.Row.{SeenBlock, AreSeenAs, row_said, sequence_in}
+use Rattle.paxos_block.specs.Row.{SeenBlock, AreSeenAs, row_said, sequence_or_zero}
 use Rattle.paxos_block.specs.Saying.{IsVoteOf, MaySay, body_saying}
 use Rattle.paxos_block.specs.Places.{place_of, VoteOf, row_place}
 use Rattle.attempt.specs.Calls.{Phase, start, goal}
-use Rattle.attempt.specs.Answers.{Heard, Answered, Answers, on, last_row, block_in, boot_of}
+use Rattle.attempt.specs.Answers.{Heard, Answered, Answers, on, last_row, seen_block, boot_of}
 use Rattle.attempt.specs.Setup.{Setup}
 use Rattle.attempt.specs.Visits.{is_left}
 use Rattle.attempt.specs.Proposal.{highest, best}
@@ -128,8 +128,8 @@ pub record IsSameAttempt (old new : Notes) : Type 0 where
 -- what is kept of a disk is what it answered: its boot number, and the own block in the row read last
 pub record Remembers (host : ℕ) (a : List Heard) (visit : Visit) : Type 0 where
   pub boot : boot_of a ≡ visit.boot.number
-  pub read : IsReading (block_in (last_row a) host).bytes visit.block
-  pub sequence : sequence_in (told_value visit.block) ≡ (block_in (last_row a) host).sequence
+  pub read : IsReading (seen_block (last_row a) host).bytes visit.block
+  pub sequence : sequence_or_zero (told_value visit.block) ≡ (seen_block (last_row a) host).sequence
 
 -- of these disks alone something is kept
 pub record KeepsVisits (s : Setup) (f : Answers) (is_kept : ℕ → Bool) (visits : List (Option Visit)) : Type 0 where

@@ -1,15 +1,6 @@
 -- Lists that begin one another, and lists that grow by one.
-use Rattle.std.proofs.Common.{◌≡◌, ◌≤◌, ◌<◌, ℕ, zero, suc, List, [], ◌∷◌, ◌++◌, length, get_or, slice_get, map, Some, refl, sym, ap, subst, ◌∙◌, arith}
-use Rattle.std.proofs.lemmas.List.{length-take, length-map, get_or-take, get_or-map}
-use Rattle.world.specs.Headline.{Begins}
-
--- a list that begins another is no longer
-pub no_longer : {A : Type 0} (short long : List A) → Begins short long → length short ≤ length long
-no_longer short long is = omega (arith, ap length is, length-take (length short) long)
-
--- and has its elements
-pub same_at : {A : Type 0} (short long : List A) (i : ℕ) (d : A) → Begins short long → i < length short → get_or short i d ≡ get_or long i d
-same_at short long i d is few = ap (λ s. get_or s i d) is ∙ get_or-take (length short) long i d few
+use Rattle.std.proofs.Common.{◌≡◌, ◌≤◌, ◌<◌, ℕ, zero, suc, List, [], ◌∷◌, ◌++◌, length, get_or, slice_get, map, Some, refl, sym, subst, ◌∙◌, arith}
+use Rattle.std.proofs.lemmas.List.{length-map, get_or-map}
 
 -- what holds of each element, and of one more behind them, holds of all
 pub each_push : {X : Type 0} (P : ℕ → X → Type 0) (xs : List X) (y : X) → ((i : ℕ) (d : X) → i < length xs → P i (get_or xs i d)) → P (length xs) y

@@ -3,13 +3,13 @@ use Rattle.std.specs.Prelude.{◌<◌, ◌⊎◌, ℕ, List, length, slice_index
 use Rattle.lock_command.specs.declared.command.Command.{Command}
 use Rattle.slot_log.specs.Shape.{Shape}
 use Rattle.host.specs.Host.{learned_of}
-use Rattle.world.specs.Headline.{Begins}
+use Rattle.world.specs.Headline.{IsPrefix}
 use Rattle.cluster_tie.specs.Parts.{Own}
 use Rattle.cluster.specs.Seat.{host_in}
 
 -- one of the two begins the other
 abbrev pub Agree : List Command → List Command → Type 0
-Agree one other = Begins one other ⊎ Begins other one
+Agree one other = IsPrefix one other ⊎ IsPrefix other one
 
 -- the commands that a seat's host has learned
 abbrev pub prefix_of : Shape → Own → List Command

@@ -1,5 +1,5 @@
 ghost use Rattle.std.specs.Prelude.{◌≡◌, ◌↔◌, ◌⊎◌, IsTrue};
-ghost use Rattle.world.specs.Headline.{Begins};
+ghost use Rattle.world.specs.Headline.{IsPrefix};
 ghost use Rattle.race.specs.Agreement.{Agree, AgreesWith, AllAgree};
 
 use cluster::{HostSeat, Named};
@@ -34,12 +34,12 @@ fn agrees_with<N: Named>(one: &[Command], seats: &[HostSeat<N>]) -> bool
 fn agree(one: &[Command], other: &[Command]) -> bool
     ensures { IsTrue result ↔ Agree one.now other.now }
 {
-    begins(one, other) || begins(other, one)
+    is_prefix(one, other) || is_prefix(other, one)
 }
 
 // Whether the one list begins with the other.
-fn begins(short: &[Command], long: &[Command]) -> bool
-    ensures { IsTrue result ↔ Begins short.now long.now }
+fn is_prefix(short: &[Command], long: &[Command]) -> bool
+    ensures { IsTrue result ↔ IsPrefix short.now long.now }
 {
     if short.len() > long.len() {
         return false;

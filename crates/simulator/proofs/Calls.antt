@@ -17,7 +17,7 @@ use Rattle.host.specs.Kept as hosts
 use Rattle.host.proofs.Hosts.{idle_is}
 use Rattle.world.specs.Entry.{Filled, Called, Torn, Crashed, Lost, disk_step, host_step, called_by}
 use Rattle.world.specs.World.{World, world}
-use Rattle.world.specs.Happens.{Step, Tear, FailCall, DiskCrash, DiskGone, brings_if, are_some, has_disk, answer_of, taken_by, stepped, failed_by, failed, torn_by, torn, entry_of}
+use Rattle.world.specs.Happens.{Step, Tear, FailCall, DiskCrash, DiskGone, brings_if, are_some, has_disk, answer_of, spread_over, stepped, failed_entry, failed, torn_entry, torn, entry_of}
 use Rattle.simulator.specs.Calls.{is_write}
 use Rattle.simulator.specs.Kept.{Kept, calm, is_busy, IsHost, LeadsTo, Brings}
 use Rattle.simulator.proofs.Changes.{nothing, something}
@@ -123,16 +123,16 @@ module _ (log : List Filled) (old : Kept) (leads : LeadsTo log old) where
         nothing log old leads (FailCall h given)
         (ap (λ (b : Bool). brings_if b (option_and_then (failed w h given) (next_of old.shape h (w.host h)))) (some_given given some)
         ∙ ap (option_and_then (failed w h given)) due
-        ∙ ap (failed_by h given (k, call)) (ap (λ (d : DiskState). refusal_of d call) (sym same_disk) ∙ refused))
+        ∙ ap (failed_entry h given (k, call)) (ap (λ (d : DiskState). refusal_of d call) (sym same_disk) ∙ refused))
 
     pub fails : (given : List ℕ) (there : SimState) (new : hosts.Kept) → 0 < length given → refusal_of x.disk call ≡ None
-        → there ≡ record x { disk = called_by x.disk call (Fault Failed) (taken_by call given) }
+        → there ≡ record x { disk = called_by x.disk call (Fault Failed) (spread_over call given) }
         → length there.disk.bytes ≡ length x.disk.bytes
         → ((c : Shape) (g : ℕ) (m : Memory) → hosts.LeadsTo c g m core → hosts.LeadsTo c g (hears_from c g m m.doing k (Fault Failed)) new)
         → Brings log (FailCall h given) old (record { shape = old.shape; disks = set old.disks k there; hosts = set old.hosts h (Some new) }) (saying h new.said)
     fails given there new some clear is_there as_long hears_then =
         let w = world old.shape log in
-        let e : Filled = Called h k call (Fault Failed) (taken_by call given) in
+        let e : Filled = Called h k call (Fault Failed) (spread_over call given) in
         let r = running_at log old leads h core is in
         let m : Memory = hears_from old.shape h r.0 r.0.doing k (Fault Failed) in
         let heard : hosts.LeadsTo old.shape h m new = hears_then old.shape h r.0 r.2 in
@@ -140,26 +140,26 @@ module _ (log : List Filled) (old : Kept) (leads : LeadsTo log old) where
         something log old leads (FailCall h given) e (record { shape = old.shape; disks = set old.disks k there; hosts = set old.hosts h (Some new) }) (saying h new.said)
         (ap (λ (b : Bool). brings_if b (option_and_then (failed w h given) (next_of old.shape h (w.host h)))) (some_given given some)
         ∙ ap (option_and_then (failed w h given)) due
-        ∙ ap (failed_by h given (k, call)) (ap (λ (d : DiskState). refusal_of d call) (sym same_disk) ∙ clear)) refl
+        ∙ ap (failed_entry h given (k, call)) (ap (λ (d : DiskState). refusal_of d call) (sym same_disk) ∙ clear)) refl
         (by_both log old leads e h (Some new) within (λ g. refl) (subst (λ (y : Host). IsHost old.shape h y (Some new)) (sym host) heard) k there inside (λ d. refl)
-        (left_is there e (λ d. called_by d call (Fault Failed) (taken_by call given)) is_there refl))
+        (left_is there e (λ d. called_by d call (Fault Failed) (spread_over call given)) is_there refl))
         (sized there as_long)
         (λ place. says_by log old leads e h m new (self_eq h) host heard place)
 
     -- a call that is no write is not torn
-    not_written : (w : World) (given : List ℕ) (y : Call) (r : Option DiskFault) → is_write y ≡ false → torn_by h given k y r ≡ None
+    not_written : (w : World) (given : List ℕ) (y : Call) (r : Option DiskFault) → is_write y ≡ false → torn_entry h given k y r ≡ None
     not_written w given Attach r is_not = refl
     not_written w given (Read boot at len) r is_not = refl
     not_written w given (Sync boot) r is_not = refl
     not_written w given (Write boot at from) r is_not = absurd (cc)
 
-    refused_one : (given : List ℕ) (y : Call) (fault : DiskFault) → torn_by h given k y (Some fault) ≡ None
+    refused_one : (given : List ℕ) (y : Call) (fault : DiskFault) → torn_entry h given k y (Some fault) ≡ None
     refused_one given Attach fault = refl
     refused_one given (Read boot at len) fault = refl
     refused_one given (Sync boot) fault = refl
     refused_one given (Write boot at from) fault = refl
 
-    untorn : (given : List ℕ) → 0 < length given → torn_by h given k call (refusal_of ((world old.shape log).disk k) call) ≡ None → Brings log (Tear h given) old old None
+    untorn : (given : List ℕ) → 0 < length given → torn_entry h given k call (refusal_of ((world old.shape log).disk k) call) ≡ None → Brings log (Tear h given) old old None
     untorn given some none =
         let w = world old.shape log in
         nothing log old leads (Tear h given)
@@ -173,29 +173,29 @@ module _ (log : List Filled) (old : Kept) (leads : LeadsTo log old) where
     -- nor is one that the disk refuses
     pub tears_refused : (given : List ℕ) (fault : DiskFault) → 0 < length given → refusal_of x.disk call ≡ Some fault → Brings log (Tear h given) old old None
     tears_refused given fault some refused =
-        untorn given some (ap (torn_by h given k call) (ap (λ (d : DiskState). refusal_of d call) (sym same_disk) ∙ refused) ∙ refused_one given call fault)
+        untorn given some (ap (torn_entry h given k call) (ap (λ (d : DiskState). refusal_of d call) (sym same_disk) ∙ refused) ∙ refused_one given call fault)
 
     -- a write that the disk does not refuse is
-    torn_write : (given : List ℕ) (y : Call) → is_write y ≡ true → torn_by h given k y None ≡ Some (Torn h k y (taken_by y given))
+    torn_write : (given : List ℕ) (y : Call) → is_write y ≡ true → torn_entry h given k y None ≡ Some (Torn h k y (spread_over y given))
     torn_write given Attach is_one = absurd (cc)
     torn_write given (Read boot at len) is_one = absurd (cc)
     torn_write given (Sync boot) is_one = absurd (cc)
     torn_write given (Write boot at from) is_one = refl
 
     pub tears : (given : List ℕ) (there : SimState) → is_write call ≡ true → 0 < length given → refusal_of x.disk call ≡ None
-        → there ≡ record x { disk = called_by x.disk call (Fault Failed) (taken_by call given) }
+        → there ≡ record x { disk = called_by x.disk call (Fault Failed) (spread_over call given) }
         → length there.disk.bytes ≡ length x.disk.bytes
         → Brings log (Tear h given) old (record { shape = old.shape; disks = set old.disks k there; hosts = set old.hosts h None }) None
     tears given there is_one some clear is_there as_long =
         let w = world old.shape log in
-        let e : Filled = Torn h k call (taken_by call given) in
+        let e : Filled = Torn h k call (spread_over call given) in
         something log old leads (Tear h given) e (record { shape = old.shape; disks = set old.disks k there; hosts = set old.hosts h None }) None
         (ap (λ (b : Bool). brings_if b (option_and_then (torn w h given) (next_of old.shape h (w.host h)))) (some_given given some)
         ∙ ap (option_and_then (torn w h given)) due
-        ∙ ap (torn_by h given k call) (ap (λ (d : DiskState). refusal_of d call) (sym same_disk) ∙ clear)
+        ∙ ap (torn_entry h given k call) (ap (λ (d : DiskState). refusal_of d call) (sym same_disk) ∙ clear)
         ∙ torn_write given call is_one) refl
         (by_both log old leads e h None within (λ g. refl) tt k there inside (λ d. refl)
-        (left_is there e (λ d. called_by d call (Fault Failed) (taken_by call given)) is_there refl))
+        (left_is there e (λ d. called_by d call (Fault Failed) (spread_over call given)) is_there refl))
         (sized there as_long)
         (λ place. says_nothing_by log old leads e h (self_eq h) refl place)
 

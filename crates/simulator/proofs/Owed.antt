@@ -21,7 +21,7 @@ use Rattle.host.specs.Host.{Stopped, Memory, Submitting, Recovering, fresh, goes
 use Rattle.host.specs.Kept as hosts
 use Rattle.world.specs.Entry.{Filled, called_by}
 use Rattle.world.specs.World.{world}
-use Rattle.world.specs.Happens.{Event, Start, Stop, Submit, Recover, Beat, Step, Tear, FailCall, DiskCrash, DiskGone, answer_of, taken_by}
+use Rattle.world.specs.Happens.{Event, Start, Stop, Submit, Recover, Beat, Step, Tear, FailCall, DiskCrash, DiskGone, answer_of, spread_over}
 use Rattle.simulator.specs.declared.parts.Said.{Said}
 use Rattle.simulator.specs.declared.parts.Parts.TheInside.{Inside}
 use Rattle.simulator.specs.Calls.{is_write, may_crash, crashed_if, lost_if}
@@ -192,7 +192,7 @@ module _ (old : Kept) (h i : ℕ) (same : i ≡ h) (within : i < HOSTS) where
 
     pub fails : (given : List ℕ) (new : hosts.Kept) (there : SimState) (said : Option Said) → 0 < length given
         → refusal_of x.disk (device_call_of need.call) ≡ None
-        → there ≡ record x { disk = called_by x.disk (device_call_of need.call) (Fault Failed) (taken_by (device_call_of need.call) given) }
+        → there ≡ record x { disk = called_by x.disk (device_call_of need.call) (Fault Failed) (spread_over (device_call_of need.call) given) }
         → length there.disk.bytes ≡ length x.disk.bytes
         → ((c : Shape) (g : ℕ) (m : Memory) → hosts.LeadsTo c g m core
         → hosts.LeadsTo c g (hears_from c g m m.doing (hosts.due_call core).0 (Fault Failed)) new)
@@ -218,7 +218,7 @@ module _ (old : Kept) (h i : ℕ) (same : i ≡ h) (within : i < HOSTS) where
 
     pub tears : (given : List ℕ) (there : SimState) → is_write (device_call_of need.call) ≡ true → 0 < length given
         → refusal_of x.disk (device_call_of need.call) ≡ None
-        → there ≡ record x { disk = called_by x.disk (device_call_of need.call) (Fault Failed) (taken_by (device_call_of need.call) given) }
+        → there ≡ record x { disk = called_by x.disk (device_call_of need.call) (Fault Failed) (spread_over (device_call_of need.call) given) }
         → length there.disk.bytes ≡ length x.disk.bytes
         → (log : List Filled) → LeadsTo log old → Brings log (Tear h given) old (record { shape = old.shape; disks = set old.disks j there; hosts = set old.hosts i None }) None
     tears given there is_one some clear left as_long log leads =

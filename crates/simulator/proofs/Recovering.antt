@@ -14,7 +14,7 @@ use Rattle.host.specs.Host.{Submitting, Host, Stopped, Running, begins, says, fu
 use Rattle.world.specs.Entry as entries
 use Rattle.world.specs.Entry.{Filled, host_step}
 use Rattle.world.specs.World.{World, world}
-use Rattle.world.specs.Happens.{Event, Start, Stop, Submit, Recover, Beat, Step, Tear, FailCall, DiskCrash, DiskGone, Line, brings_if, taken_by, torn_by, torn, submitted, host_of, entry_of}
+use Rattle.world.specs.Happens.{Event, Start, Stop, Submit, Recover, Beat, Step, Tear, FailCall, DiskCrash, DiskGone, Line, brings_if, spread_over, torn_entry, torn, submitted, host_of, entry_of}
 use Rattle.world.proofs.Projections.{host_here}
 use Rattle.simulator.specs.declared.parts.Said.{Said}
 use Rattle.simulator.specs.Answers.{may_recover}
@@ -59,12 +59,12 @@ module _ (c : Shape) (h n : ℕ) where
         given_if _ (Some (entries.Submit g command tries)) f ⊥ is (λ passed same. (let one : entries.Submit g command tries ≡ f = cc in
         submits_silent g command tries (w.host h) (ap (λ (e : Filled). said_of (host_step c h (w.host h) e)) one ∙ says_so)))
 
-    no_tear_by : (g : ℕ) (given : List ℕ) (k : ℕ) (call : Call) (refusal : Option DiskFault) → torn_by g given k call refusal ≡ Some f → ⊥
+    no_tear_by : (g : ℕ) (given : List ℕ) (k : ℕ) (call : Call) (refusal : Option DiskFault) → torn_entry g given k call refusal ≡ Some f → ⊥
     no_tear_by g given k Attach None is = cc
     no_tear_by g given k (Read boot at len) None is = cc
     no_tear_by g given k (Sync boot) None is = cc
     no_tear_by g given k (Write boot at from) None is =
-        let one : entries.Torn g k (Write boot at from) (taken_by (Write boot at from) given) ≡ f = cc in
+        let one : entries.Torn g k (Write boot at from) (spread_over (Write boot at from) given) ≡ f = cc in
         let says_none = ap (λ (e : Filled). said_of (host_step c h (w.host h) e)) one ∙ says_so in
         cc
     no_tear_by g given k Attach (Some fault) is = cc

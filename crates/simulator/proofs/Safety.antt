@@ -10,7 +10,7 @@ use Rattle.host.specs.Host.{idles}
 use Rattle.world.specs.Entry.{Filled}
 use Rattle.world.specs.World.{IsRun}
 use Rattle.world.specs.Chosen.{at, IsLog, SaysAt}
-use Rattle.world.specs.Headline.{Begins, prefix_at, IsSafe}
+use Rattle.world.specs.Headline.{IsPrefix, prefix_at, IsSafe}
 use Rattle.world.proofs.Safe.{one_log}
 use Rattle.world_safety.proofs.Claims.Recovering.{idle_before, empty_shows}
 use Rattle.world_safety.proofs.Claims.Safety.{commands, is_safe, prefix, acked_chosen}
@@ -26,7 +26,7 @@ module _ (c : Shape) (log : List Filled) (run : IsRun c log) where
   pub no_other : (values : List (List ℕ)) → IsLog c log values → values ≡ map spelling logged
   no_other values is = one_log c log logged safe values (map spelling logged) is safe.is_log
 
-  pub begins : (i host : ℕ) → Begins (prefix_at c log i host) logged
+  pub begins : (i host : ℕ) → IsPrefix (prefix_at c log i host) logged
   begins i host = prefix c log run i host
 
   -- a recovery holds what was acknowledged before a place where its host was idle

@@ -13,7 +13,7 @@ use Rattle.host.proofs.Hosts.{decoded_spelled}
 use Rattle.world.specs.Entry as entries
 use Rattle.world.specs.Entry.{Filled}
 use Rattle.world.specs.World.{World}
-use Rattle.world.specs.Happens.{Event, Start, Stop, Submit, Recover, Beat, Step, Tear, FailCall, DiskCrash, DiskGone, brings_if, stepped, failed_by, failed, torn_by, torn, submitted, entry_of}
+use Rattle.world.specs.Happens.{Event, Start, Stop, Submit, Recover, Beat, Step, Tear, FailCall, DiskCrash, DiskGone, brings_if, stepped, failed_entry, failed, torn_entry, torn, submitted, entry_of}
 
 -- an entry that is brought under a test is the one that stands there
 brought : (b : Bool) (o : Option Filled) (e : Filled) → brings_if b o ≡ Some e → o ≡ Some e
@@ -32,11 +32,11 @@ module _ (c : Shape) (w : World) (h : ℕ) (command : Command) (tries : ℕ) whe
   no_step g None is = cc
   no_step g (Some x) is = cc
 
-  no_failure : (g : ℕ) (given : List ℕ) (x : ℕ × Call) (refusal : Option DiskFault) → failed_by g given x refusal ≡ Some (entries.Submit h command tries) → ⊥
+  no_failure : (g : ℕ) (given : List ℕ) (x : ℕ × Call) (refusal : Option DiskFault) → failed_entry g given x refusal ≡ Some (entries.Submit h command tries) → ⊥
   no_failure g given x None is = cc
   no_failure g given x (Some fault) is = cc
 
-  no_tear : (g : ℕ) (given : List ℕ) (k : ℕ) (call : Call) (refusal : Option DiskFault) → torn_by g given k call refusal ≡ Some (entries.Submit h command tries) → ⊥
+  no_tear : (g : ℕ) (given : List ℕ) (k : ℕ) (call : Call) (refusal : Option DiskFault) → torn_entry g given k call refusal ≡ Some (entries.Submit h command tries) → ⊥
   no_tear g given k Attach None is = cc
   no_tear g given k (Read boot at len) None is = cc
   no_tear g given k (Write boot at from) None is = cc

@@ -16,7 +16,7 @@ use Rattle.host.specs.Kept as hosts
 use Rattle.world.specs.World.{World, world}
 use Rattle.world.specs.Happens.{Event, Line, run, answers}
 use Rattle.world.specs.Chosen.{at, SaysAt, IsSubmittedBefore as IsSubmittedIn}
-use Rattle.world.specs.Headline.{Begins, IsSafe}
+use Rattle.world.specs.Headline.{IsPrefix, IsSafe}
 use Rattle.world.proofs.Runs.{run_is_run}
 use Rattle.simulator.specs.declared.answer.Answer.{Answer}
 use Rattle.simulator.specs.Answers.{line_of, ShowsTable, IsPicturedBy, IsPictured, IsPicturedIn}
@@ -29,10 +29,10 @@ use Rattle.simulator.proofs.Shown.{running_by}
 use Rattle.simulator.proofs.Submitting.{of_submission}
 
 -- of two beginnings of one list, the shorter begins the longer
-shorter_begins : {A : Type 0} (a b l : List A) → Begins a l → Begins b l → length a ≤ length b → Begins a b
+shorter_begins : {A : Type 0} (a b l : List A) → IsPrefix a l → IsPrefix b l → length a ≤ length b → IsPrefix a b
 shorter_begins a b l is_a is_b le = is_a ∙ sym (take-take (length a) (length b) l le) ∙ ap (take (length a)) (sym is_b)
 
-one_begins : {A : Type 0} (a b l : List A) → Begins a l → Begins b l → Begins a b ⊎ Begins b a
+one_begins : {A : Type 0} (a b l : List A) → IsPrefix a l → IsPrefix b l → IsPrefix a b ⊎ IsPrefix b a
 one_begins a b l is_a is_b = elim (cases_lt (length a) (length b)) [
   | inl less ↦ inl (shorter_begins a b l is_a is_b (omega (arith, less)))
   | inr not_less ↦ inr (shorter_begins b a l is_b is_a not_less)
@@ -51,9 +51,9 @@ module _ (c : Shape) (events : List Event) where
 
   -- THE LOG
 
-  begins : (i h : ℕ) → Begins (prefix_before c events i h) log
+  begins : (i h : ℕ) → IsPrefix (prefix_before c events i h) log
   begins i h =
-      subst (λ (w : World). Begins (learned_of (w.host h)) log) (world_at i)
+      subst (λ (w : World). IsPrefix (learned_of (w.host h)) log) (world_at i)
       (safety.begins c (run c events) (run_is_run c events) (length (before c events i)) h)
 
   -- a submission in the run is an event
@@ -195,7 +195,7 @@ begins_so_far p h k is logged by =
     let r = running_by p.shape h ((world_of p).host h) k is in
     let all : prefix_before p.shape p.events (length p.events) h ≡ k.prefix =
     ap (λ (l : List Event). learned_of ((world p.shape (run p.shape l)).host h)) (take-length p.events) ∙ ap learned_of r.1 ∙ sym r.2.prefix in
-    subst (λ (l : List Command). Begins l logged) all (by.begins (length p.events) h)
+    subst (λ (l : List Command). IsPrefix l logged) all (by.begins (length p.events) h)
 
 pub begins_if : {X : Type 0} (p : Past) (h : ℕ) (o : Option X) (now : X → hosts.Kept) → IsHost p.shape h ((world_of p).host h) (option_map now o)
     → IfSome o (λ x. BeginsTheLog p (now x).prefix)

@@ -11,7 +11,7 @@ use Rattle.host.specs.Host.{Operation, Submitting, Doing, Memory, Host, Running,
 use Rattle.world.specs.World.{world}
 use Rattle.world.specs.Happens.{Event, Submit, Line, run}
 use Rattle.world.specs.Chosen.{IsChosenAt, IsLog}
-use Rattle.world.specs.Headline.{Begins}
+use Rattle.world.specs.Headline.{IsPrefix}
 use Rattle.simulator.specs.declared.answer.Answer.{Answer}
 use Rattle.simulator.specs.Answers.{line_of, ShowsTable}
 use Rattle.simulator.specs.Past.{Past, answers_of}
@@ -61,9 +61,9 @@ pub record IsOneLog (c : Shape) (events : List Event) (log : List Command) : Typ
   pub chosen : (i slot : ℕ) (value : List ℕ) → IsChosenBy c events i slot value → slice_get (map spelling log) slot ≡ Some value
   pub submitted : (i slot : ℕ) (value : List ℕ) → IsChosenBy c events i slot value → IsSubmittedBefore events i value
   -- at any time each host has learned a beginning of the log,
-  pub begins : (i h : ℕ) → Begins (prefix_before c events i h) log
+  pub begins : (i h : ℕ) → IsPrefix (prefix_before c events i h) log
   -- and of two such, of any hosts at any times, one begins the other
-  pub prefixes : (i j g h : ℕ) → Begins (prefix_before c events i g) (prefix_before c events j h) ⊎ Begins (prefix_before c events j h) (prefix_before c events i g)
+  pub prefixes : (i j g h : ℕ) → IsPrefix (prefix_before c events i g) (prefix_before c events j h) ⊎ IsPrefix (prefix_before c events j h) (prefix_before c events i g)
 
 -- WHAT IS ANSWERED
 
@@ -116,4 +116,4 @@ pub record GoesByOneLog (p : Past) (answer : Option Answer) : Type 0 where
 
 -- the commands are a beginning of the log so far
 abbrev pub BeginsTheLog : Past → List Command → Type 0
-BeginsTheLog p prefix = (log : List Command) → IsOneLog p.shape p.events log → Begins prefix log
+BeginsTheLog p prefix = (log : List Command) → IsOneLog p.shape p.events log → IsPrefix prefix log

@@ -4,7 +4,7 @@ ghost use Rattle.disk.specs.declared.fault.DiskFault.TheVariants.{Failed};
 ghost use Rattle.disk.specs.Simulated.{refusal_of};
 ghost use Rattle.phases.specs.Calls.{device_call_of, IsWithin};
 ghost use Rattle.world.specs.Entry.{called_by};
-ghost use Rattle.world.specs.Happens.{answer_of, taken_by};
+ghost use Rattle.world.specs.Happens.{answer_of, spread_over};
 ghost use Rattle.simulator.specs.Calls.{answer_in, is_write, may_crash, crashed_if, lost_if};
 
 use crate::outcome::Outcome;
@@ -62,7 +62,7 @@ pub fn spoil(disk: &mut SimDisk, call: &DeviceCall<'_>, given: &[u8])
     requires range { IsWithin (length disk.old.disk.bytes) call.now }
     requires given { 0 < length given.now }
     ensures size { length disk.new.disk.bytes ≡ length disk.old.disk.bytes }
-    ensures disk { disk.new ≡ record disk.old { disk = called_by disk.old.disk (device_call_of call.now) (Fault Failed) (taken_by (device_call_of call.now) given.now) } }
+    ensures disk { disk.new ≡ record disk.old { disk = called_by disk.old.disk (device_call_of call.now) (Fault Failed) (spread_over (device_call_of call.now) given.now) } }
 {
     if let DeviceCall::Write { at, bytes, .. } = call {
         disk.tear(*at, bytes.len() as u64, given);

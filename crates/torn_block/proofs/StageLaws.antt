@@ -20,7 +20,7 @@ use Rattle.disk.proofs.StepLemmas.{step_keeps}
 use Rattle.torn_block.proofs.PlaceLaws.{block_read}
 use Rattle.torn_block.specs.Register.{Reads, StandsFor, IsAtRest, LeavesBlock}
 use Rattle.torn_block.proofs.RegisterLaws.{ranges}
-use Rattle.torn_block.specs.Stage.{Write128, gate_of, closing, new_tail, call_of, next_call, old_value, new_value, MayBe, IsWritten, IsNow, Copies, IsDue, IsDone, Stands, IsPlaced, IsSettled, in_writing}
+use Rattle.torn_block.specs.Stage.{Write128, gate_of, closing, new_tail, call_of, next_call, old_value, new_value, MayBe, IsWritten, IsNow, Copies, IsDue, IsDone, Stands, IsPlaced, IsDurable, in_writing}
 
 -- the value by the copy that is written and the other one
 abbrev value_with : Half → List ℕ → List ℕ → Option (ℕ × List ℕ)
@@ -325,7 +325,7 @@ module _ (w : Write128) (disk : DiskState) (placed : IsPlaced w disk) where
       }
 
   -- A write begins where the block is settled.
-  pub settled_begins : IsSettled w disk → IsDue CloseGate w disk
+  pub settled_begins : IsDurable w disk → IsDue CloseGate w disk
   settled_begins settled =
       let same = (λ (bytes : List ℕ) (left : MayLeave disk bytes). settled_copies w bytes (settled bytes left)) in
       record { now = same disk.bytes (may_leave_now disk); left = same }
@@ -345,7 +345,7 @@ module _ (w : Write128) (disk : DiskState) (placed : IsPlaced w disk) where
       step
 
 -- What was read of a block at rest is settled.
-pub read_settles : (w : Write128) (disk new : DiskState) (boot at q len : ℕ) (bytes : List ℕ) → IsAtRest (at + q) disk → q + BLOCK_LENGTH ≤ len → at + len ≤ length disk.bytes → Step disk (Read boot at len) (Told bytes) new → w.place ≡ at + q → w.block ≡ block_in q bytes → IsSettled w new
+pub read_settles : (w : Write128) (disk new : DiskState) (boot at q len : ℕ) (bytes : List ℕ) → IsAtRest (at + q) disk → q + BLOCK_LENGTH ≤ len → at + len ≤ length disk.bytes → Step disk (Read boot at len) (Told bytes) new → w.place ≡ at + q → w.block ≡ block_in q bytes → IsDurable w new
 read_settles w disk new boot at q len bytes rests inside fits step is has left may =
     let told : bytes ≡ slice_range disk.bytes at (at + len) = cc in
     let before : MayLeave disk left = subst (λ (d : DiskState). MayLeave d left) step.2.1 may in

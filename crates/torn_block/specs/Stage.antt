@@ -104,5 +104,5 @@ pub record IsPlaced (w : Write128) (disk : DiskState) : Type 0 where
   pub fits : next_sequence w.block < 2 ^ 64
 
 -- each outcome of a crash now has this block
-abbrev pub IsSettled : Write128 → DiskState → Type 0
-IsSettled w disk = (bytes : List ℕ) → MayLeave disk bytes → block_in w.place bytes ≡ w.block
+abbrev pub IsDurable : Write128 → DiskState → Type 0
+IsDurable w disk = (bytes : List ℕ) → MayLeave disk bytes → block_in w.place bytes ≡ w.block

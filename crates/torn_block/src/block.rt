@@ -7,7 +7,7 @@ ghost use Rattle.torn_block.specs.Plan.{IsReading};
 use crate::layout::{BLOCK_LENGTH, BODY_LENGTH, COPY_LENGTH, HEADING_LENGTH};
 use byteorder::{BigEndian, ByteOrder};
 
-/// The gate of a copy that counts. Any other byte there closes it.
+/// The gate of a copy that counts, and of an image that was formatted to the end. Any other byte there closes it.
 pub const OPEN_GATE: u8 = 0xA5;
 
 /// One of the two copies of a block.
@@ -83,11 +83,11 @@ impl Block128 {
 pub fn read_block(bytes: &[u8; BLOCK_LENGTH]) -> Block128
     ensures { IsReading bytes.now result }
 {
-    block_in(bytes)
+    block_from(bytes)
 }
 
 /// The block that these bytes, a part of a longer list, are.
-pub fn block_in(bytes: &[u8]) -> Block128
+pub fn block_from(bytes: &[u8]) -> Block128
     requires { length bytes.now ≡ BLOCK_LENGTH }
     ensures { IsReading bytes.now result }
 {

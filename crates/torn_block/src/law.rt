@@ -11,7 +11,7 @@ ghost use Rattle.torn_block.specs.Block.{value_of};
 ghost use Rattle.torn_block.specs.Place.{block_in};
 ghost use Rattle.torn_block.specs.Plan.{IsReading, told_value, device_call, need_at, plan_by};
 ghost use Rattle.torn_block.specs.Register.{Value, Register, Reads, at_rest, Begins, Confirms, Settles, StandsFor, IsAtRest, LiesOn, LeavesBlock};
-ghost use Rattle.torn_block.specs.Stage.{Write128, call_of, next_call, in_writing, old_value, new_value, IsPlaced, IsSettled, IsDue, IsDone, Stands};
+ghost use Rattle.torn_block.specs.Stage.{Write128, call_of, next_call, in_writing, old_value, new_value, IsPlaced, IsDurable, IsDue, IsDone, Stands};
 
 /// What becomes of the register that a block stands for, on any disk.
 pub fn registers()
@@ -45,7 +45,7 @@ pub fn registers()
     // What is then read is the confirmed value, and a write over it may begin.
     ensures settled { (w : Write128) (disk new : DiskState) (boot at q len : ℕ) (bytes : List ℕ) →
         IsAtRest (at + q) disk → q + BLOCK_LENGTH ≤ len → at + len ≤ length disk.bytes →
-        Step disk (Read boot at len) (Told bytes) new → w.place ≡ at + q → w.block ≡ block_in q bytes → IsSettled w new }
+        Step disk (Read boot at len) (Told bytes) new → w.place ≡ at + q → w.block ≡ block_in q bytes → IsDurable w new }
 {}
 
 /// A block that is written in the six calls, on any disk: at every moment, and after a crash at any moment, it reads
@@ -56,7 +56,7 @@ pub fn six_calls()
         device_call w.place boot (need_at (plan_by read w.body) call) ≡ call_of call w boot }
 
     // A write begins only where nothing is in writing: over a block at rest, as its owner read it.
-    ensures begins { (w : Write128) (disk : DiskState) → IsPlaced w disk → IsSettled w disk →
+    ensures begins { (w : Write128) (disk : DiskState) → IsPlaced w disk → IsDurable w disk →
         IsDue CloseGate w disk × StandsFor w.place (at_rest (old_value w)) disk × Begins (new_value w) (at_rest (old_value w)) (in_writing w) }
 
     // Each success leads to the next call.

@@ -155,7 +155,8 @@ fn put_copy(copy: &mut [u8], sequence: u64, body: &[u8])
     back.copy_from_slice(&body[HEADING_LENGTH..]);
 }
 
-fn put_number(bytes: &mut [u8], number: u64)
+/// Puts a number into eight bytes, the highest first.
+pub fn put_number(bytes: &mut [u8], number: u64)
     requires { length bytes.old ≡ 8 }
     ensures { bytes.new ≡ number_bytes number }
 {

@@ -10,7 +10,7 @@ use Rattle.beats.proofs.Histories.{fits_too, history_more, starts}
 use Rattle.slot_log.specs.Shape.{Shape}
 use Rattle.host.specs.Host.{Operation, Submitting, Recovering, Doing, Memory, Host, Stopped, Running, hears_from, hears_beat, beat_by, beat_of, is_idle, is_idle_in, next_beat, next_doing, next_of}
 use Rattle.host.proofs.Hosts.{beats-goes_on, beats_heard}
-use Rattle.world.specs.Entry.{Filled, Start, Stop, Submit, Recover, Beat, Called, Torn, Crashed, Lost, is_of, host_step, started, beats, begins as begins_on}
+use Rattle.world.specs.Entry.{Filled, Start, Stop, Submit, Recover, Beat, Called, Torn, Crashed, Lost, is_of, host_step, started, beats, begins_on}
 use Rattle.world.specs.World.{World, world, MayFollow, IsRun}
 use Rattle.world.proofs.Histories.{step_fits, has_call}
 use Rattle.world.proofs.Projections.{host_here, host_there}

@@ -19,9 +19,9 @@ use Rattle.slot_log.specs.Shape.{Shape}
 use Rattle.host.specs.Host.{is_stopped, idles, next_of}
 use Rattle.host.proofs.Hosts.{decoded_spelled}
 use Rattle.world.specs.Entry as entries
-use Rattle.world.specs.Entry.{Filled, Called, Torn, Crashed, Lost, called_by}
+use Rattle.world.specs.Entry.{Filled, Called, Torn, Crashed, called_by}
 use Rattle.world.specs.World.{World, MayFollow, ReadsBack, HasDisk}
-use Rattle.world.specs.Happens.{Event, Start, Stop, Submit, Recover, Beat, Step, Tear, FailCall, DiskCrash, DiskGone, answer_by, answer_of, taken_by, stepped, failed_by, failed, torn_by, torn, brings_if, are_some, has_disk, submitted, entry_of}
+use Rattle.world.specs.Happens.{Event, Start, Stop, Submit, Recover, Beat, Step, Tear, FailCall, DiskCrash, DiskGone, answer_by, answer_of, spread_over, stepped, failed_entry, failed, torn_entry, torn, brings_if, are_some, has_disk, submitted, entry_of}
 
 -- WHAT A TEST TELLS
 
@@ -70,11 +70,11 @@ module _ (disk : DiskState) (call : Call) (boot : ℕ) (by : IsBy call boot disk
       go false eg true eu is = (eg, by.under (eqb-true boot disk.boot eu))
       go false eg false eu is = absurd (cc)
 
-answers : (disk : DiskState) (call : Call) → DiskStep disk call (answer_of disk call) (called_by disk call (answer_of disk call) [])
-answers disk Attach = answers_by disk Attach disk.boot (record { under = λ e. tt; only = λ u. refl })
-answers disk (Read boot at len) = answers_by disk (Read boot at len) boot (record { under = λ e. e; only = λ u. u })
-answers disk (Write boot at from) = answers_by disk (Write boot at from) boot (record { under = λ e. e; only = λ u. u })
-answers disk (Sync boot) = answers_by disk (Sync boot) boot (record { under = λ e. e; only = λ u. u })
+answer_steps : (disk : DiskState) (call : Call) → DiskStep disk call (answer_of disk call) (called_by disk call (answer_of disk call) [])
+answer_steps disk Attach = answers_by disk Attach disk.boot (record { under = λ e. tt; only = λ u. refl })
+answer_steps disk (Read boot at len) = answers_by disk (Read boot at len) boot (record { under = λ e. e; only = λ u. u })
+answer_steps disk (Write boot at from) = answers_by disk (Write boot at from) boot (record { under = λ e. e; only = λ u. u })
+answer_steps disk (Sync boot) = answers_by disk (Sync boot) boot (record { under = λ e. e; only = λ u. u })
 
 open_of : (disk : DiskState) (call : Call) → refusal_of disk call ≡ None → (disk.gone ≡ false) × IsUnder call disk.boot
 open_of disk Attach = open_by disk Attach disk.boot (record { under = λ e. tt; only = λ u. refl })
@@ -83,7 +83,7 @@ open_of disk (Write boot at from) = open_by disk (Write boot at from) boot (reco
 open_of disk (Sync boot) = open_by disk (Sync boot) boot (record { under = λ e. e; only = λ u. u })
 
 -- and so is its failure
-fails : (disk : DiskState) (call : Call) (given : List ℕ) → (disk.gone ≡ false) × IsUnder call disk.boot → DiskStep disk call (Fault Failed) (called_by disk call (Fault Failed) (taken_by call given))
+fails : (disk : DiskState) (call : Call) (given : List ℕ) → (disk.gone ≡ false) × IsUnder call disk.boot → DiskStep disk call (Fault Failed) (called_by disk call (Fault Failed) (spread_over call given))
 fails disk Attach given o = (o.0, o.1, refl)
 fails disk (Read boot at len) given o = (o.0, o.1, refl)
 fails disk (Write boot at from) given o = (o.0, o.1, record { left = spread given 0 (length from); as_many = length-spread given 0 (length from); leaves = refl })
@@ -110,23 +110,23 @@ module _ (c : Shape) (w : World) (whole : (k : ℕ) → IsWhole (w.disk k)) wher
   stepping h None e is s = absurd (cc)
   stepping h (Some next) e is s =
       let same : stepped w h next ≡ e = cc in
-      subst (MayFollow c w) same (is, answers (w.disk next.0) next.1)
+      subst (MayFollow c w) same (is, answer_steps (w.disk next.0) next.1)
 
   failing : (h : ℕ) (given : List ℕ) (o : Option (ℕ × Call)) (e : Filled) → next_of c h (w.host h) ≡ o → option_and_then (failed w h given) o ≡ Some e → MayFollow c w e
   failing h given None e is s = absurd (cc)
   failing h given (Some next) e is s = go (refusal_of (w.disk next.0) next.1) refl s
     where
-      go : (r : Option DiskFault) → refusal_of (w.disk next.0) next.1 ≡ r → failed_by h given next r ≡ Some e → MayFollow c w e
+      go : (r : Option DiskFault) → refusal_of (w.disk next.0) next.1 ≡ r → failed_entry h given next r ≡ Some e → MayFollow c w e
       go (Some fault) er s' = absurd (cc)
       go None er s' =
-          let same : Called h next.0 next.1 (Fault Failed) (taken_by next.1 given) ≡ e = cc in
+          let same : Called h next.0 next.1 (Fault Failed) (spread_over next.1 given) ≡ e = cc in
           subst (MayFollow c w) same (is, fails (w.disk next.0) next.1 given (open_of (w.disk next.0) next.1 er))
 
   tearing : (h : ℕ) (given : List ℕ) (o : Option (ℕ × Call)) (e : Filled) → next_of c h (w.host h) ≡ o → option_and_then (torn w h given) o ≡ Some e → MayFollow c w e
   tearing h given None e is s = absurd (cc)
   tearing h given (Some (k, call)) e is s = go call is (refusal_of (w.disk k) call) refl s
     where
-      go : (call' : Call) → next_of c h (w.host h) ≡ Some (k, call') → (r : Option DiskFault) → refusal_of (w.disk k) call' ≡ r → torn_by h given k call' r ≡ Some e → MayFollow c w e
+      go : (call' : Call) → next_of c h (w.host h) ≡ Some (k, call') → (r : Option DiskFault) → refusal_of (w.disk k) call' ≡ r → torn_entry h given k call' r ≡ Some e → MayFollow c w e
       go Attach is' r er s' = absurd (cc)
       go (Read boot at len) is' r er s' = absurd (cc)
       go (Sync boot) is' r er s' = absurd (cc)

@@ -18,7 +18,7 @@ use Rattle.world.specs.Entry as entries
 use Rattle.world.specs.Entry.{Filled, Called, Torn, Crashed, Lost, torn_by, called_by, disk_step, host_step, hears_on, is_on, is_of}
 use Rattle.world.specs.World.{World, world, MayFollow, IsRun, HasDisk}
 use Rattle.world.specs.Happens as events
-use Rattle.world.specs.Happens.{Event, Start, Stop, Submit, Recover, Beat, Step, Tear, FailCall, DiskCrash, DiskGone, answer_by, answer_of, taken_by, stepped, failed_by, failed, torn, brings_if, are_some, has_disk, submitted, entry_of, with_entry, run}
+use Rattle.world.specs.Happens.{Event, Start, Stop, Submit, Recover, Beat, Step, Tear, FailCall, DiskCrash, DiskGone, answer_by, answer_of, spread_over, stepped, failed_entry, failed, torn, brings_if, are_some, has_disk, submitted, entry_of, with_entry, run}
 use Rattle.world.specs.Lines.{BringsSuch, EventsReachEach, EventsReachAll}
 use Rattle.world.proofs.Projections.{disk_here, disk_there, host_here, host_there}
 use Rattle.world.proofs.Runs.{run_whole, by_run, more, one_more}
@@ -176,10 +176,10 @@ module _ (c : Shape) (w : World) (whole : (k : ℕ) → IsWhole (w.disk k)) wher
 
   -- a failure that leaves bytes in its range is that of the same bytes given
   failing : (h k : ℕ) (call : Call) (given left : List ℕ) → next_of c h (w.host h) ≡ Some (k, call) → (w.disk k).gone ≡ false → IsUnder call (w.disk k).boot
-      → torn_by (w.disk k) call (taken_by call (some_of given)) ≡ torn_by (w.disk k) call left → BringsSuch c w (FailCall h (some_of given)) (Called h k call (Fault Failed) left)
+      → torn_by (w.disk k) call (spread_over call (some_of given)) ≡ torn_by (w.disk k) call left → BringsSuch c w (FailCall h (some_of given)) (Called h k call (Fault Failed) left)
   failing h k call given left next here under leaves =
-      same_call (FailCall h (some_of given)) h k call (Fault Failed) (Fault Failed) left (taken_by call (some_of given))
-      (brought_if _ _ (are_given given) ∙ ap (option_and_then (failed w h (some_of given))) next ∙ ap (failed_by h (some_of given) (k, call)) (open_of (w.disk k) call here under))
+      same_call (FailCall h (some_of given)) h k call (Fault Failed) (Fault Failed) left (spread_over call (some_of given))
+      (brought_if _ _ (are_given given) ∙ ap (option_and_then (failed w h (some_of given))) next ∙ ap (failed_entry h (some_of given) (k, call)) (open_of (w.disk k) call here under))
       refl leaves
 
   torn_back : (disk : DiskState) (at : ℕ) (xs : List ℕ) (n : ℕ) → length xs ≡ n → written disk at (spread (some_of xs) 0 n) ≡ written disk at xs
@@ -201,7 +201,7 @@ module _ (c : Shape) (w : World) (whole : (k : ℕ) → IsWhole (w.disk k)) wher
     record {
       brought = Torn h k (Write boot at from) (spread (some_of tears.left) 0 (length from));
       is = brought_if _ _ (are_given tears.left) ∙ ap (option_and_then (torn w h (some_of tears.left))) next
-          ∙ ap (events.torn_by h (some_of tears.left) k (Write boot at from)) (open_of (w.disk k) (Write boot at from) here under);
+          ∙ ap (events.torn_entry h (some_of tears.left) k (Write boot at from)) (open_of (w.disk k) (Write boot at from) here under);
       on_disk = λ j. refl;
       disk = λ j on. subst (λ (i : ℕ). written (w.disk i) at (spread (some_of tears.left) 0 (length from)) ≡ written (w.disk i) at left) (eqb-true k j on)
           (torn_back (w.disk k) at tears.left (length from) tears.as_many ∙ sym tears.leaves);

@@ -9,10 +9,10 @@ use Rattle.lock_command.specs.Command.{spelling}
 use Rattle.slot_log.specs.Shape.{Shape}
 use Rattle.world.specs.Entry.{Filled}
 use Rattle.world.specs.Chosen.{IsLog}
-use Rattle.world.specs.Headline.{Begins, prefix_at, IsSafe, HasNoSecondLog, OneBeginsOther}
+use Rattle.world.specs.Headline.{IsPrefix, prefix_at, IsSafe, HasNoSecondLog, OneBeginsOther}
 
 -- of two beginnings of one list, the shorter begins the longer
-shorter_begins : {A : Type 0} (a b l : List A) → Begins a l → Begins b l → length a ≤ length b → Begins a b
+shorter_begins : {A : Type 0} (a b l : List A) → IsPrefix a l → IsPrefix b l → length a ≤ length b → IsPrefix a b
 shorter_begins a b l is_a is_b le = is_a ∙ sym (take-take (length a) (length b) l le) ∙ ap (take (length a)) (sym is_b)
 
 module _ (c : Shape) (log : List Filled) (commands : List Command) (safe : IsSafe c log commands) where

@@ -87,9 +87,9 @@ started Stopped = Running fresh
 started (Running m) = Running m
 
 -- a running host begins an operation
-abbrev pub begins : Shape → Host → Operation → ℕ → Host
-begins c Stopped operation tries = Stopped
-begins c (Running m) operation tries = Running (goes_on c m operation tries)
+abbrev pub begins_on : Shape → Host → Operation → ℕ → Host
+begins_on c Stopped operation tries = Stopped
+begins_on c (Running m) operation tries = Running (goes_on c m operation tries)
 
 -- or a beat
 abbrev pub beats : Host → Host
@@ -104,8 +104,8 @@ hears_on c h (Running m) d answer = Running (hears_from c h m m.doing d answer)
 abbrev pub host_step : Shape → ℕ → Host → Filled → Host
 host_step c h old (Start g) = started old
 host_step c h old (Stop g) = Stopped
-host_step c h old (Submit g command tries) = begins c old (Submitting command) tries
-host_step c h old (Recover g tries) = begins c old Recovering tries
+host_step c h old (Submit g command tries) = begins_on c old (Submitting command) tries
+host_step c h old (Recover g tries) = begins_on c old Recovering tries
 host_step c h old (Beat g) = beats old
 host_step c h old (Called g d call answer left) = hears_on c h old d answer
 host_step c h old (Torn g d call left) = Stopped

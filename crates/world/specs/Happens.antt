@@ -43,31 +43,31 @@ abbrev pub answer_of : DiskState → Call → Answer
 answer_of disk call = answer_by disk call (refusal_of disk call)
 
 -- what the range of a write takes of the given bytes: its i-th position takes byte i mod their number
-abbrev pub taken_by : Call → List ℕ → List ℕ
-taken_by Attach given = []
-taken_by (Read boot at len) given = []
-taken_by (Write boot at from) given = spread given 0 (length from)
-taken_by (Sync boot) given = []
+abbrev pub spread_over : Call → List ℕ → List ℕ
+spread_over Attach given = []
+spread_over (Read boot at len) given = []
+spread_over (Write boot at from) given = spread given 0 (length from)
+spread_over (Sync boot) given = []
 
 -- a host's call of a disk of the world is made
 abbrev pub stepped : World → ℕ → ℕ × Call → Filled
 stepped w h next = Called h next.0 next.1 (answer_of (w.disk next.0) next.1) []
 
 -- it fails, where the disk would not refuse it
-abbrev pub failed_by : ℕ → List ℕ → ℕ × Call → Option DiskFault → Option Filled
-failed_by h given next None = Some (Called h next.0 next.1 (Fault Failed) (taken_by next.1 given))
-failed_by h given next (Some fault) = None
+abbrev pub failed_entry : ℕ → List ℕ → ℕ × Call → Option DiskFault → Option Filled
+failed_entry h given next None = Some (Called h next.0 next.1 (Fault Failed) (spread_over next.1 given))
+failed_entry h given next (Some fault) = None
 
 abbrev pub failed : World → ℕ → List ℕ → ℕ × Call → Option Filled
-failed w h given next = failed_by h given next (refusal_of (w.disk next.0) next.1)
+failed w h given next = failed_entry h given next (refusal_of (w.disk next.0) next.1)
 
 -- it is torn, where it is a write that the disk would not refuse
-abbrev pub torn_by : ℕ → List ℕ → ℕ → Call → Option DiskFault → Option Filled
-torn_by h given k (Write boot at from) None = Some (Torn h k (Write boot at from) (taken_by (Write boot at from) given))
-torn_by h given k call refusal = None
+abbrev pub torn_entry : ℕ → List ℕ → ℕ → Call → Option DiskFault → Option Filled
+torn_entry h given k (Write boot at from) None = Some (Torn h k (Write boot at from) (spread_over (Write boot at from) given))
+torn_entry h given k call refusal = None
 
 abbrev pub torn : World → ℕ → List ℕ → ℕ × Call → Option Filled
-torn w h given next = torn_by h given next.0 next.1 (refusal_of (w.disk next.0) next.1)
+torn w h given next = torn_entry h given next.0 next.1 (refusal_of (w.disk next.0) next.1)
 
 -- WHAT AN EVENT BRINGS
 

@@ -13,8 +13,8 @@ use Rattle.world.specs.Happens.{Event, run}
 use Rattle.world.specs.Chosen.{at, IsChosenAt, IsLog, IsSubmittedBefore, SaysAt, IsAcknowledgedAt, IsRecovery}
 
 -- the one list begins with the other
-abbrev pub Begins : {A : Type 0} → List A → List A → Type 0
-Begins short long = short ≡ take (length short) long
+abbrev pub IsPrefix : {A : Type 0} → List A → List A → Type 0
+IsPrefix short long = short ≡ take (length short) long
 
 -- the commands that a host has learned before entry i, and its lock table then
 abbrev pub prefix_at : Shape → List Filled → ℕ → ℕ → List Command
@@ -40,7 +40,7 @@ pub record IsSafe (c : Shape) (log : List Filled) (commands : List Command) : Ty
   -- and was submitted before
   pub submitted : (i slot : ℕ) (value : List ℕ) → IsChosenAt c log i slot value → IsSubmittedBefore log i value
   -- at every place each host has learned a beginning of the log
-  pub prefix : (i host : ℕ) → Begins (prefix_at c log i host) commands
+  pub prefix : (i host : ℕ) → IsPrefix (prefix_at c log i host) commands
   -- every reply is to a command that the host was submitting,
   pub placed : (i host slot : ℕ) (reply : Reply) → SaysAt c log i host (Ack slot reply) → (command : Command) × IsAcknowledgedAt c log i host slot command reply
   -- which stands in the log at the slot,
@@ -61,7 +61,7 @@ HasNoSecondLog c log = (first second : List (List ℕ)) → IsLog c log first �
 -- of two hosts' prefixes, at any two places of a list, one begins the other
 abbrev pub OneBeginsOther : Shape → List Filled → Type 0
 OneBeginsOther c log =
-    (i j host other : ℕ) → Begins (prefix_at c log i host) (prefix_at c log j other) ⊎ Begins (prefix_at c log j other) (prefix_at c log i host)
+    (i j host other : ℕ) → IsPrefix (prefix_at c log i host) (prefix_at c log j other) ⊎ IsPrefix (prefix_at c log j other) (prefix_at c log i host)
 
 -- A list has a log, by which all goes; it has no other; and of two prefixes one begins the other.
 pub record HasOneLog (c : Shape) (log : List Filled) : Type 0 where

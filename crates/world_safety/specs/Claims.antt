@@ -10,7 +10,7 @@ use Rattle.world.specs.Entry.{Filled, Recover}
 use Rattle.host.specs.declared.answer.HostAnswer.TheVariants.{Ack, Recovered}
 use Rattle.world.specs.Chosen.{at, Hears, IsChosenAt, IsLog, SaysAt, IsRecovery}
 use Rattle.world_safety.specs.Goes.{IsTryingAt}
-use Rattle.world.specs.Headline.{Begins}
+use Rattle.world.specs.Headline.{IsPrefix}
 use Rattle.world_safety.specs.Tracks.{IsChosenBefore}
 
 -- BALLOTS
@@ -49,7 +49,7 @@ ProposesInOrder c log = (i slot b k : ℕ) (value : List ℕ) → IsProposedAt c
 
 -- The log so far begins the log of the whole.
 abbrev pub LogGrows : Shape → List Filled → Type 0
-LogGrows c log = (i : ℕ) (values longer : List (List ℕ)) → IsLog c (take i log) values → IsLog c log longer → Begins values longer
+LogGrows c log = (i : ℕ) (values longer : List (List ℕ)) → IsLog c (take i log) values → IsLog c log longer → IsPrefix values longer
 
 -- RECOVERIES
 

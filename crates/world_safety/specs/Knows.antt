@@ -12,7 +12,7 @@ use Rattle.paxos_block.specs.declared.block.PBlock.{PBlock}
 use Rattle.paxos_block.specs.Places.{VoteOf, place_of, IsWriteOf}
 use Rattle.paxos_block.specs.Row.{seen_in}
 use Rattle.attempt.specs.Calls.{Phase, Kind, Attaching, Syncing, Reading, Putting}
-use Rattle.attempt.specs.Answers.{Heard, Answers, all_good, boot_of, last_row, block_in as seen_block}
+use Rattle.attempt.specs.Answers.{Heard, Answers, all_good, boot_of, last_row, seen_block}
 use Rattle.attempt.specs.Setup.{Setup}
 use Rattle.attempt.specs.NextCall.{says_for, write_on}
 use Rattle.agreement.specs.State.{Cell}

@@ -21,7 +21,7 @@ use Rattle.world_safety.proofs.Blocks.Owning.{boot_kept}
 use Rattle.world_safety.proofs.Blocks.Settled.{current, row_is}
 use Rattle.world_safety.proofs.Moves.Beating.{beat_within}
 use Rattle.world_safety.proofs.Moves.Calling.{tears}
-use Rattle.world_safety.proofs.Moves.Due.{Attempts, Beats, busy, Due, due_of}
+use Rattle.world_safety.proofs.Moves.Due.{Attempts, IsBeatCall, busy, Due, due_of}
 use Rattle.world_safety.proofs.Moves.Moving.{running_at}
 use Rattle.world_safety.proofs.Runs.Tracks.{moves_at, tied_at}
 use Rattle.world_served.specs.Alone.{IsAlone}
@@ -30,12 +30,12 @@ use Rattle.world_served.proofs.Resting.{RestsOn, Rests, rests_on, rests_more}
 
 -- no call is made, and no write is torn, but of a beat
 abbrev pub IsQuiet : Shape → World → Filled → Type 0
-IsQuiet c w (Called g k call answer left) = Beats c g k call (w.host g) × Step (w.disk k) call answer (disk_step (w.disk k) (Called g k call answer left))
-IsQuiet c w (Torn g k call left) = Beats c g k call (w.host g) × Step (w.disk k) call (Fault Failed) (disk_step (w.disk k) (Torn g k call left))
+IsQuiet c w (Called g k call answer left) = IsBeatCall c g k call (w.host g) × Step (w.disk k) call answer (disk_step (w.disk k) (Called g k call answer left))
+IsQuiet c w (Torn g k call left) = IsBeatCall c g k call (w.host g) × Step (w.disk k) call (Fault Failed) (disk_step (w.disk k) (Torn g k call left))
 IsQuiet c w other = Unit {0}
 
 -- who tries no slot and has a call to make beats
-beats_only : (c : Shape) (h k : ℕ) (call : Call) (host : Host) → ((m : Memory) → host ≡ Running m → m.doing ≡ None) → Attempts host ⊎ Beats c h k call host → Beats c h k call host
+beats_only : (c : Shape) (h k : ℕ) (call : Call) (host : Host) → ((m : Memory) → host ≡ Running m → m.doing ≡ None) → Attempts host ⊎ IsBeatCall c h k call host → IsBeatCall c h k call host
 beats_only c h k call host rests who = elim who [
   | inl tries ↦ absurd (let both : None ≡ Some tries.doing = sym (rests tries.memory tries.running) ∙ tries.does in cc)
   | inr beats ↦ beats
@@ -125,7 +125,7 @@ module _ (c : Shape) (w : World) (ms : Moves) (tied : Tied c w ms) (h : ℕ) (m 
   -- WHAT ELSE MAY HAPPEN
 
   -- a call of another's beat
-  beat_leaves : (g k : ℕ) (call : Call) (answer : Answer) (e : Filled) → Beats c g k call (w.host g) → Step (w.disk k) call answer (disk_step (w.disk k) e) → RestsOn h slot (w.disk k) (f k) → RestsOn h slot (disk_step (w.disk k) e) (f k)
+  beat_leaves : (g k : ℕ) (call : Call) (answer : Answer) (e : Filled) → IsBeatCall c g k call (w.host g) → Step (w.disk k) call answer (disk_step (w.disk k) e) → RestsOn h slot (w.disk k) (f k) → RestsOn h slot (disk_step (w.disk k) e) (f k)
   beat_leaves g k call answer e beats step =
       let below = (running_at c w ms tied g beats.memory beats.running).below in
       let inside = beat_within (beat_of c g) (beat_answers.on beats.heard) k call beats.due in
@@ -134,7 +134,7 @@ module _ (c : Shape) (w : World) (ms : Moves) (tied : Tied c w ms) (h : ℕ) (m 
         λ i off. shown_beside c.slots slot i (BeatOf g) (w.disk k) (disk_step (w.disk k) e) call answer trying.fits below (λ same. cc) (tied.images k) inside step,
       ))
 
-  beats_leave : (g k : ℕ) (call : Call) (answer : Answer) (e : Filled) → Beats c g k call (w.host g) → Step (w.disk k) call answer (disk_step (w.disk k) e) → Rests h slot w.disk f → (d : ℕ) → RestsOn h slot (cond (k == d) (disk_step (w.disk d) e) (w.disk d)) (f d)
+  beats_leave : (g k : ℕ) (call : Call) (answer : Answer) (e : Filled) → IsBeatCall c g k call (w.host g) → Step (w.disk k) call answer (disk_step (w.disk k) e) → Rests h slot w.disk f → (d : ℕ) → RestsOn h slot (cond (k == d) (disk_step (w.disk d) e) (w.disk d)) (f d)
   beats_leave g k call answer e beats step before d = go (k == d) refl
     where
       go : (b : Bool) → (k == d) ≡ b → RestsOn h slot (cond b (disk_step (w.disk d) e) (w.disk d)) (f d)

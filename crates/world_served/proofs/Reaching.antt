@@ -28,29 +28,29 @@ use Rattle.world_served.proofs.Playing.{Plays, played, plays_on}
 
 -- THE FIRST TWO ENTRIES
 
-abbrev begins : List Filled
-begins = Start 0 ∷ Submit 0 first_command 1 ∷ []
+abbrev first_two : List Filled
+first_two = Start 0 ∷ Submit 0 first_command 1 ∷ []
 
 -- the disk and the host behind them
 abbrev disk_then : DiskState
-disk_then = (world one_disk begins).disk 0
+disk_then = (world one_disk first_two).disk 0
 
 abbrev host_then : Host
-host_then = (world one_disk begins).host 0
+host_then = (world one_disk first_two).host 0
 
 -- the first two events bring them
-begun : (es : List Event) → happen one_disk [] (events.Start 0 ∷ events.Submit 0 first_command 1 ∷ es) ≡ happen one_disk begins es
+begun : (es : List Event) → happen one_disk [] (events.Start 0 ∷ events.Submit 0 first_command 1 ∷ es) ≡ happen one_disk first_two es
 unfolding sequence_of body_of number_bytes tail_with copy_in row_said zeros heading body_saying number_at claim_of is_said number lock_at request_at mode_of name_at enqueue_at convert_at action_at command_at
 begun es = refl
 
 -- there is none behind them
-no_more : (k : ℕ) (e : Filled) → 1 < k → slice_get begins k ≡ Some e → ⊥
+no_more : (k : ℕ) (e : Filled) → 1 < k → slice_get first_two k ≡ Some e → ⊥
 no_more zero e behind found = omega arith
 no_more (suc zero) e behind found = omega arith
 no_more (suc (suc k)) e behind found = cc
 
 -- so all holds of them
-plays_two : Plays one_disk (Start 0) (Submit 0 first_command 1) begins disk_then host_then 0
+plays_two : Plays one_disk (Start 0) (Submit 0 first_command 1) first_two disk_then host_then 0
 plays_two =
     record {
       disk_is = refl;
@@ -80,7 +80,7 @@ last : (q : DiskState × Host) × (played one_disk 17 disk_then host_then ≡ So
 last = found_in (played one_disk 17 disk_then host_then) (Some (Ack 0 Granted)) said_then
 
 -- the events make this list
-is_happened : happen one_disk begins (steps 17) ≡ first_submission
+is_happened : happen one_disk first_two (steps 17) ≡ first_submission
 unfolding first_submission
 is_happened = sym (begun (steps 17))
 
@@ -88,7 +88,7 @@ is_happened = sym (begun (steps 17))
 plays_all : Plays one_disk (Start 0) (Submit 0 first_command 1) first_submission last.0.0 last.0.1 17
 plays_all =
     subst (λ (l : List Filled). Plays one_disk (Start 0) (Submit 0 first_command 1) l last.0.0 last.0.1 17) is_happened
-    (plays_on one_disk (Start 0) (Submit 0 first_command 1) refl 17 begins disk_then host_then 0 last.0 plays_two last.1)
+    (plays_on one_disk (Start 0) (Submit 0 first_command 1) refl 17 first_two disk_then host_then 0 last.0 plays_two last.1)
 
 -- the list is as long
 whole : take 19 first_submission ≡ first_submission

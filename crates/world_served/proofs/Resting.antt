@@ -1,6 +1,6 @@
 -- As long as no other host makes a call, each row that an attempt reads shows of the others what the opening's row of that disk showed.
 use Rattle.std.specs.Prelude.{◌&&◌}
-use Rattle.std.proofs.Common.{ℕ, ◌+◌, ◌≤◌, ◌≡◌, ◌≢◌, inl, inr, Bool, true, false, Some, None, List, [], ◌∷◌, ◌++◌, length, refl, sym, ap, ◌∙◌, arith}
+use Rattle.std.proofs.Common.{ℕ, ◌+◌, ◌≤◌, ◌≡◌, ◌≢◌, inl, inr, true, Some, None, List, [], ◌∷◌, ◌++◌, length, sym, ap, ◌∙◌, arith}
 use Rattle.std.proofs.lemmas.Bool.{cases_order}
 use Rattle.disk.specs.Disk.{DiskState}
 use Rattle.paxos_block.specs.Places.{row_of}
@@ -8,7 +8,7 @@ use Rattle.paxos_block.specs.Row.{SeenBlock, row_said}
 use Rattle.paxos_block.specs.Votes.{says_in}
 use Rattle.attempt.specs.Calls.{Phase, Opening, One, Two, goal}
 use Rattle.attempt.specs.Answers as answers
-use Rattle.attempt.specs.Answers.{Heard, Answers, heard_as, more, is_bad, told, all_good, boot_of, row_in}
+use Rattle.attempt.specs.Answers.{Heard, Answers, told, all_good, row_in}
 use Rattle.attempt.proofs.Lists.{length_more, boot_more, row_kept, row_last, row_none}
 use Rattle.attempt.proofs.OneDisk.{IsDisk}
 use Rattle.world_safety.specs.Knows.{IsCurrent}
@@ -39,11 +39,6 @@ opening_first : (p : Phase) → goal Opening ≤ goal p
 opening_first Opening = omega arith
 opening_first One = omega arith
 opening_first Two = omega arith
-
--- the first of two that are both so
-both_good : (a b : Bool) → (a && b) ≡ true → a ≡ true
-both_good true b is = refl
-both_good false b is = is
 
 module _ (host slot : ℕ) (disk new : DiskState) (a : List Heard) (x : Heard) (is_disk : IsDisk a) (good : all_good a ≡ true) (boot : new.boot ≡ disk.boot) (kept : (g : ℕ) → g ≢ host → shown new slot g ≡ shown disk slot g)
     (reads : (row : List SeenBlock) → x ≡ answers.Told (Some row) → IsCurrent disk a × (row_said (row_of slot disk.bytes) ≡ Some row)) (before : RestsOn host slot disk a) where

@@ -15,7 +15,7 @@ use Rattle.paxos_block.specs.Saying.{body_saying}
 use Rattle.paxos_block.proofs.Outcomes.{Outcomes, rests_by, same_outcomes}
 use Rattle.paxos_block.proofs.PlaceLemmas.{others_outcomes, others_stay_due}
 use Rattle.attempt.specs.Calls.{Phase, Opening, One, Two, Kind, Attaching, Syncing, Reading, Putting, start, goal}
-use Rattle.attempt.specs.Answers.{Heard, Answers, all_good, boot_of, last_row, more, block_in as seen_block}
+use Rattle.attempt.specs.Answers.{Heard, Answers, all_good, boot_of, last_row, more, seen_block}
 use Rattle.attempt.specs.Setup.{Setup}
 use Rattle.attempt.specs.NextCall.{says_for, write_on}
 use Rattle.attempt.proofs.More.{more_there}

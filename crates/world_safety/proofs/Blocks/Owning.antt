@@ -18,14 +18,14 @@ use Rattle.torn_block.specs.Stage.{Write128, call_of, old_value, new_value, in_w
 use Rattle.torn_block.proofs.StageLaws.{due_reads, failure_reads, settled_begins}
 use Rattle.paxos_block.specs.declared.block.PBlock.{PBlock}
 use Rattle.paxos_block.specs.Places.{VoteOf, place_of, row_place, row_of, IsImage, IsSoundAt}
-use Rattle.paxos_block.specs.Row.{IsSound, SeenBlock, seen_in, sequence_in, row_said}
+use Rattle.paxos_block.specs.Row.{IsSound, SeenBlock, seen_in, sequence_or_zero, row_said}
 use Rattle.paxos_block.specs.Saying.{MaySay, body_saying}
 use Rattle.paxos_block.proofs.PlaceLemmas.{spot_fits}
 use Rattle.paxos_block.proofs.SayingLemmas.{claims_back}
 use Rattle.paxos_block.proofs.WriteLemmas.{sound_while_due, sound_when_failed}
 use Rattle.attempt.specs.Calls.{Phase, Putting}
 use Rattle.attempt.specs.Answers as answers
-use Rattle.attempt.specs.Answers.{Heard, Answers, heard_as, is_bad, all_good, told, later_row, last_row, boot_of, more, block_in as seen_block}
+use Rattle.attempt.specs.Answers.{Heard, Answers, heard_as, is_bad, last_row, boot_of, seen_block}
 use Rattle.attempt.specs.Setup.{Setup}
 use Rattle.attempt.specs.NextCall.{says_for, write_on}
 use Rattle.agreement.specs.State.{Cell}
@@ -102,7 +102,7 @@ under_is SyncBody w boot now is = is
 under_is OpenGate w boot now is = is
 under_is SyncOpened w boot now is = is
 
-number_fits : (value : Option (ℕ × List ℕ)) (n : ℕ) → sequence_in value ≡ n → nat_le LAST_SEQUENCE n ≡ false → next_sequence_at value ≤ 2 ^ 62
+number_fits : (value : Option (ℕ × List ℕ)) (n : ℕ) → sequence_or_zero value ≡ n → nat_le LAST_SEQUENCE n ≡ false → next_sequence_at value ≤ 2 ^ 62
 number_fits None n is fits = omega arith
 number_fits (Some value) n is fits = grind (arith, nat_tests)
 
@@ -180,7 +180,7 @@ module _ (slots : ℕ) (s : Setup) (p : Phase) (d : ℕ) (f : Answers) (disk : D
             sound = subst (IsSoundBlock (IsSound s.host)) same_bytes (stands.sound disk.bytes (may_leave_now disk));
             may_say = may;
             body = refl;
-            number = number_fits (value_of w.block) (seen_block (last_row (f d)) s.host).sequence (ap (λ (b : List ℕ). sequence_in (value_of b)) (sym same_bytes) ∙ ap (λ (b : SeenBlock). b.sequence) now) unspent;
+            number = number_fits (value_of w.block) (seen_block (last_row (f d)) s.host).sequence (ap (λ (b : List ℕ). sequence_or_zero (value_of b)) (sym same_bytes) ∙ ap (λ (b : SeenBlock). b.sequence) now) unspent;
           };
           long = ap length (sym same_bytes) ∙ length-block_in (own_place s) disk.bytes lies;
           full = full;

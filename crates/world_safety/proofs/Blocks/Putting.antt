@@ -15,7 +15,7 @@ use Rattle.paxos_block.specs.Saying.{MaySay, body_saying}
 use Rattle.paxos_block.proofs.WriteLemmas.{sound_when_done}
 use Rattle.attempt.specs.Calls.{Phase, Kind, Attaching, Syncing, Reading, Putting}
 use Rattle.attempt.specs.Answers as answers
-use Rattle.attempt.specs.Answers.{Heard, Answers, heard_as, is_bad, all_good, told, later_row, last_row, boot_of, more, block_in as seen_block}
+use Rattle.attempt.specs.Answers.{Heard, Answers, heard_as, is_bad, told, last_row, boot_of, more, seen_block}
 use Rattle.attempt.specs.Setup.{Setup}
 use Rattle.attempt.specs.History.{Fits}
 use Rattle.attempt.specs.NextCall.{says_for, write_on, call_by}

@@ -16,7 +16,7 @@ use Rattle.slot_log.specs.Shape.{Shape}
 use Rattle.slot_log.specs.declared.outcome.Refusal.TheVariants as refusal
 use Rattle.host.specs.declared.answer.HostAnswer.TheVariants.{Recovered, Refused}
 use Rattle.host.specs.Host.{Operation, Submitting, Recovering, Doing, Memory, Host, Stopped, Running, setup_of, says, begins, full_answer, goes_on, with_floor, learns, is_submitted, after_learning, takes, tries_again, by_status, with_heard, hears_from, hears_beat, is_stopped}
-use Rattle.world.specs.Entry.{Filled, Start, Stop, Submit, Recover, Beat, Called, Torn, Crashed, Lost, is_of, started, beats, begins as begins_on, host_step}
+use Rattle.world.specs.Entry.{Filled, Start, Stop, Submit, Recover, Beat, Called, Torn, Crashed, Lost, is_of, started, beats, begins_on, host_step}
 use Rattle.world.specs.World.{MayFollow, IsRun}
 use Rattle.world.specs.Chosen.{at, SaysAt, IsCallOf, IsRecovery}
 use Rattle.world_safety.specs.Claims.{AllBegun}

@@ -13,7 +13,7 @@ use Rattle.world.specs.Entry.{Filled}
 use Rattle.world.specs.World.{IsRun}
 use Rattle.world.specs.Happens.{run as happened}
 use Rattle.world.specs.Chosen.{at, IsChosenAt, IsLog, SaysAt, IsAcknowledgedAt, IsRecovery}
-use Rattle.world.specs.Headline.{Begins, prefix_at, IsAcknowledgedBefore, IsSafe, Headline, HeadlineOfEvents}
+use Rattle.world.specs.Headline.{IsPrefix, prefix_at, IsAcknowledgedBefore, IsSafe, Headline, HeadlineOfEvents}
 use Rattle.world.proofs.Runs.{each, run_is_run}
 use Rattle.world.proofs.Safe.{one_log, one_begins_other}
 use Rattle.world_safety.specs.Acks.{AcksAt}
@@ -66,7 +66,7 @@ module _ (c : Shape) (log : List Filled) (run : IsRun c log) where
   learned_true i Stopped h is = λ k command found. absurd (cc)
   learned_true i (Running m) h is = is.learned
 
-  pub prefix : (i host : ℕ) → Begins (prefix_at c log i host) commands
+  pub prefix : (i host : ℕ) → IsPrefix (prefix_at c log i host) commands
   prefix i host = begins_by (prefix_at c log i host) commands (stands i (prefix_at c log i host) (learned_true i ((at c log i).host host) host (all_true c log run i host)))
 
   -- WHAT THEY ACKNOWLEDGE

@@ -26,7 +26,7 @@ use Rattle.attempt_safety.proofs.Cells.{block_same}
 use Rattle.world_safety.specs.Goes.{HostGoes, Goes}
 use Rattle.world_safety.specs.Next.{next_world}
 use Rattle.world_safety.specs.Tied.{Moves, machine, IsRunning, HostAt, TiedBut, Tied}
-use Rattle.world_safety.proofs.Moves.Due.{Beats}
+use Rattle.world_safety.proofs.Moves.Due.{IsBeatCall}
 use Rattle.world_safety.proofs.Moves.Hosts.{tied_but, tied_with, but_stops, stops_learned, same_host}
 use Rattle.world_safety.proofs.Blocks.Keeping.{Spares, spares_others, spares_same}
 use Rattle.world_safety.proofs.Moves.Moving.{for_host, stopped_goes, running_at}
@@ -131,7 +131,7 @@ module _ (c : Shape) (w : World) (ms : Moves) (tied : Tied c w ms) where
 
   -- A CALL OF IT
 
-  module _ (h k : ℕ) (call : Call) (is : Beats c h k call (w.host h)) (e : Filled) (answer : Answer) (step : Step (w.disk k) call answer (disk_step (w.disk k) e)) where
+  module _ (h k : ℕ) (call : Call) (is : IsBeatCall c h k call (w.host h)) (e : Filled) (answer : Answer) (step : Step (w.disk k) call answer (disk_step (w.disk k) e)) where
     abbrev disks : ℕ → DiskState
     disks d = cond (k == d) (disk_step (w.disk d) e) (w.disk d)
 
@@ -167,7 +167,7 @@ module _ (c : Shape) (w : World) (ms : Moves) (tied : Tied c w ms) where
         (λ j g d j_below g_below other. spared j g d j_below g_below)
         (λ below host_below. absurd (omega arith))
 
-  pub beat_called_goes : (h k : ℕ) (call : Call) (answer : Answer) (left : List ℕ) (is : Beats c h k call (w.host h)) → Step (w.disk k) call answer (disk_step (w.disk k) (Called h k call answer left)) → Goes c w (Called h k call answer left) ms
+  pub beat_called_goes : (h k : ℕ) (call : Call) (answer : Answer) (left : List ℕ) (is : IsBeatCall c h k call (w.host h)) → Step (w.disk k) call answer (disk_step (w.disk k) (Called h k call answer left)) → Goes c w (Called h k call answer left) ms
   beat_called_goes h k call answer left is step =
       let e : Filled = Called h k call answer left in
       let x : beat_answers.Answered = record { disk = k; heard = beat_answers.heard_as answer } in
@@ -193,7 +193,7 @@ module _ (c : Shape) (w : World) (ms : Moves) (tied : Tied c w ms) where
             cc);
       }
 
-  pub beat_torn_goes : (h k : ℕ) (call : Call) (left : List ℕ) (is : Beats c h k call (w.host h)) → Step (w.disk k) call (Fault Failed) (disk_step (w.disk k) (Called h k call (Fault Failed) left)) → Goes c w (Torn h k call left) ms
+  pub beat_torn_goes : (h k : ℕ) (call : Call) (left : List ℕ) (is : IsBeatCall c h k call (w.host h)) → Step (w.disk k) call (Fault Failed) (disk_step (w.disk k) (Called h k call (Fault Failed) left)) → Goes c w (Torn h k call left) ms
   beat_torn_goes h k call left is step =
       let w2 = with_disks w (λ (d : ℕ). cond (k == d) (disk_step (w.disk d) (Torn h k call left)) (w.disk d)) in
       let but : TiedBut c w2 ms h = beat_but h k call is (Torn h k call left) (Fault Failed) step in

@@ -17,7 +17,7 @@ use Rattle.agreement.specs.Log.Move.{Restart}
 use Rattle.world_safety.specs.Goes.{IsTryingAt, HostGoes, Carries, Goes}
 use Rattle.world_safety.specs.Next.{next_world}
 use Rattle.world_safety.specs.Tied.{Moves, machine, IsTrying, IsDoing, IsRunning, Tied}
-use Rattle.world_safety.proofs.Moves.Hearing.{IsPutIn, Hears, hears}
+use Rattle.world_safety.proofs.Moves.Hearing.{IsPutIn, IsAnswerHeard, hears}
 use Rattle.world_safety.proofs.Moves.Settling.{IsQuiet}
 use Rattle.world_safety.proofs.Moves.Tearing.{tears_to}
 use Rattle.world_safety.proofs.Moves.Ending.{answered_late}
@@ -53,7 +53,7 @@ module _ (c : Shape) (w : World) (ms : Moves) (tied : Tied c w ms) where
     trying : IsTrying c w ms h m t
     trying = subst (IsDoing c w ms h m) does run.doing
 
-    hears_it : Hears c w w2 ms h m t heard
+    hears_it : IsAnswerHeard c w w2 ms h m t heard
     hears_it = hears c w ms h k call answer left m t (record { tied = tied; running = running; does = does; next = next; step = step })
 
     abbrev new : Memory

@@ -7,7 +7,7 @@ use Rattle.torn_block.specs.declared.layout.TheConstants.{HOSTS, LAST_SEQUENCE}
 use Rattle.torn_block.specs.declared.write_steps.WriteCall.TheVariants.{CloseGate}
 use Rattle.paxos_block.specs.Places.{VoteOf, place_of, IsImage}
 use Rattle.attempt.specs.Calls.{Kind, Putting, start}
-use Rattle.attempt.specs.Answers.{Answers, on, heard_as, more, last_row, block_in as seen_block}
+use Rattle.attempt.specs.Answers.{Answers, on, heard_as, more, last_row, seen_block}
 use Rattle.attempt.specs.Setup.{Setup}
 use Rattle.attempt.specs.NextCall.{call_by}
 use Rattle.attempt.proofs.Histories.{behind_due}

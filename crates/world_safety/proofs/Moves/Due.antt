@@ -12,7 +12,7 @@ use Rattle.paxos_block.specs.Saying.{body_saying}
 use Rattle.paxos_block.proofs.PlaceLemmas.{stays_image}
 use Rattle.attempt.specs.Calls.{Phase, Kind, Putting}
 use Rattle.attempt.specs.Answers as answers
-use Rattle.attempt.specs.Answers.{Heard, Answered, Answers, on, heard_as, more, all_good, boot_of, last_row, block_in as seen_block}
+use Rattle.attempt.specs.Answers.{Answered, Answers, on, heard_as}
 use Rattle.attempt.specs.Setup.{Setup}
 use Rattle.attempt.specs.History.{IsAnswerTo}
 use Rattle.attempt.specs.NextCall.{call_by, next_call, says_for}
@@ -46,7 +46,7 @@ pub record Attempts (host : Host) : Type 0 where
   pub does : memory.doing ≡ Some doing
 
 -- or tries none, but beats, and this call is next of the beat
-pub record Beats (c : Shape) (h k : ℕ) (call : Call) (host : Host) : Type 0 where
+pub record IsBeatCall (c : Shape) (h k : ℕ) (call : Call) (host : Host) : Type 0 where
   pub memory : Memory
   pub running : host ≡ Running memory
   pub rests : memory.doing ≡ None
@@ -54,15 +54,15 @@ pub record Beats (c : Shape) (h k : ℕ) (call : Call) (host : Host) : Type 0 wh
   pub beats : memory.beats.heard ≡ Some heard
   pub due : beat.next_call (beat_of c h) (beat_answers.on heard) ≡ Some (k, call)
 
-pub busy : (c : Shape) (h k : ℕ) (call : Call) (host : Host) → next_of c h host ≡ Some (k, call) → Attempts host ⊎ Beats c h k call host
+pub busy : (c : Shape) (h k : ℕ) (call : Call) (host : Host) → next_of c h host ≡ Some (k, call) → Attempts host ⊎ IsBeatCall c h k call host
 busy c h k call Stopped next = absurd (cc)
 busy c h k call (Running m) next = go m.doing refl next
   where
-    beats_by : (o : Option (List beat_answers.Answered)) → m.doing ≡ None → m.beats.heard ≡ o → next_beat c h o ≡ Some (k, call) → Beats c h k call (Running m)
+    beats_by : (o : Option (List beat_answers.Answered)) → m.doing ≡ None → m.beats.heard ≡ o → next_beat c h o ≡ Some (k, call) → IsBeatCall c h k call (Running m)
     beats_by None none heard due = absurd (cc)
     beats_by (Some heard) none beats due = record { memory = m; running = refl; rests = none; heard = heard; beats = beats; due = due }
 
-    go : (o : Option Doing) → m.doing ≡ o → next_doing c h m o ≡ Some (k, call) → Attempts (Running m) ⊎ Beats c h k call (Running m)
+    go : (o : Option Doing) → m.doing ≡ o → next_doing c h m o ≡ Some (k, call) → Attempts (Running m) ⊎ IsBeatCall c h k call (Running m)
     go None does due = inr (beats_by m.beats.heard does refl due)
     go (Some t) does due = inl (record { memory = m; doing = t; running = refl; does = does })
 

@@ -42,7 +42,7 @@ pub record IsPutIn (s : Setup) (heard : List Answered) (j : ℕ) (v : List ℕ) 
   pub proposes : Proposes s (on heard) v
 
 -- The attempt has heard the answer: the machines have come to where hosts and disks stand, but for what the host does next.
-pub record Hears (c : Shape) (w w' : World) (ms : Moves) (h : ℕ) (m : Memory) (t : Doing) (heard : List Answered) : Type 0 where
+pub record IsAnswerHeard (c : Shape) (w w' : World) (ms : Moves) (h : ℕ) (m : Memory) (t : Doing) (heard : List Answered) : Type 0 where
   pub early : Moves
   pub tied : TiedBut c w' (ms ++ early) h
   pub learned : (slots_after (ms ++ early)).learned h ≡ map spelling m.learned
@@ -125,7 +125,7 @@ module _ (c : Shape) (w : World) (ms : Moves) (h k : ℕ) (call : Call) (answer 
           | inr later ↦ (let put = input_event lead.events lead.own v (input_in j slot lead.events v later) in record { on_slot = slot_in j slot lead.events v later; input = put.0; proposes = put.1 })
         ]
 
-    hears_by : Hears c w (with_disks w disks) ms h m t heard
+    hears_by : IsAnswerHeard c w (with_disks w disks) ms h m t heard
     hears_by =
         record {
           early = early;
@@ -143,7 +143,7 @@ module _ (c : Shape) (w : World) (ms : Moves) (h k : ℕ) (call : Call) (answer 
 
 -- each answer is a few events of the attempt
 pub hears : (c : Shape) (w : World) (ms : Moves) (h k : ℕ) (call : Call) (answer : Answer) (left : List ℕ) (m : Memory) (t : Doing) → IsCall c w ms h k call answer left m t
-    → Hears c w (with_disks w (λ d. cond (k == d) (disk_step (w.disk d) (Called h k call answer left)) (w.disk d))) ms h m t (t.heard ++ record { disk = k; heard = heard_as answer } ∷ [])
+    → IsAnswerHeard c w (with_disks w (λ d. cond (k == d) (disk_step (w.disk d) (Called h k call answer left)) (w.disk d))) ms h m t (t.heard ++ record { disk = k; heard = heard_as answer } ∷ [])
 hears c w ms h k call answer left m t now =
     let known = due_of c w ms h k call answer left m t now in
     hears_by c w ms h k call answer left m t now known (ready c w ms h k call answer left m t now known)

@@ -24,7 +24,7 @@ use Rattle.agreement.proofs.Puts.{put_same, put_other}
 use Rattle.attempt_safety.specs.Machine.{Machine}
 use Rattle.attempt_safety.specs.Follows.{Follows, IsSameHost}
 use Rattle.attempt_safety.specs.Leads.{IsSameBlock}
-use Rattle.attempt_safety.proofs.Beginning.{begins as follows_first}
+use Rattle.attempt_safety.proofs.Beginning.{follows_first}
 use Rattle.attempt_safety.proofs.Cells.{block_same}
 use Rattle.attempt_safety.proofs.Leaving.{follows_same, by_stopping, by_starting, blocks_stopping, blocks_starting}
 use Rattle.attempt_safety.proofs.Slotting.{events_here, learned_same}

@@ -11,7 +11,7 @@ use Rattle.paxos_block.specs.Places.{VoteOf, place_of}
 use Rattle.paxos_block.specs.Row.{SeenBlock}
 use Rattle.attempt.specs.Calls.{Kind, Reading}
 use Rattle.attempt.specs.Answers as answers
-use Rattle.attempt.specs.Answers.{Heard, Answered, Answers, on, heard_as, more, all_good, boot_of, last_row, block_in as seen_block}
+use Rattle.attempt.specs.Answers.{Heard, Answered, Answers, on, heard_as}
 use Rattle.attempt.specs.Setup.{Setup}
 use Rattle.lock_command.specs.Command.{spelling}
 use Rattle.slot_log.specs.Shape.{Shape}

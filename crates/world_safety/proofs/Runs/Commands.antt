@@ -5,7 +5,7 @@ use Rattle.lock_command.specs.declared.command.Command.{Command}
 use Rattle.lock_command.specs.Command.{spelling}
 use Rattle.lock_command.specs.Reading.{decoded}
 use Rattle.world.specs.World.{ReadsBack}
-use Rattle.world.specs.Headline.{Begins}
+use Rattle.world.specs.Headline.{IsPrefix}
 
 -- the value is the spelling of a command that reads back
 pub record IsSpelling (value : List ℕ) : Type 0 where
@@ -52,7 +52,7 @@ stands_where commands reads k command reads_it is =
     item.1 ∙ ap Some (one_command item.0 command (reads k item.0 item.1) reads_it item.2)
 
 -- a list whose items stand in another begins it
-pub begins_by : {A : Type 0} (short long : List A) → ((k : ℕ) (x : A) → slice_get short k ≡ Some x → slice_get long k ≡ Some x) → Begins short long
+pub begins_by : {A : Type 0} (short long : List A) → ((k : ℕ) (x : A) → slice_get short k ≡ Some x → slice_get long k ≡ Some x) → IsPrefix short long
 begins_by [] long stands = refl
 begins_by (x ∷ short) [] stands = absurd (let first = stands zero x refl in cc)
 begins_by (x ∷ short) (y ∷ long) stands =

@@ -5,7 +5,7 @@ use Rattle.std.proofs.lemmas.Bool.{eqb-true, ltb-false}
 use Rattle.disk.specs.Disk.{Call, Answer}
 use Rattle.attempt.specs.Answers.{Answered, on, heard_as}
 use Rattle.attempt.specs.Status as attempt
-use Rattle.attempt.specs.Status.{Status, Due, Ended, status, taken}
+use Rattle.attempt.specs.Status.{Status, Due, Ended, status}
 use Rattle.lock_command.specs.declared.command.Command.{Command}
 use Rattle.lock_command.specs.Reading.{decoded}
 use Rattle.lock_table.specs.declared.reply.Reply.{Reply}
@@ -16,11 +16,11 @@ use Rattle.slot_log.specs.declared.outcome.Refusal.TheVariants as refusal
 use Rattle.host.specs.declared.answer.HostAnswer.{HostAnswer}
 use Rattle.host.specs.declared.answer.HostAnswer.TheVariants.{Ack, Recovered, Beaten, Refused}
 use Rattle.host.specs.Host.{Operation, Submitting, Recovering, Doing, Memory, Host, Stopped, Running, setup_of, says, begins, full_answer, goes_on, with_floor, learns, is_submitted, after_learning, takes, tries_again, by_status, with_heard, goes_by, hears_from, hears_beat, beat_by, beat_of, is_stopped, next_of, said_of}
-use Rattle.world.specs.Entry.{Filled, Start, Stop, Submit, Recover, Beat, Called, Torn, Crashed, Lost, is_of, started, beats, begins as begins_on, host_step}
+use Rattle.world.specs.Entry.{Filled, Start, Stop, Submit, Recover, Beat, Called, Torn, Crashed, Lost, is_of, started, beats, begins_on, host_step}
 use Rattle.world.specs.World.{MayFollow, IsRun}
 use Rattle.world.specs.Chosen.{at, Hears, SaysAt}
 use Rattle.world.proofs.Runs.{each}
-use Rattle.world_safety.proofs.Moves.Due.{Attempts, Beats, busy}
+use Rattle.world_safety.proofs.Moves.Due.{Attempts, IsBeatCall, busy}
 use Rattle.world_safety.proofs.Runs.Places.{host_next}
 
 -- WHAT A STATUS MAKES A HOST SAY
@@ -149,9 +149,6 @@ module _ (c : Shape) (log : List Filled) (i h : ℕ) (said : HostAnswer) where
   abbrev pub heard_at : AtACall c log i h said → List Answered
   heard_at call = call.doing.heard ++ record { disk = call.disk; heard = heard_as call.answer } ∷ []
 
-  abbrev pub status_at : AtACall c log i h said → Status
-  status_at call = status (setup_of c h call.memory call.doing.operation) (on (heard_at call))
-
   abbrev pub memory_at : AtACall c log i h said → Memory
   memory_at call = goes_by c call.memory (with_heard call.doing (record { disk = call.disk; heard = heard_as call.answer })) (setup_of c h call.memory call.doing.operation)
 
@@ -214,7 +211,7 @@ module _ (c : Shape) (log : List Filled) (i h : ℕ) (said : HostAnswer) where
       record { is = inr (here, ap said_of (sym goes) ∙ is) }
 
   -- or a beat
-  beaten : (k : ℕ) (call : Call) (answer : Answer) (left : List ℕ) → Beats c h k call ((at c log i).host h) → IsOfLog said → said_of (host_step c h ((at c log i).host h) (CalledBy k call answer left)) ≡ Some said → ⊥
+  beaten : (k : ℕ) (call : Call) (answer : Answer) (left : List ℕ) → IsBeatCall c h k call ((at c log i).host h) → IsOfLog said → said_of (host_step c h ((at c log i).host h) (CalledBy k call answer left)) ≡ Some said → ⊥
   beaten k call answer left who of is =
       let m = who.memory in
       let x : beat_answers.Answered = record { disk = k; heard = beat_answers.heard_as answer } in

@@ -1,14 +1,13 @@
-use Rattle.std.proofs.Common.{◌≡◌, ◌≤◌, ◌<◌, ◌+◌, ℕ, Some, length, slice_get, slice_index_or, slice_set, arith, sym, ◌∙◌, ap, subst, refl}
+use Rattle.std.proofs.Common.{◌≡◌, ◌≤◌, ◌<◌, ◌+◌, ℕ, length, arith, sym, ◌∙◌, subst, refl}
 use Rattle.std.proofs.lemmas.Option.{slice_get-get_or}
 use Rattle.std.proofs.lemmas.List.{length-set}
 use Rattle.disk.specs.Disk as device
-use Rattle.torn_block.specs.declared.layout.TheConstants.{DISKS, SLOTS}
 use Rattle.paxos_block.specs.Places.{image_length}
 use Rattle.slot_log.specs.Shape.{Shape}
 use Rattle.attempt.specs.Answers.{Answered}
 use Rattle.phases.specs.Calls.{IsWithin, call_of_need, heard_of}
 use Rattle.host.specs.Kept.{due_call}
-use Rattle.dlm_images.proofs.Driving.{IsDriven, IsHeardBy, attempt_hears, driven_at_first, driven_more, within_more, answers_due, idle_at_last, set_keeps}
+use Rattle.dlm_images.proofs.Driving.{attempt_hears, driven_at_first, driven_more, within_more, answers_due, set_keeps}
 use Rattle.dlm_images.proofs.operation.drive.Goals as goal
 
 pub loop-made-init : goal.loop-made-init

@@ -6,9 +6,9 @@ use Rattle.paxos_block.specs.Headers.{IsRight, header_in}
 use Rattle.paxos_block.proofs.HeaderLemmas.{right_since, right_tells, right_gate}
 use Rattle.paxos_block.proofs.header.decode_header.Goals as goal
 
-pub returns-then-bytes-ne-GATE-clause-only : goal.returns-then-bytes-ne-GATE-clause-only
-returns-then-bytes-ne-GATE-clause-only c =
-    λ header right. absurd (c.if-bytes-ne-GATE.true (right_gate c.args.disk c.args.long c.args.bytes.now header right))
+pub returns-then-bytes-ne-OPEN_GATE-clause-only : goal.returns-then-bytes-ne-OPEN_GATE-clause-only
+returns-then-bytes-ne-OPEN_GATE-clause-only c =
+    λ header right. absurd (c.if-bytes-ne-OPEN_GATE.true (right_gate c.args.disk c.args.long c.args.bytes.now header right))
 
 pub returns-then-not-is_right-clause-only : goal.returns-then-not-is_right-clause-only
 returns-then-not-is_right-clause-only c =
@@ -18,7 +18,7 @@ pub returns-then-not-is_right-clause-wrong_header : goal.returns-then-not-is_rig
 returns-then-not-is_right-clause-wrong_header c = (
   (λ e.
       inr (record {
-        formatted = c.if-bytes-ne-GATE.false;
+        formatted = c.if-bytes-ne-OPEN_GATE.false;
         wrong =
             λ header right.
             both_ways c.is_right.result c.if-not-is_right.true (c.is_right.ensures ∙ (right_since c.args.disk c.args.long c.args.bytes.now header right).0);
@@ -31,7 +31,7 @@ ge_not long below from = absurd (omega arith)
 
 right : (c : goal.After-header_in) → IsRight c.args.disk c.args.long c.args.bytes.now (header_in c.args.bytes.now)
 right c =
-    right_tells c.args.bytes.now c.told-bytes (λ i. omega (arith, c.fits-bytes i)) c.args.disk c.args.long c.if-bytes-ne-GATE.false (sym c.is_right.ensures ∙ c.if-not-is_right.false)
+    right_tells c.args.bytes.now c.told-bytes (λ i. omega (arith, c.fits-bytes i)) c.args.disk c.args.long c.if-bytes-ne-OPEN_GATE.false (sym c.is_right.ensures ∙ c.if-not-is_right.false)
 
 pub returns-clause-right : goal.returns-clause-right
 returns-clause-right c =

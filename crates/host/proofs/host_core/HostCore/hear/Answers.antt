@@ -2,7 +2,7 @@ use Rattle.std.proofs.Common.{◌≡◌, ◌∙◌, true, false, Option, None, s
 use Rattle.std.specs.Prelude.{is_some}
 use Rattle.beats.specs.declared.notes.Notes.{Notes}
 use Rattle.host.specs.Host.{Memory}
-use Rattle.host.specs.Kept.{Kept, LeadsTo, IsBeating, due_call}
+use Rattle.host.specs.Kept.{Kept, LeadsTo, BeatLeadsTo, due_call}
 use Rattle.host.proofs.Hosts.{from_attempt, no_beat_nine, none_by}
 use Rattle.host.proofs.host_core.HostCore.hear.Goals as goal
 
@@ -15,7 +15,7 @@ returns-then-is_none-clause-leads c c' h m leads =
 pub returns-then-is_none-clause-nine : goal.returns-then-is_none-clause-nine
 returns-then-is_none-clause-nine c c' h m leads =
     let none : c.args.self.now.beat ≡ None = sym (ap (λ (v : Kept). v.beat) c.self.view_is) ∙ none_by c.self.inside.beat (search rules) in
-    no_beat_nine c' h m.beats.heard (subst (λ (o : Option Notes). IsBeating c' h m.beats.heard o) none leads.beat)
+    no_beat_nine c' h m.beats.heard (subst (λ (o : Option Notes). BeatLeadsTo c' h m.beats.heard o) none leads.beat)
 
 pub returns-then-is_none-clause-silent : goal.returns-then-is_none-clause-silent
 returns-then-is_none-clause-silent c some =

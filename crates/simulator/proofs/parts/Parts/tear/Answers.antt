@@ -11,7 +11,7 @@ use Rattle.disk.specs.declared.fault.DiskFault.TheVariants.{Failed}
 use Rattle.disk.specs.Simulated.{SimState}
 use Rattle.phases.specs.Calls.{device_call_of, IsWithin}
 use Rattle.world.specs.Entry.{called_by}
-use Rattle.world.specs.Happens.{taken_by}
+use Rattle.world.specs.Happens.{spread_over}
 use Rattle.simulator.proofs.parts.Parts.tear.Goals as goal
 
 pub returns-then-not-is_busy : goal.returns-then-not-is_busy
@@ -105,7 +105,7 @@ invariant_of-self-2 c =
     let left =
     c.spoil.ensures.disk
     ∙ ap (λ (s : SimState). record s
-    { disk = called_by s.disk (device_call_of c.call-need.result.call) (Fault Failed) (taken_by (device_call_of c.call-need.result.call) c.args.given.now) })
+    { disk = called_by s.disk (device_call_of c.call-need.result.call) (Fault Failed) (spread_over (device_call_of c.call-need.result.call) c.args.given.now) })
     c.refusal_of.ensures.same in
     let as_long = c.spoil.ensures.size ∙ ap (λ (s : SimState). length s.disk.bytes) c.refusal_of.ensures.same in
     reached event old _ None c.self.invariant
@@ -128,7 +128,7 @@ returns c =
     let left =
     c.spoil.ensures.disk
     ∙ ap (λ (s : SimState). record s
-    { disk = called_by s.disk (device_call_of c.call-need.result.call) (Fault Failed) (taken_by (device_call_of c.call-need.result.call) c.args.given.now) })
+    { disk = called_by s.disk (device_call_of c.call-need.result.call) (Fault Failed) (spread_over (device_call_of c.call-need.result.call) c.args.given.now) })
     c.refusal_of.ensures.same in
     let as_long = c.spoil.ensures.size ∙ ap (λ (s : SimState). length s.disk.bytes) c.refusal_of.ensures.same in
     seen event old c.args.self.now _ None c.self.view_is
