@@ -1,7 +1,10 @@
 //! The benchmarks' work in plain Rust, without proofs: what the times of the proved program are compared with.
 //! It prints the same lines. A row is decoded with the same tests, and once more without those for damage, as in what else reads rows;
-//! the first path keeps no receipts.
+//! commands go to a flat lock table, and once more to one of maps, as those of the first path, which keeps no receipts.
 
+mod lock_tables;
+
+use lock_tables::{Action, Command, Flat, Maps, Mode, Record, Reply, State, Table, compatible, name, row_name};
 use std::hint::black_box;
 use std::time::Instant;
 
@@ -284,198 +287,48 @@ fn decode_whole_rows(row: &mut [u8; ROW], count: u32) -> bool {
     })
 }
 
-// A LOCK TABLE: one list of records, in the order in which they joined their queues
-
-#[derive(Clone, Copy, PartialEq)]
-#[allow(dead_code)]
-enum Mode {
-    Null,
-    ConcurrentRead,
-    ConcurrentWrite,
-    ProtectedRead,
-    ProtectedWrite,
-    Exclusive,
-}
-
-#[derive(Clone, Copy, PartialEq)]
-enum State {
-    Granted(Mode),
-    Converting(Mode, Mode),
-    Waiting(Mode),
-}
-
-type Name = [u8; 15];
-
-#[derive(Clone, Copy)]
-struct Record {
-    lock: u16,
-    client: u8,
-    name: Name,
-    state: State,
-}
-
-#[derive(Clone, Copy)]
-enum Action {
-    Enqueue(u16, Name, Mode),
-    Convert(u16, Mode),
-    Release(u16),
-}
-
-#[derive(Clone, Copy)]
-struct Command {
-    client: u8,
-    request: u64,
-    action: Action,
-}
-
-#[derive(Clone, Copy, PartialEq)]
-enum Reply {
-    Granted,
-    Queued,
-    Released,
-    Refused,
-}
-
-#[derive(Default)]
-struct Table {
-    records: Vec<Record>,
-    clients: Vec<(u8, u64, Reply)>,
-}
-
-fn compatible(a: Mode, b: Mode) -> bool {
-    const MASKS: [u8; 6] = [0b111111, 0b011111, 0b000111, 0b001011, 0b000011, 0b000001];
-    MASKS[a as usize] >> b as u8 & 1 == 1
-}
-
-impl Table {
-    fn admits(&self, lock: u16, name: &Name, mode: Mode) -> bool {
-        self.records.iter().all(|other| {
-            other.lock == lock
-                || other.name != *name
-                || match other.state {
-                    State::Granted(held) | State::Converting(held, _) => compatible(held, mode),
-                    State::Waiting(_) => true,
-                }
-        })
-    }
-
-    fn head(&self, name: &Name) -> Option<usize> {
-        let on = |record: &Record| record.name == *name;
-        let converts = |record: &Record| matches!(record.state, State::Converting(..));
-        let waits = |record: &Record| matches!(record.state, State::Waiting(_));
-        self.records
-            .iter()
-            .position(|record| on(record) && converts(record))
-            .or_else(|| self.records.iter().position(|record| on(record) && waits(record)))
-    }
-
-    fn put(&mut self, record: Record) {
-        self.records.retain(|other| other.lock != record.lock);
-        self.records.push(record);
-    }
-
-    fn settle(&mut self, name: &Name) {
-        while let Some(at) = self.head(name) {
-            let mut first = self.records[at];
-            let (State::Converting(_, wanted) | State::Waiting(wanted)) = first.state else { return };
-            if !self.admits(first.lock, name, wanted) {
-                return;
-            }
-            first.state = State::Granted(wanted);
-            self.put(first);
-        }
-    }
-
-    fn own(&self, client: u8, lock: u16) -> Option<Record> {
-        self.records.iter().find(|record| record.lock == lock && record.client == client).copied()
-    }
-
-    fn act(&mut self, client: u8, action: &Action) -> Reply {
-        match *action {
-            Action::Enqueue(lock, name, mode) => {
-                if self.records.iter().any(|record| record.lock == lock) || self.records.len() >= 256 {
-                    return Reply::Refused;
-                }
-                let granted = self.head(&name).is_none() && self.admits(lock, &name, mode);
-                let state = if granted { State::Granted(mode) } else { State::Waiting(mode) };
-                self.put(Record { lock, client, name, state });
-                if granted { Reply::Granted } else { Reply::Queued }
-            }
-            Action::Convert(lock, mode) => {
-                let Some(mut own) = self.own(client, lock) else { return Reply::Refused };
-                let State::Granted(held) = own.state else { return Reply::Refused };
-                let granted = self.admits(lock, &own.name, mode);
-                own.state = if granted { State::Granted(mode) } else { State::Converting(held, mode) };
-                self.put(own);
-                if granted {
-                    self.settle(&own.name);
-                    Reply::Granted
-                } else {
-                    Reply::Queued
-                }
-            }
-            Action::Release(lock) => {
-                let Some(own) = self.own(client, lock) else { return Reply::Refused };
-                self.records.retain(|other| other.lock != lock);
-                self.settle(&own.name);
-                Reply::Released
-            }
-        }
-    }
-
-    fn apply(&mut self, command: &Command) -> Reply {
-        let known = self.clients.iter().position(|last| last.0 == command.client);
-        match known.map(|at| self.clients[at]) {
-            None if self.clients.len() >= 32 => return Reply::Refused,
-            Some((_, request, _)) if command.request < request => return Reply::Refused,
-            Some((_, request, reply)) if command.request == request => return reply,
-            _ => {}
-        }
-        let reply = self.act(command.client, &command.action);
-        self.clients.retain(|last| last.0 != command.client);
-        self.clients.push((command.client, command.request, reply));
-        reply
-    }
-}
-
-fn name(text: &[u8]) -> Name {
-    let mut name = [0; 15];
-    name[..text.len()].copy_from_slice(text);
-    name
-}
+// COMMANDS TO A LOCK TABLE
 
 fn command_at(place: u32) -> Command {
     let client = place % 8;
     let round = place / 8;
     let lock = client as u16 + 1;
     let action = match round % 3 {
-        0 => Action::Enqueue(lock, name(if client < 4 { b"accounts" } else { b"orders" }), Mode::ConcurrentRead),
-        1 => Action::Convert(lock, if client % 2 == 0 { Mode::ProtectedRead } else { Mode::ProtectedWrite }),
+        0 => {
+            let name = name(if client < 4 { b"accounts" } else { b"orders" });
+            Action::Enqueue { lock, name, mode: Mode::ConcurrentRead, no_queue: false }
+        }
+        1 => {
+            let mode = if client % 2 == 0 { Mode::ProtectedRead } else { Mode::ProtectedWrite };
+            Action::Convert { lock, mode, no_queue: false }
+        }
         _ => Action::Release(lock),
     };
-    Command { client: client as u8, request: u64::from(round) + 1, action }
+    Command { host: 0, client: client as u8, request: u64::from(round) + 1, action }
 }
 
-fn standing_table() -> Table {
-    let mut table = Table::default();
+fn standing_table<T: Table>() -> T {
+    let mut table = T::default();
     for place in 0..248 {
-        let action = Action::Enqueue(place + 9, name(b"standing"), Mode::ConcurrentRead);
-        table.apply(&Command { client: 8, request: u64::from(place) + 1, action });
+        let (lock, name) = (place + 9, name(b"standing"));
+        let action = Action::Enqueue { lock, name, mode: Mode::ConcurrentRead, no_queue: false };
+        table.apply(&Command { host: 0, client: 8, request: u64::from(place) + 1, action });
     }
     table
 }
 
-fn apply(table: &mut Table, count: u32) -> bool {
-    (0..count).all(|place| table.apply(&command_at(place)) != Reply::Refused)
+fn apply(table: &mut impl Table, count: u32) -> bool {
+    (0..count).all(|place| !matches!(table.apply(&command_at(place)), Reply::Refused(_)))
 }
 
 // BLOCKING: whether 32 clients with eight locks each wait for one another in a circle
 
-fn waiting_table() -> Table {
-    let mut table = Table::default();
+fn waiting_table() -> Flat {
+    let mut table = Flat::default();
     for place in 0..256 {
-        let action = Action::Enqueue(place + 1, name(&[b'A' + (place / 8) as u8]), Mode::Exclusive);
-        table.apply(&Command { client: (place % 32) as u8, request: u64::from(place / 32) + 1, action });
+        let (lock, name) = (place + 1, name(&[b'A' + (place / 8) as u8]));
+        let action = Action::Enqueue { lock, name, mode: Mode::Exclusive, no_queue: false };
+        table.apply(&Command { host: 0, client: (place % 32) as u8, request: u64::from(place / 32) + 1, action });
     }
     table.records.sort_by_key(|record| (record.name, matches!(record.state, State::Waiting(_)), record.lock));
     table
@@ -522,7 +375,7 @@ fn circle(locks: &[Record]) -> Option<usize> {
     }
 }
 
-fn blocking(table: &mut Table, count: u32) -> bool {
+fn blocking(table: &mut Flat, count: u32) -> bool {
     (0..count).all(|_| circle(black_box(&table.records)).is_none())
 }
 
@@ -537,7 +390,7 @@ enum Entry {
 
 struct Host {
     disk: Disk,
-    table: Table,
+    table: Maps,
     learned: Vec<Command>,
     journal: Vec<Entry>,
 }
@@ -580,16 +433,21 @@ impl Host {
         if cells[1..].iter().any(|cell| cell.mbal > ballot) {
             return Ok(false);
         }
-        self.table.apply(&command);
+        let is_refused = matches!(self.table.apply(&command), Reply::Refused(_));
         self.learned.push(command);
-        Ok(vote.inp == Some(value))
+        Ok(!is_refused && vote.inp == Some(value))
     }
 }
 
 fn first_path(host: &mut Host, count: u32) -> Result<bool, Fault> {
     for place in 0..count {
-        let action = Action::Enqueue(place as u16 + 1, name(b"accounts"), Mode::ConcurrentRead);
-        let command = Command { client: (place % 8) as u8, request: u64::from(place) + 1, action };
+        let at = (place % 256) as u16;
+        let action = if place / 256 % 2 == 0 {
+            Action::Enqueue { lock: at + 1, name: row_name(at), mode: Mode::Exclusive, no_queue: false }
+        } else {
+            Action::Release(at + 1)
+        };
+        let command = Command { host: 0, client: (place % 32) as u8, request: u64::from(place) + 1, action };
         let mut value = [0; 32];
         value[..4].copy_from_slice(&place.to_be_bytes());
         if !host.submit(command, value)? {
@@ -785,11 +643,12 @@ fn main() {
     timed("block_write", 200_000, || Disk::new(2048), |disk, count| block_write(disk, count).is_ok());
     timed("decode_row", 200_000, || written_row().unwrap(), decode_whole_rows);
     timed("decode_row_untested", 200_000, || written_row().unwrap(), decode_rows);
-    timed("apply", 1_000_000, standing_table, apply);
+    timed("apply", 1_000_000, standing_table::<Flat>, apply);
+    timed("apply_maps", 1_000_000, standing_table::<Maps>, apply);
     timed("blocking", 1_000, waiting_table, blocking);
     let host = || Host {
         disk: Disk::new(2048 + ROW * 4096),
-        table: Table::default(),
+        table: Maps::default(),
         learned: Vec::new(),
         journal: Vec::new(),
     };

@@ -5,6 +5,7 @@ use disk::SimDisk;
 use dlm_images::DiskHost;
 use host::Config;
 use lock_command::HostNumber;
+use lock_table::Reply;
 use std::alloc::{AllocError, Global};
 
 /// The submissions of the first path to a host that calls its disk itself: with no lock, no journal and no token.
@@ -32,8 +33,9 @@ impl Benchmark for Direct {
             let Some(command) = command_at(self.host.host(), place) else {
                 return Err(Failure::Wrong);
             };
-            if self.host.submit(command, 1).is_err() {
-                return Err(Failure::Wrong);
+            match self.host.submit(command, 1) {
+                Ok(done) if !matches!(done.reply, Reply::Refused(_)) => {}
+                _ => return Err(Failure::Wrong),
             }
         }
         Ok(())

@@ -2,13 +2,13 @@ ghost use Rattle.std.specs.Prelude.{◌≡◌, IfSome};
 ghost use Rattle.cluster.specs.Opening.{IsNamed};
 
 use crate::failure::Failure;
+use crate::tables::row_name;
 use crate::timing::{ROUNDS, Timing};
-use cluster::{Cluster, Config, HostSeat, Named, OpenGate, Opening, Receipt};
+use cluster::{Cluster, Config, HostSeat, Named, OpenGate, Opening};
 use disk::SimDisk;
-use lock_command::{
-    Action, ClientNumber, Command, HostNumber, LockName, LockNumber, RequestNumber,
-};
+use lock_command::{Action, ClientNumber, Command, HostNumber, LockNumber, RequestNumber};
 use lock_modes::Mode;
+use lock_table::Reply;
 use std::alloc::AllocGlobal;
 use std::marker::Brand;
 use std::sync::Wait;
@@ -16,6 +16,12 @@ use std::time::{Clock, Instant};
 
 /// The slots of the log, and so the most submissions.
 pub const SLOTS: u16 = 4096;
+
+/// How many locks are enqueued before they are released, each on a name of its own: as many as a table takes.
+const LOCKS: u32 = 256;
+
+/// How many clients submit in turn: as many as a table knows.
+const CLIENTS: u32 = 32;
 
 /// The shortest of twenty rounds of so many submissions.
 pub fn best_first_path<R: Wait + Clock + AllocGlobal>(
@@ -76,31 +82,40 @@ fn submit_at<N: Named>(
     cluster: &Cluster<'_, N, SimDisk>,
     seat: &mut HostSeat<N>,
     place: u32,
-) -> Result<Receipt, Failure> {
+) -> Result<(), Failure> {
     let Some(command) = command_at(seat.host(), place) else {
         return Err(Failure::Wrong);
     };
     if !seat.idle() {
         return Err(Failure::Wrong);
     }
-    cluster
-        .submit(rt, seat, &mut OpenGate, command, 1)
-        .map_err(Failure::from)
+    let receipt = cluster.submit(rt, seat, &mut OpenGate, command, 1)?;
+    match receipt.reply {
+        Reply::Refused(_) => Err(Failure::Wrong),
+        _ => Ok(()),
+    }
 }
 
-/// The enqueue at this place of the log, from 0.
+/// The command at this place of the log, from 0: a lock of its own on each of 256 names, by 32 clients in turn, and then each lock's release, over and over.
 pub fn command_at(host: HostNumber, place: u32) -> Option<Command>
     ensures { IfSome result (λ command. command.host ≡ host) }
 {
+    let at = (place % LOCKS) as u16;
+    let lock = LockNumber::new(at + 1)?;
+    let action = if place / LOCKS % 2 == 0 {
+        Action::Enqueue {
+            lock,
+            name: row_name(at)?,
+            mode: Mode::Exclusive,
+            no_queue: false,
+        }
+    } else {
+        Action::Release(lock)
+    };
     Some(Command {
         host,
-        client: ClientNumber::new((place % 8) as u8),
+        client: ClientNumber::new((place % CLIENTS) as u8),
         request: RequestNumber::new(u64::from(place) + 1)?,
-        action: Action::Enqueue {
-            lock: LockNumber::new(u16::try_from(place).ok()?.checked_add(1)?)?,
-            name: LockName::new(b"accounts")?,
-            mode: Mode::ConcurrentRead,
-            no_queue: false,
-        },
+        action,
     })
 }

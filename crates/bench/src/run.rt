@@ -31,6 +31,7 @@ pub fn run_all<R: Print + Wait + Clock + AllocGlobal>(rt: &R, task: Task) -> Res
     run_one::<R, DecodeRow>(rt, task, "decode_row", 200_000)?;
     run_one::<R, DecodeRow>(rt, task, "decode_row_untested", 200_000)?;
     run_one::<R, Apply>(rt, task, "apply", 1_000_000)?;
+    run_one::<R, Apply>(rt, task, "apply_maps", 1_000_000)?;
     run_one::<R, Waits>(rt, task, "blocking", 1_000)?;
     let locked = run_first_path(rt, task)?;
     let direct = run_one::<R, Direct>(rt, task, "direct", 4096)?;

@@ -175,7 +175,11 @@ fn command_at(shape: Shape, kind: Kind, client: u8, place: u16, request: u64) ->
 
 /// The name of the lock at a place.
 fn name_at(shape: Shape, place: u16) -> Option<LockName> {
-    let at = if shape.one_name { 0 } else { place };
+    row_name(if shape.one_name { 0 } else { place })
+}
+
+/// One of a thousand names: `row-`, and three digits.
+pub fn row_name(at: u16) -> Option<LockName> {
     let mut text = *b"row-000";
     text[4] = b'0' + (at / 100 % 10) as u8;
     text[5] = b'0' + (at / 10 % 10) as u8;

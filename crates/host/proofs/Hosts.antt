@@ -43,7 +43,8 @@ use Rattle.host.specs.declared.answer.HostAnswer.{HostAnswer}
 use Rattle.host.specs.declared.answer.HostAnswer.TheVariants.{Ack, Recovered, Beaten, Refused}
 use Rattle.host.specs.Alone.{IsAnsweredAlone, IsWithinNine}
 use Rattle.host.specs.Host.{Beats, Memory, Doing, Operation, Submitting, Recovering, input_of, setup_of, says, begins, goes_on, full_answer, learns, takes, after_learning, is_submitted, with_floor, by_status, hears, with_heard, reply_after, hears_from, hears_beat, beat_of, beat_by, with_beats, suggested, is_idle_in, rests, next_in, next_doing, next_beat}
-use Rattle.host.specs.Kept.{Kept, LeadsTo, operation_of, outcome_in, doing_of, values_with, values_of, answer_of, option_list, BeatLeadsTo, BeatsAlone, has_no_beat, is_idle}
+use Rattle.host.specs.declared.host_core.HostCore.TheInside.{Inside}
+use Rattle.host.specs.Kept.{Kept, LeadsTo, operation_of, outcome_in, doing_of, values_with, values_of, answer_of, option_list, BeatLeadsTo, BeatsAlone, IsOneAtATime, due_in, due_call, has_no_beat, is_idle}
 
 -- ANSWERS
 
@@ -467,7 +468,21 @@ heard_by : (c : Shape) (h : ℕ) (o : Option (List beat_answers.Answered)) (b : 
 heard_by c h None b going = absurd going
 heard_by c h (Some heard) b going = (heard, refl, going)
 
-module _ (c : Shape) (h : ℕ) (m : Memory) (k : Kept) (b : beat_notes.Notes) (leads : LeadsTo c h m (record k { beat = Some b })) (is : BeatsAlone k.learner b) (answer : code_heard.Heard) where
+-- what is kept in the fields
+abbrev pub kept_in : Inside → Kept
+kept_in p = record { learner = p.learner; prefix = p.prefix.items; said = p.said; beat = p.beat; readings = p.readings }
+
+-- The fields are what is kept, and a beat is under way.
+module _ (c : Shape) (h : ℕ) (m : Memory) (p : Inside) (view : Kept) (shown : kept_in p ≡ view) (b : beat_notes.Notes) (beats : p.beat ≡ Some b) (one : IsOneAtATime p.learner p.beat) (led : LeadsTo c h m view) (answer : code_heard.Heard) where
+  abbrev k : Kept
+  k = kept_in p
+
+  leads : LeadsTo c h m (record k { beat = Some b })
+  leads = subst (λ (o : Option beat_notes.Notes). LeadsTo c h m (record k { beat = o })) beats (subst (λ (v : Kept). LeadsTo c h m v) (sym shown) led)
+
+  is : BeatsAlone k.learner b
+  is = subst (IsOneAtATime k.learner) beats one
+
   none : m.doing ≡ None
   none = idle_doing c h m k.learner leads.learner is.idle
 
@@ -482,6 +497,13 @@ module _ (c : Shape) (h : ℕ) (m : Memory) (k : Kept) (b : beat_notes.Notes) (l
 
   heard_is : hears_from c h m m.doing b.disk (device_answer answer) ≡ beat_by h m heard behind
   heard_is = ap (λ (o : Option Doing). hears_from c h m o b.disk (device_answer answer)) none ∙ ap (λ (o : Option (List beat_answers.Answered)). hears_beat c h m o (beat_kept.answer_of b answer)) going.1
+
+  -- the host hears what the beat hears
+  of_beat : (new : Kept) (n : Memory) → beat_by h m heard behind ≡ n → LeadsTo c h n new → LeadsTo c h (hears_from c h m m.doing (due_call view).0 (device_answer answer)) new
+  of_beat new n comes leads_on =
+      subst (λ (v : Kept). LeadsTo c h (hears_from c h m m.doing (due_call v).0 (device_answer answer)) new) shown
+      (subst (λ (o : Option beat_notes.Notes). LeadsTo c h (hears_from c h m m.doing (due_in k.learner o).0 (device_answer answer)) new) (sym beats)
+      (subst (λ (o : Memory). LeadsTo c h o new) (sym (heard_is ∙ comes)) leads_on))
 
   -- the call that is due is the beat's
   pub beat_next : (call : ℕ × device.Call) → ((s : beat.Setup) (answers : List beat_answers.Answered) → beat_kept.LeadsTo s answers b → beat.next_call s (beat_answers.on answers) ≡ Some call) → next_in c h m ≡ Some call
@@ -510,21 +532,21 @@ module _ (c : Shape) (h : ℕ) (m : Memory) (k : Kept) (b : beat_notes.Notes) (l
     end_is = ended (beat_of c h) heard leads_then
 
     -- a call is due
-    pub beat_goes : end ≡ None → LeadsTo c h (hears_from c h m m.doing b.disk (device_answer answer)) (record { learner = k.learner; prefix = k.prefix; said = None; beat = Some new; readings = k.readings })
+    pub beat_goes : end ≡ None → LeadsTo c h (hears_from c h m m.doing (due_call view).0 (device_answer answer)) (record { learner = k.learner; prefix = k.prefix; said = None; beat = Some new; readings = k.readings })
     beat_goes is_none =
         let due = is_due behind (sym (ap (option_map (beat_kept.end_of new)) is_none) ∙ end_is) in
-        subst (λ (n : Memory). LeadsTo c h n (record { learner = k.learner; prefix = k.prefix; said = None; beat = Some new; readings = k.readings })) (sym (heard_is ∙ ap (beat_by h m heard) due.1))
+        of_beat _ (beat_by h m heard (beat.Due due.0)) (ap (beat_by h m heard) due.1)
         (record { learner = learner_still (record { readings = m.beats.readings; heard = Some heard }) None; prefix = leads.prefix; said = refl; readings = leads.readings; beat = leads_then })
 
     -- it has ended
-    pub beat_fails : end ≡ Some code_ends.NoMajority → LeadsTo c h (hears_from c h m m.doing b.disk (device_answer answer)) (record { learner = k.learner; prefix = k.prefix; said = Some (Refused refusal.NoMajority); beat = None; readings = k.readings })
+    pub beat_fails : end ≡ Some code_ends.NoMajority → LeadsTo c h (hears_from c h m m.doing (due_call view).0 (device_answer answer)) (record { learner = k.learner; prefix = k.prefix; said = Some (Refused refusal.NoMajority); beat = None; readings = k.readings })
     beat_fails is_end =
         let over = is_ended behind beat.NoMajority (sym (ap (option_map (beat_kept.end_of new)) is_end) ∙ end_is) in
-        subst (λ (n : Memory). LeadsTo c h n (record { learner = k.learner; prefix = k.prefix; said = Some (Refused refusal.NoMajority); beat = None; readings = k.readings })) (sym (heard_is ∙ ap (beat_by h m heard) over))
+        of_beat _ (beat_by h m heard (beat.Ended beat.NoMajority)) (ap (beat_by h m heard) over)
         (record { learner = learner_still (record { readings = m.beats.readings; heard = None }) (Some (Refused refusal.NoMajority)); prefix = leads.prefix; said = refl; readings = leads.readings; beat = tt })
 
     pub beat_ends : end ≡ Some code_ends.Beaten → (after : Readings) → after ≡ new.readings → (host : ℕ) → host ≡ suggested k.learner.host (option_map (take k.learner.shape.disks) k.readings) (take k.learner.shape.disks after)
-        → LeadsTo c h (hears_from c h m m.doing b.disk (device_answer answer)) (record { learner = k.learner; prefix = k.prefix; said = Some (Beaten host); beat = None; readings = Some after })
+        → LeadsTo c h (hears_from c h m m.doing (due_call view).0 (device_answer answer)) (record { learner = k.learner; prefix = k.prefix; said = Some (Beaten host); beat = None; readings = Some after })
     beat_ends is_end after after_is host host_is =
         let over = is_ended behind (beat.Beaten (beat_kept.readings_of new)) (sym (ap (option_map (beat_kept.end_of new)) is_end) ∙ end_is) in
         let shape : k.learner.shape ≡ c = leads.learner.shape in
@@ -536,7 +558,7 @@ module _ (c : Shape) (h : ℕ) (m : Memory) (k : Kept) (b : beat_notes.Notes) (l
         ∙ ap (λ (s : Shape). suggested h (option_map (take s.disks) k.readings) (take s.disks after)) shape
         ∙ ap (λ (o : Option Readings). suggested h o (take c.disks after)) leads.readings
         ∙ ap (suggested h m.beats.readings) read in
-        subst (λ (n : Memory). LeadsTo c h n (record { learner = k.learner; prefix = k.prefix; said = Some (Beaten host); beat = None; readings = Some after })) (sym (heard_is ∙ ap (beat_by h m heard) over))
+        of_beat _ (beat_by h m heard (beat.Ended (beat.Beaten (beat_kept.readings_of new)))) (ap (beat_by h m heard) over)
         (record {
           learner = learner_still (record { readings = Some (beat_kept.readings_of new); heard = None }) (Some (Beaten (suggested h m.beats.readings (beat_kept.readings_of new))));
           prefix = leads.prefix;

@@ -1,5 +1,6 @@
 mod flat;
 mod random;
+mod scripts;
 
 use crate::{LockState, Picture, Refusal, Reply, Table, lock_numbers_are_distinct};
 use lock_command::{
