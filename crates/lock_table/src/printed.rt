@@ -1,8 +1,9 @@
-ghost use Rattle.std.specs.Prelude.{◌≡◌, ◌<◌, ◌≤◌, length, filter, insert, remove, not, true, false};
+ghost use Rattle.std.specs.Prelude.{◌≡◌, ◌<◌, ◌≤◌, cond, length, filter, insert, remove, not, nat_lt, true, false};
+ghost use Rattle.std.specs.List.{AllWithin};
 ghost use Rattle.std.specs.List.Sorted.{IsSorted, IsPartitionPoint};
-ghost use Rattle.std.specs.Ordering.{is_lt};
 ghost use Rattle.lock_table.specs.Apply.{is_through};
 ghost use Rattle.lock_table.specs.Indexed.{stands_before_rank};
+ghost use Rattle.lock_table.specs.Keys.{lock_key, HasKey};
 ghost use Rattle.lock_table.specs.Locks.{lock_in, without, head_of, admits, IsDistinct};
 ghost use Rattle.lock_table.specs.Picture.{printed_cmp};
 ghost use Rattle.lock_table.specs.Placed.{placed};
@@ -14,21 +15,29 @@ use crate::shelf::Shelf;
 use lock_command::{HostNumber, LockName, LockNumber};
 use lock_modes::Mode;
 
-/// How many locks there are in front of the first that fails a test, where all behind it fail too.
-macro_rules! locks_while {
-    ($printed:expr, $at:ident => $test:expr) => {{
-        let mut from = 0;
-        let mut size = $printed.len();
-        while size > 0 {
-            let half = size - size / 2;
-            let $at = from + half - 1;
-            if $test {
-                from += half;
-            }
-            size /= 2;
-        }
-        from
-    }};
+/// So many where a test passes, else none: no branch, since none could be foretold.
+fn passed(many: usize, passes: bool) -> usize
+    ensures passed { result ≡ cond passes many 0 }
+    ensures few { result ≤ many }
+{
+    many * usize::from(passes)
+}
+
+/// How many locks have a lower key.
+fn locks_below(printed: &Shelf, key: u128) -> usize
+    requires { IsSorted printed_cmp printed.now }
+    ensures bound { result ≤ length printed.now }
+    ensures point { IsPartitionPoint (λ r. nat_lt (lock_key r) key ≡ true) (λ r. nat_lt (lock_key r) key ≡ false) printed.now result }
+    ensures fit { AllWithin HasKey printed.now 0 (length printed.now) }
+{
+    let mut from = 0;
+    let mut size = printed.len();
+    while size > 0 {
+        let half = size - size / 2;
+        from += passed(half, printed.is_below(from + half - 1, key));
+        size /= 2;
+    }
+    from
 }
 
 /// Where a record joins those in printed order: behind all that it does not stand before.
@@ -37,16 +46,7 @@ fn joining_place(printed: &Shelf, new: &LockRecord) -> usize
     ensures bound { result ≤ length printed.now }
     ensures place { insert printed.now result new.now ≡ placed printed_cmp new.now printed.now }
 {
-    locks_while!(printed, at => !new.stands_before(printed.get(at)))
-}
-
-/// How many locks are printed before one.
-fn locks_before(printed: &Shelf, own: &LockRecord) -> usize
-    requires { IsSorted printed_cmp printed.now }
-    ensures bound { result ≤ length printed.now }
-    ensures point { IsPartitionPoint (λ r. is_lt (printed_cmp r own.now) ≡ true) (λ r. is_lt (printed_cmp r own.now) ≡ false) printed.now result }
-{
-    locks_while!(printed, at => printed.get(at).stands_before(own))
+    locks_below(printed, new.key() + 1)
 }
 
 /// Where the record of a lock stands. Of those that queue, all in front of it are looked at.
@@ -57,7 +57,7 @@ fn place_of(printed: &Shelf, own: &LockRecord) -> usize
     ensures bound { result < length printed.now }
     ensures place { remove printed.now result ≡ without printed.now own.now.lock }
 {
-    let mut at = locks_before(printed, own);
+    let mut at = locks_below(printed, own.key());
     while printed.get(at).lock != own.lock {
         at += 1;
     }
@@ -71,8 +71,7 @@ fn locks_before_rank(printed: &Shelf, name: LockName, rank: u8) -> usize
     ensures bound { result ≤ length printed.now }
     ensures point { IsPartitionPoint (λ r. stands_before_rank name rank r ≡ true) (λ r. stands_before_rank name rank r ≡ false) printed.now result }
 {
-    let key = key_of(&name, rank);
-    locks_while!(printed, at => printed.key(at) < key)
+    locks_below(printed, key_of(&name, rank, 0))
 }
 
 /// The lock whose turn it is on a name: the first that converts, else the first that waits.
@@ -84,13 +83,17 @@ pub fn head(printed: &Shelf, name: LockName) -> Option<LockRecord>
     (first.name == name).then_some(first)
 }
 
-/// Whether no other lock of the name holds a mode that conflicts with this one. Of those that hold one the bits are looked at.
+/// Whether no other lock of the name holds a mode that conflicts with this one. Of those that hold one the bits are
+/// looked at, and their numbers where one conflicts.
 pub fn admits(printed: &Shelf, lock: LockNumber, name: LockName, mode: Mode) -> bool
     requires { IsSorted printed_cmp printed.now }
     ensures { result ≡ admits printed.now lock name mode }
 {
     let from = locks_before_rank(printed, name, 0);
     let to = locks_before_rank(printed, name, 2);
+    if printed.none_against(from, to, mode) {
+        return true;
+    }
     for at in from..to {
         if printed.holds_against(at, mode) && printed.get(at).lock != lock {
             return false;

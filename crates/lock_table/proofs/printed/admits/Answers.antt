@@ -2,12 +2,17 @@ use Rattle.std.proofs.Common.{◌≡◌, ◌≤◌, true, false, not, get_or, sy
 use Rattle.std.proofs.lemmas.Bool.{not-true, not-false}
 use Rattle.lock_table.specs.Locks.{is_lock}
 use Rattle.lock_table.specs.Shelved.{no_lock}
-use Rattle.lock_table.proofs.Holders.{admits_from_name, admits_behind, admits_not, past_itself, past_other}
+use Rattle.lock_table.proofs.Holders.{clear_admits, admits_from_name, admits_behind, admits_not, past_itself, past_other}
 use Rattle.lock_table.proofs.printed.admits.Goals as goal
 use Rattle.lock_table.proofs.printed.admits.Goals.{else-holds_against-via-then-holds_against+else-ne, else-holds_against-via-else-holds_against}
 
 pub loop-at-init : goal.loop-at-init
 loop-at-init c = admits_from_name c.args.name c.args.lock c.args.mode c.args.printed.now c.locks_before_rank-from.result c.locks_before_rank-from.ensures.point.0
+
+pub returns-then-none_against : goal.returns-then-none_against
+returns-then-none_against c =
+    sym (clear_admits c.args.name c.args.lock c.args.mode c.args.printed.now c.locks_before_rank-from.result c.locks_before_rank-to.result
+    c.locks_before_rank-from.ensures.point.0 c.locks_before_rank-to.ensures.point.1 (c.none_against.ensures.clear c.if-none_against.true))
 
 pub returns-then-ne : goal.returns-then-ne
 returns-then-ne c =
