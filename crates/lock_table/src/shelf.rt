@@ -6,6 +6,7 @@ ghost use Rattle.lock_table.specs.Keys.{lock_key, HasKey};
 ghost use Rattle.lock_table.specs.Shelved.{at_place, idle, times};
 
 use crate::bits::bits_against;
+use crate::keys::SpelledName;
 use crate::locks::LOCKS;
 use crate::record::LockRecord;
 use lock_modes::Mode;
@@ -126,13 +127,14 @@ impl Shelf {
         }
     }
 
-    /// Puts a lock in.
-    pub fn insert(&mut self, at: usize, new: LockRecord)
+    /// Puts a lock of a name in.
+    pub fn insert(&mut self, at: usize, new: LockRecord, name: &SpelledName)
+        requires named { name.now ≡ new.name }
         requires inside { at ≤ length self.old }
         requires room { length self.old < LOCKS }
         ensures { self.new ≡ insert self.old at new }
     {
-        let key = new.key();
+        let key = new.key(name);
         let place = take_place(&mut self.records, &mut self.free, new);
         self.keys[usize::from(place)] = key;
         let _ = self.order.insert(at, place);
