@@ -60,6 +60,14 @@ module _ {X : Type 0} (p : X → Bool) (xs : List X) (cut : IsPartitionedBy p xs
         inside = omega (arith, on, inside);
       }
 
+  -- whichever of the two it does
+  pub halved_next : (b : Bool) (step : ℕ) → b ≡ p x → step ≡ cond b (size - size / 2) 0 → next ≡ from + step → IsHalved p xs next (size / 2)
+  halved_next b step tells is on =
+      elim b as (λ t. t ≡ p x → step ≡ cond t (size - size / 2) 0 → IsHalved p xs next (size / 2)) [
+        | true ↦ λ e s. halved_passed (sym e) (omega (arith, on, s))
+        | false ↦ λ e s. halved_failed (sym e) (omega (arith, on, s))
+      ] tells is
+
 module _ {X : Type 0} (cmp : X → X → Ordering) where
   abbrev lt : X → X → Bool
   lt x y = is_lt (cmp x y)

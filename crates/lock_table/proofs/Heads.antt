@@ -42,7 +42,7 @@ find_within P Q stricter xs = find_is_first P (filter Q xs) ∙ ap first (filter
 head-on : (name : List ℕ) (a : List LockRecord) → head_of (on name a) name ≡ head_of a name
 head-on name a = λ i. option_or (find_within (converts_on name) (is_on name) (λ r h. and_first _ _ h) a i) (find_within (waits_on name) (is_on name) (λ r h. and_first _ _ h) a i)
 
-head_on_name : (name : List ℕ) (a : List LockRecord) (r : LockRecord) → head_of a name ≡ Some r → is_on name r ≡ true
+pub head_on_name : (name : List ℕ) (a : List LockRecord) (r : LockRecord) → head_of a name ≡ Some r → is_on name r ≡ true
 head_on_name name a r turn =
     elim (find (converts_on name) a) as (λ found. find (converts_on name) a ≡ found → option_or found (find (waits_on name) a) ≡ Some r → is_on name r ≡ true) [
       | None ↦ λ e h. and_first _ _ (found_passes (waits_on name) a r h)

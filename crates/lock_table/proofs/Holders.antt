@@ -1,12 +1,12 @@
 -- Who holds a mode of a name, where the locks stand in printed order.
-use Rattle.std.proofs.Common.{◌≡◌, ◌≤◌, ◌<◌, ℕ, Bool, true, false, not, ◌&&◌, ◌||◌, List, [], ◌∷◌, ◌++◌, length, get_or, take, drop, refl, sym, ap, ◌∙◌, ◌+◌, arith}
+use Rattle.std.proofs.Common.{◌≡◌, ◌≤◌, ◌<◌, ℕ, Bool, true, false, not, ◌&&◌, ◌||◌, List, [], ◌∷◌, ◌++◌, length, get_or, take, drop, refl, sym, ap, ◌∙◌, ◌+◌, inl, inr, arith}
 use Rattle.std.specs.List.{list_any, AllWithin}
 use Rattle.std.specs.Ordering.{is_lt, nat_cmp, ordering_then, ordering_reverse}
 use Rattle.std.specs.Cmp.Lexicographic.{slice_cmp}
 use Rattle.std.specs.declared.cmp.Ordering.{Ordering}
 use Rattle.std.specs.declared.cmp.Ordering.TheVariants.{Less, Equal, Greater}
 use Rattle.std.proofs.lemmas.Cmp.{nat_list_cmp_total}
-use Rattle.std.proofs.lemmas.Bool.{le-ltb}
+use Rattle.std.proofs.lemmas.Bool.{cases_lt, le-ltb}
 use Rattle.std.proofs.lemmas.List.{take-append-drop, drop_more}
 use Rattle.lock_modes.specs.declared.mode.Mode.{Mode}
 use Rattle.lock_table.specs.declared.record.LockRecord.{LockRecord}
@@ -75,6 +75,21 @@ admits_behind name lock mode xs i j later behind =
     ap not (no_any (stands_against lock name mode) (drop j xs)
     (each_more printed_cmp (λ r. stands_before_rank name 2 r ≡ false) (λ r. stands_against lock name mode r ≡ false) (λ r h. none_behind name lock mode r h) (drop j xs)
     (each_behind printed_cmp (λ r. stands_before_rank name 2 r ≡ false) xs j (λ k d low high. later k d (omega (arith, behind, low)) high))))
+
+-- where none of the holders of a name holds a mode against it, any lock of the name may have it
+pub clear_admits : (name : List ℕ) (lock : ℕ) (mode : Mode) (xs : List LockRecord) (from to : ℕ) → AllWithin (λ r. stands_before_rank name 0 r ≡ true) xs 0 from
+    → AllWithin (λ r. stands_before_rank name 2 r ≡ false) xs to (length xs) → AllWithin (λ r. holds_against mode r.state ≡ false) xs from to → admits xs lock name mode ≡ true
+clear_admits name lock mode xs from to before later clear =
+    ap not (no_any (stands_against lock name mode) xs (each_behind printed_cmp (λ r. stands_against lock name mode r ≡ false) xs 0 (λ k d low high.
+    elim (cases_lt k from) as (λ w. stands_against lock name mode (get_or xs k d) ≡ false) [
+      | inl front ↦ front_is_other name lock mode (get_or xs k d) (before k d low front)
+      | inr after ↦ elim (cases_lt k to) as (λ w. stands_against lock name mode (get_or xs k d) ≡ false) [
+        | inl within ↦
+            ap (λ b. is_on name (get_or xs k d) && (not (is_lock lock (get_or xs k d)) && b)) (clear k d after within)
+            ∙ ap (λ b. is_on name (get_or xs k d) && b) (and_no (not (is_lock lock (get_or xs k d)))) ∙ and_no (is_on name (get_or xs k d))
+        | inr behind ↦ none_behind name lock mode (get_or xs k d) (later k d behind high)
+      ]
+    ])))
 
 -- what stands neither before the name nor behind its holders is of the name
 between : (name : List ℕ) (r : LockRecord) → stands_before_rank name 0 r ≡ false → stands_before_rank name 2 r ≡ true → is_on name r ≡ true

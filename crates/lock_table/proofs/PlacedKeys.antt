@@ -2,22 +2,21 @@
 use Rattle.std.proofs.Common.{◌≡◌, ◌≢◌, ◌≤◌, ◌<◌, ◌+◌, ℕ, Bool, true, false, cond, ◌==◌, List, length, get_or, set, insert, remove, refl, sym, ap, subst, ◌∙◌, arith}
 use Rattle.std.proofs.lemmas.Bool.{eqb-true, eqb-false}
 use Rattle.std.proofs.lemmas.List.{get_or-map, get_or-set_same, get_or-set_other}
-use Rattle.lock_command.specs.Name.{IsName}
 use Rattle.lock_table.specs.declared.record.LockRecord.{LockRecord}
 use Rattle.lock_table.specs.Shelved.{at_place, at_places, times, idle, IsShelved}
-use Rattle.lock_table.specs.Keys.{lock_key, IsKeyed}
+use Rattle.lock_table.specs.Keys.{lock_key, HasKey, IsKeyed}
 use Rattle.lock_table.proofs.Places.{times-insert, times-remove, listed_place}
 
 module _ (records : List LockRecord) (order free keys : List ℕ) (sound : IsShelved records order free) (keyed : IsKeyed records order keys) where
   pub keyed_remove : (i d : ℕ) → i < length order → IsKeyed records (remove order i) keys
   keyed_remove i d inside = record {
     found = λ p left. keyed.found p (omega (arith, left, times-remove p order i d inside));
-    named = λ p left. keyed.named p (omega (arith, left, times-remove p order i d inside));
+    fits = λ p left. keyed.fits p (omega (arith, left, times-remove p order i d inside));
   }
 
   pub keyed_insert : (next : List LockRecord) (i q key : ℕ) (new : LockRecord) → ((p : ℕ) → idle records free p ≡ 0 → at_place next p ≡ at_place records p)
-      → at_place next q ≡ new → key ≡ lock_key new → IsName new.name → q < length keys → IsKeyed next (insert order i q) (set keys q key)
-  keyed_insert next i q key new others own is named inside = record {
+      → at_place next q ≡ new → key ≡ lock_key new → HasKey new → q < length keys → IsKeyed next (insert order i q) (set keys q key)
+  keyed_insert next i q key new others own is fits inside = record {
     found = λ p listed.
         elim (q == p) as (λ b. (q == p) ≡ b → get_or (set keys q key) p 0 ≡ lock_key (at_place next p)) [
           | true ↦ λ e.
@@ -30,13 +29,13 @@ module _ (records : List LockRecord) (order free keys : List ℕ) (sound : IsShe
               ∙ keyed.found p before
               ∙ ap lock_key (sym (others p (omega (arith, before, sound.apart p))))
         ] refl;
-    named = λ p listed.
-        elim (q == p) as (λ b. (q == p) ≡ b → IsName (at_place next p).name) [
-          | true ↦ λ e. subst (λ (r : LockRecord). IsName r.name) (sym own ∙ ap (at_place next) (eqb-true q p e)) named
+    fits = λ p listed.
+        elim (q == p) as (λ b. (q == p) ≡ b → HasKey (at_place next p)) [
+          | true ↦ λ e. subst (λ (r : LockRecord). HasKey r) (sym own ∙ ap (at_place next) (eqb-true q p e)) fits
           | false ↦ λ e.
               let there : times p (insert order i q) ≡ times p order = times-insert p q order i ∙ ap (λ b. times p order + cond b 1 0) e ∙ omega arith in
               let before : 1 ≤ times p order = omega (arith, there, listed) in
-              subst (λ (r : LockRecord). IsName r.name) (sym (others p (omega (arith, before, sound.apart p)))) (keyed.named p before)
+              subst (λ (r : LockRecord). HasKey r) (sym (others p (omega (arith, before, sound.apart p)))) (keyed.fits p before)
         ] refl;
   }
 
@@ -50,6 +49,6 @@ module _ (records : List LockRecord) (order free keys : List ℕ) (sound : IsShe
       ∙ keyed.found (get_or order i d) (listed_place records order free sound i d inside)
       ∙ ap lock_key (shown_there shown i d e is inside)
 
-  pub name_in_order : (shown : List LockRecord) (i d : ℕ) → at_places records order ≡ shown → i < length order → (e : LockRecord) → IsName (get_or shown i e).name
-  name_in_order shown i d is inside e =
-      subst (λ (r : LockRecord). IsName r.name) (shown_there shown i d e is inside) (keyed.named (get_or order i d) (listed_place records order free sound i d inside))
+  pub fits_in_order : (shown : List LockRecord) (i d : ℕ) → at_places records order ≡ shown → i < length order → (e : LockRecord) → HasKey (get_or shown i e)
+  fits_in_order shown i d is inside e =
+      subst (λ (r : LockRecord). HasKey r) (shown_there shown i d e is inside) (keyed.fits (get_or order i d) (listed_place records order free sound i d inside))

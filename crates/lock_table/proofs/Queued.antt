@@ -47,7 +47,7 @@ number_of_none (Granted mode) = refl
 number_of_none (Converting held wanted) = refl
 number_of_none (Waiting wanted) = refl
 
-last_is_never_less : (o p q : Ordering) → is_lt q ≡ false → is_lt (ordering_then o (ordering_then p q)) ≡ is_lt (ordering_then o p)
+pub last_is_never_less : (o p q : Ordering) → is_lt q ≡ false → is_lt (ordering_then o (ordering_then p q)) ≡ is_lt (ordering_then o p)
 last_is_never_less Less p q h = refl
 last_is_never_less Greater p q h = refl
 last_is_never_less Equal Less q h = refl

@@ -11,15 +11,16 @@ use Rattle.lock_command.specs.Name.{is_name_byte, IsName}
 use Rattle.lock_table.specs.declared.record.LockRecord.{LockRecord}
 use Rattle.lock_table.specs.declared.record.LockState.{LockState}
 use Rattle.lock_table.specs.declared.record.LockState.TheVariants.{Granted, Converting, Waiting}
-use Rattle.lock_table.specs.Picture.{rank_of}
+use Rattle.lock_table.specs.Picture.{rank_of, number_among, printed_cmp}
 use Rattle.lock_table.specs.Indexed.{stands_before_rank}
-use Rattle.lock_table.specs.Keys.{spelled, key_of, lock_key}
+use Rattle.lock_table.specs.Keys.{spelled, key_of, lock_key, HasKey}
 use Rattle.lock_table.proofs.Keyed.{is_lt_nat}
+use Rattle.lock_table.proofs.Queued.{last_is_never_less}
 
 -- what a digit in front of so many others counts
 abbrev pub weight : ℕ → ℕ
 weight zero = 1
-weight (suc n) = weight n * 256
+weight (suc n) = weight n * 128
 
 weight_some : (n : ℕ) → 1 ≤ weight n
 weight_some zero = omega arith
@@ -73,21 +74,21 @@ digits w x y r s low high =
 spelled_none : (n : ℕ) → spelled n [] ≡ 0
 unfolding spelled
 spelled_none zero = refl
-spelled_none (suc n) = ap (λ m. m * 256 + 0) (spelled_none n)
+spelled_none (suc n) = ap (λ m. m * 128 + 0) (spelled_none n)
 
 spelled_first : (n x : ℕ) (xs : List ℕ) → spelled (suc n) (x ∷ xs) ≡ x * weight n + spelled n xs
 unfolding spelled
 spelled_first zero x xs = omega arith
-spelled_first (suc n) x xs = let rest = spelled_first n x xs in ap (λ m. m * 256 + get_or xs n 0) rest ∙ omega arith
+spelled_first (suc n) x xs = let rest = spelled_first n x xs in ap (λ m. m * 128 + get_or xs n 0) rest ∙ omega arith
 
-byte_fits : (b : ℕ) → is_name_byte b ≡ true → (1 ≤ b) × (b < 256)
+byte_fits : (b : ℕ) → is_name_byte b ≡ true → (1 ≤ b) × (b < 128)
 byte_fits b fits =
     let parts = and_parts (nat_le 0x21 b) (nat_le b 0x7E) fits in
     let low = leb-true 0x21 b parts.0 in
     let high = leb-true b 0x7E parts.1 in
     (omega (arith, low), omega (arith, high))
 
-byte_at : (xs : List ℕ) (k : ℕ) → list_all is_name_byte xs ≡ true → get_or xs k 0 < 256
+byte_at : (xs : List ℕ) (k : ℕ) → list_all is_name_byte xs ≡ true → get_or xs k 0 < 128
 byte_at [] k all = omega arith
 byte_at (x ∷ xs) zero all = (byte_fits x (and_parts (is_name_byte x) (list_all is_name_byte xs) all).0).1
 byte_at (x ∷ xs) (suc k) all = byte_at xs k (and_parts (is_name_byte x) (list_all is_name_byte xs) all).1
@@ -130,17 +131,40 @@ name_parts name named =
     let parts = and_parts (nat_le 1 (length name) && nat_le (length name) 15) (list_all is_name_byte name) named in
     (leb-true (length name) 15 (and_parts (nat_le 1 (length name)) (nat_le (length name) 15) parts.0).1, parts.1)
 
-pub key_cmp : (a b : List ℕ) (k l : ℕ) → IsName a → IsName b → k < 256 → l < 256 → nat_cmp (key_of a k) (key_of b l) ≡ ordering_then (slice_cmp nat_cmp a b) (nat_cmp k l)
-key_cmp a b k l this that low high =
+then_assoc : (o p q : Ordering) → ordering_then (ordering_then o p) q ≡ ordering_then o (ordering_then p q)
+then_assoc Less p q = refl
+then_assoc Equal p q = refl
+then_assoc Greater p q = refl
+
+pub key_cmp : (a b : List ℕ) (k l m n : ℕ) → IsName a → IsName b → k < 4 → l < 4 → m < 65536 → n < 65536
+    → nat_cmp (key_of a k m) (key_of b l n) ≡ ordering_then (slice_cmp nat_cmp a b) (ordering_then (nat_cmp k l) (nat_cmp m n))
+key_cmp a b k l m n this that low high below under =
     let these = name_parts a this in
     let those = name_parts b that in
-    digits 256 (spelled 15 a) (spelled 15 b) k l low high ∙ ap (λ o. ordering_then o (nat_cmp k l)) (spelled_cmp 15 a b these.0 those.0 these.1 those.1)
+    digits 65536 (spelled 15 a * 4 + k) (spelled 15 b * 4 + l) m n below under
+    ∙ ap (λ o. ordering_then o (nat_cmp m n)) (digits 4 (spelled 15 a) (spelled 15 b) k l low high ∙ ap (λ o. ordering_then o (nat_cmp k l)) (spelled_cmp 15 a b these.0 those.0 these.1 those.1))
+    ∙ then_assoc (slice_cmp nat_cmp a b) (nat_cmp k l) (nat_cmp m n)
 
-pub rank_small : (s : LockState) → rank_of s < 256
+rank_small : (s : LockState) → rank_of s < 4
 rank_small (Granted mode) = omega arith
 rank_small (Converting held wanted) = omega arith
 rank_small (Waiting wanted) = omega arith
 
+number_small : (s : LockState) (n : ℕ) → n < 65536 → number_among s n < 65536
+number_small (Granted mode) n few = few
+number_small (Converting held wanted) n few = omega arith
+number_small (Waiting wanted) n few = omega arith
+
+-- locks are printed as their keys rise
+pub printed_by_key : (a b : LockRecord) → HasKey a → HasKey b → nat_cmp (lock_key a) (lock_key b) ≡ printed_cmp a b
+printed_by_key a b one two =
+    key_cmp a.name b.name (rank_of a.state) (rank_of b.state) (number_among a.state a.lock) (number_among b.state b.lock) one.named two.named (rank_small a.state) (rank_small b.state)
+    (number_small a.state a.lock one.number) (number_small b.state b.lock two.number)
+
 -- keys tell which locks stand before a name and a rank
-pub before_by_key : (name : List ℕ) (rank : ℕ) (r : LockRecord) → IsName r.name → IsName name → rank < 256 → nat_lt (lock_key r) (key_of name rank) ≡ stands_before_rank name rank r
-before_by_key name rank r this that few = sym (is_lt_nat (lock_key r) (key_of name rank)) ∙ ap is_lt (key_cmp r.name name (rank_of r.state) rank this that (rank_small r.state) few)
+pub before_by_key : (name : List ℕ) (rank : ℕ) (r : LockRecord) → HasKey r → IsName name → rank < 4 → nat_lt (lock_key r) (key_of name rank 0) ≡ stands_before_rank name rank r
+before_by_key name rank r own named few =
+    let number = number_among r.state r.lock in
+    sym (is_lt_nat (lock_key r) (key_of name rank 0))
+    ∙ ap is_lt (key_cmp r.name name (rank_of r.state) rank number 0 own.named named (rank_small r.state) few (number_small r.state r.lock own.number) (omega arith))
+    ∙ last_is_never_less (slice_cmp nat_cmp r.name name) (nat_cmp (rank_of r.state) rank) (nat_cmp number 0) (is_lt_nat number 0 ∙ le-ltb number 0 (omega arith))

@@ -4,6 +4,7 @@ ghost use Rattle.lock_table.specs.Locks.{lock_in, without, put, has_queue, head_
 ghost use Rattle.lock_table.specs.Picture.{printed_cmp};
 ghost use Rattle.lock_table.specs.Placed.{in_order};
 
+use crate::keys::SpelledName;
 use crate::locks::LOCKS;
 use crate::record::{LockRecord, LockState};
 use crate::shelf::Shelf;
@@ -70,8 +71,9 @@ impl Index {
     }
 
     /// The lock whose turn it is on a name.
-    fn head(&self, name: LockName) -> Option<LockRecord>
-        ensures head { result ≡ head_of self.now name }
+    fn head(&self, name: &SpelledName) -> Option<LockRecord>
+        ensures head { result ≡ head_of self.now name.now }
+        ensures named { IfSome result (λ r. r.name ≡ name.now) }
         ensures there { IfSome result (λ r. lock_in self.now r.lock ≡ Some r) }
         ensures printed { in_order printed_cmp self.now ≡ self.now }
         ensures distinct { IsDistinct self.now }
@@ -80,47 +82,50 @@ impl Index {
     }
 
     /// Whether a lock of the name stands in a queue.
-    pub fn has_queue(&self, name: LockName) -> bool
-        ensures { result ≡ has_queue self.now name }
+    pub fn has_queue(&self, name: &SpelledName) -> bool
+        ensures { result ≡ has_queue self.now name.now }
     {
         self.head(name).is_some()
     }
 
     /// Whether no other lock of the name holds a mode that conflicts with this one.
-    pub fn admits(&self, lock: LockNumber, name: LockName, mode: Mode) -> bool
-        ensures { result ≡ admits self.now lock name mode }
+    pub fn admits(&self, lock: LockNumber, name: &SpelledName, mode: Mode) -> bool
+        ensures { result ≡ admits self.now lock name.now mode }
     {
         printed::admits(&self.printed, lock, name, mode)
     }
 
     /// Puts in a lock that is new.
-    pub fn put_new(&mut self, new: LockRecord)
+    pub fn put_new(&mut self, new: LockRecord, name: &SpelledName)
+        requires named { name.now ≡ new.name }
         requires absent { lock_in self.old new.lock ≡ None }
         requires room { length self.old < LOCKS }
         ensures { self.new ≡ in_order printed_cmp (put self.old new) }
     {
         numbers::put_new(&mut self.numbers, new);
-        printed::put_in(&mut self.printed, &new);
+        printed::put_in(&mut self.printed, &new, name);
     }
 
     /// Puts a lock in another state, and so behind all others of its queue.
-    pub fn restate(&mut self, own: LockRecord, state: LockState)
-        requires { lock_in self.old own.lock ≡ Some own }
+    pub fn restate(&mut self, own: LockRecord, state: LockState, name: &SpelledName)
+        requires named { name.now ≡ own.name }
+        requires there { lock_in self.old own.lock ≡ Some own }
         ensures { self.new ≡ in_order printed_cmp (put self.old (in_state own state)) }
     {
         let new = own.with_state(state);
         numbers::replace(&mut self.numbers, new);
-        printed::take_out(&mut self.printed, &own);
-        printed::put_in(&mut self.printed, &new);
+        printed::take_out(&mut self.printed, &own, name);
+        printed::put_in(&mut self.printed, &new, name);
     }
 
     /// Takes a lock away.
-    pub fn take_away(&mut self, own: LockRecord)
-        requires { lock_in self.old own.lock ≡ Some own }
+    pub fn take_away(&mut self, own: LockRecord, name: &SpelledName)
+        requires named { name.now ≡ own.name }
+        requires there { lock_in self.old own.lock ≡ Some own }
         ensures { self.new ≡ without self.old own.lock }
     {
         numbers::take_away(&mut self.numbers, own.lock);
-        printed::take_out(&mut self.printed, &own);
+        printed::take_out(&mut self.printed, &own, name);
     }
 
     /// Takes away the locks that were enqueued through a host.
@@ -133,15 +138,15 @@ impl Index {
     }
 
     /// Grants, while the lock whose turn it is may be granted.
-    pub fn settle(&mut self, name: LockName)
-        ensures { self.new ≡ in_order printed_cmp (settled self.old name) }
+    pub fn settle(&mut self, name: &SpelledName)
+        ensures { self.new ≡ in_order printed_cmp (settled self.old name.now) }
     {
         while let Some(first) = self.head(name) {
             let wanted = first.state.goal();
-            if !self.admits(first.lock, first.name, wanted) {
+            if !self.admits(first.lock, name, wanted) {
                 return;
             }
-            self.restate(first, LockState::Granted(wanted));
+            self.restate(first, LockState::Granted(wanted), name);
         }
     }
 
@@ -152,7 +157,7 @@ impl Index {
         ensures { self.new ≡ in_order printed_cmp (settled_all self.old names.now) }
     {
         for name in names {
-            self.settle(*name);
+            self.settle(&SpelledName::new(*name));
         }
     }
 }

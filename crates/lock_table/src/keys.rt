@@ -1,25 +1,63 @@
-ghost use Rattle.std.specs.Prelude.{◌≡◌, ◌<◌, ◌^◌, slice_index};
+ghost use Rattle.std.specs.Prelude.{◌≡◌, ◌+◌, ◌*◌, ◌<◌, ◌^◌, slice_index};
 ghost use Rattle.lock_command.specs.Name.{IsName};
 ghost use Rattle.lock_table.specs.Keys.{spelled, key_of};
 
 use lock_command::LockName;
+use std::marker::Model;
 
-/// A number that rises as names do by their bytes, and for one name by the rank.
-pub fn key_of(name: &LockName, rank: u8) -> u128
-    ensures key { result ≡ key_of name.now rank }
-    ensures name { IsName name.now }
-{
-    spelled(name.as_bytes()) * 256 + u128::from(rank)
+/// A name, and the number that its bytes spell, by which its locks are found. A command spells its name once.
+#[derive(Drop)]
+pub struct SpelledName {
+    name: LockName,
+    number: u128,
+}
+
+impl Model for SpelledName {
+    ghost use Rattle.std.specs.Prelude.{List, ℕ, ◌≡◌, ◌<◌, ◌^◌};
+    ghost use Rattle.lock_command.specs.Name.{IsName};
+    ghost use Rattle.lock_table.specs.Keys.{spelled};
+
+    ghost Value = { List ℕ };
+
+    ghost view = { λ s. s.name };
+
+    ghost invariant = { λ s. (s.number ≡ spelled 15 s.name) × (s.number < 2 ^ 107) × IsName s.name };
+}
+
+impl SpelledName {
+    pub fn new(name: LockName) -> Self
+        ensures { result ≡ name }
+    {
+        SpelledName {
+            name,
+            number: spelled(name.as_bytes()),
+        }
+    }
+
+    pub fn name(&self) -> LockName
+        ensures { result ≡ self.now }
+    {
+        self.name
+    }
+
+    /// A number that rises as names do by their bytes, for one name by the rank, and for one rank by the number.
+    pub fn key(&self, rank: u8, number: u16) -> u128
+        ensures key { result ≡ key_of self.now rank number }
+        ensures name { IsName self.now }
+        ensures small { result < 2 ^ 126 }
+    {
+        (self.number * 4 + u128::from(rank)) * 65536 + u128::from(number)
+    }
 }
 
 /// The number of which the first 15 bytes are the digits, with zeros behind the last byte.
 fn spelled(bytes: &[u8]) -> u128
     ensures spelled { result ≡ spelled 15 bytes.now }
-    ensures small { result < 2 ^ 120 }
+    ensures small { result < 2 ^ 107 }
 {
     let mut key: u128 = 0;
     for at in 0..LockName::LONGEST {
-        key = key * 256 + u128::from(byte_at(bytes, at));
+        key = key * 128 + u128::from(byte_at(bytes, at));
     }
     key
 }

@@ -1,63 +1,65 @@
-ghost use Rattle.std.specs.Prelude.{◌≡◌, ◌<◌, ◌≤◌, length, filter, insert, remove, not, true, false};
+ghost use Rattle.std.specs.Prelude.{◌≡◌, ◌<◌, ◌≤◌, cond, length, filter, insert, remove, not, nat_lt, true, false};
+ghost use Rattle.std.specs.List.{AllWithin};
 ghost use Rattle.std.specs.List.Sorted.{IsSorted, IsPartitionPoint};
-ghost use Rattle.std.specs.Ordering.{is_lt};
 ghost use Rattle.lock_table.specs.Apply.{is_through};
 ghost use Rattle.lock_table.specs.Indexed.{stands_before_rank};
+ghost use Rattle.lock_table.specs.Keys.{lock_key, HasKey};
 ghost use Rattle.lock_table.specs.Locks.{lock_in, without, head_of, admits, IsDistinct};
 ghost use Rattle.lock_table.specs.Picture.{printed_cmp};
 ghost use Rattle.lock_table.specs.Placed.{placed};
 
-use crate::keys::key_of;
+use crate::keys::SpelledName;
 use crate::locks::LOCKS;
 use crate::record::LockRecord;
 use crate::shelf::Shelf;
-use lock_command::{HostNumber, LockName, LockNumber};
+use lock_command::{HostNumber, LockNumber};
 use lock_modes::Mode;
 
-/// How many locks there are in front of the first that fails a test, where all behind it fail too.
-macro_rules! locks_while {
-    ($printed:expr, $at:ident => $test:expr) => {{
-        let mut from = 0;
-        let mut size = $printed.len();
-        while size > 0 {
-            let half = size - size / 2;
-            let $at = from + half - 1;
-            if $test {
-                from += half;
-            }
-            size /= 2;
-        }
-        from
-    }};
+/// So many where a test passes, else none: no branch, since none could be foretold.
+fn passed(many: usize, passes: bool) -> usize
+    ensures passed { result ≡ cond passes many 0 }
+    ensures few { result ≤ many }
+{
+    many * usize::from(passes)
+}
+
+/// How many locks have a lower key.
+fn locks_below(printed: &Shelf, key: u128) -> usize
+    requires { IsSorted printed_cmp printed.now }
+    ensures bound { result ≤ length printed.now }
+    ensures point { IsPartitionPoint (λ r. nat_lt (lock_key r) key ≡ true) (λ r. nat_lt (lock_key r) key ≡ false) printed.now result }
+    ensures fit { AllWithin HasKey printed.now 0 (length printed.now) }
+{
+    let mut from = 0;
+    let mut size = printed.len();
+    while size > 0 {
+        let half = size - size / 2;
+        from += passed(half, printed.is_below(from + half - 1, key));
+        size /= 2;
+    }
+    from
 }
 
 /// Where a record joins those in printed order: behind all that it does not stand before.
-fn joining_place(printed: &Shelf, new: &LockRecord) -> usize
-    requires { IsSorted printed_cmp printed.now }
+fn joining_place(printed: &Shelf, new: &LockRecord, name: &SpelledName) -> usize
+    requires sorted { IsSorted printed_cmp printed.now }
+    requires named { name.now ≡ new.now.name }
     ensures bound { result ≤ length printed.now }
     ensures place { insert printed.now result new.now ≡ placed printed_cmp new.now printed.now }
 {
-    locks_while!(printed, at => !new.stands_before(printed.get(at)))
-}
-
-/// How many locks are printed before one.
-fn locks_before(printed: &Shelf, own: &LockRecord) -> usize
-    requires { IsSorted printed_cmp printed.now }
-    ensures bound { result ≤ length printed.now }
-    ensures point { IsPartitionPoint (λ r. is_lt (printed_cmp r own.now) ≡ true) (λ r. is_lt (printed_cmp r own.now) ≡ false) printed.now result }
-{
-    locks_while!(printed, at => printed.get(at).stands_before(own))
+    locks_below(printed, new.key(name) + 1)
 }
 
 /// Where the record of a lock stands. Of those that queue, all in front of it are looked at.
-fn place_of(printed: &Shelf, own: &LockRecord) -> usize
+fn place_of(printed: &Shelf, own: &LockRecord, name: &SpelledName) -> usize
     requires sorted { IsSorted printed_cmp printed.now }
+    requires named { name.now ≡ own.now.name }
     requires distinct { IsDistinct printed.now }
     requires there { lock_in printed.now own.now.lock ≡ Some own.now }
     ensures bound { result < length printed.now }
     ensures place { remove printed.now result ≡ without printed.now own.now.lock }
 {
-    let mut at = locks_before(printed, own);
+    let mut at = locks_below(printed, own.key(name));
     while printed.get(at).lock != own.lock {
         at += 1;
     }
@@ -65,32 +67,35 @@ fn place_of(printed: &Shelf, own: &LockRecord) -> usize
 }
 
 /// How many locks are printed before those of a name that have a rank: 0 if granted, 1 if they convert, 2 if they wait.
-fn locks_before_rank(printed: &Shelf, name: LockName, rank: u8) -> usize
+fn locks_before_rank(printed: &Shelf, name: &SpelledName, rank: u8) -> usize
     requires sorted { IsSorted printed_cmp printed.now }
     requires rank { rank ≤ 2 }
     ensures bound { result ≤ length printed.now }
-    ensures point { IsPartitionPoint (λ r. stands_before_rank name rank r ≡ true) (λ r. stands_before_rank name rank r ≡ false) printed.now result }
+    ensures point { IsPartitionPoint (λ r. stands_before_rank name.now rank r ≡ true) (λ r. stands_before_rank name.now rank r ≡ false) printed.now result }
 {
-    let key = key_of(&name, rank);
-    locks_while!(printed, at => printed.key(at) < key)
+    locks_below(printed, name.key(rank, 0))
 }
 
 /// The lock whose turn it is on a name: the first that converts, else the first that waits.
-pub fn head(printed: &Shelf, name: LockName) -> Option<LockRecord>
+pub fn head(printed: &Shelf, name: &SpelledName) -> Option<LockRecord>
     requires { IsSorted printed_cmp printed.now }
-    ensures { result ≡ head_of printed.now name }
+    ensures { result ≡ head_of printed.now name.now }
 {
     let first = printed.lock_at(locks_before_rank(printed, name, 1))?;
-    (first.name == name).then_some(first)
+    (first.name == name.name()).then_some(first)
 }
 
-/// Whether no other lock of the name holds a mode that conflicts with this one. Of those that hold one the bits are looked at.
-pub fn admits(printed: &Shelf, lock: LockNumber, name: LockName, mode: Mode) -> bool
+/// Whether no other lock of the name holds a mode that conflicts with this one. Of those that hold one the bits are
+/// looked at, and their numbers where one conflicts.
+pub fn admits(printed: &Shelf, lock: LockNumber, name: &SpelledName, mode: Mode) -> bool
     requires { IsSorted printed_cmp printed.now }
-    ensures { result ≡ admits printed.now lock name mode }
+    ensures { result ≡ admits printed.now lock name.now mode }
 {
     let from = locks_before_rank(printed, name, 0);
     let to = locks_before_rank(printed, name, 2);
+    if printed.none_against(from, to, mode) {
+        return true;
+    }
     for at in from..to {
         if printed.holds_against(at, mode) && printed.get(at).lock != lock {
             return false;
@@ -100,23 +105,25 @@ pub fn admits(printed: &Shelf, lock: LockNumber, name: LockName, mode: Mode) -> 
 }
 
 /// Puts a record in its place.
-pub fn put_in(printed: &mut Shelf, new: &LockRecord)
+pub fn put_in(printed: &mut Shelf, new: &LockRecord, name: &SpelledName)
     requires sorted { IsSorted printed_cmp printed.old }
+    requires named { name.now ≡ new.now.name }
     requires room { length printed.old < LOCKS }
     ensures items { printed.new ≡ placed printed_cmp new.now printed.old }
 {
-    printed.insert(joining_place(printed, new), *new);
+    printed.insert(joining_place(printed, new, name), *new, name);
 }
 
 /// Takes the record of a lock out.
-pub fn take_out(printed: &mut Shelf, own: &LockRecord)
+pub fn take_out(printed: &mut Shelf, own: &LockRecord, name: &SpelledName)
     requires sorted { IsSorted printed_cmp printed.old }
+    requires named { name.now ≡ own.now.name }
     requires distinct { IsDistinct printed.old }
     requires there { lock_in printed.old own.now.lock ≡ Some own.now }
     ensures items { printed.new ≡ without printed.old own.now.lock }
     ensures room { length printed.new < LOCKS }
 {
-    printed.remove(place_of(printed, own));
+    printed.remove(place_of(printed, own, name));
 }
 
 /// Takes out the locks that were enqueued through a host.

@@ -1,13 +1,12 @@
-ghost use Rattle.std.specs.Prelude.{◌≡◌, ◌+◌, ◌<◌, ◌≤◌, ◌==◌, ℕ, [], IfOk, cond, length, insert, remove, slice_index_or, vec_len, vec_capacity};
-ghost use Rattle.std.specs.List.{slice_get};
-ghost use Rattle.lock_command.specs.Name.{IsName};
+ghost use Rattle.std.specs.Prelude.{◌≡◌, ◌+◌, ◌<◌, ◌≤◌, ◌==◌, ℕ, [], IfOk, IsTrue, cond, false, nat_lt, length, insert, remove, slice_index_or, vec_len, vec_capacity};
+ghost use Rattle.std.specs.List.{slice_get, AllWithin};
 ghost use Rattle.lock_table.specs.declared.record.LockRecord.{LockRecord};
 ghost use Rattle.lock_table.specs.State.{holds_against};
-ghost use Rattle.lock_table.specs.Keys.{lock_key};
+ghost use Rattle.lock_table.specs.Keys.{lock_key, HasKey};
 ghost use Rattle.lock_table.specs.Shelved.{at_place, idle, times};
 
 use crate::bits::bits_against;
-use crate::keys::key_of;
+use crate::keys::SpelledName;
 use crate::locks::LOCKS;
 use crate::record::LockRecord;
 use lock_modes::Mode;
@@ -25,7 +24,7 @@ pub struct Shelf {
     free: Vec<u8>,
     /// The bits of what the locks hold, in their order.
     held: Vec<u8>,
-    /// By place, what the names and ranks of the locks are found by.
+    /// By place, what the locks are printed by.
     keys: Vec<u128>,
 }
 
@@ -61,6 +60,7 @@ impl Shelf {
     pub fn len(&self) -> usize
         ensures len { result ≡ length self.now }
         ensures few { result ≤ LOCKS }
+        ensures fit { AllWithin HasKey self.now 0 (length self.now) }
     {
         self.order.len()
     }
@@ -85,13 +85,12 @@ impl Shelf {
         }
     }
 
-    /// What a lock's name and rank are found by.
-    pub fn key(&self, at: usize) -> u128
+    /// Whether a lock has a lower key.
+    pub fn is_below(&self, at: usize, key: u128) -> bool
         requires { at < length self.now }
-        ensures key { (d : LockRecord) → result ≡ lock_key (slice_index_or self.now at d) }
-        ensures name { (d : LockRecord) → IsName (slice_index_or self.now at d).name }
+        ensures { (d : LockRecord) → result ≡ nat_lt (lock_key (slice_index_or self.now at d)) key }
     {
-        self.keys[usize::from(self.order[at])]
+        self.keys[usize::from(self.order[at])] < key
     }
 
     /// Whether a lock holds a mode that conflicts with the wanted one.
@@ -100,6 +99,20 @@ impl Shelf {
         ensures { (d : LockRecord) → result ≡ holds_against wanted (slice_index_or self.now at d).state }
     {
         self.held[at] & bits_against(wanted) != 0
+    }
+
+    /// Whether none of the locks from one place up to another holds a mode that conflicts with the wanted one. All are
+    /// looked at, without a branch.
+    pub fn none_against(&self, from: usize, to: usize, wanted: Mode) -> bool
+        requires { to ≤ length self.now }
+        ensures clear { IsTrue result → AllWithin (λ r. holds_against wanted r.state ≡ false) self.now from to }
+        ensures met { AllWithin (λ r. holds_against wanted r.state ≡ false) self.now from to → IsTrue result }
+    {
+        let mut none = true;
+        for at in from..to {
+            none &= !self.holds_against(at, wanted);
+        }
+        none
     }
 
     /// Lists the locks.
@@ -114,13 +127,14 @@ impl Shelf {
         }
     }
 
-    /// Puts a lock in.
-    pub fn insert(&mut self, at: usize, new: LockRecord)
+    /// Puts a lock of a name in.
+    pub fn insert(&mut self, at: usize, new: LockRecord, name: &SpelledName)
+        requires named { name.now ≡ new.name }
         requires inside { at ≤ length self.old }
         requires room { length self.old < LOCKS }
         ensures { self.new ≡ insert self.old at new }
     {
-        let key = key_of(&new.name, new.state.rank());
+        let key = new.key(name);
         let place = take_place(&mut self.records, &mut self.free, new);
         self.keys[usize::from(place)] = key;
         let _ = self.order.insert(at, place);

@@ -23,6 +23,6 @@ loop-at-preserved c =
     let next : suc c.loop-at.at ≡ c.loop-at.at + 1 = omega arith in
     let more : weight (suc c.loop-at.at) ≡ weight (c.loop-at.at + 1) = ap weight next in
     record {
-      key = (λ i. c.loop-at.invariant.key i * 256 + (c.from.ensures ∙ c.byte_at.ensures) i) ∙ ap (λ n. spelled n c.args.bytes.now) next;
+      key = (λ i. c.loop-at.invariant.key i * 128 + (c.from.ensures ∙ c.byte_at.ensures) i) ∙ ap (λ n. spelled n c.args.bytes.now) next;
       small = omega (arith, more, c.loop-at.invariant.small, c.from.ensures, c.byte_at.type_inv);
     }

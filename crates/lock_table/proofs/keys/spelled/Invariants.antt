@@ -1,4 +1,4 @@
-use Rattle.std.proofs.Common.{◌≡◌, ◌<◌}
+use Rattle.std.proofs.Common.{◌≡◌, ◌≤◌, ◌+◌, ◌*◌}
 use Rattle.lock_table.specs.Keys.{spelled}
 use Rattle.lock_table.proofs.Spelled.{weight}
 use Rattle.lock_table.proofs.keys.spelled.Given as goal
@@ -7,5 +7,5 @@ use Rattle.lock_table.proofs.keys.spelled.Given as goal
 abbrev pub invariant-loop-at : goal.invariant-loop-at
 invariant-loop-at l = record {
   key : l.key ≡ spelled l.at l.bytes;
-  small : l.key < weight l.at;
+  small : l.key + 3 ≤ weight l.at * 3;
 }

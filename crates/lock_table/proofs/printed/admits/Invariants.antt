@@ -4,4 +4,4 @@ use Rattle.lock_table.proofs.printed.admits.Given as goal
 
 -- the rest decides
 abbrev pub invariant-loop-at : goal.invariant-loop-at
-invariant-loop-at l = admits l.printed l.lock l.fn.name l.mode ≡ admits (drop l.at l.printed) l.lock l.fn.name l.mode
+invariant-loop-at l = admits l.printed l.lock l.name l.mode ≡ admits (drop l.at l.printed) l.lock l.name l.mode

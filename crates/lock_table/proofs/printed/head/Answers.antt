@@ -1,5 +1,6 @@
 use Rattle.std.proofs.Common.{◌≡◌, drop, Some, None, sym, ap, ◌∙◌}
 use Rattle.std.specs.Bool.{then_some}
+use Rattle.lock_command.specs.Name.{same_name}
 use Rattle.lock_table.specs.Locks.{is_on}
 use Rattle.lock_table.proofs.Parts.{first}
 use Rattle.lock_table.proofs.Keyed.{first_if, then_some_if}
@@ -12,7 +13,7 @@ returns-in_err-first c =
     let xs = c.args.printed.now in
     let i = c.locks_before_rank.result in
     let stands : None ≡ first (drop i xs) = sym c.in_err-first.was ∙ c.lock_at.ensures ∙ slice_get_is_first xs i in
-    c.from_residual.ensures ∙ ap (first_if (is_on c.args.name)) stands ∙ sym (head_at_cut c.args.name xs i c.requires c.locks_before_rank.ensures.point)
+    c.from_residual.ensures ∙ ap (first_if (is_on c.args.name.now)) stands ∙ sym (head_at_cut c.args.name.now xs i c.requires c.locks_before_rank.ensures.point)
 
 pub returns : goal.returns
 returns c =
@@ -21,6 +22,7 @@ returns c =
     let stands : Some c.in_ok-first.first ≡ first (drop i xs) = sym c.in_ok-first.was ∙ c.lock_at.ensures ∙ slice_get_is_first xs i in
     c.then_some.ensures
     ∙ ap (λ b. then_some b c.in_ok-first.first) c.eq.ensures
-    ∙ then_some_if (is_on c.args.name) c.in_ok-first.first
-    ∙ ap (first_if (is_on c.args.name)) stands
-    ∙ sym (head_at_cut c.args.name xs i c.requires c.locks_before_rank.ensures.point)
+    ∙ ap (λ n. then_some (same_name c.in_ok-first.first.name n) c.in_ok-first.first) c.name.ensures
+    ∙ then_some_if (is_on c.args.name.now) c.in_ok-first.first
+    ∙ ap (first_if (is_on c.args.name.now)) stands
+    ∙ sym (head_at_cut c.args.name.now xs i c.requires c.locks_before_rank.ensures.point)

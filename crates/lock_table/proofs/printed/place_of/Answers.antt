@@ -4,13 +4,17 @@ use Rattle.std.proofs.lemmas.Bool.{not-false}
 use Rattle.lock_table.specs.Picture.{printed_cmp}
 use Rattle.lock_table.proofs.Pictures.{printed_order}
 use Rattle.lock_table.proofs.Cuts.{found_from}
+use Rattle.lock_table.proofs.Below.{below_own}
 use Rattle.lock_table.proofs.Keyed.{inside_where_found, remove_where_stands}
 use Rattle.lock_table.proofs.printed.place_of.Goals as goal
 
 pub loop-at-init : goal.loop-at-init
 loop-at-init c =
     let own = c.args.own.now in
-    found_from printed_cmp printed_order (is_lock own.lock) own c.args.printed.now c.locks_before-at.result c.locks_before-at.ensures.point.0 c.requires.there
+    let xs = c.args.printed.now in
+    let i = c.locks_below-at.result in
+    found_from printed_cmp printed_order (is_lock own.lock) own xs i
+    (below_own xs c.locks_below-at.ensures.fit own c.key.result i c.key.ensures.fits c.key.ensures.key c.locks_below-at.ensures.bound c.locks_below-at.ensures.point.0) c.requires.there
 
 pub returns-clause-place : goal.returns-clause-place
 returns-clause-place c =

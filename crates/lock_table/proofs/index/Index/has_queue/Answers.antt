@@ -3,4 +3,4 @@ use Rattle.lock_table.proofs.Queued.{queued_where_turn}
 use Rattle.lock_table.proofs.index.Index.has_queue.Goals as goal
 
 pub returns : goal.returns
-returns c = c.is_some.ensures ∙ ap is_some c.head.ensures.head ∙ sym (queued_where_turn c.args.name c.args.self.now)
+returns c = c.is_some.ensures ∙ ap is_some c.head.ensures.head ∙ sym (queued_where_turn c.args.name.now c.args.self.now)

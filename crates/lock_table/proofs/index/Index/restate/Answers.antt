@@ -19,7 +19,7 @@ pub replace-requires-clause-there : goal.replace-requires-clause-there
 replace-requires-clause-there c =
     let own = c.args.own in
     let there : lock_in c.self.inside.numbers.items own.lock ≡ Some own =
-    numbers_find c.self.inside.printed c.self.inside.numbers.items c.self.invariant.0 own.lock ∙ ap (λ l. lock_in l own.lock) c.self.view_is ∙ c.requires in
+    numbers_find c.self.inside.printed c.self.inside.numbers.items c.self.invariant.0 own.lock ∙ ap (λ l. lock_in l own.lock) c.self.view_is ∙ c.requires.there in
     rw (c.with_state-new.ensures, there) refl
 
 pub put_in-requires-clause-sorted : goal.put_in-requires-clause-sorted
@@ -42,3 +42,6 @@ pub returns : goal.returns
 returns c =
     let new = in_state c.args.own c.args.state in
     placed_is c ∙ sym (shown_put c.self.inside.printed new c.self.invariant.0.sorted) ∙ ap (λ l. in_order printed_cmp (put l new)) c.self.view_is
+
+pub put_in-requires-clause-named : goal.put_in-requires-clause-named
+put_in-requires-clause-named c = c.requires.named ∙ sym (ap (λ (r : LockRecord). r.name) c.with_state-new.ensures)

@@ -10,7 +10,7 @@ pub take_away-requires-clause-there : goal.take_away-requires-clause-there
 take_away-requires-clause-there c =
     let own = c.args.own in
     let there : lock_in c.self.inside.numbers.items own.lock ≡ Some own =
-    numbers_find c.self.inside.printed c.self.inside.numbers.items c.self.invariant.0 own.lock ∙ ap (λ l. lock_in l own.lock) c.self.view_is ∙ c.requires in
+    numbers_find c.self.inside.printed c.self.inside.numbers.items c.self.invariant.0 own.lock ∙ ap (λ l. lock_in l own.lock) c.self.view_is ∙ c.requires.there in
     rw there refl
 
 pub invariant_of-self : goal.invariant_of-self
