@@ -14,12 +14,6 @@ pub fn is_ballot_of(host: u8, ballot: u64) -> bool
     ensures owned { IsTrue result ↔ IsBallotOf host ballot }
     ensures test { result ≡ Ballot.is_ballot_of host ballot }
 {
-    owns(host, ballot)
-}
-
-fn owns(host: u8, ballot: u64) -> bool
-    ensures { result ≡ Ballot.is_ballot_of host ballot }
-{
     1 <= ballot && ballot <= LAST_BALLOT && (ballot - 1) % HOSTS as u64 == host as u64
 }
 

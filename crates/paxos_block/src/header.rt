@@ -39,13 +39,8 @@ pub struct Header {
 
 /// Whether an image may have this header. Any cluster number will do.
 pub fn is_header(header: &Header) -> bool
-    ensures { IsTrue result ↔ IsHeader header.now }
-{
-    has_right_numbers(header)
-}
-
-fn has_right_numbers(header: &Header) -> bool
-    ensures { result ≡ Headers.is_header header.now }
+    ensures right { IsTrue result ↔ IsHeader header.now }
+    ensures test { result ≡ Headers.is_header header.now }
 {
     header.disk < header.disks
         && header.disks <= DISKS
@@ -85,7 +80,7 @@ fn is_right(disk: u8, long: u64, bytes: &[u8]) -> bool
 {
     let header = header_in(bytes);
     bytes[VERSION_AT] == VERSION
-        && has_right_numbers(&header)
+        && is_header(&header)
         && header.disk == disk
         && image_length(header.slots) == long
         && is_zero(&bytes[ZEROS_AT..])

@@ -1,5 +1,5 @@
 -- Lists that begin one another, and lists that grow by one.
-use Rattle.std.proofs.Common.{◌≡◌, ◌≤◌, ◌<◌, ℕ, zero, suc, List, [], ◌∷◌, ◌++◌, length, get_or, slice_get, map, Some, refl, sym, subst, ◌∙◌, arith}
+use Rattle.std.proofs.Common.{◌≡◌, ◌<◌, ℕ, zero, suc, List, [], ◌∷◌, ◌++◌, length, get_or, slice_get, map, Some, refl, sym, subst, arith}
 use Rattle.std.proofs.lemmas.List.{length-map, get_or-map}
 
 -- what holds of each element, and of one more behind them, holds of all
