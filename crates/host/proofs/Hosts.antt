@@ -566,3 +566,23 @@ module _ (c : Shape) (h : ℕ) (m : Memory) (p : Inside) (view : Kept) (shown : 
           readings = ap Some read;
           beat = tt;
         })
+
+-- AN ATTEMPT GOES ON
+
+-- The fields are what is kept, and an operation is carried out, with no beat under way.
+module _ (c : Shape) (h : ℕ) (m : Memory) (p : Inside) (view : Kept) (shown : kept_in p ≡ view) (resting : view.beat ≡ None) (busy : is_idle view ≡ false) (led : LeadsTo c h m view) where
+  pub attempt_known : LeadsTo c h m (kept_in p)
+  attempt_known = subst (λ (v : Kept). LeadsTo c h m v) (sym shown) led
+
+  no_beat : p.beat ≡ None
+  no_beat = ap (λ (v : Kept). v.beat) shown ∙ resting
+
+  pub attempt_doing : (t : Doing) × (m.doing ≡ Some t)
+  attempt_doing = busy_doing c h m p.learner attempt_known.learner (attempt_busy p.learner p.beat no_beat (ap is_idle shown ∙ busy))
+
+  -- the disk that is due is the learner's
+  pub attempt_due : (P : ℕ → Type 0) → P (due_in p.learner None).0 → P (due_call view).0
+  attempt_due P holds = subst (λ (v : Kept). P (due_call v).0) shown (subst (λ (b : Option beat_notes.Notes). P (due_in p.learner b).0) (sym no_beat) holds)
+
+  pub attempt_alone : (answer : Heard) → ((n : log.Memory) → learners.LeadsTo c h n p.learner → log_alone.IsAnsweredAlone c h n n.doing (record { disk = p.learner.attempt.disk; heard = answer })) → IsAnsweredAlone c h m m.doing (record { disk = (due_call view).0; heard = answer })
+  attempt_alone answer served = attempt_due (λ d. IsAnsweredAlone c h m m.doing (record { disk = d; heard = answer })) (alone c h m p.learner answer attempt_known.learner served)
