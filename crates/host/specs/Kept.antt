@@ -29,6 +29,7 @@ pub record Kept : Type 0 where
   pub beat : Option Notes
   pub readings : Option Readings
 
+-- no beat is under way
 abbrev pub has_no_beat : Option Notes → Bool
 has_no_beat None = true
 has_no_beat (Some notes) = false

@@ -12,7 +12,7 @@ use Rattle.world.specs.World.{IsRun}
 use Rattle.world.specs.Happens.{Event, run}
 use Rattle.world.specs.Chosen.{at, IsChosenAt, IsLog, IsSubmittedBefore, SaysAt, IsAcknowledgedAt, IsRecovery}
 
--- the one list begins with the other
+-- the second list begins with the first
 abbrev pub IsPrefix : {A : Type 0} → List A → List A → Type 0
 IsPrefix short long = short ≡ take (length short) long
 
