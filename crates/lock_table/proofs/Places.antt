@@ -60,6 +60,29 @@ times-itself q = ap (λ b. cond b 1 0) (itself q)
 pub last_below : (xs ys : List ℕ) (q n : ℕ) → ys ≡ xs ++ q ∷ [] → ((p : ℕ) → 1 ≤ times p ys → p < n) → q < n
 last_below xs ys q n is below = below q (omega (arith, times-last q q xs ys is, times-itself q))
 
+-- a record in place of the one at a place that is listed once
+set_once : (records : List LockRecord) (q d : ℕ) (new : LockRecord) (order : List ℕ) (i : ℕ) → q < length records → times q order ≤ 1 → i < length order → q ≡ get_or order i d
+    → at_places (set records q new) order ≡ set (at_places records order) i new
+set_once records q d new [] i inside once low is = absurd (omega (arith, low))
+set_once records q d new (p ∷ order) zero inside once low is =
+    let first : times q (p ∷ order) ≡ 1 + times q order = times-cons q p order ∙ ap (λ b. cond b 1 0 + times q order) (eq-eqb p q (sym is)) in
+    let head : at_place (set records q new) p ≡ new = ap (at_place (set records q new)) (sym is) ∙ get_or-set_same records q new no_lock inside in
+    let tail : at_places (set records q new) order ≡ at_places records order =
+    at_places-same (set records q new) records order (λ k listed. get_or-set_other records q k new no_lock (λ (same : k ≡ q). absurd (omega (arith, listed, ap {B = ℕ} (λ n. times n order) same, first, once)))) in
+    λ j. head j ∷ tail j
+set_once records q d new (p ∷ order) (suc i) inside once low is =
+    let rest = times-cons q p order in
+    let behind : i < length order = omega (arith, low) in
+    let own = get_or order i d in
+    let listed : 1 ≤ times own order = omega (arith, times-remove own order i d behind, times-itself own) in
+    let there : times q order ≡ times own order = ap {B = ℕ} (λ n. times n order) is in
+    let other : p ≢ q = λ same.
+    let both : times q (p ∷ order) ≡ 1 + times q order = rest ∙ ap (λ b. cond b 1 0 + times q order) (eq-eqb p q same) in
+    absurd (omega (arith, both, there, listed, once)) in
+    let head : at_place (set records q new) p ≡ at_place records p = get_or-set_other records q p new no_lock other in
+    let tail = set_once records q d new order i inside (omega (arith, rest, once)) behind is in
+    λ j. head j ∷ tail j
+
 module _ (records : List LockRecord) (order free : List ℕ) (sound : IsShelved records order free) where
   pub listed_place : (i d : ℕ) → i < length order → 1 ≤ times (get_or order i d) order
   listed_place i d inside = let p = get_or order i d in omega (arith, times-remove p order i d inside, times-itself p)
@@ -95,6 +118,18 @@ module _ (records : List LockRecord) (order free : List ℕ) (sound : IsShelved 
       ∙ ap (at_place records) place
       ∙ sym (get_or-map (at_place records) order i d r inside)
       ∙ ap (λ l. get_or l i r) is
+
+  -- a record in place of another
+  pub shown_set : (i q d : ℕ) (new : LockRecord) → i < length order → q ≡ get_or order i d → at_places (set records q new) order ≡ set (at_places records order) i new
+  shown_set i q d new inside is = set_once records q d new order i (omega (arith, place_inside i d inside, is)) (omega (arith, sound.apart q)) inside is
+
+  pub shelved_set : (q : ℕ) (new : LockRecord) → IsShelved (set records q new) order free
+  shelved_set q new =
+      let long : length (set records q new) ≡ length records = length-set records q new in
+      record {
+        apart = λ p. subst (λ (n : ℕ). times p order + (times p free + cond (nat_le n p) 1 0) ≤ 1) (sym long) (sound.apart p);
+        all = omega (arith, sound.all, long);
+      }
 
 -- a place that is given up
 pub shelved_remove : (records : List LockRecord) (order free next : List ℕ) (i d : ℕ) → IsShelved records order free → i < length order → next ≡ free ++ get_or order i d ∷ [] → IsShelved records (remove order i) next

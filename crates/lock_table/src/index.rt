@@ -1,4 +1,4 @@
-ghost use Rattle.std.specs.Prelude.{◌≡◌, ◌+◌, ◌<◌, ◌≤◌, ◌↔◌, [], IfOk, IfSome, IsTrue, filter, length, not, vec_len, vec_capacity};
+ghost use Rattle.std.specs.Prelude.{◌≡◌, ◌+◌, ◌<◌, ◌≤◌, ◌↔◌, [], IfOk, IfSome, IsTrue, filter, length, not};
 ghost use Rattle.lock_table.specs.Apply.{is_through};
 ghost use Rattle.lock_table.specs.Locks.{lock_in, without, put, has_queue, head_of, admits, in_state, settled, settled_all, IsDistinct};
 ghost use Rattle.lock_table.specs.Picture.{printed_cmp};
@@ -6,6 +6,7 @@ ghost use Rattle.lock_table.specs.Placed.{in_order};
 
 use crate::keys::SpelledName;
 use crate::locks::LOCKS;
+use crate::numbers::Numbers;
 use crate::record::{LockRecord, LockState};
 use crate::shelf::Shelf;
 use crate::{numbers, printed};
@@ -19,12 +20,11 @@ use std::marker::Model;
 #[derive(Drop)]
 pub struct Index {
     printed: Shelf,
-    numbers: Vec<LockRecord>,
+    numbers: Numbers,
 }
 
 impl Model for Index {
-    ghost use Rattle.std.specs.Prelude.{List, ◌≤◌, vec_capacity};
-    ghost use Rattle.lock_table.specs.declared.locks.TheConstants.{LOCKS};
+    ghost use Rattle.std.specs.Prelude.{List};
     ghost use Rattle.lock_table.specs.declared.record.LockRecord.{LockRecord};
     ghost use Rattle.lock_table.specs.Indexed.{IsIndexed};
 
@@ -32,7 +32,7 @@ impl Model for Index {
 
     ghost view = { λ index. index.printed };
 
-    ghost invariant = { λ index. IsIndexed index.printed index.numbers.items × (LOCKS ≤ vec_capacity index.numbers) };
+    ghost invariant = { λ index. IsIndexed index.printed index.numbers };
 }
 
 impl Index {
@@ -42,7 +42,7 @@ impl Index {
     {
         Ok(Index {
             printed: Shelf::new(alloc)?,
-            numbers: Vec::with_capacity(alloc, LOCKS)?,
+            numbers: Numbers::new(alloc)?,
         })
     }
 
@@ -133,7 +133,7 @@ impl Index {
         ensures left { self.new ≡ filter (λ r. not (is_through host r)) self.old }
         ensures printed { in_order printed_cmp self.new ≡ self.new }
     {
-        keep_others(&mut self.numbers, host);
+        numbers::keep_others(&mut self.numbers, host);
         printed::take_through(&mut self.printed, host);
     }
 
@@ -160,12 +160,4 @@ impl Index {
             self.settle(&SpelledName::new(*name));
         }
     }
-}
-
-fn keep_others(records: &mut Vec<LockRecord>, host: HostNumber)
-    ensures items { records.new.items ≡ filter (λ r. not (is_through host r)) records.old.items }
-    ensures len { vec_len records.new ≤ vec_len records.old }
-    ensures room { vec_capacity records.new ≡ vec_capacity records.old }
-{
-    records.retain(|record| record.host != host);
 }

@@ -154,7 +154,7 @@ impl Shelf {
 }
 
 /// Puts a record at a place where none stands.
-fn take_place(records: &mut Vec<LockRecord>, free: &mut Vec<u8>, new: LockRecord) -> u8
+pub fn take_place(records: &mut Vec<LockRecord>, free: &mut Vec<u8>, new: LockRecord) -> u8
     requires few { vec_len records.old ≤ LOCKS }
     requires room { vec_len records.old < LOCKS + vec_len free.old }
     requires reserved { LOCKS ≤ vec_capacity records.old }

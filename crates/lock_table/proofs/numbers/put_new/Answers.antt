@@ -1,11 +1,18 @@
-use Rattle.std.proofs.Common.{◌≡◌, insert, ap, ◌∙◌, rules}
+use Rattle.std.proofs.Common.{List, sym, ap, subst, ◌∙◌}
 use Rattle.std.specs.List.{filter}
+use Rattle.std.specs.List.Sorted.{IsSorted}
+use Rattle.lock_table.specs.declared.record.LockRecord.{LockRecord}
+use Rattle.lock_table.specs.Indexed.{number_cmp}
 use Rattle.lock_table.specs.Locks.{is_lock}
 use Rattle.lock_table.proofs.Shown.{lock_of}
-use Rattle.lock_table.proofs.Keyed.{insert_at_cut}
+use Rattle.lock_table.proofs.Keyed.{insert_at_cut, rising_insert}
 use Rattle.lock_table.proofs.numbers.put_new.Goals as goal
+
+pub returns-clause-rising : goal.returns-clause-rising
+returns-clause-rising c =
+    subst (λ (l : List LockRecord). IsSorted number_cmp l) (sym c.insert.ensures)
+    (rising_insert lock_of c.args.new c.args.numbers.now c.lower_numbers-place.result c.requires.rising c.lower_numbers-place.ensures.point)
 
 pub returns-clause-alike : goal.returns-clause-alike
 returns-clause-alike c = λ lock.
-    let next : c.insert.new.self.items ≡ insert c.args.numbers.now.items c.lower_numbers-place.result c.args.new = search rules in
-    ap (filter (is_lock lock)) next ∙ insert_at_cut lock_of c.args.new c.args.numbers.now.items c.lower_numbers-place.result c.requires.absent lock
+    ap (filter (is_lock lock)) c.insert.ensures ∙ insert_at_cut lock_of c.args.new c.args.numbers.now c.lower_numbers-place.result c.requires.absent lock

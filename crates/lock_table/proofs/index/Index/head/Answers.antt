@@ -13,10 +13,10 @@ returns-clause-there c =
     let xs = c.self.inside.printed in
     let is : c.head.result ≡ head_of xs c.args.name.now = c.head.ensures in
     if_some c.head.result (λ r. lock_in c.args.self.now r.lock ≡ Some r) (λ r e.
-    ap (λ l. lock_in l r.lock) (sym c.self.view_is) ∙ turn_by_number c.args.name.now xs r c.self.invariant.0.distinct (sym is ∙ e))
+    ap (λ l. lock_in l r.lock) (sym c.self.view_is) ∙ turn_by_number c.args.name.now xs r c.self.invariant.distinct (sym is ∙ e))
 
 pub returns-clause-printed : goal.returns-clause-printed
-returns-clause-printed c = subst (λ (l : List LockRecord). in_order printed_cmp l ≡ l) c.self.view_is (shown_sorted c.self.inside.printed c.self.invariant.0.sorted)
+returns-clause-printed c = subst (λ (l : List LockRecord). in_order printed_cmp l ≡ l) c.self.view_is (shown_sorted c.self.inside.printed c.self.invariant.sorted)
 
 pub returns-clause-named : goal.returns-clause-named
 returns-clause-named c =

@@ -9,8 +9,7 @@ use Rattle.lock_table.proofs.index.Index.lock_in.Goals as goal
 found : (c : goal.After-numbered) → c.numbered.result ≡ lock_in c.self.inside.printed c.args.lock
 found c =
     c.numbered.ensures
-    ∙ ap (λ l. lock_in l c.args.lock) c.deref.ensures.value
-    ∙ numbers_find c.self.inside.printed c.self.inside.numbers.items c.self.invariant.0 c.args.lock
+    ∙ numbers_find c.self.inside.printed c.self.inside.numbers c.self.invariant c.args.lock
 
 pub returns-clause-found : goal.returns-clause-found
 returns-clause-found c = found c ∙ ap (λ l. lock_in l c.args.lock) c.self.view_is
@@ -18,7 +17,7 @@ returns-clause-found c = found c ∙ ap (λ l. lock_in l c.args.lock) c.self.vie
 pub returns-clause-there : goal.returns-clause-there
 returns-clause-there c =
     if_some c.numbered.result (λ r. lock_in c.args.self.now r.lock ≡ Some r) (λ r e.
-    ap (λ l. lock_in l r.lock) (sym c.self.view_is) ∙ found_by_number (is_lock c.args.lock) c.self.inside.printed r c.self.invariant.0.distinct (sym (found c) ∙ e))
+    ap (λ l. lock_in l r.lock) (sym c.self.view_is) ∙ found_by_number (is_lock c.args.lock) c.self.inside.printed r c.self.invariant.distinct (sym (found c) ∙ e))
 
 pub returns-clause-printed : goal.returns-clause-printed
-returns-clause-printed c = subst (λ (l : List LockRecord). in_order printed_cmp l ≡ l) c.self.view_is (shown_sorted c.self.inside.printed c.self.invariant.0.sorted)
+returns-clause-printed c = subst (λ (l : List LockRecord). in_order printed_cmp l ≡ l) c.self.view_is (shown_sorted c.self.inside.printed c.self.invariant.sorted)

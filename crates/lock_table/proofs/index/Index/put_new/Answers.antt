@@ -9,13 +9,13 @@ use Rattle.lock_table.proofs.index.Index.put_new.Goals as goal
 
 pub put_new-requires-clause-absent : goal.put_new-requires-clause-absent
 put_new-requires-clause-absent c =
-    numbers_find c.self.inside.printed c.self.inside.numbers.items c.self.invariant.0 c.args.new.lock
+    numbers_find c.self.inside.printed c.self.inside.numbers c.self.invariant c.args.new.lock
     ∙ ap (λ l. lock_in l c.args.new.lock) c.self.view_is
     ∙ c.requires.absent
 
 pub put_new-requires-clause-room : goal.put_new-requires-clause-room
 put_new-requires-clause-room c =
-    let same = numbers_length c.self.inside.printed c.self.inside.numbers.items c.self.invariant.0 in
+    let same = numbers_length c.self.inside.printed c.self.inside.numbers c.self.invariant in
     let here = ap length c.self.view_is in
     omega (arith, same, here, c.requires.room)
 
@@ -24,15 +24,12 @@ placed_is c = c.put_in.ensures.items ∙ ap (placed printed_cmp c.args.new) (sym
 
 pub invariant_of-self : goal.invariant_of-self
 invariant_of-self c =
-    let here = ap length c.self.view_is in (
-      subst (λ (l : List LockRecord). IsIndexed l c.put_new.new.numbers.items) (sym (placed_is c))
-          (indexed_put c.self.inside.printed c.self.inside.numbers.items c.self.invariant.0 c.args.new c.put_new.new.numbers.items c.put_new.ensures.rising c.put_new.ensures.alike),
-      omega (arith, c.put_new.ensures.room),
-    )
+    subst (λ (l : List LockRecord). IsIndexed l c.put_new.new.numbers) (sym (placed_is c))
+    (indexed_put c.self.inside.printed c.self.inside.numbers c.self.invariant c.args.new c.put_new.new.numbers c.put_new.ensures.rising c.put_new.ensures.alike)
 
 pub returns : goal.returns
 returns c =
-    placed_is c ∙ sym (shown_put c.self.inside.printed c.args.new c.self.invariant.0.sorted) ∙ ap (λ l. in_order printed_cmp (put l c.args.new)) c.self.view_is
+    placed_is c ∙ sym (shown_put c.self.inside.printed c.args.new c.self.invariant.sorted) ∙ ap (λ l. in_order printed_cmp (put l c.args.new)) c.self.view_is
 
 pub put_in-requires-clause-room : goal.put_in-requires-clause-room
 put_in-requires-clause-room c = let here = ap length c.self.view_is in omega (arith, here, c.requires.room)

@@ -4,18 +4,16 @@ use Rattle.lock_table.proofs.Shown.{indexed_filter, numbers_find, numbers_distin
 use Rattle.lock_table.proofs.index.Index.take_away.Goals as goal
 
 pub take_away-requires-clause-distinct : goal.take_away-requires-clause-distinct
-take_away-requires-clause-distinct c = numbers_distinct c.self.inside.printed c.self.inside.numbers.items c.self.invariant.0
+take_away-requires-clause-distinct c = numbers_distinct c.self.inside.printed c.self.inside.numbers c.self.invariant
 
 pub take_away-requires-clause-there : goal.take_away-requires-clause-there
 take_away-requires-clause-there c =
     let own = c.args.own in
-    let there : lock_in c.self.inside.numbers.items own.lock ≡ Some own =
-    numbers_find c.self.inside.printed c.self.inside.numbers.items c.self.invariant.0 own.lock ∙ ap (λ l. lock_in l own.lock) c.self.view_is ∙ c.requires.there in
+    let there : lock_in c.self.inside.numbers own.lock ≡ Some own =
+    numbers_find c.self.inside.printed c.self.inside.numbers c.self.invariant own.lock ∙ ap (λ l. lock_in l own.lock) c.self.view_is ∙ c.requires.there in
     rw there refl
 
 pub invariant_of-self : goal.invariant_of-self
-invariant_of-self c = (
-  rw (c.take_out.ensures.items, c.take_away.ensures.items)
-      (indexed_filter c.self.inside.printed c.self.inside.numbers.items c.self.invariant.0 (λ r. not (is_lock c.args.own.lock r))),
-  omega (arith, c.take_away.ensures.room),
-)
+invariant_of-self c =
+    rw (c.take_out.ensures.items, c.take_away.ensures.items)
+    (indexed_filter c.self.inside.printed c.self.inside.numbers c.self.invariant (λ r. not (is_lock c.args.own.lock r)))
