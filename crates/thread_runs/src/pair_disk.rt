@@ -115,19 +115,26 @@ pub fn pair<'a, R: Clock>(
     ensures large { IfOk result (λ disks. All (λ d. image_length config.slots ≤ length d.disk.disk.bytes) disks.items) }
     ensures fresh { IfOk result (λ disks. All (λ d. cut (image_length config.slots) d.disk.disk ≡ fresh_disk (image_length config.slots)) disks.items) }
 {
-    larger_disks_serve();
-    let size = config.image_length() + MORE;
-    let first = PairDisk {
-        disk: SimDisk::new(alloc, size)?,
-        rt,
-        flags,
-        is_first: true,
-    };
-    let second = PairDisk {
-        disk: SimDisk::new(alloc, size)?,
-        rt,
-        flags,
-        is_first: false,
-    };
+    let first = pair_disk(rt, alloc, config, flags, true)?;
+    let second = pair_disk(rt, alloc, config, flags, false)?;
     Ok(vec![in alloc; first, second].map_err(AllocError::from)?)
+}
+
+fn pair_disk<'a, R: Clock>(
+    rt: &'a R,
+    alloc: Global,
+    config: Config,
+    flags: &'a Flags,
+    is_first: bool,
+) -> Result<PairDisk<'a, R>, NoMemory>
+    ensures large { IfOk result (λ d. image_length config.slots ≤ length d.disk.disk.bytes) }
+    ensures fresh { IfOk result (λ d. cut (image_length config.slots) d.disk.disk ≡ fresh_disk (image_length config.slots)) }
+{
+    larger_disks_serve();
+    Ok(PairDisk {
+        disk: SimDisk::new(alloc, config.image_length() + MORE)?,
+        rt,
+        flags,
+        is_first,
+    })
 }

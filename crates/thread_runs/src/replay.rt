@@ -1,4 +1,4 @@
-ghost use Rattle.std.specs.Prelude.{◌≡◌, ◌<◌, ◌≤◌, length};
+ghost use Rattle.std.specs.Prelude.{◌<◌, length};
 
 use crate::device_call::{answer, kind_of};
 use crate::same::{same_acks, same_commands, same_tables};
