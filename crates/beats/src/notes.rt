@@ -1,17 +1,17 @@
 // What a beat keeps of what it has heard, and how each answer changes it.
-ghost use Rattle.std.specs.Prelude.{◌≡◌, ◌<◌, ◌≤◌, ◌+◌, ◌-◌, ◌*◌, ℕ, true, false, List, [], Some, None, length, slice_set};
+ghost use Rattle.std.specs.Prelude.{◌≡◌, ◌<◌, ◌≤◌, ◌+◌, ◌-◌, ◌*◌, ℕ, true, false, [], Some, None};
 ghost use Rattle.torn_block.specs.declared.layout.TheConstants.{HOSTS, DISKS, ROW_LENGTH};
 ghost use Rattle.torn_block.specs.Damage.{block_of};
 ghost use Rattle.torn_block.specs.Plan.{IsReading};
 ghost use Rattle.paxos_block.specs.Places.{place_of, BeatOf, area_place};
 ghost use Rattle.phases.specs.Calls.{IsWithin, device_call_of};
 ghost use Rattle.phases.specs.Kept.{write_due};
-ghost use Rattle.heartbeat.specs.Beat.{area_said, counters_in};
+ghost use Rattle.heartbeat.specs.Beat.{counters_in};
 ghost use Rattle.beats.specs.Answers as answers;
 ghost use Rattle.beats.specs.Answers.{Answers, more};
 ghost use Rattle.beats.specs.Calls.{heard_of};
-ghost use Rattle.beats.specs.Kept.{IsSound, IsSameBeat, IsPassed, IsVisiting, Follows, FitsStage, call_due};
-ghost use Rattle.beats.specs.Status.{Setup, is_left, waits};
+ghost use Rattle.beats.specs.Kept.{IsSound, IsSameBeat, IsPassed, Follows, FitsStage, call_due};
+ghost use Rattle.beats.specs.Status.{Setup};
 
 use crate::end::End;
 use disk::Boot;

@@ -6,7 +6,7 @@ ghost use Rattle.attempt.specs.History.{Fits};
 ghost use Rattle.phases.specs.Calls as calls;
 ghost use Rattle.phases.specs.Calls.{call_of_need, IsWithin};
 ghost use Rattle.beats.specs.Answers.{Answered, on};
-ghost use Rattle.beats.specs.Kept.{IsSameBeat, LeadsTo, answer_of, call_due, end_of, end_of_status, readings_of};
+ghost use Rattle.beats.specs.Kept.{IsSameBeat, LeadsTo, answer_of, call_due, end_of, end_of_status};
 ghost use Rattle.beats.specs.Status.{Setup, status, next_call};
 
 use crate::end::End;

@@ -9,7 +9,7 @@ use Rattle.lock_command.specs.Command.{Fits as FitsCommand}
 use Rattle.torn_block.specs.declared.layout.TheConstants.{HOSTS}
 use Rattle.slot_log.specs.Shape.{Shape}
 use Rattle.host.specs.declared.answer.HostAnswer.{HostAnswer}
-use Rattle.host.specs.Host.{Host, Running, fresh, Operation, Memory, Doing, goes_on, begins, says, full_answer, starts_beat, is_idle_in, idles, is_stopped, said_of}
+use Rattle.host.specs.Host.{Host, Running, fresh, Operation, Memory, Doing, goes_on, begins, says, full_answer, starts_beat, is_idle, is_idle_in, idles, is_stopped, said_of}
 use Rattle.host.specs.Kept.{Kept, LeadsTo}
 use Rattle.world.specs.Entry.{Filled, Start, Stop, Submit, Recover, Beat, host_step, is_of}
 use Rattle.world.specs.World.{IsRun}
@@ -49,7 +49,7 @@ module _ (c : Shape) (own : Own) (core new : Kept) (before sub : Option Command)
     (others : (xs : List Receipt) → still xs e ≡ xs)
     (kept : IsKeptFor operation sub)
     (r : IsRunning c own core before)
-    (idle : is_idle_in r.memory r.memory.doing ≡ true)
+    (idle : is_idle r.memory ≡ true)
     (next : (c : Shape) (h : ℕ) (m : Memory) → LeadsTo c h m core → LeadsTo c h (goes_on c m operation tries) new) where
   is_begun : host_in c (adds own at e) ≡ Running (goes_on c r.memory operation tries)
   is_begun = host_adds c own at e ∙ ap (λ (s : Host). host_step c own.number s e) r.is ∙ step r.memory
@@ -72,7 +72,7 @@ module _ (c : Shape) (own : Own) (core new : Kept) (before sub : Option Command)
 
 -- A BEAT BEGINS
 
-module _ (c : Shape) (own : Own) (core new : Kept) (sub : Option Command) (at : ℕ) (r : IsRunning c own core sub) (idle : is_idle_in r.memory r.memory.doing ≡ true)
+module _ (c : Shape) (own : Own) (core new : Kept) (sub : Option Command) (at : ℕ) (r : IsRunning c own core sub) (idle : is_idle r.memory ≡ true)
     (next : (c : Shape) (h : ℕ) (m : Memory) → LeadsTo c h m core → LeadsTo c h (starts_beat m) new) where
   abbrev beat_entry : Filled
   beat_entry = Beat own.number

@@ -15,7 +15,7 @@ use Rattle.slot_log.specs.declared.outcome.Refusal.TheVariants as refusal
 use Rattle.disk.specs.Disk.{Call}
 use Rattle.host.specs.declared.answer.HostAnswer.{HostAnswer}
 use Rattle.host.specs.declared.answer.HostAnswer.TheVariants.{Ack, Recovered, Beaten, Refused}
-use Rattle.host.specs.Host.{Operation, Submitting, Recovering, Doing, Memory, Host, Stopped, Running, setup_of, says, begins, does, full_answer, goes_on, is_submitted, after_learning, learns, takes, tries_again, with_floor, by_status, with_heard, hears, hears_from, hears_beat, beat_by, beat_of, starts_beat, rests, is_idle_in, idles, said_of, learned_of, next_of, next_doing, next_beat, reply_after}
+use Rattle.host.specs.Host.{Operation, Submitting, Recovering, Doing, Memory, Host, Stopped, Running, setup_of, says, begins, does, full_answer, goes_on, is_submitted, after_learning, learns, takes, tries_again, with_floor, by_status, with_heard, hears, hears_from, hears_beat, beat_by, beat_of, starts_beat, rests, is_idle, is_idle_in, idles, said_of, learned_of, next_of, next_doing, next_beat, reply_after}
 use Rattle.world.specs.Entry.{Filled, Submit, Recover, Beat, Called, host_step}
 use Rattle.world_safety.proofs.Claims.Begun.{empty_recovers}
 use Rattle.cluster_tie.specs.Parts.{Placed, Own, own_of, adds}
@@ -201,7 +201,7 @@ goes_on_so c task old new carries goes = subst (Carries c task) (sym goes.is) (g
 -- AT THE BEGINNING
 
 -- no beat of an idle host is under way
-pub idle_rests : (m : Memory) → is_idle_in m m.doing ≡ true → m.beats.heard ≡ None
+pub idle_rests : (m : Memory) → is_idle m ≡ true → m.beats.heard ≡ None
 idle_rests m idle = go m.doing idle
   where
     by_beat : (o : Option (List beat_answers.Answered)) → rests o ≡ true → o ≡ None

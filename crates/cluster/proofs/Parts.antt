@@ -1,9 +1,9 @@
 -- A disk and a host of the world are what their own entries make of them, so a run goes on by their next call.
-use Rattle.std.proofs.Common.{◌≡◌, ◌<◌, ◌^◌, ℕ, true, false, List, [], ◌∷◌, ◌++◌, Some, refl, sym, ap, subst, ◌∙◌}
-use Rattle.disk.specs.Disk.{DiskState, Call, Answer, Step, Crashes}
+use Rattle.std.proofs.Common.{◌≡◌, ◌<◌, ◌^◌, ℕ, true, false, List, [], ◌∷◌, ◌++◌, sym, ap, subst, ◌∙◌}
+use Rattle.disk.specs.Disk.{DiskState, Answer, Step, Crashes}
 use Rattle.disk.specs.Steps.{WritesOn}
 use Rattle.slot_log.specs.Shape.{Shape}
-use Rattle.host.specs.Host.{Host, Stopped, next_of}
+use Rattle.host.specs.Host.{Stopped, next_of}
 use Rattle.world.specs.Entry.{Filled, Called, Crashed, Lost, disk_after, host_after}
 use Rattle.world.specs.Entry as entry
 use Rattle.world.specs.World.{world, opening_disk, IsRun}

@@ -2,7 +2,7 @@
 use Rattle.std.specs.Prelude.{◌+◌, ℕ, List, [], length, slice_range}
 use Rattle.disk.specs.Disk.{DiskState, Call, Attach, Read, Write, Sync}
 use Rattle.slot_log.specs.Shape.{Shape}
-use Rattle.world.specs.Entry.{Filled, Called, Crashed}
+use Rattle.world.specs.Entry.{Filled, Called}
 use Rattle.cluster_tie.specs.Parts.{Own}
 use Rattle.cluster.specs.Seat.{due_in}
 use Rattle.cluster.specs.Book.{BookState, answer_in}

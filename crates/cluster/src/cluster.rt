@@ -1,10 +1,10 @@
-ghost use Rattle.std.specs.Prelude.{◌≡◌, ◌⊎◌, ◌≤◌, ◌<◌, ◌++◌, ◌∷◌, [], ℕ, false, All, IsTrue, IfOk, IfErr, OnOk, OnErr, Some, None, vec_len, length, map, replicate};
+ghost use Rattle.std.specs.Prelude.{◌≡◌, ◌⊎◌, ◌≤◌, ◌<◌, false, All, IsTrue, IfOk, IfErr, OnOk, Some, None, vec_len, map, replicate};
 ghost use Rattle.disk.specs.Simulated.{fresh_disk};
 ghost use Rattle.paxos_block.specs.Places.{image_length};
-ghost use Rattle.host.specs.Host.{idles, said_of};
+ghost use Rattle.host.specs.Host.{idles};
 ghost use Rattle.world.specs.World.{opening_disk};
 ghost use Rattle.torn_block.specs.declared.layout.TheConstants.{HOSTS};
-ghost use Rattle.cluster_tie.specs.Parts.{adds, AreFresh};
+ghost use Rattle.cluster_tie.specs.Parts.{AreFresh};
 ghost use Rattle.cluster.specs.Book.{image_on};
 ghost use Rattle.cluster.specs.Cluster.{IsStep, Ends};
 ghost use Rattle.cluster.specs.Journal.{AreWaiting};

@@ -1,4 +1,4 @@
-ghost use Rattle.std.specs.Prelude.{◌≡◌, [], IfOk, IfErr, length};
+ghost use Rattle.std.specs.Prelude.{◌≡◌, IfOk, IfErr};
 ghost use Rattle.world.specs.Plain.{plains};
 ghost use Rattle.world.specs.World.{IsRun};
 ghost use Rattle.cluster_tie.specs.Parts.{of_host};

@@ -1,10 +1,10 @@
-ghost use Rattle.std.specs.Prelude.{◌≡◌, ◌⊎◌, ◌+◌, ◌-◌, ◌<◌, ◌≤◌, ◌↔◌, ◌++◌, ◌∷◌, [], ℕ, Some, None, Err, IfOk, IfErr, IfSome, OnOk, OnErr, length, vec_len, vec_capacity};
+ghost use Rattle.std.specs.Prelude.{◌≡◌, ◌⊎◌, ◌+◌, ◌-◌, ◌<◌, ◌≤◌, ◌↔◌, ◌++◌, ◌∷◌, [], Some, None, Err, IfOk, IfErr, IfSome, OnOk, OnErr, length, vec_len, vec_capacity};
 ghost use Rattle.host.specs.Host.{fresh};
 ghost use Rattle.host.specs.Kept.{LeadsTo};
 ghost use Rattle.world.specs.Entry.{Start};
 ghost use Rattle.world.specs.Plain.{plains};
 ghost use Rattle.world.specs.World.{IsRun};
-ghost use Rattle.cluster_tie.specs.Parts.{own_of, adds};
+ghost use Rattle.cluster_tie.specs.Parts.{own_of};
 ghost use Rattle.cluster.specs.Journal.{AreWaiting};
 
 use crate::fault::HostFault;

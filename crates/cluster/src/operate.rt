@@ -1,5 +1,5 @@
-ghost use Rattle.std.specs.Prelude.{◌≡◌, ◌⊎◌, ◌≤◌, ◌+◌, ℕ, true, false, length, IfOk, IfErr, OnOk, OnErr};
-ghost use Rattle.host.specs.Host.{idles, learned_of};
+ghost use Rattle.std.specs.Prelude.{◌≡◌, ◌⊎◌, ◌≤◌, ◌+◌, true, false, length, IfOk, IfErr, OnOk, OnErr};
+ghost use Rattle.host.specs.Host.{idles};
 ghost use Rattle.world.specs.Entry.{Submit, Recover, Beat};
 ghost use Rattle.cluster.specs.Cluster.{GoesOn};
 ghost use Rattle.cluster.specs.Operations.{HasAnswered, CarriesOne, Fails, IsRefusedBy, Operates, Restarts, Stops};

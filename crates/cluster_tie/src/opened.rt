@@ -1,4 +1,4 @@
-ghost use Rattle.std.specs.Prelude.{◌≡◌, ◌<◌, [], length, IfOk, OnOk};
+ghost use Rattle.std.specs.Prelude.{◌≡◌, ◌<◌, [], IfOk, OnOk};
 ghost use Rattle.torn_block.specs.declared.layout.TheConstants.{HOSTS};
 ghost use Rattle.cluster_tie.specs.Parts.{AreFresh};
 ghost use Rattle.cluster_tie.specs.View.{keeper, all_parts, host_parts};

@@ -1,4 +1,4 @@
-ghost use Rattle.std.specs.Prelude.{◌≡◌, ◌≤◌, ◌<◌, ℕ, Some, IfOk, IfErr, IfSome, length, slice_get};
+ghost use Rattle.std.specs.Prelude.{◌≡◌, ◌<◌, ℕ, Some, IfOk, IfErr, IfSome, length, slice_get};
 ghost use Rattle.dlm_images.specs.Operations.{IsSmall};
 ghost use Rattle.dlm_images.specs.SetFaults.{MayRefuse};
 ghost use Rattle.disk.specs.FileStates.{FileState};

@@ -1,4 +1,4 @@
-ghost use Rattle.std.specs.Prelude.{◌≡◌, ◌≢◌, ◌<◌, ◌≤◌, ◌↔◌, IfOk, IfErr, IsTrue, length, None};
+ghost use Rattle.std.specs.Prelude.{◌<◌, ◌≤◌, ◌↔◌, IfOk, IfErr, IsTrue, length, None};
 ghost use Rattle.dlm_images.specs.Sets.{IsSameSet, IsSetOf};
 ghost use Rattle.dlm_images.specs.SetFaults.{HasSetFault};
 ghost use Rattle.torn_block.specs.declared.layout.TheConstants.{DISKS};

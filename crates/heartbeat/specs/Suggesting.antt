@@ -1,5 +1,5 @@
 -- The host that two readings of the heartbeat areas suggest.
-use Rattle.std.specs.Prelude.{◌==◌, ◌*◌, ℕ, Bool, false, not, List, length, nat_lt, slice_index, Option, Some, None}
+use Rattle.std.specs.Prelude.{◌==◌, ◌*◌, ℕ, Bool, false, not, List, length, nat_lt, slice_index, Option, Some}
 use Rattle.std.specs.List.{count_by, find, range_with_len, zip}
 use Rattle.std.specs.Option.{unwrap_or}
 use Rattle.torn_block.specs.declared.layout.TheConstants.{HOSTS}

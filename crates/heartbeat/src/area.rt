@@ -1,4 +1,4 @@
-ghost use Rattle.std.specs.Prelude.{◌≡◌, ◌≤◌, ◌<◌, ◌↔◌, ℕ, length, IfOk, OnOk, OnErr, IsErr, Some, None};
+ghost use Rattle.std.specs.Prelude.{◌≡◌, ◌<◌, ◌↔◌, length, IfOk, OnOk, OnErr, IsErr, Some, None};
 ghost use Rattle.torn_block.specs.Damage;
 ghost use Rattle.torn_block.specs.Damage.{IsSoundBlock, IsDamagedBlock};
 ghost use Rattle.heartbeat.specs.Beat;

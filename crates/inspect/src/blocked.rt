@@ -1,4 +1,5 @@
-ghost use Rattle.std.specs.Prelude.{◌≡◌, ℕ, false};
+ghost use Rattle.std.specs.Prelude.{◌≡◌, ◌||◌, ℕ, false};
+ghost use Rattle.lock_table.specs.State.{is_converting, is_waiting};
 ghost use Rattle.lock_table.specs.declared.record.LockRecord.{LockRecord};
 ghost use Rattle.inspect.specs.Blocked.{is_held_against, in_one_queue, is_in_the_way, is_blocked_by};
 
@@ -39,7 +40,9 @@ fn in_one_queue(x: &LockState, y: &LockState) -> bool
 
 /// Whether the lock wants what it does not hold.
 pub fn wants(x: &LockRecord) -> bool
-    ensures { result ≡ false → (i j : ℕ) (y : LockRecord) → is_blocked_by i x.now j y ≡ false }
+    ensures wants { result ≡ (is_converting x.now.state || is_waiting x.now.state) }
+    // So a lock that wants nothing is blocked by nobody.
+    ensures blocked { result ≡ false → (i j : ℕ) (y : LockRecord) → is_blocked_by i x.now j y ≡ false }
 {
     !matches!(x.state, LockState::Granted(_))
 }

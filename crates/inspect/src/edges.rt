@@ -1,4 +1,4 @@
-ghost use Rattle.std.specs.Prelude.{◌≡◌, ◌⊎◌, ◌+◌, ◌*◌, ◌<◌, ◌≤◌, true, false, ℕ, Some, length, slice_get, slice_index_or};
+ghost use Rattle.std.specs.Prelude.{◌≡◌, ◌⊎◌, ◌+◌, ◌*◌, ◌<◌, ◌≤◌, true, false, ℕ, Some, length, slice_get};
 ghost use Rattle.lock_table.specs.declared.record.LockRecord.{LockRecord};
 ghost use Rattle.inspect.specs.Blocked.{IsBlockedBy};
 ghost use Rattle.inspect.specs.Marks.{IsRun, Marked, MarksPair, MarksRun};

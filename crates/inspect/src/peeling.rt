@@ -1,4 +1,4 @@
-ghost use Rattle.std.specs.Prelude.{◌≡◌, ◌<◌, ◌≤◌, ◌↔◌, true, false, ℕ, IsTrue, IfNone, IfSome, slice_index_or, length};
+ghost use Rattle.std.specs.Prelude.{◌≡◌, ◌<◌, true, false, ℕ, IfNone, IfSome, length};
 ghost use Rattle.inspect.specs.declared.verdict.TheConstants.{CLIENT_NUMBERS};
 ghost use Rattle.inspect.specs.Peeled.{IsPeeled, AreHeldUp, IsHeldUp, is_left};
 

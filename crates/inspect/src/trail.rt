@@ -1,4 +1,4 @@
-ghost use Rattle.std.specs.Prelude.{◌≡◌, ◌<◌, ◌≤◌, true, false, ℕ, All, IfSome, IfNone, length, slice_index, slice_index_or};
+ghost use Rattle.std.specs.Prelude.{◌≡◌, ◌<◌, ◌≤◌, true, ℕ, All, IfSome, IfNone, length, slice_index, slice_index_or};
 ghost use Rattle.inspect.specs.Blocked.{IsCycle};
 ghost use Rattle.inspect.specs.Marks.{Marked};
 ghost use Rattle.inspect.specs.Peeled.{AreHeldUp, is_left};

@@ -45,7 +45,7 @@ pub fn run(alloc: Global, config: Config, events: &[Event]) -> Result<Report, No
     ensures answers { IfOk result (λ report. map line_of report ≡ answers config (events_of events.now)) }
     ensures pictures { IfOk result (λ report. All (IsPicturedIn config (events_of events.now)) report) }
     ensures one_log { IfOk result (λ report. TellsOneLog config (events_of events.now) report) }
-    // A submission whose host is left alone is served, within seventeen calls a disk and slot.
+    // Of these events, whatever is listed: a submission whose host is left alone is served, within seventeen calls a disk and slot.
     ensures alone { IfOk result (λ _. ServesAlone config (run config (events_of events.now))) }
 {
     let _disks = config.disks();

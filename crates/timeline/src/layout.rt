@@ -20,6 +20,10 @@ const FOOT: u64 = 50;
 const LEAST_WIDTH: u64 = 640;
 /// No place of a picture is further from its corner.
 const FAR: u64 = 10_000_000;
+/// No host's lane begins further down.
+const LOWEST_HOST: u64 = 20_000;
+/// No disk's lane begins further down, nor the foot.
+const LOWEST_DISK: u64 = 40_000;
 
 /// The places of a picture: a lane for each host and below them one for each disk, and a column for each moment.
 #[derive(Clone, Copy, Debug)]
@@ -69,21 +73,21 @@ impl Layout {
 
     /// The upper side of a host's calls.
     pub fn host(&self, host: u8) -> u64
-        ensures { result ≤ 20000 }
+        ensures { result ≤ LOWEST_HOST }
     {
         TOP + HOST_LANE * u64::from(host)
     }
 
     /// The upper side of a disk's calls.
     pub fn disk(&self, disk: u8) -> u64
-        ensures { result ≤ 40000 }
+        ensures { result ≤ LOWEST_DISK }
     {
         self.host(self.hosts) + DISK_LANE * u64::from(disk)
     }
 
     /// Where the numbers of events stand.
     pub fn foot(&self) -> u64
-        ensures { result ≤ 40000 }
+        ensures { result ≤ LOWEST_DISK }
     {
         self.disk(self.disks)
     }

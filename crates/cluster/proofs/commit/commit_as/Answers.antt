@@ -2,7 +2,7 @@ use Rattle.std.proofs.Common.{◌≡◌, ℕ, ◌<◌, ◌++◌, ◌∷◌, [], 
 use Rattle.disk.specs.Disk.{Call, Answer}
 use Rattle.phases.specs.Calls.{call_of_need}
 use Rattle.slot_log.specs.Shape.{Shape}
-use Rattle.host.specs.Host.{Memory, hears_from, is_idle_in}
+use Rattle.host.specs.Host.{Memory, hears_from, is_idle}
 use Rattle.host.specs.Kept.{LeadsTo}
 use Rattle.world.specs.Entry.{Filled, disk_step}
 use Rattle.world.specs.Plain.{plain, plains, kind_of}
@@ -58,7 +58,7 @@ module _ (g : _) (c : goal.After-book-1 g) where
       (λ i. ((ap (λ (p : ℕ × Call). p.0) (sym c.call.ensures.due ∙ sym due)) i, c.heard-heard.ensures.answer i))
       (c.hear.ensures.leads s h m leads)
 
-  at_work : is_idle_in c.seat.invariant.running.memory c.seat.invariant.running.memory.doing ≡ false
+  at_work : is_idle c.seat.invariant.running.memory ≡ false
   at_work = busy shape own c.seat.inside.core c.seat.inside.submitting c.seat.invariant.running book.own.number made.due
 
   new_is : adds own (length log) (called_by shape own book c.args.touched.outcome) ≡ c.append.new.host

@@ -1,4 +1,4 @@
-use Rattle.std.proofs.Common.{◌≡◌, ℕ, ◌<◌, List, get_or}
+use Rattle.std.proofs.Common.{◌≡◌, ℕ, ◌<◌, get_or}
 use Rattle.cluster_tie.specs.Parts.{Own, of_host}
 use Rattle.cluster.proofs.finish.meet_all.Given as goal
 

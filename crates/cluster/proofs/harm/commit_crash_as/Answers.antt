@@ -1,4 +1,4 @@
-use Rattle.std.proofs.Common.{rules, ◌≡◌, ℕ, ◌+◌, ◌-◌, ◌≤◌, ◌<◌, ◌^◌, ◌++◌, ◌∷◌, [], Some, None, List, Option, length, refl, sym, ap, subst, ◌∙◌, arith, false}
+use Rattle.std.proofs.Common.{◌≡◌, ℕ, ◌<◌, ◌^◌, ◌++◌, ◌∷◌, [], None, List, Option, length, sym, ap, subst, ◌∙◌, arith, false}
 use Rattle.disk.specs.Disk.{DiskState, Crashes}
 use Rattle.disk.specs.Filling.{filled}
 use Rattle.disk.specs.Simulated.{SimState, crashed}
@@ -16,7 +16,7 @@ use Rattle.cluster.specs.Book.{BookState, disk_in, image_on, IsFollowedBy}
 use Rattle.cluster.specs.declared.touched.Outcome.{Outcome}
 use Rattle.cluster.proofs.Adding.{disk_adds}
 use Rattle.cluster.proofs.Journals.{plains_more}
-use Rattle.cluster.proofs.Parts.{crashes, loses}
+use Rattle.cluster.proofs.Parts.{crashes}
 use Rattle.cluster.proofs.harm.commit_crash_as.Goals as goal
 use Rattle.cluster.proofs.harm.commit_crash_as.Goals.{After-crash}
 

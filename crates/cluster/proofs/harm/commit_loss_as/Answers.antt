@@ -1,11 +1,10 @@
-use Rattle.std.proofs.Common.{rules, ◌≡◌, ℕ, ◌+◌, ◌-◌, ◌≤◌, ◌<◌, ◌++◌, ◌∷◌, [], Some, None, List, Option, length, refl, sym, ap, subst, ◌∙◌, arith, false}
+use Rattle.std.proofs.Common.{◌≡◌, ℕ, ◌<◌, ◌++◌, ◌∷◌, [], None, List, Option, length, sym, ap, subst, ◌∙◌, arith, false}
 use Rattle.disk.specs.Disk.{DiskState, lost}
-use Rattle.disk.specs.Filling.{filled}
 use Rattle.disk.specs.Simulated.{SimState}
 use Rattle.disk.specs.Cut.{HasFirst}
 use Rattle.paxos_block.specs.Places.{image_length}
 use Rattle.slot_log.specs.Shape.{Shape}
-use Rattle.world.specs.Entry.{Filled, Lost, disk_step, crashed_to}
+use Rattle.world.specs.Entry.{Filled, Lost, disk_step}
 use Rattle.world.specs.Plain.{plain, plains}
 use Rattle.world.specs.World.{IsRun}
 use Rattle.world.specs.declared.entry.Entry.{Entry}
@@ -15,7 +14,7 @@ use Rattle.cluster.specs.Book.{BookState, disk_in, image_on, IsFollowedBy}
 use Rattle.cluster.specs.declared.touched.Outcome.{Outcome}
 use Rattle.cluster.proofs.Adding.{disk_adds}
 use Rattle.cluster.proofs.Journals.{plains_more}
-use Rattle.cluster.proofs.Parts.{crashes, loses}
+use Rattle.cluster.proofs.Parts.{loses}
 use Rattle.cluster.proofs.harm.commit_loss_as.Goals as goal
 use Rattle.cluster.proofs.harm.commit_loss_as.Goals.{After-lose}
 

@@ -1,4 +1,3 @@
-use Rattle.std.proofs.Common.{rules, ◌≡◌}
 use Rattle.cluster.proofs.Operating.{goes_on_so}
 use Rattle.cluster.proofs.cluster.Cluster.resume.Goals as goal
 

@@ -1,14 +1,13 @@
-use Rattle.std.proofs.Common.{rules, ◌≡◌, ◌+◌, ◌<◌, ◌≤◌, ◌++◌, ◌∷◌, [], ℕ, None, false, List, length, refl, sym, ap, subst, ◌∙◌, arith}
+use Rattle.std.proofs.Common.{◌≡◌, ◌<◌, ◌++◌, ◌∷◌, [], ℕ, None, false, List, length, sym, ap, subst, ◌∙◌, arith}
 use Rattle.torn_block.specs.declared.layout.TheConstants.{HOSTS}
 use Rattle.slot_log.specs.Shape.{Shape}
 use Rattle.host.specs.Host.{fresh, is_stopped}
 use Rattle.host.specs.Kept.{LeadsTo}
 use Rattle.world.specs.Entry.{Filled, Start, Stop}
-use Rattle.world.specs.Plain.{plain, plains}
+use Rattle.world.specs.Plain.{plains}
 use Rattle.world.specs.World.{IsRun}
-use Rattle.world.specs.declared.entry.Entry.{Entry}
 use Rattle.world.specs.declared.entry.Entry.TheVariants as kept
-use Rattle.cluster_tie.specs.Parts.{Own, own_of, adds, of_host}
+use Rattle.cluster_tie.specs.Parts.{Own, adds}
 use Rattle.cluster.specs.Receipts.{receipts_of}
 use Rattle.cluster.specs.Seat.{host_in, IsRunning}
 use Rattle.cluster.specs.declared.receipt.Receipt.{Receipt}

@@ -1,4 +1,4 @@
-use Rattle.std.proofs.Common.{rules, ◌≡◌, ◌+◌, ◌<◌, ◌≤◌, ◌++◌, ◌∷◌, [], ℕ, Some, None, List, length, refl, sym, ap, subst, ◌∙◌, arith}
+use Rattle.std.proofs.Common.{◌≡◌, ◌++◌, ◌∷◌, [], ℕ, None, List, length, refl, sym, ap, subst, ◌∙◌, arith}
 use Rattle.slot_log.specs.Shape.{Shape}
 use Rattle.host.specs.Host.{fresh}
 use Rattle.host.specs.Kept.{LeadsTo}
@@ -6,7 +6,6 @@ use Rattle.world.specs.Entry.{Filled, Start}
 use Rattle.world.specs.Plain.{plain, plains}
 use Rattle.world.specs.World.{IsRun}
 use Rattle.world.specs.declared.entry.Entry.{Entry}
-use Rattle.world.specs.declared.entry.Entry.TheVariants as kept
 use Rattle.cluster_tie.specs.Parts.{Own, own_of, adds, of_host}
 use Rattle.cluster.specs.Receipts.{receipts_of}
 use Rattle.cluster.specs.Seat.{IsRunning}

@@ -1,12 +1,8 @@
-use Rattle.std.proofs.Common.{rules, ◌≡◌, ◌≤◌, ◌++◌, ◌∷◌, [], true, Some, ℕ, List, Option, length, refl, sym, ap, subst, ◌∙◌, arith}
-use Rattle.lock_command.specs.declared.command.Command.{Command}
-use Rattle.host.specs.Host.{Submitting, Memory, goes_on, idles, is_idle_in}
-use Rattle.host.specs.Kept.{LeadsTo}
-use Rattle.slot_log.specs.Shape.{Shape}
+use Rattle.std.proofs.Common.{◌≡◌, ◌++◌, ◌∷◌, [], Some, length, refl, sym, ap, subst, ◌∙◌, arith}
+use Rattle.host.specs.Host.{Submitting, idles}
 use Rattle.world.specs.Entry.{Filled, Submit}
-use Rattle.world.specs.Plain.{plain, plains}
+use Rattle.world.specs.Plain.{plains}
 use Rattle.world.specs.World.{IsRun}
-use Rattle.world.specs.declared.entry.Entry.{Entry}
 use Rattle.world.specs.declared.entry.Entry.TheVariants as kept
 use Rattle.cluster_tie.specs.Parts.{Own, adds}
 use Rattle.cluster.specs.Receipts.{receipts_of}

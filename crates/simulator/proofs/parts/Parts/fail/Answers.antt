@@ -1,8 +1,9 @@
-use Rattle.std.proofs.Common.{◌<◌, ℕ, Some, None, length, sym, ap, ◌∙◌, subst, arith}
+use Rattle.std.proofs.Common.{◌<◌, ℕ, Some, None, length, sym, ap, ◌∙◌, subst, arith, List}
+use Rattle.std.proofs.Math.ListN.{set}
 use Rattle.disk.specs.declared.fault.DiskFault.{DiskFault}
 use Rattle.torn_block.specs.declared.layout.TheConstants.{HOSTS}
-use Rattle.world.specs.Happens.{FailCall}
-use Rattle.simulator.specs.Kept.{Brings}
+use Rattle.world.specs.Happens.{Event, FailCall}
+use Rattle.simulator.specs.Kept.{Kept, LeadsTo, Brings}
 use Rattle.simulator.proofs.Changes.{reached, seen, unseen}
 use Rattle.simulator.proofs.Owed as owed
 use Rattle.simulator.proofs.Owed.{kept_in, read_at}
@@ -10,7 +11,7 @@ use Rattle.disk.specs.Disk.{Fault}
 use Rattle.disk.specs.declared.fault.DiskFault.TheVariants.{Failed}
 use Rattle.disk.specs.Simulated.{SimState}
 use Rattle.phases.specs.Calls.{device_call_of, IsWithin}
-use Rattle.world.specs.Entry.{called_by}
+use Rattle.world.specs.Entry.{Filled, called_by}
 use Rattle.world.specs.Happens.{spread_over}
 use Rattle.simulator.proofs.parts.Parts.fail.Goals as goal
 
@@ -76,48 +77,39 @@ spoil-requires-clause-range c =
     (owed.in_range old c.self.invariant i c.in-Some.core found c.from.result c.index_mut-disk.result.now c.call-need.result.call inside c.index_mut-disk.ensures.value
     c.call-need.ensures.range)
 
+-- what the call brings
+module _ (c : goal.After-self-3-1) where
+  abbrev event : Event
+  event = FailCall c.args.host c.args.given.now
+
+  abbrev old : Kept
+  old = kept_in c.self.inside
+
+  abbrev new : Kept
+  new = record { shape = old.shape; disks = set old.disks c.from.result c.spoil.new.disk; hosts = set old.hosts c.from-at.result (Some c.hear.new.self) }
+
+  brings : (log : List Filled) → LeadsTo log old → Brings log event old new c.answer_of.result
+  brings =
+      let i = c.from-at.result in
+      let same = c.from-at.ensures ∙ c.get.ensures.value in
+      let within : i < HOSTS = omega (arith, c.from-at.ensures, c.get.ensures.range) in
+      let here : i < length old.hosts = omega (arith, c.from-at.ensures, c.get.ensures.range, c.self.invariant.leads.shows.host_count) in
+      let found = read_at old i c.index_mut.result.now here c.index_mut.ensures.value ∙ c.in-Some.is in
+      let inside = subst (λ (k : ℕ). k < old.shape.disks) (sym c.from.ensures)
+      (owed.on_disk old c.self.invariant i c.in-Some.core found c.call-need.result.disk c.call-need.ensures.disk) in
+      let clear = sym c.refusal_of.ensures.refusal ∙ owed.none_of c.refusal_of.result (sym c.is_some.ensures ∙ c.if-is_some.false) in
+      let left =
+      c.spoil.ensures.disk
+      ∙ ap (λ (s : SimState). record s
+      { disk = called_by s.disk (device_call_of c.call-need.result.call) (Fault Failed) (spread_over (device_call_of c.call-need.result.call) c.args.given.now) })
+      c.refusal_of.ensures.same in
+      let as_long = c.spoil.ensures.size ∙ ap (λ (s : SimState). length s.disk.bytes) c.refusal_of.ensures.same in
+      owed.fails old c.args.host i same within c.in-Some.core c.call-need.result c.from.result c.index_mut-disk.result.now found c.call-need.ensures.next
+      c.call-need.ensures.due c.from.ensures inside c.index_mut-disk.ensures.value c.args.given.now c.hear.new.self c.spoil.new.disk c.answer_of.result c.requires clear left
+      as_long c.hear.ensures.leads c.answer_of.ensures
+
 pub invariant_of-self-2 : goal.invariant_of-self-2
-invariant_of-self-2 c =
-    let old = kept_in c.self.inside in
-    let i = c.from-at.result in
-    let event = FailCall c.args.host c.args.given.now in
-    let same = c.from-at.ensures ∙ c.get.ensures.value in
-    let within : i < HOSTS = omega (arith, c.from-at.ensures, c.get.ensures.range) in
-    let here : i < length old.hosts = omega (arith, c.from-at.ensures, c.get.ensures.range, c.self.invariant.leads.shows.host_count) in
-    let found = read_at old i c.index_mut.result.now here c.index_mut.ensures.value ∙ c.in-Some.is in
-    let inside = subst (λ (k : ℕ). k < old.shape.disks) (sym c.from.ensures)
-    (owed.on_disk old c.self.invariant i c.in-Some.core found c.call-need.result.disk c.call-need.ensures.disk) in
-    let clear = sym c.refusal_of.ensures.refusal ∙ owed.none_of c.refusal_of.result (sym c.is_some.ensures ∙ c.if-is_some.false) in
-    let left =
-    c.spoil.ensures.disk
-    ∙ ap (λ (s : SimState). record s
-    { disk = called_by s.disk (device_call_of c.call-need.result.call) (Fault Failed) (spread_over (device_call_of c.call-need.result.call) c.args.given.now) })
-    c.refusal_of.ensures.same in
-    let as_long = c.spoil.ensures.size ∙ ap (λ (s : SimState). length s.disk.bytes) c.refusal_of.ensures.same in
-    reached event old _ c.answer_of.result c.self.invariant
-    (owed.fails old c.args.host i same within c.in-Some.core c.call-need.result c.from.result c.index_mut-disk.result.now found c.call-need.ensures.next
-    c.call-need.ensures.due c.from.ensures inside c.index_mut-disk.ensures.value c.args.given.now c.hear.new.self c.spoil.new.disk c.answer_of.result c.requires clear left
-    as_long c.hear.ensures.leads c.answer_of.ensures)
+invariant_of-self-2 c = reached (event c) (old c) (new c) c.answer_of.result c.self.invariant (brings c)
 
 pub returns : goal.returns
-returns c =
-    let old = kept_in c.self.inside in
-    let i = c.from-at.result in
-    let event = FailCall c.args.host c.args.given.now in
-    let same = c.from-at.ensures ∙ c.get.ensures.value in
-    let within : i < HOSTS = omega (arith, c.from-at.ensures, c.get.ensures.range) in
-    let here : i < length old.hosts = omega (arith, c.from-at.ensures, c.get.ensures.range, c.self.invariant.leads.shows.host_count) in
-    let found = read_at old i c.index_mut.result.now here c.index_mut.ensures.value ∙ c.in-Some.is in
-    let inside = subst (λ (k : ℕ). k < old.shape.disks) (sym c.from.ensures)
-    (owed.on_disk old c.self.invariant i c.in-Some.core found c.call-need.result.disk c.call-need.ensures.disk) in
-    let clear = sym c.refusal_of.ensures.refusal ∙ owed.none_of c.refusal_of.result (sym c.is_some.ensures ∙ c.if-is_some.false) in
-    let left =
-    c.spoil.ensures.disk
-    ∙ ap (λ (s : SimState). record s
-    { disk = called_by s.disk (device_call_of c.call-need.result.call) (Fault Failed) (spread_over (device_call_of c.call-need.result.call) c.args.given.now) })
-    c.refusal_of.ensures.same in
-    let as_long = c.spoil.ensures.size ∙ ap (λ (s : SimState). length s.disk.bytes) c.refusal_of.ensures.same in
-    seen event old c.args.self.now _ c.answer_of.result c.self.view_is
-    (owed.fails old c.args.host i same within c.in-Some.core c.call-need.result c.from.result c.index_mut-disk.result.now found c.call-need.ensures.next
-    c.call-need.ensures.due c.from.ensures inside c.index_mut-disk.ensures.value c.args.given.now c.hear.new.self c.spoil.new.disk c.answer_of.result c.requires clear left
-    as_long c.hear.ensures.leads c.answer_of.ensures)
+returns c = seen (event c) (old c) c.args.self.now (new c) c.answer_of.result c.self.view_is (brings c)
