@@ -1,4 +1,4 @@
-ghost use Rattle.std.specs.Prelude.{◌≡◌, ◌↔◌, ◌⊎◌, IsTrue};
+ghost use Rattle.std.specs.Prelude.{◌≡◌, ◌↔◌, IsTrue};
 ghost use Rattle.world.specs.Headline.{IsPrefix};
 ghost use Rattle.race.specs.Agreement.{Agree, AgreesWith, AllAgree};
 
