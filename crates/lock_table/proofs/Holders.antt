@@ -1,32 +1,26 @@
 -- Who holds a mode of a name, where the locks stand in printed order.
 use Rattle.std.proofs.Common.{◌≡◌, ◌≤◌, ◌<◌, ℕ, Bool, true, false, not, ◌&&◌, ◌||◌, List, [], ◌∷◌, ◌++◌, length, get_or, take, drop, refl, sym, ap, ◌∙◌, ◌+◌, inl, inr, arith}
 use Rattle.std.specs.List.{list_any, AllWithin}
-use Rattle.std.specs.List.Sorted.{IsSorted, IsPartitionedBy}
 use Rattle.std.specs.Ordering.{is_lt, nat_cmp, ordering_then, ordering_reverse}
-use Rattle.std.specs.Cmp.{IsStrictWeakOrder}
 use Rattle.std.specs.Cmp.Lexicographic.{slice_cmp}
 use Rattle.std.specs.declared.cmp.Ordering.{Ordering}
 use Rattle.std.specs.declared.cmp.Ordering.TheVariants.{Less, Equal, Greater}
 use Rattle.std.proofs.lemmas.Cmp.{nat_list_cmp_total}
 use Rattle.std.proofs.lemmas.Bool.{cases_lt, le-ltb}
 use Rattle.std.proofs.lemmas.List.{take-append-drop, drop_more}
-use Rattle.std.proofs.lemmas.List.MinMax.{ranks_by}
-use Rattle.std.proofs.lemmas.List.Sorted.{sorted_far}
 use Rattle.lock_modes.specs.declared.mode.Mode.{Mode}
 use Rattle.lock_table.specs.declared.record.LockRecord.{LockRecord}
 use Rattle.lock_table.specs.declared.record.LockState.{LockState}
 use Rattle.lock_table.specs.declared.record.LockState.TheVariants.{Granted, Converting, Waiting}
 use Rattle.lock_table.specs.State.{is_waiting, holds_against}
 use Rattle.lock_table.specs.Locks.{is_lock, is_on, stands_against, admits}
-use Rattle.lock_table.specs.Picture.{rank_of, number_among, printed_cmp}
+use Rattle.lock_table.specs.Picture.{rank_of, printed_cmp}
 use Rattle.lock_table.specs.Indexed.{stands_before_rank}
 use Rattle.lock_table.proofs.Ordered.{Each, each_more}
-use Rattle.lock_table.proofs.Apart.{name_is}
-use Rattle.lock_table.proofs.Pictures.{printed_order}
 use Rattle.lock_table.proofs.Keyed.{is_lt_nat}
 use Rattle.lock_table.proofs.Unique.{names_equal}
 use Rattle.lock_table.proofs.Queued.{tied_names}
-use Rattle.lock_table.proofs.Cuts.{each_in_front, each_behind, partitioned, below_down}
+use Rattle.lock_table.proofs.Cuts.{each_in_front, each_behind}
 
 first_not_less : (o p : Ordering) → is_lt (ordering_then o p) ≡ false → is_lt o ≡ false
 first_not_less Less p h = h
