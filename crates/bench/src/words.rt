@@ -1,4 +1,3 @@
-
 use crate::failure::Failure;
 
 /// What the program is asked to do with each benchmark.

@@ -1,5 +1,5 @@
 -- Bits tell which modes conflict.
-use Rattle.std.proofs.Common.{◌≡◌, ◌==◌, ℕ, not, List, map, length, get_or, ◌<◌, refl, sym, ap, ◌∙◌, bit_and}
+use Rattle.std.proofs.Common.{◌≡◌, ◌==◌, ℕ, not, List, length, get_or, ◌<◌, refl, ap, ◌∙◌, bit_and}
 use Rattle.std.proofs.lemmas.List.{get_or-map}
 use Rattle.lock_modes.specs.declared.mode.Mode.{Mode}
 use Rattle.lock_modes.specs.declared.mode.Mode.TheVariants.{Null, ConcurrentRead, ConcurrentWrite, ProtectedRead, ProtectedWrite, Exclusive}

@@ -1,13 +1,12 @@
 -- What a table keeps of its locks: the list that it shows, and the same records by number.
-use Rattle.std.specs.Prelude.{◌≡◌, ◌≤◌, ℕ, Bool, not, ◌&&◌, List, filter, length}
+use Rattle.std.specs.Prelude.{◌≡◌, ◌≤◌, ℕ, Bool, List, filter, length}
 use Rattle.std.specs.List.Sorted.{IsSorted}
 use Rattle.std.specs.Ordering.{nat_cmp, ordering_then, is_lt}
 use Rattle.std.specs.Cmp.Lexicographic.{slice_cmp}
 use Rattle.std.specs.declared.cmp.Ordering.{Ordering}
 use Rattle.lock_table.specs.declared.record.LockRecord.{LockRecord}
 use Rattle.lock_table.specs.declared.record.KnownClient.{KnownClient}
-use Rattle.lock_table.specs.State.{is_waiting}
-use Rattle.lock_table.specs.Locks.{is_lock, is_on, IsDistinct}
+use Rattle.lock_table.specs.Locks.{is_lock, IsDistinct}
 use Rattle.lock_table.specs.Apply.{Plain, is_client}
 use Rattle.lock_table.specs.Picture.{rank_of, printed_cmp, client_cmp}
 use Rattle.lock_table.specs.Placed.{in_order}

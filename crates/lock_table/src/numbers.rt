@@ -122,10 +122,10 @@ fn lower_numbers(numbers: &Numbers, lock: LockNumber) -> usize
     from
 }
 
-fn is_lower(record: &LockRecord, lock: LockNumber) -> bool
-    ensures { result ≡ nat_lt record.now.lock lock }
+fn is_lower(other: &LockRecord, lock: LockNumber) -> bool
+    ensures { result ≡ nat_lt other.now.lock lock }
 {
-    record.lock.get() < lock.get()
+    other.lock.get() < lock.get()
 }
 
 /// The record of a lock number.

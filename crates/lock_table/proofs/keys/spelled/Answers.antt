@@ -1,4 +1,4 @@
-use Rattle.std.proofs.Common.{◌≡◌, ◌≤◌, ◌<◌, ◌+◌, ◌*◌, ℕ, suc, slice_index, refl, ap, ◌∙◌, arith}
+use Rattle.std.proofs.Common.{◌≡◌, ◌≤◌, ◌+◌, ◌*◌, suc, refl, ap, ◌∙◌, arith}
 use Rattle.lock_table.specs.Keys.{spelled}
 use Rattle.lock_table.proofs.Spelled.{weight, weight_rises}
 use Rattle.lock_table.proofs.keys.spelled.Goals as goal

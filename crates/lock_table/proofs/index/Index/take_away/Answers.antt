@@ -1,4 +1,4 @@
-use Rattle.std.proofs.Common.{◌≡◌, not, Some, refl, ap, ◌∙◌, arith}
+use Rattle.std.proofs.Common.{◌≡◌, not, Some, refl, ap, ◌∙◌}
 use Rattle.lock_table.specs.Locks.{is_lock, lock_in}
 use Rattle.lock_table.proofs.Shown.{indexed_filter, numbers_find, numbers_distinct}
 use Rattle.lock_table.proofs.index.Index.take_away.Goals as goal

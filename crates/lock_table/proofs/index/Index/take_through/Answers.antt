@@ -1,4 +1,4 @@
-use Rattle.std.proofs.Common.{List, not, sym, subst, rules}
+use Rattle.std.proofs.Common.{List, not, sym, subst}
 use Rattle.std.specs.List.{filter}
 use Rattle.lock_table.specs.declared.record.LockRecord.{LockRecord}
 use Rattle.lock_table.specs.Apply.{is_through}

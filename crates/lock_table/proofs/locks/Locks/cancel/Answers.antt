@@ -1,4 +1,4 @@
-use Rattle.std.proofs.Common.{◌≡◌, ap, ◌∙◌, arith, rules}
+use Rattle.std.proofs.Common.{◌≡◌, ◌∙◌, arith, rules}
 use Rattle.std.proofs.lemmas.Grind.{common_steps}
 use Rattle.lock_table.specs.declared.record.LockState.TheVariants.{Granted}
 use Rattle.lock_table.specs.Locks.{put, in_state, settled}

@@ -1,4 +1,4 @@
-use Rattle.std.proofs.Common.{◌≡◌, ◌==◌, ◌<◌, not, length, get_or, ap, ◌∙◌, bit_and, arith}
+use Rattle.std.proofs.Common.{◌==◌, not, length, get_or, ap, ◌∙◌, bit_and, arith}
 use Rattle.lock_table.specs.State.{holds_against}
 use Rattle.lock_table.specs.Shelved.{at_places}
 use Rattle.lock_table.proofs.Conflicts.{bits_at}

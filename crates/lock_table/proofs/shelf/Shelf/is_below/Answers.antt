@@ -1,4 +1,4 @@
-use Rattle.std.proofs.Common.{◌≡◌, ◌<◌, length, get_or, nat_lt, ap, ◌∙◌, arith}
+use Rattle.std.proofs.Common.{nat_lt, ap, ◌∙◌, arith}
 use Rattle.std.proofs.lemmas.Grind.{get_or_default_zero}
 use Rattle.lock_table.proofs.Places.{inside_order, place_inside}
 use Rattle.lock_table.proofs.PlacedKeys.{key_in_order}
