@@ -1,6 +1,6 @@
 -- What follows once a phase is over: the next one begins, or the attempt ends.
 use Rattle.std.specs.Prelude.{nat_lt, nat_le, if◌then◌else◌}
-use Rattle.std.proofs.Common.{◌≡◌, ◌<◌, ◌≤◌, ◌&&◌, not, ℕ, zero, suc, Bool, true, false, Option, Some, None, List, length, refl, sym, subst, ap, ap₂, ◌∙◌, arith}
+use Rattle.std.proofs.Common.{◌≡◌, ◌<◌, ◌≤◌, ◌&&◌, not, ℕ, zero, suc, Bool, true, false, Some, None, List, length, refl, sym, subst, ap, ap₂, ◌∙◌, arith}
 use Rattle.std.proofs.lemmas.Bool.{le-ltb, lt-ltb, and_from, le-leb}
 use Rattle.paxos_block.specs.declared.ballot.TheConstants.{LAST_BALLOT}
 use Rattle.paxos_block.specs.declared.block.PBlock.{PBlock}
@@ -9,7 +9,7 @@ use Rattle.paxos_block.proofs.VoteLemmas.{greatest_same}
 use Rattle.attempt.specs.Calls.{Phase, Opening, One, Two, start, goal}
 use Rattle.attempt.specs.Answers.{Answers, all_good, row_in}
 use Rattle.attempt.specs.Setup.{Setup}
-use Rattle.attempt.specs.Visits.{is_stuck, takes_part, visited, is_left, is_left_at, are_enough}
+use Rattle.attempt.specs.Visits.{is_stuck, takes_part, visited, is_left, is_left_at}
 use Rattle.attempt.specs.Proposal.{ballot, own, or_else, proposal, others_top, others_mbal}
 use Rattle.attempt.specs.Status.{is_opened, taken, taken_by}
 use Rattle.attempt.specs.NextCall.{some_value}

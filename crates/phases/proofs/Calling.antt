@@ -1,7 +1,7 @@
 -- The call that is due by what is kept is the one that is due by what was heard; and what a history is like then.
 use Rattle.std.specs.Prelude.{nat_le, slice_get}
 use Rattle.std.specs.Option.{option_map}
-use Rattle.std.proofs.Common.{◌≡◌, ◌+◌, ◌<◌, ◌≤◌, ◌&&◌, ℕ, Bool, true, false, Option, Some, None, List, [], ◌∷◌, ◌++◌, length, is_some, inl, inr, refl, sym, subst, ap, ap₂, ◌∙◌}
+use Rattle.std.proofs.Common.{◌≡◌, ◌+◌, ◌≤◌, ◌&&◌, ℕ, Bool, true, false, Option, Some, None, List, [], ◌∷◌, ◌++◌, length, is_some, inl, inr, refl, sym, subst, ap, ◌∙◌}
 use Rattle.std.proofs.lemmas.Bool.{cases_lt, le-leb, lt-leb, and_from, and_left, and_right}
 use Rattle.disk.specs.Disk as device
 use Rattle.torn_block.specs.declared.layout.TheConstants.{ROW_LENGTH}
@@ -10,16 +10,15 @@ use Rattle.torn_block.specs.declared.write_steps.WriteCall.TheVariants.{CloseGat
 use Rattle.torn_block.specs.Stage.{call_of}
 use Rattle.torn_block.specs.Plan.{Plan, plan_by, need_at, device_call}
 use Rattle.torn_block.proofs.PlanLaws.{plan_calls}
-use Rattle.paxos_block.specs.Places.{place_of, VoteOf, row_place}
+use Rattle.paxos_block.specs.Places.{row_place}
 use Rattle.paxos_block.specs.Saying.{body_saying}
 use Rattle.paxos_block.specs.declared.block.PBlock.{PBlock}
-use Rattle.attempt.specs.Calls.{Phase, Opening, Reading, Putting, seventeen, start}
-use Rattle.attempt.specs.Answers.{Heard, Answered, Answers, on, more, all_good, row_in, boot_of}
+use Rattle.attempt.specs.Calls.{Opening, Reading, Putting, seventeen, start}
+use Rattle.attempt.specs.Answers.{Heard, Answered, Answers, on, all_good, row_in}
 use Rattle.attempt.specs.Setup.{Setup}
 use Rattle.attempt.specs.History.{IsAnswerTo, IsHistory, Fits}
 use Rattle.attempt.specs.Status.{status, is_opened, taken}
-use Rattle.attempt.specs.Proposal.{ballot}
-use Rattle.attempt.specs.NextCall.{says_for, write_on, call_by, call_on, with_disk, next_in, next_call}
+use Rattle.attempt.specs.NextCall.{write_on, call_by, call_on, with_disk, next_in, next_call}
 use Rattle.attempt.proofs.Histories.{IsOrderly, orderly}
 use Rattle.attempt.proofs.Lists.{row_none}
 use Rattle.attempt.proofs.More.{on_more}

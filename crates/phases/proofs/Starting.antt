@@ -1,5 +1,5 @@
 -- What an attempt keeps that has heard nothing.
-use Rattle.std.proofs.Common.{◌≡◌, ◌*◌, ◌<◌, ℕ, zero, suc, true, Some, None, List, [], refl, sym, subst, ap, ◌∙◌, arith}
+use Rattle.std.proofs.Common.{◌≡◌, ◌*◌, ◌<◌, ℕ, zero, suc, true, None, List, [], refl, sym, subst, ap, ◌∙◌, arith}
 use Rattle.std.proofs.lemmas.Bool.{lt-ltb}
 use Rattle.paxos_block.specs.Saying.{zeros}
 use Rattle.paxos_block.specs.Row.{blank}
@@ -8,7 +8,7 @@ use Rattle.attempt.specs.Calls.{Opening}
 use Rattle.attempt.specs.Answers.{Answers}
 use Rattle.attempt.specs.Numbers.{count}
 use Rattle.attempt.specs.Setup.{Setup}
-use Rattle.attempt.specs.Visits.{waits, visited}
+use Rattle.attempt.specs.Visits.{waits}
 use Rattle.attempt.specs.Proposal.{own_below}
 use Rattle.attempt.proofs.Firsts.{below_some}
 use Rattle.attempt.proofs.Rows.{best_none}

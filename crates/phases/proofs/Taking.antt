@@ -1,6 +1,6 @@
 -- What follows from the row of each phase.
 use Rattle.std.specs.Prelude.{nat_lt, slice_set, if◌then◌else◌}
-use Rattle.std.proofs.Common.{◌≡◌, ◌+◌, ◌<◌, ◌≤◌, max, ℕ, Bool, true, false, Option, Some, None, List, [], ◌∷◌, ◌++◌, length, refl, sym, subst, ap, ap₂, ◌∙◌, arith}
+use Rattle.std.proofs.Common.{◌≡◌, ◌+◌, ◌<◌, ◌≤◌, max, ℕ, Bool, true, false, Some, None, List, [], ◌∷◌, ◌++◌, length, refl, sym, subst, ap, ◌∙◌, arith}
 use Rattle.std.proofs.lemmas.Bool.{le-ltb, lt-ltb, ltb-false, ltb-true}
 use Rattle.torn_block.specs.declared.layout.TheConstants.{HOSTS}
 use Rattle.torn_block.specs.Block.{value_of}
@@ -11,10 +11,10 @@ use Rattle.paxos_block.specs.Saying.{IsVoteOf}
 use Rattle.paxos_block.specs.Votes.{says_in, top_of, others_top_of, later_of, latest_in}
 use Rattle.paxos_block.proofs.RowLemmas.{said_is_said}
 use Rattle.paxos_block.proofs.VoteLemmas.{greatest_is_greatest, vote_at, vote_in, later_vote}
-use Rattle.attempt.specs.Calls.{Phase, Opening, One, Two, start, goal}
-use Rattle.attempt.specs.Answers.{Told, Answers, more, row_in}
+use Rattle.attempt.specs.Calls.{Phase, Opening, One, start, goal}
+use Rattle.attempt.specs.Answers.{Told, Answers, more}
 use Rattle.attempt.specs.Setup.{Setup}
-use Rattle.attempt.specs.Visits.{takes_part, are_enough}
+use Rattle.attempt.specs.Visits.{takes_part}
 use Rattle.attempt.specs.Proposal.{ballot, others_mbal}
 use Rattle.attempt.specs.Status.{Ended, Outrun, status, taken}
 use Rattle.attempt.specs.Standing.{IsIn, NotOutrun}
@@ -25,13 +25,12 @@ use Rattle.attempt.proofs.Rows.{IsLast, AreSameRows, highest_same, ballot_same, 
 use Rattle.attempt.proofs.Visitors.{part_is, part_if, part_more}
 use Rattle.attempt.proofs.Statuses as statuses
 use Rattle.phases.specs.declared.end.End.TheVariants as end
-use Rattle.phases.specs.declared.visit.Visit.{Visit}
 use Rattle.phases.specs.declared.phase.Phase as code_phase
 use Rattle.phases.specs.declared.phase.Phase.TheVariants as phase
 use Rattle.phases.specs.declared.phase.Stage.TheVariants as stage
 use Rattle.phases.specs.Calls.{phase_in}
 use Rattle.phases.specs.Notes.{Notes, IsSound, SaysWell, visit_at}
-use Rattle.phases.specs.Kept.{IsVisiting, KeepsRows, Follows}
+use Rattle.phases.specs.Kept.{IsVisiting, Follows}
 use Rattle.phases.specs.Moves.{IsOpenedIn, IsInOrder, IsPassed, above, outruns, noted}
 use Rattle.phases.proofs.Hearing.{IsDue, same_rows_kept, due_there, come_kept, says_kept, opened_then}
 use Rattle.phases.proofs.Answering.{is_last, is_read, reads}

@@ -1,4 +1,4 @@
-use Rattle.std.proofs.Common.{◌≡◌, ◌+◌, ◌<◌, ◌∙◌, ℕ, None, Option, Some, List, length, slice_set, subst, sym, ap, arith}
+use Rattle.std.proofs.Common.{◌≡◌, ◌+◌, ◌<◌, ◌∙◌, ℕ, Option, Some, List, length, slice_set, subst, sym, ap, arith}
 use Rattle.paxos_block.specs.Row.{SeenBlock, seen_at, IsSeenAs}
 use Rattle.attempt.specs.Answers.{Told, more}
 use Rattle.phases.specs.declared.end.End.TheVariants as end
