@@ -1,12 +1,17 @@
 -- What follows from each kind of answer, by where the attempt stands.
 use Rattle.std.specs.Prelude.{slice_set}
-use Rattle.std.proofs.Common.{◌≡◌, ◌≢◌, ◌+◌, ◌<◌, ◌≤◌, ℕ, pred, Bool, true, false, Option, Some, None, List, [], ◌∷◌, ◌++◌, length, is_some, inl, inr, refl, sym, subst, ap, ◌∙◌, arith, true≢false}
+use Rattle.std.proofs.Common.{◌≡◌, ◌≢◌, ◌+◌, ◌<◌, ◌≤◌, ℕ, pred, Bool, true, false, Option, Some, None, List, [], ◌∷◌, ◌++◌, length, inl, inr, refl, sym, subst, ap, ◌∙◌, arith, true≢false}
 use Rattle.std.proofs.lemmas.Bool.{cases_lt}
 use Rattle.std.proofs.lemmas.List.{get_or-set_same, get_or-set_other}
 use Rattle.disk.specs.declared.boot.Boot.{Boot}
 use Rattle.torn_block.specs.declared.write_steps.WriteCall.{WriteCall}
 use Rattle.torn_block.specs.declared.write_steps.WriteCall.TheVariants.{CloseGate, SyncClosed, PutBody, SyncBody, OpenGate, SyncOpened}
 use Rattle.torn_block.specs.Plan.{Plan, IsReading, plan_by, next_after}
+use Rattle.paxos_block.specs.declared.block.PBlock.{PBlock}
+use Rattle.paxos_block.specs.declared.cell.Cell.{Cell}
+use Rattle.paxos_block.specs.Row.{SeenBlock, seen_at, row_said, IsSeenAs, AreSeenAs}
+use Rattle.paxos_block.specs.declared.row.Row.{Row}
+use Rattle.std.specs.Option.{IsSomeAnd}
 use Rattle.paxos_block.specs.Saying.{body_saying}
 use Rattle.attempt.specs.Calls.{Phase, Opening, One, Two, start, goal}
 use Rattle.attempt.specs.Answers.{Heard, Booted, Done, Told, Answers, more, is_bad, all_good, row_in, boot_of, last_row, seen_block}
@@ -14,22 +19,21 @@ use Rattle.attempt.specs.Setup.{Setup}
 use Rattle.attempt.specs.Standing.{NotOutrun}
 use Rattle.attempt.proofs.Lists.{last_more, row_none, positive}
 use Rattle.attempt.proofs.Replies.{bad_tells}
-use Rattle.attempt.proofs.Rows.{IsLast, highest_same, best_same, rows_stay}
+use Rattle.attempt.proofs.Rows.{IsLast, rows_stay}
 use Rattle.attempt.proofs.Visitors.{part_if}
-use Rattle.paxos_block.specs.declared.cell.Cell.{Cell}
-use Rattle.std.specs.Option.{IsSomeAnd}
-use Rattle.paxos_block.specs.declared.row.Row.{Row}
-use Rattle.paxos_block.specs.Row.{SeenBlock, seen_at, row_said, IsSeenAs, AreSeenAs}
-use Rattle.phases.specs.declared.notes.Notes.{Notes}
 use Rattle.phases.specs.declared.phase.Phase as code_phase
 use Rattle.phases.specs.declared.phase.Phase.TheVariants as phase
 use Rattle.phases.specs.declared.phase.Stage.{Stage}
 use Rattle.phases.specs.declared.phase.Stage.TheVariants as stage
+use Rattle.phases.specs.declared.heard.Heard.TheVariants as answer
 use Rattle.phases.specs.declared.visit.Visit.{Visit}
 use Rattle.phases.specs.Calls.{phase_in}
-use Rattle.phases.specs.Kept.{ReadsAs, phase_of, visit_at, boot_in, made, answered, Suits, Remembers, KeepsRows, IsVisiting, IsWriting, Writes, Follows}
-use Rattle.phases.specs.Moves.{IsInOrder, IsPassed}
-use Rattle.phases.proofs.Hearing.{IsDue, KeepsAll, keeps_not_outrun, Dropped, Read, passes, visiting, due_there, moved, some_now, stays_there, boot_stays, remembers_more}
+use Rattle.phases.specs.Notes.{Notes, no_visit, visit_at}
+use Rattle.phases.specs.Steps.{made, answered, Suits, FitsStage, write_then, stage_then}
+use Rattle.phases.specs.Kept.{Remembers, KeepsRows, IsVisiting, IsWriting, Writes, Stands, Follows}
+use Rattle.phases.specs.Moves.{IsInOrder, IsPassed, ArePassed, ReadsAs, Takes}
+use Rattle.phases.proofs.Visiting.{no_answers}
+use Rattle.phases.proofs.Hearing.{IsDue, Stays, Ending, Dropped, Read, left_now, same_not_outrun, same_rows_kept, follows, opened_stays, remembers_more, due_there, remembers_now, boot_stays, stays_there, passes}
 
 -- what a row was read as
 reads_by : (bytes : List ℕ) (row : Row) (o : Option (List SeenBlock)) → row_said bytes ≡ o → IsSomeAnd o (λ seen. AreSeenAs seen row) → ReadsAs bytes row
@@ -39,299 +43,190 @@ reads_by bytes row (Some seen) is so = record { seen = seen; said = is; so = so 
 pub reads_as : (bytes : List ℕ) (row : Row) → IsSomeAnd (row_said bytes) (λ seen. AreSeenAs seen row) → ReadsAs bytes row
 reads_as bytes row so = reads_by bytes row (row_said bytes) refl so
 
--- what is kept of a disk, where something is
-pub found : (o : Option Visit) → is_some o ≡ true → (w : Visit) × (o ≡ Some w)
-found None none = absurd (cc)
-found (Some w) some = (w, refl)
+-- what is known where a call is due, of an attempt that goes on
+pub visiting : (f : Answers) (n : Notes) → n.end ≡ None → Follows f n → IsVisiting n.phase f n
+visiting f n going is = subst (Stands f n) going is.stands
 
--- THE DISK WAS ATTACHED
+module _ (q : code_phase.Phase) (f : Answers) (n : Notes) (v : IsVisiting q f n) (order : IsInOrder n.of (phase_in q) n.disk f) where
+  abbrev p : Phase
+  p = phase_in q
 
-attaching_opens : (q : code_phase.Phase) → Suits q stage.Attaching → q ≡ phase.Opening
-attaching_opens phase.Opening suits = refl
-attaching_opens phase.One suits = absurd suits
-attaching_opens phase.Two suits = absurd suits
+  abbrev s : Setup
+  s = n.of
 
-no_answers : (a : List Heard) → length a ≡ 0 → a ≡ []
-no_answers [] none = refl
-no_answers (x ∷ a) some = absurd (omega arith)
-
-module _ (s : Setup) (f : Answers) (n : Notes) (is : Follows s f n) (going : n.end ≡ None) (order : IsInOrder s (phase_of n) n.disk f) where
-  -- something is kept of the disk that is visited
-  pub kept_here : visit_at n.visits n.disk ≡ None → ⊥
-  kept_here none = true≢false (sym (some_now s f n is going order) ∙ ap is_some none)
-
-  pub attaches : n.stage ≡ stage.Attaching → (boot : Boot) (visit : Visit) → visit_at n.visits n.disk ≡ Some visit → n.disk < length n.visits
-      → Follows s (more f n.disk (Booted boot.number)) (moved s f n is going order (slice_set n.visits n.disk (Some (record { boot = boot; block = visit.block }))) stage.Syncing n.steps)
-  attaches at boot visit here room =
-      let v = visiting s f n is going order in
-      let d = n.disk in
-      let suits : Suits n.phase stage.Attaching = subst (Suits n.phase) at v.suits in
-      let first = attaching_opens n.phase suits in
-      let none : length (f d) ≡ 0 = v.answers ∙ ap (λ (st : Stage). answered (phase_of n) st n.steps.due) at in
-      let new : Visit = record { boot = boot; block = visit.block } in
-      let old = v.visits.each d visit (due_there s f n is going order).first.below here in
-      let set : visit_at (slice_set n.visits d (Some new)) d ≡ Some new = get_or-set_same n.visits d (Some new) None room in
-      stays_there s f n is going order (Booted boot.number)
-      (record { good = refl; rowless = refl; short = subst (λ (q : code_phase.Phase). length (f d) + 1 < goal (phase_in q)) (sym first) (omega (arith, none)) })
-      (slice_set n.visits d (Some new)) stage.Syncing n.steps
-      (subst (λ (q : code_phase.Phase). Suits q stage.Syncing) (sym first) tt)
-      (omega (arith, none))
-      (λ e off. get_or-set_other n.visits d e (Some new) None off)
-      (ap is_some set)
-      (λ w at. (let same : Some w ≡ Some new = sym at ∙ set in let w_is : new ≡ w = cc in
-      subst (Remembers s.host (f d ++ Booted boot.number ∷ [])) w_is (
-      let last : last_row (f d ++ Booted boot.number ∷ []) ≡ last_row (f d) = last_more (f d) (Booted boot.number) in
-      record {
-        boot = ap (λ (a : List Heard). boot_of (a ++ Booted boot.number ∷ [])) (no_answers (f d) none);
-        read = subst (λ o. IsReading (seen_block o s.host).bytes visit.block) (sym last) old.read;
-        sequence = old.sequence ∙ ap (λ o. (seen_block o s.host).sequence) (sym last);
-      })))
-      tt
-
--- THE DISK WAS SYNCED
-
-syncing_opens : (q : code_phase.Phase) → Suits q stage.Syncing → q ≡ phase.Opening
-syncing_opens phase.Opening suits = refl
-syncing_opens phase.One suits = absurd suits
-syncing_opens phase.Two suits = absurd suits
-
-module _ (s : Setup) (f : Answers) (n : Notes) (is : Follows s f n) (going : n.end ≡ None) (order : IsInOrder s (phase_of n) n.disk f) where
-  -- a success changes nothing of what is kept of the disk
-  kept_still : 1 ≤ length (f n.disk) → (w : Visit) → visit_at n.visits n.disk ≡ Some w → Remembers s.host (f n.disk ++ Done ∷ []) w
-  kept_still some w at =
-      remembers_more s.host (f n.disk) Done w refl (boot_stays s f n is going order Done some)
-      ((visiting s f n is going order).visits.each n.disk w (due_there s f n is going order).first.below at)
-
-  pub synced : n.stage ≡ stage.Syncing → Follows s (more f n.disk Done) (moved s f n is going order n.visits stage.Reading n.steps)
-  synced at =
-      let v = visiting s f n is going order in
-      let d = n.disk in
-      let suits : Suits n.phase stage.Syncing = subst (Suits n.phase) at v.suits in
-      let first = syncing_opens n.phase suits in
-      let one : length (f d) ≡ 1 = v.answers ∙ ap (λ (st : Stage). answered (phase_of n) st n.steps.due) at in
-      let three : goal (phase_of n) ≡ 3 = ap (λ (q : code_phase.Phase). goal (phase_in q)) first in
-      stays_there s f n is going order Done
-      (record { good = refl; rowless = refl; short = omega (arith, one, three) })
-      n.visits stage.Reading n.steps
-      (subst (λ (q : code_phase.Phase). Suits q stage.Reading) (sym first) tt)
-      (let two : pred (goal (phase_of n)) ≡ 2 = ap pred three in omega (arith, one, two))
-      (λ e off. refl)
-      (some_now s f n is going order)
-      (kept_still (omega (arith, one)))
-      tt
-
-  -- A CALL OF A WRITE SUCCEEDED
-
-  -- the phase writes, so it has seven calls
-  writing : n.stage ≡ stage.Writing → goal (phase_of n) ≡ start (phase_of n) + 7
-  writing at = go n.phase (subst (Suits n.phase) at (visiting s f n is going order).suits)
-    where
-      go : (q : code_phase.Phase) → Suits q stage.Writing → goal (phase_in q) ≡ start (phase_in q) + 7
-      go phase.Opening suits = absurd suits
-      go phase.One suits = refl
-      go phase.Two suits = refl
-
-  reading_suits : n.stage ≡ stage.Writing → Suits n.phase stage.Reading
-  reading_suits at = go n.phase
-    where
-      go : (q : code_phase.Phase) → Suits q stage.Reading
-      go phase.Opening = tt
-      go phase.One = tt
-      go phase.Two = tt
-
-  one_more : (call after : WriteCall) → next_after (Some call) ≡ Some after → made (Some after) ≡ made (Some call) + 1
-  one_more CloseGate after e = ap made (sym e)
-  one_more SyncClosed after e = ap made (sym e)
-  one_more PutBody after e = ap made (sym e)
-  one_more SyncBody after e = ap made (sym e)
-  one_more OpenGate after e = ap made (sym e)
-  one_more SyncOpened after e = absurd (cc)
-
-  few : (call : WriteCall) → made (Some call) ≤ 5
-  few CloseGate = omega arith
-  few SyncClosed = omega arith
-  few PutBody = omega arith
-  few SyncBody = omega arith
-  few OpenGate = omega arith
-  few SyncOpened = omega arith
-
-  no_more : (call : WriteCall) → next_after (Some call) ≡ None → made (Some call) ≡ 5
-  no_more CloseGate e = absurd (cc)
-  no_more SyncClosed e = absurd (cc)
-  no_more PutBody e = absurd (cc)
-  no_more SyncBody e = absurd (cc)
-  no_more OpenGate e = absurd (cc)
-  no_more SyncOpened e = refl
-
-  module _ (at : n.stage ≡ stage.Writing) (steps : Plan) (steps_is : steps ≡ record n.steps { due = next_after n.steps.due }) where
-    write : IsWriting n
-    write = subst (λ (st : Stage). Writes st n) at (visiting s f n is going order).writes
-
-    due_now : n.steps.due ≡ Some write.call
-    due_now = ap (λ (x : Plan). x.due) write.plan
-
-    due_then : steps.due ≡ next_after (Some write.call)
-    due_then = ap (λ (x : Plan). x.due) steps_is ∙ ap next_after due_now
-
-    so_many : length (f n.disk) ≡ start (phase_of n) + made (Some write.call)
-    so_many =
-        (visiting s f n is going order).answers
-        ∙ ap (λ (st : Stage). answered (phase_of n) st n.steps.due) at
-        ∙ ap (λ (due : Option WriteCall). start (phase_of n) + made due) due_now
-
-    has_some : 1 ≤ length (f n.disk)
-    has_some = go n.phase (subst (Suits n.phase) at (visiting s f n is going order).suits) so_many
-      where
-        go : (q : code_phase.Phase) → Suits q stage.Writing → length (f n.disk) ≡ start (phase_in q) + made (Some write.call) → 1 ≤ length (f n.disk)
-        go phase.Opening suits e = absurd suits
-        go phase.One suits e = omega arith
-        go phase.Two suits e = omega arith
-
-    -- another call of the write is due
-    pub wrote : (after : WriteCall) → steps.due ≡ Some after → Follows s (more f n.disk Done) (moved s f n is going order n.visits n.stage steps)
-    wrote after left =
-        let v = visiting s f n is going order in
-        let seven = writing at in
-        let next : next_after (Some write.call) ≡ Some after = sym due_then ∙ left in
-        let more_made = one_more write.call after next in
-        let most = few after in
-        stays_there s f n is going order Done
-        (record { good = refl; rowless = refl; short = omega (arith, so_many, seven, more_made, most) })
-        n.visits n.stage steps v.suits
-        (let so : answered (phase_of n) n.stage steps.due ≡ start (phase_of n) + made (Some after) = ap (λ (st : Stage). answered (phase_of n) st steps.due) at ∙ ap (λ (due : Option WriteCall). start (phase_of n) + made due) left in omega (arith, so_many, more_made, so))
-        (λ e off. refl)
-        (some_now s f n is going order)
-        (kept_still has_some)
-        (subst (λ (st : Stage). Writes st (moved s f n is going order n.visits n.stage steps)) (sym at) (record {
-          call = after;
-          visit = write.visit;
-          here = write.here;
-          plan = steps_is ∙ ap (λ (x : Plan). record x { due = next_after x.due }) write.plan ∙ ap (λ (due : Option WriteCall). record (plan_by write.visit.block (body_saying n.says)) { due = due }) next;
-        }))
-
-    -- all six calls succeeded: the row is read
-    pub wrote_all : steps.due ≡ None → Follows s (more f n.disk Done) (moved s f n is going order n.visits stage.Reading steps)
-    wrote_all over =
-        let seven = writing at in
-        let five = no_more write.call (sym due_then ∙ over) in
-        let last : pred (goal (phase_of n)) ≡ start (phase_of n) + 6 = ap pred seven ∙ omega arith in
-        stays_there s f n is going order Done
-        (record { good = refl; rowless = refl; short = omega (arith, so_many, seven, five) })
-        n.visits stage.Reading steps (reading_suits at)
-        (omega (arith, so_many, five, last))
-        (λ e off. refl)
-        (some_now s f n is going order)
-        (kept_still has_some)
-        tt
-
--- THE DISK IS DROPPED
-
-module _ (s : Setup) (f : Answers) (n : Notes) (is : Follows s f n) (going : n.end ≡ None) (order : IsInOrder s (phase_of n) n.disk f) (room : n.disk < length n.visits) where
   abbrev d : ℕ
   d = n.disk
 
-  v : IsVisiting s f n
-  v = visiting s f n is going order
+  abbrev visit : Visit
+  visit = visit_at n.visits n.disk
 
-  due : IsDue s (phase_of n) n.disk f
-  due = due_there s f n is going order
+  due : IsDue s p d f
+  due = due_there q f n v order
 
   -- what is kept of the disk is replaced
-  abbrev pub with_visit : Option Visit → List (Option Visit)
+  abbrev pub with_visit : Visit → List Visit
   with_visit new = slice_set n.visits n.disk new
 
-  others : (new : Option Visit) (e : ℕ) → e ≢ n.disk → visit_at (with_visit new) e ≡ visit_at n.visits e
-  others new e off = get_or-set_other n.visits n.disk e new None off
+  others : (new : Visit) (e : ℕ) → e ≢ d → visit_at (with_visit new) e ≡ visit_at n.visits e
+  others new e off = get_or-set_other n.visits d e new no_visit off
 
-  set_is : (new : Option Visit) → visit_at (with_visit new) n.disk ≡ new
-  set_is new = get_or-set_same n.visits n.disk new None room
+  set_is : d < length n.visits → (new : Visit) → visit_at (with_visit new) d ≡ new
+  set_is room new = get_or-set_same n.visits d new no_visit room
 
-  pub drops : (x : Heard) → is_bad x ≡ true → IsPassed s (more f n.disk x) (record n { visits = with_visit None }) (n.disk + 1)
-  drops x bad =
+  -- THE DISK WAS ATTACHED
+
+  pub attaches : q ≡ phase.Opening → length (f d) ≡ 0 → d < length n.visits → (boot : Boot)
+      → Stays p (f d) (Booted boot.number) × IsVisiting q (more f d (Booted boot.number)) (record n { visits = with_visit (record visit { boot = boot }); stage = stage.Syncing })
+  attaches first none room boot =
+      let new : Visit = record visit { boot = boot } in
+      let three : goal p ≡ 3 = ap (λ (r : code_phase.Phase). goal (phase_in r)) first in
+      let stays : Stays p (f d) (Booted boot.number) = record { good = refl; rowless = refl; short = omega arith } in (
+        stays,
+        stays_there q f n v order (Booted boot.number) stays (with_visit new) stage.Syncing
+            (subst (λ (r : code_phase.Phase). Suits r stage.Syncing) (sym first) tt)
+            (omega arith)
+            (others new)
+            (ap (λ (w : Visit). w.left) (set_is room new))
+            (subst (Remembers s.host (f d ++ Booted boot.number ∷ [])) (sym (set_is room new))
+            (remembers_more s.host (f d) (Booted boot.number) visit new refl (ap (λ (a : List Heard). boot_of (a ++ Booted boot.number ∷ [])) (no_answers (f d) none)) refl (remembers_now q f n v order)))
+            tt,
+      )
+
+  -- A SYNC, OR A CALL OF A WRITE, SUCCEEDED
+
+  -- behind the first answer a success changes nothing of what is kept of the disk
+  does : (st : Stage) → 1 ≤ length (f d) → length (f d) + 1 < goal p → Suits q st → length (f d) + 1 ≡ answered p st → Writes st n.says visit
+      → Stays p (f d) Done × IsVisiting q (more f d Done) (record n { stage = st })
+  does st some less suits so writes =
+      let stays : Stays p (f d) Done = record { good = refl; rowless = refl; short = less } in (
+        stays,
+        stays_there q f n v order Done stays n.visits st suits so (λ e off. refl) refl
+            (remembers_more s.host (f d) Done visit visit refl (boot_stays q f n v order Done some) refl (remembers_now q f n v order)) writes,
+      )
+
+  module _ (plan : Plan) (later : 3 ≤ start p) (seven : goal p ≡ start p + 7) (suits : (due : Option WriteCall) → Suits q (write_then plan due)) (plan_is : plan ≡ record (plan_by visit.block (body_saying n.says)) { due = plan.due }) where
+    -- another call of the write is due
+    wrote : (next : WriteCall) → made (Some next) ≤ 5 → length (f d) + 1 ≡ start p + made (Some next)
+        → Stays p (f d) Done × IsVisiting q (more f d Done) (record n { stage = write_then plan (Some next) })
+    wrote next most so =
+        does (stage.Writing (record plan { due = Some next })) (omega arith) (omega arith) (suits (Some next)) so
+        (record { call = next; is = ap (λ (x : Plan). record x { due = Some next }) plan_is })
+
+    -- or the row is read
+    step : (call : WriteCall) → length (f d) ≡ start p + made (Some call)
+        → Stays p (f d) Done × IsVisiting q (more f d Done) (record n { stage = write_then plan (next_after (Some call)) })
+    step CloseGate so = wrote SyncClosed (omega arith) (omega arith)
+    step SyncClosed so = wrote PutBody (omega arith) (omega arith)
+    step PutBody so = wrote SyncBody (omega arith) (omega arith)
+    step SyncBody so = wrote OpenGate (omega arith) (omega arith)
+    step OpenGate so = wrote SyncOpened (omega arith) (omega arith)
+    step SyncOpened so = does stage.Reading (omega arith) (omega arith) (suits None) (let six : pred (goal p) ≡ start p + 6 = ap pred seven ∙ omega arith in omega (arith, so, six)) tt
+
+  wrote_by : (plan : Plan) → 3 ≤ start p → goal p ≡ start p + 7 → ((due : Option WriteCall) → Suits q (write_then plan due)) → length (f d) ≡ start p + made plan.due → IsWriting n.says visit plan
+      → Stays p (f d) Done × IsVisiting q (more f d Done) (record n { stage = write_then plan (next_after plan.due) })
+  wrote_by plan later seven suits so is =
+      let due_is : plan.due ≡ Some is.call = ap (λ (x : Plan). x.due) is.is in
+      subst (λ (due : Option WriteCall). Stays p (f d) Done × IsVisiting q (more f d Done) (record n { stage = write_then plan (next_after due) })) (sym due_is)
+      (step plan later seven suits (is.is ∙ ap (λ (due : Option WriteCall). record (plan_by visit.block (body_saying n.says)) { due = due }) (sym due_is)) is.call (so ∙ ap (λ (due : Option WriteCall). start p + made due) due_is))
+
+  -- THE DISK IS DROPPED
+
+  pub drops : d < length n.visits → (x : Heard) → is_bad x ≡ true → IsPassed q (more f d x) (record n { visits = with_visit (record visit { left = false }) }) (d + 1)
+  drops room x bad =
       let rowless = bad_tells x bad in
-      let g = more f n.disk x in
-      let keeps : KeepsAll s f g = record { opening = rows_stay f n.disk x rowless Opening; one = rows_stay f n.disk x rowless One; two = rows_stay f n.disk x rowless Two } in
-      let r = v.rows in
-      passes s f n is going order x (Dropped bad rowless) (record n { visits = with_visit None }) refl refl
-      (record {
-        is_host = r.is_host;
-        is_slot = r.is_slot;
-        as_many = r.as_many;
-        input = r.input;
-        highest = r.highest ∙ sym (highest_same s g f keeps.opening);
-        best = r.best ∙ sym (best_same s g f keeps.opening keeps.one s.disks);
-      })
-      (keeps_not_outrun s f g keeps (phase_of n) due.at.not_outrun)
-      (others None)
-      (ap is_some (set_is None))
-      (λ w at. (let none : None ≡ Some w = sym (set_is None) ∙ at in absurd (cc)))
+      let new : Visit = record visit { left = false } in
+      passes q f n v order x (Dropped bad rowless) n.highest n.best (with_visit new)
+      (same_rows_kept s f (more f d x) n.highest n.best (rows_stay f d x rowless Opening) (rows_stay f d x rowless One) v.rows)
+      (same_not_outrun s f (more f d x) p (rows_stay f d x rowless Opening) (rows_stay f d x rowless p) due.at.not_outrun)
+      (others new)
+      (ap (λ (w : Visit). w.left) (set_is room new))
+      (λ none. absurd (true≢false (sym none)))
 
   -- A ROW WAS READ
 
-  module _ (at : n.stage ≡ stage.Reading) (row : List SeenBlock) (cell : Cell) (shows : IsSeenAs (seen_at row n.host) cell) where
-    abbrev x : Heard
-    x = Told (Some row)
-
-    abbrev new_visit : Visit
-    new_visit = record { boot = boot_in (visit_at n.visits n.disk); block = cell.block }
-
-    -- the notes with the own block as it was read
-    abbrev pub kept_block : List (Option Visit)
-    kept_block = with_visit (Some new_visit)
-
-    last : length (f n.disk) + 1 ≡ goal (phase_of n)
+  module _ (at : n.stage ≡ stage.Reading) (row : List SeenBlock) where
+    pub last : length (f d) + 1 ≡ goal p
     last =
-        let so : length (f n.disk) ≡ pred (goal (phase_of n)) = v.answers ∙ ap (λ (st : Stage). answered (phase_of n) st n.steps.due) at in
-        let some = positive (phase_of n) in
+        let so : length (f d) ≡ pred (goal p) = v.answers ∙ ap (answered p) at in
+        let some = positive p in
         omega (arith, so, some)
 
-    behind : (e : ℕ) → n.disk < e → e < s.disks → row_in (phase_of n) (f e) ≡ None
-    behind e l u = go (all_good (f e)) refl
-      where
-        p : Phase
-        p = phase_of n
+    behind : (e : ℕ) → d < e → (good : Bool) → all_good (f e) ≡ good → row_in p (f e) ≡ None
+    behind e l false bad = order.unread e bad
+    behind e l true good = row_none p (f e) (elim (cases_lt (length (f e)) (start p)) [
+      | inl early ↦ (let less = due.waiting.short in let come = due.waiting.part.come in omega arith)
+      | inr come ↦
+          (let so = order.rising e l (part_if p (f e) (record { good = good; come = come })) in
+          let less = due.waiting.short in
+          let low = due.waiting.part.come in
+          omega (arith, so))
+    ])
 
-        go : (good : Bool) → all_good (f e) ≡ good → row_in (phase_of n) (f e) ≡ None
-        go false bad = order.unread e bad
-        go true good = row_none (phase_of n) (f e) (elim (cases_lt (length (f e)) (start (phase_of n))) [
-          | inl early ↦ (let less = due.waiting.short in let come = due.waiting.part.come in omega arith)
-          | inr come ↦
-              (let so = order.rising e l (part_if (phase_of n) (f e) (record { good = good; come = come })) in
-              let less = due.waiting.short in
-              let low = due.waiting.part.come in
-              omega (arith, so))
-        ])
+    pub is_last : IsLast s p d f
+    is_last = record { below = due.first.below; last = last; behind = λ e l u. behind e l (all_good (f e)) refl }
 
-    pub is_last : IsLast s (phase_of n) n.disk f
-    is_last = record { below = due.first.below; last = last; behind = behind }
+    abbrev pub is_read : Ending p (f d) (Told (Some row))
+    is_read = Read row refl last
 
-    some_answers : 1 ≤ length (f n.disk)
-    some_answers = go (phase_of n) last
-      where
-        go : (p : Phase) → length (f n.disk) + 1 ≡ goal p → 1 ≤ length (f n.disk)
-        go Opening e = omega arith
-        go One e = omega arith
-        go Two e = omega arith
-
-    remembers : Remembers s.host (f n.disk ++ x ∷ []) new_visit
-    remembers =
-        let one = found (visit_at n.visits n.disk) (some_now s f n is going order) in
-        let before = v.visits.each n.disk one.0 due.first.below one.1 in
-        let row_is : last_row (f n.disk ++ x ∷ []) ≡ Some row = last_more (f n.disk) x in
-        let host_is : n.host ≡ s.host = v.rows.is_host in
-        record {
-          boot = boot_stays s f n is going order x some_answers ∙ before.boot ∙ ap (λ (o : Option Visit). (boot_in o).number) (sym one.1);
-          read = subst (λ (o : Option (List SeenBlock)). IsReading (seen_block o s.host).bytes cell.block) (sym row_is) (subst (λ (h : ℕ). IsReading (seen_at row h).bytes cell.block) host_is shows.read);
-          sequence = shows.sequence ∙ ap (λ (h : ℕ). (seen_at row h).sequence) host_is ∙ ap (λ (o : Option (List SeenBlock)). (seen_block o s.host).sequence) (sym row_is);
-        }
+    some_answers : (r : Phase) → length (f d) + 1 ≡ goal r → 1 ≤ length (f d)
+    some_answers Opening e = omega arith
+    some_answers One e = omega arith
+    some_answers Two e = omega arith
 
     -- the disk is done with
-    pub reads : (m : Notes) → m.phase ≡ n.phase → m.says ≡ n.says → m.visits ≡ kept_block → KeepsRows s (more f n.disk x) m → NotOutrun s (phase_of n) (more f n.disk x)
-        → IsPassed s (more f n.disk x) m (n.disk + 1)
-    reads m same says visits rows below =
-        passes s f n is going order x (Read row refl last) m same says rows below
-        (λ e off. ap (λ (l : List (Option Visit)). visit_at l e) visits ∙ others (Some new_visit) e off)
-        (ap (λ (l : List (Option Visit)). is_some (visit_at l n.disk)) visits ∙ ap is_some (set_is (Some new_visit)))
-        (λ w here. (let same_visit : Some new_visit ≡ Some w = sym (set_is (Some new_visit)) ∙ ap (λ (l : List (Option Visit)). visit_at l n.disk) (sym visits) ∙ here in
-        let is_w : new_visit ≡ w = cc in
-        subst (Remembers s.host (f n.disk ++ x ∷ [])) is_w remembers))
+    pub reads : d < length n.visits → (cell : Cell) → IsSeenAs (seen_at row s.host) cell → (top : ℕ) (vote : PBlock)
+        → KeepsRows s (more f d (Told (Some row))) top vote → NotOutrun s p (more f d (Told (Some row)))
+        → ArePassed s q (more f d (Told (Some row))) top vote n.says (with_visit (record visit { block = cell.block })) (d + 1)
+    reads room cell shows top vote rows below =
+        let new : Visit = record visit { block = cell.block } in
+        let row_is : last_row (f d ++ Told (Some row) ∷ []) ≡ Some row = last_more (f d) (Told (Some row)) in
+        passes q f n v order (Told (Some row)) is_read top vote (with_visit new) rows below
+        (others new)
+        (ap (λ (w : Visit). w.left) (set_is room new) ∙ left_now q f n v order)
+        (λ kept. subst (Remembers s.host (f d ++ Told (Some row) ∷ [])) (sym (set_is room new)) (record {
+          boot = boot_stays q f n v order (Told (Some row)) (some_answers p last);
+          read = subst (λ (o : Option (List SeenBlock)). IsReading (seen_block o s.host).bytes cell.block) (sym row_is) shows.read;
+          sequence = shows.sequence ∙ ap (λ (o : Option (List SeenBlock)). (seen_block o s.host).sequence) (sym row_is);
+        }))
+
+-- an attach comes first in the opening
+starts_opening : (q : code_phase.Phase) → Suits q stage.Attaching → q ≡ phase.Opening
+starts_opening phase.Opening suits = refl
+starts_opening phase.One suits = absurd suits
+starts_opening phase.Two suits = absurd suits
+
+-- a success, by where the disk stands
+succeeds : (q : code_phase.Phase) (f : Answers) (n : Notes) (v : IsVisiting q f n) (order : IsInOrder n.of (phase_in q) n.disk f) (st : Stage) → FitsStage st answer.Done → Suits q st → length (f n.disk) ≡ answered (phase_in q) st → Writes st n.says (visit_at n.visits n.disk)
+    → Stays (phase_in q) (f n.disk) Done × IsVisiting q (more f n.disk Done) (record n { stage = stage_then st })
+succeeds q f n v order stage.Attaching fits suits so writes = absurd fits
+succeeds q f n v order stage.Reading fits suits so writes = absurd fits
+succeeds phase.Opening f n v order stage.Syncing fits suits so writes = does phase.Opening f n v order stage.Reading (omega arith) (omega arith) tt (omega arith) tt
+succeeds phase.One f n v order stage.Syncing fits suits so writes = absurd suits
+succeeds phase.Two f n v order stage.Syncing fits suits so writes = absurd suits
+succeeds phase.Opening f n v order (stage.Writing plan) fits suits so writes = absurd suits
+succeeds phase.One f n v order (stage.Writing plan) fits suits so writes = wrote_by phase.One f n v order plan (omega arith) refl reading_suits so writes
+  where
+    reading_suits : (due : Option WriteCall) → Suits phase.One (write_then plan due)
+    reading_suits None = tt
+    reading_suits (Some call) = tt
+succeeds phase.Two f n v order (stage.Writing plan) fits suits so writes = wrote_by phase.Two f n v order plan (omega arith) refl reading_suits so writes
+  where
+    reading_suits : (due : Option WriteCall) → Suits phase.Two (write_then plan due)
+    reading_suits None = tt
+    reading_suits (Some call) = tt
+
+-- ONE ANSWER MORE
+
+pub takes_boot : (n : Notes) → n.end ≡ None → n.stage ≡ stage.Attaching → n.disk < length n.visits → (boot : Boot)
+    → Takes (Booted boot.number) n (record n { visits = slice_set n.visits n.disk (record (visit_at n.visits n.disk) { boot = boot }); stage = stage.Syncing })
+takes_boot n going at room boot f order is =
+    let v = visiting f n going is in
+    let so = attaches n.phase f n v order (starts_opening n.phase (subst (Suits n.phase) at v.suits)) (v.answers ∙ ap (answered (phase_in n.phase)) at) room boot in
+    let new : List Visit = slice_set n.visits n.disk (record (visit_at n.visits n.disk) { boot = boot }) in
+    follows (more f n.disk (Booted boot.number)) (record n { visits = new; stage = stage.Syncing }) going (opened_stays n.of (phase_in n.phase) n.disk f (Booted boot.number) (due_there n.phase f n v order) so.0) so.1
+
+pub takes_done : (n : Notes) → n.end ≡ None → FitsStage n.stage answer.Done → Takes Done n (record n { stage = stage_then n.stage })
+takes_done n going fits f order is =
+    let v = visiting f n going is in
+    let so = succeeds n.phase f n v order n.stage fits v.suits v.answers v.writes in
+    follows (more f n.disk Done) (record n { stage = stage_then n.stage }) going (opened_stays n.of (phase_in n.phase) n.disk f Done (due_there n.phase f n v order) so.0) so.1

@@ -1,5 +1,5 @@
 -- What an attempt keeps that has heard nothing.
-use Rattle.std.proofs.Common.{◌≡◌, ◌*◌, ◌<◌, ℕ, zero, suc, true, Option, Some, None, List, [], is_some, refl, sym, subst, ap, ◌∙◌, arith}
+use Rattle.std.proofs.Common.{◌≡◌, ◌*◌, ◌<◌, ℕ, zero, suc, true, None, List, [], refl, sym, subst, ap, ◌∙◌, arith}
 use Rattle.std.proofs.lemmas.Bool.{lt-ltb}
 use Rattle.paxos_block.specs.Saying.{zeros}
 use Rattle.paxos_block.specs.Row.{blank}
@@ -8,9 +8,8 @@ use Rattle.attempt.specs.Calls.{Opening}
 use Rattle.attempt.specs.Answers.{Answers}
 use Rattle.attempt.specs.Numbers.{count}
 use Rattle.attempt.specs.Setup.{Setup}
-use Rattle.attempt.specs.Visits.{waits, visited, are_enough}
-use Rattle.attempt.specs.Proposal.{ballot, own_below}
-use Rattle.attempt.specs.Status.{is_opened, taken_by}
+use Rattle.attempt.specs.Visits.{waits}
+use Rattle.attempt.specs.Proposal.{own_below}
 use Rattle.attempt.proofs.Firsts.{below_some}
 use Rattle.attempt.proofs.Rows.{best_none}
 use Rattle.attempt.proofs.Statuses as statuses
@@ -18,10 +17,10 @@ use Rattle.phases.specs.declared.phase.Phase.TheVariants as phase
 use Rattle.phases.specs.declared.phase.Stage.TheVariants as stage
 use Rattle.phases.specs.declared.visit.Visit.{Visit}
 use Rattle.phases.specs.declared.visit.TheConstants.{UNSEEN}
-use Rattle.torn_block.specs.Plan.{Plan}
-use Rattle.phases.specs.Kept.{visit_at, Remembers, Follows}
+use Rattle.phases.specs.Notes.{Notes, visit_at}
+use Rattle.phases.specs.Kept.{Remembers, LeadsTo}
 use Rattle.phases.proofs.Beginning.{greatest_zero}
-use Rattle.phases.proofs.Ending.{not_taken}
+use Rattle.phases.proofs.Hearing.{follows}
 
 -- nothing was heard of any disk
 abbrev nothing : Answers
@@ -44,12 +43,9 @@ all_count : (n : ℕ) → count n (λ d. true) ≡ n
 all_count zero = refl
 all_count (suc n) = let before : count n (λ d. true) ≡ n = all_count n in omega arith
 
-pub starts : (s : Setup) (visits : List (Option Visit)) (steps : Plan) → 0 < s.disks → ((e : ℕ) → e < s.disks → visit_at visits e ≡ Some UNSEEN)
-    → Follows s nothing (record {
-      host = s.host;
-      slot = s.slot;
-      disks = s.disks;
-      input = s.input;
+pub starts : (s : Setup) (visits : List Visit) → 0 < s.disks → ((e : ℕ) → e < s.disks → visit_at visits e ≡ UNSEEN)
+    → LeadsTo s [] (record {
+      of = s;
       highest = s.floor;
       best = blank;
       says = blank;
@@ -57,35 +53,31 @@ pub starts : (s : Setup) (visits : List (Option Visit)) (steps : Plan) → 0 < s
       phase = phase.Opening;
       disk = 0;
       stage = stage.Attaching;
-      steps = steps;
       end = None;
     })
-starts s visits steps some unseen_all =
-    let first : visited s Opening nothing ≡ Some 0 = below_some s.disks (λ d. waits s Opening []) 0 (record { below = some; passes = refl; none = λ e l. absurd (omega arith) }) in
+starts s visits some unseen_all =
+    let n : Notes = record { of = s; highest = s.floor; best = blank; says = blank; visits = visits; phase = phase.Opening; disk = 0; stage = stage.Attaching; end = None } in
     record {
-      ballot = sym (ap (λ (o : Option ℕ). taken_by (ballot s nothing) o (are_enough s (is_opened nothing))) first ∙ not_taken (ballot s nothing) 0 (are_enough s (is_opened nothing)));
-      stands = record {
+      of = refl;
+      history = tt;
+      follows = follows nothing n refl (λ e. refl) (record {
         rows = record {
-          is_host = refl;
-          is_slot = refl;
-          as_many = refl;
-          input = refl;
           highest = (let none : greatest s.disks (λ d. 0) ≡ 0 = greatest_zero s.disks in omega arith);
           best = sym (best_none s nothing s.disks (λ e l. refl) ∙ own_none s s.disks);
         };
         status = statuses.due_if s nothing Opening 0 (record {
           come = tt;
           not_outrun = tt;
-          visits = first;
+          visits = below_some s.disks (λ d. waits s Opening []) 0 (record { below = some; passes = refl; none = λ e l. absurd (omega arith) });
           enough = lt-ltb s.disks (2 * count s.disks (λ d. true)) (let all = all_count s.disks in omega arith);
         });
         suits = tt;
         answers = refl;
         says = refl;
         visits = record {
-          some = λ e l. ap is_some (unseen_all e l);
-          each = λ e visit l at. (let same : Some UNSEEN ≡ Some visit = sym (unseen_all e l) ∙ at in let is : UNSEEN ≡ visit = cc in subst (Remembers s.host []) is (unseen s.host));
+          left = λ e l. ap (λ (v : Visit). v.left) (unseen_all e l);
+          each = λ e l left. subst (Remembers s.host []) (sym (unseen_all e l)) (unseen s.host);
         };
         writes = tt;
-      };
+      });
     }

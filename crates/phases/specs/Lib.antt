@@ -1,3 +1,6 @@
 pub mod Calls
+pub mod Inside
 pub mod Kept
 pub mod Moves
+pub mod Notes
+pub mod Steps

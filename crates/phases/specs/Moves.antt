@@ -1,15 +1,28 @@
--- Between an answer and the next call: how far an attempt is with the disks of its phase.
-use Rattle.std.specs.Prelude.{◌≡◌, ◌<◌, ◌≤◌, ◌&&◌, ℕ, true, false, length, nat_le, slice_get, Some, None}
+-- What one answer more makes of what is kept, and between an answer and the next call how far an attempt is with the
+-- disks of its phase.
+use Rattle.std.specs.Prelude.{◌≡◌, ◌<◌, ◌≤◌, ◌*◌, ◌&&◌, ℕ, Bool, true, false, max, List, length, nat_lt, nat_le, slice_get, Option, Some, None, if◌then◌else◌}
+use Rattle.paxos_block.specs.declared.block.PBlock.{PBlock}
+use Rattle.paxos_block.specs.declared.row.Row.{Row}
+use Rattle.paxos_block.specs.Row.{SeenBlock, AreSeenAs, row_said}
+use Rattle.paxos_block.specs.Votes.{says_in, top_of, others_top_of, later_of, latest_in}
 use Rattle.attempt.specs.Calls.{Phase, Opening, One, Two, start, goal}
-use Rattle.attempt.specs.Answers.{Booted, Answers, all_good, row_in}
+use Rattle.attempt.specs.Answers.{Heard, Booted, Answers, more, all_good, row_in}
+use Rattle.attempt.specs.Numbers.{count}
 use Rattle.attempt.specs.Setup.{Setup}
 use Rattle.attempt.specs.Visits.{takes_part, waits, is_left, is_left_at, are_enough}
 use Rattle.attempt.specs.Proposal.{ballot}
 use Rattle.attempt.specs.Status.{is_opened, taken}
 use Rattle.attempt.specs.Standing.{IsIn, NotOutrun}
 use Rattle.attempt.specs.NextCall.{says_for}
-use Rattle.phases.specs.declared.notes.Notes.{Notes}
-use Rattle.phases.specs.Kept.{phase_of, answered, Suits, KeepsRows, KeepsVisits, Writes}
+use Rattle.phases.specs.declared.phase.Phase as code_phase
+use Rattle.phases.specs.declared.phase.Phase.TheVariants as phase
+use Rattle.phases.specs.declared.visit.Visit.{Visit}
+use Rattle.phases.specs.Calls.{phase_in}
+use Rattle.phases.specs.Notes.{Notes, visit_at}
+use Rattle.phases.specs.Steps.{answered, Suits}
+use Rattle.phases.specs.Kept.{KeepsRows, KeepsVisits, Writes, Follows}
+
+-- ONE ANSWER MORE
 
 -- in the opening the disks that were opened are those without a bad answer; later the ballot was taken
 abbrev pub IsOpenedIn : Setup → Phase → Answers → Type 0
@@ -25,28 +38,75 @@ pub record IsInOrder (s : Setup) (p : Phase) (d : ℕ) (f : Answers) : Type 0 wh
   pub unread : (e : ℕ) → all_good (f e) ≡ false → row_in p (f e) ≡ None
   pub booted : (e : ℕ) → 1 ≤ length (f e) → all_good (f e) ≡ true → (boot : ℕ) × (slice_get (f e) 0 ≡ Some (Booted boot))
 
+-- whatever the answers before led to what was kept, with this one more they lead to what is kept now
+abbrev pub Takes : Heard → Notes → Notes → Type 0
+Takes x old new = (f : Answers) → IsInOrder old.of (phase_in old.phase) old.disk f → Follows f old → Follows (more f old.disk x) new
+
+-- the bytes are a sound row, and this is what was made of it
+pub record ReadsAs (bytes : List ℕ) (row : Row) : Type 0 where
+  pub seen : List SeenBlock
+  pub said : row_said bytes ≡ Some seen
+  pub so : AreSeenAs seen row
+
+-- from phase 1 on another host's greater ballot ends the attempt
+abbrev pub above : ℕ → ℕ → Option ℕ
+above mbal others = if nat_lt mbal others then Some others else None
+
+abbrev pub outruns : code_phase.Phase → Notes → List SeenBlock → Option ℕ
+outruns phase.Opening n seen = None
+outruns phase.One n seen = above n.says.mbal (others_top_of n.of.host seen)
+outruns phase.Two n seen = above n.says.mbal (others_top_of n.of.host seen)
+
+-- the opening takes a row's ballots and the own vote there, and phase 1 the other hosts' votes
+abbrev pub top_then : code_phase.Phase → ℕ → List SeenBlock → ℕ
+top_then phase.Opening top seen = max top (top_of seen)
+top_then other top seen = top
+
+abbrev pub vote_then : code_phase.Phase → ℕ → PBlock → List SeenBlock → PBlock
+vote_then phase.Opening host vote seen = later_of vote (says_in seen host)
+vote_then phase.One host vote seen = latest_in host seen vote
+vote_then phase.Two host vote seen = vote
+
+abbrev pub noted : code_phase.Phase → Notes → List SeenBlock → Notes
+noted q n seen = record n { highest = top_then q n.highest seen; best = vote_then q n.of.host n.best seen }
+
+-- BETWEEN AN ANSWER AND THE NEXT CALL
+
 -- the disks below `from` are done with in the phase, and those from there on still wait for it
-pub record IsPassed (s : Setup) (f : Answers) (n : Notes) (from : ℕ) : Type 0 where
-  pub rows : KeepsRows s f n
-  pub come : IsIn s (phase_of n) f
-  pub not_outrun : NotOutrun s (phase_of n) f
-  pub opened : IsOpenedIn s (phase_of n) f
-  pub says : n.says ≡ says_for s (phase_of n) f
-  pub past : (e : ℕ) → e < from → e < s.disks → waits s (phase_of n) (f e) ≡ false
-  pub ahead : (e : ℕ) → from ≤ e → takes_part (phase_of n) (f e) ≡ true → length (f e) ≡ start (phase_of n)
-  pub behind : (e : ℕ) → length (f e) ≤ goal (phase_of n)
-  pub visits : KeepsVisits s f (is_left_at (Some from) s (phase_of n) f) n.visits
+pub record ArePassed (s : Setup) (q : code_phase.Phase) (f : Answers) (top : ℕ) (vote says : PBlock) (visits : List Visit) (from : ℕ) : Type 0 where
+  pub rows : KeepsRows s f top vote
+  pub come : IsIn s (phase_in q) f
+  pub not_outrun : NotOutrun s (phase_in q) f
+  pub opened : IsOpenedIn s (phase_in q) f
+  pub says_is : says ≡ says_for s (phase_in q) f
+  pub past : (e : ℕ) → e < from → e < s.disks → waits s (phase_in q) (f e) ≡ false
+  pub ahead : (e : ℕ) → from ≤ e → takes_part (phase_in q) (f e) ≡ true → length (f e) ≡ start (phase_in q)
+  pub behind : (e : ℕ) → length (f e) ≤ goal (phase_in q)
+  pub kept : KeepsVisits s f (is_left_at (Some from) s (phase_in q) f) visits
+
+abbrev pub IsPassed : code_phase.Phase → Answers → Notes → ℕ → Type 0
+IsPassed q f n from = ArePassed n.of q f n.highest n.best n.says n.visits from
 
 -- the phase begins on the disk that is visited now
-pub record IsBegun (s : Setup) (f : Answers) (n : Notes) : Type 0 where
-  pub passed : IsPassed s f n n.disk
-  pub there : n.disk < s.disks
-  pub waits : waits s (phase_of n) (f n.disk) ≡ true
-  pub suits : Suits n.phase n.stage
-  pub answers : answered (phase_of n) n.stage n.steps.due ≡ start (phase_of n)
-  pub writes : Writes n.stage n
+pub record IsBegun (q : code_phase.Phase) (f : Answers) (n : Notes) : Type 0 where
+  pub passed : IsPassed q f n n.disk
+  pub there : n.disk < n.of.disks
+  pub waiting : waits n.of (phase_in q) (f n.disk) ≡ true
+  pub suits : Suits q n.stage
+  pub answers : answered (phase_in q) n.stage ≡ start (phase_in q)
+  pub writes : Writes n.stage n.says (visit_at n.visits n.disk)
 
 -- all disks are done with in the phase, and a majority is left
-pub record IsOver (s : Setup) (f : Answers) (n : Notes) : Type 0 where
-  pub passed : IsPassed s f n s.disks
-  pub enough : are_enough s (is_left s (phase_of n) f) ≡ true
+pub record IsOver (q : code_phase.Phase) (f : Answers) (n : Notes) : Type 0 where
+  pub passed : IsPassed q f n n.of.disks
+  pub enough : are_enough n.of (is_left n.of (phase_in q) f) ≡ true
+
+-- enough disks are left by what is kept
+abbrev pub keeps_majority : Notes → Bool
+keeps_majority n = nat_lt n.of.disks (2 * count n.of.disks (λ e. (visit_at n.visits e).left))
+
+-- so many phases are to come
+abbrev pub phases_left : code_phase.Phase → ℕ
+phases_left phase.Opening = 2
+phases_left phase.One = 1
+phases_left phase.Two = 0

@@ -4,9 +4,9 @@
 mod end;
 mod heard;
 mod need;
-mod notes;
 mod one_attempt;
 mod phase;
+mod setup;
 mod visit;
 
 pub use end::End;

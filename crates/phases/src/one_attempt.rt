@@ -1,22 +1,34 @@
-ghost use Rattle.std.specs.Prelude.{◌≡◌, ◌<◌, ◌≤◌, ◌+◌, ◌*◌, ◌++◌, ◌∷◌, [], List, Some, None, length};
-ghost use Rattle.std.specs.Option.{option_map};
-ghost use Rattle.torn_block.specs.declared.layout.TheConstants.{HOSTS, DISKS, ROW_LENGTH};
-ghost use Rattle.paxos_block.specs.Places.{row_place};
-ghost use Rattle.attempt.specs.Answers.{Answered, on};
+ghost use Rattle.std.specs.Prelude.{◌≡◌, ◌≢◌, ◌<◌, ◌≤◌, ◌+◌, ◌*◌, ◌++◌, ◌∷◌, ◌^◌, [], ℕ, List, Some, None, IfSome, length, true, is_some, slice_set, max};
+ghost use Rattle.std.specs.Bool.{OnTrue, OnFalse};
+ghost use Rattle.torn_block.specs.declared.layout.TheConstants.{BLOCK_LENGTH, HOSTS, DISKS, ROW_LENGTH};
+ghost use Rattle.paxos_block.specs.Places.{place_of, row_place, VoteOf};
+ghost use Rattle.paxos_block.specs.Row.{row_said};
+ghost use Rattle.attempt.specs.Answers as answers;
+ghost use Rattle.attempt.specs.Answers.{Answers, Answered, on};
 ghost use Rattle.attempt.specs.History.{Fits};
 ghost use Rattle.attempt.specs.Laws.{IsServedAlone};
 ghost use Rattle.attempt.specs.NextCall.{next_call};
-ghost use Rattle.attempt.specs.Setup.{Setup};
+ghost use Rattle.attempt.specs.Setup as attempt;
 ghost use Rattle.attempt.specs.Status.{status, taken};
-ghost use Rattle.phases.specs.Calls.{call_of_need, heard_of, end_in, IsWithin};
-ghost use Rattle.phases.specs.Kept.{answer_of, IsSameAttempt, LeadsTo, call_due, end_of_status};
+ghost use Rattle.phases.specs.Calls.{call_of_need, device_call_of, heard_of, end_in, IsWithin};
+ghost use Rattle.phases.specs.Kept.{answer_of, IsSameAttempt, LeadsTo, Follows, call_due, end_of_status};
+ghost use Rattle.phases.specs.Moves.{Takes, ReadsAs, IsPassed, IsBegun, IsOver, outruns, noted, phases_left, keeps_majority};
+ghost use Rattle.phases.specs.Notes.{visit_at};
+ghost use Rattle.phases.specs.Steps.{FitsStage, write_due};
 
 use crate::end::End;
 use crate::heard::Heard;
-use crate::need::Need;
-use crate::notes::Notes;
-use paxos_block::Value;
+use crate::need::{DeviceCall, Need};
+use crate::phase::{Phase, Stage};
+use crate::setup::Setup;
+use crate::visit::{UNSEEN, Visit};
+use disk::Boot;
+use paxos_block::{PBlock, Row, Value, ballot_above, block_place, encode, row_place};
 use std::marker::Model;
+use torn_block::{BlockNeed, DISKS, ROW_LENGTH, WriteSteps};
+
+/// As many as there may be disks.
+const PLACES: usize = DISKS as usize;
 
 /// An attempt of a host on a slot: by Gafni and Lamport, "Disk Paxos" (2003), with blocks that survive torn writes.
 ///
@@ -24,18 +36,32 @@ use std::marker::Model;
 /// three times: it opens each and reads the slot's row, then it promises a ballot there, then it votes for a value.
 #[derive(Drop)]
 pub struct Attempt {
-    notes: Notes,
+    of: Setup,
+    /// The greatest of the floor and of every mbal in the opening's rows.
+    highest: u64,
+    /// The latest vote that was found: the host's own in the opening, and then any host's.
+    best: PBlock,
+    /// What is written in the phase; blank in the opening.
+    says: PBlock,
+    /// By the disks' numbers.
+    visits: [Visit; PLACES],
+    phase: Phase,
+    /// The disk that is visited.
+    disk: u8,
+    stage: Stage,
+    end: Option<End>,
 }
 
 impl Model for Attempt {
-    ghost use Rattle.phases.specs.declared.notes.Notes.{Notes};
-    ghost use Rattle.phases.specs.Kept.{answer_of, IsSound};
+    ghost use Rattle.phases.specs.Notes.{Notes, IsSound};
 
     ghost Value = { Notes };
 
-    ghost view = { λ attempt. attempt.notes };
+    ghost use Rattle.phases.specs.Inside.{notes_in};
 
-    ghost invariant = { λ attempt. IsSound attempt.notes };
+    ghost view = { notes_in };
+
+    ghost invariant = { λ a. IsSound (notes_in a) };
 }
 
 impl Attempt {
@@ -46,10 +72,24 @@ impl Attempt {
         requires few { disks ≤ DISKS }
         ensures leads { LeadsTo (record { host = host; slot = slot; disks = disks; floor = floor; input = input }) [] result }
         ensures going { result.end ≡ None }
-        ensures of { (result.host ≡ host) × (result.slot ≡ slot) × (result.disks ≡ disks) }
+        ensures of { result.of ≡ record { host = host; slot = slot; disks = disks; floor = floor; input = input } }
     {
         Attempt {
-            notes: Notes::new(host, slot, disks, floor, input),
+            of: Setup {
+                host,
+                slot,
+                disks,
+                floor,
+                input,
+            },
+            highest: floor,
+            best: PBlock::BLANK,
+            says: PBlock::BLANK,
+            visits: [UNSEEN; PLACES],
+            phase: Phase::Opening,
+            disk: 0,
+            stage: Stage::Attaching,
+            end: None,
         }
     }
 
@@ -57,15 +97,15 @@ impl Attempt {
     pub fn call(&self) -> Need<'_>
         requires { self.now.end ≡ None }
         // By the answers that lead here, with its boot number and its bytes.
-        ensures next { (s : Setup) (heard : List Answered) → LeadsTo s heard self.now →
+        ensures next { (s : attempt.Setup) (heard : List Answered) → LeadsTo s heard self.now →
             next_call s (on heard) ≡ Some (call_of_need result) }
         ensures due { call_of_need result ≡ call_due self.now }
-        ensures range { IsWithin (row_place self.now.slot + ROW_LENGTH) result.call }
-        ensures disk { result.disk < self.now.disks }
+        ensures range { IsWithin (row_place self.now.of.slot + ROW_LENGTH) result.call }
+        ensures disk { result.disk < self.now.of.disks }
     {
         Need {
-            disk: self.notes.disk,
-            call: self.notes.call(),
+            disk: self.disk,
+            call: self.device_call(),
         }
     }
 
@@ -74,32 +114,373 @@ impl Attempt {
     pub fn hear(&mut self, heard: &Heard<'_>)
         requires going { self.old.end ≡ None }
         requires fits { Fits (call_due self.old).1 (heard_of heard.now) }
-        ensures leads { (s : Setup) (answers : List Answered) → LeadsTo s answers self.old →
+        ensures leads { (s : attempt.Setup) (answers : List Answered) → LeadsTo s answers self.old →
             LeadsTo s (answers ++ answer_of self.old heard.now ∷ []) self.new }
-        ensures bound { (s : Setup) (answers : List Answered) → LeadsTo s answers self.old →
+        ensures bound { (s : attempt.Setup) (answers : List Answered) → LeadsTo s answers self.old →
             length (answers ++ answer_of self.old heard.now ∷ []) ≤ 17 * s.disks }
-        ensures alone { (s : Setup) (answers : List Answered) → LeadsTo s answers self.old →
+        ensures alone { (s : attempt.Setup) (answers : List Answered) → LeadsTo s answers self.old →
             IsServedAlone s (answers ++ answer_of self.old heard.now ∷ []) }
         ensures same { IsSameAttempt self.old self.new }
     {
-        self.notes.hear(heard);
+        self.take(heard);
     }
 
     /// How it has ended, if it has.
     pub fn end(&self) -> Option<End>
-        ensures end { (s : Setup) (heard : List Answered) → LeadsTo s heard self.now →
+        ensures end { (s : attempt.Setup) (heard : List Answered) → LeadsTo s heard self.now →
             end_in result ≡ end_of_status (status s (on heard)) }
         ensures told { result ≡ self.now.end }
     {
-        self.notes.end
+        self.end
     }
 
     /// The ballot that it has taken, 0 before.
     pub fn ballot(&self) -> u64
-        ensures { (s : Setup) (heard : List Answered) → LeadsTo s heard self.now →
+        ensures { (s : attempt.Setup) (heard : List Answered) → LeadsTo s heard self.now →
             result ≡ taken s (on heard) }
     {
-        self.notes.says.mbal
+        self.says.mbal
+    }
+}
+
+// What each answer changes.
+impl Attempt {
+    // The call that is due, on the disk that is visited.
+    fn device_call(&self) -> DeviceCall<'_>
+        ensures due { device_call_of result ≡ (call_due self.now).1 }
+        ensures range { IsWithin (row_place self.now.of.slot + ROW_LENGTH) result }
+    {
+        let boot = self.visits[usize::from(self.disk)].boot;
+        let slot = u32::from(self.of.slot);
+        match &self.stage {
+            Stage::Attaching => DeviceCall::Attach,
+            Stage::Syncing => DeviceCall::Sync { boot },
+            Stage::Writing(steps) => write_call(steps, block_place(slot, self.of.host), boot),
+            Stage::Reading => DeviceCall::Read {
+                boot,
+                at: row_place(slot),
+            },
+        }
+    }
+
+    #[inline(always)]
+    fn take(&mut self, heard: &Heard<'_>)
+        requires going { self.old.end ≡ None }
+        requires fits { FitsStage self.old.stage heard.now }
+        ensures of { self.new.of ≡ self.old.of }
+        ensures follows { Takes (heard_of heard.now) self.old self.new }
+    {
+        match heard {
+            Heard::Booted(boot) => self.attach(*boot),
+            Heard::Done => self.succeed(),
+            Heard::Told(bytes) => self.hear_row(bytes),
+            Heard::Fault(_) => self.drop_disk(),
+        }
+    }
+
+    // The disk was attached.
+    fn attach(&mut self, boot: Boot)
+        requires going { self.old.end ≡ None }
+        requires stage { self.old.stage ≡ Stage.Attaching }
+        ensures of { self.new.of ≡ self.old.of }
+        ensures follows { Takes (answers.Booted boot.number) self.old self.new }
+    {
+        self.visits[usize::from(self.disk)].boot = boot;
+        self.stage = Stage::Syncing;
+    }
+
+    // A sync, or a call of a write, succeeded. Behind the last of a write the row is read.
+    fn succeed(&mut self)
+        requires going { self.old.end ≡ None }
+        requires stage { FitsStage self.old.stage Heard.Done }
+        ensures of { self.new.of ≡ self.old.of }
+        ensures follows { Takes answers.Done self.old self.new }
+    {
+        self.stage.succeed();
+    }
+
+    // The bytes of a row were read. A function pays for the room of its row at its start, so that room is here and not
+    // in `hear`, to which most answers bring no row.
+    #[inline(never)]
+    fn hear_row(&mut self, bytes: &[u8; ROW_LENGTH])
+        requires going { self.old.end ≡ None }
+        requires stage { self.old.stage ≡ Stage.Reading }
+        ensures of { self.new.of ≡ self.old.of }
+        ensures follows { Takes (answers.Told (row_said bytes.now)) self.old self.new }
+    {
+        let mut row = Row::BLANK;
+        match row.read(bytes) {
+            Ok(()) => self.take_row(&row),
+            Err(_) => self.drop_disk(),
+        }
+    }
+
+    // A bad answer drops the disk for the rest of the attempt.
+    fn drop_disk(&mut self)
+        requires { self.old.end ≡ None }
+        ensures of { self.new.of ≡ self.old.of }
+        ensures follows { (x : answers.Heard) → answers.is_bad x ≡ true → Takes x self.old self.new }
+    {
+        self.visits[usize::from(self.disk)].left = false;
+        let next = self.disk + 1;
+        self.go_on(next);
+    }
+
+    // The row of the phase was read.
+    fn take_row(&mut self, row: &Row)
+        requires going { self.old.end ≡ None }
+        requires stage { self.old.stage ≡ Stage.Reading }
+        requires row { (bytes : List ℕ) × ReadsAs bytes row.now }
+        ensures of { self.new.of ≡ self.old.of }
+        ensures follows { (bytes : List ℕ) → ReadsAs bytes row.now →
+            Takes (answers.Told (row_said bytes)) self.old self.new }
+    {
+        if let Some(mbal) = self.faster(row) {
+            self.end = Some(End::Outrun(mbal));
+            return;
+        }
+        self.note(row);
+        self.visits[usize::from(self.disk)].block = row.cell(self.of.host).block;
+        let next = self.disk + 1;
+        self.go_on(next);
+    }
+
+    // Another host's ballot in the row, where it outruns the one that was taken.
+    fn faster(&self, row: &Row) -> Option<u64>
+        ensures { (bytes : List ℕ) (reads : ReadsAs bytes row.now) → result ≡ outruns self.now.phase self.now reads.seen }
+    {
+        if self.phase == Phase::Opening {
+            return None;
+        }
+        let others = row.others_mbal(self.of.host);
+        if self.says.mbal < others {
+            Some(others)
+        } else {
+            None
+        }
+    }
+
+    // What the row says of ballots and votes.
+    fn note(&mut self, row: &Row)
+        requires { (bytes : List ℕ) × ReadsAs bytes row.now }
+        ensures { (bytes : List ℕ) (reads : ReadsAs bytes row.now) → self.new ≡ noted self.old.phase self.old reads.seen }
+    {
+        let host = self.of.host;
+        match self.phase {
+            Phase::Opening => {
+                self.highest = self.highest.max(row.greatest_mbal());
+                self.best = self.best.or_later(&row.cell(host).says);
+            }
+            Phase::One => self.best = row.latest_vote(host, self.best),
+            Phase::Two => {}
+        }
+    }
+}
+
+// What follows once a disk is done with.
+impl Attempt {
+    // The disks below this one are done with in the phase. Where all are, the next phase begins, or the attempt ends.
+    fn go_on(&mut self, from: u8)
+        requires going { self.old.end ≡ None }
+        requires from { from ≤ self.old.of.disks }
+        ensures of { self.new.of ≡ self.old.of }
+        ensures follows { (f : Answers) → IsPassed self.old.phase f self.old from → Follows f self.new }
+    {
+        let mut from = from;
+        while self.is_over(from) && self.begin_phase() {
+            from = 0;
+        }
+    }
+
+    // The phase is over: the next one begins. False where there is none, and the attempt ends.
+    fn begin_phase(&mut self) -> bool
+        requires { self.old.end ≡ None }
+        ensures of { self.new.of ≡ self.old.of }
+        ensures fewer { OnTrue result (phases_left self.new.phase < phases_left self.old.phase) }
+        ensures going { OnTrue result (self.new.end ≡ None) }
+        ensures begins { OnTrue result ((f : Answers) → IsOver self.old.phase f self.old →
+            IsPassed self.new.phase f self.new 0) }
+        ensures ends { OnFalse result ((f : Answers) → IsOver self.old.phase f self.old → Follows f self.new) }
+    {
+        match self.phase {
+            Phase::Opening => self.take_ballot(),
+            Phase::One => self.propose(),
+            Phase::Two => {
+                let Some(value) = self.says.inp else {
+                    unreachable!()
+                };
+                self.end = Some(End::Committed(value));
+                false
+            }
+        }
+    }
+
+    // The opening is over: the ballot is taken, and phase 1 begins.
+    fn take_ballot(&mut self) -> bool
+        requires going { self.old.end ≡ None }
+        requires phase { self.old.phase ≡ Phase.Opening }
+        ensures of { self.new.of ≡ self.old.of }
+        ensures fewer { OnTrue result (phases_left self.new.phase < phases_left self.old.phase) }
+        ensures going { OnTrue result (self.new.end ≡ None) }
+        ensures begins { OnTrue result ((f : Answers) → IsOver self.old.phase f self.old →
+            IsPassed self.new.phase f self.new 0) }
+        ensures ends { OnFalse result ((f : Answers) → IsOver self.old.phase f self.old → Follows f self.new) }
+    {
+        let Some(ballot) = ballot_above(self.of.host, self.highest) else {
+            self.end = Some(End::BallotsSpent);
+            return false;
+        };
+        self.phase = Phase::One;
+        self.says = PBlock {
+            mbal: ballot,
+            bal: self.best.bal,
+            inp: self.best.inp,
+        };
+        true
+    }
+
+    // Phase 1 is over: the proposal is found, and phase 2 begins.
+    fn propose(&mut self) -> bool
+        requires going { self.old.end ≡ None }
+        requires phase { self.old.phase ≡ Phase.One }
+        ensures of { self.new.of ≡ self.old.of }
+        ensures fewer { OnTrue result (phases_left self.new.phase < phases_left self.old.phase) }
+        ensures going { OnTrue result (self.new.end ≡ None) }
+        ensures begins { OnTrue result ((f : Answers) → IsOver self.old.phase f self.old →
+            IsPassed self.new.phase f self.new 0) }
+        ensures ends { OnFalse result ((f : Answers) → IsOver self.old.phase f self.old → Follows f self.new) }
+    {
+        let Some(value) = self.best.inp.or(self.of.input) else {
+            self.end = Some(End::Empty);
+            return false;
+        };
+        self.phase = Phase::Two;
+        self.says = PBlock {
+            mbal: self.says.mbal,
+            bal: self.says.mbal,
+            inp: Some(value),
+        };
+        true
+    }
+
+    // Visits the next disk that is left, from this one on. True where the phase is over, with a majority left.
+    fn is_over(&mut self, from: u8) -> bool
+        requires going { self.old.end ≡ None }
+        requires from { from ≤ self.old.of.disks }
+        ensures of { self.new.of ≡ self.old.of }
+        ensures phase { self.new.phase ≡ self.old.phase }
+        ensures going { OnTrue result (self.new.end ≡ None) }
+        ensures over { OnTrue result ((f : Answers) → IsPassed self.old.phase f self.old from →
+            IsOver self.old.phase f self.new) }
+        ensures visits { OnFalse result ((f : Answers) → IsPassed self.old.phase f self.old from →
+            Follows f self.new) }
+    {
+        let visits_one = self.visit_next(from);
+        if !self.has_majority() {
+            self.end = Some(End::NoMajority);
+            return false;
+        }
+        !visits_one
+    }
+
+    // Begins the phase on the first disk that is left, from this one on, if there is one.
+    fn visit_next(&mut self, from: u8) -> bool
+        requires { from ≤ self.old.of.disks }
+        ensures of { self.new.of ≡ self.old.of }
+        ensures same { (self.new.phase ≡ self.old.phase) × (self.new.end ≡ self.old.end) }
+        ensures begun { OnTrue result ((f : Answers) → IsPassed self.old.phase f self.old from →
+            IsBegun self.old.phase f self.new) }
+        ensures none { OnFalse result ((f : Answers) → IsPassed self.old.phase f self.old from →
+            IsPassed self.old.phase f self.new self.new.of.disks) }
+    {
+        for disk in from..self.of.disks {
+            if self.visit(disk) {
+                return true;
+            }
+        }
+        false
+    }
+
+    // Begins the phase on a disk if it is left. One whose write is due to a spent block is dropped.
+    fn visit(&mut self, disk: u8) -> bool
+        requires { disk < self.old.of.disks }
+        ensures of { self.new.of ≡ self.old.of }
+        ensures same { (self.new.phase ≡ self.old.phase) × (self.new.end ≡ self.old.end) }
+        ensures begun { OnTrue result ((f : Answers) → IsPassed self.old.phase f self.old disk →
+            IsBegun self.old.phase f self.new) }
+        ensures passed { OnFalse result ((f : Answers) → IsPassed self.old.phase f self.old disk →
+            IsPassed self.old.phase f self.new (disk + 1)) }
+    {
+        if !self.is_left(disk) {
+            return false;
+        }
+        match self.phase {
+            Phase::Opening => {
+                self.disk = disk;
+                self.stage = Stage::Attaching;
+                true
+            }
+            Phase::One | Phase::Two => self.begin_write(disk),
+        }
+    }
+
+    // Begins the write of the phase on a disk, or drops it where its block is spent.
+    fn begin_write(&mut self, disk: u8) -> bool
+        requires disk { disk < self.old.of.disks }
+        requires phase { self.old.phase ≢ Phase.Opening }
+        requires left { (visit_at self.old.visits disk).left ≡ true }
+        ensures of { self.new.of ≡ self.old.of }
+        ensures same { (self.new.phase ≡ self.old.phase) × (self.new.end ≡ self.old.end) }
+        ensures begun { OnTrue result ((f : Answers) → IsPassed self.old.phase f self.old disk →
+            IsBegun self.old.phase f self.new) }
+        ensures passed { OnFalse result ((f : Answers) → IsPassed self.old.phase f self.old disk →
+            IsPassed self.old.phase f self.new (disk + 1)) }
+    {
+        let body = encode(self.of.host, &self.says);
+        let Ok(steps) = WriteSteps::new(&self.visits[usize::from(disk)].block, &body) else {
+            self.visits[usize::from(disk)].left = false;
+            return false;
+        };
+        self.disk = disk;
+        self.stage = Stage::Writing(steps);
+        true
+    }
+
+    fn is_left(&self, disk: u8) -> bool
+        requires { disk < self.now.of.disks }
+        ensures { result ≡ (visit_at self.now.visits disk).left }
+    {
+        self.visits[usize::from(disk)].left
+    }
+
+    fn has_majority(&self) -> bool
+        ensures { result ≡ keeps_majority self.now }
+    {
+        let mut left = 0;
+        for disk in 0..self.of.disks {
+            if self.is_left(disk) {
+                left += 1;
+            }
+        }
+        usize::from(self.of.disks) < 2 * left
+    }
+}
+
+// The call of a write that is due.
+fn write_call(steps: &WriteSteps, place: u64, boot: Boot) -> DeviceCall<'_>
+    requires due { is_some steps.now.due ≡ true }
+    requires place { place + BLOCK_LENGTH < 2 ^ 63 }
+    ensures due { device_call_of result ≡ write_due place boot.number steps.now steps.now.due }
+    ensures range { IsWithin (place + BLOCK_LENGTH) result }
+{
+    match steps.next() {
+        Some(BlockNeed::Write { at, bytes }) => DeviceCall::Write {
+            boot,
+            at: place + at,
+            bytes,
+        },
+        Some(BlockNeed::Sync) => DeviceCall::Sync { boot },
+        None => unreachable!(),
     }
 }
 

@@ -1,3 +1,9 @@
+ghost use Rattle.std.specs.Prelude.{◌≡◌};
+ghost use Rattle.phases.specs.declared.heard.Heard.TheVariants.{Done};
+ghost use Rattle.phases.specs.Steps.{FitsStage, stage_then};
+
+use torn_block::WriteSteps;
+
 /// The three parts of an attempt: rows are read, a ballot is promised, a value is voted for.
 #[derive(Clone, Copy, Debug, PartialEq, Eq)]
 pub enum Phase {
@@ -7,12 +13,31 @@ pub enum Phase {
 }
 
 /// What comes next on a disk in a phase.
-#[derive(Clone, Copy, Debug, PartialEq, Eq)]
+#[derive(Drop)]
 pub enum Stage {
     Attaching,
     Syncing,
     /// One of the six calls of a write.
-    Writing,
+    Writing(WriteSteps),
     /// The phase's row.
     Reading,
+}
+
+impl Stage {
+    /// What comes next where a sync, or a call of a write, succeeded.
+    pub fn succeed(&mut self)
+        requires { FitsStage self.old Done }
+        ensures { self.new ≡ stage_then self.old }
+    {
+        match self {
+            Stage::Syncing => *self = Stage::Reading,
+            Stage::Writing(steps) => {
+                steps.done();
+                if steps.is_done() {
+                    *self = Stage::Reading;
+                }
+            }
+            Stage::Attaching | Stage::Reading => unreachable!(),
+        }
+    }
 }

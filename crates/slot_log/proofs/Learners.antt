@@ -7,7 +7,7 @@ use Rattle.attempt.specs.Status as attempt
 use Rattle.attempt.specs.Status.{Status, Due, Ended, status, taken}
 use Rattle.phases.specs.declared.end.End.{End}
 use Rattle.phases.specs.declared.end.End.TheVariants as end
-use Rattle.phases.specs.declared.notes.Notes.{Notes}
+use Rattle.phases.specs.Notes.{Notes}
 use Rattle.phases.specs.Calls.{end_of, end_in}
 use Rattle.phases.specs.Kept as attempts
 use Rattle.phases.specs.Kept.{end_of_status}

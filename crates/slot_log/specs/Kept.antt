@@ -4,7 +4,7 @@ use Rattle.disk.specs.Disk as device
 use Rattle.torn_block.specs.declared.layout.TheConstants.{HOSTS, DISKS, SLOTS}
 use Rattle.phases.specs.declared.end.End.{End}
 use Rattle.phases.specs.declared.end.End.TheVariants as end
-use Rattle.phases.specs.declared.notes.Notes.{Notes}
+use Rattle.phases.specs.Notes.{Notes}
 use Rattle.phases.specs.Kept as attempts
 use Rattle.slot_log.specs.Shape.{Shape}
 use Rattle.slot_log.specs.Learning.{Doing, Memory, setup_of}
@@ -60,8 +60,8 @@ GoesOn (Some other) = ⊥
 pub record IsTrying (k : Kept) (task : Task) : Type 0 where
   pub tries : 1 ≤ task.tries
   pub slot : length k.learned < k.shape.slots
-  pub is_slot : k.attempt.slot ≡ length k.learned
-  pub as_many : k.attempt.disks ≡ k.shape.disks
+  pub is_slot : k.attempt.of.slot ≡ length k.learned
+  pub as_many : k.attempt.of.disks ≡ k.shape.disks
   pub goes_on : GoesOn k.attempt.end
 
 abbrev pub IsUnderWay : Kept → Option Task → Type 0

@@ -100,8 +100,8 @@ fn answer<'a>(disk: &mut SimDisk, call: &DeviceCall<'_>, row: &'a mut [u8; ROW_L
 
 // Makes so many calls, or fewer where the attempt ends, and counts them.
 fn drive(attempt: &mut Attempt, disks: &mut [SimDisk], calls: usize) -> usize
-    requires { attempt.old.slot ≡ 0 }
-    ensures { attempt.new.slot ≡ 0 }
+    requires { attempt.old.of.slot ≡ 0 }
+    ensures { attempt.new.of.slot ≡ 0 }
 {
     let mut row = [0; ROW_LENGTH];
     for made in 0..calls {

@@ -1,0 +1,12 @@
+use Rattle.std.proofs.Common.{◌≡◌, ap, subst, arith}
+use Rattle.attempt.specs.Setup.{Setup}
+use Rattle.phases.specs.Moves.{IsPassed}
+use Rattle.phases.specs.Notes.{Notes}
+use Rattle.phases.proofs.one_attempt.Attempt.visit_next.Goals as goal
+
+pub returns-clause-none : goal.returns-clause-none
+returns-clause-none c f is =
+    let same = ap (λ (s : Setup). s.disks) c.loop-disk.invariant.of in
+    let opened = ap (λ (n : Notes). n.of.disks) c.self.view_is in
+    let all : c.loop-disk.disk ≡ c.loop-disk.self.of.disks = omega arith in
+    subst (IsPassed c.args.self.now.phase f c.loop-disk.self) all (c.loop-disk.invariant.passed f is)

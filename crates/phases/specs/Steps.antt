@@ -1,0 +1,67 @@
+-- Where an attempt is with the calls of a phase on one disk.
+use Rattle.std.specs.Prelude.{◌≡◌, ◌+◌, ℕ, pred, true, Option, Some, None, is_some}
+use Rattle.disk.specs.Disk as device
+use Rattle.torn_block.specs.declared.write_steps.WriteCall.{WriteCall}
+use Rattle.torn_block.specs.declared.write_steps.WriteCall.TheVariants.{CloseGate, SyncClosed, PutBody, SyncBody, OpenGate, SyncOpened}
+use Rattle.torn_block.specs.Plan.{Plan, next_after, need_at, device_call}
+use Rattle.attempt.specs.Calls.{Phase, start, goal}
+use Rattle.phases.specs.declared.heard.Heard as code_heard
+use Rattle.phases.specs.declared.heard.Heard.TheVariants as answer
+use Rattle.phases.specs.declared.phase.Phase as code_phase
+use Rattle.phases.specs.declared.phase.Phase.TheVariants as phase
+use Rattle.phases.specs.declared.phase.Stage.{Stage}
+use Rattle.phases.specs.declared.phase.Stage.TheVariants as stage
+
+-- so many calls of a write were answered
+abbrev pub made : Option WriteCall → ℕ
+made (Some CloseGate) = 0
+made (Some SyncClosed) = 1
+made (Some PutBody) = 2
+made (Some SyncBody) = 3
+made (Some OpenGate) = 4
+made (Some SyncOpened) = 5
+made None = 6
+
+-- and so many of all the calls on a disk
+abbrev pub answered : Phase → Stage → ℕ
+answered p stage.Attaching = 0
+answered p stage.Syncing = 1
+answered p (stage.Writing plan) = start p + made plan.due
+answered p stage.Reading = pred (goal p)
+
+-- the opening has no writes, and the other phases neither attach nor sync
+abbrev pub Suits : code_phase.Phase → Stage → Type 0
+Suits phase.Opening (stage.Writing plan) = ⊥
+Suits phase.One stage.Attaching = ⊥
+Suits phase.One stage.Syncing = ⊥
+Suits phase.Two stage.Attaching = ⊥
+Suits phase.Two stage.Syncing = ⊥
+Suits p other = Unit {0}
+
+-- of a write under way a call is due
+abbrev pub IsDueIn : Stage → Type 0
+IsDueIn (stage.Writing plan) = is_some plan.due ≡ true
+IsDueIn other = Unit {0}
+
+-- an answer of the kind that the call may get
+abbrev pub FitsStage : Stage → code_heard.Heard → Type 0
+FitsStage stage (answer.Fault fault) = Unit {0}
+FitsStage stage.Attaching (answer.Booted boot) = Unit {0}
+FitsStage stage.Syncing answer.Done = Unit {0}
+FitsStage (stage.Writing plan) answer.Done = Unit {0}
+FitsStage stage.Reading (answer.Told row) = Unit {0}
+FitsStage stage other = ⊥
+
+-- behind the last call of a write the row is read
+abbrev pub write_then : Plan → Option WriteCall → Stage
+write_then plan None = stage.Reading
+write_then plan (Some call) = stage.Writing (record plan { due = Some call })
+
+-- what comes next where a sync, or a call of a write, succeeded
+abbrev pub stage_then : Stage → Stage
+stage_then (stage.Writing plan) = write_then plan (next_after plan.due)
+stage_then other = stage.Reading
+
+abbrev pub write_due : ℕ → ℕ → Plan → Option WriteCall → device.Call
+write_due place boot plan None = device.Sync boot
+write_due place boot plan (Some call) = device_call place boot (need_at plan call)
