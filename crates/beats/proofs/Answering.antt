@@ -15,7 +15,7 @@ use Rattle.torn_block.specs.Plan.{Plan, IsReading, told_value, plan_by, need_at,
 use Rattle.torn_block.proofs.PlanLaws.{plan_calls}
 use Rattle.torn_block.specs.Stage.{Write128, next_call as call_behind, call_of}
 use Rattle.paxos_block.specs.Places.{place_of, BeatOf}
-use Rattle.phases.specs.Kept.{made, write_due}
+use Rattle.phases.specs.Steps.{made, write_due}
 use Rattle.heartbeat.specs.Beat.{beat_body, counter_of, counter_at, counters_in}
 use Rattle.beats.specs.Answers.{Heard, Booted, Done, Told, Answers, more, is_bad, reading_of}
 use Rattle.std.specs.Option.{option_map}

@@ -8,7 +8,7 @@ use Rattle.torn_block.specs.Damage.{block_of}
 use Rattle.torn_block.specs.Plan.{IsReading, plan_by}
 use Rattle.paxos_block.specs.Places.{place_of, BeatOf, area_place}
 use Rattle.attempt.specs.Numbers.{count}
-use Rattle.phases.specs.Kept.{made, write_due}
+use Rattle.phases.specs.Steps.{made, write_due}
 use Rattle.heartbeat.specs.Beat.{beat_body, counter_of}
 use Rattle.beats.specs.Answers.{Heard, Booted, Done, Told, Answered, Answers, on, reading_of}
 use Rattle.beats.specs.Calls.{heard_of}

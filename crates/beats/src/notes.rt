@@ -5,7 +5,7 @@ ghost use Rattle.torn_block.specs.Damage.{block_of};
 ghost use Rattle.torn_block.specs.Plan.{IsReading};
 ghost use Rattle.paxos_block.specs.Places.{place_of, BeatOf, area_place};
 ghost use Rattle.phases.specs.Calls.{IsWithin, device_call_of};
-ghost use Rattle.phases.specs.Kept.{write_due};
+ghost use Rattle.phases.specs.Steps.{write_due};
 ghost use Rattle.heartbeat.specs.Beat.{counters_in};
 ghost use Rattle.beats.specs.Answers as answers;
 ghost use Rattle.beats.specs.Answers.{Answers, more};
