@@ -2,7 +2,7 @@ ghost use Rattle.cluster.specs.Opening.{IsNamed};
 
 use crate::failure::Failure;
 use crate::first_path::command_at;
-use cluster::{Cluster, Config, Entry, HostFault, HostSeat, Named, OpenGate, Opening};
+use cluster::{Cluster, Config, Entry, HostFault, HostSeat, Named, OpenGate, Opening, Receipt};
 use disk::SimDisk;
 use lock_command::HostNumber;
 use std::alloc::{AllocGlobal, Global};
@@ -105,7 +105,12 @@ fn submit_once<N: Named>(
     if !seat.idle() {
         return None;
     }
-    match cluster.submit(rt, seat, &mut OpenGate, command, 255) {
+    ended(&cluster.submit(rt, seat, &mut OpenGate, command, 255))
+}
+
+// A submission that the hosts refused has ended too.
+fn ended(done: &Result<Receipt, HostFault>) -> Option<()> {
+    match done {
         Ok(_) | Err(HostFault::Refused(_)) => Some(()),
         Err(_) => None,
     }
