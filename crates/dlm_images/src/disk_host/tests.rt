@@ -36,11 +36,11 @@ fn submitted<D: Disk>(host: &mut DiskHost<D>, client: u8, mode: Mode) -> Option<
     Some((done.slot, done.reply))
 }
 
+// Number, client, host and state of a lock that a table shows.
+type Line = (u16, u8, u8, LockState);
+
 // The locks of the table, in the order in which they are shown.
-fn shown<D: Disk>(
-    alloc: Global,
-    host: &DiskHost<D>,
-) -> Result<Vec<(u16, u8, u8, LockState)>, Fail> {
+fn shown<D: Disk>(alloc: Global, host: &DiskHost<D>) -> Result<Vec<Line>, Fail> {
     let picture = host.table().picture(alloc)?;
     let mut shown = Vec::new(alloc);
     for lock in picture.locks() {
@@ -54,38 +54,65 @@ fn shown<D: Disk>(
     Ok(shown)
 }
 
-// A folder is opened once. The host that stays open over it goes on where its last submission ended, and its table has them all.
+// What the submissions of three clients come to through one host.
+fn three_submitted<D: Disk>(host: &mut DiskHost<D>) -> [Option<(u16, Reply)>; 3] {
+    let first = submitted(host, 1, Mode::ConcurrentRead);
+    let second = submitted(host, 2, Mode::ConcurrentWrite);
+    let third = submitted(host, 3, Mode::ProtectedRead);
+    [first, second, third]
+}
+
+// What they come to through host 0, which stays open over the folder, and the locks that its table shows then.
+fn submit_three(
+    rt: &HostRuntime,
+    folder: &str,
+) -> Result<([Option<(u16, Reply)>; 3], Vec<Line>), Fail> {
+    let number = HostNumber::new(0).ok_or("a host")?;
+    let mut host = open_folder(rt, folder)?.host(rt.alloc(), number)?;
+    let done = three_submitted(&mut host);
+    Ok((done, shown(rt.alloc(), &host)?))
+}
+
+// How many commands host 1 learns from the folder, and the locks that its table shows then.
+fn learn_all(rt: &HostRuntime, folder: &str) -> Result<(u16, Vec<Line>), Fail> {
+    let number = HostNumber::new(1).ok_or("a host")?;
+    let mut host = open_folder(rt, folder)?.host(rt.alloc(), number)?;
+    let learned = host.recover(8)?;
+    Ok((learned, shown(rt.alloc(), &host)?))
+}
+
+// A folder of three images with nothing in them.
+fn make(rt: &HostRuntime, folder: &str) -> Result<(), Fail> {
+    let _ = fs::remove_dir_all(rt, folder);
+    fs::create_dir(rt, folder)?;
+    format_folder(rt, folder, Config::new(3, 8).ok_or("a size")?, 7)?;
+    Ok(())
+}
+
+// A folder is opened once. The host that stays open over it goes on where its last submission ended, and its table has them
+// all; another host learns the same from the files.
 #[test]
 fn host_that_stays_open(rt: HostRuntime) -> Result<(), Fail> {
     let folder = "dlm_images_open";
-    let _ = fs::remove_dir_all(&rt, folder);
-    fs::create_dir(&rt, folder)?;
-    format_folder(&rt, folder, Config::new(3, 8).ok_or("a size")?, 7)?;
-    let opened = open_folder(&rt, folder)?;
-    let mut host = opened.host(rt.alloc(), HostNumber::new(0).ok_or("a host")?)?;
-    assert_eq!(rt;
-        submitted(&mut host, 1, Mode::ConcurrentRead),
-        Some((0, Reply::Granted))
-    );
-    assert_eq!(rt;
-        submitted(&mut host, 2, Mode::ConcurrentWrite),
-        Some((1, Reply::Granted))
-    );
-    assert_eq!(rt;
-        submitted(&mut host, 3, Mode::ProtectedRead),
-        Some((2, Reply::Queued))
-    );
     let want = [
         (1, 1, 0, LockState::Granted(Mode::ConcurrentRead)),
         (2, 2, 0, LockState::Granted(Mode::ConcurrentWrite)),
         (3, 3, 0, LockState::Waiting(Mode::ProtectedRead)),
     ];
-    assert_eq!(rt; shown(rt.alloc(), &host)?.as_slice(), want.as_slice());
-    // Another host learns the same from the files.
-    let again = open_folder(&rt, folder)?;
-    let mut other = again.host(rt.alloc(), HostNumber::new(1).ok_or("a host")?)?;
-    assert_eq!(rt; other.recover(8)?, 3);
-    assert_eq!(rt; shown(rt.alloc(), &other)?.as_slice(), want.as_slice());
+    make(&rt, folder)?;
+    let (done, held) = submit_three(&rt, folder)?;
+    assert_eq!(rt;
+        done,
+        [
+            Some((0, Reply::Granted)),
+            Some((1, Reply::Granted)),
+            Some((2, Reply::Queued))
+        ]
+    );
+    assert_eq!(rt; held.as_slice(), want.as_slice());
+    let (learned, same) = learn_all(&rt, folder)?;
+    assert_eq!(rt; learned, 3);
+    assert_eq!(rt; same.as_slice(), want.as_slice());
     fs::remove_dir_all(&rt, folder)?;
     Ok(())
 }
