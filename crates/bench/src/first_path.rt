@@ -94,7 +94,8 @@ fn submit_at<N: Named>(
 
 /// A refusal by the hosts or by the lock table ends the benchmark.
 fn end_of(done: Result<Receipt, HostFault>) -> Result<(), Failure> {
-    match done?.reply {
+    let receipt = done?;
+    match receipt.reply {
         Reply::Refused(_) => Err(Failure::Wrong),
         _ => Ok(()),
     }
