@@ -4,7 +4,7 @@ ghost use Rattle.cluster.specs.Opening.{IsNamed};
 use crate::failure::Failure;
 use crate::tables::row_name;
 use crate::timing::{ROUNDS, Timing};
-use cluster::{Cluster, Config, HostFault, HostSeat, Named, OpenGate, Opening, Receipt};
+use cluster::{Cluster, Config, HostSeat, Named, OpenGate, Opening};
 use disk::SimDisk;
 use lock_command::{Action, ClientNumber, Command, HostNumber, LockNumber, RequestNumber};
 use lock_modes::Mode;
@@ -89,12 +89,7 @@ fn submit_at<N: Named>(
     if !seat.idle() {
         return Err(Failure::Wrong);
     }
-    end_of(cluster.submit(rt, seat, &mut OpenGate, command, 1))
-}
-
-/// A refusal by the hosts or by the lock table ends the benchmark.
-fn end_of(done: Result<Receipt, HostFault>) -> Result<(), Failure> {
-    let receipt = done?;
+    let receipt = cluster.submit(rt, seat, &mut OpenGate, command, 1)?;
     match receipt.reply {
         Reply::Refused(_) => Err(Failure::Wrong),
         _ => Ok(()),
