@@ -1,14 +1,32 @@
 # To be sourced by `dlm` and `bench.sh`, which set `top` to the root: builds a program where it is missing, or where its code or contracts
 # changed since its last build began.
 
+# Sets `below` to the libraries of the repository that a crate stands on, lowest first: crates.txt names for each crate those that its own files cite.
+find_below() {
+    local name libraries
+    local -A named=()
+    while read -r name libraries; do
+        [[ -z $name ]] || named[${name%:}]=$libraries
+    done < "$top/crates.txt"
+    below=()
+    add_below "$1"
+}
+
+add_below() {
+    local library
+    for library in ${named[$1]-}; do
+        [[ -n ${named[$library]+listed} && " ${below[*]-} " != *" $library "* ]] || continue
+        add_below "$library"
+        below+=("$library")
+    done
+}
+
 # Sets `sources` to the folders of the code and the contracts of a crate and those that it stands on. What stands in proofs/ changes nothing that runs.
 find_sources() {
-    local name libraries crate folder
-    while read -r name libraries; do
-        [[ $name != "$1:" ]] || break
-    done < "$top/crates.txt"
+    local below crate folder
+    find_below "$1"
     sources=("$top/crates.txt")
-    for crate in "$1" $libraries; do
+    for crate in "$1" "${below[@]}"; do
         for folder in "$top/crates/$crate/"{src,specs}; do
             [[ ! -d $folder ]] || sources+=("$folder")
         done
@@ -40,16 +58,29 @@ show_progress() {
     done 3> "$2"
 }
 
-# `rt run` proves and builds, and runs what it built, here on the arguments. The program gets the time at which that began.
+# prove PROGRAM CRATE LOG WORD..: one run of `rt` in the folder of a crate.
+prove() {
+    local program=$1 crate=$2 log=$3
+    shift 3
+    (cd -- "$top/crates/$crate" && rt "$@" < /dev/null 2>&1) | show_progress "$program" "$log"
+}
+
+# A run of `rt` proves the libraries below it in turn, and lets no other run into them. The disks' and the lock table's share none, so these two go first, side by side.
+# `rt run` proves what is left and builds, and runs what it built, here on the arguments. The program gets the time at which that began.
 build() {
-    local crate=$1 stamp ended=0
+    local crate=$1 stamp library below ended=0
     shift
     stamp=$(mktemp)
-    (cd -- "$top/crates/$crate" && rt run -- "$@" < /dev/null 2>&1) | show_progress "$crate" "$stamp.log" || ended=1
+    find_below "$crate"
+    for library in beats inspect; do
+        [[ " ${below[*]-} " != *" $library "* ]] || prove "$crate" "$library" "$stamp.$library" lib &
+    done
+    wait
+    prove "$crate" "$crate" "$stamp.run" run -- "$@" || ended=1
     mkdir -p -- "$top/crates/$crate/out"
-    mv -- "$stamp.log" "$top/crates/$crate/out/build.log"
+    cat -- "$stamp".?* > "$top/crates/$crate/out/build.log"
     [[ $ended -ne 0 ]] || touch -r "$stamp" -- "$top/crates/$crate/out/$crate"
-    rm -- "$stamp"
+    rm -- "$stamp" "$stamp".?*
     return $ended
 }
 

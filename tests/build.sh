@@ -5,17 +5,26 @@ set -uo pipefail
 tests=$(dirname -- "$(readlink -f -- "${BASH_SOURCE[0]}")")
 work=$(mktemp -d)
 trap 'rm -r -- "$work"' EXIT
-mkdir -p -- "$work/bin" "$work/crates/dlm/src" "$work/crates/disk/src" "$work/crates/disk/specs" "$work/crates/bench/src"
+mkdir -p -- "$work/bin" "$work/crates/"{dlm,disk,beats,inspect,bench}/src "$work/crates/disk/specs"
 cp -- "$tests/../dlm" "$tests/../build.sh" "$work"
-printf 'dlm: disk thiserror\nbench: disk\ndisk: thiserror\n' > "$work/crates.txt"
+printf 'dlm: inspect beats thiserror\nbench: disk\nbeats: disk\ninspect:\ndisk: thiserror\n' > "$work/crates.txt"
 touch -- "$work/crates/dlm/src/main.rt" "$work/crates/disk/src/lib.rt" "$work/crates/disk/src/more.rt"
 
-# It fails where there is a file `broken`, and edits a source in the midst of a build where there is a file `late`.
+# It fails where there is a file `broken`, and edits a source in the midst of a build where there is a file `late`. Of two libraries each waits
+# until the other is begun, for a second at most.
 cat > "$work/bin/rt" <<'END'
 #!/usr/bin/env bash
-echo "crate disk: modules loaded=1 checked=1"
+echo "crate ${PWD##*/}: modules loaded=1 checked=1"
 echo "logic=proved functions=7 and more"
 [[ ! -e ../../broken ]] || exit 1
+if [[ $1 = lib ]]; then
+    touch "../../begun-${PWD##*/}"
+    for ((tries = 0; tries < 100; tries++)); do
+        [[ ! -e ../../begun-beats || ! -e ../../begun-inspect ]] || exit 0
+        sleep 0.01
+    done
+    exit 1
+fi
 [[ ! -e ../../late ]] || { rm ../../late && sleep 0.02 && touch src/main.rt; }
 mkdir -p out && printf '#!/usr/bin/env bash\necho ran "$@"\n' > out/dlm && chmod +x out/dlm
 END
@@ -27,8 +36,9 @@ failed=0
 expect() {
     local written proved=
     written=$("$work/dlm" a b 2> "$work/said")
-    [[ ! -s $work/said ]] || proved=$(sed -n 2p "$work/said")
-    if [[ $written != 'ran a b' || ( $2 = yes && $proved != 'dlm: disk: 7 functions proved' ) || ( $2 = no && -s $work/said ) ]]; then
+    [[ ! -s $work/said ]] || proved=$(sed 1d "$work/said" | sort | tr -d '\n')
+    rm -f -- "$work/begun-"*
+    if [[ $written != 'ran a b' || ( $2 = yes && $proved != 'dlm: beats: 7 functions proveddlm: dlm: 7 functions proveddlm: inspect: 7 functions proved' ) || ( $2 = no && -s $work/said ) ]]; then
         echo "$1: written: $written, said: $(cat -- "$work/said")"
         failed=$((failed + 1))
     fi
