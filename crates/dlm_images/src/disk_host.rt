@@ -14,9 +14,6 @@ use lock_table::{Reply, Table};
 use std::alloc::Global;
 use std::marker::Model;
 
-#[cfg(test)]
-mod tests;
-
 /// Where an acknowledged command stands in the log, and what the lock table replied to it there.
 #[derive(Clone, Copy, Debug, PartialEq, Eq)]
 pub struct Acknowledgement {

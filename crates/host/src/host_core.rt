@@ -313,6 +313,3 @@ fn judge(
     learner.take(true);
     Some(reply)
 }
-
-#[cfg(test)]
-mod tests;

@@ -13,6 +13,3 @@ mod waits;
 pub use queue_text::queues;
 pub use verdict::{Blocking, CLIENT_NUMBERS};
 pub use waits::blocking;
-
-#[cfg(test)]
-mod tests;

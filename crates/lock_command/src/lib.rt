@@ -12,6 +12,3 @@ pub use name::LockName;
 pub use number::{ClientNumber, HOSTS, HostNumber, LockNumber, RequestNumber};
 pub use reading::decode;
 pub use spelling::Value;
-
-#[cfg(test)]
-mod tests;

@@ -26,6 +26,3 @@ pub use number::number_in;
 pub use reading::read_script;
 pub use script::{Script, ScriptFault};
 pub use show::{Show, View};
-
-#[cfg(test)]
-mod tests;

@@ -29,6 +29,3 @@ pub use picture::Picture;
 pub use record::{KnownClient, LockRecord, LockState};
 pub use reply::{Refusal, Reply};
 pub use table::Table;
-
-#[cfg(test)]
-mod tests;

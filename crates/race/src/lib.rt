@@ -8,8 +8,6 @@ mod prefixes;
 mod race;
 mod racer;
 mod seats;
-#[cfg(test)]
-mod tests;
 
 pub use answer::Answer;
 pub use cluster::HostFault;

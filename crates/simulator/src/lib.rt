@@ -16,6 +16,3 @@ pub use lock_script::{
 pub use parts::{Parts, Said};
 pub use report::{Report, run};
 pub use sim::Sim;
-
-#[cfg(test)]
-mod tests;

@@ -1,7 +1,7 @@
 // Worked runs, through every call that may want memory.
-use crate::{Parts, Sim, read_script, run};
 use host::HostAnswer;
 use lock_table::Reply;
+use simulator::{Parts, Sim, read_script, run};
 use std::test::Fail;
 
 const FIRST_REPLY: &[u8] = b"cluster 1 4\nstart 0\nsubmit 0 1 enqueue 1 1 10 EX db\nstep 0 17\n";

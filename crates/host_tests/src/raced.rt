@@ -1,6 +1,6 @@
-use crate::{Answer, run_race};
 use lock_command::HostNumber;
 use lock_table::Reply;
+use race::{Answer, run_race};
 use std::test::Fail;
 
 // One host has its lock at once, in the first slot.

@@ -1,7 +1,7 @@
 ghost use Rattle.std.specs.Prelude.{◌≡◌, IfSome};
 
-use crate::{DiskHost, format_folder, open_folder};
 use disk::Disk;
+use dlm_images::{DiskHost, format_folder, open_folder};
 use host::Config;
 use lock_command::{
     Action, ClientNumber, Command, HostNumber, LockName, LockNumber, RequestNumber,

@@ -1,5 +1,4 @@
 use super::{ALONE as EX, NULL as NL, READ as CR, SHARED as PR, UPDATE as PW, WRITE as CW, lock};
-use crate::{LockRecord, LockState, Refusal, Reply, Table};
 use LockState::{Converting, Granted, Waiting};
 use Refusal::{
     AlreadyConverting, LockInUse, NoSuchLock, NotOwner, NotQueued, NothingToCancel, Stale,
@@ -8,6 +7,7 @@ use Refusal::{
 use Reply::{Cancelled, Purged, Queued, Refused, Released, State};
 use lock_command::{Action, ClientNumber, Command, HostNumber, LockName, RequestNumber};
 use lock_modes::Mode;
+use lock_table::{LockRecord, LockState, Refusal, Reply, Table};
 use std::alloc::Global;
 use std::test::Fail;
 

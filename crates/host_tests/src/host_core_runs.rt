@@ -4,9 +4,8 @@ ghost use Rattle.std.specs.Bool.{OnTrue};
 ghost use Rattle.attempt.specs.History.{Fits};
 ghost use Rattle.phases.specs.Calls.{device_call_of, heard_of};
 
-use super::HostCore;
-use crate::answer::HostAnswer;
 use disk::{Disk, DiskFault, SimDisk};
+use host::{HostAnswer, HostCore};
 use lock_command::{
     Action, ClientNumber, Command, HostNumber, LockName, LockNumber, RequestNumber,
 };

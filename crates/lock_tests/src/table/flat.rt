@@ -1,6 +1,6 @@
-use crate::{CLIENTS, KnownClient, LOCKS, LockRecord, LockState, Refusal, Reply};
 use lock_command::{Action, ClientNumber, Command, HostNumber, LockName, LockNumber};
 use lock_modes::{Mode, compatible};
+use lock_table::{CLIENTS, KnownClient, LOCKS, LockRecord, LockState, Refusal, Reply};
 use std::alloc::{AllocError, Global};
 
 /// The lock table as one flat list, in which what is new or has changed stands last, and whose queues are the records that

@@ -1,4 +1,4 @@
-use crate::{Event, Run, ScriptFault, View, read_script};
+use lock_script::{Event, Run, ScriptFault, View, read_script};
 use std::test::Fail;
 
 /// Lines that may stand behind `cluster 3 16`, each with the events that it brings.

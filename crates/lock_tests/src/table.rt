@@ -2,11 +2,12 @@ mod flat;
 mod random;
 mod scripts;
 
-use crate::{LockState, Picture, Refusal, Reply, Table, lock_numbers_are_distinct};
 use lock_command::{
     Action, ClientNumber, Command, HostNumber, LockName, LockNumber, RequestNumber,
 };
 use lock_modes::Mode;
+use lock_table::{LockState, Picture, Refusal, Reply, Table, lock_numbers_are_distinct};
+use std::alloc::Global;
 use std::test::Fail;
 
 /// What a row asks, with names of one byte.
@@ -94,6 +95,32 @@ fn lists(picture: &Picture, lines: &[Line]) -> bool {
     true
 }
 
+/// Whether a table of its own replies to each step as it has to. A test that held the table itself would have to drop it at each `?`, which is dear to prove.
+fn plays(alloc: Global, steps: &[Step]) -> Result<bool, Fail> {
+    let mut table = Table::new(alloc)?;
+    replies(&mut table, steps)
+}
+
+/// Whether it then lists these locks, and no others, and so many clients.
+fn plays_to(alloc: Global, steps: &[Step], lines: &[Line], clients: usize) -> Result<bool, Fail> {
+    let mut table = Table::new(alloc)?;
+    ends_at(alloc, &mut table, steps, lines, clients)
+}
+
+fn ends_at(
+    alloc: Global,
+    table: &mut Table,
+    steps: &[Step],
+    lines: &[Line],
+    clients: usize,
+) -> Result<bool, Fail> {
+    if !replies(table, steps)? {
+        return Ok(false);
+    }
+    let picture = table.picture(alloc)?;
+    Ok(lists(&picture, lines) && picture.clients().len() == clients)
+}
+
 const NULL: Mode = Mode::Null;
 
 const READ: Mode = Mode::ConcurrentRead;
@@ -108,38 +135,34 @@ const ALONE: Mode = Mode::Exclusive;
 
 #[test]
 fn three_locks_of_which_one_waits(rt: HostRuntime) -> Result<(), Fail> {
-    let table = &mut Table::new(rt.alloc())?;
     let steps = [
         (0, 1, 1, Ask::Enqueue(1, READ, b'a'), Reply::Granted),
         (0, 2, 1, Ask::Enqueue(2, WRITE, b'a'), Reply::Granted),
         (0, 3, 1, Ask::Enqueue(3, SHARED, b'a'), Reply::Queued),
     ];
-    assert!(rt; replies(table, &steps)?);
     let lines = [
         (b'a', 1, 1, 0, LockState::Granted(READ)),
         (b'a', 2, 2, 0, LockState::Granted(WRITE)),
         (b'a', 3, 3, 0, LockState::Waiting(SHARED)),
     ];
-    assert!(rt; lists(&table.picture(rt.alloc())?, &lines));
+    assert!(rt; plays_to(rt.alloc(), &steps, &lines, 3)?);
     Ok(())
 }
 
 #[test]
 fn deadlock_of_two_conversions(rt: HostRuntime) -> Result<(), Fail> {
-    let table = &mut Table::new(rt.alloc())?;
     let steps = [
         (0, 1, 1, Ask::Enqueue(1, SHARED, b'a'), Reply::Granted),
         (0, 2, 1, Ask::Enqueue(2, SHARED, b'a'), Reply::Granted),
         (0, 1, 2, Ask::Convert(1, ALONE), Reply::Queued),
         (0, 2, 2, Ask::Convert(2, ALONE), Reply::Queued),
     ];
-    assert!(rt; replies(table, &steps)?);
+    assert!(rt; plays(rt.alloc(), &steps)?);
     Ok(())
 }
 
 #[test]
 fn conversion_before_waiting_locks(rt: HostRuntime) -> Result<(), Fail> {
-    let table = &mut Table::new(rt.alloc())?;
     let steps = [
         (0, 1, 1, Ask::Enqueue(1, NULL, b'a'), Reply::Granted),
         (0, 2, 1, Ask::Enqueue(2, ALONE, b'a'), Reply::Granted),
@@ -148,19 +171,17 @@ fn conversion_before_waiting_locks(rt: HostRuntime) -> Result<(), Fail> {
         (0, 4, 1, Ask::Enqueue(4, SHARED, b'a'), Reply::Queued),
         (0, 2, 2, Ask::Release(2), Reply::Released),
     ];
-    assert!(rt; replies(table, &steps)?);
     let lines = [
         (b'a', 1, 1, 0, LockState::Granted(UPDATE)),
         (b'a', 3, 3, 0, LockState::Granted(READ)),
         (b'a', 4, 4, 0, LockState::Waiting(SHARED)),
     ];
-    assert!(rt; lists(&table.picture(rt.alloc())?, &lines));
+    assert!(rt; plays_to(rt.alloc(), &steps, &lines, 4)?);
     Ok(())
 }
 
 #[test]
 fn conversion_once_the_others_are_gone(rt: HostRuntime) -> Result<(), Fail> {
-    let table = &mut Table::new(rt.alloc())?;
     let held = Reply::State(LockState::Granted(ALONE));
     let steps = [
         (0, 1, 1, Ask::Enqueue(1, READ, b'a'), Reply::Granted),
@@ -169,26 +190,24 @@ fn conversion_once_the_others_are_gone(rt: HostRuntime) -> Result<(), Fail> {
         (0, 2, 2, Ask::Release(2), Reply::Released),
         (0, 2, 3, Ask::Status(1), held),
     ];
-    assert!(rt; replies(table, &steps)?);
+    assert!(rt; plays(rt.alloc(), &steps)?);
     Ok(())
 }
 
 #[test]
 fn later_waiters_do_not_overtake(rt: HostRuntime) -> Result<(), Fail> {
-    let table = &mut Table::new(rt.alloc())?;
     let steps = [
         (0, 1, 1, Ask::Enqueue(1, READ, b'a'), Reply::Granted),
         (0, 2, 1, Ask::Enqueue(2, SHARED, b'a'), Reply::Granted),
         (0, 3, 1, Ask::Enqueue(3, UPDATE, b'a'), Reply::Queued),
         (0, 4, 1, Ask::Enqueue(4, READ, b'a'), Reply::Queued),
     ];
-    assert!(rt; replies(table, &steps)?);
+    assert!(rt; plays(rt.alloc(), &steps)?);
     Ok(())
 }
 
 #[test]
 fn settle_does_not_pass_over_a_blocked_head(rt: HostRuntime) -> Result<(), Fail> {
-    let table = &mut Table::new(rt.alloc())?;
     let waits = Reply::State(LockState::Waiting(READ));
     let steps = [
         (0, 1, 1, Ask::Enqueue(1, READ, b'a'), Reply::Granted),
@@ -198,13 +217,12 @@ fn settle_does_not_pass_over_a_blocked_head(rt: HostRuntime) -> Result<(), Fail>
         (0, 1, 2, Ask::Release(1), Reply::Released),
         (0, 1, 3, Ask::Status(4), waits),
     ];
-    assert!(rt; replies(table, &steps)?);
+    assert!(rt; plays(rt.alloc(), &steps)?);
     Ok(())
 }
 
 #[test]
 fn noqueue_and_status(rt: HostRuntime) -> Result<(), Fail> {
-    let table = &mut Table::new(rt.alloc())?;
     let refused = Reply::Refused(Refusal::NotQueued);
     let held = Reply::State(LockState::Granted(READ));
     let steps = [
@@ -213,27 +231,23 @@ fn noqueue_and_status(rt: HostRuntime) -> Result<(), Fail> {
         (0, 1, 2, Ask::ConvertNow(1, ALONE), refused),
         (0, 1, 3, Ask::Status(1), held),
     ];
-    assert!(rt; replies(table, &steps)?);
+    assert!(rt; plays(rt.alloc(), &steps)?);
     Ok(())
 }
 
 #[test]
 fn repetition_through_another_host(rt: HostRuntime) -> Result<(), Fail> {
-    let table = &mut Table::new(rt.alloc())?;
     let steps = [
         (0, 1, 1, Ask::Enqueue(1, ALONE, b'd'), Reply::Granted),
         (1, 1, 1, Ask::Enqueue(1, ALONE, b'd'), Reply::Granted),
     ];
-    assert!(rt; replies(table, &steps)?);
-    let picture = table.picture(rt.alloc())?;
-    assert!(rt; lists(&picture, &[(b'd', 1, 1, 0, LockState::Granted(ALONE))]));
-    assert!(rt; picture.clients().len() == 1);
+    let lines = [(b'd', 1, 1, 0, LockState::Granted(ALONE))];
+    assert!(rt; plays_to(rt.alloc(), &steps, &lines, 1)?);
     Ok(())
 }
 
 #[test]
 fn purge_and_a_stale_number(rt: HostRuntime) -> Result<(), Fail> {
-    let table = &mut Table::new(rt.alloc())?;
     let stale = Reply::Refused(Refusal::Stale);
     let steps = [
         (0, 2, 1, Ask::Enqueue(2, ALONE, b'b'), Reply::Granted),
@@ -243,19 +257,17 @@ fn purge_and_a_stale_number(rt: HostRuntime) -> Result<(), Fail> {
         (0, 3, 1, Ask::Purge(1), Reply::Purged(2)),
         (0, 2, 1, Ask::Status(4), stale),
     ];
-    assert!(rt; replies(table, &steps)?);
     let lines = [
         (b'a', 4, 2, 0, LockState::Granted(SHARED)),
         (b'b', 2, 2, 0, LockState::Granted(ALONE)),
     ];
-    assert!(rt; lists(&table.picture(rt.alloc())?, &lines));
+    assert!(rt; plays_to(rt.alloc(), &steps, &lines, 3)?);
     Ok(())
 }
 
 #[test]
 fn a_lock_number_is_taken_once(rt: HostRuntime) -> Result<(), Fail> {
     lock_numbers_are_distinct();
-    let table = &mut Table::new(rt.alloc())?;
     let taken = Reply::Refused(Refusal::LockInUse);
     let steps = [
         (0, 1, 1, Ask::Enqueue(7, READ, b'a'), Reply::Granted),
@@ -263,20 +275,30 @@ fn a_lock_number_is_taken_once(rt: HostRuntime) -> Result<(), Fail> {
         (0, 1, 2, Ask::Release(7), Reply::Released),
         (0, 2, 2, Ask::Enqueue(7, READ, b'b'), Reply::Granted),
     ];
-    assert!(rt; replies(table, &steps)?);
     let lines = [(b'b', 7, 2, 0, LockState::Granted(READ))];
-    assert!(rt; lists(&table.picture(rt.alloc())?, &lines));
+    assert!(rt; plays_to(rt.alloc(), &steps, &lines, 2)?);
     Ok(())
+}
+
+/// One client takes 256 locks on one name.
+fn take_all(table: &mut Table) -> Result<bool, Fail> {
+    for number in 1..257u16 {
+        let ask_for = Ask::Enqueue(number, NULL, b'a');
+        let step = (0, 1, u64::from(number), ask_for, Reply::Granted);
+        if !replies(table, &[step])? {
+            return Ok(false);
+        }
+    }
+    Ok(true)
+}
+
+fn plays_behind_all_locks(alloc: Global, steps: &[Step]) -> Result<bool, Fail> {
+    let mut table = Table::new(alloc)?;
+    Ok(take_all(&mut table)? && replies(&mut table, steps)?)
 }
 
 #[test]
 fn table_full(rt: HostRuntime) -> Result<(), Fail> {
-    let table = &mut Table::new(rt.alloc())?;
-    for number in 1..257u16 {
-        let ask_for = Ask::Enqueue(number, NULL, b'a');
-        let step = (0, 1, u64::from(number), ask_for, Reply::Granted);
-        assert!(rt; replies(table, &[step])?);
-    }
     let steps = [
         (
             0,
@@ -300,17 +322,29 @@ fn table_full(rt: HostRuntime) -> Result<(), Fail> {
             Reply::Refused(Refusal::LockInUse),
         ),
     ];
-    assert!(rt; replies(table, &steps)?);
+    assert!(rt; plays_behind_all_locks(rt.alloc(), &steps)?);
     Ok(())
+}
+
+/// Each of 32 clients asks for a lock that is not there.
+fn ask_all(table: &mut Table) -> Result<bool, Fail> {
+    let unknown = Reply::Refused(Refusal::NoSuchLock);
+    for client in 0..32u8 {
+        if !replies(table, &[(0, client, 1, Ask::Status(5), unknown)])? {
+            return Ok(false);
+        }
+    }
+    Ok(true)
+}
+
+fn plays_behind_all_clients(alloc: Global, steps: &[Step]) -> Result<bool, Fail> {
+    let mut table = Table::new(alloc)?;
+    Ok(ask_all(&mut table)? && replies(&mut table, steps)?)
 }
 
 #[test]
 fn clients_full(rt: HostRuntime) -> Result<(), Fail> {
-    let table = &mut Table::new(rt.alloc())?;
     let unknown = Reply::Refused(Refusal::NoSuchLock);
-    for client in 0..32u8 {
-        assert!(rt; replies(table, &[(0, client, 1, Ask::Status(5), unknown)])?);
-    }
     let steps = [
         (
             0,
@@ -321,7 +355,7 @@ fn clients_full(rt: HostRuntime) -> Result<(), Fail> {
         ),
         (0, 0, 1, Ask::Status(5), unknown),
     ];
-    assert!(rt; replies(table, &steps)?);
+    assert!(rt; plays_behind_all_clients(rt.alloc(), &steps)?);
     Ok(())
 }
 
@@ -343,10 +377,14 @@ fn fill(table: &mut Table) -> Result<bool, Fail> {
     Ok(true)
 }
 
+/// Whether the full table replies so, and then has no lock and 32 clients.
+fn plays_behind_full(alloc: Global, steps: &[Step]) -> Result<bool, Fail> {
+    let mut table = Table::new(alloc)?;
+    Ok(fill(&mut table)? && ends_at(alloc, &mut table, steps, &[], 32)?)
+}
+
 #[test]
 fn a_full_table_takes_each_command(rt: HostRuntime) -> Result<(), Fail> {
-    let table = &mut Table::new(rt.alloc())?;
-    assert!(rt; fill(table)?);
     let steps = [
         (
             0,
@@ -368,8 +406,6 @@ fn a_full_table_takes_each_command(rt: HostRuntime) -> Result<(), Fail> {
         (0, 1, 12, Ask::Release(9), Reply::Released),
         (0, 3, 9, Ask::Purge(0), Reply::Purged(255)),
     ];
-    assert!(rt; replies(table, &steps)?);
-    let picture = table.picture(rt.alloc())?;
-    assert!(rt; picture.locks().is_empty() && picture.clients().len() == 32);
+    assert!(rt; plays_behind_full(rt.alloc(), &steps)?);
     Ok(())
 }

@@ -1,11 +1,11 @@
 ghost use Rattle.std.specs.Prelude.{◌<◌};
 
-use crate::tests::flat::FlatTable;
-use crate::{KnownClient, LockRecord, LockState, Table};
+use crate::table::flat::FlatTable;
 use lock_command::{
     Action, ClientNumber, Command, HostNumber, LockName, LockNumber, RequestNumber,
 };
 use lock_modes::Mode;
+use lock_table::{KnownClient, LockRecord, LockState, Table};
 use std::alloc::Global;
 use std::test::Fail;
 

@@ -1,0 +1,11 @@
+//! Tests of a host, of simulated runs, folders of images and races: a crate with tests is proved twice, and this one has little to prove.
+#![tactic(auto)]
+
+#[cfg(test)]
+mod folders;
+#[cfg(test)]
+mod host_core_runs;
+#[cfg(test)]
+mod raced;
+#[cfg(test)]
+mod simulated;

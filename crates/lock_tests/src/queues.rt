@@ -1,0 +1,117 @@
+use inspect::{Blocking, blocking, queues};
+use lock_command::{
+    Action, ClientNumber, Command, HostNumber, LockName, LockNumber, RequestNumber,
+};
+use lock_modes::Mode;
+use lock_table::{Picture, Reply, Table};
+use std::alloc::Global;
+use std::test::Fail;
+
+/// Client `n` asks for its lock `n` through host `n - 1`, by its first request.
+fn enqueue(table: &mut Table, n: u8, mode: Mode, name: &[u8]) -> Result<Reply, Fail> {
+    let command = Command {
+        host: HostNumber::new(n.wrapping_sub(1)).ok_or("host")?,
+        client: ClientNumber::new(n),
+        request: RequestNumber::new(1).ok_or("request")?,
+        action: Action::Enqueue {
+            lock: LockNumber::new(u16::from(n)).ok_or("lock")?,
+            name: LockName::new(name).ok_or("name")?,
+            mode,
+            no_queue: false,
+        },
+    };
+    Ok(table.apply(&command))
+}
+
+#[test]
+fn no_locks(rt: HostRuntime) -> Result<(), Fail> {
+    let picture = Picture::room(rt.alloc())?;
+    let mut out = Vec::new(rt.alloc());
+    queues(&picture, &mut out)?;
+    assert_eq!(rt; out.as_slice(), b"empty\n".as_slice());
+    Ok(())
+}
+
+/// Locks on two names, in each state. A test that holds the table would have to drop it at each `?`: so its steps stand apart.
+fn two_names(table: &mut Table) -> Result<(), Fail> {
+    enqueue(table, 1, Mode::ProtectedRead, b"db")?;
+    enqueue(table, 2, Mode::ProtectedRead, b"db")?;
+    enqueue(table, 3, Mode::Exclusive, b"db")?;
+    enqueue(table, 4, Mode::Null, b"d")?;
+    convert(table, 1, Mode::Exclusive)?;
+    Ok(())
+}
+
+/// The table as text.
+fn text_of(alloc: Global, table: &Table) -> Result<Vec<u8>, Fail> {
+    let picture = table.picture(alloc)?;
+    let mut out = Vec::new(alloc);
+    queues(&picture, &mut out)?;
+    Ok(out)
+}
+
+#[test]
+fn two_names_in_all_states(rt: HostRuntime) -> Result<(), Fail> {
+    let mut table = Table::new(rt.alloc())?;
+    two_names(&mut table)?;
+    let out = text_of(rt.alloc(), &table)?;
+    let text =
+        b"d\n  granted 4 4 3 NL\ndb\n  granted 2 2 1 PR\n  converting 1 1 0 PR EX\n  waiting 3 3 2 EX\n";
+    assert_eq!(rt; out.as_slice(), text.as_slice());
+    Ok(())
+}
+
+/// Client `n` asks for another mode of its lock `n`, by its second request.
+fn convert(table: &mut Table, n: u8, mode: Mode) -> Result<Reply, Fail> {
+    let command = Command {
+        host: HostNumber::new(0).ok_or("host")?,
+        client: ClientNumber::new(n),
+        request: RequestNumber::new(2).ok_or("request")?,
+        action: Action::Convert {
+            lock: LockNumber::new(u16::from(n)).ok_or("lock")?,
+            mode,
+            no_queue: false,
+        },
+    };
+    Ok(table.apply(&command))
+}
+
+/// Two clients share a name, and the first wants it alone.
+fn one_conversion(table: &mut Table) -> Result<(), Fail> {
+    enqueue(table, 1, Mode::ProtectedRead, b"a")?;
+    enqueue(table, 2, Mode::ProtectedRead, b"a")?;
+    convert(table, 1, Mode::Exclusive)?;
+    Ok(())
+}
+
+/// Who keeps whom waiting.
+fn blocking_in(alloc: Global, table: &Table) -> Result<Blocking, Fail> {
+    let picture = table.picture(alloc)?;
+    Ok(blocking(&picture))
+}
+
+/// Whether the second client stands before the first while one conversion waits, and both are told as a cycle once its own waits, too.
+fn before_and_behind(alloc: Global, table: &mut Table) -> Result<(bool, bool), Fail> {
+    one_conversion(table)?;
+    let ranked = match blocking_in(alloc, table)? {
+        Blocking::Ranked(ranks) => ranks[2] < ranks[1],
+        Blocking::Cycle(_) => false,
+    };
+    convert(table, 2, Mode::Exclusive)?;
+    let cycle = match blocking_in(alloc, table)? {
+        Blocking::Cycle(clients) => clients.as_slice() == [1u8, 2].as_slice(),
+        Blocking::Ranked(_) => false,
+    };
+    Ok((ranked, cycle))
+}
+
+fn told(alloc: Global) -> Result<(bool, bool), Fail> {
+    let mut table = Table::new(alloc)?;
+    before_and_behind(alloc, &mut table)
+}
+
+#[test]
+fn cycle_of_two_conversions(rt: HostRuntime) -> Result<(), Fail> {
+    assert_eq!(rt; told(rt.alloc())?, (true, true));
+    Ok(())
+}
