@@ -1,8 +1,8 @@
 #!/usr/bin/env bash
 # pages.sh [PAGE..]: runs the commands of pages, which stand behind `$ ` in their blocks without a language (what goes on with
 # `> ` is the same command's), and compares what they print with what stands below them. Without a page: those that have any.
-# The commands of a page are run in turn in a folder of its own, which has all that stands at the top, and is on the path. Blocks of `rt`
-# are left out.
+# The commands of a page are run in turn in a folder of its own, which is on the path and has links to the program, crates, docs,
+# examples and tests of the top. Blocks of `rt` are left out.
 set -uo pipefail
 
 top=$(dirname -- "$(dirname -- "$(readlink -f -- "${BASH_SOURCE[0]}")")")
@@ -49,7 +49,8 @@ for page in "$@"; do
     name=$(realpath --relative-to="$top" -- "$page")
     rm -rf -- "$work/folder"
     mkdir -- "$work/folder"
-    ln -s -- "$top"/* "$work/folder"
+    # Only these: a folder `images` at the top belongs to the user, and pages damage the one that they make.
+    ln -s -- "$top"/{dlm,crates,docs,examples,tests} "$work/folder"
     blocks "$page" >"$work/wanted"
     (cd -- "$work/folder" && PATH=$PWD:$PATH run_commands) <"$work/wanted" >"$work/printed"
     if diff -u --label "$name" --label "what is printed" "$work/wanted" "$work/printed"; then
