@@ -53,7 +53,7 @@ compare() {
 
 # A round of forty kills on fresh images.
 round() {
-    local folder=$work/folder lock=0 until=$1 host pause ended
+    local folder=$work/folder lock=0 last=0 until=$1 host pause ended
     rm -rf -- "$folder" "$work/apart"
     mkdir -- "$folder"
     "$program" format "$folder" 3 256 7 >/dev/null || fail "no images"
@@ -71,13 +71,14 @@ round() {
         } 2>/dev/null
         if [[ $(<"$work/out") == "ack "*" Granted" ]]; then
             acked+=("$lock")
+            last=$lock
             acknowledged=$((acknowledged + 1))
         fi
         if [[ $ended -eq 137 ]]; then
             killed=$((killed + 1))
             longest=$((longest + longest / 50))
             compare "$folder"
-            [[ -n ${found[$lock]:-} && ${acked[-1]:-0} -ne $lock ]] && late=$((late + 1))
+            [[ -n ${found[$lock]:-} && $last -ne $lock ]] && late=$((late + 1))
         elif [[ $ended -eq 0 ]]; then
             finished=$((finished + 1))
             longest=$((longest - longest / 50))
