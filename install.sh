@@ -1,14 +1,17 @@
 #!/usr/bin/env bash
 # install.sh: puts program, manual page and completions in place, below PREFIX (none given: /usr/local), with DESTDIR in front of it
 # where one is given, as for a package. install.sh uninstall: takes them out. Both print the files.
+# In a checkout the program is built first, if it has to be. In an archive of release.sh it is there.
 set -euo pipefail
 
 top=$(dirname -- "$(readlink -f -- "${BASH_SOURCE[0]}")")
 root=${DESTDIR-}${PREFIX:-/usr/local}
+program=bin/dlm
+[[ ! -d $top/crates ]] || program=crates/dlm/out/dlm
 
 # Calls its first word with each file: from, to, mode.
 each() {
-    "$1" crates/dlm/out/dlm bin/dlm 755
+    "$1" "$program" bin/dlm 755
     "$1" man/dlm.1 share/man/man1/dlm.1 644
     "$1" completions/dlm.bash share/bash-completion/completions/dlm 644
     "$1" completions/_dlm share/zsh/site-functions/_dlm 644
@@ -25,9 +28,11 @@ take_out() {
     echo "$root/$2"
 }
 
-# An empty script is refused, once the program is built.
+# Once the program is built it refuses an empty script. All else that it says, progress or why it cannot be built, is passed on.
 build() {
-    "$top/dlm" run /dev/null >/dev/null 2>&1 || [[ $? -eq 1 ]]
+    [[ -d $top/crates ]] || return 0
+    "$top/dlm" run /dev/null 2>&1 >/dev/null | sed '/^dlm: 23 BadLine 1$/d' >&2
+    [[ ${PIPESTATUS[0]} -eq 1 ]]
 }
 
 case ${1-install} in
