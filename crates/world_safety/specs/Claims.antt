@@ -4,11 +4,14 @@ use Rattle.attempt.specs.Answers.{Answered, on}
 use Rattle.attempt.specs.Prepared.{Proposes, IsPrepared, IsAccepted}
 use Rattle.attempt.specs.Proposal.{ballot}
 use Rattle.attempt.specs.Setup.{Setup}
+use Rattle.lock_command.specs.declared.command.Command.{Command}
+use Rattle.lock_command.specs.Command.{spelling}
 use Rattle.lock_table.specs.declared.reply.Reply.{Reply}
 use Rattle.slot_log.specs.Shape.{Shape}
 use Rattle.world.specs.Entry.{Filled, Recover}
 use Rattle.world.specs.World.{World}
 use Rattle.host.specs.declared.answer.HostAnswer.TheVariants.{Ack, Recovered}
+use Rattle.host.specs.Host.{Submitting}
 use Rattle.world.specs.Chosen.{at, Hears, IsChosenAt, IsLog, SaysAt, IsRecovery}
 use Rattle.world_safety.specs.Goes.{IsTryingAt}
 use Rattle.world.specs.Headline.{IsPrefix}
@@ -87,15 +90,16 @@ pub record IsPreparedAt (c : Shape) (log : List Filled) (i host : ℕ) : Type 0 
   pub of_host : hears.host ≡ host
   pub prepared : IsPrepared setup heard
 
--- With the answer of entry i a host's attempt on a slot is accepted: on more than half of the disks the six calls that wrote its vote, and the read of the row behind them, were answered well.
+-- With the answer of entry i a host's attempt on a slot is accepted, with the command that the host was submitting: on more than half of the disks the six calls that wrote its vote for that command's spelling, and the read of the row behind them, were answered well.
 pub record IsAcceptedAt (c : Shape) (log : List Filled) (i host slot : ℕ) : Type 0 where
   pub setup : Setup
   pub heard : List Answered
   pub hears : Hears c log i setup heard
   pub of_host : hears.host ≡ host
   pub on_slot : setup.slot ≡ slot
-  pub value : List ℕ
-  pub accepted : IsAccepted setup heard value
+  pub command : Command
+  pub submitting : hears.doing.operation ≡ Submitting command
+  pub accepted : IsAccepted setup heard (spelling command)
 
 -- entry i begins a recovery of a host that has learned all slots
 pub record IsFullAt (c : Shape) (log : List Filled) (i host n : ℕ) : Type 0 where
