@@ -1,6 +1,6 @@
 -- What lines tell of the log of the first submission, computed: and what no line may tell.
 use Rattle.std.specs.Prelude.{take, filter, replicate, Contains}
-use Rattle.std.proofs.Common.{ℕ, zero, suc, ◌+◌, ◌<◌, ◌≤◌, ◌≡◌, ◌⊎◌, inl, inr, Bool, true, false, Option, Some, None, List, [], ◌∷◌, length, slice_get, refl, sym, subst, ap, ◌∙◌, arith}
+use Rattle.std.proofs.Common.{ℕ, zero, suc, ◌<◌, ◌≡◌, ◌⊎◌, inl, inr, true, false, Some, None, List, [], ◌∷◌, slice_get, refl, sym, subst, ap, ◌∙◌, arith}
 use Rattle.disk.specs.Simulated.{fresh_disk}
 use Rattle.torn_block.specs.Block.{sequence_of, body_of, number_bytes, tail_with}
 use Rattle.torn_block.specs.Place.{copy_in}
@@ -13,11 +13,10 @@ use Rattle.lock_table.specs.declared.reply.Reply.{Reply}
 use Rattle.lock_table.specs.declared.reply.Reply.TheVariants.{Granted}
 use Rattle.lock_table.specs.Apply.{Plain, applied}
 use Rattle.lock_table.specs.Locks.{is_lock}
-use Rattle.host.specs.declared.answer.HostAnswer.{HostAnswer}
 use Rattle.host.specs.declared.answer.HostAnswer.TheVariants.{Ack, Recovered}
-use Rattle.host.specs.Host.{Operation, Submitting, idles, reply_after}
-use Rattle.world.specs.Happens.{Event, Start, Submit, Step, Line}
-use Rattle.world.specs.Told.{host_before, IsSubmittedBefore, CarriesOut, IsAcknowledged, IsRecovered, goes_by, BeganSince, MissesNothing}
+use Rattle.host.specs.Host.{Submitting, idles, reply_after}
+use Rattle.world.specs.Happens.{Submit, Step, Line}
+use Rattle.world.specs.Told.{host_before, IsSubmittedBefore, IsAcknowledged, goes_by, BeganSince, MissesNothing}
 use Rattle.world.specs.Examples.{one_disk, takes_db, submitting, told_at}
 use Rattle.world.proofs.ShortRuns.{operation_of, operation_in, busy_with, operation_told}
 

@@ -1,6 +1,6 @@
 -- Two submissions over one disk, of which the second finds a slot open: their calls are computed, and with them the premises of the law hold.
 use Rattle.std.specs.Prelude.{not, ◌&&◌, nat_lt, take, drop, slice_get, option_map, option_and_then}
-use Rattle.std.proofs.Common.{ℕ, zero, suc, ◌+◌, ◌<◌, ◌≤◌, ◌≡◌, inl, inr, Bool, true, false, Option, Some, None, List, [], ◌∷◌, ◌++◌, length, length-append, refl, sym, subst, ap, ◌∙◌, arith}
+use Rattle.std.proofs.Common.{ℕ, zero, suc, ◌+◌, ◌<◌, ◌≤◌, ◌≡◌, inl, inr, Bool, false, Option, Some, None, List, [], ◌∷◌, ◌++◌, length, length-append, refl, sym, subst, ap, ◌∙◌, arith}
 use Rattle.std.proofs.lemmas.Bool.{cases_lt}
 use Rattle.std.proofs.lemmas.List.{take-take, take-append-le, drop_all}
 use Rattle.std.proofs.lemmas.Option.{slice_get_within}
@@ -23,9 +23,9 @@ use Rattle.lock_table.specs.declared.reply.Reply.TheVariants.{Granted, Queued}
 use Rattle.slot_log.specs.Shape.{Shape}
 use Rattle.host.specs.declared.answer.HostAnswer.{HostAnswer}
 use Rattle.host.specs.declared.answer.HostAnswer.TheVariants.{Ack}
-use Rattle.host.specs.Host.{Memory, Host, Stopped, Running, fresh, is_stopped, idles, said_of}
+use Rattle.host.specs.Host.{Host, Stopped, Running, fresh, is_stopped, idles, said_of}
 use Rattle.world.specs.Entry.{Filled, Start, Stop, Submit, Called, Torn, of_host, host_step}
-use Rattle.world.specs.World.{World, world}
+use Rattle.world.specs.World.{world}
 use Rattle.world.specs.Happens as events
 use Rattle.world.specs.Happens.{Event, entry_of, with_entry, happens, happen}
 use Rattle.world.specs.Chosen.{at, Hears, IsCallOf}
