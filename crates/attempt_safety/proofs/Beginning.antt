@@ -41,7 +41,7 @@ module _ (s : Setup) where
   own_none zero = refl
   own_none (suc n) = own_none n
 
-  mind_none : OpeningMind none_opened ≡ mind_in s Opening (on [])
+  pub mind_none : OpeningMind none_opened ≡ mind_in s Opening (on [])
   mind_none = sym (ap₂ (λ (n : ℕ) (own : PBlock). OpeningMind (record { top = n; own = vote_said own })) (top_none s.disks) (own_none s.disks))
 
   module _ (m : Machine) (stands : StandsIn s Opening (on []) m) where

@@ -31,6 +31,8 @@ fn suggestions(rt: HostRuntime) {
     assert_eq!(rt; suggest(&same, &most, 0), 1);
     let one = [counters(1, 5), counters(1, 4), counters(1, 4)];
     assert_eq!(rt; suggest(&same, &one, 0), 0);
+    // a counter that fell has moved, too
+    assert_eq!(rt; suggest(&most, &same, 0), 1);
     // host 0 differs on disk 0 alone, host 1 on disks 0 and 2
     let before = [counters(1, 4), None, counters(1, 4)];
     let after = [counters(2, 5), counters(2, 5), counters(1, 5)];

@@ -36,4 +36,4 @@ module _ (c : Shape) (log : List Filled) (run : IsRun c log) where
       let chosen = acked_chosen c log run place other slot reply acked in
       let early = chosen.1.before in
       empty_shows c log run i j host n chosen.1.place slot chosen.0
-      (λ trying. idle_before c log run ((at c log i).host host) trying.memory trying.doing idle trying.running trying.does) le says (omega arith) chosen.1.is
+      (λ trying. absurd (idle_before c log run ((at c log i).host host) trying.memory trying.doing idle trying.running trying.does)) le says (omega arith) chosen.1.is

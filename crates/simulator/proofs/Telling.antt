@@ -17,11 +17,12 @@ use Rattle.world.specs.World.{World, world}
 use Rattle.world.specs.Happens.{Event, Line, run, answers}
 use Rattle.world.specs.Chosen.{at, SaysAt, IsSubmittedBefore as IsSubmittedIn}
 use Rattle.world.specs.Headline.{IsPrefix, IsSafe}
+use Rattle.world.specs.Told.{prefix_before, IsSubmittedBefore, ShowsTable, goes_by, MissesNothing}
 use Rattle.world.proofs.Runs.{run_is_run}
 use Rattle.simulator.specs.declared.answer.Answer.{Answer}
-use Rattle.simulator.specs.Answers.{line_of, ShowsTable, IsPicturedBy, IsPictured, IsPicturedIn}
+use Rattle.simulator.specs.Answers.{line_of, IsPicturedBy, IsPictured, IsPicturedIn}
 use Rattle.simulator.specs.Kept.{IsHost}
-use Rattle.simulator.specs.OneLog.{prefix_before, IsSubmittedBefore, IsChosenBy, IsOneLog, goes_by, GoesBy, MissesNothing, TellsOneLog, GoesByOneLog, BeginsTheLog}
+use Rattle.simulator.specs.OneLog.{IsChosenBy, IsOneLog, GoesBy, TellsOneLog, GoesByOneLog, BeginsTheLog}
 use Rattle.simulator.specs.Past.{Past, world_of, answers_of}
 use Rattle.simulator.proofs.Entries.{get_behind, of_event, before, begins_with, fewer, earlier, after, Told, told, says_at, left_at}
 use Rattle.simulator.proofs.Safety as safety
@@ -101,7 +102,7 @@ module _ (c : Shape) (events : List Event) where
     says : (said : HostAnswer) → a.said ≡ said → SaysAt c (run c events) (length (before c events a.place)) a.host said
     says said is = subst (SaysAt c (run c events) (length (before c events a.place)) a.host) is (says_at c events a.place (line_of a) is_told)
 
-    goes_as : (said : HostAnswer) → a.said ≡ said → goes_by c events log a said
+    goes_as : (said : HostAnswer) → a.said ≡ said → goes_by c events log (line_of a) a.picture said
     goes_as (Ack slot reply) is =
         let i = length (before c events a.place) in
         let placed = safe.placed i a.host slot reply (says (Ack slot reply) is) in

@@ -1,13 +1,13 @@
 -- What a report lists.
 use Rattle.std.specs.Prelude.{◌≡◌, ◌+◌, Bool, true, false, List, [], ◌∷◌, take, Option, Some, None}
 use Rattle.lock_table.specs.Apply.{Plain, table_after}
-use Rattle.lock_table.specs.Picture.{IsPictureOf}
 use Rattle.slot_log.specs.Shape.{Shape}
 use Rattle.host.specs.declared.answer.HostAnswer.{HostAnswer}
 use Rattle.host.specs.declared.answer.HostAnswer.TheVariants.{Ack, Recovered, Beaten, Refused}
 use Rattle.host.specs.Host.{learned_of}
 use Rattle.world.specs.World.{World, world}
 use Rattle.world.specs.Happens.{Event, Recover, Step, FailCall, Line, run}
+use Rattle.world.specs.Told.{ShowsTable}
 use Rattle.simulator.specs.declared.answer.Answer.{Answer}
 
 -- an answer without its picture
@@ -24,11 +24,6 @@ may_recover (Recover h tries) = true
 may_recover (Step h) = true
 may_recover (FailCall h given) = true
 may_recover other = false
-
--- there is a picture, and it is one of this table
-abbrev pub ShowsTable : Option Plain → Plain → Type 0
-ShowsTable None table = ⊥
-ShowsTable (Some picture) table = IsPictureOf picture table
 
 -- beside a recovery there is a picture of this table, and beside no other answer there is one
 abbrev pub IsPicturedBy : HostAnswer → Option Plain → Plain → Type 0

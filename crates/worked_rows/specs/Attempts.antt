@@ -1,9 +1,7 @@
 -- Attempts by themselves: what they end with over disks that answer in some plain way, and after how many answers.
-use Rattle.std.specs.Prelude.{◌-◌, ℕ, zero, suc, List, [], ◌∷◌, ◌++◌, map, replicate, length, nat_lt, Option, Some, None, slice_get, if◌then◌else◌}
+use Rattle.std.specs.Prelude.{◌-◌, ◌^◌, ℕ, zero, suc, List, [], ◌∷◌, ◌++◌, map, replicate, length, nat_lt, Option, Some, None, slice_get, if◌then◌else◌}
 use Rattle.disk.specs.declared.fault.DiskFault.TheVariants.{Gone}
-use Rattle.torn_block.specs.declared.layout.TheConstants.{LAST_SEQUENCE}
 use Rattle.paxos_block.specs.Row.{SeenBlock, blank_seen}
-use Rattle.paxos_block.specs.declared.ballot.TheConstants.{LAST_BALLOT}
 use Rattle.lock_command.specs.declared.command.Command.{Command}
 use Rattle.slot_log.specs.Shape.{Shape}
 use Rattle.host.specs.Host.{Submitting, Memory, fresh, goes_on, hears}
@@ -118,11 +116,11 @@ promise_of_17 = saying 2 17 0 None ∷ replicate 7 blank_seen
 
 -- the block of host 0 can be written no more
 abbrev pub spent_row : List SeenBlock
-spent_row = saying LAST_SEQUENCE 1 0 None ∷ replicate 7 blank_seen
+spent_row = saying (2 ^ 62) 1 0 None ∷ replicate 7 blank_seen
 
 -- host 0 has promised the last ballot that it may take, 2 to the 62 less 7
 abbrev pub last_of_host_0 : List SeenBlock
-last_of_host_0 = saying 2 (LAST_BALLOT - 7) 0 None ∷ replicate 7 blank_seen
+last_of_host_0 = saying 2 (2 ^ 62 - 7) 0 None ∷ replicate 7 blank_seen
 
 -- A HOST
 

@@ -1,6 +1,5 @@
 // Attempts by themselves: how they end, and after how many answers.
-ghost use Rattle.std.specs.Prelude.{◌≡◌, ◌∷◌, [], ℕ, List, Some, None};
-ghost use Rattle.paxos_block.specs.declared.ballot.TheConstants.{LAST_BALLOT};
+ghost use Rattle.std.specs.Prelude.{◌≡◌, ◌^◌, ◌∷◌, [], ℕ, List, Some, None};
 ghost use Rattle.attempt.specs.Chosen.{Chooses};
 ghost use Rattle.attempt.specs.Status.{Committed, Empty, NoMajority, BallotsSpent};
 ghost use Rattle.slot_log.specs.declared.outcome.Refusal.TheVariants as refusal;
@@ -78,7 +77,7 @@ pub fn spent_blocks()
 pub fn last_ballots()
     ensures spent { ending (showing last_of_host_0) (attempt_of 0 1 (Some (7 ∷ []))) ≡
         ends 3 BallotsSpent }
-    ensures last { ballot_seeing last_of_host_0 (attempt_of 7 1 (Some (7 ∷ []))) ≡ LAST_BALLOT }
+    ensures last { ballot_seeing last_of_host_0 (attempt_of 7 1 (Some (7 ∷ []))) ≡ 2 ^ 62 }
     ensures taken { ending (showing last_of_host_0) (attempt_of 7 1 (Some (7 ∷ []))) ≡
         ends 17 (Committed (7 ∷ [])) }
 {}

@@ -1,11 +1,13 @@
--- A host's account: what it has learned, its floor and its refusals follow from how its attempts ended.
+-- A host's account: what it has learned, its floor and its refusals follow from how its attempts ended, and its readings from how its beats did.
 use Rattle.std.specs.Prelude.{◌-◌, max, nat_lt, nat_le, if◌then◌else◌}
 use Rattle.std.proofs.Common.{ℕ, ◌+◌, ◌<◌, ◌≤◌, ◌≡◌, ◌==◌, ◌↔◌, Bool, true, false, Option, Some, None, List, [], ◌∷◌, ◌++◌, length, refl, sym, ap, ◌∙◌, subst, arith, append_assoc, append-nil, length-append}
 use Rattle.std.proofs.lemmas.Bool.{eq-eqb, ne_eqb, leb-true, leb-false}
+use Rattle.std.specs.Option.{option_or}
 use Rattle.attempt.specs.Answers.{Answered, on, heard_as}
 use Rattle.attempt.specs.Setup.{Setup}
 use Rattle.attempt.specs.Status.{Status, Due, Ended, End, status, taken}
 use Rattle.attempt.specs.Status as attempt
+use Rattle.heartbeat.specs.Suggesting.{Readings}
 use Rattle.beats.specs.Answers as beat_answers
 use Rattle.beats.specs.Status as beat
 use Rattle.disk.specs.Disk.{Answer}
@@ -15,10 +17,10 @@ use Rattle.slot_log.specs.Shape.{Shape}
 use Rattle.slot_log.specs.declared.outcome.Refusal.TheVariants as refusal
 use Rattle.host.specs.declared.answer.HostAnswer.{HostAnswer}
 use Rattle.host.specs.declared.answer.HostAnswer.TheVariants.{Refused}
-use Rattle.host.specs.Host.{Operation, Submitting, Recovering, Doing, Memory, Host, Stopped, Running, fresh, says, begins, goes_on, full_answer, is_submitted, after_learning, takes, tries_again, with_floor, ended, by_status, with_heard, setup_of, beat_of, beat_by, hears_beat, hears_from, rests, is_idle, is_idle_in, said_of, learned_of}
+use Rattle.host.specs.Host.{Operation, Submitting, Recovering, Doing, Beats, Memory, Host, Stopped, Running, fresh, says, begins, goes_on, full_answer, learns, is_submitted, after_learning, takes, tries_again, with_floor, ended, by_status, with_heard, setup_of, beat_of, beat_by, hears_beat, hears_from, rests, is_idle, is_idle_in, said_of, learned_of}
 use Rattle.world.specs.Entry as entries
 use Rattle.world.specs.Entry.{Filled, Called, Torn, Crashed, Lost, host_step, host_after}
-use Rattle.world.specs.Account.{Ending, ending_by, ending_in, ending_at, endings, read_as, committed_by, committed, outran, greatest_on, one_if_outrun, outruns, floor_of, GoesOn, AllGoOn, AccountsFor, BeginsWith, IsCalled, AllCalled, GivesUp}
+use Rattle.world.specs.Account.{Ending, ending_by, ending_in, ending_at, endings, read_as, committed_by, committed, outran, greatest_on, one_if_outrun, outruns, beat_ended_by, beat_ended_in, beat_ended_at, beats_ended, read_by, last_read, floor_of, readings_of, GoesOn, AllGoOn, AccountsFor, BeginsWith, IsCalled, AllCalled, GivesUp}
 
 -- SUMS OF ENDINGS
 
@@ -201,10 +203,99 @@ floor_told : (host : Host) (past : List Ending) → AccountsAt host past → flo
 floor_told Stopped past is = absurd is
 floor_told (Running m) past is = is.floor
 
+-- READINGS
+
+or_or : (a b d : Option Readings) → option_or (option_or a b) d ≡ option_or a (option_or b d)
+or_or None b d = refl
+or_or (Some a) b d = refl
+
+or_none : (a : Option Readings) → option_or a None ≡ a
+or_none None = refl
+or_none (Some a) = refl
+
+last_more : (xs ys : List beat.End) → last_read (xs ++ ys) ≡ option_or (last_read ys) (last_read xs)
+last_more [] ys = sym (or_none (last_read ys))
+last_more (x ∷ xs) ys = ap (λ (o : Option Readings). option_or o (read_by x)) (last_more xs ys) ∙ or_or (last_read ys) (last_read xs) (read_by x)
+
+-- an operation leaves them
+beats_on : (c : Shape) (m : Memory) (operation : Operation) (tries : ℕ) → (goes_on c m operation tries).beats ≡ m.beats
+beats_on c m operation tries =
+    on_either (nat_lt (length m.learned) c.slots) (begins m operation tries) (says m (full_answer operation (length m.learned))) (λ k. k.beats ≡ m.beats) (λ e. refl) (λ e. refl)
+
+beats_again : (m : Memory) (operation : Operation) (tries : ℕ) → (tries_again m operation tries).beats ≡ m.beats
+beats_again m operation tries = on_either (nat_le tries 1) (says m (Refused refusal.Outrun)) (begins m operation (tries - 1)) (λ k. k.beats ≡ m.beats) (λ e. refl) (λ e. refl)
+
+module _ (c : Shape) (m : Memory) (t : Doing) (ballot : ℕ) where
+  beats_learning : (command : Command) (b : Bool) → (after_learning c m t command b).beats ≡ m.beats
+  beats_learning command true = refl
+  beats_learning command false = beats_on c (learns m command) t.operation t.tries
+
+  beats_taking : (value : List ℕ) (read : Option Command) → (takes c m t ballot value read).beats ≡ m.beats
+  beats_taking value None = refl
+  beats_taking value (Some command) = beats_learning command (is_submitted t.operation value)
+
+  beats_by : (st : Status) → (by_status c m t ballot st).beats ≡ m.beats
+  beats_by (Due phase d) = refl
+  beats_by (Ended (attempt.Committed value)) = beats_taking value (decoded value)
+  beats_by (Ended attempt.Empty) = refl
+  beats_by (Ended (attempt.Outrun mbal)) = beats_again (with_floor (with_floor m ballot) mbal) t.operation t.tries
+  beats_by (Ended attempt.NoMajority) = refl
+  beats_by (Ended attempt.BallotsSpent) = refl
+
+-- a beat that ends well leaves its own
+module _ (c : Shape) (h : ℕ) (m : Memory) where
+  read_by_status : (heard : List beat_answers.Answered) (st : beat.Status) → (beat_by h m heard st).beats.readings ≡ option_or (last_read (beat_ended_by st)) m.beats.readings
+  read_by_status heard (beat.Due disk) = refl
+  read_by_status heard (beat.Ended (beat.Beaten readings)) = refl
+  read_by_status heard (beat.Ended beat.NoMajority) = refl
+
+  read_beating : (o : Option (List beat_answers.Answered)) (x : beat_answers.Answered) → (hears_beat c h m o x).beats.readings ≡ option_or (last_read (beat_ended_in c h None o x)) m.beats.readings
+  read_beating None x = refl
+  read_beating (Some heard) x = read_by_status (heard ++ x ∷ []) (beat.status (beat_of c h) (beat_answers.on (heard ++ x ∷ [])))
+
+  read_hearing : (o : Option Doing) (d : ℕ) (answer : Answer)
+      → (hears_from c h m o d answer).beats.readings ≡ option_or (last_read (beat_ended_in c h o m.beats.heard (record { disk = d; heard = beat_answers.heard_as answer }))) m.beats.readings
+  read_hearing None d answer = read_beating m.beats.heard (record { disk = d; heard = beat_answers.heard_as answer })
+  read_hearing (Some t) d answer =
+      let going = with_heard t (record { disk = d; heard = heard_as answer }) in
+      let s = setup_of c h m t.operation in
+      ap (λ (b : Beats). b.readings) (beats_by c m going (taken s (on going.heard)) (status s (on going.heard)))
+
+-- each entry by which the host does not stop
+one_read : (c : Shape) (h : ℕ) (host : Host) (e : Filled) → GoesOn e → readings_of (host_step c h host e) ≡ option_or (last_read (beat_ended_at c h host e)) (readings_of host)
+one_read c h Stopped (entries.Start g) on = refl
+one_read c h Stopped (entries.Stop g) on = refl
+one_read c h Stopped (entries.Submit g command tries) on = refl
+one_read c h Stopped (entries.Recover g tries) on = refl
+one_read c h Stopped (entries.Beat g) on = refl
+one_read c h Stopped (Called g d call answer left) on = refl
+one_read c h Stopped (Torn g d call left) on = refl
+one_read c h Stopped (Crashed d left) on = refl
+one_read c h Stopped (Lost d) on = refl
+one_read c h (Running m) (entries.Start g) on = refl
+one_read c h (Running m) (entries.Stop g) on = absurd on
+one_read c h (Running m) (entries.Submit g command tries) on = ap (λ (b : Beats). b.readings) (beats_on c m (Submitting command) tries)
+one_read c h (Running m) (entries.Recover g tries) on = ap (λ (b : Beats). b.readings) (beats_on c m Recovering tries)
+one_read c h (Running m) (entries.Beat g) on = refl
+one_read c h (Running m) (Called g d call answer left) on = read_hearing c h m m.doing d answer
+one_read c h (Running m) (Torn g d call left) on = absurd on
+one_read c h (Running m) (Crashed d left) on = refl
+one_read c h (Running m) (Lost d) on = refl
+
+all_read : (c : Shape) (h : ℕ) (es : List Filled) (host : Host) → AllGoOn es → readings_of (host_after c h host es) ≡ option_or (last_read (beats_ended c h host es)) (readings_of host)
+all_read c h [] host on = refl
+all_read c h (e ∷ es) host on =
+    let first = beat_ended_at c h host e in
+    let rest = beats_ended c h (host_step c h host e) es in
+    all_read c h es (host_step c h host e) on.1
+    ∙ ap (option_or (last_read rest)) (one_read c h host e on.0)
+    ∙ sym (or_or (last_read rest) (last_read first) (readings_of host))
+    ∙ ap (λ (o : Option Readings). option_or o (readings_of host)) (sym (last_more first rest))
+
 pub accounts_for : AccountsFor
 accounts_for c h since on =
     let is = all_account c h since (Running fresh) [] on (record { learned = refl; floor = refl; up_to = tt }) in
-    record { learned = learned_told _ _ is; floor = floor_told _ _ is }
+    record { learned = learned_told _ _ is; floor = floor_told _ _ is; readings = all_read c h since (Running fresh) on ∙ or_none (last_read (beats_ended c h (Running fresh) since)) }
 
 -- TRIES
 

@@ -67,7 +67,7 @@ last_call One = omega arith
 last_call Two = omega arith
 
 -- an attempt that has heard nothing has the opening's first call to make
-starts : (s : Setup) → 1 ≤ s.disks → status s (on []) ≡ Due Opening 0
+pub starts : (s : Setup) → 1 ≤ s.disks → status s (on []) ≡ Due Opening 0
 starts s some =
     due_if s (on []) Opening 0
     (record {

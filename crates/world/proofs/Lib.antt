@@ -9,3 +9,4 @@ pub mod Saying
 pub mod Reaching
 pub mod Accounting
 pub mod ShortRuns
+pub mod ShortLines

@@ -75,11 +75,11 @@ unfolding submission
 only_granted j other told says = only_once one_disk submitting 18 0 18 (Ack 0 Granted) lines_of_submission place_of_submission j other told says
 
 -- what a host carries out
-operation_in : Option Doing → Option Operation
+unfoldable pub operation_in : Option Doing → Option Operation
 operation_in None = None
 operation_in (Some t) = Some t.operation
 
-abbrev operation_of : Host → Option Operation
+abbrev pub operation_of : Host → Option Operation
 operation_of Stopped = None
 operation_of (Running m) = operation_in m.doing
 
@@ -89,14 +89,14 @@ unfolding submission operation_in fresh_disk sequence_of body_of number_bytes ta
 operation_then = refl
 
 -- so it is running, and busy with that
-record IsBusyWith (host : Host) (operation : Operation) : Type 0 where
-  memory : Memory
-  running : host ≡ Running memory
-  doing : Doing
-  does : memory.doing ≡ Some doing
-  is : doing.operation ≡ operation
+pub record IsBusyWith (host : Host) (operation : Operation) : Type 0 where
+  pub memory : Memory
+  pub running : host ≡ Running memory
+  pub doing : Doing
+  pub does : memory.doing ≡ Some doing
+  pub is : doing.operation ≡ operation
 
-busy_with : (host : Host) (operation : Operation) → operation_of host ≡ Some operation → IsBusyWith host operation
+pub busy_with : (host : Host) (operation : Operation) → operation_of host ≡ Some operation → IsBusyWith host operation
 unfolding operation_in
 busy_with Stopped operation is = absurd (cc)
 busy_with (Running m) operation is = go m.doing refl is
@@ -113,7 +113,7 @@ acknowledged =
 pub before : IsAcknowledgedBefore one_disk submission 19 0 takes_db
 before = record { place = 18; host = 0; reply = Granted; before = omega arith; is = acknowledged }
 
-operation_told : (host : Host) (m : Memory) (t : Doing) (operation : Operation) → host ≡ Running m → m.doing ≡ Some t → t.operation ≡ operation → operation_of host ≡ Some operation
+pub operation_told : (host : Host) (m : Memory) (t : Doing) (operation : Operation) → host ≡ Running m → m.doing ≡ Some t → t.operation ≡ operation → operation_of host ≡ Some operation
 unfolding operation_in
 operation_told host m t operation running doing is = ap operation_of running ∙ ap operation_in doing ∙ ap Some is
 

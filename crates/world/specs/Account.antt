@@ -1,15 +1,19 @@
--- What a host has learned, its floor, and when it gives up, told by how its attempts ended.
+-- What a host has learned, its floor, and when it gives up, told by how its attempts ended; and its readings, by how its beats did.
 use Rattle.std.specs.Prelude.{◌≡◌, ◌+◌, ◌≤◌, ◌==◌, ◌↔◌, ℕ, true, List, [], ◌∷◌, ◌++◌, length, max, Option, Some, None, if◌then◌else◌}
+use Rattle.std.specs.Option.{option_or}
 use Rattle.attempt.specs.Answers.{Answered, on, heard_as}
 use Rattle.attempt.specs.Setup.{Setup}
 use Rattle.attempt.specs.Status.{Status, Due, Ended, End, status, taken}
 use Rattle.attempt.specs.Status as attempt
+use Rattle.heartbeat.specs.Suggesting.{Readings}
+use Rattle.beats.specs.Answers as beat_answers
+use Rattle.beats.specs.Status as beat
 use Rattle.lock_command.specs.declared.command.Command.{Command}
 use Rattle.lock_command.specs.Reading.{decoded}
 use Rattle.slot_log.specs.Shape.{Shape}
 use Rattle.slot_log.specs.declared.outcome.Refusal.TheVariants as refusal
 use Rattle.host.specs.declared.answer.HostAnswer.TheVariants.{Refused}
-use Rattle.host.specs.Host.{Doing, Memory, Host, Stopped, Running, fresh, setup_of, with_heard, said_of, learned_of, is_idle}
+use Rattle.host.specs.Host.{Doing, Memory, Host, Stopped, Running, fresh, setup_of, beat_of, with_heard, said_of, learned_of, is_idle}
 use Rattle.world.specs.Entry.{Filled, Stop, Submit, Recover, Called, Torn, host_step, host_after}
 
 -- ATTEMPTS THAT END
@@ -38,7 +42,38 @@ abbrev pub endings : Shape → ℕ → Host → List Filled → List Ending
 endings c h host [] = []
 endings c h host (e ∷ es) = ending_at c h host e ++ endings c h (host_step c h host e) es
 
+-- BEATS THAT END
+
+abbrev pub beat_ended_by : beat.Status → List beat.End
+beat_ended_by (beat.Due disk) = []
+beat_ended_by (beat.Ended end) = end ∷ []
+
+-- the beat that ends with this answer, if one does: an attempt under way hears it first
+abbrev pub beat_ended_in : Shape → ℕ → Option Doing → Option (List beat_answers.Answered) → beat_answers.Answered → List beat.End
+beat_ended_in c h (Some t) beats x = []
+beat_ended_in c h None None x = []
+beat_ended_in c h None (Some heard) x = beat_ended_by (beat.status (beat_of c h) (beat_answers.on (heard ++ x ∷ [])))
+
+abbrev pub beat_ended_at : Shape → ℕ → Host → Filled → List beat.End
+beat_ended_at c h (Running m) (Called g d call answer left) = beat_ended_in c h m.doing m.beats.heard (record { disk = d; heard = beat_answers.heard_as answer })
+beat_ended_at c h host e = []
+
+-- how the beats of a host ended that end with these entries, in their order
+abbrev pub beats_ended : Shape → ℕ → Host → List Filled → List beat.End
+beats_ended c h host [] = []
+beats_ended c h host (e ∷ es) = beat_ended_at c h host e ++ beats_ended c h (host_step c h host e) es
+
 -- WHAT THEY TELL
+
+-- what a beat that ended well has read
+abbrev pub read_by : beat.End → Option Readings
+read_by (beat.Beaten readings) = Some readings
+read_by beat.NoMajority = None
+
+-- what the last of them that ended well has read
+abbrev pub last_read : List beat.End → Option Readings
+last_read [] = None
+last_read (x ∷ xs) = option_or (last_read xs) (read_by x)
 
 abbrev pub read_as : Option Command → List Command
 read_as None = []
@@ -79,6 +114,11 @@ abbrev pub floor_of : Host → ℕ
 floor_of Stopped = 0
 floor_of (Running m) = m.floor
 
+-- the readings that a running host goes by
+abbrev pub readings_of : Host → Option Readings
+readings_of Stopped = None
+readings_of (Running m) = m.beats.readings
+
 -- no entry by which a host stops
 abbrev pub GoesOn : Filled → Type 0
 GoesOn (Stop h) = ⊥
@@ -90,10 +130,12 @@ AllGoOn [] = Unit {0}
 AllGoOn (e ∷ es) = GoesOn e × AllGoOn es
 
 -- By the attempts that ended since its start: what a host has learned is what they committed, slot by slot, and its floor on the
--- next slot is the greatest ballot that those on that slot took or were outrun by.
+-- next slot is the greatest ballot that those on that slot took or were outrun by. Its readings are those of its last beat since its start that
+-- ended well.
 pub record IsAccountedFor (c : Shape) (h : ℕ) (since : List Filled) : Type 0 where
   pub learned : learned_of (host_after c h (Running fresh) since) ≡ committed (endings c h (Running fresh) since)
   pub floor : let host = host_after c h (Running fresh) since in floor_of host ≡ greatest_on (length (learned_of host)) (endings c h (Running fresh) since)
+  pub readings : readings_of (host_after c h (Running fresh) since) ≡ last_read (beats_ended c h (Running fresh) since)
 
 abbrev pub AccountsFor : Type 0
 AccountsFor = (c : Shape) (h : ℕ) (since : List Filled) → AllGoOn since → IsAccountedFor c h since

@@ -1,11 +1,12 @@
 -- Two short runs over one disk: the first submission, and a recovery of an empty log.
-use Rattle.std.specs.Prelude.{false, List, [], ◌∷◌, replicate}
+use Rattle.std.specs.Prelude.{ℕ, false, List, [], ◌∷◌, replicate}
 use Rattle.lock_modes.specs.declared.mode.Mode.TheVariants.{Exclusive}
 use Rattle.lock_command.specs.declared.command.Command.{Command}
 use Rattle.lock_command.specs.declared.command.Action.TheVariants.{Enqueue}
 use Rattle.slot_log.specs.Shape.{Shape}
+use Rattle.host.specs.declared.answer.HostAnswer.{HostAnswer}
 use Rattle.world.specs.Entry.{Filled}
-use Rattle.world.specs.Happens.{Event, Start, Submit, Recover, Step, run}
+use Rattle.world.specs.Happens.{Event, Start, Submit, Recover, Step, Line, run}
 
 -- one disk, and room for two commands
 abbrev pub one_disk : Shape
@@ -28,3 +29,7 @@ recovering = Start 0 ∷ Recover 0 1 ∷ replicate 10 (Step 0)
 
 unfoldable pub recovery : List Filled
 recovery = run one_disk recovering
+
+-- a line of host 0
+abbrev pub told_at : ℕ → HostAnswer → Line
+told_at place said = record { place = place; host = 0; said = said }

@@ -6,4 +6,5 @@ pub mod Chosen
 pub mod Headline
 pub mod Lines
 pub mod Account
+pub mod Told
 pub mod Examples

@@ -95,9 +95,10 @@ pub fn attempts_hear_histories()
 
 /// What a host has learned, its floor, and when it gives up, are told by the attempts that ended since
 /// its start: the commands that they committed, slot by slot; the greatest ballot that those on the
-/// next slot took or were outrun by; and the last of an operation's tries to be outrun.
+/// next slot took or were outrun by; and the last of an operation's tries to be outrun. The readings
+/// that it goes by are those of its last beat since then that ended well.
 pub fn hosts_account_for_themselves()
-    ensures learned_and_floor { AccountsFor }
+    ensures account { AccountsFor }
     ensures outrun { GivesUp }
 {}
 

@@ -1,13 +1,17 @@
 -- What else is claimed of every run: of its ballots, of its log as it grows, of its recoveries, and of the majorities behind its answers.
-use Rattle.std.specs.Prelude.{◌≡◌, ◌⊎◌, ◌<◌, ◌≤◌, ℕ, List, take, slice_get, Some}
+use Rattle.std.specs.Prelude.{◌≡◌, ◌⊎◌, ◌<◌, ◌≤◌, ℕ, List, [], take, slice_get, Some}
 use Rattle.attempt.specs.Answers.{Answered, on}
 use Rattle.attempt.specs.Prepared.{Proposes, IsPrepared, IsAccepted}
 use Rattle.attempt.specs.Proposal.{ballot}
 use Rattle.attempt.specs.Setup.{Setup}
+use Rattle.lock_command.specs.declared.command.Command.{Command}
+use Rattle.lock_command.specs.Command.{spelling}
 use Rattle.lock_table.specs.declared.reply.Reply.{Reply}
 use Rattle.slot_log.specs.Shape.{Shape}
 use Rattle.world.specs.Entry.{Filled, Recover}
+use Rattle.world.specs.World.{World}
 use Rattle.host.specs.declared.answer.HostAnswer.TheVariants.{Ack, Recovered}
+use Rattle.host.specs.Host.{Submitting}
 use Rattle.world.specs.Chosen.{at, Hears, IsChosenAt, IsLog, SaysAt, IsRecovery}
 use Rattle.world_safety.specs.Goes.{IsTryingAt}
 use Rattle.world.specs.Headline.{IsPrefix}
@@ -57,10 +61,15 @@ LogGrows c log = (i : ℕ) (values longer : List (List ℕ)) → IsLog c (take i
 abbrev pub AllBegun : Shape → List Filled → Type 0
 AllBegun c log = (j host n : ℕ) → SaysAt c log j host (Recovered n) → (i : ℕ) × IsRecovery c log i j host n
 
--- Where a host answers that it has recovered n commands, nothing had been chosen for slot n, nor for a later one, before it began to try slot n.
+-- no attempt of the host on this slot is under way, or it has heard nothing yet
+abbrev pub HasHeardNothing : World → ℕ → ℕ → Type 0
+HasHeardNothing w host slot = (trying : IsTryingAt w host slot) → trying.doing.heard ≡ []
+
+-- Where a host answers that it has recovered n commands, nothing had been chosen for slot n, nor for a later one, by any place at which the host did
+-- not try slot n, or its attempt had heard nothing: so nothing before the attempt that found the slot empty made its first call, on whichever try.
 abbrev pub EmptyShows : Shape → List Filled → Type 0
 EmptyShows c log =
-    (i j host n place slot : ℕ) (value : List ℕ) → ¬ IsTryingAt (at c log i) host n → i ≤ j → SaysAt c log j host (Recovered n) → place < i → IsChosenAt c log place slot value → slot < n
+    (i j host n place slot : ℕ) (value : List ℕ) → HasHeardNothing (at c log i) host n → i ≤ j → SaysAt c log j host (Recovered n) → place < i → IsChosenAt c log place slot value → slot < n
 
 -- A recovery of any host that answers holds whatever was chosen before it began, for any host: what it has learned is longer.
 abbrev pub MissesNothing : Shape → List Filled → Type 0
@@ -81,15 +90,16 @@ pub record IsPreparedAt (c : Shape) (log : List Filled) (i host : ℕ) : Type 0 
   pub of_host : hears.host ≡ host
   pub prepared : IsPrepared setup heard
 
--- With the answer of entry i a host's attempt on a slot is accepted: on more than half of the disks the six calls that wrote its vote, and the read of the row behind them, were answered well.
+-- With the answer of entry i a host's attempt on a slot is accepted, with the command that the host was submitting: on more than half of the disks the six calls that wrote its vote for that command's spelling, and the read of the row behind them, were answered well.
 pub record IsAcceptedAt (c : Shape) (log : List Filled) (i host slot : ℕ) : Type 0 where
   pub setup : Setup
   pub heard : List Answered
   pub hears : Hears c log i setup heard
   pub of_host : hears.host ≡ host
   pub on_slot : setup.slot ≡ slot
-  pub value : List ℕ
-  pub accepted : IsAccepted setup heard value
+  pub command : Command
+  pub submitting : hears.doing.operation ≡ Submitting command
+  pub accepted : IsAccepted setup heard (spelling command)
 
 -- entry i begins a recovery of a host that has learned all slots
 pub record IsFullAt (c : Shape) (log : List Filled) (i host n : ℕ) : Type 0 where

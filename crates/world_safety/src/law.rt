@@ -26,8 +26,9 @@ pub fn ballots_agree()
 {}
 
 /// Whoever answers that it has recovered began to. A slot that a recovery found empty had no chosen
-/// value when its host began to try it. So a recovery that answers has missed nothing that was
-/// chosen before it began, for whatever host, and is no shorter than one that had answered by then.
+/// value when the attempt that found it so began, on whichever try. So a recovery that answers has
+/// missed nothing that was chosen before it began, for whatever host, and is no shorter than one that
+/// had answered by then.
 pub fn recoveries_miss_nothing()
     ensures begun { (c : Shape) (log : List Filled) → IsRun c log → AllBegun c log }
     ensures empty { (c : Shape) (log : List Filled) → IsRun c log → EmptyShows c log }

@@ -1,7 +1,7 @@
 -- One host that makes calls over one disk, each of which is answered: what its host and its disk come to, and that the premises of being served hold.
-use Rattle.std.specs.Prelude.{not, ◌&&◌, cond, drop, slice_get, option_map, option_and_then}
+use Rattle.std.specs.Prelude.{not, ◌&&◌, cond, nat_le, take, drop, slice_get, option_map, option_and_then}
 use Rattle.std.proofs.Common.{ℕ, zero, suc, ◌+◌, ◌<◌, ◌≤◌, ◌≡◌, ◌==◌, inl, inr, Bool, true, false, Option, Some, None, List, [], ◌∷◌, ◌++◌, length, length-append, refl, sym, subst, ap, ◌∙◌, arith}
-use Rattle.std.proofs.lemmas.Bool.{cases_lt, eqb-true}
+use Rattle.std.proofs.lemmas.Bool.{cases_lt, eqb-true, leb-true}
 use Rattle.std.proofs.lemmas.List.{take-append-le, drop-append-le}
 use Rattle.std.proofs.lemmas.List.Elements.{filter-append}
 use Rattle.std.proofs.lemmas.Option.{slice_get_within}
@@ -63,15 +63,15 @@ well_answers s f one well =
     here : AnswersEach s f 0
     here = record { good = by.0; unspent = λ p come. unspent p }
 
--- so it is of what a host has heard with one answer more
-abbrev pub heard_well : Shape → Memory → Option Doing → Answer → Bool
-heard_well c m None answer = false
-heard_well c m (Some t) answer = is_well (setup_of c 0 m t.operation) (on (t.heard ++ record { disk = 0; heard = heard_as answer } ∷ []) 0)
+-- so it is of what a host has heard with one answer more, of a slot up to the last that it may try
+abbrev pub heard_well : Shape → ℕ → Memory → Option Doing → Answer → Bool
+heard_well c last m None answer = false
+heard_well c last m (Some t) answer = nat_le (length m.learned) last && is_well (setup_of c 0 m t.operation) (on (t.heard ++ record { disk = 0; heard = heard_as answer } ∷ []) 0)
 
 -- and of the host that has it
-abbrev pub host_well : Shape → Host → Answer → Bool
-host_well c Stopped answer = false
-host_well c (Running m) answer = heard_well c m m.doing answer
+abbrev pub host_well : Shape → ℕ → Host → Answer → Bool
+host_well c last Stopped answer = false
+host_well c last (Running m) answer = heard_well c last m m.doing answer
 
 -- A CALL
 
@@ -80,41 +80,41 @@ abbrev pub made : DiskState → Call → Filled
 made disk call = Called 0 0 call (answer_of disk call) []
 
 -- the disk and the host behind a call of disk 0 that is well answered
-abbrev pub played_by : Shape → DiskState → Host → Option (ℕ × Call) → Option (DiskState × Host)
-played_by c disk host None = None
-played_by c disk host (Some next) = cond (next.0 == 0 && host_well c host (answer_of disk next.1)) (Some (disk_step disk (made disk next.1), host_step c 0 host (made disk next.1))) None
+abbrev pub played_by : Shape → ℕ → DiskState → Host → Option (ℕ × Call) → Option (DiskState × Host)
+played_by c last disk host None = None
+played_by c last disk host (Some next) = cond (next.0 == 0 && host_well c last host (answer_of disk next.1)) (Some (disk_step disk (made disk next.1), host_step c 0 host (made disk next.1))) None
 
 -- behind so many
-unfoldable pub played : Shape → ℕ → DiskState → Host → Option (DiskState × Host)
-played c zero disk host = Some (disk, host)
-played c (suc n) disk host = option_and_then (λ (q : DiskState × Host). played c n q.0 q.1) (played_by c disk host (next_of c 0 host))
+unfoldable pub played : Shape → ℕ → ℕ → DiskState → Host → Option (DiskState × Host)
+played c last zero disk host = Some (disk, host)
+played c last (suc n) disk host = option_and_then (λ (q : DiskState × Host). played c last n q.0 q.1) (played_by c last disk host (next_of c 0 host))
 
 -- WHAT HOLDS OF THE LIST
 
--- Behind these two entries there are calls of host 0 alone, each well answered; and there the disk and the host stand.
-pub record Plays (c : Shape) (first second : Filled) (log : List Filled) (disk : DiskState) (host : Host) (calls : ℕ) : Type 0 where
+-- Behind these entries there are calls of host 0 alone, each well answered, of attempts on slots up to the last that it may try; and there the
+-- disk and the host stand.
+pub record Plays (c : Shape) (last : ℕ) (begin log : List Filled) (disk : DiskState) (host : Host) (calls : ℕ) : Type 0 where
   pub disk_is : (world c log).disk 0 ≡ disk
   pub host_is : (world c log).host 0 ≡ host
-  pub long : length log ≡ 2 + calls
-  pub is_first : slice_get log 0 ≡ Some first
-  pub is_second : slice_get log 1 ≡ Some second
-  pub own : (k : ℕ) (e : Filled) → 1 < k → slice_get log k ≡ Some e → IsCallOf 0 e
-  pub well : (k : ℕ) (s : Setup) (heard : List Answered) → Hears c log k s heard → 1 < k → MostAnswerEach s (on heard)
-  pub counted : length (of_host 0 (drop 2 log)) ≡ calls
+  pub long : length log ≡ length begin + calls
+  pub begins : take (length begin) log ≡ begin
+  pub own : (k : ℕ) (e : Filled) → length begin ≤ k → slice_get log k ≡ Some e → IsCallOf 0 e
+  pub well : (k : ℕ) (s : Setup) (heard : List Answered) → Hears c log k s heard → length begin ≤ k → MostAnswerEach s (on heard) × (s.slot ≤ last)
+  pub counted : length (of_host 0 (drop (length begin) log)) ≡ calls
 
 -- an element of a longer list is one of before, or the last
-get_old : {A : Type 0} (l : List A) (x : A) (k : ℕ) → k < length l → slice_get (l ++ x ∷ []) k ≡ slice_get l k
+pub get_old : {A : Type 0} (l : List A) (x : A) (k : ℕ) → k < length l → slice_get (l ++ x ∷ []) k ≡ slice_get l k
 get_old [] x k less = absurd (omega arith)
 get_old (y ∷ l) x zero less = refl
 get_old (y ∷ l) x (suc k) less = get_old l x k (omega arith)
 
 -- which stands at its end
-get_last : {A : Type 0} (l : List A) (x : A) → slice_get (l ++ x ∷ []) (length l) ≡ Some x
+pub get_last : {A : Type 0} (l : List A) (x : A) → slice_get (l ++ x ∷ []) (length l) ≡ Some x
 get_last [] x = refl
 get_last (y ∷ l) x = get_last l x
 
-module _ (c : Shape) (first second : Filled) (one : c.disks ≡ 1) (log : List Filled) (disk : DiskState) (host : Host) (calls : ℕ) (is : Plays c first second log disk host calls) (call : Call) (next : next_of c 0 host ≡ Some (0, call))
-    (good : host_well c host (answer_of disk call) ≡ true) where
+module _ (c : Shape) (last : ℕ) (begin : List Filled) (one : c.disks ≡ 1) (log : List Filled) (disk : DiskState) (host : Host) (calls : ℕ) (is : Plays c last begin log disk host calls) (call : Call) (next : next_of c 0 host ≡ Some (0, call))
+    (good : host_well c last host (answer_of disk call) ≡ true) where
   abbrev e : Filled
   e = made disk call
 
@@ -147,7 +147,7 @@ module _ (c : Shape) (first second : Filled) (one : c.disks ≡ 1) (log : List F
   last_is k x same found = (let both : Some e ≡ Some x = sym (get_last log e) ∙ ap (slice_get longer) (sym same) ∙ found in cc)
 
   -- so there are calls of the host alone
-  own_by : (k : ℕ) (x : Filled) → 1 < k → slice_get longer k ≡ Some x → Where k → IsCallOf 0 x
+  own_by : (k : ℕ) (x : Filled) → length begin ≤ k → slice_get longer k ≡ Some x → Where k → IsCallOf 0 x
   own_by k x behind found (Old less) = is.own k x behind (sym (get_old log e k less) ∙ found)
   own_by k x behind found (Last same) = record { disk = 0; call = call; answer = answer_of disk call; left = []; is = sym (last_is k x same found) }
 
@@ -159,7 +159,7 @@ module _ (c : Shape) (first second : Filled) (one : c.disks ≡ 1) (log : List F
   at_last : at c longer (length log) ≡ world c log
   at_last = ap (world c) (take-append_seam log (e ∷ []))
 
-  module _ (k : ℕ) (s : Setup) (heard : List Answered) (hears : Hears c longer k s heard) (behind : 1 < k) where
+  module _ (k : ℕ) (s : Setup) (heard : List Answered) (hears : Hears c longer k s heard) (behind : length begin ≤ k) where
     -- an attempt that hears at a place of before heard there
     before : k < length log → Hears c log k s heard
     before less =
@@ -180,21 +180,26 @@ module _ (c : Shape) (first second : Filled) (one : c.disks ≡ 1) (log : List F
 
     -- what is heard with the last is well answered
     well_last : (h d : ℕ) (answer : Answer) → h ≡ 0 → d ≡ 0 → answer ≡ answer_of disk call → host ≡ Running hears.memory → (r : Setup) → r ≡ setup_of c h hears.memory hears.doing.operation → (xs : List Answered)
-        → xs ≡ hears.doing.heard ++ record { disk = d; heard = heard_as answer } ∷ [] → MostAnswerEach r (on xs)
+        → xs ≡ hears.doing.heard ++ record { disk = d; heard = heard_as answer } ∷ [] → MostAnswerEach r (on xs) × (r.slot ≤ last)
     well_last h d answer host_none disk_none answered running r is_setup xs is_heard =
         let m = hears.memory in
         let t = hears.doing in
-        let there : heard_well c m m.doing (answer_of disk call) ≡ true = subst (λ (old : Host). host_well c old (answer_of disk call) ≡ true) running good in
-        let doing : heard_well c m (Some t) (answer_of disk call) ≡ true = subst (λ (o : Option Doing). heard_well c m o (answer_of disk call) ≡ true) hears.does there in
+        let there : heard_well c last m m.doing (answer_of disk call) ≡ true = subst (λ (old : Host). host_well c last old (answer_of disk call) ≡ true) running good in
+        let both : heard_well c last m (Some t) (answer_of disk call) ≡ true = subst (λ (o : Option Doing). heard_well c last m o (answer_of disk call) ≡ true) hears.does there in
+        let parts = both_true (nat_le (length m.learned) last) (is_well (setup_of c 0 m t.operation) (on (t.heard ++ record { disk = 0; heard = heard_as (answer_of disk call) } ∷ []) 0)) both in
+        let doing = parts.1 in
+        let low : length m.learned ≤ last = leb-true (length m.learned) last parts.0 in
         let setup : setup_of c 0 m t.operation ≡ r = ap (λ (g : ℕ). setup_of c g m t.operation) (sym host_none) ∙ sym is_setup in
         let all : t.heard ++ record { disk = 0; heard = heard_as (answer_of disk call) } ∷ [] ≡ xs =
         ap (λ (k : ℕ). t.heard ++ record { disk = k; heard = heard_as (answer_of disk call) } ∷ []) (sym disk_none)
-        ∙ ap (λ (a : Answer). t.heard ++ record { disk = d; heard = heard_as a } ∷ []) (sym answered) ∙ sym is_heard in
-        well_answers r (on xs) (ap (λ (q : Setup). q.disks) is_setup ∙ one)
-        (subst (λ (ys : List Answered). is_well r (on ys 0) ≡ true) all (subst (λ (q : Setup). is_well q (on (t.heard ++ record { disk = 0; heard = heard_as (answer_of disk call) } ∷ []) 0) ≡ true) setup doing))
+        ∙ ap (λ (a : Answer). t.heard ++ record { disk = d; heard = heard_as a } ∷ []) (sym answered) ∙ sym is_heard in (
+          well_answers r (on xs) (ap (λ (q : Setup). q.disks) is_setup ∙ one)
+              (subst (λ (ys : List Answered). is_well r (on ys 0) ≡ true) all (subst (λ (q : Setup). is_well q (on (t.heard ++ record { disk = 0; heard = heard_as (answer_of disk call) } ∷ []) 0) ≡ true) setup doing)),
+          subst (λ (q : Setup). q.slot ≤ last) setup low,
+        )
 
     -- so each is well answered
-    well_by : Where k → MostAnswerEach s (on heard)
+    well_by : Where k → MostAnswerEach s (on heard) × (s.slot ≤ last)
     well_by (Old less) = is.well k s heard (before less) behind
     well_by (Last same) =
         let made_it : e ≡ Called hears.host hears.disk hears.call hears.answer hears.left = last_is k _ same hears.entry in
@@ -206,64 +211,63 @@ module _ (c : Shape) (first second : Filled) (one : c.disks ≡ 1) (log : List F
         well_last hears.host hears.disk hears.answer (sym of_zero) (sym on_zero) (sym answers) (sym is.host_is ∙ ap (λ (g : ℕ). (world c log).host g) of_zero ∙ stands) s hears.is_setup heard hears.is_heard
 
   -- all of it holds of the longer list
-  plays_longer : Plays c first second longer (disk_step disk e) (host_step c 0 host e) (calls + 1)
+  plays_longer : Plays c last begin longer (disk_step disk e) (host_step c 0 host e) (calls + 1)
   plays_longer =
       let size = is.long in
       record {
         disk_is = disk_here c log e 0 refl ∙ ap (λ (d : DiskState). disk_step d e) is.disk_is;
         host_is = host_here c log e 0 refl ∙ ap (λ (old : Host). host_step c 0 old e) is.host_is;
         long = omega (arith, length-append log (e ∷ []));
-        is_first = get_old log e 0 (omega arith) ∙ is.is_first;
-        is_second = get_old log e 1 (omega arith) ∙ is.is_second;
+        begins = take-append-le (length begin) log (e ∷ []) (omega arith) ∙ is.begins;
         own = λ k x behind found. own_by k x behind found (place k x found);
         well = λ k s heard hears behind. well_by k s heard hears behind (place k _ hears.entry);
         counted =
-            ap (λ (l : List Filled). length (of_host 0 l)) (drop-append-le 2 log (e ∷ []) (omega arith))
-            ∙ ap length (filter-append (is_of 0) (drop 2 log) (e ∷ []))
-            ∙ length-append (of_host 0 (drop 2 log)) (of_host 0 (e ∷ []))
+            ap (λ (l : List Filled). length (of_host 0 l)) (drop-append-le (length begin) log (e ∷ []) (omega arith))
+            ∙ ap length (filter-append (is_of 0) (drop (length begin) log) (e ∷ []))
+            ∙ length-append (of_host 0 (drop (length begin) log)) (of_host 0 (e ∷ []))
             ∙ ap (λ (n : ℕ). n + 1) is.counted;
       }
 
   -- one step more
-  pub plays_next : Plays c first second (happens c log (Step 0)) (disk_step disk e) (host_step c 0 host e) (calls + 1)
-  plays_next = subst (λ (l : List Filled). Plays c first second l (disk_step disk e) (host_step c 0 host e) (calls + 1)) (sym brings) plays_longer
+  pub plays_next : Plays c last begin (happens c log (Step 0)) (disk_step disk e) (host_step c 0 host e) (calls + 1)
+  plays_next = subst (λ (l : List Filled). Plays c last begin l (disk_step disk e) (host_step c 0 host e) (calls + 1)) (sym brings) plays_longer
 
 -- SO MANY STEPS
 
-module _ (c : Shape) (first second : Filled) (one : c.disks ≡ 1) where
+module _ (c : Shape) (last : ℕ) (begin : List Filled) (one : c.disks ≡ 1) where
   -- what the computed step tells
   record Told (disk : DiskState) (host : Host) (q : DiskState × Host) : Type 0 where
     pub call : Call
     pub next : next_of c 0 host ≡ Some (0, call)
-    pub good : host_well c host (answer_of disk call) ≡ true
+    pub good : host_well c last host (answer_of disk call) ≡ true
     pub is : (disk_step disk (made disk call), host_step c 0 host (made disk call)) ≡ q
 
   -- each step that is computed is such a call
-  told : (disk : DiskState) (host : Host) (q : DiskState × Host) (o : Option (ℕ × Call)) → next_of c 0 host ≡ o → played_by c disk host o ≡ Some q → Told disk host q
+  told : (disk : DiskState) (host : Host) (q : DiskState × Host) (o : Option (ℕ × Call)) → next_of c 0 host ≡ o → played_by c last disk host o ≡ Some q → Told disk host q
   told disk host q None due is = absurd (cc)
-  told disk host q (Some (d, call)) due is = go (d == 0) refl (host_well c host (answer_of disk call)) refl is
+  told disk host q (Some (d, call)) due is = go (d == 0) refl (host_well c last host (answer_of disk call)) refl is
     where
-      go : (a : Bool) → (d == 0) ≡ a → (b : Bool) → host_well c host (answer_of disk call) ≡ b → cond (a && b) (Some (disk_step disk (made disk call), host_step c 0 host (made disk call))) None ≡ Some q → Told disk host q
+      go : (a : Bool) → (d == 0) ≡ a → (b : Bool) → host_well c last host (answer_of disk call) ≡ b → cond (a && b) (Some (disk_step disk (made disk call), host_step c 0 host (made disk call))) None ≡ Some q → Told disk host q
       go true first_disk true good same = record { call = call; next = due ∙ ap (λ (k : ℕ). Some (k, call)) (eqb-true d 0 first_disk); good = good; is = cc }
       go true first_disk false good same = absurd (cc)
       go false first_disk b good same = absurd (cc)
 
   -- and each but the first goes on from one
-  by_step : (n : ℕ) (o : Option (DiskState × Host)) (q : DiskState × Host) → option_and_then (λ (p : DiskState × Host). played c n p.0 p.1) o ≡ Some q → (p : DiskState × Host) × (o ≡ Some p) × (played c n p.0 p.1 ≡ Some q)
+  by_step : (n : ℕ) (o : Option (DiskState × Host)) (q : DiskState × Host) → option_and_then (λ (p : DiskState × Host). played c last n p.0 p.1) o ≡ Some q → (p : DiskState × Host) × (o ≡ Some p) × (played c last n p.0 p.1 ≡ Some q)
   by_step n None q is = absurd (cc)
   by_step n (Some p) q is = (p, refl, is)
 
   -- so it is behind as many steps as were computed
-  pub plays_on : (n : ℕ) (log : List Filled) (disk : DiskState) (host : Host) (calls : ℕ) (q : DiskState × Host) → Plays c first second log disk host calls → played c n disk host ≡ Some q → Plays c first second (happen c log (steps n)) q.0 q.1 (calls + n)
+  pub plays_on : (n : ℕ) (log : List Filled) (disk : DiskState) (host : Host) (calls : ℕ) (q : DiskState × Host) → Plays c last begin log disk host calls → played c last n disk host ≡ Some q → Plays c last begin (happen c log (steps n)) q.0 q.1 (calls + n)
   unfolding played steps
   plays_on zero log disk host calls q is so =
       let same : (disk, host) ≡ q = cc in
       let none : calls ≡ calls + zero = omega arith in
-      subst (λ (p : DiskState × Host). Plays c first second log p.0 p.1 (calls + zero)) same (subst (λ (k : ℕ). Plays c first second log disk host k) none is)
+      subst (λ (p : DiskState × Host). Plays c last begin log p.0 p.1 (calls + zero)) same (subst (λ (k : ℕ). Plays c last begin log disk host k) none is)
   plays_on (suc n) log disk host calls q is so =
-      let by = by_step n (played_by c disk host (next_of c 0 host)) q so in
+      let by = by_step n (played_by c last disk host (next_of c 0 host)) q so in
       let it = told disk host by.0 (next_of c 0 host) refl by.1 in
-      let one_more = plays_next c first second one log disk host calls is it.call it.next it.good in
+      let one_more = plays_next c last begin one log disk host calls is it.call it.next it.good in
       let number : (calls + 1) + n ≡ calls + suc n = omega arith in
-      subst (λ (k : ℕ). Plays c first second (happen c log (steps (suc n))) q.0 q.1 k) number
-      (plays_on n (happens c log (Step 0)) by.0.0 by.0.1 (calls + 1) q (subst (λ (p : DiskState × Host). Plays c first second (happens c log (Step 0)) p.0 p.1 (calls + 1)) it.is one_more) by.2)
+      subst (λ (k : ℕ). Plays c last begin (happen c log (steps (suc n))) q.0 q.1 k) number
+      (plays_on n (happens c log (Step 0)) by.0.0 by.0.1 (calls + 1) q (subst (λ (p : DiskState × Host). Plays c last begin (happens c log (Step 0)) p.0 p.1 (calls + 1)) it.is one_more) by.2)

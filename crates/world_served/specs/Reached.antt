@@ -1,11 +1,11 @@
--- A submission that is left alone and takes as many calls as it may.
-use Rattle.std.specs.Prelude.{ℕ, zero, suc, Bool, false, List, [], ◌∷◌}
+-- Two submissions that are left alone and take as many calls as they may: one where no slot is open, and one where one slot is.
+use Rattle.std.specs.Prelude.{◌==◌, ◌++◌, ℕ, zero, suc, Bool, false, List, [], ◌∷◌}
 use Rattle.lock_modes.specs.declared.mode.Mode.TheVariants.{Exclusive}
 use Rattle.lock_command.specs.declared.command.Command.{Command}
 use Rattle.lock_command.specs.declared.command.Action.TheVariants.{Enqueue}
 use Rattle.slot_log.specs.Shape.{Shape}
 use Rattle.world.specs.Entry.{Filled}
-use Rattle.world.specs.Happens.{Event, Start, Submit, Step, run}
+use Rattle.world.specs.Happens.{Event, Start, Stop, Submit, Step, run}
 
 -- one disk, and room for four commands
 abbrev pub one_disk : Shape
@@ -27,3 +27,15 @@ first_submission = run one_disk (Start 0 ∷ Submit 0 first_command 1 ∷ steps 
 -- no slot is open
 abbrev pub none_open : ℕ → Bool
 none_open slot = false
+
+-- through the same host client 2 asks for lock 2 on db, exclusively
+abbrev pub second_command : Command
+second_command = record { host = 0; client = 2; request = 1; action = Enqueue 2 (100 ∷ 98 ∷ []) Exclusive false }
+
+-- Behind that submission host 0 stops, and so forgets; it starts again, submits the second command with one try, and makes thirty-four calls.
+unfoldable pub second_submission : List Filled
+second_submission = run one_disk ((Start 0 ∷ Submit 0 first_command 1 ∷ steps 17) ++ Stop 0 ∷ Start 0 ∷ Submit 0 second_command 1 ∷ steps 34)
+
+-- slot 0 is open: the first command was proposed there
+abbrev pub first_open : ℕ → Bool
+first_open slot = slot == 0

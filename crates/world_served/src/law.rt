@@ -1,7 +1,7 @@
 // What becomes of a submission whose host is left alone.
 ghost use Rattle.std.specs.Prelude.{◌≡◌, ◌≤◌, ◌+◌, ◌*◌, List, Some};
 ghost use Rattle.attempt.specs.Numbers.{count};
-ghost use Rattle.lock_table.specs.declared.reply.Reply.TheVariants.{Granted};
+ghost use Rattle.lock_table.specs.declared.reply.Reply.TheVariants.{Granted, Queued};
 ghost use Rattle.slot_log.specs.Shape.{Shape};
 ghost use Rattle.host.specs.Host.{said_of};
 ghost use Rattle.host.specs.declared.answer.HostAnswer.TheVariants.{Ack};
@@ -11,6 +11,7 @@ ghost use Rattle.world.specs.Happens.{Event, run};
 ghost use Rattle.world.specs.World.{IsRun};
 ghost use Rattle.world_served.specs.Attempts.{ServesAttempts};
 ghost use Rattle.world_served.specs.Reached.{one_disk, first_command, first_submission, none_open};
+ghost use Rattle.world_served.specs.Reached.{second_command, second_submission, first_open};
 ghost use Rattle.world_served.specs.Served.{IsLeftAlone, ServesAlone, calls_between};
 
 /// Where no other host makes a call meanwhile, and most disks answer each attempt, a submission ends
@@ -34,4 +35,13 @@ pub fn seventeen_calls_are_taken()
     ensures seventeen { calls_between first_submission 1 19 0 ≡
         17 * one_disk.disks * (count one_disk.slots none_open + 1) }
     ensures acknowledged { said_of ((at one_disk first_submission 19).host 0) ≡ Some (Ack 0 Granted) }
+{}
+
+/// A submission of a host that was started again, and so has not learned the slot of an earlier one, is
+/// left alone with that slot open. It takes as many calls as it may, and is acknowledged by the last.
+pub fn thirty_four_calls_are_taken()
+    ensures alone { IsLeftAlone one_disk second_submission 21 56 0 1 second_command first_open }
+    ensures thirty_four { calls_between second_submission 21 56 0 ≡
+        17 * one_disk.disks * (count one_disk.slots first_open + 1) }
+    ensures acknowledged { said_of ((at one_disk second_submission 56).host 0) ≡ Some (Ack 1 Queued) }
 {}

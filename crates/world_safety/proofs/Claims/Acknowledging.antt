@@ -23,7 +23,7 @@ use Rattle.world_safety.proofs.Runs.Saying.{went_on, full_acks, again, memory_at
 
 module _ (c : Shape) (slot : ℕ) (reply : Reply) where
   -- whose command was committed
-  submitted_is : (operation : Operation) (value : List ℕ) → is_submitted operation value ≡ true → (command : Command) × (operation ≡ Submitting command) × (spelling command ≡ value)
+  pub submitted_is : (operation : Operation) (value : List ℕ) → is_submitted operation value ≡ true → (command : Command) × (operation ≡ Submitting command) × (spelling command ≡ value)
   submitted_is (Submitting command) value is = (command, refl, (bytes_eq-Decides (spelling command) value).0 is)
   submitted_is Recovering value is = absurd (cc)
 

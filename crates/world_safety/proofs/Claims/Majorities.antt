@@ -1,9 +1,9 @@
 -- No acknowledgement and no recovery without a majority of the disks that answered.
 use Rattle.std.specs.Prelude.{slice_get}
-use Rattle.std.proofs.Common.{ℕ, ◌≤◌, ◌≡◌, ◌⊎◌, inl, inr, Some, List, length, refl, arith}
+use Rattle.std.proofs.Common.{ℕ, ◌≤◌, ◌≡◌, ◌⊎◌, inl, inr, Some, List, length, refl, sym, subst, arith}
 use Rattle.attempt.specs.Answers.{on, heard_as}
 use Rattle.attempt.specs.History.{IsHistory}
-use Rattle.attempt.specs.Prepared.{IsPrepared}
+use Rattle.attempt.specs.Prepared.{IsPrepared, IsAccepted}
 use Rattle.attempt.specs.Setup.{Setup}
 use Rattle.attempt.specs.Status.{status, taken}
 use Rattle.attempt.proofs.Preparing as preparing
@@ -16,6 +16,7 @@ use Rattle.world.specs.World.{IsRun}
 use Rattle.world.specs.Chosen.{SaysAt}
 use Rattle.world.proofs.Histories.{heard_then}
 use Rattle.world_safety.specs.Claims.{IsPreparedAt, IsAcceptedAt, IsFullAt, AcknowledgesByMajority, RecoversByMajority}
+use Rattle.world_safety.proofs.Claims.Acknowledging.{submitted_is}
 use Rattle.world_safety.proofs.Runs.Saying.{full_recovers, full_acks, status_recovers, status_commits, beginning_of, AtACall, heard_at, hears_at, whence}
 
 module _ (c : Shape) (log : List Filled) (run : IsRun c log) (i h : ℕ) where
@@ -41,14 +42,16 @@ module _ (c : Shape) (log : List Filled) (run : IsRun c log) (i h : ℕ) where
         let heard = heard_at c log i h (Ack slot reply) call in
         let own = s (Ack slot reply) call in
         let by = status_commits c call.memory (with_heard call.doing (record { disk = call.disk; heard = heard_as call.answer })) (taken own (on heard)) (status own (on heard)) slot reply later.1 in
+        let own_command = submitted_is c slot reply call.doing.operation by.value by.own in
         record {
           setup = own;
           heard = heard;
           hears = hears_at c log i h (Ack slot reply) call;
           of_host = refl;
-          on_slot = by.2;
-          value = by.0;
-          accepted = preparing.accepted own heard (history_at (Ack slot reply) call) by.0 by.1;
+          on_slot = by.on_slot;
+          command = own_command.0;
+          submitting = own_command.1;
+          accepted = subst (IsAccepted own heard) (sym own_command.2) (preparing.accepted own heard (history_at (Ack slot reply) call) by.value by.committed);
         })
   ]
 

@@ -1,24 +1,35 @@
--- A recovery that answers has missed nothing that was chosen before it began.
+-- A recovery that answers has missed nothing that was chosen before it began, nor before the attempt that found its slot empty.
 use Rattle.std.specs.Prelude.{IsTrue, slice_get}
-use Rattle.std.proofs.Common.{ℕ, zero, suc, ◌+◌, ◌-◌, ◌<◌, ◌≤◌, ◌≡◌, inl, inr, true, false, Option, Some, None, List, ◌∷◌, ◌++◌, length, append_assoc, refl, sym, subst, ap, ◌∙◌, arith}
-use Rattle.std.proofs.lemmas.Bool.{cases_Bool}
+use Rattle.std.proofs.Common.{ℕ, zero, suc, ◌+◌, ◌-◌, ◌<◌, ◌≤◌, ◌≡◌, ◌⊎◌, inl, inr, Bool, true, false, Option, Some, None, List, [], ◌∷◌, ◌++◌, length, append_assoc, refl, sym, subst, ap, ap₂, ◌∙◌, arith}
+use Rattle.std.proofs.Math.Path.{fun_ext}
+use Rattle.std.proofs.lemmas.Bool.{cases_Bool, cases_eq}
+use Rattle.attempt.specs.Answers.{Answered, on}
+use Rattle.attempt.specs.Calls as attempt
 use Rattle.attempt.specs.Setup.{Setup}
 use Rattle.slot_log.specs.Shape.{Shape}
 use Rattle.host.specs.declared.answer.HostAnswer.TheVariants.{Recovered}
-use Rattle.host.specs.Host.{Doing, Memory, Host, Stopped, Running, is_idle_in, idles, said_of}
+use Rattle.host.specs.Host.{Doing, Memory, Host, Stopped, Running, setup_of, is_idle_in, idles, said_of}
 use Rattle.world.specs.Entry.{Filled, Recover, is_of, host_step}
 use Rattle.world.specs.World.{World, IsRun}
 use Rattle.world.specs.Chosen.{at, IsChosenAt}
+use Rattle.world.proofs.Histories.{starts}
 use Rattle.world.proofs.Runs.{each}
+use Rattle.agreement.specs.Majority.{IsMajority}
+use Rattle.agreement.specs.State.{put, Cell, away, read_one, none_opened, Mind}
+use Rattle.agreement.specs.State.Mind.{Opening}
 use Rattle.agreement.specs.Chosen.{IsChosen, IsEmpty}
+use Rattle.agreement.specs.Event.{Event, is_at, at_stage, all_away, after}
 use Rattle.agreement.specs.Event.Event.{Starts}
-use Rattle.agreement.specs.Log.{MayMove, moved, none_learned, IsHistory}
+use Rattle.agreement.specs.Log.{Slots, MayMove, AllMayMove, moved, moves, none_learned, IsHistory, slots_after}
 use Rattle.agreement.specs.Log.Move.{At}
-use Rattle.agreement.proofs.Slots.{no_shorter}
-use Rattle.agreement.proofs.Steps.{may_early}
+use Rattle.agreement.proofs.Puts.{all_put}
+use Rattle.agreement.proofs.Slots.{no_shorter, chosen_below, holds_all_reached}
+use Rattle.agreement.proofs.Steps.{state_by-append, may_early, may_late}
+use Rattle.attempt_safety.specs.Follows.{StandsIn, Agrees, Follows}
 use Rattle.attempt_safety.specs.Machine.{Machine}
+use Rattle.attempt_safety.proofs.Beginning.{mind_none}
 use Rattle.world_safety.specs.Goes.{Has, IsTryingAt}
-use Rattle.world_safety.specs.Claims.{EmptyShows, MissesNothing}
+use Rattle.world_safety.specs.Claims.{HasHeardNothing, EmptyShows, MissesNothing}
 use Rattle.world_safety.specs.Tied.{Moves, machine, HostAt, IsDoing, IsRunning, IsTrying}
 use Rattle.world_safety.specs.Tracks.{IsTrue as IsTrueOfHost, IsTrueOf}
 use Rattle.world_safety.proofs.Moves.Moving.{chosen_later}
@@ -26,6 +37,49 @@ use Rattle.world_safety.proofs.Runs.Knowing.{all_true}
 use Rattle.world_safety.proofs.Moves.Machines.{machine_is}
 use Rattle.world_safety.proofs.Runs.Places.{host_next, host_stays, at_end}
 use Rattle.world_safety.proofs.Runs.Tracks.{moves_at, tied_at, step_at, later_places, chosen_then, stays_at}
+
+-- WHERE NOTHING WAS HEARD
+
+-- a host tries a slot, or not
+tries_in : (w : World) (h n : ℕ) (m : Memory) → w.host h ≡ Running m → (o : Option Doing) → m.doing ≡ o → IsTryingAt w h n ⊎ (IsTryingAt w h n → ⊥)
+tries_in w h n m running None none = inr (λ trying. (
+    let both : Running m ≡ Running trying.memory = sym running ∙ trying.running in
+    let same : m ≡ trying.memory = cc in
+    let some : None ≡ Some trying.doing = sym none ∙ ap (λ (k : Memory). k.doing) same ∙ trying.does in
+    absurd (cc)))
+tries_in w h n m running (Some t) does = elim (cases_eq (length m.learned) n) [
+  | inl here ↦ inl (record { memory = m; doing = t; running = running; does = does; is = here })
+  | inr other ↦ inr (λ trying. (
+      let both : Running m ≡ Running trying.memory = sym running ∙ trying.running in
+      let same : m ≡ trying.memory = cc in
+      other (ap (λ (k : Memory). length k.learned) same ∙ trying.is)))
+]
+
+tries_at : (w : World) (h n : ℕ) (host : Host) → w.host h ≡ host → IsTryingAt w h n ⊎ (IsTryingAt w h n → ⊥)
+tries_at w h n Stopped stopped = inr (λ trying. (let both : Stopped ≡ Running trying.memory = sym stopped ∙ trying.running in absurd (cc)))
+tries_at w h n (Running m) running = tries_in w h n m running m.doing refl
+
+tries_or_not : (w : World) (h n : ℕ) → IsTryingAt w h n ⊎ (IsTryingAt w h n → ⊥)
+tries_or_not w h n = tries_at w h n (w.host h) refl
+
+-- more than half of no disks is none
+majority_asks : (disks : ℕ) (passes : ℕ → Bool) → IsMajority disks passes → 1 ≤ disks
+majority_asks zero passes most = absurd (omega arith)
+majority_asks (suc n) passes most = omega arith
+
+-- what stands at a place is put there
+put_back : {A : Type 0} (f : ℕ → A) (k : ℕ) (x : A) → f k ≡ x → put f k x ≡ f
+put_back {A = A} f k x is = fun_ext (all_put (λ (i : ℕ) (y : A). y ≡ f i) f k x (sym is) (λ i off. refl))
+
+-- A host that has just begun an attempt might begin it once more: nothing changes by that.
+started_again : (m : Machine) (h : ℕ) → m.mind h ≡ Opening none_opened → ((d : ℕ) → (m.cell h d).stage ≡ away) → after m (Starts h) ≡ m
+started_again m h mind stages =
+    let cells : all_away (m.cell h) ≡ m.cell h = fun_ext (λ (d : ℕ). ap (λ (stage : ℕ). at_stage (m.cell h d) stage) (sym (stages d))) in
+    ap₂ (λ (cell : ℕ → ℕ → Cell (List ℕ)) (minds : ℕ → Mind (List ℕ)). record { cell = cell; mind = minds; proposed = m.proposed; accepted = m.accepted })
+    (put_back m.cell h (all_away (m.cell h)) (sym cells)) (put_back m.mind h (Opening none_opened) mind)
+
+again : (x : Slots (List ℕ)) (n : ℕ) (e : Event (List ℕ)) → after (x.slot n) e ≡ x.slot n → moved x (At n e) ≡ x
+again x n e same = ap (λ (slot : ℕ → Machine). record { slot = slot; learned = x.learned }) (put_back x.slot n (after (x.slot n) e) (sym same))
 
 module _ (c : Shape) (log : List Filled) (run : IsRun c log) where
   -- behind the moves before place i, and among those before place j, the host has begun an attempt on slot n
@@ -113,43 +167,100 @@ module _ (c : Shape) (log : List Filled) (run : IsRun c log) where
         let then_chosen = chosen_later c.disks start since.early slot value early_history at_i in
         below slot value (subst (λ (m : Machine). IsChosen c.disks m value) (sym (machine_is (start ++ since.early) slot)) then_chosen)
 
-    -- every chosen slot is one of the cluster's
-    slot_fits : (place slot : ℕ) (value : List ℕ) → IsChosenAt c log place slot value → slot < c.slots
-    slot_fits place slot value chosen =
-        let hears = chosen.hears in
-        let running : IsRunning c (at c log place) (moves_at c log run place) hears.host hears.memory = subst (HostAt c (at c log place) (moves_at c log run place) hears.host) hears.running ((tied_at c log run place).hosts hears.host) in
-        let trying : IsTrying c (at c log place) (moves_at c log run place) hears.host hears.memory hears.doing = subst (IsDoing c (at c log place) (moves_at c log run place) hears.host hears.memory) hears.does running.doing in
-        let here : length hears.memory.learned ≡ slot = ap (λ (s : Setup). s.slot) (sym hears.is_setup) ∙ chosen.on_slot in
-        let fits = trying.fits in
-        omega arith
+    begun_below : (j place slot : ℕ) (value : List ℕ) → i ≤ j → IsTryingAt (at c log j) h n → IsEmpty c.disks (machine (moves_at c log run (suc j)) n) h → place < i → IsChosenAt c log place slot value → slot < n
+    begun_below j place slot value le trying empty before chosen = below_empty (suc j) place slot value (since_later i j (suc j) h n (omega arith) (begun_at j le trying)) empty before chosen
 
-    answered : (j place slot : ℕ) (value : List ℕ) → i ≤ j → (e : Filled) → slice_get log j ≡ Some e → is_of h e ≡ true → (m : Memory) → (at c log (suc j)).host h ≡ Running m → m.said ≡ Some (Recovered n) → n ≡ length m.learned
-        → place < i → IsChosenAt c log place slot value → slot < n
-    answered j place slot value le e found of m running said n_is before chosen =
-        let step = step_at c log run j e found in
-        let now : host_step c h ((at c log j).host h) e ≡ Running m = sym (host_next c log j e h found of) ∙ running in
-        elim ((step.goes.host h of).empty m n now said) [
-          | inl full ↦ (let fits = slot_fits place slot value chosen in omega arith)
-          | inr empty ↦
-              (let since = since_later i j (suc j) h n (omega arith) (begun_at j le (subst (IsTryingAt (at c log j) h) (sym n_is) empty.0)) in
-              let none : IsEmpty c.disks (machine (moves_at c log run (suc j)) n) h =
-              subst (λ (l : Moves). IsEmpty c.disks (machine l n) h) (sym step.is) (subst (λ (k : ℕ). IsEmpty c.disks (machine (moves_at c log run j ++ step.goes.more) k) h) (sym n_is) empty.1) in
-              below_empty (suc j) place slot value since none before chosen)
-        ]
+  -- A host tries slot n at place i, and its attempt has heard nothing: it might as well begin now.
+  module _ (i h n : ℕ) (trying : IsTryingAt (at c log i) h n) (nothing : trying.doing.heard ≡ []) where
+    abbrev start_moves : Moves
+    start_moves = moves_at c log run i
+
+    abbrev now : Slots (List ℕ)
+    now = slots_after start_moves
+
+    abbrev own : Setup
+    own = setup_of c h trying.memory trying.doing.operation
+
+    follows : Follows own [] (machine start_moves n)
+    follows =
+        let running : IsRunning c (at c log i) start_moves h trying.memory = subst (HostAt c (at c log i) start_moves h) trying.running ((tied_at c log run i).hosts h) in
+        let tries : IsTrying c (at c log i) start_moves h trying.memory trying.doing = subst (IsDoing c (at c log i) start_moves h trying.memory) trying.does running.doing in
+        subst (λ (k : ℕ). Follows own [] (machine start_moves k)) trying.is (subst (λ (l : List Answered). Follows own l (machine start_moves (length trying.memory.learned))) nothing tries.follows)
+
+    stands_now : 1 ≤ c.disks → StandsIn own attempt.Opening (on []) (now.slot n)
+    stands_now some = subst (StandsIn own attempt.Opening (on [])) (sym (machine_is start_moves n)) (subst (Agrees own (on []) (machine start_moves n)) (starts own some) follows.agrees)
+
+    -- to begin changes nothing
+    begins_again : 1 ≤ c.disks → moved now (At n (Starts h)) ≡ now
+    begins_again some =
+        let stands = stands_now some in
+        again now n (Starts h) (started_again (now.slot n) h (stands.mind ∙ sym (mind_none own)) (λ d. stands.stages d refl))
+
+    -- so what was chosen before is below the slot, where it is found empty
+    fresh_below : (j place slot : ℕ) (value : List ℕ) → 1 ≤ c.disks → i ≤ j → IsEmpty c.disks (machine (moves_at c log run j) n) h → place < i → IsChosenAt c log place slot value → slot < n
+    fresh_below j place slot value some le empty before chosen =
+        let later = later_places c log run i j le in
+        let history : IsHistory c.disks (start_moves ++ later.more) = subst (IsHistory c.disks) later.is (tied_at c log run j).history in
+        let first = may_early moved (MayMove c.disks) none_learned start_moves later.more history in
+        let rest = may_late moved (MayMove c.disks) none_learned start_moves later.more history in
+        let same : now ≡ moved now (At n (Starts h)) = sym (begins_again some) in
+        let found : IsEmpty c.disks ((moves now later.more).slot n) h =
+        subst (λ (x : Slots (List ℕ)). IsEmpty c.disks (x.slot n) h) (state_by-append moved none_learned start_moves later.more)
+        (subst (λ (m : Machine). IsEmpty c.disks m h) (sym (machine_is (start_moves ++ later.more) n)) (subst (λ (l : Moves). IsEmpty c.disks (machine l n) h) later.is empty)) in
+        let below = chosen_below c.disks now (holds_all_reached c.disks start_moves first) later.more n h
+        (subst (λ (x : Slots (List ℕ)). AllMayMove c.disks x later.more) same rest) (subst (λ (x : Slots (List ℕ)). IsEmpty c.disks ((moves x later.more).slot n) h) same found) in
+        below slot value (subst (λ (m : Machine). IsChosen c.disks m value) (sym (machine_is start_moves slot)) (stays_at c log run (suc place) i slot value (omega arith) (chosen_then c log run place slot value chosen)))
+
+  -- WHERE A RECOVERY ANSWERS
+
+  -- every chosen slot is one of the cluster's
+  slot_fits : (place slot : ℕ) (value : List ℕ) → IsChosenAt c log place slot value → slot < c.slots
+  slot_fits place slot value chosen =
+      let hears = chosen.hears in
+      let running : IsRunning c (at c log place) (moves_at c log run place) hears.host hears.memory = subst (HostAt c (at c log place) (moves_at c log run place) hears.host) hears.running ((tied_at c log run place).hosts hears.host) in
+      let trying : IsTrying c (at c log place) (moves_at c log run place) hears.host hears.memory hears.doing = subst (IsDoing c (at c log place) (moves_at c log run place) hears.host hears.memory) hears.does running.doing in
+      let here : length hears.memory.learned ≡ slot = ap (λ (s : Setup). s.slot) (sym hears.is_setup) ∙ chosen.on_slot in
+      let fits = trying.fits in
+      omega arith
+
+  -- a slot that is found empty was asked of some disk
+  some_disk : (m : Machine) (h : ℕ) → IsEmpty c.disks m h → 1 ≤ c.disks
+  some_disk m h empty = majority_asks c.disks (is_at read_one (m.cell h)) empty.prepared.majority
+
+  -- at place i the host has heard nothing of slot n
+  below_by : (i h n : ℕ) → HasHeardNothing (at c log i) h n → (j place slot : ℕ) (value : List ℕ) → i ≤ j → IsTryingAt (at c log j) h n → IsEmpty c.disks (machine (moves_at c log run (suc j)) n) h → place < i → IsChosenAt c log place slot value → slot < n
+  below_by i h n nothing j place slot value le trying empty before chosen = elim (tries_or_not (at c log i) h n) [
+    | inl tries ↦ fresh_below i h n tries (nothing tries) (suc j) place slot value (some_disk (machine (moves_at c log run (suc j)) n) h empty) (omega arith) empty before chosen
+    | inr not_yet ↦ begun_below i h n not_yet j place slot value le trying empty before chosen
+  ]
+
+  answered : (i h n : ℕ) → HasHeardNothing (at c log i) h n → (j place slot : ℕ) (value : List ℕ) → i ≤ j → (e : Filled) → slice_get log j ≡ Some e → is_of h e ≡ true → (m : Memory) → (at c log (suc j)).host h ≡ Running m → m.said ≡ Some (Recovered n) → n ≡ length m.learned
+      → place < i → IsChosenAt c log place slot value → slot < n
+  answered i h n nothing j place slot value le e found of m running said n_is before chosen =
+      let step = step_at c log run j e found in
+      let now : host_step c h ((at c log j).host h) e ≡ Running m = sym (host_next c log j e h found of) ∙ running in
+      elim ((step.goes.host h of).empty m n now said) [
+        | inl full ↦ (let fits = slot_fits place slot value chosen in omega arith)
+        | inr empty ↦
+            (let trying : IsTryingAt (at c log j) h n = subst (IsTryingAt (at c log j) h) (sym n_is) empty.0 in
+            let none : IsEmpty c.disks (machine (moves_at c log run (suc j)) n) h =
+            subst (λ (l : Moves). IsEmpty c.disks (machine l n) h) (sym step.is) (subst (λ (k : ℕ). IsEmpty c.disks (machine (moves_at c log run j ++ step.goes.more) k) h) (sym n_is) empty.1) in
+            below_by i h n nothing j place slot value le trying none before chosen)
+      ]
 
   said_by : (host : Host) (n : ℕ) → said_of host ≡ Some (Recovered n) → (m : Memory) × (host ≡ Running m) × (m.said ≡ Some (Recovered n))
   said_by Stopped n is = absurd (cc)
   said_by (Running m) n is = (m, refl, is)
 
   pub empty_shows : EmptyShows c log
-  empty_shows i j host n place slot value not_yet le says before chosen =
+  empty_shows i j host n place slot value nothing le says before chosen =
       let number : j + 1 ≡ suc j = omega arith in
       let who = said_by ((at c log (suc j)).host host) n (subst (λ (k : ℕ). said_of ((at c log k).host host) ≡ Some (Recovered n)) number says.says) in
       let known : IsTrueOfHost c log (suc j) host who.0 = subst (IsTrueOf c log (suc j) host) who.1 (all_true c log run (suc j) host) in
-      answered i host n not_yet j place slot value le says.entry says.is says.of_host who.0 who.1 who.2 (known.recovered n who.2) before chosen
+      answered i host n nothing j place slot value le says.entry says.is says.of_host who.0 who.1 who.2 (known.recovered n who.2) before chosen
 
   -- a recovery begins where its host tries nothing
   pub misses_nothing : MissesNothing c log
   misses_nothing i j host n place slot value is before chosen =
       let idle : IsTrue (idles ((at c log i).host host)) = (each c log i (Recover host is.tries) run is.begins).0 in
-      empty_shows i j host n place slot value (λ trying. idle_before ((at c log i).host host) trying.memory trying.doing idle trying.running trying.does) is.order is.says before chosen
+      empty_shows i j host n place slot value (λ trying. absurd (idle_before ((at c log i).host host) trying.memory trying.doing idle trying.running trying.does)) is.order is.says before chosen

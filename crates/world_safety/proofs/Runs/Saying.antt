@@ -3,7 +3,7 @@ use Rattle.std.specs.Prelude.{IsTrue, nat_lt, nat_le, ◌-◌, slice_get, if◌t
 use Rattle.std.proofs.Common.{ℕ, suc, ◌+◌, ◌≤◌, ◌≡◌, ◌⊎◌, inl, inr, Bool, true, false, Option, Some, None, List, [], ◌∷◌, ◌++◌, length, refl, sym, subst, ap, ◌∙◌, arith}
 use Rattle.std.proofs.lemmas.Bool.{eqb-true, ltb-false}
 use Rattle.disk.specs.Disk.{Call, Answer}
-use Rattle.attempt.specs.Answers.{Answered, on, heard_as}
+use Rattle.attempt.specs.Answers.{Answered, heard_as}
 use Rattle.attempt.specs.Status as attempt
 use Rattle.attempt.specs.Status.{Status, Due, Ended, status}
 use Rattle.lock_command.specs.declared.command.Command.{Command}
@@ -73,18 +73,24 @@ module _ (c : Shape) (m : Memory) (t : Doing) (b : ℕ) where
   status_recovers (Ended attempt.NoMajority) n is = absurd (cc)
   status_recovers (Ended attempt.BallotsSpent) n is = absurd (cc)
 
-  -- an acknowledgement comes with a committed value, for the slot that was tried
-  learned_acks : (slot : ℕ) (reply : Reply) (command : Command) (own : Bool) → (after_learning c m t command own).said ≡ Some (Ack slot reply) → length m.learned ≡ slot
-  learned_acks slot reply command true is = cc
+  -- an acknowledgement comes with a committed value, the command that was submitted, for the slot that was tried
+  pub record IsPlaced (st : Status) (slot : ℕ) : Type 0 where
+    pub value : List ℕ
+    pub committed : st ≡ Ended (attempt.Committed value)
+    pub on_slot : length m.learned ≡ slot
+    pub own : is_submitted t.operation value ≡ true
+
+  learned_acks : (slot : ℕ) (reply : Reply) (command : Command) (own : Bool) → (after_learning c m t command own).said ≡ Some (Ack slot reply) → (length m.learned ≡ slot) × (own ≡ true)
+  learned_acks slot reply command true is = (cc, refl)
   learned_acks slot reply command false is = absurd (full_acks t.operation (length (m.learned ++ command ∷ [])) slot reply (went_on c (learns m command) t.operation t.tries (Ack slot reply) is).0)
 
-  taken_acks : (slot : ℕ) (reply : Reply) (value : List ℕ) (o : Option Command) → (takes c m t b value o).said ≡ Some (Ack slot reply) → length m.learned ≡ slot
+  taken_acks : (slot : ℕ) (reply : Reply) (value : List ℕ) (o : Option Command) → (takes c m t b value o).said ≡ Some (Ack slot reply) → (length m.learned ≡ slot) × (is_submitted t.operation value ≡ true)
   taken_acks slot reply value None is = absurd (cc)
   taken_acks slot reply value (Some command) is = learned_acks slot reply command (is_submitted t.operation value) is
 
-  pub status_commits : (st : Status) (slot : ℕ) (reply : Reply) → (by_status c m t b st).said ≡ Some (Ack slot reply) → (value : List ℕ) × (st ≡ Ended (attempt.Committed value)) × (length m.learned ≡ slot)
+  pub status_commits : (st : Status) (slot : ℕ) (reply : Reply) → (by_status c m t b st).said ≡ Some (Ack slot reply) → IsPlaced st slot
   status_commits (Due p d) slot reply is = absurd (cc)
-  status_commits (Ended (attempt.Committed value)) slot reply is = (value, refl, taken_acks slot reply value (decoded value) is)
+  status_commits (Ended (attempt.Committed value)) slot reply is = let taken = taken_acks slot reply value (decoded value) is in record { value = value; committed = refl; on_slot = taken.0; own = taken.1 }
   status_commits (Ended attempt.Empty) slot reply is = absurd (cc)
   status_commits (Ended (attempt.Outrun mbal)) slot reply is = absurd (let no = again (with_floor (with_floor m b) mbal) (Ack slot reply) is in cc)
   status_commits (Ended attempt.NoMajority) slot reply is = absurd (cc)

@@ -1,0 +1,12 @@
+# A recovery leaves the readings of the last beat alone.
+cluster 1 4
+start 0
+start 1
+beat 1
+step 1 9
+beat 0
+step 0 9
+recover 1 1
+step 1 10
+beat 1
+step 1 9
