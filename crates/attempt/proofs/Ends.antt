@@ -11,16 +11,16 @@ use Rattle.attempt.specs.Calls.{Phase, Opening, One, Two, start, goal}
 use Rattle.attempt.specs.Answers.{Heard, Answered, Answers, on, row_in}
 use Rattle.attempt.specs.Setup.{Setup}
 use Rattle.attempt.specs.Numbers.{count}
-use Rattle.attempt.specs.Proposal.{top_in, highest, ballot, others_top, others_mbal, proposal}
+use Rattle.attempt.specs.Proposal.{top_in, highest, ballot, others_top, others_mbal, proposal, decided}
 use Rattle.attempt.specs.Visits.{waits, visited, is_left, are_enough}
 use Rattle.attempt.specs.Standing.{IsIn}
-use Rattle.attempt.specs.Status.{Status, Due, Ended, Committed, Empty, Outrun, NoMajority, BallotsSpent, status}
+use Rattle.attempt.specs.Status.{Status, Due, Ended, Committed, Decided, Empty, Outrun, NoMajority, BallotsSpent, status}
 use Rattle.attempt.specs.History.{IsHistory}
 use Rattle.attempt.specs.Laws.{AnswersWell, AllAnswerWell, MostAnswerWell, OthersRest, IsServed}
 use Rattle.attempt.proofs.Firsts.{none_below}
 use Rattle.attempt.proofs.Lists.{by_eq, row_none}
 use Rattle.attempt.proofs.Visitors.{waiting_is, waiting_if, left_if}
-use Rattle.attempt.proofs.Statuses.{IsDueAt, IsOver, HasFew, HasNone, HasChosen, Tells, told_by, status_tells, enough_more}
+use Rattle.attempt.proofs.Statuses.{IsDueAt, IsOver, HasFew, HasNone, HasChosen, HasDecided, Tells, told_by, status_tells, enough_more}
 use Rattle.attempt.proofs.OneDisk.{IsDisk}
 use Rattle.attempt.proofs.Histories.{IsReached, history_reached, visit}
 use Rattle.attempt.proofs.Totals.{total_bound, total_below, total_exact, history_total}
@@ -183,6 +183,22 @@ module _ (s : Setup) (heard : List Answered) (is : IsHistory s heard) where
       let last = before_two reached.phase none.none reached.come in
       omega (arith, reached.behind d)))
 
+  -- where something is decided phase 1 was not come to
+  before_one : (p : Phase) (value : List ℕ) → decided s f ≡ Some value → IsIn s p f → goal p ≤ 3
+  before_one Opening value some come = omega arith
+  before_one One value some come = let none = come.undecided in absurd (cc)
+  before_one Two value some come = let none = (come.1).taken.undecided in absurd (cc)
+
+  -- and three a disk of one to which a marked block tells the value
+  pub decides : (value : List ℕ) → AllAnswerWell s f → status s f ≡ Ended (Decided value) → length heard ≡ 3 * s.disks
+  decides value well ended =
+      let told : HasDecided s value f = told_by s f (Ended (Decided value)) ended in
+      history_total s heard is
+      ∙ total_exact s.disks 3 f (λ d l. (
+      let all = makes_all s f d l (well d l) Opening told.over in
+      let last = before_one reached.phase value told.decided_is reached.come in
+      omega (arith, reached.behind d)))
+
   -- where most answer well, there is a majority
   pub majority : MostAnswerWell s f → ¬ (status s f ≡ Ended NoMajority)
   majority good ended = not_few s f good (told_by s f (Ended NoMajority) ended)
@@ -191,6 +207,7 @@ module _ (s : Setup) (heard : List Answered) (is : IsHistory s heard) where
   served_by : OthersRest s f → MostAnswerWell s f → (st : Status) → Tells s f st → IsServed s heard st
   served_by rest good (Due p d) tells = going_at p d tells
   served_by rest good (Ended (Committed value)) tells = tt
+  served_by rest good (Ended (Decided value)) tells = tt
   served_by rest good (Ended Empty) tells = tt
   served_by rest good (Ended BallotsSpent) tells = tt
   served_by rest good (Ended (Outrun mbal)) tells = not_above s f reached rest tells.phase tells.above

@@ -8,6 +8,7 @@ pub mod Rows
 pub mod Statuses
 pub mod Visitors
 pub mod Totals
+pub mod Deciding
 pub mod Ends
 pub mod Proposals
 pub mod Moments

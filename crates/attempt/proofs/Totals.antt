@@ -22,7 +22,7 @@ total_same zero f g same = refl
 total_same (suc n) f g same = ap₂ (λ (k : ℕ) (a : List Heard). k + length a) (total_same n f g (λ e l. same e (omega arith))) (same n (omega arith))
 
 -- one answer more is one more
-total_more : (n : ℕ) (f : Answers) (d : ℕ) (x : Heard) → d < n → total n (more f d x) ≡ total n f + 1
+pub total_more : (n : ℕ) (f : Answers) (d : ℕ) (x : Heard) → d < n → total n (more f d x) ≡ total n f + 1
 total_more zero f d x l = absurd (omega arith)
 total_more (suc n) f d x l =
     elim (cases_eq d n) [
@@ -56,7 +56,7 @@ total_exact zero k f each = omega arith
 total_exact (suc n) k f each = omega (arith, total_exact n k f (λ e l. each e (omega arith)), each n (omega arith))
 
 -- at the start there are none
-total_none : (n : ℕ) → total n (on []) ≡ 0
+pub total_none : (n : ℕ) → total n (on []) ≡ 0
 total_none zero = refl
 total_none (suc n) = omega (arith, total_none n)
 

@@ -7,7 +7,7 @@ use Rattle.attempt.specs.Answers.{Heard, Answered, Answers, on, all_good, row_in
 use Rattle.attempt.specs.Setup.{Setup}
 use Rattle.attempt.specs.History.{IsHistory}
 use Rattle.attempt.specs.Visits.{is_stuck, are_enough}
-use Rattle.attempt.specs.Status.{Status, End, status, Due, Ended, Committed, Empty, Outrun, NoMajority, BallotsSpent}
+use Rattle.attempt.specs.Status.{Status, End, status, Due, Ended, Committed, Decided, Empty, Outrun, NoMajority, BallotsSpent}
 
 -- a disk gave good answers alone, and no write was due there to a spent block
 pub record AnswersWell (s : Setup) (a : List Heard) : Type 0 where
@@ -33,11 +33,12 @@ abbrev pub OthersRest : Setup → Answers → Type 0
 OthersRest s f =
     (p : Phase) (d host : ℕ) (first later : List SeenBlock) → row_in Opening (f d) ≡ Some first → row_in p (f d) ≡ Some later → host ≢ s.host → says_in later host ≡ says_in first host
 
--- an attempt goes on within seventeen calls a disk, or its proposal is chosen, or it finds none and has none, or there is
--- no greater ballot; it is not outrun, and does not lack a majority
+-- an attempt goes on within seventeen calls a disk, or its proposal is chosen, or it is told what was decided, or it finds
+-- none and has none, or there is no greater ballot; it is not outrun, and does not lack a majority
 abbrev pub IsServed : Setup → List Answered → Status → Type 0
 IsServed s heard (Due p d) = length heard < 17 * s.disks
 IsServed s heard (Ended (Committed value)) = Unit {0}
+IsServed s heard (Ended (Decided value)) = Unit {0}
 IsServed s heard (Ended Empty) = Unit {0}
 IsServed s heard (Ended BallotsSpent) = Unit {0}
 IsServed s heard (Ended (Outrun mbal)) = ⊥

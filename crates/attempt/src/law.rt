@@ -4,13 +4,14 @@ ghost use Rattle.torn_block.specs.declared.layout.TheConstants.{HOSTS};
 ghost use Rattle.attempt.specs.Calls.{Phase, Two};
 ghost use Rattle.attempt.specs.Answers.{Answered, on};
 ghost use Rattle.attempt.specs.Setup.{Setup};
-ghost use Rattle.attempt.specs.Status.{Due, Ended, Committed, Empty, NoMajority, status};
+ghost use Rattle.attempt.specs.Status.{Due, Ended, Committed, Decided, Empty, NoMajority, status};
 ghost use Rattle.attempt.specs.History.{IsHistory};
-ghost use Rattle.attempt.specs.Prepared.{Proposes, IsPrepared, IsAccepted, IsProposal, HasNoInput, AreVotes};
+ghost use Rattle.attempt.specs.Prepared.{Proposes, IsPrepared, IsAccepted, IsProposal, HasNoInput, IsMarkSeen, AreVotes};
 ghost use Rattle.attempt.specs.Laws.{AllAnswerWell, MostAnswerWell, OthersRest, IsServed, CanEnd};
 
 /// An attempt makes at most seventeen calls a disk. Over disks that answer well it makes all of
-/// them where its proposal is chosen, ten where it finds none, and does not lack a majority.
+/// them where its proposal is chosen, ten where it finds none, three where a marked block tells it
+/// what was chosen, and does not lack a majority.
 pub fn seventeen_calls_a_disk()
     ensures bound { (s : Setup) (heard : List Answered) → IsHistory s heard →
         length heard ≤ 17 * s.disks }
@@ -22,6 +23,9 @@ pub fn seventeen_calls_a_disk()
     ensures empty { (s : Setup) (heard : List Answered) →
         IsHistory s heard → AllAnswerWell s (on heard) →
         status s (on heard) ≡ Ended Empty → length heard ≡ 10 * s.disks }
+    ensures decided { (s : Setup) (heard : List Answered) (value : List ℕ) →
+        IsHistory s heard → AllAnswerWell s (on heard) →
+        status s (on heard) ≡ Ended (Decided value) → length heard ≡ 3 * s.disks }
     ensures majority { (s : Setup) (heard : List Answered) → 1 ≤ s.disks →
         IsHistory s heard → AllAnswerWell s (on heard) →
         status s (on heard) ≢ Ended NoMajority }
@@ -56,4 +60,7 @@ pub fn prepared_and_proposed()
         status s (on heard) ≡ Ended Empty → HasNoInput s (on heard) }
     ensures accepted { (s : Setup) (heard : List Answered) (value : List ℕ) → IsHistory s heard →
         status s (on heard) ≡ Ended (Committed value) → IsAccepted s heard value }
+    // What is decided was read in the opening, as the input of a marked block.
+    ensures decided { (s : Setup) (heard : List Answered) (value : List ℕ) →
+        status s (on heard) ≡ Ended (Decided value) → IsMarkSeen s (on heard) value }
 {}

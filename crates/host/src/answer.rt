@@ -10,6 +10,8 @@ pub enum HostAnswer {
     Recovered { length: u16 },
     /// A beat ended well, and suggests this host.
     Beaten { host: u8 },
+    /// A marking ended well: on so many disks that are left the host's block of the slot is marked.
+    Marked { count: u8 },
     Refused(Refusal),
 }
 

@@ -17,6 +17,8 @@ pub enum Event {
     Recover { host: HostNumber, tries: u8 },
     /// An idle host begins to write its next heartbeat and to read those of all hosts.
     Beat(HostNumber),
+    /// An idle host begins to mark a slot of the log.
+    Mark { host: HostNumber, slot: u16 },
     /// A busy host makes its next device call, which does not fail.
     Step(HostNumber),
     /// A busy host stops within its next call, if that is a write: its range takes the given bytes.
@@ -46,6 +48,10 @@ impl Event {
                 tries: *tries,
             },
             Event::Beat(host) => Event::Beat(*host),
+            Event::Mark { host, slot } => Event::Mark {
+                host: *host,
+                slot: *slot,
+            },
             Event::Step(host) => Event::Step(*host),
             Event::Tear { host, given } => Event::Tear {
                 host: *host,

@@ -68,6 +68,7 @@ status_ended (Ended x) e is = cc
 -- an end without a value does not go by what the attempt heard before it
 ended_same : (m : Memory) (t : Doing) (x : Answered) (ballot : ℕ) (e : End) → IsOver e → ended m (with_heard t x) ballot (end_of e) ≡ ended m t ballot (end_of e)
 ended_same m t x ballot (end.Committed value) over = absurd over
+ended_same m t x ballot (end.Decided value) over = absurd over
 ended_same m t x ballot end.Empty over = refl
 ended_same m t x ballot (end.Outrun mbal) over = refl
 ended_same m t x ballot end.NoMajority over = refl
@@ -108,6 +109,7 @@ no_end m t ballot (Ended e) is = absurd (cc)
 waiting_status : (m : Memory) (t : Doing) (ballot : ℕ) (st : Status) (e : Option End) → GoesOn e → end_in e ≡ end_of_status st → by_status m t ballot st ≡ does m t
 waiting_status m t ballot st None on is = no_end m t ballot st is
 waiting_status m t ballot st (Some (end.Committed value)) on is = ap (by_status m t ballot) (status_ended st (attempt.Committed value) (sym is))
+waiting_status m t ballot st (Some (end.Decided value)) on is = ap (by_status m t ballot) (status_ended st (attempt.Decided value) (sym is))
 waiting_status m t ballot st (Some end.Empty) on is = absurd on
 waiting_status m t ballot st (Some (end.Outrun mbal)) on is = absurd on
 waiting_status m t ballot st (Some end.NoMajority) on is = absurd on
@@ -169,10 +171,11 @@ alone c h m old now answer is leads said =
     let known : LeadsTo c h m old = subst Known (sym is) leads in
     subst By is (alone_with c h m m.doing old.task old.attempt (record { disk = old.attempt.disk; heard = answer }) known.doing said)
 
--- an end that is no committed value
-pub over : (e : End) → ((value : List ℕ) → e ≡ end.Committed value → ⊥) → IsOver e
-over (end.Committed value) other = absurd (other value refl)
-over end.Empty other = tt
-over (end.Outrun mbal) other = tt
-over end.NoMajority other = tt
-over end.BallotsSpent other = tt
+-- an end that is no committed or decided value
+pub over : (e : End) → ((value : List ℕ) → e ≡ end.Committed value → ⊥) → ((value : List ℕ) → e ≡ end.Decided value → ⊥) → IsOver e
+over (end.Committed value) other told = absurd (other value refl)
+over (end.Decided value) other told = absurd (told value refl)
+over end.Empty other told = tt
+over (end.Outrun mbal) other told = tt
+over end.NoMajority other told = tt
+over end.BallotsSpent other told = tt

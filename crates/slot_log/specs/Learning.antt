@@ -74,9 +74,10 @@ goes_on c m operation tries =
 abbrev pub tries_again : Memory → Operation → ℕ → Memory
 tries_again m operation tries = if nat_le tries 1 then says m (Refused refusal.Outrun) else begins m operation (tries - 1)
 
--- an attempt has ended, and its ballot counts; a committed value waits until it is judged
+-- an attempt has ended, and its ballot counts; a committed or decided value waits until it is judged
 abbrev pub ended : Memory → Doing → ℕ → End → Memory
 ended m t ballot (attempt.Committed value) = does m t
+ended m t ballot (attempt.Decided value) = does m t
 ended m t ballot attempt.Empty = says (with_floor m ballot) (Recovered (length m.learned))
 ended m t ballot (attempt.Outrun mbal) = tries_again (with_floor (with_floor m ballot) mbal) t.operation t.tries
 ended m t ballot attempt.NoMajority = says (with_floor m ballot) (Refused refusal.NoMajority)
@@ -117,6 +118,7 @@ judged c m t ballot value false = says (with_floor m ballot) (Refused refusal.No
 -- the value that waits to be judged
 abbrev pub offered_by : Status → Option (List ℕ)
 offered_by (Ended (attempt.Committed value)) = Some value
+offered_by (Ended (attempt.Decided value)) = Some value
 offered_by other = None
 
 abbrev pub offered_in : Shape → ℕ → Memory → Option Doing → Option (List ℕ)

@@ -154,7 +154,7 @@ impl Learner {
         requires fits { Fits (due_call self.old).1 (heard_of heard.now) }
         ensures leads { (c : Shape) (h : ℕ) (m : Memory) → LeadsTo c h m self.old →
             LeadsTo c h (hears c h m m.doing (record { disk = (due_call self.old).0; heard = heard_of heard.now })) self.new }
-        // By Committed, Empty or BallotsSpent within 17 calls a disk, if no other host makes a call on the slot meanwhile.
+        // By Committed, Decided, Empty or BallotsSpent within 17 calls a disk, if no other host makes a call on the slot meanwhile.
         ensures alone { (c : Shape) (h : ℕ) (m : Memory) → LeadsTo c h m self.old →
             IsAnsweredAlone c h m m.doing (record { disk = (due_call self.old).0; heard = heard_of heard.now }) }
         ensures same { IsSameLog self.old self.new }
@@ -167,6 +167,7 @@ impl Learner {
         match end {
             // The value waits until it is judged.
             End::Committed(_) => self.said = None,
+            End::Decided(_) => self.said = None,
             _ => {
                 let Some(task) = self.task.take() else {
                     unreachable!()
@@ -178,7 +179,7 @@ impl Learner {
         }
     }
 
-    /// The value that an attempt committed, until it is judged.
+    /// The value that an attempt committed, or was told to be decided, until it is judged.
     pub fn offered(&self) -> Option<Value>
         ensures value { (c : Shape) (h : ℕ) (m : Memory) → LeadsTo c h m self.now →
             result ≡ offered_in c h m m.doing }
@@ -190,6 +191,7 @@ impl Learner {
         }
         match self.attempt.end() {
             Some(End::Committed(value)) => Some(value),
+            Some(End::Decided(value)) => Some(value),
             _ => None,
         }
     }
@@ -284,7 +286,7 @@ impl Learner {
         ensures same { IsSameLog self.old self.new }
     {
         match end {
-            End::Committed(_) => unreachable!(),
+            End::Committed(_) | End::Decided(_) => unreachable!(),
             End::Empty => {
                 let length = self.learned.len() as u16;
                 self.finish(Outcome::Recovered { length });

@@ -16,9 +16,12 @@ pub enum Refusal {
     /// All slots of the log are learned.
     #[error("the log is full")]
     LogFull,
-    /// A committed value is no command. It is not learned.
+    /// A chosen value is no command. It is not learned.
     #[error("a committed value is no command")]
     NotACommand,
+    /// The slot that was to be marked is not learned.
+    #[error("the slot is not learned")]
+    NotLearned,
 }
 
 /// How an operation ended.

@@ -26,6 +26,10 @@ pub enum Entry {
         tries: u8,
     },
     Beat(HostNumber),
+    Mark {
+        host: HostNumber,
+        slot: u16,
+    },
     /// A host made a device call on a disk. It succeeded, or was answered by a fault.
     Called {
         host: HostNumber,

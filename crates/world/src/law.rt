@@ -1,5 +1,5 @@
 // What an entry changes, that events make runs, and what follows of hosts and of a log that is known.
-ghost use Rattle.std.specs.Prelude.{◌≡◌, ◌++◌, ◌∷◌, ◌<◌, ◌≤◌, ◌*◌, [], ℕ, true, false, List, length, take, slice_get, Some};
+ghost use Rattle.std.specs.Prelude.{◌≡◌, ◌++◌, ◌∷◌, ◌<◌, ◌≤◌, ◌*◌, [], ℕ, true, false, List, length, take, slice_get, Some, None};
 ghost use Rattle.disk.specs.Disk.{Call};
 ghost use Rattle.disk.specs.Crash.{IsWhole};
 ghost use Rattle.attempt.specs.Answers.{Answered, on};
@@ -10,8 +10,9 @@ ghost use Rattle.lock_command.specs.declared.command.Command.{Command};
 ghost use Rattle.lock_command.specs.Command.{Fits as FitsCommand};
 ghost use Rattle.beats.specs.Answers.{Answered as Beaten};
 ghost use Rattle.beats.specs.History.{IsHistory as IsBeatHistory};
+ghost use Rattle.marks.specs.History.{IsHistory as IsMarkingHistory};
 ghost use Rattle.slot_log.specs.Shape.{Shape};
-ghost use Rattle.host.specs.Host.{Doing, Memory, Running, setup_of, beat_of, is_idle, next_of};
+ghost use Rattle.host.specs.Host.{Doing, Marking, Memory, Running, setup_of, beat_of, marking_of, is_idle, next_of};
 ghost use Rattle.world.specs.Entry.{Filled, is_on, is_of, disk_step, host_step};
 ghost use Rattle.world.specs.World.{world, ReadsBack, MayFollow, IsRun};
 ghost use Rattle.world.specs.Happens.{Event, entry_of, happens, run, lines_at, answers};
@@ -113,6 +114,19 @@ pub fn beats_hear_histories()
     ensures due { (c : Shape) (log : List Filled) (h : ℕ) (m : Memory) → 1 ≤ c.disks →
         IsRun c log → (world c log).host h ≡ Running m → is_idle m ≡ false →
         (k : ℕ) × (call : Call) × (k < c.disks) × (next_of c h (Running m) ≡ Some (k, call)) }
+{}
+
+/// What a busy host's marking has heard in a run is a history of it, of fewer than nine answers a disk, and no
+/// attempt is under way beside it.
+pub fn markings_hear_histories()
+    ensures now { (c : Shape) (log : List Filled) (h : ℕ) (m : Memory) (t : Marking) → IsRun c log →
+        (world c log).host h ≡ Running m → m.marking ≡ Some t →
+        IsMarkingHistory (marking_of c h m t.slot) t.heard }
+    ensures nine { (c : Shape) (log : List Filled) (h : ℕ) (m : Memory) (t : Marking) →
+        1 ≤ c.disks → IsRun c log → (world c log).host h ≡ Running m → m.marking ≡ Some t →
+        length t.heard < 9 * c.disks }
+    ensures alone { (c : Shape) (log : List Filled) (h : ℕ) (m : Memory) (t : Marking) → IsRun c log →
+        (world c log).host h ≡ Running m → m.marking ≡ Some t → m.doing ≡ None }
 {}
 
 /// A list whose log is known has no other, and of two hosts' prefixes one begins the other. What

@@ -1,5 +1,6 @@
 -- What stands at each place of a list of entries.
 use Rattle.std.specs.Prelude.{◌≡◌, ◌<◌, ℕ, List, length, slice_get, Some}
+use Rattle.attempt.specs.Answers.{on}
 use Rattle.lock_command.specs.declared.command.Command.{Command}
 use Rattle.lock_command.specs.Command.{spelling}
 use Rattle.slot_log.specs.Shape.{Shape}
@@ -8,6 +9,7 @@ use Rattle.host.specs.Host.{Operation, Submitting, Doing, Memory, Host, Stopped,
 use Rattle.world.specs.Entry.{Filled, Submit}
 use Rattle.world.specs.World.{ReadsBack}
 use Rattle.world.specs.Chosen.{IsChosenAt}
+use Rattle.world_safety.specs.Marks.{TellsTrueMarks}
 
 -- the value was chosen for the slot before place i
 pub record IsChosenBefore (c : Shape) (log : List Filled) (i slot : ℕ) (value : List ℕ) : Type 0 where
@@ -37,6 +39,8 @@ pub record IsTrue (c : Shape) (log : List Filled) (i h : ℕ) (m : Memory) : Typ
   pub learned : AreChosen c log i m.learned
   pub begun : (t : Doing) → m.doing ≡ Some t → IsBegun log i h t.operation
   pub recovered : (n : ℕ) → m.said ≡ Some (Recovered n) → n ≡ length m.learned
+  -- what a marked block told its attempt was chosen before
+  pub told : (t : Doing) → m.doing ≡ Some t → (d : ℕ) → TellsTrueMarks (IsChosenBefore c log i (length m.learned)) (on t.heard d)
 
 abbrev pub IsTrueOf : Shape → List Filled → ℕ → ℕ → Host → Type 0
 IsTrueOf c log i h Stopped = Unit {0}

@@ -12,7 +12,7 @@ use Rattle.attempt.proofs.More.{on_more, by_disk}
 use Rattle.beats.specs.Answers as beat_answers
 use Rattle.slot_log.specs.Shape.{Shape}
 use Rattle.host.specs.Host.{Doing, Memory, Host, Running, setup_of, beat_of, next_of}
-use Rattle.world.specs.Entry.{Filled, Start, Stop, Submit, Recover, Beat, Called, Torn, Crashed, Lost, is_on, is_of, disk_step}
+use Rattle.world.specs.Entry.{Filled, Start, Stop, Submit, Recover, Beat, Mark, Called, Torn, Crashed, Lost, is_on, is_of, disk_step}
 use Rattle.world.specs.World.{World, IsRun}
 use Rattle.world.specs.Chosen.{at}
 use Rattle.world.proofs.Runs.{each}
@@ -21,7 +21,7 @@ use Rattle.world_safety.proofs.Blocks.Owning.{boot_kept}
 use Rattle.world_safety.proofs.Blocks.Settled.{current, row_is}
 use Rattle.world_safety.proofs.Moves.Beating.{beat_within}
 use Rattle.world_safety.proofs.Moves.Calling.{tears}
-use Rattle.world_safety.proofs.Moves.Due.{Attempts, IsBeatCall, busy, Due, due_of}
+use Rattle.world_safety.proofs.Moves.Due.{Attempts, IsBeatCall, IsMarkCall, busy, Due, due_of}
 use Rattle.world_safety.proofs.Moves.Moving.{running_at}
 use Rattle.world_safety.proofs.Runs.Tracks.{moves_at, tied_at}
 use Rattle.world_served.specs.Alone.{IsAlone}
@@ -34,11 +34,12 @@ IsQuiet c w (Called g k call answer left) = IsBeatCall c g k call (w.host g) × 
 IsQuiet c w (Torn g k call left) = IsBeatCall c g k call (w.host g) × Step (w.disk k) call (Fault Failed) (disk_step (w.disk k) (Torn g k call left))
 IsQuiet c w other = Unit {0}
 
--- who tries no slot and has a call to make beats
-beats_only : (c : Shape) (h k : ℕ) (call : Call) (host : Host) → ((m : Memory) → host ≡ Running m → m.doing ≡ None) → Attempts host ⊎ IsBeatCall c h k call host → IsBeatCall c h k call host
+-- who tries no slot, marks none, and has a call to make beats
+beats_only : (c : Shape) (h k : ℕ) (call : Call) (host : Host) → ((m : Memory) → host ≡ Running m → (m.doing ≡ None) × (m.marking ≡ None)) → Attempts host ⊎ (IsBeatCall c h k call host ⊎ IsMarkCall c h k call host) → IsBeatCall c h k call host
 beats_only c h k call host rests who = elim who [
-  | inl tries ↦ absurd (let both : None ≡ Some tries.doing = sym (rests tries.memory tries.running) ∙ tries.does in cc)
-  | inr beats ↦ beats
+  | inl tries ↦ absurd (let both : None ≡ Some tries.doing = sym (rests tries.memory tries.running).0 ∙ tries.does in cc)
+  | inr (inl beats) ↦ beats
+  | inr (inr marks) ↦ absurd (let both : None ≡ Some marks.marking = sym (rests marks.memory marks.running).1 ∙ marks.marks in cc)
 ]
 
 module _ (c : Shape) (log : List Filled) (run : IsRun c log) (i j host : ℕ) (alone : IsAlone c log i j host) (k : ℕ) (behind : i < k) (before : k < j) where
@@ -49,6 +50,7 @@ module _ (c : Shape) (log : List Filled) (run : IsRun c log) (i j host : ℕ) (a
   others_quiet (Submit g other n) is off = tt
   others_quiet (Recover g n) is off = tt
   others_quiet (Beat g) is off = tt
+  others_quiet (Mark g slot) is off = tt
   others_quiet (Called g d call answer left) is off =
       let may = each c log k (Called g d call answer left) run is in
       elim (alone.calls k g d call answer left behind before is) [
@@ -147,6 +149,7 @@ module _ (c : Shape) (w : World) (ms : Moves) (tied : Tied c w ms) (h : ℕ) (m 
   rests_still (Submit g command tries) quiet before d = before d
   rests_still (Recover g tries) quiet before d = before d
   rests_still (Beat g) quiet before d = before d
+  rests_still (Mark g n) quiet before d = before d
   rests_still (Called g k call answer left) quiet before d = beats_leave g k call answer (Called g k call answer left) quiet.0 quiet.1 before d
   rests_still (Torn g k call left) quiet before d = beats_leave g k call (Fault Failed) (Torn g k call left) quiet.0 quiet.1 before d
   rests_still (Crashed k left) quiet before d = go (k == d)

@@ -12,11 +12,11 @@ use Rattle.host.specs.Host.{Memory, Running}
 use Rattle.world.specs.Entry.{Filled, Called, Torn, is_of}
 use Rattle.world.specs.Chosen.{at, Hears, IsCallOf}
 
--- before entry k the host tries no slot, so that a call that it makes there is one of a beat
+-- before entry k the host tries no slot and marks none, so that a call that it makes there is one of a beat
 abbrev pub TriesNone : Shape → List Filled → (k host : ℕ) → Type 0
-TriesNone c log k host = (m : Memory) → (at c log k).host host ≡ Running m → m.doing ≡ None
+TriesNone c log k host = (m : Memory) → (at c log k).host host ≡ Running m → (m.doing ≡ None) × (m.marking ≡ None)
 
--- Behind entry i and before entry j no other host makes a call of an attempt, and none is stopped within a write of one; this host makes calls alone.
+-- Behind entry i and before entry j no other host makes a call of an attempt or of a marking, and none is stopped within a write of one; this host makes calls alone.
 -- Others may start, stop, begin operations and beat meanwhile, and disks may crash and be lost.
 pub record IsAlone (c : Shape) (log : List Filled) (i j host : ℕ) : Type 0 where
   pub calls : (k g d : ℕ) (call : Call) (answer : Answer) (left : List ℕ) → i < k → k < j → slice_get log k ≡ Some (Called g d call answer left) → (g ≡ host) ⊎ TriesNone c log k g

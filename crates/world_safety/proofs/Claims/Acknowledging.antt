@@ -52,6 +52,7 @@ module _ (c : Shape) (slot : ℕ) (reply : Reply) where
     status_acks : (st : Status) → (by_status c m t b st).said ≡ Some (Ack slot reply) → Acks m t (by_status c m t b st) slot reply
     status_acks (Due p d) is = absurd (cc)
     status_acks (Ended (attempt.Committed value)) is = taken_acks value (decoded value) refl is
+    status_acks (Ended (attempt.Decided value)) is = taken_acks value (decoded value) refl is
     status_acks (Ended attempt.Empty) is = absurd (cc)
     status_acks (Ended (attempt.Outrun mbal)) is = absurd (let no = again c m t b (with_floor (with_floor m b) mbal) (Ack slot reply) is in cc)
     status_acks (Ended attempt.NoMajority) is = absurd (cc)

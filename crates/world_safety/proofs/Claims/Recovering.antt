@@ -22,7 +22,7 @@ use Rattle.world_safety.specs.Claims.{EmptyShows, MissesNothing}
 use Rattle.world_safety.specs.Tied.{Moves, machine, HostAt, IsDoing, IsRunning, IsTrying}
 use Rattle.world_safety.specs.Tracks.{IsTrue as IsTrueOfHost, IsTrueOf}
 use Rattle.world_safety.proofs.Moves.Moving.{chosen_later}
-use Rattle.world_safety.proofs.Runs.Knowing.{all_true}
+use Rattle.world_safety.proofs.Runs.Tracks.{all_true}
 use Rattle.world_safety.proofs.Moves.Machines.{machine_is}
 use Rattle.world_safety.proofs.Runs.Places.{host_next, host_stays, at_end}
 use Rattle.world_safety.proofs.Runs.Tracks.{moves_at, tied_at, step_at, later_places, chosen_then, stays_at}

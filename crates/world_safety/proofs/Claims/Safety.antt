@@ -21,7 +21,7 @@ use Rattle.world_safety.specs.Log.{IsLogBefore}
 use Rattle.world_safety.specs.Tracks.{IsChosenBefore, AreChosen, IsTrue, IsTrueOf}
 use Rattle.world_safety.proofs.Claims.Acknowledging.{acks_at}
 use Rattle.world_safety.proofs.Runs.Commands.{IsSpelling, AreSpelled, commands_of, one_command, stands_where, begins_by}
-use Rattle.world_safety.proofs.Runs.Knowing.{all_true}
+use Rattle.world_safety.proofs.Runs.Tracks.{all_true}
 use Rattle.world_safety.proofs.Runs.OneLog.{get_last, log_before, log_is, log_one}
 use Rattle.world_safety.proofs.Claims.Recovering.{misses_nothing}
 use Rattle.world_safety.proofs.Runs.Tracks.{submitted_before}
