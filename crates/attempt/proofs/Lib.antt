@@ -9,6 +9,7 @@ pub mod Statuses
 pub mod Visitors
 pub mod Totals
 pub mod Deciding
+pub mod Looking
 pub mod Ends
 pub mod Proposals
 pub mod Moments

@@ -3,6 +3,7 @@ pub mod Calls
 pub mod Chosen
 pub mod History
 pub mod Laws
+pub mod Looking
 pub mod NextCall
 pub mod Numbers
 pub mod Prepared

@@ -1,11 +1,15 @@
 // What bounds an attempt's device calls, how one ends that its disks answer, and what one has done that proposes.
 ghost use Rattle.std.specs.Prelude.{◌≡◌, ◌≢◌, ◌*◌, ◌<◌, ◌≤◌, ℕ, List, length};
+ghost use Rattle.disk.specs.Disk.{Call};
 ghost use Rattle.torn_block.specs.declared.layout.TheConstants.{HOSTS};
-ghost use Rattle.attempt.specs.Calls.{Phase, Two};
-ghost use Rattle.attempt.specs.Answers.{Answered, on};
+ghost use Rattle.paxos_block.specs.declared.ballot.TheConstants.{LAST_BALLOT};
+ghost use Rattle.attempt.specs.Calls.{Phase, Opening, Two};
+ghost use Rattle.attempt.specs.Answers.{Answered, Answers, on};
 ghost use Rattle.attempt.specs.Setup.{Setup};
-ghost use Rattle.attempt.specs.Status.{Due, Ended, Committed, Decided, Empty, NoMajority, status};
+ghost use Rattle.attempt.specs.Status.{Due, Ended, End, Committed, Decided, Empty, NoMajority, status, taken};
 ghost use Rattle.attempt.specs.History.{IsHistory};
+ghost use Rattle.attempt.specs.Looking.{OnlyReads, EndsTheOpening};
+ghost use Rattle.attempt.specs.NextCall.{next_call};
 ghost use Rattle.attempt.specs.Prepared.{Proposes, IsPrepared, IsAccepted, IsProposal, HasNoInput, IsMarkSeen, AreVotes};
 ghost use Rattle.attempt.specs.Laws.{AllAnswerWell, MostAnswerWell, OthersRest, IsServed, CanEnd};
 
@@ -63,4 +67,18 @@ pub fn prepared_and_proposed()
     // What is decided was read in the opening, as the input of a marked block.
     ensures decided { (s : Setup) (heard : List Answered) (value : List ℕ) →
         status s (on heard) ≡ Ended (Decided value) → IsMarkSeen s (on heard) value }
+{}
+
+/// An attempt with the last ballot as its floor has none to take, so that it ends with its opening. It makes at most three
+/// calls a disk, and writes nothing; it is told what was decided, or that nothing is, or lacks a majority.
+pub fn without_a_ballot()
+    ensures opening { (s : Setup) (f : Answers) (p : Phase) (d : ℕ) → LAST_BALLOT ≤ s.floor →
+        status s f ≡ Due p d → p ≡ Opening }
+    ensures reads { (s : Setup) (f : Answers) (d : ℕ) (call : Call) → LAST_BALLOT ≤ s.floor →
+        next_call s f ≡ Some (d, call) → OnlyReads call }
+    ensures three { (s : Setup) (heard : List Answered) → LAST_BALLOT ≤ s.floor →
+        IsHistory s heard → length heard ≤ 3 * s.disks }
+    ensures ends { (s : Setup) (f : Answers) (end : End) → LAST_BALLOT ≤ s.floor →
+        status s f ≡ Ended end → EndsTheOpening end }
+    ensures none { (s : Setup) (f : Answers) → LAST_BALLOT ≤ s.floor → taken s f ≡ 0 }
 {}

@@ -46,9 +46,9 @@ use Rattle.slot_log.specs.declared.outcome.Outcome.{Outcome}
 use Rattle.slot_log.specs.declared.outcome.Outcome.TheVariants as outcome
 use Rattle.slot_log.specs.declared.outcome.Refusal.TheVariants as refusal
 use Rattle.host.specs.declared.answer.HostAnswer.{HostAnswer}
-use Rattle.host.specs.declared.answer.HostAnswer.TheVariants.{Ack, Recovered, Beaten, Marked, Refused}
+use Rattle.host.specs.declared.answer.HostAnswer.TheVariants.{Ack, Recovered, Looked, Beaten, Marked, Refused}
 use Rattle.host.specs.Alone.{IsAnsweredAlone, IsWithinNine, IsMarkedWithinNine}
-use Rattle.host.specs.Host.{Beats, Memory, Doing, Operation, Submitting, Recovering, input_of, setup_of, says, begins, goes_on, full_answer, learns, takes, after_learning, is_submitted, with_floor, by_status, hears, with_heard, reply_after, hears_from, hears_beat, beat_of, beat_by, with_beats, suggested, is_idle_in, rests, next_in, next_doing, next_beside, next_marking, Marking, marking_of, marking_by, marking_with, hears_beside, hears_marking, with_marking, starts_marking, spelled}
+use Rattle.host.specs.Host.{Beats, Memory, Doing, Operation, Submitting, Recovering, Looking, input_of, floor_for, setup_of, says, begins, goes_on, full_answer, spent_answer, learns, takes, after_learning, is_submitted, with_floor, by_status, hears, with_heard, reply_after, hears_from, hears_beat, beat_of, beat_by, with_beats, suggested, is_idle_in, rests, next_in, next_doing, next_beside, next_marking, Marking, marking_of, marking_by, marking_with, hears_beside, hears_marking, with_marking, starts_marking, spelled}
 use Rattle.host.specs.declared.host_core.HostCore.TheInside.{Inside}
 use Rattle.host.specs.Kept.{Kept, LeadsTo, operation_of, outcome_in, doing_of, values_with, values_of, answer_of, option_list, BeatLeadsTo, MarkingLeadsTo, BeatsAlone, MarksAlone, IsOneAtATime, IsAloneToo, due_in, due_beside, due_call, has_no_beat, has_no_marking, is_idle}
 
@@ -59,6 +59,7 @@ abbrev pub Carries : Option Reply → Option HostAnswer → Type 0
 Carries reply None = Unit {0}
 Carries reply (Some (Ack slot told)) = reply ≡ Some told
 Carries reply (Some (Recovered length)) = Unit {0}
+Carries reply (Some (Looked length)) = Unit {0}
 Carries reply (Some (Beaten host)) = ⊥
 Carries reply (Some (Marked count)) = ⊥
 Carries reply (Some (Refused refusal)) = Unit {0}
@@ -67,6 +68,7 @@ pub answer_of-outcome_of : (reply : Option Reply) (said : Option HostAnswer) →
 answer_of-outcome_of reply None carries = refl
 answer_of-outcome_of reply (Some (Ack slot told)) carries = ap (answer_of (outcome_in (Some (Ack slot told)))) carries
 answer_of-outcome_of reply (Some (Recovered length)) carries = refl
+answer_of-outcome_of reply (Some (Looked length)) carries = refl
 answer_of-outcome_of reply (Some (Beaten host)) carries = absurd carries
 answer_of-outcome_of reply (Some (Marked count)) carries = absurd carries
 answer_of-outcome_of reply (Some (Refused refusal)) carries = refl
@@ -77,16 +79,23 @@ length_same : (m : Memory) → length (map spelling m.learned) ≡ length m.lear
 length_same m = length-map m.learned spelling
 
 abbrev setup_at : Shape → ℕ → Memory → Operation → ℕ → Setup
-setup_at c h m operation slot = record { host = h; slot = slot; disks = c.disks; floor = m.floor; input = input_of operation }
+setup_at c h m operation slot = record { host = h; slot = slot; disks = c.disks; floor = floor_for operation m.floor; input = input_of operation }
 
 -- it is the same for both
 pub setup_same : (c : Shape) (h : ℕ) (m : Memory) (operation : Operation) → log.setup_of c h (values_of m) (operation_of operation) ≡ setup_of c h m operation
 setup_same c h m (Submitting command) = ap (setup_at c h m (Submitting command)) (length_same m)
 setup_same c h m Recovering = ap (setup_at c h m Recovering) (length_same m)
+setup_same c h m Looking = ap (setup_at c h m Looking) (length_same m)
 
 full_same : (operation : Operation) (n : ℕ) → Some (log.full_outcome (operation_of operation) n) ≡ outcome_in (Some (full_answer operation n))
 full_same (Submitting command) n = refl
 full_same Recovering n = refl
+full_same Looking n = refl
+
+spent_same : (operation : Operation) (n : ℕ) → Some (log.spent_outcome (operation_of operation) n) ≡ outcome_in (Some (spent_answer operation n))
+spent_same (Submitting command) n = refl
+spent_same Recovering n = refl
+spent_same Looking n = refl
 
 goes_by_test : (m : Memory) (operation : Operation) (tries n : ℕ) (b : Bool) → (if b then log.begins (values_of m) (operation_of operation) tries else log.says (values_of m) (log.full_outcome (operation_of operation) n)) ≡ values_of (if b then begins m operation tries else says m (full_answer operation n))
 goes_by_test m operation tries n true = refl
@@ -111,6 +120,12 @@ carries_by_test : (reply : Option Reply) (m : Memory) (operation : Operation) (t
 carries_by_test reply m operation tries n true = tt
 carries_by_test reply m (Submitting command) tries n false = tt
 carries_by_test reply m Recovering tries n false = tt
+carries_by_test reply m Looking tries n false = tt
+
+carries_spent : (operation : Operation) (n : ℕ) → Carries None (Some (spent_answer operation n))
+carries_spent (Submitting command) n = tt
+carries_spent Recovering n = tt
+carries_spent Looking n = tt
 
 -- nothing is acknowledged there
 pub carries-goes_on : (reply : Option Reply) (c : Shape) (m : Memory) (operation : Operation) (tries : ℕ) → Carries reply (goes_on c m operation tries).said
@@ -138,7 +153,9 @@ module _ (c : Shape) (m : Memory) (t : Doing) (ballot : ℕ) where
   values_of-by_status last (Ended attempt.Empty) none = ap (λ (n : ℕ). log.says (log.with_floor (values_of m) ballot) (outcome.Recovered n)) (length_same m)
   values_of-by_status last (Ended (attempt.Outrun mbal)) none = tries_by_test (with_floor (with_floor m ballot) mbal) t.operation (t.tries - 1) (nat_le t.tries 1)
   values_of-by_status last (Ended attempt.NoMajority) none = refl
-  values_of-by_status last (Ended attempt.BallotsSpent) none = refl
+  values_of-by_status last (Ended attempt.BallotsSpent) none =
+      ap (λ (n : ℕ). log.says (log.with_floor (values_of m) ballot) (log.spent_outcome (operation_of t.operation) n)) (length_same m)
+      ∙ ap (λ (o : Option Outcome). record (log.says (log.with_floor (values_of m) ballot) (outcome.Recovered 0)) { said = o }) (spent_same t.operation (length m.learned))
 
   pub learned-by_status : (st : Status) → offered_by st ≡ None → (by_status c m t ballot st).learned ≡ m.learned
   learned-by_status (Due p d) none = refl
@@ -156,7 +173,7 @@ module _ (c : Shape) (m : Memory) (t : Doing) (ballot : ℕ) where
   carries-by_status (Ended attempt.Empty) none = tt
   carries-by_status (Ended (attempt.Outrun mbal)) none = carries_by_tries (with_floor (with_floor m ballot) mbal) t.operation (t.tries - 1) (nat_le t.tries 1)
   carries-by_status (Ended attempt.NoMajority) none = tt
-  carries-by_status (Ended attempt.BallotsSpent) none = tt
+  carries-by_status (Ended attempt.BallotsSpent) none = carries_spent t.operation (length m.learned)
 
 -- A COMMITTED VALUE
 
@@ -184,6 +201,7 @@ values_of-learns m command value is =
 placed_same : (operation : Operation) (value : List ℕ) → log.is_placed (operation_of operation) value ≡ is_submitted operation value
 placed_same (Submitting command) value = refl
 placed_same Recovering value = refl
+placed_same Looking value = refl
 
 module _ (c : Shape) (m : Memory) (t : Doing) (ballot : ℕ) (value : List ℕ) where
   abbrev after_values : Bool → log.Memory

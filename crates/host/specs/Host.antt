@@ -1,6 +1,7 @@
 -- A host: what follows from its operations and the answers that it has heard since its start.
 use Rattle.std.specs.Prelude.{◌-◌, ◌&&◌, ℕ, Bool, true, false, not, List, [], ◌∷◌, ◌++◌, length, max, nat_lt, nat_le, slice_get, Option, Some, None, is_some, if◌then◌else◌, bytes_eq}
 use Rattle.disk.specs.Disk as device
+use Rattle.paxos_block.specs.declared.ballot.TheConstants.{LAST_BALLOT}
 use Rattle.attempt.specs.Answers.{Answered, on, heard_as}
 use Rattle.attempt.specs.Setup.{Setup}
 use Rattle.attempt.specs.Status.{Status, Due, Ended, End, status, taken}
@@ -18,7 +19,7 @@ use Rattle.lock_table.specs.Apply.{applied, table_after}
 use Rattle.slot_log.specs.Shape.{Shape}
 use Rattle.slot_log.specs.declared.outcome.Refusal.TheVariants as refusal
 use Rattle.host.specs.declared.answer.HostAnswer.{HostAnswer}
-use Rattle.host.specs.declared.answer.HostAnswer.TheVariants.{Ack, Recovered, Beaten, Marked, Refused}
+use Rattle.host.specs.declared.answer.HostAnswer.TheVariants.{Ack, Recovered, Looked, Beaten, Marked, Refused}
 
 -- COMMANDS
 
@@ -31,6 +32,7 @@ reply_after before command = (applied (table_after before) command).reply
 pub data Operation : Type 0 where
   Submitting : (command : Command) → Operation
   Recovering : Operation
+  Looking : Operation
 
 -- an operation under way: its tries left, and what its attempt on the next slot has heard
 pub record Doing : Type 0 where
@@ -85,10 +87,17 @@ learns m command = record { learned = m.learned ++ command ∷ []; floor = 0; do
 abbrev pub input_of : Operation → Option (List ℕ)
 input_of (Submitting command) = Some (spelling command)
 input_of Recovering = None
+input_of Looking = None
+
+-- above what they take their ballots; those of a look have none to take, and so end with their opening
+abbrev pub floor_for : Operation → ℕ → ℕ
+floor_for (Submitting command) floor = floor
+floor_for Recovering floor = floor
+floor_for Looking floor = max floor LAST_BALLOT
 
 -- the attempt on the next slot
 abbrev pub setup_of : Shape → ℕ → Memory → Operation → Setup
-setup_of c h m operation = record { host = h; slot = length m.learned; disks = c.disks; floor = m.floor; input = input_of operation }
+setup_of c h m operation = record { host = h; slot = length m.learned; disks = c.disks; floor = floor_for operation m.floor; input = input_of operation }
 
 -- an attempt on the next slot begins
 abbrev pub begins : Memory → Operation → ℕ → Memory
@@ -98,6 +107,13 @@ begins m operation tries = does m (record { operation = operation; tries = tries
 abbrev pub full_answer : Operation → ℕ → HostAnswer
 full_answer (Submitting command) learned = Refused refusal.LogFull
 full_answer Recovering learned = Recovered learned
+full_answer Looking learned = Looked learned
+
+-- and once an attempt has no ballot: a look has seen that no mark tells the next slot
+abbrev pub spent_answer : Operation → ℕ → HostAnswer
+spent_answer (Submitting command) learned = Refused refusal.BallotsSpent
+spent_answer Recovering learned = Refused refusal.BallotsSpent
+spent_answer Looking learned = Looked learned
 
 -- the next slot is tried, where there is one
 abbrev pub goes_on : Shape → Memory → Operation → ℕ → Memory
@@ -108,6 +124,7 @@ goes_on c m operation tries =
 abbrev pub is_submitted : Operation → List ℕ → Bool
 is_submitted (Submitting command) value = bytes_eq (spelling command) value
 is_submitted Recovering value = false
+is_submitted Looking value = false
 
 -- a submitted command that was learned is acknowledged; else the next slot is tried
 abbrev pub after_learning : Shape → Memory → Doing → Command → Bool → Memory
@@ -130,7 +147,7 @@ ended c m t ballot (attempt.Decided value) = takes c m t ballot value (decoded v
 ended c m t ballot attempt.Empty = says (with_floor m ballot) (Recovered (length m.learned))
 ended c m t ballot (attempt.Outrun mbal) = tries_again (with_floor (with_floor m ballot) mbal) t.operation t.tries
 ended c m t ballot attempt.NoMajority = says (with_floor m ballot) (Refused refusal.NoMajority)
-ended c m t ballot attempt.BallotsSpent = says (with_floor m ballot) (Refused refusal.BallotsSpent)
+ended c m t ballot attempt.BallotsSpent = says (with_floor m ballot) (spent_answer t.operation (length m.learned))
 
 abbrev pub by_status : Shape → Memory → Doing → ℕ → Status → Memory
 by_status c m t ballot (Due phase disk) = does m t

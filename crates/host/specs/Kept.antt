@@ -19,8 +19,8 @@ use Rattle.slot_log.specs.declared.operation.Operation.TheVariants as operation
 use Rattle.slot_log.specs.declared.outcome.Outcome as log_outcome
 use Rattle.slot_log.specs.declared.outcome.Outcome.TheVariants as outcome
 use Rattle.host.specs.declared.answer.HostAnswer.{HostAnswer}
-use Rattle.host.specs.declared.answer.HostAnswer.TheVariants.{Ack, Recovered, Beaten, Marked, Refused}
-use Rattle.host.specs.Host.{Operation, Submitting, Recovering, Doing, Marking, Memory, beat_of, marking_of}
+use Rattle.host.specs.declared.answer.HostAnswer.TheVariants.{Ack, Recovered, Looked, Beaten, Marked, Refused}
+use Rattle.host.specs.Host.{Operation, Submitting, Recovering, Looking, Doing, Marking, Memory, beat_of, marking_of}
 
 -- its learner, the commands learned, what the last entry made it say, the beat under way, what the last beat that ended
 -- well read, and the marking under way
@@ -93,11 +93,13 @@ option_list (Some x) = x ∷ []
 abbrev pub operation_of : Operation → log_operation.Operation
 operation_of (Submitting command) = operation.Placing (spelling command)
 operation_of Recovering = operation.Recovering
+operation_of Looking = operation.Looking
 
 abbrev pub outcome_in : Option HostAnswer → Option log_outcome.Outcome
 outcome_in None = None
 outcome_in (Some (Ack slot reply)) = Some (outcome.Placed slot)
 outcome_in (Some (Recovered length)) = Some (outcome.Recovered length)
+outcome_in (Some (Looked length)) = Some (outcome.Looked length)
 outcome_in (Some (Beaten host)) = None
 outcome_in (Some (Marked count)) = None
 outcome_in (Some (Refused refusal)) = Some (outcome.Refused refusal)
@@ -118,6 +120,7 @@ answer_of None reply = None
 answer_of (Some (outcome.Placed slot)) None = None
 answer_of (Some (outcome.Placed slot)) (Some reply) = Some (Ack slot reply)
 answer_of (Some (outcome.Recovered length)) reply = Some (Recovered length)
+answer_of (Some (outcome.Looked length)) reply = Some (Looked length)
 answer_of (Some (outcome.Refused refusal)) reply = Some (Refused refusal)
 
 -- no command is acknowledged
@@ -125,6 +128,7 @@ abbrev pub AcknowledgesNone : Option HostAnswer → Type 0
 AcknowledgesNone None = Unit {0}
 AcknowledgesNone (Some (Ack slot reply)) = ⊥
 AcknowledgesNone (Some (Recovered length)) = Unit {0}
+AcknowledgesNone (Some (Looked length)) = Unit {0}
 AcknowledgesNone (Some (Beaten host)) = Unit {0}
 AcknowledgesNone (Some (Marked count)) = Unit {0}
 AcknowledgesNone (Some (Refused refusal)) = Unit {0}

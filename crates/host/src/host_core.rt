@@ -13,7 +13,7 @@ ghost use Rattle.slot_log.specs.Learning as log;
 ghost use Rattle.slot_log.specs.Shape.{Shape};
 ghost use Rattle.host.specs.Alone.{IsAnsweredAlone, IsWithinNine, IsMarkedWithinNine};
 ghost use Rattle.beats.specs.Calls.{device_answer};
-ghost use Rattle.host.specs.Host.{Memory, Submitting, Recovering, fresh, goes_on, hears, hears_from, starts_beat, starts_marking, suggested, is_idle_in, next_in, reply_after};
+ghost use Rattle.host.specs.Host.{Memory, Submitting, Recovering, Looking, fresh, goes_on, hears, hears_from, starts_beat, starts_marking, suggested, is_idle_in, next_in, reply_after};
 ghost use Rattle.host.specs.Kept.{Kept, LeadsTo, AcknowledgesNone, is_idle, due_call, option_list};
 
 use crate::answer::HostAnswer;
@@ -160,6 +160,17 @@ impl HostCore {
             LeadsTo c h (goes_on c m Recovering tries) self.new }
     {
         self.learner.recover(tries);
+        self.said = HostAnswer::of(self.learner.said(), None);
+    }
+
+    /// Begins to learn the commands that marks tell, slot by slot, up to the first slot of which none does. It writes
+    /// nothing, and outruns nobody; but what was acknowledged and not marked is not found.
+    pub fn look(&mut self)
+        requires idle { is_idle self.old ≡ true }
+        ensures { (c : Shape) (h : ℕ) (m : Memory) → LeadsTo c h m self.old →
+            LeadsTo c h (goes_on c m Looking 1) self.new }
+    {
+        self.learner.look();
         self.said = HostAnswer::of(self.learner.said(), None);
     }
 

@@ -121,6 +121,18 @@ impl Learner {
         self.go_on(Operation::Recovering, tries);
     }
 
+    /// Begins to learn the values that marks tell, slot by slot, up to the first slot of which none does. Nothing is written,
+    /// so no host is outrun by it.
+    pub fn look(&mut self)
+        requires idle { is_idle self.old ≡ true }
+        ensures leads { (c : Shape) (h : ℕ) (m : Memory) → LeadsTo c h m self.old →
+            LeadsTo c h (goes_on c m Operation.Looking 1) self.new }
+        ensures same { IsSameLog self.old self.new }
+        ensures judged { offered_of self.new ≡ None }
+    {
+        self.go_on(Operation::Looking, 1);
+    }
+
     /// Begins to put a value into the log. Up to `tries` attempts may be outrun, the last of which ends the operation.
     pub fn place(&mut self, value: Value, tries: u8)
         requires idle { is_idle self.old ≡ true }
@@ -252,7 +264,8 @@ impl Learner {
     {
         let slot = self.learned.len() as u16;
         let input = operation.input();
-        self.attempt = Attempt::new(self.host, slot, self.config.disks(), self.floor, input);
+        let floor = operation.floor(self.floor);
+        self.attempt = Attempt::new(self.host, slot, self.config.disks(), floor, input);
         self.task = Some(Task { operation, tries });
         self.said = None;
     }
@@ -300,7 +313,10 @@ impl Learner {
                 }
             }
             End::NoMajority => self.finish(Outcome::Refused(Refusal::NoMajority)),
-            End::BallotsSpent => self.finish(Outcome::Refused(Refusal::BallotsSpent)),
+            End::BallotsSpent => {
+                let learned = self.learned.len() as u16;
+                self.finish(task.operation.outcome_without_ballot(learned));
+            }
         }
     }
 

@@ -16,7 +16,7 @@ use Rattle.slot_log.specs.Shape.{Shape}
 use Rattle.slot_log.specs.declared.outcome.Refusal.TheVariants as refusal
 use Rattle.host.specs.declared.answer.HostAnswer.{HostAnswer}
 use Rattle.host.specs.declared.answer.HostAnswer.TheVariants.{Refused}
-use Rattle.host.specs.Host.{Operation, Submitting, Recovering, Doing, Memory, Host, Stopped, Running, fresh, says, begins, goes_on, full_answer, is_submitted, after_learning, takes, tries_again, with_floor, ended, by_status, with_heard, setup_of, Marking, beat_of, beat_by, hears_beat, hears_beside, hears_marking, marking_by, marking_with, marking_of, with_marking, starts_marking, hears_from, rests, is_idle, is_idle_in, said_of, learned_of}
+use Rattle.host.specs.Host.{Operation, Submitting, Recovering, Looking, Doing, Memory, Host, Stopped, Running, fresh, says, begins, goes_on, full_answer, spent_answer, is_submitted, after_learning, takes, tries_again, with_floor, ended, by_status, with_heard, setup_of, Marking, beat_of, beat_by, hears_beat, hears_beside, hears_marking, marking_by, marking_with, marking_of, with_marking, starts_marking, hears_from, rests, is_idle, is_idle_in, said_of, learned_of}
 use Rattle.world.specs.Entry as entries
 use Rattle.world.specs.Entry.{Filled, Called, Torn, Crashed, Lost, host_step, host_after}
 use Rattle.world.specs.Account.{Ending, ending_by, ending_in, ending_at, endings, read_as, committed_by, committed, outran, greatest_on, one_if_outrun, outruns, floor_of, GoesOn, AllGoOn, AccountsFor, BeginsWith, IsCalled, AllCalled, GivesUp}
@@ -196,6 +196,7 @@ one_accounts c h (Running m) past (entries.Stop g) on is = absurd on
 one_accounts c h (Running m) past (entries.Submit g command tries) on is =
     same_account m (goes_on c m (Submitting command) tries) past (learned_on c m (Submitting command) tries) (floor_on c m (Submitting command) tries) is
 one_accounts c h (Running m) past (entries.Recover g tries) on is = same_account m (goes_on c m Recovering tries) past (learned_on c m Recovering tries) (floor_on c m Recovering tries) is
+one_accounts c h (Running m) past (entries.Look g) on is = same_account m (goes_on c m Looking 1) past (learned_on c m Looking 1) (floor_on c m Looking 1) is
 one_accounts c h (Running m) past (entries.Beat g) on is = same_account m _ past refl refl is
 one_accounts c h (Running m) past (entries.Mark g slot) on is =
     on_either (nat_lt slot (length m.learned)) (with_marking m (Some (record { slot = slot; heard = [] })) None) (with_marking m m.marking (Some (Refused refusal.NotLearned))) (λ n. Accounts n (past ++ []))
@@ -250,6 +251,12 @@ ends_so tries n said left other = (omega arith, (λ is. absurd (other is), λ is
 not_full : (operation : Operation) (learned : ℕ) → Some (full_answer operation learned) ≡ Some (Refused refusal.Outrun) → ⊥
 not_full (Submitting command) learned is = cc
 not_full Recovering learned is = cc
+not_full Looking learned is = cc
+
+not_spent : (operation : Operation) (learned : ℕ) → Some (spent_answer operation learned) ≡ Some (Refused refusal.Outrun) → ⊥
+not_spent (Submitting command) learned is = cc
+not_spent Recovering learned is = cc
+not_spent Looking learned is = cc
 
 tried_on : (c : Shape) (m : Memory) (operation : Operation) (k tries n : ℕ) → k + n ≡ tries → 1 ≤ k → AreResting m.beats.heard m.marking → Tried tries (goes_on c m operation k) n
 tried_on c m operation k tries n all some rest =
@@ -280,7 +287,7 @@ module _ (c : Shape) (h tries : ℕ) (m : Memory) (t : Doing) (n : ℕ) (all : t
   tried_ending ballot (attempt.Decided value) = subst (Tried tries (ended c m t ballot (attempt.Decided value))) (omega arith) (tried_taking ballot value (decoded value))
   tried_ending ballot attempt.Empty = subst (Tried tries (ended c m t ballot attempt.Empty)) (omega arith) (ends_so tries n _ tries_left (λ is. cc), rest)
   tried_ending ballot attempt.NoMajority = subst (Tried tries (ended c m t ballot attempt.NoMajority)) (omega arith) (ends_so tries n _ tries_left (λ is. cc), rest)
-  tried_ending ballot attempt.BallotsSpent = subst (Tried tries (ended c m t ballot attempt.BallotsSpent)) (omega arith) (ends_so tries n _ tries_left (λ is. cc), rest)
+  tried_ending ballot attempt.BallotsSpent = subst (Tried tries (ended c m t ballot attempt.BallotsSpent)) (omega arith) (ends_so tries n _ tries_left (not_spent t.operation (length m.learned)), rest)
   tried_ending ballot (attempt.Outrun mbal) = subst (Tried tries (ended c m t ballot (attempt.Outrun mbal))) (omega arith) (tried_again (with_floor (with_floor m ballot) mbal) rest)
 
   tried_status : (s : Setup) (heard : List Answered) (st : Status) → Tried tries (by_status c m t (taken s (on heard)) st) (n + outruns (ending_by s heard st))

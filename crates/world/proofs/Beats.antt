@@ -13,9 +13,9 @@ use Rattle.marks.specs.Status as mark
 use Rattle.beats.proofs.Histories as histories
 use Rattle.beats.proofs.Histories.{fits_too, history_more, starts}
 use Rattle.slot_log.specs.Shape.{Shape}
-use Rattle.host.specs.Host.{Operation, Submitting, Recovering, Doing, Memory, Host, Stopped, Running, Marking, hears_from, hears_beside, hears_beat, hears_marking, marking_by, marking_with, marking_of, with_marking, starts_marking, beat_by, beat_of, is_idle, is_idle_in, next_beside, next_marking, next_doing, next_of}
+use Rattle.host.specs.Host.{Operation, Submitting, Recovering, Looking, Doing, Memory, Host, Stopped, Running, Marking, hears_from, hears_beside, hears_beat, hears_marking, marking_by, marking_with, marking_of, with_marking, starts_marking, beat_by, beat_of, is_idle, is_idle_in, next_beside, next_marking, next_doing, next_of}
 use Rattle.host.proofs.Hosts.{beats-goes_on, beats_heard}
-use Rattle.world.specs.Entry.{Filled, Start, Stop, Submit, Recover, Beat, Mark, Called, Torn, Crashed, Lost, is_of, host_step, started, beats, marks, begins_on}
+use Rattle.world.specs.Entry.{Filled, Start, Stop, Submit, Recover, Look, Beat, Mark, Called, Torn, Crashed, Lost, is_of, host_step, started, beats, marks, begins_on}
 use Rattle.world.specs.World.{World, world, MayFollow, IsRun}
 use Rattle.world.proofs.Histories.{step_fits, has_call}
 use Rattle.world.proofs.Projections.{host_here, host_there}
@@ -98,6 +98,7 @@ module _ (c : Shape) (h : ℕ) where
   step_heard w (Stop g) of m is = tt
   step_heard w (Submit g command tries) of m is = operated (w.host h) (Submitting command) tries is
   step_heard w (Recover g tries) of m is = operated (w.host h) Recovering tries is
+  step_heard w (Look g) of m is = operated (w.host h) Looking 1 is
   step_heard w (Beat g) of m is = begun (w.host h)
   step_heard w (Mark g slot) of m is = marking_begun (w.host h) slot is
   step_heard w (Called g k call answer left) of m is =

@@ -28,11 +28,11 @@ use Rattle.lock_command.specs.Reading.{decoded}
 use Rattle.slot_log.specs.Shape.{Shape}
 use Rattle.slot_log.specs.declared.outcome.Refusal.TheVariants as refusal
 use Rattle.host.specs.declared.answer.HostAnswer.TheVariants.{Refused}
-use Rattle.host.specs.Host.{Operation, Submitting, Recovering, Doing, Memory, Host, Stopped, Running, setup_of, says, begins, full_answer, goes_on, is_submitted, after_learning, learns, takes, tries_again, ended, by_status, with_heard, with_floor, hears, next_doing, next_of, hears_from, hears_beside, hears_beat, beat_by, beat_of, Marking, marking_by, marking_with, marking_of, hears_marking, with_marking, starts_marking}
+use Rattle.host.specs.Host.{Operation, Submitting, Recovering, Looking, Doing, Memory, Host, Stopped, Running, setup_of, says, begins, full_answer, goes_on, is_submitted, after_learning, learns, takes, tries_again, ended, by_status, with_heard, with_floor, hears, next_doing, next_of, hears_from, hears_beside, hears_beat, beat_by, beat_of, Marking, marking_by, marking_with, marking_of, hears_marking, with_marking, starts_marking}
 use Rattle.beats.specs.Answers as beat_answers
 use Rattle.beats.specs.Status as beat
 use Rattle.marks.specs.Status as mark
-use Rattle.world.specs.Entry.{Filled, Start, Stop, Submit, Recover, Beat, Mark, Called, Torn, Crashed, Lost, is_of, host_step, started, beats, marks, begins_on}
+use Rattle.world.specs.Entry.{Filled, Start, Stop, Submit, Recover, Look, Beat, Mark, Called, Torn, Crashed, Lost, is_of, host_step, started, beats, marks, begins_on}
 use Rattle.world.specs.World.{World, world, MayFollow, IsRun}
 use Rattle.world.proofs.Projections.{host_here, host_there}
 use Rattle.world.specs.Chosen.{at, Hears, IsChosenAt}
@@ -206,6 +206,7 @@ module _ (c : Shape) (h : ℕ) where
   step_heard w (Stop g) of m is = tt
   step_heard w (Submit g command tries) of m is = operated (w.host h) (Submitting command) tries (Submit g command tries) refl
   step_heard w (Recover g tries) of m is = operated (w.host h) Recovering tries (Recover g tries) refl
+  step_heard w (Look g) of m is = operated (w.host h) Looking 1 (Look g) refl
   step_heard w (Beat g) of m is = beat_begun (w.host h)
   step_heard w (Mark g slot) of m is = marking_begun (w.host h) slot
   step_heard w (Called g k call answer left) of m is =

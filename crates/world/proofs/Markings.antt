@@ -14,9 +14,9 @@ use Rattle.marks.proofs.Histories.{history_more, starts}
 use Rattle.slot_log.specs.Shape.{Shape}
 use Rattle.slot_log.specs.declared.outcome.Refusal.TheVariants as refusal
 use Rattle.host.specs.declared.answer.HostAnswer.TheVariants.{Refused}
-use Rattle.host.specs.Host.{Operation, Submitting, Recovering, Doing, Marking, Memory, Host, Stopped, Running, goes_on, hears, hears_from, hears_beside, hears_beat, hears_marking, marking_by, marking_with, marking_of, with_marking, with_beats, starts_marking, beat_by, beat_of, rests, is_idle_in, idles, next_beside, next_marking, next_doing, next_of}
+use Rattle.host.specs.Host.{Operation, Submitting, Recovering, Looking, Doing, Marking, Memory, Host, Stopped, Running, goes_on, hears, hears_from, hears_beside, hears_beat, hears_marking, marking_by, marking_with, marking_of, with_marking, with_beats, starts_marking, beat_by, beat_of, rests, is_idle_in, idles, next_beside, next_marking, next_doing, next_of}
 use Rattle.host.proofs.Hosts.{marking-goes_on, marking_heard}
-use Rattle.world.specs.Entry.{Filled, Start, Stop, Submit, Recover, Beat, Mark, Called, Torn, Crashed, Lost, is_of, host_step, started, beats, marks, begins_on}
+use Rattle.world.specs.Entry.{Filled, Start, Stop, Submit, Recover, Look, Beat, Mark, Called, Torn, Crashed, Lost, is_of, host_step, started, beats, marks, begins_on}
 use Rattle.world.specs.World.{World, world, MayFollow, IsRun}
 use Rattle.world.proofs.Histories.{step_fits}
 use Rattle.world.proofs.Projections.{host_here, host_there}
@@ -138,6 +138,7 @@ module _ (c : Shape) (h : ℕ) where
   step_heard w (Stop g) of m is = tt
   step_heard w (Submit g command tries) of m is = operated (w.host h) (Submitting command) tries (idle_here w g (eqb-true g h of) m.0)
   step_heard w (Recover g tries) of m is = operated (w.host h) Recovering tries (idle_here w g (eqb-true g h of) m.0)
+  step_heard w (Look g) of m is = operated (w.host h) Looking 1 (idle_here w g (eqb-true g h of) m)
   step_heard w (Beat g) of m is = beaten (w.host h) (idle_here w g (eqb-true g h of) m)
   step_heard w (Mark g slot) of m is = begun (w.host h) slot (idle_here w g (eqb-true g h of) m.0)
   step_heard w (Called g k call answer left) of m is =

@@ -25,6 +25,7 @@ pub enum Entry {
         host: HostNumber,
         tries: u8,
     },
+    Look(HostNumber),
     Beat(HostNumber),
     Mark {
         host: HostNumber,

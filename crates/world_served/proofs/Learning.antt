@@ -18,9 +18,9 @@ use Rattle.lock_command.specs.declared.command.Command.{Command}
 use Rattle.lock_command.specs.Command.{spelling}
 use Rattle.lock_command.specs.Reading.{decoded}
 use Rattle.slot_log.specs.Shape.{Shape}
-use Rattle.host.specs.Host.{Operation, Submitting, Doing, Memory, Host, Running, setup_of, input_of, learned_of, does, learns, is_submitted, after_learning, takes, by_status, hears_from, Beats}
+use Rattle.host.specs.Host.{Operation, Submitting, Looking, spent_answer, Doing, Memory, Host, Running, setup_of, input_of, learned_of, does, learns, is_submitted, after_learning, takes, by_status, hears_from, Beats}
 use Rattle.host.proofs.Hosts.{beats_heard, marking_heard}
-use Rattle.world.specs.Entry.{Filled, Start, Stop, Submit, Recover, Beat, Mark, Called, Torn, Crashed, Lost, is_of, host_step}
+use Rattle.world.specs.Entry.{Filled, Start, Stop, Submit, Recover, Look, Beat, Mark, Called, Torn, Crashed, Lost, is_of, host_step}
 use Rattle.world.specs.World.{World, MayFollow, IsRun}
 use Rattle.world.specs.Chosen.{at, Hears}
 use Rattle.world.proofs.Histories.{heard_then, committed}
@@ -29,7 +29,8 @@ use Rattle.world_safety.specs.Goes.{ProposesWith}
 use Rattle.world_safety.specs.Next.{next_world}
 use Rattle.world_safety.proofs.Runs.Tracks.{moves_at, tied_at, submitted_before, IsPutBefore, put_by_then, decided_at}
 use Rattle.world_safety.specs.Tracks.{IsChosenBefore}
-use Rattle.world_served.specs.Alone.{TriesNone}
+use Rattle.world_served.specs.Alone.{LooksAtMost, WritesNone}
+use Rattle.world_served.specs.Served.{IsServedBy}
 use Rattle.world_served.specs.Served.{IsLeftAlone}
 use Rattle.world_served.proofs.Answered.{served}
 use Rattle.world_served.proofs.Counting.{one_past}
@@ -150,14 +151,16 @@ module _ (c : Shape) (log : List Filled) (run : IsRun c log) (some : 1 ≤ c.dis
         put_late (Stop g) found of votes late = votes
         put_late (Submit g other_command n) found of votes late = votes
         put_late (Recover g n) found of votes late = votes
+        put_late (Look g) found of votes late = votes
         put_late (Beat g) found of votes late = votes
         put_late (Mark g slot) found of votes late = votes
         put_late (Called g n other_call other_answer bytes) found of votes late =
             elim (alone.alone.calls by.place g n other_call other_answer bytes late (let b = by.before in omega arith) found) [
               | inl its ↦ put_own by.put.host (sym (eqb-true g by.put.host of) ∙ its) by.put.memory by.put.doing by.put.running by.put.does by.put.input late
               | inr rests ↦
-                  (let none = subst (TriesNone c log by.place) (eqb-true g by.put.host of) rests by.put.memory by.put.running in
-                  let both : None ≡ Some by.put.doing = sym none.0 ∙ by.put.does in
+                  (let none = subst (WritesNone c log by.place) (eqb-true g by.put.host of) rests by.put.memory by.put.running in
+                  let looks : by.put.doing.operation ≡ Looking = subst LooksAtMost by.put.does none.0 in
+                  let both : None ≡ Some value = sym (ap input_of looks) ∙ by.put.input in
                   absurd (cc))
             ]
         put_late (Torn g n other_call bytes) found of votes late = votes
@@ -177,6 +180,7 @@ module _ (c : Shape) (log : List Filled) (run : IsRun c log) (some : 1 ≤ c.dis
         put_early (Stop g) found of votes early = absurd votes
         put_early (Submit g other_command n) found of votes early = absurd votes
         put_early (Recover g n) found of votes early = absurd votes
+        put_early (Look g) found of votes early = absurd votes
         put_early (Beat g) found of votes early = absurd votes
         put_early (Mark g slot) found of votes early = absurd votes
         put_early (Called g n other_call other_answer bytes) found of votes early =
@@ -255,7 +259,8 @@ module _ (c : Shape) (log : List Filled) (run : IsRun c log) (some : 1 ≤ c.dis
         absurd (has_value (best s (on heard)).inp (spelling command) (subst (λ (o : Operation). or_else (best s (on heard)).inp (input_of o) ≡ None) is.operation none.none))
     status_so b (Ended (attempt.Outrun mbal)) so serves = absurd serves
     status_so b (Ended attempt.NoMajority) so serves = absurd serves
-    status_so b (Ended attempt.BallotsSpent) so serves = bounded
+    status_so b (Ended attempt.BallotsSpent) so serves =
+        subst (λ (o : Operation). IsServedBy most (calls + 1) (Some (spent_answer o (length m.learned)))) (sym is.operation) bounded
 
     abbrev new : Memory
     new = by_status c m going (taken s (on heard)) (status s (on heard))

@@ -1,13 +1,13 @@
 -- Each entry that may follow is a few moves of the machines.
 use Rattle.std.proofs.Common.{refl, inl, inr}
 use Rattle.slot_log.specs.Shape.{Shape}
-use Rattle.world.specs.Entry.{Filled, Start, Stop, Submit, Recover, Beat, Mark, Called, Torn, Crashed, Lost}
+use Rattle.world.specs.Entry.{Filled, Start, Stop, Submit, Recover, Look, Beat, Mark, Called, Torn, Crashed, Lost}
 use Rattle.world.specs.World.{World, MayFollow}
 use Rattle.world_safety.specs.Goes.{DecidesChosen, Goes}
 use Rattle.world_safety.specs.Tied.{Moves, Tied}
 use Rattle.world_safety.proofs.Moves.Beating.{starts_beat_goes, beat_called_goes, beat_torn_goes}
 use Rattle.world_safety.proofs.Moves.Marking.{starts_marking_goes, mark_called_goes, mark_torn_goes}
-use Rattle.world_safety.proofs.Moves.Operating.{starts_goes, stops_goes, submits_goes, recovers_goes}
+use Rattle.world_safety.proofs.Moves.Operating.{starts_goes, stops_goes, submits_goes, recovers_goes, looks_goes}
 use Rattle.world_safety.proofs.Moves.Due.{busy}
 use Rattle.world_safety.proofs.Moves.Calling.{called_goes, torn_goes, tears}
 use Rattle.world_safety.proofs.Moves.Crashing.{crash_goes, lost_goes}
@@ -20,6 +20,7 @@ module _ (c : Shape) (w : World) (ms : Moves) (tied : Tied c w ms) where
   goes (Stop h) may decides = stops_goes c w ms tied h
   goes (Submit h command tries) may decides = submits_goes c w ms tied h command tries may.1 (w.host h) refl may.0
   goes (Recover h tries) may decides = recovers_goes c w ms tied h tries (w.host h) refl may.0
+  goes (Look h) may decides = looks_goes c w ms tied h (w.host h) refl may
   goes (Beat h) may decides = starts_beat_goes c w ms tied h (w.host h) refl may
   goes (Mark h slot) may decides = starts_marking_goes c w ms tied h slot may.1 (w.host h) refl may.0
   goes (Called h k call answer left) may decides = elim (busy c h k call (w.host h) may.0) [

@@ -14,7 +14,7 @@ use Rattle.slot_log.specs.Shape.{Shape}
 use Rattle.host.specs.declared.answer.HostAnswer.{HostAnswer}
 use Rattle.host.specs.declared.answer.HostAnswer.TheVariants.{Recovered}
 use Rattle.marks.specs.Status as mark
-use Rattle.host.specs.Host.{Marking, marking_of, Operation, Doing, Memory, Host, Stopped, Running, input_of, setup_of, says, begins, full_answer, goes_on}
+use Rattle.host.specs.Host.{Marking, marking_of, Operation, Submitting, Recovering, Looking, Doing, Memory, Host, Stopped, Running, input_of, setup_of, says, begins, full_answer, spent_answer, goes_on}
 use Rattle.world.specs.World.{World}
 use Rattle.agreement.specs.Event.{Event, after, state_after}
 use Rattle.agreement.specs.Event.Event.{Starts, Stops}
@@ -61,6 +61,12 @@ pub marking_kept : (c : Shape) (w w' : World) (g : ℕ) → KeepsMarking c w w' 
 marking_kept c w w' g keeps m below None is = tt
 marking_kept c w w' g keeps m below (Some t) is =
     record { learned = is.learned; fits = is.fits; knows = λ d. keeps (marking_of c g m t.slot) (on t.heard d) d refl is.fits below (is.knows d); votes = is.votes }
+
+-- without a ballot no operation has recovered
+pub spent_recovers : (operation : Operation) (learned n : ℕ) → spent_answer operation learned ≡ Recovered n → ⊥
+spent_recovers (Submitting command) learned n is = absurd (cc)
+spent_recovers Recovering learned n is = absurd (cc)
+spent_recovers Looking learned n is = absurd (cc)
 
 module _ (c : Shape) (w w' : World) (ms ms' : Moves) (g : ℕ) (same : SameHosts ms ms' g) (learned : (slots_after ms').learned g ≡ (slots_after ms).learned g) (keeps : KeepsKnown c w w' ms ms' g) (marking : KeepsMarking c w w' g) where
   doing_kept : (m : Memory) → g < HOSTS → (o : Option Doing) → IsDoing c w ms g m o → IsDoing c w' ms' g m o

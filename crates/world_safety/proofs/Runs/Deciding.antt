@@ -12,7 +12,7 @@ use Rattle.attempt.specs.Standing.{HasBallot, HasProposal}
 use Rattle.attempt.specs.Visits.{visited, are_enough}
 use Rattle.slot_log.specs.Shape.{Shape}
 use Rattle.host.specs.Host.{Doing, Memory, Host, Stopped, Running, setup_of}
-use Rattle.world.specs.Entry.{Filled, Start, Stop, Submit, Recover, Beat, Mark, Called, Torn, Crashed, Lost}
+use Rattle.world.specs.Entry.{Filled, Start, Stop, Submit, Recover, Look, Beat, Mark, Called, Torn, Crashed, Lost}
 use Rattle.world.specs.Chosen.{at, IsChosenAt}
 
 -- either so, or not
@@ -138,6 +138,7 @@ module _ (c : Shape) (log : List Filled) (i : ℕ) where
   entry_tells (Stop h) is = not_called (Stop h) is (λ g k call answer left same. absurd (cc))
   entry_tells (Submit h command tries) is = not_called (Submit h command tries) is (λ g k call answer left same. absurd (cc))
   entry_tells (Recover h tries) is = not_called (Recover h tries) is (λ g k call answer left same. absurd (cc))
+  entry_tells (Look h) is = not_called (Look h) is (λ g k call answer left same. absurd (cc))
   entry_tells (Beat h) is = not_called (Beat h) is (λ g k call answer left same. absurd (cc))
   entry_tells (Mark h slot) is = not_called (Mark h slot) is (λ g k call answer left same. absurd (cc))
   entry_tells (Torn h k call left) is = not_called (Torn h k call left) is (λ g k call answer left same. absurd (cc))

@@ -14,13 +14,14 @@ use Rattle.beats.specs.Status as beat
 use Rattle.slot_log.specs.Shape.{Shape}
 use Rattle.slot_log.specs.declared.outcome.Refusal.TheVariants as refusal
 use Rattle.host.specs.declared.answer.HostAnswer.{HostAnswer}
-use Rattle.host.specs.declared.answer.HostAnswer.TheVariants.{Ack, Recovered, Beaten, Marked, Refused}
-use Rattle.host.specs.Host.{Operation, Submitting, Recovering, Doing, Memory, Host, Stopped, Running, setup_of, says, begins, full_answer, goes_on, with_floor, learns, is_submitted, after_learning, takes, tries_again, by_status, with_heard, goes_by, hears_from, hears_beside, beat_by, beat_of, is_stopped, next_of, said_of, Marking, hears_marking, marking_by, marking_with, marking_of, with_marking}
+use Rattle.host.specs.declared.answer.HostAnswer.TheVariants.{Ack, Recovered, Looked, Beaten, Marked, Refused}
+use Rattle.host.specs.Host.{Operation, Submitting, Recovering, Looking, Doing, Memory, Host, Stopped, Running, setup_of, says, begins, full_answer, spent_answer, goes_on, with_floor, learns, is_submitted, after_learning, takes, tries_again, by_status, with_heard, goes_by, hears_from, hears_beside, beat_by, beat_of, is_stopped, next_of, said_of, Marking, hears_marking, marking_by, marking_with, marking_of, with_marking}
 use Rattle.marks.specs.Status as mark
-use Rattle.world.specs.Entry.{Filled, Start, Stop, Submit, Recover, Beat, Mark, Called, Torn, Crashed, Lost, is_of, started, beats, marks, begins_on, host_step}
+use Rattle.world.specs.Entry.{Filled, Start, Stop, Submit, Recover, Look, Beat, Mark, Called, Torn, Crashed, Lost, is_of, started, beats, marks, begins_on, host_step}
 use Rattle.world.specs.World.{MayFollow, IsRun}
 use Rattle.world.specs.Chosen.{at, Hears, SaysAt}
 use Rattle.world.proofs.Runs.{each}
+use Rattle.world_safety.proofs.Moves.Hosts.{spent_recovers}
 use Rattle.world_safety.proofs.Moves.Due.{Attempts, IsBeatCall, IsMarkCall, busy}
 use Rattle.world_safety.proofs.Runs.Places.{host_next}
 
@@ -39,11 +40,19 @@ went_on c m operation tries said = go (nat_lt (length m.learned) c.slots) refl
 pub full_recovers : (operation : Operation) (learned n : ℕ) → full_answer operation learned ≡ Recovered n → (operation ≡ Recovering) × (learned ≡ n)
 full_recovers (Submitting command) learned n is = absurd (cc)
 full_recovers Recovering learned n is = (refl, cc)
+full_recovers Looking learned n is = absurd (cc)
 
 -- and it acknowledges nothing
 pub full_acks : (operation : Operation) (learned slot : ℕ) (reply : Reply) → full_answer operation learned ≡ Ack slot reply → ⊥
 full_acks (Submitting command) learned slot reply is = absurd (cc)
 full_acks Recovering learned slot reply is = absurd (cc)
+full_acks Looking learned slot reply is = absurd (cc)
+
+-- nor does one without a ballot
+pub spent_acks : (operation : Operation) (learned slot : ℕ) (reply : Reply) → spent_answer operation learned ≡ Ack slot reply → ⊥
+spent_acks (Submitting command) learned slot reply is = absurd (cc)
+spent_acks Recovering learned slot reply is = absurd (cc)
+spent_acks Looking learned slot reply is = absurd (cc)
 
 module _ (c : Shape) (m : Memory) (t : Doing) (b : ℕ) where
   -- an outrun attempt brings neither
@@ -77,7 +86,7 @@ module _ (c : Shape) (m : Memory) (t : Doing) (b : ℕ) where
   status_recovers (Ended attempt.Empty) n is = record { ended = inl refl }
   status_recovers (Ended (attempt.Outrun mbal)) n is = absurd (let no = again (with_floor (with_floor m b) mbal) (Recovered n) is in cc)
   status_recovers (Ended attempt.NoMajority) n is = absurd (cc)
-  status_recovers (Ended attempt.BallotsSpent) n is = absurd (cc)
+  status_recovers (Ended attempt.BallotsSpent) n is = absurd (let same : spent_answer t.operation (length m.learned) ≡ Recovered n = cc in spent_recovers t.operation (length m.learned) n same)
 
   -- an acknowledgement comes with a committed or decided value, for the slot that was tried
   learned_acks : (slot : ℕ) (reply : Reply) (command : Command) (own : Bool) → (after_learning c m t command own).said ≡ Some (Ack slot reply) → length m.learned ≡ slot
@@ -95,7 +104,7 @@ module _ (c : Shape) (m : Memory) (t : Doing) (b : ℕ) where
   status_gives (Ended attempt.Empty) slot reply is = absurd (cc)
   status_gives (Ended (attempt.Outrun mbal)) slot reply is = absurd (let no = again (with_floor (with_floor m b) mbal) (Ack slot reply) is in cc)
   status_gives (Ended attempt.NoMajority) slot reply is = absurd (cc)
-  status_gives (Ended attempt.BallotsSpent) slot reply is = absurd (cc)
+  status_gives (Ended attempt.BallotsSpent) slot reply is = absurd (let same : spent_answer t.operation (length m.learned) ≡ Ack slot reply = cc in spent_acks t.operation (length m.learned) slot reply same)
 
 -- WHAT A BEAT MAKES A HOST SAY
 
@@ -103,6 +112,7 @@ module _ (c : Shape) (m : Memory) (t : Doing) (b : ℕ) where
 abbrev pub IsOfLog : HostAnswer → Type 0
 IsOfLog (Ack slot reply) = Unit {0}
 IsOfLog (Recovered n) = Unit {0}
+IsOfLog (Looked n) = Unit {0}
 IsOfLog (Beaten host) = ⊥
 IsOfLog (Marked count) = ⊥
 IsOfLog (Refused refusal) = ⊥
@@ -115,11 +125,13 @@ beat_says h m heard (beat.Ended (beat.Beaten readings)) (Marked count) of is = o
 beat_says h m heard (beat.Ended (beat.Beaten readings)) (Refused refusal) of is = of
 beat_says h m heard (beat.Ended (beat.Beaten readings)) (Ack slot reply) of is = absurd (cc)
 beat_says h m heard (beat.Ended (beat.Beaten readings)) (Recovered n) of is = absurd (cc)
+beat_says h m heard (beat.Ended (beat.Beaten readings)) (Looked n) of is = absurd (cc)
 beat_says h m heard (beat.Ended beat.NoMajority) (Beaten host) of is = of
 beat_says h m heard (beat.Ended beat.NoMajority) (Marked count) of is = of
 beat_says h m heard (beat.Ended beat.NoMajority) (Refused refusal) of is = of
 beat_says h m heard (beat.Ended beat.NoMajority) (Ack slot reply) of is = absurd (cc)
 beat_says h m heard (beat.Ended beat.NoMajority) (Recovered n) of is = absurd (cc)
+beat_says h m heard (beat.Ended beat.NoMajority) (Looked n) of is = absurd (cc)
 
 -- nor does a host with which one begins
 begins_beat_says : (old : Host) (said : HostAnswer) → said_of (beats old) ≡ Some said → ⊥
@@ -134,16 +146,19 @@ marking_says m t (mark.Ended (mark.Marked count)) (Marked other) of is = of
 marking_says m t (mark.Ended (mark.Marked count)) (Refused refusal) of is = of
 marking_says m t (mark.Ended (mark.Marked count)) (Ack slot reply) of is = absurd (cc)
 marking_says m t (mark.Ended (mark.Marked count)) (Recovered n) of is = absurd (cc)
+marking_says m t (mark.Ended (mark.Marked count)) (Looked n) of is = absurd (cc)
 marking_says m t (mark.Ended mark.NoMajority) (Beaten host) of is = of
 marking_says m t (mark.Ended mark.NoMajority) (Marked count) of is = of
 marking_says m t (mark.Ended mark.NoMajority) (Refused refusal) of is = of
 marking_says m t (mark.Ended mark.NoMajority) (Ack slot reply) of is = absurd (cc)
 marking_says m t (mark.Ended mark.NoMajority) (Recovered n) of is = absurd (cc)
+marking_says m t (mark.Ended mark.NoMajority) (Looked n) of is = absurd (cc)
 
 -- nor does a host that begins one, or is refused
 refused_says : (said : HostAnswer) → IsOfLog said → Refused refusal.NotLearned ≡ said → ⊥
 refused_says (Ack slot reply) of is = absurd (cc)
 refused_says (Recovered n) of is = absurd (cc)
+refused_says (Looked n) of is = absurd (cc)
 refused_says (Beaten host) of is = of
 refused_says (Marked count) of is = of
 refused_says (Refused refusal) of is = of
@@ -162,6 +177,7 @@ begins_marking_says slot (Running m) said of is = by (nat_lt slot (length m.lear
 abbrev pub beginning_of : ℕ → Operation → ℕ → Filled
 beginning_of h (Submitting command) tries = Submit h command tries
 beginning_of h Recovering tries = Recover h tries
+beginning_of h Looking tries = Look h
 
 -- an operation begins, and says this at once, as all slots were learned
 pub record AtItsBeginning (c : Shape) (log : List Filled) (i h : ℕ) (said : HostAnswer) : Type 0 where
@@ -282,6 +298,8 @@ module _ (c : Shape) (log : List Filled) (i h : ℕ) (said : HostAnswer) where
       operated ((at c log i).host h) (Submitting command) tries (by_host (Submit g command tries) (Submit h command tries) entry (ap (λ (j : ℕ). Submit j command tries) (eqb-true g h of))) is
   whence_by log_says (Recover g tries) entry may of now is =
       operated ((at c log i).host h) Recovering tries (by_host (Recover g tries) (Recover h tries) entry (ap (λ (j : ℕ). Recover j tries) (eqb-true g h of))) is
+  whence_by log_says (Look g) entry may of now is =
+      operated ((at c log i).host h) Looking 1 (by_host (Look g) (Look h) entry (ap (λ (j : ℕ). Look j) (eqb-true g h of))) is
   whence_by log_says (Beat g) entry may of now is = absurd (begins_beat_says ((at c log i).host h) said is)
   whence_by log_says (Mark g slot) entry may of now is = absurd (begins_marking_says slot ((at c log i).host h) said log_says is)
   whence_by log_says (Called g k call answer left) entry may of now is =

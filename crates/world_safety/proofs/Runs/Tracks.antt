@@ -13,7 +13,7 @@ use Rattle.lock_command.specs.Command.{spelling}
 use Rattle.slot_log.specs.Shape.{Shape}
 use Rattle.disk.specs.Disk.{Call, Answer}
 use Rattle.attempt.specs.Status.{Ended, Decided, status}
-use Rattle.host.specs.Host.{Doing, Memory, Running, Operation, Submitting, Recovering, input_of, setup_of}
+use Rattle.host.specs.Host.{Doing, Memory, Running, Operation, Submitting, Recovering, Looking, input_of, setup_of}
 use Rattle.world.specs.Entry.{Filled, Called}
 use Rattle.world.specs.World.{World, IsRun}
 use Rattle.world.specs.Chosen.{at, Hears, IsChosenAt, IsSubmittedBefore}
@@ -273,6 +273,7 @@ module _ (c : Shape) (log : List Filled) (run : IsRun c log) where
   input_is : (operation : Operation) (v : List ℕ) → input_of operation ≡ Some v → (command : Command) × (operation ≡ Submitting command) × (v ≡ spelling command)
   input_is (Submitting command) v is = (command, refl, (let same : spelling command ≡ v = cc in sym same))
   input_is Recovering v is = absurd (cc)
+  input_is Looking v is = absurd (cc)
 
   -- what a host puts in was submitted
   put_before : (i j : ℕ) (e : Filled) (v : List ℕ) → IsInputAt c (at c log i) j e v → IsSubmittedBefore log i v
