@@ -1,4 +1,5 @@
 pub mod Firsts
+pub mod Hearing
 pub mod Histories
 pub mod Lists
 pub mod More

@@ -16,9 +16,9 @@ use Rattle.attempt.specs.Standing.{IsIn, HasBallot}
 use Rattle.attempt.specs.Status.{Status, Due, Ended, End, Committed, Decided, Empty, Outrun, NoMajority, BallotsSpent, next_or, promising, balloting, unless_decided, status, taken, taken_by, if_open, is_opened}
 use Rattle.attempt.specs.Visits.{waits, visited, is_left, are_enough}
 use Rattle.attempt.proofs.Firsts.{IsFirst}
-use Rattle.attempt.proofs.Histories.{IsReached, history_reached, visit}
+use Rattle.attempt.proofs.Histories.{IsReached, history_reached, visit, all_counted}
 use Rattle.attempt.proofs.Statuses.{due_is}
-use Rattle.attempt.proofs.Totals.{total_bound, history_total}
+use Rattle.attempt.proofs.Totals.{total_bound}
 use Rattle.attempt.proofs.Visitors.{waiting_is}
 
 -- whether the call of a disk only reads, by its kind
@@ -117,4 +117,4 @@ pub three : (s : Setup) (heard : List Answered) → LAST_BALLOT ≤ s.floor → 
 three s heard high is =
     let reached = history_reached s heard is in
     let here : reached.phase ≡ Opening = in_opening s (on heard) high reached.phase reached.come in
-    omega (arith, history_total s heard is, total_bound s.disks 3 (on heard) (λ e l. subst (λ (p : Phase). length (on heard e) ≤ goal p) here (reached.behind e)))
+    omega (arith, all_counted s heard is, total_bound s.disks 3 (on heard) (λ e l. subst (λ (p : Phase). length (on heard e) ≤ goal p) here (reached.behind e)))

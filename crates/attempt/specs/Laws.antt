@@ -28,10 +28,10 @@ pub record OnMost (s : Setup) (IsSo : ℕ → Type 0) : Type 0 where
 abbrev pub MostAnswerWell : Setup → Answers → Type 0
 MostAnswerWell s f = OnMost s (λ d. AnswersWell s (f d))
 
--- what a later row of a disk says of the other hosts is what the opening's row there said
+-- a later row of a disk shows no other ballot of another host than the opening's row there did: nobody else promised or voted there
 abbrev pub OthersRest : Setup → Answers → Type 0
 OthersRest s f =
-    (p : Phase) (d host : ℕ) (first later : List SeenBlock) → row_in Opening (f d) ≡ Some first → row_in p (f d) ≡ Some later → host ≢ s.host → says_in later host ≡ says_in first host
+    (p : Phase) (d host : ℕ) (first later : List SeenBlock) → row_in Opening (f d) ≡ Some first → row_in p (f d) ≡ Some later → host ≢ s.host → (says_in later host).mbal ≡ (says_in first host).mbal
 
 -- an attempt goes on within seventeen calls a disk, or its proposal is chosen, or it is told what was decided, or it finds
 -- none and has none, or there is no greater ballot; it is not outrun, and does not lack a majority

@@ -1,6 +1,7 @@
 pub mod Answers
 pub mod Calls
 pub mod Chosen
+pub mod Heard
 pub mod History
 pub mod Laws
 pub mod Looking

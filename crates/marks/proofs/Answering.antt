@@ -59,7 +59,7 @@ module _ (f : Answers) (n : Notes) (is : Follows f n) (going : n.end ≡ None) w
   -- the disk was attached
   pub attaches : n.stage ≡ stage.Attaching → (boot : Boot) → Follows (more f n.disk (Booted boot.number)) (record n { boot = boot; stage = stage.Syncing })
   attaches st boot =
-      let x = Booted boot.number in
+      let x : Heard = Booted boot.number in
       let new : Notes = record n { boot = boot; stage = stage.Syncing } in
       follows_of (more f n.disk x) new going (stays f n v x boot stage.Syncing n.steps (ap (λ (a : List Heard). a ++ x ∷ []) (at stage.Attaching st)))
 

@@ -6,33 +6,13 @@ use Rattle.disk.specs.declared.boot.Boot.{Boot}
 use Rattle.torn_block.specs.Plan.{Plan}
 use Rattle.attempt.specs.Answers.{Heard, Answers, more, is_bad}
 use Rattle.attempt.specs.Numbers.{count}
-use Rattle.attempt.proofs.Firsts.{below_none, below_some, count_same}
+use Rattle.attempt.proofs.Firsts.{below_none, below_some, count_same, count_from, count_next}
 use Rattle.attempt.proofs.More.{more_here, more_there}
-use Rattle.attempt.proofs.Visitors.{bad_more}
+use Rattle.attempt.proofs.Lists.{bad_more}
 use Rattle.marks.specs.Status.{Setup, Due, Ended, Marked, NoMajority, status, visited, is_stuck, is_left, is_marked, waits, own_block, calls_on, due_or}
 use Rattle.marks.specs.Kept.{IsPassed, IsVisiting, IsAt, setup_of}
 use Rattle.marks.specs.declared.notes.Notes.{Notes}
 use Rattle.marks.specs.declared.notes.Stage.{Stage}
-
--- COUNTS
-
--- where all from a number on pass, the count is that much more
-count_from : (n from : ℕ) (p : ℕ → Bool) → from ≤ n → ((e : ℕ) → from ≤ e → p e ≡ true) → count n p + from ≡ count from p + n
-count_from zero from p few all = (let same : from ≡ zero = omega arith in subst (λ (k : ℕ). count zero p + k ≡ count k p + zero) (sym same) refl)
-count_from (suc n) from p few all = elim (cases_eq from (suc n)) [
-  | inl same ↦ subst (λ (k : ℕ). count (suc n) p + k ≡ count k p + suc n) (sym same) refl
-  | inr off ↦
-      (let rest = count_from n from p (omega arith) all in
-      let one : ℕ = 1 in
-      let here : cond (p n) 1 0 ≡ one = ap (λ (b : Bool). cond b 1 0) (all n (omega arith)) in
-      omega (arith, rest, here))
-]
-
--- and one more by the next number, if it passes
-count_next : (n : ℕ) (p : ℕ → Bool) (b : Bool) → p n ≡ b → count (n + 1) p ≡ count n p + cond b 1 0
-count_next n p b is =
-    let more : n + 1 ≡ suc n = omega arith in
-    ap (λ (k : ℕ). count k p) more ∙ ap (λ (t : Bool). count n p + cond t 1 0) is
 
 -- A DISK THAT IS DROPPED
 

@@ -1,6 +1,6 @@
 -- A history of a marking by its last answer: nine calls a disk, and the call that is due.
 use Rattle.std.specs.Prelude.{nat_lt, option_map, if◌then◌else◌}
-use Rattle.std.proofs.Common.{ℕ, zero, suc, ◌+◌, ◌*◌, ◌<◌, ◌≤◌, ◌≡◌, Bool, true, false, Option, Some, None, List, [], ◌∷◌, ◌++◌, length, refl, sym, subst, ap, ◌∙◌, append-nil, append_assoc, arith, length-append}
+use Rattle.std.proofs.Common.{ℕ, ◌*◌, ◌<◌, ◌≤◌, ◌≡◌, Bool, true, false, Option, Some, None, List, [], length, refl, sym, ap, ◌∙◌, arith}
 use Rattle.std.proofs.lemmas.Bool.{and_parts, ltb-true, lt-ltb}
 use Rattle.disk.specs.Disk as device
 use Rattle.attempt.specs.Calls.{Kind, seventeen}
@@ -8,11 +8,11 @@ use Rattle.attempt.specs.Answers.{Answered, Answers, on}
 use Rattle.attempt.specs.History.{IsAnswerTo}
 use Rattle.attempt.specs.NextCall.{with_disk}
 use Rattle.attempt.specs.Numbers.{count}
-use Rattle.attempt.proofs.Firsts.{some_below, below_some}
+use Rattle.attempt.proofs.Firsts.{some_below, below_some, count_all}
+use Rattle.attempt.proofs.Hearing.{of_disk}
 use Rattle.attempt.proofs.Moments.{get_some}
-use Rattle.attempt.proofs.More.{by_disk, on_more}
-use Rattle.attempt.proofs.Totals.{total, total_more, total_none, total_bound, total_below}
-use Rattle.marks.specs.History.{IsHistoryFrom, IsHistory}
+use Rattle.attempt.proofs.Totals.{total, total_bound, total_below, history_total, history_each}
+use Rattle.marks.specs.History.{IsHistory}
 use Rattle.marks.specs.Status.{Setup, End, Marked, NoMajority, Status, Due, Ended, status, visited, are_enough, waits, is_left, is_marked, is_to_mark, calls_on, due_or, call_on, call_by, next_in, next_call}
 
 -- THE CALL THAT IS DUE
@@ -48,77 +48,36 @@ has_call s f d due =
     (call_by s (f d) kind.0, ap (next_in s f) due ∙ ap (λ (o : Option Kind). with_disk d (option_map (call_by s (f d)) o)) kind.1)
 
 -- an answer to the call that is due is of its disk
-with_disk_is : (d : ℕ) (call : Option device.Call) (x : Answered) → IsAnswerTo (with_disk d call) x → x.disk ≡ d
-with_disk_is d None x answers = absurd answers
-with_disk_is d (Some call) x answers = answers.0
-
 answered_by : (s : Setup) (f : Answers) (st : Status) (x : Answered) → IsAnswerTo (next_in s f st) x → st ≡ Due x.disk
-answered_by s f (Due d) x answers = ap Due (sym (with_disk_is d (call_on s (f d)) x answers))
+answered_by s f (Due d) x answers = ap Due (sym (of_disk d (call_on s (f d)) x answers))
 answered_by s f (Ended end) x answers = absurd answers
 
 answer_due : (s : Setup) (f : Answers) (x : Answered) → IsAnswerTo (next_call s f) x → IsDue s f x.disk
 answer_due s f x answers = due_is s f x.disk (answered_by s f (status s f) x answers)
 
 -- it is so at the start
-all_count : (n : ℕ) → count n (λ d. true) ≡ n
-all_count zero = refl
-all_count (suc n) = let before : count n (λ d. true) ≡ n = all_count n in omega arith
-
 enough_by : (b : Bool) → b ≡ true → (o : Option ℕ) → o ≡ Some 0 → (rest : End) → (if b then due_or o (Ended rest) else Ended NoMajority) ≡ Due 0
 enough_by b enough o first rest = rw (enough, first) refl
 
 pub starts : (s : Setup) → 1 ≤ s.disks → status s (on []) ≡ Due 0
 starts s some =
-    enough_by (are_enough s (on [])) (lt-ltb s.disks (2 * count s.disks (λ d. true)) (let all = all_count s.disks in omega arith))
+    enough_by (are_enough s (on [])) (lt-ltb s.disks (2 * count s.disks (λ d. true)) (let all = count_all s.disks in omega arith))
     (visited s (on [])) (below_some s.disks (λ d. true) 0 (record { below = omega arith; passes = refl; none = λ e l. absurd (omega arith) }))
     (Marked (count s.disks (λ e. is_marked s [])))
-
--- BY THE LAST ANSWER
-
-module _ (s : Setup) where
-  from_front : (before xs : List Answered) (x : Answered) → IsHistoryFrom s before xs → IsAnswerTo (next_call s (on (before ++ xs))) x → IsHistoryFrom s before (xs ++ x ∷ [])
-  from_front before [] x is answers = (subst (λ (l : List Answered). IsAnswerTo (next_call s (on l)) x) (append-nil before) answers, tt)
-  from_front before (y ∷ xs) x is answers =
-      (is.0, from_front (before ++ y ∷ []) xs x is.1 (subst (λ (l : List Answered). IsAnswerTo (next_call s (on l)) x) (sym (append_assoc before (y ∷ []) xs)) answers))
-
-  -- a history with an answer to the call due is one
-  pub history_more : (xs : List Answered) (x : Answered) → IsHistory s xs → IsAnswerTo (next_call s (on xs)) x → IsHistory s (xs ++ x ∷ [])
-  history_more xs x is answers = from_front [] xs x is answers
-
-  module _ (P : List Answered → Type 0) (next : (xs : List Answered) (x : Answered) → P xs → IsAnswerTo (next_call s (on xs)) x → P (xs ++ x ∷ [])) where
-    by_front : (before xs : List Answered) → P before → IsHistoryFrom s before xs → P (before ++ xs)
-    by_front before [] holds is = subst P (sym (append-nil before)) holds
-    by_front before (x ∷ xs) holds is = subst P (append_assoc before (x ∷ []) xs) (by_front (before ++ x ∷ []) xs (next before x holds is.0) is.1)
-
-    -- what holds at the start, and with each answer to the call due, holds of every history
-    by_history : P [] → (heard : List Answered) → IsHistory s heard → P heard
-    by_history none heard is = by_front [] heard none is
 
 -- HOW MANY
 
 module _ (s : Setup) where
-  -- no disk has given more than nine, and none but the cluster's has given any
-  record IsCounted (heard : List Answered) : Type 0 where
-    pub each : (e : ℕ) → length (on heard e) ≤ 9
-    pub all : length heard ≡ total s.disks (on heard)
+  total_is : (heard : List Answered) → IsHistory s heard → length heard ≡ total s.disks (on heard)
+  total_is heard is = history_total (next_call s) s.disks (λ xs x answers. (answer_due s (on xs) x answers).below) heard is
 
-  counted_next : (xs : List Answered) (x : Answered) → IsCounted xs → IsAnswerTo (next_call s (on xs)) x → IsCounted (xs ++ x ∷ [])
-  counted_next xs x before answers =
-      let due = answer_due s (on xs) x answers in
-      record {
-        each = subst (λ (f : Answers). (e : ℕ) → length (f e) ≤ 9) (sym (on_more xs x))
-            (by_disk (on xs) x.disk x.heard (λ e a. length a ≤ 9) (omega (arith, length-append (on xs x.disk) (x.heard ∷ []), due.short)) (λ e off. before.each e));
-        all = length-append xs (x ∷ []) ∙ ap (λ (k : ℕ). k + 1) before.all ∙ sym (total_more s.disks (on xs) x.disk x.heard due.below) ∙ ap (total s.disks) (sym (on_more xs x));
-      }
-
-  counted : (heard : List Answered) → IsHistory s heard → IsCounted heard
-  counted heard is = by_history s IsCounted counted_next (record { each = λ e. omega arith; all = sym (total_none s.disks) }) heard is
+  each_is : (heard : List Answered) → IsHistory s heard → (e : ℕ) → length (on heard e) ≤ 9
+  each_is heard is = history_each (next_call s) 9 (λ xs x answers. (answer_due s (on xs) x answers).short) heard is
 
   pub bound : (heard : List Answered) → IsHistory s heard → length heard ≤ 9 * s.disks
-  bound heard is = let c = counted heard is in omega (arith, total_bound s.disks 9 (on heard) (λ e l. c.each e), c.all)
+  bound heard is = omega (arith, total_bound s.disks 9 (on heard) (λ e l. each_is heard is e), total_is heard is)
 
   pub going : (heard : List Answered) (d : ℕ) → IsHistory s heard → status s (on heard) ≡ Due d → length heard < 9 * s.disks
   going heard d is due =
-      let c = counted heard is in
       let here = due_is s (on heard) d due in
-      omega (arith, total_below s.disks 9 (on heard) d (λ e l. c.each e) here.below here.short, c.all)
+      omega (arith, total_below s.disks 9 (on heard) d (λ e l. each_is heard is e) here.below here.short, total_is heard is)

@@ -15,10 +15,10 @@ use Rattle.attempt.specs.Status.{Due, status, is_opened, taken, taken_by, if_ope
 use Rattle.attempt.specs.Standing.{IsIn, NotOutrun}
 use Rattle.attempt.specs.NextCall.{says_for, some_value}
 use Rattle.attempt.proofs.Firsts.{IsFirst, some_below, below_some, count_same}
-use Rattle.attempt.proofs.Lists.{length_more, last_more, boot_more, row_last, row_none, row_same}
+use Rattle.attempt.proofs.Lists.{bad_more, length_more, last_more, boot_more, row_last, row_none, row_same}
 use Rattle.attempt.proofs.More.{more_here, more_there, by_disk}
 use Rattle.attempt.proofs.Rows.{AreSameRows, highest_same, ballot_same, own_same, best_same, decided_same, proposal_same, others_same, opened_same, rows_stay, rows_kept}
-use Rattle.attempt.proofs.Visitors.{part_if, part_more, bad_more, bad_part, IsWaiting, waiting_is, waiting_if, waits_over, not_stuck, visited_kept}
+use Rattle.attempt.proofs.Visitors.{part_if, part_more, bad_part, IsWaiting, waiting_is, waiting_if, waits_over, not_stuck, visited_kept}
 use Rattle.attempt.proofs.Statuses as statuses
 use Rattle.phases.specs.declared.phase.Phase as code_phase
 use Rattle.phases.specs.declared.phase.Stage.{Stage}

@@ -7,11 +7,12 @@ use Rattle.std.proofs.lemmas.Bool.{eqb-true, cases_Bool}
 use Rattle.disk.specs.Disk.{Call, Answer}
 use Rattle.beats.specs.Answers.{Answered, on, heard_as}
 use Rattle.beats.specs.History.{Fits, IsAnswerTo, IsHistory}
-use Rattle.beats.specs.Status.{Setup, Status, Due, Ended, Beaten, NoMajority, status}
+use Rattle.beats.specs.Status.{Setup, Status, Due, Ended, Beaten, NoMajority, status, next_call}
 use Rattle.attempt.specs.Answers as attempt
 use Rattle.marks.specs.Status as mark
 use Rattle.beats.proofs.Histories as histories
-use Rattle.beats.proofs.Histories.{fits_too, history_more, starts}
+use Rattle.attempt.proofs.Hearing.{history_more}
+use Rattle.beats.proofs.Histories.{fits_too, starts}
 use Rattle.slot_log.specs.Shape.{Shape}
 use Rattle.host.specs.Host.{Operation, Submitting, Recovering, Looking, Doing, Memory, Host, Stopped, Running, Marking, hears_from, hears_beside, hears_beat, hears_marking, marking_by, marking_with, marking_of, with_marking, starts_marking, beat_by, beat_of, is_idle, is_idle_in, next_beside, next_marking, next_doing, next_of}
 use Rattle.host.proofs.Hosts.{beats-goes_on, beats_heard}
@@ -78,7 +79,7 @@ module _ (c : Shape) (h : ℕ) where
       let s = beat_of c h in
       let x : Answered = record { disk = k; heard = heard_as answer } in
       goes m (heard ++ x ∷ []) (status s (on (heard ++ x ∷ []))) refl
-      (history_more s heard x is.history (subst (λ (o : Option (ℕ × Call)). IsAnswerTo o x) (sym next) (refl, fits)))
+      (history_more (next_call s) heard x is.history (subst (λ (o : Option (ℕ × Call)). IsAnswerTo o x) (sym next) (refl, fits)))
 
   heard_from : (m : Memory) (o : Option Doing) → m.doing ≡ o → (k : ℕ) (call : Call) (answer : Answer) → next_doing c h m o ≡ Some (k, call) → Fits call (heard_as answer) → IsBeating m.beats.heard → IsHeard (Running (hears_from c h m o k answer))
   heard_from m None none k call answer next fits is = beat_heard m m.beats.heard refl k call answer next fits is

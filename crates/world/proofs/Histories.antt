@@ -13,7 +13,8 @@ use Rattle.attempt.specs.Chosen.{accepts_in, accepts, Chooses}
 use Rattle.attempt.specs.Visits.{waits, visited, is_left}
 use Rattle.attempt.specs.Proposal.{ballot, others_top, others_mbal}
 use Rattle.attempt.specs.Calls.{Phase, Opening, One, Two, goal, seventeen}
-use Rattle.attempt.proofs.Replies.{history_more, next_is}
+use Rattle.attempt.proofs.Hearing.{history_more}
+use Rattle.attempt.proofs.Replies.{next_is}
 use Rattle.attempt.specs.Numbers.{count}
 use Rattle.attempt.specs.NextCall.{call_by, next_call}
 use Rattle.attempt.proofs.Firsts.{below_some}
@@ -180,7 +181,7 @@ module _ (c : Shape) (h : ℕ) where
   heard_more : (m : Memory) (t : Doing) (x : Answered) → IsUnderWay (setup_of c h m t.operation) t.heard → IsAnswerTo (next_doing c h m (Some t)) x → IsHeard (Running (hears c h m (Some t) x))
   heard_more m t x is answers =
       let s = setup_of c h m t.operation in
-      goes m (with_heard t x) (taken s (on (t.heard ++ x ∷ []))) (status s (on (t.heard ++ x ∷ []))) refl (history_more s t.heard x is.history answers)
+      goes m (with_heard t x) (taken s (on (t.heard ++ x ∷ []))) (status s (on (t.heard ++ x ∷ []))) refl (history_more (next_call s) t.heard x is.history answers)
 
   heard_from : (m : Memory) (o : Option Doing) → m.doing ≡ o → (k : ℕ) (call : Call) (answer : Answer) → next_doing c h m o ≡ Some (k, call) → Fits call (heard_as answer) → IsHeardIn m o → IsHeard (Running (hears_from c h m o k answer))
   heard_from m None none k call answer next fits is = beside_heard m m.beats.heard k answer none
@@ -259,7 +260,7 @@ module _ (c : Shape) (log : List Filled) (i : ℕ) (s : Setup) (heard : List Ans
       let before = history c (take i log) hears.host hears.memory hears.doing (beginning c log i run) hears.running hears.does in
       let t = hears.doing in
       let x : Answered = record { disk = hears.disk; heard = heard_as hears.answer } in
-      let more = history_more (setup_of c hears.host hears.memory t.operation) t.heard x before answered in
+      let more = history_more (next_call (setup_of c hears.host hears.memory t.operation)) t.heard x before answered in
       subst (λ (xs : List Answered). IsHistory s xs) (sym hears.is_heard) (subst (λ (r : Setup). IsHistory r (t.heard ++ x ∷ [])) (sym hears.is_setup) more)
 
 -- WHAT IS COMMITTED

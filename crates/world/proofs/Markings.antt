@@ -8,9 +8,10 @@ use Rattle.attempt.specs.History.{Fits, IsAnswerTo}
 use Rattle.beats.specs.Answers as beat_answers
 use Rattle.beats.specs.Status as beat
 use Rattle.marks.specs.History.{IsHistory}
-use Rattle.marks.specs.Status.{Setup, Status, Due, Ended, Marked, NoMajority, status}
+use Rattle.marks.specs.Status.{Setup, Status, Due, Ended, Marked, NoMajority, status, next_call}
 use Rattle.marks.proofs.Histories as histories
-use Rattle.marks.proofs.Histories.{history_more, starts}
+use Rattle.marks.proofs.Histories.{starts}
+use Rattle.attempt.proofs.Hearing.{history_more}
 use Rattle.slot_log.specs.Shape.{Shape}
 use Rattle.slot_log.specs.declared.outcome.Refusal.TheVariants as refusal
 use Rattle.host.specs.declared.answer.HostAnswer.TheVariants.{Refused}
@@ -81,7 +82,7 @@ module _ (c : Shape) (h : ℕ) where
       let x : Answered = record { disk = k; heard = heard_as answer } in
       let s = marking_of c h m t.slot in
       goes m (marking_with t x) (status s (on (marking_with t x).heard)) refl
-      (history_more s t.heard x is.history (subst (λ (o : Option (ℕ × Call)). IsAnswerTo o x) (sym next) (refl, fits)))
+      (history_more (next_call s) t.heard x is.history (subst (λ (o : Option (ℕ × Call)). IsAnswerTo o x) (sym next) (refl, fits)))
 
   -- a beat leaves it as it was
   beat_stays : (m : Memory) (heard : List beat_answers.Answered) (st : beat.Status) (o : Option Marking) → m.marking ≡ o → m.doing ≡ None → IsMarking m o → IsHeard (Running (beat_by h m heard st))

@@ -17,15 +17,15 @@ abbrev pub LooksAtMost : Option Doing → Type 0
 LooksAtMost None = Unit {0}
 LooksAtMost (Some t) = t.operation ≡ Looking
 
--- before entry k the host tries no slot but to look, and marks none, so that a call that it makes there is one of a beat, or only reads
-abbrev pub WritesNone : Shape → List Filled → (k host : ℕ) → Type 0
-WritesNone c log k host = (m : Memory) → (at c log k).host host ≡ Running m → LooksAtMost m.doing × (m.marking ≡ None)
+-- before entry k the host tries no slot but to look, so that a call that it makes there is one of a beat or of a marking, or only reads
+abbrev pub TriesNone : Shape → List Filled → (k host : ℕ) → Type 0
+TriesNone c log k host = (m : Memory) → (at c log k).host host ≡ Running m → LooksAtMost m.doing
 
--- Behind entry i and before entry j no other host makes a call of an attempt that may write or of a marking, and none is stopped within a write of one; this host makes calls alone.
--- Others may start, stop, begin operations, look and beat meanwhile, and disks may crash and be lost.
+-- Behind entry i and before entry j no other host makes a call of an attempt that may write, and none is stopped within a write of one; this host makes calls alone.
+-- Others may start, stop, begin operations, look, mark and beat meanwhile, and disks may crash and be lost.
 pub record IsAlone (c : Shape) (log : List Filled) (i j host : ℕ) : Type 0 where
-  pub calls : (k g d : ℕ) (call : Call) (answer : Answer) (left : List ℕ) → i < k → k < j → slice_get log k ≡ Some (Called g d call answer left) → (g ≡ host) ⊎ WritesNone c log k g
-  pub tears : (k g d : ℕ) (call : Call) (left : List ℕ) → i < k → k < j → slice_get log k ≡ Some (Torn g d call left) → WritesNone c log k g
+  pub calls : (k g d : ℕ) (call : Call) (answer : Answer) (left : List ℕ) → i < k → k < j → slice_get log k ≡ Some (Called g d call answer left) → (g ≡ host) ⊎ TriesNone c log k g
+  pub tears : (k g d : ℕ) (call : Call) (left : List ℕ) → i < k → k < j → slice_get log k ≡ Some (Torn g d call left) → TriesNone c log k g
   pub goes_on : (k : ℕ) (e : Filled) → i < k → k < j → slice_get log k ≡ Some e → is_of host e ≡ true → IsCallOf host e
 
 -- The disk gave no fault and no damaged row; and in no phase that the attempt came to was a write due there to a spent block.

@@ -49,7 +49,7 @@ use Rattle.world_safety.proofs.Blocks.Keeping.{Spares}
 use Rattle.world_safety.proofs.Blocks.Owned.{not_bad, read_leaves, sync_rests}
 use Rattle.world_safety.proofs.Blocks.Owning.{boot_kept, booted_is, boot_at_most, row_told, done_is, under_is, number_fits}
 use Rattle.world_safety.proofs.Blocks.Standing.{stands_by}
-use Rattle.world_safety.proofs.Blocks.Values.{Adds, all_say_by, all_say_added, put_adds}
+use Rattle.world_safety.proofs.Blocks.Values.{Adds, ReadsOn, all_say_by, all_say_added, bytes_left, put_adds, put_reads}
 
 -- the write lies on the disk
 pub mark_placed : (slots : ℕ) (s : mark.Setup) (a : List Heard) (disk : DiskState) → IsImage slots disk → s.slot < slots → s.host < HOSTS → CanWrite s.host (with_mark (own_block s a).says) (write_on s a) → IsPlaced (write_on s a) disk
@@ -121,11 +121,16 @@ IsMarkedWith s disk says = says.mark ≡ true → MaySayOn (marked_place s) disk
 said_before : (s : mark.Setup) (disk : DiskState) → AllSay (IsMarkedWith s disk) (marked_place s) disk
 said_before s disk bytes left marked = inl (bytes, left, refl)
 
--- what holds behind it
+-- the mbal that a block now says
+abbrev pub promised : ℕ → DiskState → ℕ
+promised place disk = (says_of (value_of (block_in place disk.bytes))).mbal
+
+-- what holds behind it: no other ballot is promised
 pub record AfterMark (s : mark.Setup) (a : List Heard) (disk new : DiskState) (cell : Cell (List ℕ)) : Type 0 where
   pub stands : Stands new s.slot s.host cell
   pub knows : KnowsMark new s a
   pub marks : AllSay (IsMarkedWith s disk) (marked_place s) new
+  pub promises : promised (marked_place s) new ≡ promised (marked_place s) disk
 
 value_is : (o : Option (List ℕ)) (value : List ℕ) → is_value o value ≡ true → o ≡ Some value
 value_is None value is = absurd (cc)
@@ -190,12 +195,13 @@ module _ (slots : ℕ) (s : mark.Setup) (a : List Heard) (kind : Kind) (disk new
   knows_none bad = knows_by (λ current. absurd (true≢false (sym bad ∙ good_by current.good)))
 
   -- a call that writes nothing
-  calm : Outcomes disk place new → KnowsMark new s b → AfterMark s b disk new cell
-  calm o known =
+  calm : new.bytes ≡ disk.bytes → Outcomes disk place new → KnowsMark new s b → AfterMark s b disk new cell
+  calm bytes o known =
       record {
         stands = stands_by disk new s.slot s.host cell o stands;
         knows = known;
         marks = all_say_by (IsMarkedWith s disk) place disk new o (said_before s disk);
+        promises = ap (λ (l : List ℕ). (says_of (value_of (block_in place l))).mbal) bytes;
       }
 
   -- THE OPENING CALLS
@@ -208,12 +214,12 @@ module _ (slots : ℕ) (s : mark.Setup) (a : List Heard) (kind : Kind) (disk new
 
   attached : kind ≡ Attaching → AfterMark s b disk new cell
   attached same =
-      calm (calm_outcomes disk new place Attach answer tt (step_as Attaching same))
+      calm (bytes_left disk new Attach answer tt (step_as Attaching same)) (calm_outcomes disk new place Attach answer tt (step_as Attaching same))
       (knows_by (λ current next at. subst (λ (k : Kind). KnowsMarkFor k new s b) (sym (then_as Attaching next same at)) tt))
 
   synced : kind ≡ Syncing → AfterMark s b disk new cell
   synced same =
-      calm (calm_outcomes disk new place (Sync (boot_of a)) answer tt (step_as Syncing same))
+      calm (bytes_left disk new (Sync (boot_of a)) answer tt (step_as Syncing same)) (calm_outcomes disk new place (Sync (boot_of a)) answer tt (step_as Syncing same))
       (knows_by (λ current next at. subst (λ (k : Kind). KnowsMarkFor k new s b) (sym (then_as Syncing next same at))
       (sync_rests place disk new (boot_of a) answer (step_as Syncing same) (good_by current.good))))
 
@@ -246,7 +252,7 @@ module _ (slots : ℕ) (s : mark.Setup) (a : List Heard) (kind : Kind) (disk new
 
   is_read : kind ≡ Reading → AfterMark s b disk new cell
   is_read same =
-      calm (calm_outcomes disk new place (call_by s a Reading) answer tt (step_as Reading same))
+      calm (bytes_left disk new (call_by s a Reading) answer tt (step_as Reading same)) (calm_outcomes disk new place (call_by s a Reading) answer tt (step_as Reading same))
       (knows_by (λ current next at.
       (let row = reading_tells (boot_of a) (row_place s.slot) ROW_LENGTH x (fits_as Reading same) (good_by current.good) in
       let rests : IsAtRest place disk = subst (λ (k : Kind). KnowsMarkFor k disk s a) same (knows.next (current_before (λ e. absurd (let no : Reading ≡ Attaching = sym same ∙ e in cc)) current) kind is) in
@@ -344,13 +350,26 @@ module _ (slots : ℕ) (s : mark.Setup) (a : List Heard) (kind : Kind) (disk new
       marks_by : Adds (old_value w) (new_value w) place disk new → AllSay (IsMarkedWith s disk) place new
       marks_by added = all_say_added (IsMarkedWith s disk) (old_value w) (new_value w) place disk new added (λ before marked. inr (ap (λ (q : PBlock). q.inp) new_says ∙ inp_is)) (said_before s disk)
 
-      after_by : Adds (old_value w) (new_value w) place disk new → IsSoundAt s.host place new → KnowsMark new s b → AfterMark s b disk new cell
-      after_by added sound known = record { stands = record { reads = reads_by added; sound = sound }; knows = known; marks = marks_by added }
+      -- both values have one mbal
+      promises_by : ReadsOn w disk placed (boot_of a) new placed_then → promised place new ≡ promised place disk
+      promises_by reads = elim reads [
+        | inl same ↦ ap (λ (v : Value). (says_of v).mbal) same
+        | inr both ↦ ap (λ (v : Value). (says_of v).mbal) both.0 ∙ ap (λ (q : PBlock). q.mbal) new_says ∙ sym (ap (λ (q : PBlock). q.mbal) it.old) ∙ sym (ap (λ (v : Value). (says_of v).mbal) both.1)
+      ]
+
+      after_by : (answer' : Answer) → answer ≡ answer' → IsSoundAt s.host place new → KnowsMark new s b → AfterMark s b disk new cell
+      after_by answer' e sound known =
+          record {
+            stands = record { reads = reads_by (adds answer' e); sound = sound };
+            knows = known;
+            marks = marks_by (adds answer' e);
+            promises = promises_by (put_reads w disk placed (boot_of a) new placed_then call answer' it.due (go answer' e));
+          }
 
       -- a call that failed
       failed : answer ≡ Fault Failed → AfterMark s b disk new cell
       failed e =
-          after_by (adds (Fault Failed) e) (sound_when_failed s.host w (with_mark (own_block s a).says) disk placed it.can.is_write call (boot_of a) new it.due (go (Fault Failed) e).2)
+          after_by (Fault Failed) e (sound_when_failed s.host w (with_mark (own_block s a).says) disk placed it.can.is_write call (boot_of a) new it.due (go (Fault Failed) e).2)
           (knows_none (ap (λ (q : Answer). is_bad (heard_as q)) e))
 
       -- with success, but for the sixth
@@ -358,14 +377,14 @@ module _ (slots : ℕ) (s : mark.Setup) (a : List Heard) (kind : Kind) (disk new
           → answer ≡ Done → AfterMark s b disk new cell
       went p next behind same leads turn knows_it e =
           let due : IsDue next w new = leads (done_leads_on w disk placed call (boot_of a) new it.due (go Done e)) in
-          after_by (adds Done e) (sound_while_due s.host w (with_mark (own_block s a).says) new placed_then it.can.is_write next due)
+          after_by Done e (sound_while_due s.host w (with_mark (own_block s a).says) new placed_then it.can.is_write next due)
           (knows_by (λ current k at. subst (λ (q : Kind). KnowsMarkFor q new s b) (sym (turn k (then_as (Putting p call) k same at)))
           (knows_it (goes_on p behind next (record { due = due; can = it.can; old = it.old })))))
 
       -- and the sixth
       marked : (p : Phase) → kind ≡ Putting p SyncOpened → answer ≡ Done → Step disk (Sync (boot_of a)) Done new → AfterMark s b disk new cell
       marked p same e step' =
-          calm (calm_outcomes disk new place (Sync (boot_of a)) Done tt step')
+          calm (bytes_left disk new (Sync (boot_of a)) Done tt step') (calm_outcomes disk new place (Sync (boot_of a)) Done tt step')
           (knows_by (λ current k at. subst (λ (q : Kind). KnowsMarkFor q new s b) (sym (then_as (Putting p SyncOpened) k same at)) (known_synced place disk new (boot_of a) step').0))
 
     -- its calls come behind the read
@@ -402,8 +421,8 @@ module _ (slots : ℕ) (s : mark.Setup) (a : List Heard) (kind : Kind) (disk new
         by (Booted number) e = absurd (let step' = go (Booted number) e in let one = step'.2.0 in let two = done_is call w (boot_of a) disk in cc)
         by (Told bytes) e = absurd (let step' = go (Told bytes) e in let one = step'.2.0 in let two = done_is call w (boot_of a) disk in cc)
         by Done e = done (it_is p call same (go Done e).1) e go
-        by (Fault Reset) e = calm (same_outcomes disk new place (go (Fault Reset) e).2) (knows_none (ap (λ (q : Answer). is_bad (heard_as q)) e))
-        by (Fault Gone) e = calm (same_outcomes disk new place (go (Fault Gone) e).1) (knows_none (ap (λ (q : Answer). is_bad (heard_as q)) e))
+        by (Fault Reset) e = calm (ap (λ (d : DiskState). d.bytes) (go (Fault Reset) e).2) (same_outcomes disk new place (go (Fault Reset) e).2) (knows_none (ap (λ (q : Answer). is_bad (heard_as q)) e))
+        by (Fault Gone) e = calm (ap (λ (d : DiskState). d.bytes) (go (Fault Gone) e).1) (same_outcomes disk new place (go (Fault Gone) e).1) (knows_none (ap (λ (q : Answer). is_bad (heard_as q)) e))
         by (Fault Failed) e = failed call (it_is p call same (go (Fault Failed) e).1) go e
 
     called : (p : Phase) (call : WriteCall) → kind ≡ Putting p call → AfterMark s b disk new cell

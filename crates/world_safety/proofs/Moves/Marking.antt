@@ -50,7 +50,7 @@ use Rattle.world_safety.specs.Marks.{AllSay, MaySayOn, HasLearned, KeepsMarks}
 use Rattle.world_safety.specs.Next.{next_world}
 use Rattle.world_safety.specs.Tied.{Moves, machine, IsDoing, IsRunning, HostAt, TiedBut, Tied}
 use Rattle.world_safety.proofs.Blocks.Keeping.{Spares, spares_others, spares_same}
-use Rattle.world_safety.proofs.Blocks.Marked.{AfterMark, mark_after}
+use Rattle.world_safety.proofs.Blocks.Marked.{AfterMark, promised, mark_after}
 use Rattle.world_safety.proofs.Moves.Beating.{hears_none, quiet_goes}
 use Rattle.world_safety.proofs.Moves.Due.{IsMarkCall}
 use Rattle.world_safety.proofs.Moves.Hosts.{tied_but, tied_with, but_stops, stops_learned, same_host}
@@ -324,6 +324,14 @@ module _ (c : Shape) (w : World) (ms : Moves) (tied : Tied c w ms) where
           to_mark = to_mark s a call due;
           unspent = unspent s a call due;
         })
+
+    -- it is within the host's block of a slot
+    pub mark_inside : (t.slot < c.slots) × IsWithin (VoteOf t.slot h) call
+    mark_inside = (marking.fits, subst (IsWithin (VoteOf t.slot h)) (sym due.call_is) inside)
+
+    -- and promises no other ballot there
+    pub promises : promised (place_of (VoteOf t.slot h)) new ≡ promised (place_of (VoteOf t.slot h)) (w.disk k)
+    promises = behind.promises
 
     at_disk : (P : ℕ → DiskState → Type 0) → P k new → ((d : ℕ) → d ≢ k → P d (w.disk d)) → (d : ℕ) → P d (disks d)
     at_disk P here there d = by_eq (λ b. P d (cond b (disk_step (w.disk d) e) (w.disk d))) k d

@@ -7,7 +7,8 @@ use Rattle.marks.specs.Status.{Setup, next_call}
 use Rattle.marks.specs.declared.notes.Notes.{Notes}
 use Rattle.marks.specs.Kept.{LeadsTo, Follows, answer_of, call_due}
 use Rattle.marks.proofs.Answering.{call_is}
-use Rattle.marks.proofs.Histories.{bound, history_more}
+use Rattle.attempt.proofs.Hearing.{history_more}
+use Rattle.marks.proofs.Histories.{bound}
 use Rattle.attempt.proofs.More.{on_more}
 use Rattle.marks.proofs.one_marking.Marking.hear.Goals as goal
 
@@ -23,7 +24,7 @@ returns-clause-leads c s answers leads =
     subst (λ (m : Notes). LeadsTo s (answers ++ answer_of m c.args.heard.now ∷ []) c.hear.new.self) c.self.view_is
     (record {
       of = c.hear.ensures.same ∙ before.of;
-      history = history_more s answers x before.history (subst (λ (o : Option (ℕ × device.Call)). IsAnswerTo o x) (sym next) answered);
+      history = history_more (next_call s) answers x before.history (subst (λ (o : Option (ℕ × device.Call)). IsAnswerTo o x) (sym next) answered);
       follows = subst (λ (g : Answers). Follows g c.hear.new.self) (sym (on_more answers x)) (c.hear.ensures.follows (on answers) before.follows);
     })
 
