@@ -8,7 +8,7 @@ use Rattle.std.proofs.lemmas.Grind.{flat_map-append}
 use Rattle.torn_block.specs.declared.layout.TheConstants.{DISKS, SLOTS}
 use Rattle.slot_log.specs.Shape.{Shape}
 use Rattle.lock_script.specs.declared.event.Event.{Event}
-use Rattle.lock_script.specs.declared.event.Event.TheVariants.{Start, Stop, Submit, Recover, Beat, Mark, Step, Tear, FailCall, DiskCrash, DiskGone}
+use Rattle.lock_script.specs.declared.event.Event.TheVariants.{Start, Stop, Submit, Recover, Look, Beat, Mark, Step, Tear, FailCall, DiskCrash, DiskGone}
 use Rattle.lock_script.specs.declared.line.Line.{Line}
 use Rattle.lock_script.specs.declared.line.Line.TheVariants.{Cluster, Once, Steps, Show}
 use Rattle.lock_script.specs.declared.show.Show as shown
@@ -28,6 +28,7 @@ on_some_disk c (Start host) few short fits = fits
 on_some_disk c (Stop host) few short fits = fits
 on_some_disk c (Submit command tries) few short fits = fits
 on_some_disk c (Recover host tries) few short fits = fits
+on_some_disk c (Look host) few short fits = fits
 on_some_disk c (Beat host) few short fits = fits
 on_some_disk c (Mark host slot) few short fits = (fits.0, omega (arith, fits.1))
 on_some_disk c (Step host) few short fits = fits
@@ -41,6 +42,7 @@ fits_within c (Start host) fits on = fits
 fits_within c (Stop host) fits on = fits
 fits_within c (Submit command tries) fits on = fits
 fits_within c (Recover host tries) fits on = fits
+fits_within c (Look host) fits on = fits
 fits_within c (Beat host) fits on = fits
 fits_within c (Mark host slot) fits on = (fits.0, ltb-true slot c.slots on)
 fits_within c (Step host) fits on = fits
@@ -54,6 +56,7 @@ is_within_it c (Start host) fits = refl
 is_within_it c (Stop host) fits = refl
 is_within_it c (Submit command tries) fits = refl
 is_within_it c (Recover host tries) fits = refl
+is_within_it c (Look host) fits = refl
 is_within_it c (Beat host) fits = refl
 is_within_it c (Mark host slot) fits = lt-ltb slot c.slots fits.1
 is_within_it c (Step host) fits = refl

@@ -6,7 +6,7 @@ use Rattle.slot_log.specs.Shape.{Shape}
 use Rattle.lock_command.specs.declared.command.Command.{Command}
 use Rattle.lock_command.specs.Command.{Fits as FitsCommand}
 use Rattle.lock_command.specs.Reading.{◌>>=◌}
-use Rattle.lock_script.specs.declared.event.Event.TheVariants.{Start, Stop, Submit, Recover, Beat, Mark, Step, Tear, FailCall, DiskCrash, DiskGone}
+use Rattle.lock_script.specs.declared.event.Event.TheVariants.{Start, Stop, Submit, Recover, Look, Beat, Mark, Step, Tear, FailCall, DiskCrash, DiskGone}
 use Rattle.lock_script.specs.declared.line.Line.{Line}
 use Rattle.lock_script.specs.declared.show.View.{View}
 use Rattle.lock_script.specs.declared.show.View.TheVariants.{Queues, Blocking}
@@ -198,23 +198,26 @@ plain_found kind words line h =
         | inl p ↦ submit_found kind words line p.0 p.1
         | inr other ↦ elim (picked kind (codes "recover") _ _ line other) [
           | inl p ↦ recover_found kind words line p.0 p.1
-          | inr other ↦ elim (picked kind (codes "beat") _ _ line other) [
-            | inl p ↦ host_alone kind words (λ host. Once (Beat host)) line (λ host. (ap (λ w. w ∷ decimal host ∷ []) (sym p.0), λ fits. fits)) p.1
-            | inr other ↦ elim (picked kind (codes "mark") _ _ line other) [
-              | inl p ↦ mark_found kind words line p.0 p.1
-              | inr other ↦ elim (picked kind (codes "start") _ _ line other) [
-                | inl p ↦ host_alone kind words (λ host. Once (Start host)) line (λ host. (ap (λ w. w ∷ decimal host ∷ []) (sym p.0), λ fits. fits)) p.1
-                | inr other ↦ elim (picked kind (codes "stop") _ _ line other) [
-                  | inl p ↦ host_alone kind words (λ host. Once (Stop host)) line (λ host. (ap (λ w. w ∷ decimal host ∷ []) (sym p.0), λ fits. fits)) p.1
-                  | inr other ↦ elim (picked kind (codes "gone") _ _ line other) [
-                    | inl p ↦ gone_found kind words line p.0 p.1
-                    | inr other ↦ elim (picked kind (codes "show") _ _ line other) [
-                      | inl p ↦ show_found Queues kind words line p.0 p.1
-                      | inr other ↦ elim (picked kind (codes "blocking") _ _ line other) [
-                        | inl p ↦ show_found Blocking kind words line p.0 p.1
-                        | inr other ↦ elim (picked kind (codes "cluster") _ _ line other) [
-                          | inl p ↦ cluster_found kind words line p.0 p.1
-                          | inr other ↦ absurd (cc)
+          | inr other ↦ elim (picked kind (codes "look") _ _ line other) [
+            | inl p ↦ host_alone kind words (λ host. Once (Look host)) line (λ host. (ap (λ w. w ∷ decimal host ∷ []) (sym p.0), λ fits. fits)) p.1
+            | inr other ↦ elim (picked kind (codes "beat") _ _ line other) [
+              | inl p ↦ host_alone kind words (λ host. Once (Beat host)) line (λ host. (ap (λ w. w ∷ decimal host ∷ []) (sym p.0), λ fits. fits)) p.1
+              | inr other ↦ elim (picked kind (codes "mark") _ _ line other) [
+                | inl p ↦ mark_found kind words line p.0 p.1
+                | inr other ↦ elim (picked kind (codes "start") _ _ line other) [
+                  | inl p ↦ host_alone kind words (λ host. Once (Start host)) line (λ host. (ap (λ w. w ∷ decimal host ∷ []) (sym p.0), λ fits. fits)) p.1
+                  | inr other ↦ elim (picked kind (codes "stop") _ _ line other) [
+                    | inl p ↦ host_alone kind words (λ host. Once (Stop host)) line (λ host. (ap (λ w. w ∷ decimal host ∷ []) (sym p.0), λ fits. fits)) p.1
+                    | inr other ↦ elim (picked kind (codes "gone") _ _ line other) [
+                      | inl p ↦ gone_found kind words line p.0 p.1
+                      | inr other ↦ elim (picked kind (codes "show") _ _ line other) [
+                        | inl p ↦ show_found Queues kind words line p.0 p.1
+                        | inr other ↦ elim (picked kind (codes "blocking") _ _ line other) [
+                          | inl p ↦ show_found Blocking kind words line p.0 p.1
+                          | inr other ↦ elim (picked kind (codes "cluster") _ _ line other) [
+                            | inl p ↦ cluster_found kind words line p.0 p.1
+                            | inr other ↦ absurd (cc)
+                          ]
                         ]
                       ]
                     ]
@@ -268,6 +271,7 @@ line_at-only (Once (Submit command tries)) fits =
     ∙ ap (λ (found : Option Command). found >>= λ c. Some (Once (Submit c tries))) (command_at-only command fits.0)
 line_at-only (Once (Recover host tries)) fits =
     two_spelled host_of tries_of (λ h t. Once (Recover h t)) (decimal host) (decimal tries) host tries (host_of-only host fits.0) (tries_of-only tries fits.1)
+line_at-only (Once (Look host)) fits = ap (λ (found : Option ℕ). found >>= λ h. Some (Once (Look h))) (host_of-only host fits)
 line_at-only (Once (Beat host)) fits = ap (λ (found : Option ℕ). found >>= λ h. Some (Once (Beat h))) (host_of-only host fits)
 line_at-only (Once (Mark host slot)) fits =
     two_spelled host_of slot_of (λ h s. Once (Mark h s)) (decimal host) (decimal slot) host slot (host_of-only host fits.0) (slot_of-only slot fits.1)

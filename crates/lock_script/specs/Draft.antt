@@ -4,7 +4,7 @@ use Rattle.std.specs.Option.{is_none}
 use Rattle.slot_log.specs.Shape.{Shape}
 use Rattle.lock_command.specs.Reading.{◌>>=◌, passed}
 use Rattle.lock_script.specs.declared.event.Event.{Event}
-use Rattle.lock_script.specs.declared.event.Event.TheVariants.{Start, Stop, Submit, Recover, Beat, Mark, Step, Tear, FailCall, DiskCrash, DiskGone}
+use Rattle.lock_script.specs.declared.event.Event.TheVariants.{Start, Stop, Submit, Recover, Look, Beat, Mark, Step, Tear, FailCall, DiskCrash, DiskGone}
 use Rattle.lock_script.specs.declared.line.Line.{Line}
 use Rattle.lock_script.specs.declared.line.Line.TheVariants.{Cluster, Once, Steps, Show}
 use Rattle.lock_script.specs.declared.show.Show as shown
@@ -28,6 +28,7 @@ is_within c (Start host) = true
 is_within c (Stop host) = true
 is_within c (Submit command tries) = true
 is_within c (Recover host tries) = true
+is_within c (Look host) = true
 is_within c (Beat host) = true
 is_within c (Mark host slot) = nat_lt slot c.slots
 is_within c (Step host) = true

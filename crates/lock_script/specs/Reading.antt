@@ -9,7 +9,7 @@ use Rattle.lock_command.specs.declared.command.Command.{Command}
 use Rattle.lock_command.specs.declared.command.Action.{Action}
 use Rattle.lock_command.specs.declared.command.Action.TheVariants.{Enqueue, Convert, Release, Cancel, Status, Purge}
 use Rattle.lock_command.specs.Reading.{◌>>=◌, passed, name_of}
-use Rattle.lock_script.specs.declared.event.Event.TheVariants.{Start, Stop, Submit, Recover, Beat, Mark, Step, Tear, FailCall, DiskCrash, DiskGone}
+use Rattle.lock_script.specs.declared.event.Event.TheVariants.{Start, Stop, Submit, Recover, Look, Beat, Mark, Step, Tear, FailCall, DiskCrash, DiskGone}
 use Rattle.lock_script.specs.declared.line.Line.{Line}
 use Rattle.lock_script.specs.declared.show.View.{View}
 use Rattle.lock_script.specs.declared.show.View.TheVariants.{Queues, Blocking}
@@ -215,6 +215,7 @@ plain_at kind words =
     if bytes_eq kind (codes "step") then step_at words
     else if bytes_eq kind (codes "submit") then submit_at words
     else if bytes_eq kind (codes "recover") then recover_at words
+    else if bytes_eq kind (codes "look") then (do host ← last_word words >>= host_of; Some (Once (Look host)))
     else if bytes_eq kind (codes "beat") then (do host ← last_word words >>= host_of; Some (Once (Beat host)))
     else if bytes_eq kind (codes "mark") then mark_at words
     else if bytes_eq kind (codes "start") then (do host ← last_word words >>= host_of; Some (Once (Start host)))

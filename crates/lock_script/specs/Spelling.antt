@@ -10,7 +10,7 @@ use Rattle.lock_command.specs.declared.command.Action.TheVariants.{Enqueue, Conv
 use Rattle.lock_command.specs.Command.{Fits as FitsCommand}
 use Rattle.slot_log.specs.Shape.{Shape}
 use Rattle.lock_script.specs.declared.event.Event.{Event}
-use Rattle.lock_script.specs.declared.event.Event.TheVariants.{Start, Stop, Submit, Recover, Beat, Mark, Step, Tear, FailCall, DiskCrash, DiskGone}
+use Rattle.lock_script.specs.declared.event.Event.TheVariants.{Start, Stop, Submit, Recover, Look, Beat, Mark, Step, Tear, FailCall, DiskCrash, DiskGone}
 use Rattle.lock_script.specs.declared.line.Line.{Line}
 use Rattle.lock_script.specs.declared.show.View.{View}
 use Rattle.lock_script.specs.declared.show.View.TheVariants.{Queues, Blocking}
@@ -71,6 +71,7 @@ event_words (Start host) = codes "start" ∷ decimal host ∷ []
 event_words (Stop host) = codes "stop" ∷ decimal host ∷ []
 event_words (Submit command tries) = codes "submit" ∷ decimal command.host ∷ decimal tries ∷ command_words command
 event_words (Recover host tries) = codes "recover" ∷ decimal host ∷ decimal tries ∷ []
+event_words (Look host) = codes "look" ∷ decimal host ∷ []
 event_words (Beat host) = codes "beat" ∷ decimal host ∷ []
 event_words (Mark host slot) = codes "mark" ∷ decimal host ∷ decimal slot ∷ []
 event_words (Step host) = codes "step" ∷ decimal host ∷ []
@@ -94,6 +95,7 @@ FitsEvent c (Start host) = host < HOSTS
 FitsEvent c (Stop host) = host < HOSTS
 FitsEvent c (Submit command tries) = FitsCommand command × IsTries tries
 FitsEvent c (Recover host tries) = (host < HOSTS) × IsTries tries
+FitsEvent c (Look host) = host < HOSTS
 FitsEvent c (Beat host) = host < HOSTS
 FitsEvent c (Mark host slot) = (host < HOSTS) × (slot < c.slots)
 FitsEvent c (Step host) = host < HOSTS

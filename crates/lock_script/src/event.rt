@@ -15,6 +15,8 @@ pub enum Event {
     Submit { command: Command, tries: u8 },
     /// An idle host begins to learn all that is in the log.
     Recover { host: HostNumber, tries: u8 },
+    /// An idle host begins to learn what marks tell, and writes nothing.
+    Look(HostNumber),
     /// An idle host begins to write its next heartbeat and to read those of all hosts.
     Beat(HostNumber),
     /// An idle host begins to mark a slot of the log.
@@ -47,6 +49,7 @@ impl Event {
                 host: *host,
                 tries: *tries,
             },
+            Event::Look(host) => Event::Look(*host),
             Event::Beat(host) => Event::Beat(*host),
             Event::Mark { host, slot } => Event::Mark {
                 host: *host,

@@ -62,6 +62,8 @@ fn plain_at(kind: &[u8], words: &mut Words<'_>) -> Option<Line>
         submit_at(words)
     } else if is(kind, b"recover") {
         recover_at(words)
+    } else if is(kind, b"look") {
+        Some(Line::Once(Event::Look(host_of(words.last()?)?)))
     } else if is(kind, b"beat") {
         Some(Line::Once(Event::Beat(host_of(words.last()?)?)))
     } else if is(kind, b"mark") {

@@ -5,7 +5,7 @@ use Rattle.lock_modes.specs.declared.mode.Mode.TheVariants.{Null, ConcurrentRead
 use Rattle.lock_command.specs.declared.command.Command.{Command}
 use Rattle.lock_command.specs.declared.command.Action.{Action}
 use Rattle.lock_command.specs.declared.command.Action.TheVariants.{Enqueue, Convert, Release, Cancel, Status, Purge}
-use Rattle.world.specs.Happens.{Event, Start, Stop, Submit, Recover, Beat, Mark, Step, Tear, FailCall, DiskCrash, DiskGone}
+use Rattle.world.specs.Happens.{Event, Start, Stop, Submit, Recover, Look, Beat, Mark, Step, Tear, FailCall, DiskCrash, DiskGone}
 
 -- COMMANDS
 
@@ -321,3 +321,11 @@ while_busy = Submit 0 (takes_db 0) 1 ∷ Recover 0 1 ∷ Tear 0 (0 ∷ []) ∷ F
 abbrev pub events_that_do_not_apply : List Event
 events_that_do_not_apply = before_a_start ++ Start 0 ∷ while_idle ++ Submit 0 (takes_db 0) 1 ∷ while_busy ++ steps 0 17
     ++ DiskGone 0 ∷ DiskGone 0 ∷ DiskCrash 0 (0 ∷ []) ∷ []
+
+-- host 1 looks once host 0 has marked its first slot
+abbrev pub look_behind_a_mark : List Event
+look_behind_a_mark = submits ++ steps 0 17 ++ marks_first ++ steps 0 9 ++ Start 1 ∷ Look 1 ∷ steps 1 6
+
+-- it looks where nothing is marked
+abbrev pub look_without_a_mark : List Event
+look_without_a_mark = submits ++ steps 0 17 ++ Start 1 ∷ Look 1 ∷ steps 1 3

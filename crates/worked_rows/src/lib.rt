@@ -34,7 +34,9 @@ pub use locks::{
     one_has_to_wait, purge_goes_by_the_enqueue, purge_of_a_host, purge_settles_each_name,
     refused_cancels, refused_conversions, refused_where_it_would_queue,
 };
-pub use markings::{recovery_by_marks, slot_that_is_not_learned, torn_mark};
+pub use markings::{
+    look_behind_a_mark, look_without_a_mark, recovery_by_marks, slot_that_is_not_learned, torn_mark,
+};
 pub use remains::{
     body_torn_to_three_bytes, crash_behind_a_body, crashes_within_a_recovery,
     disk_that_crashes_again, failed_last_read, failed_write_leaves_a_gate_shut,
