@@ -16,8 +16,11 @@ use Rattle.phases.specs.Kept.{end_of_status}
 use Rattle.attempt.specs.Laws.{IsServedAlone}
 use Rattle.slot_log.specs.Alone.{IsAnsweredAlone}
 use Rattle.slot_log.specs.Shape.{Shape}
-use Rattle.slot_log.specs.Learning.{Memory, Doing, setup_of, next_in, offered_by, does, begins, ended, tries_again, with_floor, with_heard, by_status, hears, takes, judges, offered_in, after_learning, is_placed, learns, goes_on}
+use Rattle.slot_log.specs.Learning.{Memory, Doing, setup_of, next_in, offered_by, says, does, begins, ended, tries_again, with_floor, with_heard, by_status, hears, takes, judges, offered_in, after_learning, is_placed, learns, goes_on}
 use Rattle.slot_log.specs.Kept.{Kept, LeadsTo, chosen_in, GoesOn, AreDoing, IsDoing, IsOf, IsOver, is_idle, is_idle_with}
+use Rattle.slot_log.specs.declared.outcome.Outcome.{Outcome}
+use Rattle.slot_log.specs.declared.outcome.Outcome.TheVariants.{Refused}
+use Rattle.slot_log.specs.declared.outcome.Refusal.TheVariants as refusal
 use Rattle.slot_log.specs.declared.operation.Operation.{Operation}
 use Rattle.slot_log.specs.declared.operation.Task.{Task}
 
@@ -101,6 +104,27 @@ takes_value c h m t value is offered =
     let F : Option (List ℕ) → Memory = λ o. judges c m t (taken s (on t.heard)) o true in
     ap (λ (o : Option Doing). takes c h m o true) is
     ∙ ap F (sym (offered ∙ ap (offered_in c h m) is))
+
+-- or it is no command, and the operation ends
+pub refuses_value : (c : Shape) (h : ℕ) (m : Memory) (t : Doing) (value : List ℕ) (ballot : ℕ) → m.doing ≡ Some t → Some value ≡ offered_in c h m m.doing → ballot ≡ taken (setup_of c h m t.operation) (on t.heard)
+    → takes c h m m.doing false ≡ says (with_floor m ballot) (Refused refusal.NotACommand)
+refuses_value c h m t value ballot is offered took =
+    let s = setup_of c h m t.operation in
+    let F : Option (List ℕ) → Memory = λ o. judges c m t (taken s (on t.heard)) o false in
+    ap (λ (o : Option Doing). takes c h m o false) is
+    ∙ ap F (sym (offered ∙ ap (offered_in c h m) is))
+    ∙ ap (λ (b : ℕ). says (with_floor m b) (Refused refusal.NotACommand)) (sym took)
+
+pub finished : (c : Shape) (h : ℕ) (m : Memory) (old new : Kept) (outcome : Outcome) → LeadsTo c h m old → new ≡ record old { task = None; said = Some outcome } → LeadsTo c h (says m outcome) new
+finished c h m old new outcome leads is =
+    subst (LeadsTo c h (says m outcome)) (sym is) (record {
+      shape = leads.shape;
+      is_host = leads.is_host;
+      learned = leads.learned;
+      floor = leads.floor;
+      said = refl;
+      doing = tt;
+    })
 
 -- THE ATTEMPT GOES ON, OR ITS VALUE WAITS
 
