@@ -19,7 +19,8 @@ use Rattle.phases.specs.Steps.{made, write_due}
 use Rattle.heartbeat.specs.Beat.{beat_body, counter_of, counter_at, counters_in}
 use Rattle.beats.specs.Answers.{Heard, Booted, Done, Told, Answers, more, is_bad, reading_of}
 use Rattle.std.specs.Option.{option_map}
-use Rattle.beats.specs.Status.{Setup, status, next_in, next_call, call_on, with_disk, is_left, waits}
+use Rattle.attempt.specs.NextCall.{with_disk}
+use Rattle.beats.specs.Status.{Setup, status, next_in, next_call, call_on, is_left, waits}
 use Rattle.beats.specs.Kept.{IsPassed, IsVisiting, IsAt, IsWriting, Follows, Stands, call_at, call_due, end_of, end_of_status}
 use Rattle.beats.specs.declared.end.End as code_end
 use Rattle.beats.specs.declared.notes.Notes.{Notes}

@@ -14,6 +14,7 @@ use Rattle.paxos_block.specs.Places.{VoteOf, BeatOf, place_of, IsImage, IsWithin
 use Rattle.paxos_block.proofs.PlaceLemmas.{stays_image}
 use Rattle.attempt.proofs.Lists.{by_eq}
 use Rattle.heartbeat.specs.Beat.{beat_body}
+use Rattle.attempt.specs.NextCall.{with_disk}
 use Rattle.beats.specs.Answers as beat_answers
 use Rattle.beats.specs.Status as beat
 use Rattle.slot_log.specs.Shape.{Shape}
@@ -73,7 +74,7 @@ kind_within s a beat.Syncing = tt
 kind_within s a beat.Reading = tt
 kind_within s a (beat.Putting call) = put_within s a _ call
 
-call_within : (s : beat.Setup) (a : List beat_answers.Heard) (o : Option beat.Kind) (d k : ℕ) (call : Call) → beat.with_disk d (option_map (beat.call_by s a) o) ≡ Some (k, call) → IsWithin (BeatOf s.host) call
+call_within : (s : beat.Setup) (a : List beat_answers.Heard) (o : Option beat.Kind) (d k : ℕ) (call : Call) → with_disk d (option_map (beat.call_by s a) o) ≡ Some (k, call) → IsWithin (BeatOf s.host) call
 call_within s a None d k call is = absurd (cc)
 call_within s a (Some kind) d k call is =
     let pair : (d, beat.call_by s a kind) ≡ (k, call) = cc in
