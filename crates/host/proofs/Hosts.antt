@@ -12,6 +12,7 @@ use Rattle.std.proofs.lemmas.List.{length-map, map-append, append-nil}
 use Rattle.std.proofs.lemmas.Bool.{and_parts, lt-ltb, le-ltb}
 use Rattle.std.proofs.lemmas.Slice.Eq.{bytes_eq-Decides}
 use Rattle.attempt.specs.Answers.{Answered, Answers, Heard, on, heard_as}
+use Rattle.attempt.specs.NextCall.{next_call}
 use Rattle.heartbeat.specs.Suggesting.{Readings}
 use Rattle.beats.specs.Answers as beat_answers
 use Rattle.beats.specs.Calls.{device_answer}
@@ -86,6 +87,12 @@ pub setup_same : (c : Shape) (h : ℕ) (m : Memory) (operation : Operation) → 
 setup_same c h m (Submitting command) = ap (setup_at c h m (Submitting command)) (length_same m)
 setup_same c h m Recovering = ap (setup_at c h m Recovering) (length_same m)
 setup_same c h m Looking = ap (setup_at c h m Looking) (length_same m)
+
+-- and so is the call that is due
+pub attempt_next : (c : Shape) (h : ℕ) (m : Memory) (said : Option Outcome) (o : Option Doing) → m.doing ≡ o → (call : ℕ × device.Call) → log.next_in c h (values_with said m) (option_map doing_of o) ≡ Some call → next_in c h m ≡ Some call
+attempt_next c h m said None is call next = absurd (let none : None ≡ Some call = next in cc)
+attempt_next c h m said (Some t) is call next =
+    ap (next_doing c h m) is ∙ ap (λ (s : Setup). next_call s (on t.heard)) (sym (setup_same c h m t.operation)) ∙ next
 
 full_same : (operation : Operation) (n : ℕ) → Some (log.full_outcome (operation_of operation) n) ≡ outcome_in (Some (full_answer operation n))
 full_same (Submitting command) n = refl

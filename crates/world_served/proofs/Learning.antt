@@ -29,7 +29,7 @@ use Rattle.world_safety.specs.Goes.{ProposesWith}
 use Rattle.world_safety.specs.Next.{next_world}
 use Rattle.world_safety.proofs.Runs.Tracks.{moves_at, tied_at, submitted_before, IsPutBefore, put_by_then, decided_at}
 use Rattle.world_safety.specs.Tracks.{IsChosenBefore}
-use Rattle.world_served.specs.Alone.{LooksAtMost, WritesNone}
+use Rattle.world_served.specs.Alone.{LooksAtMost, TriesNone}
 use Rattle.world_served.specs.Served.{IsServedBy}
 use Rattle.world_served.specs.Served.{IsLeftAlone}
 use Rattle.world_served.proofs.Answered.{served}
@@ -158,8 +158,8 @@ module _ (c : Shape) (log : List Filled) (run : IsRun c log) (some : 1 ≤ c.dis
             elim (alone.alone.calls by.place g n other_call other_answer bytes late (let b = by.before in omega arith) found) [
               | inl its ↦ put_own by.put.host (sym (eqb-true g by.put.host of) ∙ its) by.put.memory by.put.doing by.put.running by.put.does by.put.input late
               | inr rests ↦
-                  (let none = subst (WritesNone c log by.place) (eqb-true g by.put.host of) rests by.put.memory by.put.running in
-                  let looks : by.put.doing.operation ≡ Looking = subst LooksAtMost by.put.does none.0 in
+                  (let looks_at_most = subst (TriesNone c log by.place) (eqb-true g by.put.host of) rests by.put.memory by.put.running in
+                  let looks : by.put.doing.operation ≡ Looking = subst LooksAtMost by.put.does looks_at_most in
                   let both : None ≡ Some value = sym (ap input_of looks) ∙ by.put.input in
                   absurd (cc))
             ]

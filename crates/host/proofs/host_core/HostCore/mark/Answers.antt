@@ -15,7 +15,7 @@ returns-in-Some c c' h m leads =
     let below : c.from.result < length c.learned.result.now = ltb-true c.from.result (length c.learned.result.now) (sym c.in-Some.ensures.lookup.0) in
     let inside : c.args.slot < length k.learner.learned = omega (arith, below, there, c.from.ensures) in
     let value = c.in-Some.ensures.lookup.1 ∙ ap₂ (λ (l : List (List ℕ)) (i : ℕ). get_or l i c.in-Some.value.now) c.learned.ensures.learned c.from.ensures in
-    begins_marking c' h m k c.args.slot c.get-in-Some.result c.disks.result c.in-Some.value.now c.new.result known idle inside value (c.get-in-Some.ensures.value ∙ sym c.self.invariant.host) (c.disks.ensures.value ∙ sym (ap (λ (s : Shape). s.disks) c.self.invariant.config)) c.new.ensures.leads
+    begins_marking c' h m k c.args.slot c.get-in-Some.result c.disks-disks.result c.in-Some.value.now c.new.result known idle inside value (c.get-in-Some.ensures.value ∙ sym c.self.invariant.host) (c.disks-disks.ensures.value ∙ sym (ap (λ (s : Shape). s.disks) c.self.invariant.config)) c.new.ensures.leads
 
 pub returns-in-None : goal.returns-in-None
 returns-in-None c c' h m leads =
