@@ -5,6 +5,7 @@ pub mod Happens
 pub mod Chosen
 pub mod Headline
 pub mod Lines
+pub mod Looks
 pub mod Account
 pub mod Told
 pub mod Examples

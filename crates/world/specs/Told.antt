@@ -7,7 +7,7 @@ use Rattle.lock_table.specs.Apply.{Plain, table_after}
 use Rattle.lock_table.specs.Picture.{IsPictureOf}
 use Rattle.slot_log.specs.Shape.{Shape}
 use Rattle.host.specs.declared.answer.HostAnswer.{HostAnswer}
-use Rattle.host.specs.declared.answer.HostAnswer.TheVariants.{Ack, Recovered, Beaten, Refused}
+use Rattle.host.specs.declared.answer.HostAnswer.TheVariants.{Ack, Recovered, Looked, Beaten, Marked, Refused}
 use Rattle.host.specs.Host.{Operation, Submitting, Doing, Memory, Host, Running, idles, learned_of, reply_after}
 use Rattle.world.specs.World.{world}
 use Rattle.world.specs.Happens.{Event, Submit, Line, run}
@@ -53,7 +53,7 @@ abbrev pub ShowsTable : Option Plain → Plain → Type 0
 ShowsTable None table = ⊥
 ShowsTable (Some picture) table = IsPictureOf picture table
 
--- The picture is of the lock table after the first n commands of the log.
+-- The picture is of the lock table after the first n commands of the log: that of a recovery, and that of a look.
 pub record IsRecovered (log : List Command) (picture : Option Plain) (n : ℕ) : Type 0 where
   pub within : n ≤ length log
   pub table : ShowsTable picture (table_after (take n log))
@@ -62,7 +62,9 @@ pub record IsRecovered (log : List Command) (picture : Option Plain) (n : ℕ) :
 abbrev pub goes_by : Shape → List Event → List Command → Line → Option Plain → HostAnswer → Type 0
 goes_by c events log x picture (Ack slot reply) = IsAcknowledged c events log x slot reply
 goes_by c events log x picture (Recovered n) = IsRecovered log picture n
+goes_by c events log x picture (Looked n) = IsRecovered log picture n
 goes_by c events log x picture (Beaten host) = Unit {0}
+goes_by c events log x picture (Marked count) = Unit {0}
 goes_by c events log x picture (Refused refusal) = Unit {0}
 
 -- WHAT IS MISSED

@@ -6,7 +6,7 @@ ghost use Rattle.lock_table.specs.declared.reply.Reply.{Reply};
 ghost use Rattle.lock_table.specs.declared.reply.Reply.TheVariants.{Granted};
 ghost use Rattle.lock_table.specs.Apply.{Plain};
 ghost use Rattle.lock_table.specs.Locks.{is_lock};
-ghost use Rattle.host.specs.declared.answer.HostAnswer.TheVariants.{Ack, Recovered};
+ghost use Rattle.host.specs.declared.answer.HostAnswer.TheVariants.{Ack, Recovered, Looked};
 ghost use Rattle.world.specs.Chosen.{IsSubmittedBefore, IsAcknowledgedAt, IsRecovery};
 ghost use Rattle.world.specs.Headline.{IsAcknowledgedBefore};
 ghost use Rattle.world.specs.Told.{IsSubmittedBefore as IsSubmittedByEvents, IsAcknowledged, goes_by, MissesNothing};
@@ -37,7 +37,7 @@ pub fn empty_log_is_recovered()
 /// Of the events of the first submission: event 1 submits it, and no other does. Its acknowledgement at
 /// event 18 goes by the log of that command alone at slot 0 and with that reply, and at no event at which
 /// its host was not submitting it. A recovery goes by that log with at most one command, and the picture
-/// of the table after as many.
+/// of the table after as many; and so does a look.
 pub fn first_answer_goes_by_its_log()
     ensures submitted { IsSubmittedByEvents submitting 2 (spelling takes_db) }
     ensures not_before { (value : List ℕ) → ¬ IsSubmittedByEvents submitting 1 value }
@@ -52,6 +52,8 @@ pub fn first_answer_goes_by_its_log()
         ¬ IsAcknowledged one_disk submitting (takes_db ∷ []) (told_at 19 (Ack slot reply)) slot reply }
     ensures most { (place n : ℕ) (picture : Plain) → goes_by one_disk submitting (takes_db ∷ [])
         (told_at place (Recovered n)) (Some picture) (Recovered n) → n ≤ 1 }
+    ensures looked { (place n : ℕ) (picture : Plain) → goes_by one_disk submitting (takes_db ∷ [])
+        (told_at place (Looked n)) (Some picture) (Looked n) → n ≤ 1 }
     ensures pictured { (place n : ℕ) →
         ¬ goes_by one_disk submitting (takes_db ∷ []) (told_at place (Recovered n)) None (Recovered n) }
     ensures of_none { (place : ℕ) (picture : Plain) → goes_by one_disk submitting (takes_db ∷ [])

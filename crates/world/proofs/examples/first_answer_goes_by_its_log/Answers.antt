@@ -25,5 +25,8 @@ returns-clause-of_none c = of_none
 pub returns-clause-most : goal.returns-clause-most
 returns-clause-most c = λ place n picture is. is.within
 
+pub returns-clause-looked : goal.returns-clause-looked
+returns-clause-looked c = λ place n picture is. is.within
+
 pub returns-clause-pictured : goal.returns-clause-pictured
 returns-clause-pictured c = λ place n is. is.table
