@@ -6,7 +6,7 @@ use Rattle.lock_table.specs.declared.reply.Reply.{Reply}
 use Rattle.lock_table.specs.Apply.{table_after}
 use Rattle.slot_log.specs.Shape.{Shape}
 use Rattle.host.specs.declared.answer.HostAnswer.{HostAnswer}
-use Rattle.host.specs.declared.answer.HostAnswer.TheVariants.{Ack, Recovered, Beaten, Marked, Refused}
+use Rattle.host.specs.declared.answer.HostAnswer.TheVariants.{Ack, Recovered, Looked, Beaten, Marked, Refused}
 use Rattle.host.specs.Host.{Operation, Submitting, Doing, Memory, Host, Running, idles, learned_of, reply_after}
 use Rattle.world.specs.World.{world}
 use Rattle.world.specs.Happens.{Event, Submit, Line, run}
@@ -74,7 +74,7 @@ pub record IsAcknowledged (c : Shape) (events : List Event) (log : List Command)
   pub in_log : slice_get log slot ≡ Some command
   pub replied : reply ≡ reply_after (take slot log) command
 
--- The picture is of the lock table after the first n commands of the log.
+-- The picture is of the lock table after the first n commands of the log: that of a recovery, and that of a look.
 pub record IsRecovered (log : List Command) (a : Answer) (n : ℕ) : Type 0 where
   pub within : n ≤ length log
   pub table : ShowsTable a.picture (table_after (take n log))
@@ -82,6 +82,7 @@ pub record IsRecovered (log : List Command) (a : Answer) (n : ℕ) : Type 0 wher
 abbrev pub goes_by : Shape → List Event → List Command → Answer → HostAnswer → Type 0
 goes_by c events log a (Ack slot reply) = IsAcknowledged c events log a slot reply
 goes_by c events log a (Recovered n) = IsRecovered log a n
+goes_by c events log a (Looked n) = IsRecovered log a n
 goes_by c events log a (Beaten host) = Unit {0}
 goes_by c events log a (Marked count) = Unit {0}
 goes_by c events log a (Refused refusal) = Unit {0}
