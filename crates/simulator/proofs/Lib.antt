@@ -2,11 +2,11 @@ pub mod Calls
 pub mod Changes
 pub mod Entries
 pub mod Events
+pub mod Learning
 pub mod Lines
 pub mod Listing
 pub mod OneMore
 pub mod Owed
-pub mod Recovering
 pub mod Safety
 pub mod Shown
 pub mod Submitting

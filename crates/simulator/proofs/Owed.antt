@@ -17,11 +17,11 @@ use Rattle.lock_command.specs.Command.{Fits as FitsCommand}
 use Rattle.phases.specs.declared.need.Need.{Need}
 use Rattle.phases.specs.declared.need.DeviceCall as code_call
 use Rattle.phases.specs.Calls.{call_of_need, device_call_of, IsWithin}
-use Rattle.host.specs.Host.{Stopped, Memory, Submitting, Recovering, fresh, goes_on, hears_from, next_in, starts_beat, starts_marking}
+use Rattle.host.specs.Host.{Stopped, Memory, Submitting, Recovering, Looking, fresh, goes_on, hears_from, next_in, starts_beat, starts_marking}
 use Rattle.host.specs.Kept as hosts
 use Rattle.world.specs.Entry.{Filled, called_by}
 use Rattle.world.specs.World.{world}
-use Rattle.world.specs.Happens.{Event, Start, Stop, Submit, Recover, Beat, Mark, Step, Tear, FailCall, DiskCrash, DiskGone, answer_of, spread_over}
+use Rattle.world.specs.Happens.{Event, Start, Stop, Submit, Recover, Look, Beat, Mark, Step, Tear, FailCall, DiskCrash, DiskGone, answer_of, spread_over}
 use Rattle.simulator.specs.declared.parts.Said.{Said}
 use Rattle.simulator.specs.declared.parts.Parts.TheInside.{Inside}
 use Rattle.simulator.specs.Calls.{is_write, may_crash, crashed_if, lost_if}
@@ -121,6 +121,9 @@ module _ (old : Kept) (h i : ℕ) (same : i ≡ h) (within : i < HOSTS) where
     pub recovers_busy : (tries : ℕ) → is_free o ≡ false → (log : List Filled) → LeadsTo log old → Brings log (Recover h tries) old old None
     recovers_busy tries busy log leads = subst (λ (j : ℕ). Brings log (Recover j tries) old old None) same (events.recovers_not log old leads i tries o is busy)
 
+    pub looks_busy : is_free o ≡ false → (log : List Filled) → LeadsTo log old → Brings log (Look h) old old None
+    looks_busy busy log leads = subst (λ (j : ℕ). Brings log (Look j) old old None) same (events.looks_not log old leads i o is busy)
+
     pub beats_busy : is_free o ≡ false → (log : List Filled) → LeadsTo log old → Brings log (Beat h) old old None
     beats_busy busy log leads = subst (λ (j : ℕ). Brings log (Beat j) old old None) same (events.beats_not log old leads i o is busy)
 
@@ -152,6 +155,13 @@ module _ (old : Kept) (h i : ℕ) (same : i ≡ h) (within : i < HOSTS) where
     recovers tries some idle goes log leads =
         named (λ j. Recover j tries) log old (record old { hosts = set old.hosts i (Some new) }) i h new.said said same is_said
         (events.recovers log old leads i tries core new within some found idle goes)
+
+    pub looks : hosts.is_idle core ≡ true
+        → ((c : Shape) (g : ℕ) (m : Memory) → hosts.LeadsTo c g m core → hosts.LeadsTo c g (goes_on c m Looking 1) new)
+        → (log : List Filled) → LeadsTo log old → Brings log (Look h) old (record old { hosts = set old.hosts i (Some new) }) said
+    looks idle goes log leads =
+        named Look log old (record old { hosts = set old.hosts i (Some new) }) i h new.said said same is_said
+        (events.looks log old leads i core new within found idle goes)
 
     pub marks : (slot : ℕ) → slot < old.shape.slots → hosts.is_idle core ≡ true
         → ((c : Shape) (g : ℕ) (m : Memory) → hosts.LeadsTo c g m core → hosts.LeadsTo c g (starts_marking m slot) new)

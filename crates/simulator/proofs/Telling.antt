@@ -10,14 +10,14 @@ use Rattle.lock_command.specs.Command.{spelling}
 use Rattle.lock_table.specs.Apply.{table_after}
 use Rattle.slot_log.specs.Shape.{Shape}
 use Rattle.host.specs.declared.answer.HostAnswer.{HostAnswer}
-use Rattle.host.specs.declared.answer.HostAnswer.TheVariants.{Ack, Recovered, Beaten, Marked, Refused}
+use Rattle.host.specs.declared.answer.HostAnswer.TheVariants.{Ack, Recovered, Looked, Beaten, Marked, Refused}
 use Rattle.host.specs.Host.{idles, learned_of}
 use Rattle.host.specs.Kept as hosts
 use Rattle.world.specs.World.{World, world}
 use Rattle.world.specs.Happens.{Event, Line, run, answers}
 use Rattle.world.specs.Chosen.{at, SaysAt, IsSubmittedBefore as IsSubmittedIn}
-use Rattle.world.specs.Headline.{IsPrefix, IsSafe}
-use Rattle.world.specs.Told.{prefix_before, IsSubmittedBefore, ShowsTable, goes_by, MissesNothing}
+use Rattle.world.specs.Headline.{IsPrefix, prefix_at, IsSafe}
+use Rattle.world.specs.Told.{prefix_before, IsSubmittedBefore, IsRecovered, ShowsTable, goes_by, MissesNothing}
 use Rattle.world.proofs.Runs.{run_is_run}
 use Rattle.simulator.specs.declared.answer.Answer.{Answer}
 use Rattle.simulator.specs.Answers.{line_of, IsPicturedBy, IsPictured, IsPicturedIn}
@@ -102,6 +102,20 @@ module _ (c : Shape) (events : List Event) where
     says : (said : HostAnswer) → a.said ≡ said → SaysAt c (run c events) (length (before c events a.place)) a.host said
     says said is = subst (SaysAt c (run c events) (length (before c events a.place)) a.host) is (says_at c events a.place (line_of a) is_told)
 
+    -- what its host has learned by then
+    abbrev known : List Command
+    known = learned_of ((world c (before c events (a.place + 1))).host a.host)
+
+    pictured_as : (said : HostAnswer) → a.said ≡ said → IsPicturedBy said a.picture (table_after known)
+    pictured_as said is = subst (λ (s : HostAnswer). IsPicturedBy s a.picture (table_after known)) is pictured
+
+    -- if that is the first n commands of the log, the picture is of the table after these
+    shows_first : (n : ℕ) → (n ≤ length log) × (prefix_at c (run c events) (length (before c events a.place) + 1) a.host ≡ take n log)
+        → ShowsTable a.picture (table_after known) → IsRecovered log a.picture n
+    shows_first n found shown =
+        let left : known ≡ take n log = ap (λ (w : World). learned_of (w.host a.host)) (left_at c events a.place (line_of a) is_told) ∙ found.1 in
+        record { within = found.0; table = subst (λ (l : List Command). ShowsTable a.picture (table_after l)) left shown }
+
     goes_as : (said : HostAnswer) → a.said ≡ said → goes_by c events log (line_of a) a.picture said
     goes_as (Ack slot reply) is =
         let i = length (before c events a.place) in
@@ -120,13 +134,9 @@ module _ (c : Shape) (events : List Event) where
           replied = safe.reply i a.host slot placed.0 reply acked;
         }
     goes_as (Recovered n) is =
-        let i = length (before c events a.place) in
-        let found = safe.recovered i a.host n (says (Recovered n) is) in
-        let left : learned_of ((world c (before c events (a.place + 1))).host a.host) ≡ take n log =
-        ap (λ (w : World). learned_of (w.host a.host)) (left_at c events a.place (line_of a) is_told) ∙ found.1 in
-        let shown : ShowsTable a.picture (table_after (learned_of ((world c (before c events (a.place + 1))).host a.host))) =
-        subst (λ (s : HostAnswer). IsPicturedBy s a.picture (table_after (learned_of ((world c (before c events (a.place + 1))).host a.host)))) is pictured in
-        record { within = found.0; table = subst (λ (l : List Command). ShowsTable a.picture (table_after l)) left shown }
+        shows_first n (safe.recovered (length (before c events a.place)) a.host n (says (Recovered n) is)) (pictured_as (Recovered n) is)
+    goes_as (Looked n) is =
+        shows_first n (safe.looked (length (before c events a.place)) a.host n (says (Looked n) is)) (pictured_as (Looked n) is)
     goes_as (Beaten host) is = tt
     goes_as (Marked count) is = tt
     goes_as (Refused refusal) is = tt

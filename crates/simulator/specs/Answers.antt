@@ -3,10 +3,10 @@ use Rattle.std.specs.Prelude.{◌≡◌, ◌+◌, Bool, true, false, List, [], �
 use Rattle.lock_table.specs.Apply.{Plain, table_after}
 use Rattle.slot_log.specs.Shape.{Shape}
 use Rattle.host.specs.declared.answer.HostAnswer.{HostAnswer}
-use Rattle.host.specs.declared.answer.HostAnswer.TheVariants.{Ack, Recovered, Beaten, Marked, Refused}
+use Rattle.host.specs.declared.answer.HostAnswer.TheVariants.{Ack, Recovered, Looked, Beaten, Marked, Refused}
 use Rattle.host.specs.Host.{learned_of}
 use Rattle.world.specs.World.{World, world}
-use Rattle.world.specs.Happens.{Event, Recover, Step, FailCall, Line, run}
+use Rattle.world.specs.Happens.{Event, Recover, Look, Step, FailCall, Line, run}
 use Rattle.world.specs.Told.{ShowsTable}
 use Rattle.simulator.specs.declared.answer.Answer.{Answer}
 
@@ -18,17 +18,25 @@ abbrev pub lines_in : Option Answer → List Line
 lines_in None = []
 lines_in (Some a) = line_of a ∷ []
 
--- whether a host may answer with the event that it has recovered: it begins a recovery then, or makes a device call
-abbrev pub may_recover : Event → Bool
-may_recover (Recover h tries) = true
-may_recover (Step h) = true
-may_recover (FailCall h given) = true
-may_recover other = false
+-- whether an answer tells how much its host has learned: of a recovery, and of a look
+abbrev pub is_pictured : HostAnswer → Bool
+is_pictured (Recovered length) = true
+is_pictured (Looked length) = true
+is_pictured other = false
 
--- beside a recovery there is a picture of this table, and beside no other answer there is one
+-- whether a host may answer so with the event: it begins a recovery or a look then, or makes a device call
+abbrev pub may_be_pictured : Event → Bool
+may_be_pictured (Recover h tries) = true
+may_be_pictured (Look h) = true
+may_be_pictured (Step h) = true
+may_be_pictured (FailCall h given) = true
+may_be_pictured other = false
+
+-- beside a recovery or a look there is a picture of this table, and beside no other answer there is one
 abbrev pub IsPicturedBy : HostAnswer → Option Plain → Plain → Type 0
 IsPicturedBy (Ack slot reply) picture table = picture ≡ None
 IsPicturedBy (Recovered length) picture table = ShowsTable picture table
+IsPicturedBy (Looked length) picture table = ShowsTable picture table
 IsPicturedBy (Beaten host) picture table = picture ≡ None
 IsPicturedBy (Marked count) picture table = picture ≡ None
 IsPicturedBy (Refused refusal) picture table = picture ≡ None

@@ -9,6 +9,6 @@ pub struct Answer {
     pub place: usize,
     pub host: HostNumber,
     pub said: HostAnswer,
-    /// Of a recovery: what the host's lock table shows then.
+    /// Of a recovery or a look: what the host's lock table shows then.
     pub picture: Option<Picture>,
 }

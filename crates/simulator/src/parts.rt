@@ -4,7 +4,7 @@ ghost use Rattle.paxos_block.specs.Places.{image_length};
 ghost use Rattle.std.specs.Option.{option_map};
 ghost use Rattle.slot_log.specs.Shape.{Shape};
 ghost use Rattle.world.specs.Entry.{Filled};
-ghost use Rattle.world.specs.Happens.{Start, Stop, Submit, Recover, Beat, Mark, Step, Tear, FailCall, DiskCrash, DiskGone};
+ghost use Rattle.world.specs.Happens.{Start, Stop, Submit, Recover, Look, Beat, Mark, Step, Tear, FailCall, DiskCrash, DiskGone};
 ghost use Rattle.simulator.specs.Events.{event_of};
 ghost use Rattle.simulator.specs.Kept.{Kept, LeadsTo, Brings, calm, is_busy, is_free};
 
@@ -89,6 +89,7 @@ impl Parts {
             }
             Event::Submit { command, tries } => Ok(self.submit(command, *tries)),
             Event::Recover { host, tries } => Ok(self.recover(*host, *tries)),
+            Event::Look(host) => Ok(self.look(*host)),
             Event::Beat(host) => {
                 self.beat(*host);
                 Ok(None)
@@ -163,6 +164,20 @@ impl Parts {
             unreachable!()
         };
         core.recover(tries);
+        answer_of(host, core)
+    }
+
+    fn look(&mut self, host: HostNumber) -> Option<Said>
+        ensures { (log : List Filled) → LeadsTo log self.old → Brings log (Look host) self.old self.new result }
+    {
+        let at = usize::from(host.get());
+        if !is_free(&self.hosts[at]) {
+            return None;
+        }
+        let Some(core) = &mut self.hosts[at] else {
+            unreachable!()
+        };
+        core.look();
         answer_of(host, core)
     }
 

@@ -1,10 +1,10 @@
-ghost use Rattle.std.specs.Prelude.{◌≡◌, ℕ, true, IsSome, OnOk, slice_index_or, List};
+ghost use Rattle.std.specs.Prelude.{◌≡◌, true, IsSome, OnOk, slice_index_or, List};
 ghost use Rattle.world.specs.Entry.{Filled};
 ghost use Rattle.world.specs.World.{world};
 ghost use Rattle.host.specs.Host.{learned_of};
 ghost use Rattle.lock_table.specs.Apply.{table_after};
 ghost use Rattle.lock_table.specs.Picture.{IsPictureOf};
-ghost use Rattle.simulator.specs.Answers.{line_of, may_recover, IsPictured};
+ghost use Rattle.simulator.specs.Answers.{line_of, is_pictured, may_be_pictured, IsPictured};
 ghost use Rattle.simulator.specs.Events.{event_of};
 ghost use Rattle.simulator.specs.Kept.{LeadsTo};
 
@@ -17,7 +17,7 @@ use lock_script::Event;
 use lock_table::Picture;
 use std::alloc::Global;
 
-/// Room for the picture of the next recovery, made before an event happens.
+/// Room for the picture of the next recovery or look, made before an event happens.
 #[derive(Drop)]
 pub struct Room {
     picture: Option<Picture>,
@@ -29,11 +29,11 @@ impl Room {
         Room { picture: None }
     }
 
-    /// Makes room where there is none, if a recovery may end with the event.
+    /// Makes room where there is none, if a recovery or a look may end with the event.
     pub fn prepare(&mut self, alloc: Global, event: &Event) -> Result<(), NoMemory>
-        ensures { OnOk result (may_recover (event_of event.now) ≡ true → IsSome self.new.picture) }
+        ensures { OnOk result (may_be_pictured (event_of event.now) ≡ true → IsSome self.new.picture) }
     {
-        if may_recover(event) && self.picture.is_none() {
+        if may_be_pictured(event) && self.picture.is_none() {
             let Ok(picture) = Picture::room(alloc) else {
                 return Err(NoMemory);
             };
@@ -44,7 +44,7 @@ impl Room {
 
     /// What a host said, as a report lists it.
     pub fn listed(&mut self, parts: &Parts, place: usize, said: Said) -> Answer
-        requires room { (n : ℕ) → said.answer ≡ HostAnswer.Recovered n → IsSome self.old.picture }
+        requires room { is_pictured said.answer ≡ true → IsSome self.old.picture }
         requires runs { IsSome (slice_index_or parts.now.hosts said.host None) }
         ensures line { line_of result ≡ record { place = place; host = said.host; said = said.answer } }
         ensures picture { (log : List Filled) → LeadsTo log parts.now → IsPictured (world parts.now.shape log) result }
@@ -52,6 +52,7 @@ impl Room {
         let Said { host, answer } = said;
         let picture = match answer {
             HostAnswer::Recovered { .. } => Some(self.filled(parts, host)),
+            HostAnswer::Looked { .. } => Some(self.filled(parts, host)),
             HostAnswer::Ack { .. }
             | HostAnswer::Beaten { .. }
             | HostAnswer::Marked { .. }
@@ -82,12 +83,12 @@ impl Room {
     }
 }
 
-/// Whether a host may answer with the event that it has recovered.
-fn may_recover(event: &Event) -> bool
-    ensures { result ≡ may_recover (event_of event.now) }
+/// Whether a recovery or a look may end with the event.
+fn may_be_pictured(event: &Event) -> bool
+    ensures { result ≡ may_be_pictured (event_of event.now) }
 {
     match event {
-        Event::Recover { .. } | Event::Step(_) | Event::FailCall { .. } => true,
+        Event::Recover { .. } | Event::Look(_) | Event::Step(_) | Event::FailCall { .. } => true,
         Event::Start(_)
         | Event::Stop(_)
         | Event::Submit { .. }

@@ -8,7 +8,7 @@ use Rattle.simulator.specs.Kept.{LeadsTo, Brings}
 use Rattle.simulator.proofs.Lines.{speaker_runs}
 use Rattle.simulator.proofs.Listing.{HasListed, lists, lists_nothing, all_listed}
 use Rattle.simulator.proofs.Telling.{tells}
-use Rattle.simulator.proofs.Recovering.{only_recovering}
+use Rattle.simulator.proofs.Learning.{only_learning}
 use Rattle.simulator.proofs.report.run.Goals as goal
 use Rattle.simulator.proofs.report.run.Goals.{in-Some, in_default}
 
@@ -18,7 +18,7 @@ listed-requires-clause-room c =
     let event = c.index-events-place.result in
     let brings : Brings log (event_of event) c.loop-place.parts c.event.new.self (Some c.in-Some.said) =
     subst (Brings log (event_of event) c.loop-place.parts c.event.new.self) c.in-Some.is (c.in_ok-said.ensures.brings log c.loop-place.invariant.leads) in
-    λ n is. c.in_ok-prepare.ensures (only_recovering log (event_of event) c.loop-place.parts c.event.new.self c.in-Some.said n brings is)
+    λ tells. c.in_ok-prepare.ensures (only_learning log (event_of event) c.loop-place.parts c.event.new.self c.in-Some.said brings tells)
 
 pub listed-requires-clause-runs : goal.listed-requires-clause-runs
 listed-requires-clause-runs c =

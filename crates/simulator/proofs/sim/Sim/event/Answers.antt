@@ -10,7 +10,7 @@ use Rattle.simulator.specs.Past.{Past, answers_of}
 use Rattle.simulator.proofs.Lines.{speaker_runs}
 use Rattle.simulator.proofs.OneMore.{kept_on, past_leads, past_answers}
 use Rattle.simulator.proofs.Telling.{goes_with, goes_without}
-use Rattle.simulator.proofs.Recovering.{only_recovering}
+use Rattle.simulator.proofs.Learning.{only_learning}
 use Rattle.simulator.proofs.sim.Sim.event.Goals as goal
 
 pub listed-requires-clause-room : goal.listed-requires-clause-room
@@ -20,7 +20,7 @@ listed-requires-clause-room c =
     let event = event_of c.args.event.now in
     let brings : Brings log event s.parts c.event.new.self (Some c.in-Some.said) =
     subst (λ (o : Option Said). Brings log event s.parts c.event.new.self o) c.in-Some.is (c.in_ok-said.ensures.brings log c.self.invariant) in
-    λ n is. c.in_ok-prepare.ensures (only_recovering log event s.parts c.event.new.self c.in-Some.said n brings is)
+    λ tells. c.in_ok-prepare.ensures (only_learning log event s.parts c.event.new.self c.in-Some.said brings tells)
 
 pub listed-requires-clause-runs : goal.listed-requires-clause-runs
 listed-requires-clause-runs c =

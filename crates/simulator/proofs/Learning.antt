@@ -1,4 +1,4 @@
--- With which events a host may answer that it has recovered.
+-- With which events a host may answer that it has recovered, or what it has learned by looking.
 use Rattle.std.specs.Prelude.{nat_lt, ◌&&◌, not, option_and_then, if◌then◌else◌}
 use Rattle.std.proofs.Common.{ℕ, ◌≡◌, Bool, true, false, Option, Some, None, List, [], length, slice_get, refl, sym, ap, ◌∙◌}
 use Rattle.disk.specs.declared.fault.DiskFault.{DiskFault}
@@ -9,16 +9,18 @@ use Rattle.lock_command.specs.declared.command.Command.{Command}
 use Rattle.lock_command.specs.Command.{spelling}
 use Rattle.lock_command.specs.Reading.{decoded}
 use Rattle.slot_log.specs.Shape.{Shape}
+use Rattle.slot_log.specs.declared.outcome.Refusal.{Refusal}
 use Rattle.slot_log.specs.declared.outcome.Refusal.TheVariants as refusal
-use Rattle.host.specs.declared.answer.HostAnswer.TheVariants.{Recovered, Refused}
+use Rattle.host.specs.declared.answer.HostAnswer.{HostAnswer}
+use Rattle.host.specs.declared.answer.HostAnswer.TheVariants.{Refused}
 use Rattle.host.specs.Host.{Submitting, Host, Stopped, Running, begins, says, full_answer, with_marking, is_stopped, idles, next_of, said_of}
 use Rattle.world.specs.Entry as entries
 use Rattle.world.specs.Entry.{Filled, host_step}
 use Rattle.world.specs.World.{World, world}
-use Rattle.world.specs.Happens.{Event, Start, Stop, Submit, Recover, Beat, Mark, Step, Tear, FailCall, DiskCrash, DiskGone, Line, brings_if, spread_over, torn_entry, torn, submitted, host_of, entry_of}
+use Rattle.world.specs.Happens.{Event, Start, Stop, Submit, Recover, Look, Beat, Mark, Step, Tear, FailCall, DiskCrash, DiskGone, Line, brings_if, spread_over, torn_entry, torn, submitted, host_of, entry_of}
 use Rattle.world.proofs.Projections.{host_here}
 use Rattle.simulator.specs.declared.parts.Said.{Said}
-use Rattle.simulator.specs.Answers.{may_recover}
+use Rattle.simulator.specs.Answers.{is_pictured, may_be_pictured}
 use Rattle.simulator.specs.Kept.{Kept, Brings}
 use Rattle.simulator.proofs.Entries.{own}
 use Rattle.simulator.proofs.Lines.{behind}
@@ -32,10 +34,17 @@ both_true : (a b : Bool) → (a && b) ≡ true → b ≡ true
 both_true true b is = is
 both_true false b is = absurd (cc)
 
-module _ (c : Shape) (h n : ℕ) where
+-- a refusal tells nothing of what is learned
+refuses : (r : Refusal) (said : HostAnswer) → is_pictured said ≡ true → Some (Refused r) ≡ Some said → ⊥
+refuses r said tells is =
+    let same : Refused r ≡ said = cc in
+    let tells_none : false ≡ is_pictured said = ap is_pictured same in
+    cc
+
+module _ (c : Shape) (h : ℕ) (said : HostAnswer) (tells : is_pictured said ≡ true) where
   -- the host does not say so with this entry
   abbrev Silent : Host → Filled → Type 0
-  Silent old f = said_of (host_step c h old f) ≡ Some (Recovered n) → ⊥
+  Silent old f = said_of (host_step c h old f) ≡ Some said → ⊥
 
   starts_silent : (g : ℕ) (old : Host) → is_stopped old ≡ true → Silent old (entries.Start g)
   starts_silent g Stopped stopped says = cc
@@ -49,19 +58,19 @@ module _ (c : Shape) (h n : ℕ) where
   marks_silent g slot Stopped says_so = cc
   marks_silent g slot (Running m) says_so = go (nat_lt slot (length m.learned)) says_so
     where
-      go : (b : Bool) → said_of (Running (if b then with_marking m (Some (record { slot = slot; heard = [] })) None else with_marking m m.marking (Some (Refused refusal.NotLearned)))) ≡ Some (Recovered n) → ⊥
+      go : (b : Bool) → said_of (Running (if b then with_marking m (Some (record { slot = slot; heard = [] })) None else with_marking m m.marking (Some (Refused refusal.NotLearned)))) ≡ Some said → ⊥
       go true is = cc
-      go false is = cc
+      go false is = refuses refusal.NotLearned said tells is
 
   submits_silent : (g : ℕ) (command : Command) (tries : ℕ) (old : Host) → Silent old (entries.Submit g command tries)
   submits_silent g command tries Stopped says = cc
   submits_silent g command tries (Running m) says_so = go (nat_lt (length m.learned) c.slots) says_so
     where
-      go : (b : Bool) → said_of (Running (if b then begins m (Submitting command) tries else says m (full_answer (Submitting command) (length m.learned)))) ≡ Some (Recovered n) → ⊥
+      go : (b : Bool) → said_of (Running (if b then begins m (Submitting command) tries else says m (full_answer (Submitting command) (length m.learned)))) ≡ Some said → ⊥
       go true is = cc
-      go false is = cc
+      go false is = refuses refusal.LogFull said tells is
 
-  module _ (w : World) (f : Filled) (of : host_of f ≡ Some h) (says_so : said_of (host_step c h (w.host h) f) ≡ Some (Recovered n)) where
+  module _ (w : World) (f : Filled) (of : host_of f ≡ Some h) (says_so : said_of (host_step c h (w.host h) f) ≡ Some said) where
     no_submit : (g tries : ℕ) (o : Option Command) → submitted g tries o ≡ Some f → ⊥
     no_submit g tries None is = cc
     no_submit g tries (Some command) is =
@@ -85,8 +94,9 @@ module _ (c : Shape) (h n : ℕ) where
     no_tear g given None is = cc
     no_tear g given (Some x) is = no_tear_by g given x.0 x.1 (refusal_of (w.disk x.0) x.1) is
 
-    only_these : (event : Event) → entry_of c w event ≡ Some f → may_recover event ≡ true
+    only_these : (event : Event) → entry_of c w event ≡ Some f → may_be_pictured event ≡ true
     only_these (Recover g tries) is = refl
+    only_these (Look g) is = refl
     only_these (Step g) is = refl
     only_these (FailCall g given) is = refl
     only_these (Start g) is =
@@ -117,14 +127,14 @@ module _ (c : Shape) (h n : ℕ) where
     only_these (DiskGone k) is =
         absurd (given_if _ (Some (entries.Lost k)) f ⊥ is (λ passed same. (let one = ap (option_and_then host_of) same in let both : None ≡ Some h = one ∙ of in cc)))
 
--- a host answers so only where it began a recovery, or made a call
-pub only_recovering : (log : List Filled) (event : Event) (old new : Kept) (said : Said) (n : ℕ) → Brings log event old new (Some said) → said.answer ≡ Recovered n → may_recover event ≡ true
-only_recovering log event old new said n brings is =
+-- a host answers so only where it began a recovery or a look, or made a call
+pub only_learning : (log : List Filled) (event : Event) (old new : Kept) (said : Said) → Brings log event old new (Some said) → is_pictured said.answer ≡ true → may_be_pictured event ≡ true
+only_learning log event old new said brings tells =
     let c = old.shape in
     let w = world c log in
     let h = said.host in
     let x : Line = record { place = 0; host = h; said = said.answer } in
     let found = behind c log 0 (entry_of c w event) 0 x (ap (λ (l : List Line). slice_get l 0) (sym (brings.says 0))) in
-    let says_so : said_of (host_step c h (w.host h) found.entry) ≡ Some (Recovered n) =
-    ap said_of (sym (host_here c log found.entry h (own found.entry h found.of))) ∙ found.says ∙ ap Some is in
-    only_these c h n w found.entry found.of says_so event found.is
+    let says_so : said_of (host_step c h (w.host h) found.entry) ≡ Some said.answer =
+    ap said_of (sym (host_here c log found.entry h (own found.entry h found.of))) ∙ found.says in
+    only_these c h said.answer tells w found.entry found.of says_so event found.is
