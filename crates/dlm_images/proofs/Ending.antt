@@ -1,7 +1,6 @@
 -- How an operation ends: whatever it hears, it goes on, or has ended with an answer of its own.
-use Rattle.std.proofs.Common.{◌≡◌, ◌<◌, ◌≤◌, ◌+◌, ℕ, Bool, true, false, List, [], ◌∷◌, ◌++◌, length, nat_lt, nat_le, Option, Some, None, refl, sym, ◌∙◌, ap, subst, if◌then◌else◌, is_some}
+use Rattle.std.proofs.Common.{◌≡◌, ℕ, Bool, true, false, List, [], ◌∷◌, ◌++◌, length, nat_lt, nat_le, Option, Some, None, refl, sym, ◌∙◌, ap, subst, if◌then◌else◌}
 use Rattle.std.proofs.lemmas.Slice.Eq.{bytes_eq-Decides}
-use Rattle.std.specs.Str.{bytes_eq}
 use Rattle.std.specs.Option.{option_or}
 use Rattle.paxos_block.specs.declared.ballot.TheConstants.{LAST_BALLOT}
 use Rattle.attempt.specs.Answers as answers
@@ -19,9 +18,9 @@ use Rattle.lock_command.proofs.Readings.{command_at-spelling}
 use Rattle.slot_log.specs.Shape.{Shape}
 use Rattle.slot_log.specs.declared.outcome.Refusal.{Refusal}
 use Rattle.slot_log.specs.declared.outcome.Refusal.TheVariants as refusal
-use Rattle.host.specs.declared.answer.HostAnswer.TheVariants.{Ack, Recovered, Refused}
-use Rattle.host.specs.Host.{Memory, Doing, Operation, Submitting, Recovering, goes_on, goes_by, hears, begins, by_status, takes, after_learning, is_submitted, learns, with_heard, with_floor, tries_again, full_answer, says, setup_of, input_of}
-use Rattle.dlm_images.specs.Operations.{Ends, IsAcknowledged, after_answers}
+use Rattle.host.specs.declared.answer.HostAnswer.TheVariants.{Recovered, Refused}
+use Rattle.host.specs.Host.{Memory, Doing, Operation, Submitting, Recovering, goes_on, hears, begins, by_status, takes, after_learning, is_submitted, learns, with_heard, with_floor, tries_again, full_answer, says, setup_of, input_of}
+use Rattle.dlm_images.specs.Operations.{Ends}
 
 -- NO INPUT, NO PROPOSAL
 
@@ -158,6 +157,11 @@ hears_of c h m o (Some t) x back is goes =
     let heard = on (t.heard ++ x ∷ []) in
     subst (λ (p : Operation). IsOf p (hears c h m (Some t) x)) goes
     (status_of c m (with_heard t x) (taken s heard) s (status s heard) refl (has_input s heard) (subst ReadsBack (sym goes) back))
+
+-- what a host knows once its attempts have heard these answers, one after another
+abbrev pub after_answers : Shape → ℕ → Memory → List Answered → Memory
+after_answers c h m [] = m
+after_answers c h m (x ∷ xs) = after_answers c h (hears c h m m.doing x) xs
 
 -- whatever it hears, an operation goes on, or has ended
 after_of : (c : Shape) (h : ℕ) (m : Memory) (o : Operation) (xs : List Answered) → ReadsBack o → IsOf o m → IsOf o (after_answers c h m xs)
