@@ -18,7 +18,7 @@ Says found k header = slice_get found k ≡ Some (Ok header)
 abbrev pub AreHeaders : Found → Type 0
 AreHeaders found = (k : ℕ) (header : Header) → Says found k header → IsHeader header
 
--- All images that there may be were looked at, and each right header is that of the image's own number.
+-- It is told of as many images as there may be, and each right header is that of the image's own number.
 pub record AreImages (found : Found) : Type 0 where
   pub all : length found ≡ DISKS
   pub right : AreHeaders found
