@@ -4,6 +4,8 @@ use Rattle.std.proofs.Math.Seq.{take-append_seam}
 use Rattle.std.proofs.lemmas.Bool.{ltb-true, leb-false}
 use Rattle.std.proofs.lemmas.List.{length-append}
 use Rattle.attempt.specs.Answers.{Answered, Heard, on, heard_as}
+use Rattle.attempt.specs.Looking.{OnlyReads}
+use Rattle.attempt.proofs.Looking as looking
 use Rattle.attempt.specs.Status as attempt
 use Rattle.attempt.specs.Status.{Status, Due, Ended}
 use Rattle.lock_command.specs.declared.command.Command.{Command}
@@ -14,12 +16,12 @@ use Rattle.beats.specs.declared.notes.Notes.{Notes as BeatNotes}
 use Rattle.phases.specs.Calls.{heard_of}
 use Rattle.phases.specs.declared.heard.Heard as code_heard
 use Rattle.slot_log.specs.Shape.{Shape}
-use Rattle.host.specs.Host.{Operation, Doing, Memory, Beats, Marking, hears, hears_from, hears_beside, hears_marking, marking_by, marking_with, marking_of, with_marking, starts_marking, goes_on, begins, by_status, takes, after_learning, is_submitted, learns, with_heard, with_floor, tries_again, rests, is_idle_in}
+use Rattle.host.specs.Host.{Operation, Doing, Memory, Beats, Marking, hears, hears_from, hears_beside, hears_marking, marking_by, marking_with, marking_of, with_marking, starts_marking, goes_on, begins, by_status, takes, after_learning, is_submitted, learns, with_heard, with_floor, tries_again, rests, is_idle_in, setup_of, next_doing, next_beside, next_marking, Looking}
 use Rattle.host.specs.Kept.{Kept, LeadsTo, BeatLeadsTo, is_idle}
 use Rattle.marks.specs.Status as mark
 use Rattle.slot_log.specs.declared.outcome.Refusal.TheVariants as refusal
 use Rattle.host.specs.declared.answer.HostAnswer.TheVariants.{Refused}
-use Rattle.host.proofs.Hosts.{idle_is, heard_same, beats-goes_on, beats-hears, marking_heard}
+use Rattle.host.proofs.Hosts.{idle_is, heard_same, beats-goes_on, beats-hears, marking_heard, marking-goes_on}
 use Rattle.std.specs.Prelude.{is_some, map}
 use Rattle.std.proofs.Common.{true≢false}
 use Rattle.disk.specs.Disk as device
@@ -28,8 +30,8 @@ use Rattle.phases.specs.declared.need.DeviceCall as code_call
 use Rattle.phases.specs.declared.need.DeviceCall.TheVariants as call
 use Rattle.host.specs.Alone.{IsAnsweredAlone, IsMarkedWithinNine}
 use Rattle.host.specs.declared.answer.HostAnswer.{HostAnswer}
-use Rattle.dlm_images.specs.Operations.{IsKnown, HasHeard, Made, GaveOne, Gave, after_call, after_made, IsDue, AreDue, tries_in, Standing, HasOperated, HasMarked, Ends, EndsMarking}
-use Rattle.dlm_images.proofs.Ending.{ReadsBack, hears_one, after_answers, operation_ends, marking_ends, marking_learns}
+use Rattle.dlm_images.specs.Operations.{IsKnown, HasHeard, Made, GaveOne, Gave, after_call, after_made, IsDue, AreDue, AreReads, tries_in, Standing, HasOperated, HasMarked, Ends, EndsMarking}
+use Rattle.dlm_images.proofs.Ending.{ReadsBack, GoesOn, IsOf, high, goes_on_of, hears_of, hears_one, unmarked_one, after_answers, operation_ends, marking_ends, marking_learns}
 
 -- How many calls an operation may still make: 119 for each attempt that may follow, since it learns a slot or uses a try, and those
 -- that are left of its attempt, the last of them counted once more.
@@ -384,6 +386,35 @@ operated_ends gives o tries old new back known idle done =
     subst (λ (k : Memory). Ends o k.learned k.said) (sym own)
     (operation_ends known.shape known.host known.memory o tries (map answered done.made) back unmarked (subst (λ (k : Memory). k.doing ≡ None) own ended)) in
     subst (λ (said : Option HostAnswer). Ends o new.core.prefix said) (sym leads.said) (subst (λ (learned : List Command). Ends o learned n.said) (sym leads.prefix) ends)
+
+-- A LOOK
+
+-- a call that is due while a look is under way, and nothing beside it, writes nothing
+next_reads : (c : Shape) (h : ℕ) (m : Memory) (o : Option Doing) (k : ℕ) (call : device.Call) → m.beats.heard ≡ None → m.marking ≡ None → m.doing ≡ o → IsOf Looking m → next_doing c h m o ≡ Some (k, call) → OnlyReads call
+next_reads c h m None k call rest unmarked is looks next =
+    absurd (let none : None ≡ Some (k, call) = sym (ap (next_beside c h m) rest ∙ ap (next_marking c h m) unmarked) ∙ next in cc)
+next_reads c h m (Some t) k call rest unmarked is looks next =
+    let same : t.operation ≡ Looking = subst (GoesOn Looking m) is looks in
+    looking.reads (setup_of c h m t.operation) (on t.heard) (high t.operation m.floor same) k call next
+
+reads_all : (c : Shape) (h : ℕ) (m : Memory) (xs : List Made) → m.beats.heard ≡ None → m.marking ≡ None → IsOf Looking m → AreDue c h m xs → AreReads xs
+reads_all c h m [] rest unmarked looks due = tt
+reads_all c h m (x ∷ xs) rest unmarked looks due =
+    let same : after_call c h m x ≡ hears_one c h m m.doing (answered x) = hears_own c h m m.doing x.disk x.answer rest in
+    let n = hears_one c h m m.doing (answered x) in
+    (next_reads c h m m.doing x.disk x.call rest unmarked refl looks due.0.next,
+    reads_all c h n xs (ap (λ (b : Beats). b.heard) (beats_one c h m m.doing (answered x) refl) ∙ rest) (unmarked_one c h m m.doing (answered x) unmarked)
+    (hears_of c h m Looking m.doing (answered x) tt unmarked refl looks) (subst (λ (k : Memory). AreDue c h k xs) same due.1))
+
+-- a look writes nothing
+pub looked_reads : {D : Type 0} (gives : D → device.Call → device.Answer → D → Type 0) (tries : ℕ) (old new : Standing D) → IsKnown old.core → is_idle old.core ≡ true → (done : HasOperated gives Looking tries old new) → AreReads done.made
+looked_reads gives tries old new known idle done =
+    let m = known.memory in
+    reads_all known.shape known.host (goes_on known.shape m Looking tries) done.made
+    (ap (λ (b : Beats). b.heard) (beats-goes_on known.shape m Looking tries) ∙ known.rests)
+    (marking-goes_on known.shape m Looking tries ∙ idle_unmarked known.shape known.host m old.core known.leads idle)
+    (goes_on_of known.shape m Looking tries)
+    (done.due known.shape known.host m known.leads)
 
 -- A MARKING
 

@@ -100,7 +100,7 @@ ReadsBack Looking = Unit {0}
 -- GOING ON, OR ENDED
 
 -- the operation is under way, or has ended
-abbrev GoesOn : Operation → Memory → Option Doing → Type 0
+abbrev pub GoesOn : Operation → Memory → Option Doing → Type 0
 GoesOn o m None = Ends o m.learned m.said
 GoesOn o m (Some t) = t.operation ≡ o
 
@@ -162,7 +162,7 @@ taken_of c m t ballot value back (Some command) read = learned_of c m t value co
 abbrev EndsSoon : Operation → Status → Type 0
 EndsSoon o at = o ≡ Looking → (end : attempt.End) → at ≡ Ended end → EndsTheOpening end
 
-high : (o : Operation) (floor : ℕ) → o ≡ Looking → LAST_BALLOT ≤ floor_for o floor
+pub high : (o : Operation) (floor : ℕ) → o ≡ Looking → LAST_BALLOT ≤ floor_for o floor
 high o floor is = subst (λ (p : Operation). LAST_BALLOT ≤ floor_for p floor) (sym is) (omega arith)
 
 -- so that only a recovery ends where nothing was proposed

@@ -4,6 +4,7 @@ use Rattle.torn_block.specs.declared.layout.TheConstants.{DISKS, SLOTS}
 use Rattle.disk.specs.Disk.{Call, Answer}
 use Rattle.attempt.specs.Answers.{heard_as}
 use Rattle.attempt.specs.History.{Fits}
+use Rattle.attempt.specs.Looking.{OnlyReads}
 use Rattle.slot_log.specs.Shape.{Shape}
 use Rattle.lock_command.specs.declared.command.Command.{Command}
 use Rattle.lock_table.specs.declared.reply.Reply.{Reply}
@@ -38,6 +39,11 @@ pub record IsDue (c : Shape) (h : ℕ) (m : Memory) (x : Made) : Type 0 where
 abbrev pub AreDue : Shape → ℕ → Memory → List Made → Type 0
 AreDue c h m [] = Unit {0}
 AreDue c h m (x ∷ xs) = IsDue c h m x × AreDue c h (after_call c h m x) xs
+
+-- none of them writes
+abbrev pub AreReads : List Made → Type 0
+AreReads [] = Unit {0}
+AreReads (x ∷ xs) = OnlyReads x.call × AreReads xs
 
 -- WHAT DISKS GIVE
 

@@ -6,7 +6,7 @@ ghost use Rattle.lock_table.specs.Apply.{table_after};
 ghost use Rattle.lock_table.specs.Picture.{IsPictureOf};
 ghost use Rattle.host.specs.Host.{Submitting, Recovering, Looking, fresh};
 ghost use Rattle.host.specs.Kept.{Kept, LeadsTo};
-ghost use Rattle.dlm_images.specs.Operations.{HasOperated, HasMarked, IsAcknowledged, Ends, EndsMarking};
+ghost use Rattle.dlm_images.specs.Operations.{HasOperated, HasMarked, AreReads, IsAcknowledged, Ends, EndsMarking};
 
 use crate::operation::drive;
 use disk::{Disk, NoMemory};
@@ -138,6 +138,7 @@ impl<D: Disk> DiskHost<D> {
     /// nothing and outruns nobody; what was acknowledged and not marked is not found.
     pub fn look(&mut self) -> Result<u16, Refusal>
         ensures operated { HasOperated D.gives Looking 1 self.old self.new }
+        ensures reads { (done : HasOperated D.gives Looking 1 self.old self.new) → AreReads done.made }
         ensures learned { IfOk result (λ count. count ≡ length self.new.core.prefix) }
         ensures refused { IfErr result (λ refusal. self.new.core.said ≡ Some (HostAnswer.Refused refusal)) }
     {

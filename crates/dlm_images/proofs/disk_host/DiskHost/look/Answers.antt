@@ -2,8 +2,8 @@ use Rattle.std.proofs.Common.{◌≡◌, ◌≤◌, ◌++◌, ℕ, List, Some, l
 use Rattle.paxos_block.specs.Places.{image_length}
 use Rattle.slot_log.specs.Shape.{Shape}
 use Rattle.host.specs.Host.{Looking}
-use Rattle.dlm_images.specs.Operations.{IsSmall, Standing, HasOperated}
-use Rattle.dlm_images.proofs.Driving.{known_begun, begun_shape, known_operated, operated, operated_ends, written_back}
+use Rattle.dlm_images.specs.Operations.{IsSmall, Standing, HasOperated, AreReads}
+use Rattle.dlm_images.proofs.Driving.{known_begun, begun_shape, known_operated, operated, operated_ends, looked_reads, written_back}
 use Rattle.dlm_images.proofs.disk_host.DiskHost.look.Goals as goal
 
 pub drive-requires-clause-known : goal.drive-requires-clause-known
@@ -62,3 +62,9 @@ returns-clause-operated g c =
     (subst (λ (ds : List g.row.D.Denot). HasOperated g.D.Disk.gives Looking 1 (record { core = c.self.inside.core; disks = ds }) new) c.deref_mut.ensures.value
     (subst (λ (ds : List g.row.D.Denot). HasOperated g.D.Disk.gives Looking 1 (record { core = c.self.inside.core; disks = c.deref_mut.result.now }) (record { core = c.drive.new.host; disks = ds })) (sym kept)
     (operated g.D.Disk.gives Looking 1 (record { core = c.self.inside.core; disks = c.deref_mut.result.now }) c.look.new.self (record { core = c.drive.new.host; disks = c.drive.new.disks }) c.look.ensures c.drive.ensures.heard c.drive.ensures.ended)))
+
+pub returns-clause-reads : goal.returns-clause-reads
+returns-clause-reads g c =
+    let new : Standing g.row.D.Denot = record { core = c.drive.new.host; disks = take c.self.inside.disks.len (c.drive.new.disks ++ drop (length c.drive.new.disks) c.self.inside.disks.items) } in
+    subst (λ (s : Standing g.row.D.Denot). (done : HasOperated g.D.Disk.gives Looking 1 s new) → AreReads done.made) c.self.view_is
+    (λ done. looked_reads g.D.Disk.gives 1 (record { core = c.self.inside.core; disks = c.self.inside.disks.items }) new c.self.invariant.known c.self.invariant.idle done)
