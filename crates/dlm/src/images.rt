@@ -84,7 +84,7 @@ fn host_over<R: Files + AllocGlobal>(
 ) -> Result<DiskHost<FileDisk<R::File>>, Fault>
 where
     R::File: FileExt + OpenFile + Drop,
-    ensures { IfOk result (λ started. started.learner.host ≡ host) }
+    ensures { IfOk result (λ started. started.core.learner.host ≡ host) }
 {
     let folder = open_folder(rt, folder)?;
     folder.host(rt.alloc(), host).map_err(Fault::from)

@@ -1,5 +1,5 @@
 -- How an operation ends: whatever it hears, it goes on, or has ended with an answer of its own.
-use Rattle.std.proofs.Common.{◌≡◌, ℕ, Bool, true, false, List, [], ◌∷◌, ◌++◌, length, nat_lt, nat_le, Option, Some, None, refl, sym, ◌∙◌, ap, subst, if◌then◌else◌}
+use Rattle.std.proofs.Common.{◌≡◌, ℕ, Bool, true, false, List, [], ◌∷◌, ◌++◌, length, nat_lt, nat_le, ◌≤◌, Option, Some, None, refl, sym, ◌∙◌, ap, subst, arith, if◌then◌else◌}
 use Rattle.std.proofs.lemmas.Slice.Eq.{bytes_eq-Decides}
 use Rattle.std.specs.Option.{option_or}
 use Rattle.paxos_block.specs.declared.ballot.TheConstants.{LAST_BALLOT}
@@ -9,8 +9,10 @@ use Rattle.attempt.specs.Calls.{Phase, Opening, One, Two}
 use Rattle.attempt.specs.Setup.{Setup}
 use Rattle.attempt.specs.Status as attempt
 use Rattle.attempt.specs.Status.{Status, Due, Ended, status, taken, through, next_or, unless_outrun, unless_decided, proposing, voting, promising, balloting}
+use Rattle.attempt.specs.Looking.{EndsTheOpening}
 use Rattle.attempt.specs.Visits.{visited, is_left_at, are_enough}
 use Rattle.attempt.specs.Proposal.{ballot, proposal, decided, others_mbal, best}
+use Rattle.attempt.proofs.Looking as looking
 use Rattle.lock_command.specs.declared.command.Command.{Command}
 use Rattle.lock_command.specs.Command.{spelling, Fits as FitsCommand}
 use Rattle.lock_command.specs.Reading.{decoded, checked}
@@ -21,8 +23,8 @@ use Rattle.slot_log.specs.declared.outcome.Refusal.TheVariants as refusal
 use Rattle.marks.specs.Status as mark
 use Rattle.host.specs.declared.answer.HostAnswer.TheVariants.{Recovered, Refused}
 use Rattle.host.proofs.Hosts.{marking-goes_on, marking_heard}
-use Rattle.host.specs.Host.{Memory, Doing, Operation, Submitting, Recovering, goes_on, hears, begins, by_status, takes, after_learning, is_submitted, learns, with_heard, with_floor, tries_again, full_answer, says, setup_of, input_of, Marking, hears_marking, marking_by, marking_with, marking_of, with_marking, starts_marking}
-use Rattle.dlm_images.specs.Operations.{Ends, EndsMarking, hears_one, after_answers}
+use Rattle.host.specs.Host.{Memory, Doing, Operation, Submitting, Recovering, Looking, goes_on, hears, begins, by_status, takes, after_learning, is_submitted, learns, with_heard, with_floor, tries_again, full_answer, spent_answer, says, setup_of, input_of, floor_for, Marking, hears_marking, marking_by, marking_with, marking_of, with_marking, starts_marking}
+use Rattle.dlm_images.specs.Operations.{Ends, EndsMarking}
 
 -- NO INPUT, NO PROPOSAL
 
@@ -93,11 +95,12 @@ reads_back command fits =
 abbrev pub ReadsBack : Operation → Type 0
 ReadsBack (Submitting command) = decoded (spelling command) ≡ Some command
 ReadsBack Recovering = Unit {0}
+ReadsBack Looking = Unit {0}
 
 -- GOING ON, OR ENDED
 
 -- the operation is under way, or has ended
-abbrev GoesOn : Operation → Memory → Option Doing → Type 0
+abbrev pub GoesOn : Operation → Memory → Option Doing → Type 0
 GoesOn o m None = Ends o m.learned m.said
 GoesOn o m (Some t) = t.operation ≡ o
 
@@ -111,6 +114,7 @@ of_test o false x y is_x is_y = is_y
 full : (o : Operation) (m : Memory) → IsOf o (says m (full_answer o (length m.learned)))
 full (Submitting command) m = tt
 full Recovering m = refl
+full Looking m = refl
 
 pub goes_on_of : (c : Shape) (m : Memory) (o : Operation) (tries : ℕ) → IsOf o (goes_on c m o tries)
 goes_on_of c m o tries = of_test o (nat_lt (length m.learned) c.slots) (begins m o tries) (says m (full_answer o (length m.learned))) refl (full o m)
@@ -118,6 +122,7 @@ goes_on_of c m o tries = of_test o (nat_lt (length m.learned) c.slots) (begins m
 tries_of : (m : Memory) (o : Operation) (tries : ℕ) → IsOf o (tries_again m o tries)
 tries_of m (Submitting command) tries = of_test (Submitting command) (nat_le tries 1) _ _ tt refl
 tries_of m Recovering tries = of_test Recovering (nat_le tries 1) _ _ tt refl
+tries_of m Looking tries = of_test Looking (nat_le tries 1) _ _ tt refl
 
 same_command : (a b : Command) → Some a ≡ Some b → a ≡ b
 same_command a b is = cc
@@ -135,48 +140,74 @@ learned_of c m t value command read back true is = by_operation t.operation back
         subst (λ (x : Command). IsOf (Submitting x) (after_learning c m t command true)) (sym same)
         (record { before = m.learned; last = refl; at = refl; replied = refl })
     by_operation Recovering back is = absurd (cc)
+    by_operation Looking back is = absurd (cc)
 
 -- a refusal ends any operation
 refusal_of : (o : Operation) (learned : List Command) (r : Refusal) → Ends o learned (Some (Refused r))
 refusal_of (Submitting command) learned r = tt
 refusal_of Recovering learned r = tt
+refusal_of Looking learned r = tt
+
+-- an operation that has no ballot left is refused, but a look tells what it learned
+spent_of : (o : Operation) (learned : List Command) → Ends o learned (Some (spent_answer o (length learned)))
+spent_of (Submitting command) learned = tt
+spent_of Recovering learned = tt
+spent_of Looking learned = refl
 
 taken_of : (c : Shape) (m : Memory) (t : Doing) (ballot : ℕ) (value : List ℕ) → ReadsBack t.operation → (o : Option Command) → decoded value ≡ o → IsOf t.operation (takes c m t ballot value o)
 taken_of c m t ballot value back None read = refusal_of t.operation m.learned refusal.NotACommand
 taken_of c m t ballot value back (Some command) read = learned_of c m t value command read back (is_submitted t.operation value) refl
 
--- only a recovery ends where nothing was proposed
-empty_of : (o : Operation) (m : Memory) → input_of o ≡ None → Ends o m.learned (Some (Recovered (length m.learned)))
-empty_of (Submitting command) m none = absurd (cc)
-empty_of Recovering m none = refl
+-- a look's attempts end with their opening
+abbrev EndsSoon : Operation → Status → Type 0
+EndsSoon o at = o ≡ Looking → (end : attempt.End) → at ≡ Ended end → EndsTheOpening end
 
-status_of : (c : Shape) (m : Memory) (t : Doing) (ballot : ℕ) (s : Setup) (at : Status) → s.input ≡ input_of t.operation → HasInput s at → ReadsBack t.operation → IsOf t.operation (by_status c m t ballot at)
-status_of c m t ballot s (Due phase disk) same has back = refl
-status_of c m t ballot s (Ended (attempt.Committed value)) same has back = taken_of c m t ballot value back (decoded value) refl
-status_of c m t ballot s (Ended (attempt.Decided value)) same has back = taken_of c m t ballot value back (decoded value) refl
-status_of c m t ballot s (Ended attempt.Empty) same has back = empty_of t.operation (with_floor m ballot) (sym same ∙ has)
-status_of c m t ballot s (Ended (attempt.Outrun mbal)) same has back = tries_of (with_floor (with_floor m ballot) mbal) t.operation t.tries
-status_of c m t ballot s (Ended attempt.NoMajority) same has back = refusal_of t.operation m.learned refusal.NoMajority
-status_of c m t ballot s (Ended attempt.BallotsSpent) same has back = refusal_of t.operation m.learned refusal.BallotsSpent
+pub high : (o : Operation) (floor : ℕ) → o ≡ Looking → LAST_BALLOT ≤ floor_for o floor
+high o floor is = subst (λ (p : Operation). LAST_BALLOT ≤ floor_for p floor) (sym is) (omega arith)
+
+-- so that only a recovery ends where nothing was proposed
+empty_of : (o : Operation) (m : Memory) → input_of o ≡ None → EndsSoon o (Ended attempt.Empty) → Ends o m.learned (Some (Recovered (length m.learned)))
+empty_of (Submitting command) m none soon = absurd (cc)
+empty_of Recovering m none soon = refl
+empty_of Looking m none soon = absurd (soon refl attempt.Empty refl)
+
+status_of : (c : Shape) (m : Memory) (t : Doing) (ballot : ℕ) (s : Setup) (at : Status) → s.input ≡ input_of t.operation → HasInput s at → EndsSoon t.operation at → ReadsBack t.operation → IsOf t.operation (by_status c m t ballot at)
+status_of c m t ballot s (Due phase disk) same has soon back = refl
+status_of c m t ballot s (Ended (attempt.Committed value)) same has soon back = taken_of c m t ballot value back (decoded value) refl
+status_of c m t ballot s (Ended (attempt.Decided value)) same has soon back = taken_of c m t ballot value back (decoded value) refl
+status_of c m t ballot s (Ended attempt.Empty) same has soon back = empty_of t.operation (with_floor m ballot) (sym same ∙ has) soon
+status_of c m t ballot s (Ended (attempt.Outrun mbal)) same has soon back = tries_of (with_floor (with_floor m ballot) mbal) t.operation t.tries
+status_of c m t ballot s (Ended attempt.NoMajority) same has soon back = refusal_of t.operation m.learned refusal.NoMajority
+status_of c m t ballot s (Ended attempt.BallotsSpent) same has soon back = spent_of t.operation m.learned
+
+-- what a host knows once its attempt has heard this answer, or else its marking
+abbrev pub hears_one : Shape → ℕ → Memory → Option Doing → Answered → Memory
+hears_one c h m None x = hears_marking c h m m.marking x
+hears_one c h m (Some t) x = hears c h m (Some t) x
+
+-- the same of these answers, one after another
+abbrev pub after_answers : Shape → ℕ → Memory → List Answered → Memory
+after_answers c h m [] = m
+after_answers c h m (x ∷ xs) = after_answers c h (hears_one c h m m.doing x) xs
 
 unmarked_of : (c : Shape) (h : ℕ) (m : Memory) (o : Operation) (marking : Option Marking) (x : Answered) → marking ≡ None → IsOf o m → IsOf o (hears_marking c h m marking x)
 unmarked_of c h m o None x none is = is
 unmarked_of c h m o (Some t) x none is = absurd (cc)
 
-hears_of : (c : Shape) (h : ℕ) (m : Memory) (o : Operation) (doing : Option Doing) (x : Answered) → ReadsBack o → m.marking ≡ None → m.doing ≡ doing → GoesOn o m doing → IsOf o (hears_one c h m doing x)
+pub hears_of : (c : Shape) (h : ℕ) (m : Memory) (o : Operation) (doing : Option Doing) (x : Answered) → ReadsBack o → m.marking ≡ None → m.doing ≡ doing → GoesOn o m doing → IsOf o (hears_one c h m doing x)
 hears_of c h m o None x back unmarked is goes = unmarked_of c h m o m.marking x unmarked (subst (GoesOn o m) (sym is) goes)
 hears_of c h m o (Some t) x back unmarked is goes =
     let s : Setup = setup_of c h m t.operation in
     let heard = on (t.heard ++ x ∷ []) in
     subst (λ (p : Operation). IsOf p (hears c h m (Some t) x)) goes
-    (status_of c m (with_heard t x) (taken s heard) s (status s heard) refl (has_input s heard) (subst ReadsBack (sym goes) back))
+    (status_of c m (with_heard t x) (taken s heard) s (status s heard) refl (has_input s heard) (λ is. looking.ends s heard (high t.operation m.floor is)) (subst ReadsBack (sym goes) back))
 
 -- no marking begins meanwhile
 unmarked_hearing : (c : Shape) (h : ℕ) (m : Memory) (marking : Option Marking) (x : Answered) → marking ≡ None → m.marking ≡ None → (hears_marking c h m marking x).marking ≡ None
 unmarked_hearing c h m None x none is = is
 unmarked_hearing c h m (Some t) x none is = absurd (cc)
 
-unmarked_one : (c : Shape) (h : ℕ) (m : Memory) (doing : Option Doing) (x : Answered) → m.marking ≡ None → (hears_one c h m doing x).marking ≡ None
+pub unmarked_one : (c : Shape) (h : ℕ) (m : Memory) (doing : Option Doing) (x : Answered) → m.marking ≡ None → (hears_one c h m doing x).marking ≡ None
 unmarked_one c h m None x is = unmarked_hearing c h m m.marking x is is
 unmarked_one c h m (Some t) x is = marking_heard c h m (Some t) x ∙ is
 

@@ -1,32 +1,66 @@
 -- An operation of a host, from answer to answer, and how it ends.
-use Rattle.std.specs.Prelude.{◌≡◌, ◌≤◌, ℕ, true, List, [], ◌∷◌, ◌++◌, length, Option, Some, None}
+use Rattle.std.specs.Prelude.{◌≡◌, ◌≤◌, ℕ, true, List, [], ◌∷◌, ◌++◌, length, slice_get, slice_set, Option, Some, None}
 use Rattle.torn_block.specs.declared.layout.TheConstants.{DISKS, SLOTS}
-use Rattle.attempt.specs.Answers.{Answered}
-use Rattle.attempt.specs.History.{IsAnswerTo}
+use Rattle.disk.specs.Disk.{Call, Answer}
+use Rattle.attempt.specs.Answers.{heard_as}
+use Rattle.attempt.specs.History.{Fits}
+use Rattle.attempt.specs.Looking.{OnlyReads}
 use Rattle.slot_log.specs.Shape.{Shape}
 use Rattle.lock_command.specs.declared.command.Command.{Command}
 use Rattle.lock_table.specs.declared.reply.Reply.{Reply}
-use Rattle.host.specs.Host.{Memory, Doing, Operation, Submitting, Recovering, goes_on, hears, hears_marking, starts_marking, next_in, reply_after}
+use Rattle.host.specs.Host.{Memory, Doing, Operation, Submitting, Recovering, Looking, goes_on, starts_marking, hears_from, next_in, reply_after}
 use Rattle.host.specs.Kept.{Kept, LeadsTo, is_idle}
 use Rattle.host.specs.declared.answer.HostAnswer.{HostAnswer}
-use Rattle.host.specs.declared.answer.HostAnswer.TheVariants.{Ack, Recovered, Beaten, Marked, Refused}
+use Rattle.host.specs.declared.answer.HostAnswer.TheVariants.{Ack, Recovered, Looked, Beaten, Marked, Refused}
 
--- HEARING
+-- CALLS
 
--- what a host knows once its attempt has heard this answer, or else its marking
-abbrev pub hears_one : Shape → ℕ → Memory → Option Doing → Answered → Memory
-hears_one c h m None x = hears_marking c h m m.marking x
-hears_one c h m (Some t) x = hears c h m (Some t) x
+-- a call of a disk, and what it answered
+pub record Made : Type 0 where
+  pub disk : ℕ
+  pub call : Call
+  pub answer : Answer
 
--- what a host knows once it has heard these answers, one after another
-abbrev pub after_answers : Shape → ℕ → Memory → List Answered → Memory
-after_answers c h m [] = m
-after_answers c h m (x ∷ xs) = after_answers c h (hears_one c h m m.doing x) xs
+-- what a host knows once it has heard the answer to this call: its attempt, its beat or its marking, whichever is under way
+abbrev pub after_call : Shape → ℕ → Memory → Made → Memory
+after_call c h m x = hears_from c h m m.doing x.disk x.answer
 
--- each answer is to the call that was due then
-abbrev pub AnswersDue : Shape → ℕ → Memory → List Answered → Type 0
-AnswersDue c h m [] = Unit {0}
-AnswersDue c h m (x ∷ xs) = IsAnswerTo (next_in c h m) x × AnswersDue c h (hears_one c h m m.doing x) xs
+-- the same of these calls, one after another
+abbrev pub after_made : Shape → ℕ → Memory → List Made → Memory
+after_made c h m [] = m
+after_made c h m (x ∷ xs) = after_made c h (after_call c h m x) xs
+
+-- it is the call that is due, and the answer is of its kind
+pub record IsDue (c : Shape) (h : ℕ) (m : Memory) (x : Made) : Type 0 where
+  pub next : next_in c h m ≡ Some (x.disk, x.call)
+  pub fits : Fits x.call (heard_as x.answer)
+
+-- each was the call that was due then
+abbrev pub AreDue : Shape → ℕ → Memory → List Made → Type 0
+AreDue c h m [] = Unit {0}
+AreDue c h m (x ∷ xs) = IsDue c h m x × AreDue c h (after_call c h m x) xs
+
+-- none of them writes
+abbrev pub AreReads : List Made → Type 0
+AreReads [] = Unit {0}
+AreReads (x ∷ xs) = OnlyReads x.call × AreReads xs
+
+-- WHAT DISKS GIVE
+
+-- The disk that was called gave the answer, and the others stay as they were.
+pub record GaveOne {D : Type 0} (gives : D → Call → Answer → D → Type 0) (old : List D) (x : Made) (new : List D) : Type 0 where
+  pub before : D
+  pub after : D
+  pub is : slice_get old x.disk ≡ Some before
+  pub gave : gives before x.call x.answer after
+  pub others : new ≡ slice_set old x.disk after
+
+-- the same of these calls, one after another
+abbrev pub Gave : {D : Type 0} → (D → Call → Answer → D → Type 0) → List D → List Made → List D → Type 0
+Gave gives old [] new = new ≡ old
+Gave {D} gives old (x ∷ xs) new = (between : List D) × GaveOne gives old x between × Gave gives between xs new
+
+-- WHAT IS KNOWN
 
 -- the tries left of an operation under way
 abbrev pub tries_in : Option Doing → ℕ
@@ -43,30 +77,38 @@ pub record IsKnown (k : Kept) : Type 0 where
   pub rests : memory.beats.heard ≡ None
   pub tries : tries_in memory.doing ≤ 255
 
--- From what it kept to what it keeps, the host has heard answers to its calls, and nothing else.
-pub record HasHeard (old new : Kept) : Type 0 where
-  pub heard : List Answered
-  pub due : (c : Shape) (h : ℕ) (m : Memory) → LeadsTo c h m old → AnswersDue c h m heard
-  pub leads : (c : Shape) (h : ℕ) (m : Memory) → LeadsTo c h m old → LeadsTo c h (after_answers c h m heard) new
+-- what a host keeps, and its disks
+pub record Standing (D : Type 0) : Type 0 where
+  pub core : Kept
+  pub disks : List D
 
 -- AN OPERATION
 
--- From what it kept, the host began this operation, and has heard answers to its calls, and nothing else, until the operation
--- ended.
-pub record HasOperated (operation : Operation) (tries : ℕ) (old new : Kept) : Type 0 where
-  pub heard : List Answered
-  pub due : (c : Shape) (h : ℕ) (m : Memory) → LeadsTo c h m old → AnswersDue c h (goes_on c m operation tries) heard
-  pub leads : (c : Shape) (h : ℕ) (m : Memory) → LeadsTo c h m old →
-      LeadsTo c h (after_answers c h (goes_on c m operation tries) heard) new
-  pub ended : is_idle new ≡ true
+-- From old to new the host made these calls, each of which was due then; its disks gave the answers; and it heard these, and nothing
+-- else.
+pub record HasHeard {D : Type 0} (gives : D → Call → Answer → D → Type 0) (old new : Standing D) : Type 0 where
+  pub made : List Made
+  pub gave : Gave gives old.disks made new.disks
+  pub due : (c : Shape) (h : ℕ) (m : Memory) → LeadsTo c h m old.core → AreDue c h m made
+  pub leads : (c : Shape) (h : ℕ) (m : Memory) → LeadsTo c h m old.core → LeadsTo c h (after_made c h m made) new.core
 
--- From what it kept, the host began to mark this slot, and has heard answers to its calls, and nothing else, until that ended.
-pub record HasMarked (slot : ℕ) (old new : Kept) : Type 0 where
-  pub heard : List Answered
-  pub due : (c : Shape) (h : ℕ) (m : Memory) → LeadsTo c h m old → AnswersDue c h (starts_marking m slot) heard
-  pub leads : (c : Shape) (h : ℕ) (m : Memory) → LeadsTo c h m old →
-      LeadsTo c h (after_answers c h (starts_marking m slot) heard) new
-  pub ended : is_idle new ≡ true
+-- The same, where the host began this operation first, and until the operation ended.
+pub record HasOperated {D : Type 0} (gives : D → Call → Answer → D → Type 0) (operation : Operation) (tries : ℕ) (old new : Standing D) : Type 0 where
+  pub made : List Made
+  pub gave : Gave gives old.disks made new.disks
+  pub due : (c : Shape) (h : ℕ) (m : Memory) → LeadsTo c h m old.core → AreDue c h (goes_on c m operation tries) made
+  pub leads : (c : Shape) (h : ℕ) (m : Memory) → LeadsTo c h m old.core →
+      LeadsTo c h (after_made c h (goes_on c m operation tries) made) new.core
+  pub ended : is_idle new.core ≡ true
+
+-- The same, where it began to mark this slot first, and until the marking ended.
+pub record HasMarked {D : Type 0} (gives : D → Call → Answer → D → Type 0) (slot : ℕ) (old new : Standing D) : Type 0 where
+  pub made : List Made
+  pub gave : Gave gives old.disks made new.disks
+  pub due : (c : Shape) (h : ℕ) (m : Memory) → LeadsTo c h m old.core → AreDue c h (starts_marking m slot) made
+  pub leads : (c : Shape) (h : ℕ) (m : Memory) → LeadsTo c h m old.core →
+      LeadsTo c h (after_made c h (starts_marking m slot) made) new.core
+  pub ended : is_idle new.core ≡ true
 
 -- HOW IT ENDS
 
@@ -77,18 +119,25 @@ pub record IsAcknowledged (command : Command) (slot : ℕ) (reply : Reply) (lear
   pub at : slot ≡ length before
   pub replied : reply ≡ reply_after before command
 
--- what a host says where an operation ends: a submission is acknowledged or refused, and a recovery tells how much it learned
--- or is refused
+-- what a host says where an operation ends: a submission is acknowledged, a recovery and a look tell how much is learned, and
+-- each may be refused
 abbrev pub Ends : Operation → List Command → Option HostAnswer → Type 0
 Ends operation learned None = ⊥
 Ends (Submitting command) learned (Some (Ack slot reply)) = IsAcknowledged command slot reply learned
 Ends (Submitting command) learned (Some (Recovered count)) = ⊥
+Ends (Submitting command) learned (Some (Looked count)) = ⊥
 Ends (Submitting command) learned (Some (Beaten host)) = ⊥
 Ends (Submitting command) learned (Some (Marked count)) = ⊥
 Ends Recovering learned (Some (Ack slot reply)) = ⊥
 Ends Recovering learned (Some (Recovered count)) = count ≡ length learned
+Ends Recovering learned (Some (Looked count)) = ⊥
 Ends Recovering learned (Some (Beaten host)) = ⊥
 Ends Recovering learned (Some (Marked count)) = ⊥
+Ends Looking learned (Some (Ack slot reply)) = ⊥
+Ends Looking learned (Some (Recovered count)) = ⊥
+Ends Looking learned (Some (Looked count)) = count ≡ length learned
+Ends Looking learned (Some (Beaten host)) = ⊥
+Ends Looking learned (Some (Marked count)) = ⊥
 Ends operation learned (Some (Refused refusal)) = Unit {0}
 
 -- what a host says where a marking ends: on how many disks its block is marked, or a refusal
@@ -96,6 +145,7 @@ abbrev pub EndsMarking : Option HostAnswer → Type 0
 EndsMarking None = ⊥
 EndsMarking (Some (Ack slot reply)) = ⊥
 EndsMarking (Some (Recovered count)) = ⊥
+EndsMarking (Some (Looked count)) = ⊥
 EndsMarking (Some (Beaten host)) = ⊥
 EndsMarking (Some (Marked count)) = Unit {0}
 EndsMarking (Some (Refused refusal)) = Unit {0}

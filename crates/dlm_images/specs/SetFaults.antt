@@ -4,14 +4,14 @@ use Rattle.disk.specs.declared.fault.ImageFault.TheVariants.{WrongHeader}
 use Rattle.dlm_images.specs.declared.fault.FolderFault.{FolderFault}
 use Rattle.dlm_images.specs.declared.fault.FolderFault.TheVariants.{NoMemory, AlreadyThere, Image}
 use Rattle.dlm_images.specs.declared.set.SetFault.{SetFault}
-use Rattle.dlm_images.specs.Sets.{Found, HasNone, Differs}
+use Rattle.dlm_images.specs.Sets.{Found, AreImages, HasNone, Differs}
 
 -- the fault of disk 0 where no header is right, or a header that is not of the others' set
 abbrev pub HasSetFault : Found → SetFault → Type 0
 HasSetFault found f = ((f.disk ≡ 0) × HasNone found f.fault) ⊎ ((f.fault ≡ WrongHeader) × Differs found f.disk)
 
--- a folder that is there is refused for want of memory, for the fault of disk 0, or for a header that disagrees
+-- a folder that is there is refused for want of memory, or since its images are no set
 abbrev pub MayRefuse : FolderFault → Type 0
 MayRefuse NoMemory = Unit {0}
 MayRefuse AlreadyThere = ⊥
-MayRefuse (Image disk fault) = (disk ≡ 0) ⊎ (fault ≡ WrongHeader)
+MayRefuse (Image disk fault) = (found : Found) × AreImages found × HasSetFault found (record { disk = disk; fault = fault })

@@ -1,10 +1,12 @@
 ghost use Rattle.std.specs.Prelude.{◌≡◌, ◌≤◌, ℕ, Some, IfOk, IfErr, length, slice_get};
 ghost use Rattle.paxos_block.specs.Places.{image_length};
+ghost use Rattle.lock_command.specs.Command.{spelling};
+ghost use Rattle.lock_command.specs.Reading.{decoded};
 ghost use Rattle.lock_table.specs.Apply.{table_after};
 ghost use Rattle.lock_table.specs.Picture.{IsPictureOf};
-ghost use Rattle.host.specs.Host.{Submitting, Recovering, fresh};
+ghost use Rattle.host.specs.Host.{Submitting, Recovering, Looking, fresh};
 ghost use Rattle.host.specs.Kept.{Kept, LeadsTo};
-ghost use Rattle.dlm_images.specs.Operations.{HasOperated, HasMarked, IsAcknowledged, Ends, EndsMarking};
+ghost use Rattle.dlm_images.specs.Operations.{HasOperated, HasMarked, AreReads, IsAcknowledged, Ends, EndsMarking};
 
 use crate::operation::drive;
 use disk::{Disk, NoMemory};
@@ -33,12 +35,12 @@ pub struct DiskHost<D: Disk> {
 impl<D: Disk> Model for DiskHost<D> {
     ghost use Rattle.std.specs.Prelude.{◌≡◌, ◌≤◌, ℕ, true, Some, length, slice_get};
     ghost use Rattle.paxos_block.specs.Places.{image_length};
-    ghost use Rattle.host.specs.Kept.{Kept, is_idle};
-    ghost use Rattle.dlm_images.specs.Operations.{IsKnown, IsSmall};
+    ghost use Rattle.host.specs.Kept.{is_idle};
+    ghost use Rattle.dlm_images.specs.Operations.{IsKnown, IsSmall, Standing};
 
-    ghost Value = { Kept };
+    ghost Value = { Standing D };
 
-    ghost view = { λ h. h.core };
+    ghost view = { λ h. record { core = h.core; disks = h.disks.items } };
 
     ghost invariant = { λ h. record {
       known : IsKnown h.core;
@@ -61,7 +63,8 @@ impl<D: Disk> DiskHost<D> {
         D: Drop,
         requires as_many { length disks.items ≡ config.disks }
         requires large { (k : ℕ) (d : D) → slice_get disks.items k ≡ Some d → image_length config.slots ≤ (D.device d).size }
-        ensures { IfOk result (LeadsTo config host fresh) }
+        ensures fresh { IfOk result (λ started. LeadsTo config host fresh started.core) }
+        ensures disks { IfOk result (λ started. started.disks ≡ disks.items) }
     {
         let core = HostCore::start(alloc, host, config)?;
         Ok(DiskHost { core, disks })
@@ -69,34 +72,36 @@ impl<D: Disk> DiskHost<D> {
 
     /// The host's number.
     pub fn host(&self) -> HostNumber
-        ensures { result ≡ self.now.learner.host }
+        ensures { result ≡ self.now.core.learner.host }
     {
         self.core.host()
     }
 
     /// The commands learned: the first of the log, none left out.
     pub fn prefix(&self) -> &[Command]
-        ensures { result.now ≡ self.now.prefix }
+        ensures { result.now ≡ self.now.core.prefix }
     {
         self.core.prefix()
     }
 
     /// The lock table after these commands.
     pub fn table(&self) -> &Table
-        ensures { IsPictureOf result.now (table_after self.now.prefix) }
+        ensures { IsPictureOf result.now (table_after self.now.core.prefix) }
     {
         self.core.table()
     }
 
     /// Puts a command of this host into the log. Up to `tries` attempts may be outrun, the last of which ends the submission.
     pub fn submit(&mut self, command: Command, tries: u8) -> Result<Acknowledgement, Refusal>
-        requires host { command.host ≡ self.old.learner.host }
+        requires host { command.host ≡ self.old.core.learner.host }
         requires tries { 1 ≤ tries }
-        ensures operated { HasOperated (Submitting command) tries self.old self.new }
-        ensures acknowledged { IfOk result (λ done. IsAcknowledged command done.slot done.reply self.new.prefix) }
-        ensures refused { IfErr result (λ refusal. self.new.said ≡ Some (HostAnswer.Refused refusal)) }
+        ensures operated { HasOperated D.gives (Submitting command) tries self.old self.new }
+        // Its bytes are read as this command, by every host that learns it.
+        ensures readable { decoded (spelling command) ≡ Some command }
+        ensures acknowledged { IfOk result (λ done. IsAcknowledged command done.slot done.reply self.new.core.prefix) }
+        ensures refused { IfErr result (λ refusal. self.new.core.said ≡ Some (HostAnswer.Refused refusal)) }
     {
-        // Its numbers are in their ranges, so that its bytes are read back as the command.
+        // Called for its contract only: the command's numbers are in their ranges.
         let _spelled = command.encode();
         self.core.submit(command, tries);
         drive(&mut self.core, &mut self.disks);
@@ -106,10 +111,10 @@ impl<D: Disk> DiskHost<D> {
     /// Marks a slot that this host has learned, so that others learn it in one reading, and tells on how many disks its block is
     /// marked then.
     pub fn mark(&mut self, slot: u16) -> Result<u8, Refusal>
-        ensures marked { HasMarked slot self.old self.new }
-        ensures kept { self.new.prefix ≡ self.old.prefix }
-        ensures counted { IfOk result (λ count. self.new.said ≡ Some (HostAnswer.Marked count)) }
-        ensures refused { IfErr result (λ refusal. self.new.said ≡ Some (HostAnswer.Refused refusal)) }
+        ensures marked { HasMarked D.gives slot self.old self.new }
+        ensures kept { self.new.core.prefix ≡ self.old.core.prefix }
+        ensures counted { IfOk result (λ count. self.new.core.said ≡ Some (HostAnswer.Marked count)) }
+        ensures refused { IfErr result (λ refusal. self.new.core.said ≡ Some (HostAnswer.Refused refusal)) }
     {
         self.core.mark(slot);
         drive(&mut self.core, &mut self.disks);
@@ -120,13 +125,26 @@ impl<D: Disk> DiskHost<D> {
     /// the recovery.
     pub fn recover(&mut self, tries: u8) -> Result<u16, Refusal>
         requires { 1 ≤ tries }
-        ensures operated { HasOperated Recovering tries self.old self.new }
-        ensures learned { IfOk result (λ count. count ≡ length self.new.prefix) }
-        ensures refused { IfErr result (λ refusal. self.new.said ≡ Some (HostAnswer.Refused refusal)) }
+        ensures operated { HasOperated D.gives Recovering tries self.old self.new }
+        ensures learned { IfOk result (λ count. count ≡ length self.new.core.prefix) }
+        ensures refused { IfErr result (λ refusal. self.new.core.said ≡ Some (HostAnswer.Refused refusal)) }
     {
         self.core.recover(tries);
         drive(&mut self.core, &mut self.disks);
         recovered(&self.core)
+    }
+
+    /// Learns the commands that marks tell, up to the first slot of which none does, and tells how many are learned then. It writes
+    /// nothing and outruns nobody; what was acknowledged and not marked is not found.
+    pub fn look(&mut self) -> Result<u16, Refusal>
+        ensures operated { HasOperated D.gives Looking 1 self.old self.new }
+        ensures reads { (done : HasOperated D.gives Looking 1 self.old self.new) → AreReads done.made }
+        ensures learned { IfOk result (λ count. count ≡ length self.new.core.prefix) }
+        ensures refused { IfErr result (λ refusal. self.new.core.said ≡ Some (HostAnswer.Refused refusal)) }
+    {
+        self.core.look();
+        drive(&mut self.core, &mut self.disks);
+        looked(&self.core)
     }
 }
 
@@ -151,6 +169,19 @@ fn recovered(core: &HostCore) -> Result<u16, Refusal>
 {
     match core.answer() {
         Some(HostAnswer::Recovered { length }) => Ok(length),
+        Some(HostAnswer::Refused(refusal)) => Err(refusal),
+        _ => unreachable!(),
+    }
+}
+
+/// How a look has ended.
+fn looked(core: &HostCore) -> Result<u16, Refusal>
+    requires { Ends Looking core.now.prefix core.now.said }
+    ensures learned { IfOk result (λ count. count ≡ length core.now.prefix) }
+    ensures refused { IfErr result (λ refusal. core.now.said ≡ Some (HostAnswer.Refused refusal)) }
+{
+    match core.answer() {
+        Some(HostAnswer::Looked { length }) => Ok(length),
         Some(HostAnswer::Refused(refusal)) => Err(refusal),
         _ => unreachable!(),
     }

@@ -1,6 +1,7 @@
-ghost use Rattle.std.specs.Prelude.{◌≡◌, ◌<◌, ℕ, Some, IfOk, IfErr, IfSome, length, slice_get};
+ghost use Rattle.std.specs.Prelude.{◌≡◌, ◌<◌, ℕ, Some, IfOk, IfErr, length, map, slice_get};
 ghost use Rattle.dlm_images.specs.Operations.{IsSmall};
 ghost use Rattle.dlm_images.specs.SetFaults.{MayRefuse};
+ghost use Rattle.dlm_images.specs.Folders.{IsDiskOf, IsOpened, resized};
 ghost use Rattle.disk.specs.FileStates.{FileState};
 ghost use Rattle.paxos_block.specs.Headers.{IsHeader};
 ghost use Rattle.paxos_block.specs.Places.{image_length};
@@ -10,7 +11,7 @@ ghost use Rattle.host.specs.Kept.{LeadsTo};
 use crate::disk_host::DiskHost;
 use crate::fault::FolderFault;
 use crate::image::{image_path, open_image};
-use crate::set::common_header;
+use crate::set::set_of;
 use disk::{Disk, FileDisk, ImageFault, NoMemory};
 use host::Config;
 use lock_command::HostNumber;
@@ -35,7 +36,8 @@ pub struct Folder<F> {
 impl<F: FileExt + OpenFile + Drop> Folder<F> {
     /// A host over the disks of the folder. It has learned nothing yet.
     pub fn host(self, alloc: Global, host: HostNumber) -> Result<DiskHost<FileDisk<F>>, NoMemory>
-        ensures { IfOk result (LeadsTo self.config host fresh) }
+        ensures fresh { IfOk result (λ started. LeadsTo self.config host fresh started.core) }
+        ensures disks { IfOk result (λ started. started.disks ≡ self.disks.items) }
     {
         DiskHost::start(alloc, host, self.config, self.disks)
     }
@@ -48,7 +50,8 @@ pub fn open_folder<R: Files + AllocGlobal>(
 ) -> Result<Folder<R::File>, FolderFault>
 where
     R::File: FileExt + OpenFile + Drop,
-    ensures { IfErr result MayRefuse }
+    ensures opened { IfOk result (λ folder. IsOpened folder.config folder.cluster folder.disks.items) }
+    ensures fault { IfErr result MayRefuse }
 {
     let mut found = [Err(ImageFault::Unreadable); DISKS as usize];
     let mut disks = Vec::with_capacity(rt.alloc(), usize::from(DISKS))?;
@@ -57,18 +60,12 @@ where
         found[usize::from(disk)] = header;
         disks.push_reserved(image);
     }
-    let header = common_header(&found)?;
-    let Some(config) = config_of(&header) else {
-        return Err(FolderFault::Image {
-            disk: 0,
-            fault: ImageFault::WrongHeader,
-        });
-    };
-    disks.truncate(usize::from(config.disks()));
-    resize(&mut disks, config.image_length());
+    let set = set_of(&found)?;
+    disks.truncate(usize::from(set.config.disks()));
+    resize(&mut disks, set.config.image_length());
     Ok(Folder {
-        config,
-        cluster: header.cluster,
+        config: set.config,
+        cluster: set.cluster,
         disks,
     })
 }
@@ -82,6 +79,8 @@ fn look<R: Files + AllocGlobal>(
 where
     R::File: FileExt + OpenFile + Drop,
     ensures right { IfOk result (λ found. IfOk found.0 IsHeader) }
+    ensures number { IfOk result (λ found. IfOk found.0 (λ header. header.disk ≡ disk)) }
+    ensures disk { IfOk result (λ found. IsDiskOf found.0 found.1) }
     ensures fault { IfErr result (λ fault. fault ≡ FolderFault.NoMemory) }
 {
     let path = image_path(rt.alloc(), folder, disk)?;
@@ -91,17 +90,11 @@ where
     }
 }
 
-/// How large the cluster is whose image has this header.
-fn config_of(header: &Header) -> Option<Config>
-    ensures { IfSome result IsSmall }
-{
-    Config::new(header.disks, u16::try_from(header.slots).ok()?)
-}
-
-/// Those that were refused have no size yet.
+/// Disks of another size are not used: those that were refused have no size yet.
 fn resize<F: FileExt + OpenFile + Drop>(disks: &mut Vec<FileDisk<F>>, size: u64)
     ensures as_many { length disks.new.items ≡ length disks.old.items }
     ensures long { (k : ℕ) (d : FileState) → slice_get disks.new.items k ≡ Some d → d.size ≡ size }
+    ensures images { disks.new.items ≡ map (resized size) disks.old.items }
 {
     for disk in 0..disks.len() {
         if disks[disk].size() != size {

@@ -1,12 +1,12 @@
-ghost use Rattle.std.specs.Prelude.{◌≡◌, ◌≤◌, ◌<◌};
-ghost use Rattle.paxos_block.specs.Headers.{IsHeader};
+ghost use Rattle.std.specs.Prelude.{◌≡◌, ◌≤◌, ◌<◌, OnOk};
 ghost use Rattle.paxos_block.specs.Places.{image_length};
+ghost use Rattle.dlm_images.specs.Layout.{IsLaidOut, WritesZeros, header_of};
 
 use crate::fault::FolderFault;
 use crate::image::image_path;
 use disk::{Boot, Disk, DiskFault, FileDisk, ImageFault};
 use host::Config;
-use paxos_block::{Header, encode_header, image_length};
+use paxos_block::{Header, encode_header};
 use std::fs::OpenFile;
 use std::os::unix::fs::FileExt;
 use std::path::PathBuf;
@@ -36,38 +36,53 @@ where
     }
     for disk in 0..disks {
         let path = image_path(rt.alloc(), folder, disk)?;
-        let header = Header {
+        make_image(rt, path.as_str(), config, cluster, disk).map_err(|fault| FolderFault::Image {
             disk,
-            disks,
-            slots: u32::from(config.slots()),
-            cluster,
-        };
-        make_image(rt, path.as_str(), &header).map_err(|fault| FolderFault::Image { disk, fault })?;
+            fault,
+        })?;
     }
     Ok(())
 }
 
-fn make_image<R: Files>(files: &R, path: &str, header: &Header) -> Result<(), ImageFault>
+fn make_image<R: Files>(
+    files: &R,
+    path: &str,
+    config: Config,
+    cluster: u64,
+    disk: u8,
+) -> Result<(), ImageFault>
 where
     R::File: FileExt + OpenFile + Drop,
-    requires { IsHeader header.now }
+    requires { disk < config.disks }
 {
-    let mut device = FileDisk::make(files, path, image_length(header.slots))?;
-    match lay_out(&mut device, header) {
+    let mut device = FileDisk::make(files, path, config.image_length())?;
+    match lay_out(&mut device, config, cluster, disk) {
         Ok(()) => Ok(()),
         Err(_) => Err(ImageFault::Unreadable),
     }
 }
 
-/// Writes an image with this header and no blocks. Its gate is opened last, once all else is synced.
-pub fn lay_out<D: Disk>(device: &mut D, header: &Header) -> Result<(), DiskFault>
-    requires header { IsHeader header.now }
-    requires large { image_length header.now.slots ≤ (D.device device.old).size }
+/// Writes an image of a set with no blocks, that of this disk. Its gate is opened last, once all else is synced. Where a call fails no
+/// other is made.
+pub fn lay_out<D: Disk>(
+    device: &mut D,
+    config: Config,
+    cluster: u64,
+    disk: u8,
+) -> Result<(), DiskFault>
+    requires disk { disk < config.disks }
+    requires large { image_length config.slots ≤ (D.device device.old).size }
+    ensures laid_out { OnOk result (IsLaidOut D.gives device.old (header_of config cluster disk) device.new) }
 {
     let boot = device.attach()?;
-    put_zeros(device, boot, image_length(header.slots))?;
+    put_zeros(device, boot, config.image_length())?;
     device.sync(boot)?;
-    let mut bytes = encode_header(header);
+    let mut bytes = encode_header(&Header {
+        disk,
+        disks: config.disks(),
+        slots: u32::from(config.slots()),
+        cluster,
+    });
     bytes[0] = 0;
     device.write(boot, 0, &bytes)?;
     device.sync(boot)?;
@@ -78,7 +93,8 @@ pub fn lay_out<D: Disk>(device: &mut D, header: &Header) -> Result<(), DiskFault
 /// The disk is all zeros, up to this size.
 fn put_zeros<D: Disk>(device: &mut D, boot: Boot, size: u64) -> Result<(), DiskFault>
     requires { size ≤ (D.device device.old).size }
-    ensures { D.device device.new ≡ D.device device.old }
+    ensures zeros { OnOk result (WritesZeros D.gives boot.number 0 size device.old device.new) }
+    ensures device { D.device device.new ≡ D.device device.old }
 {
     let zeros = [0; CHUNK];
     let mut at = 0;

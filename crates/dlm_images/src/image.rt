@@ -1,7 +1,9 @@
-ghost use Rattle.std.specs.Prelude.{◌≡◌, IfOk, IfErr};
+ghost use Rattle.std.specs.Prelude.{◌≡◌, true, IfOk, IfErr};
+ghost use Rattle.std.specs.Path.{path_buf_bytes, path_join};
 ghost use Rattle.paxos_block.specs.Places.{image_length};
 ghost use Rattle.paxos_block.specs.Headers.{IsHeader};
 ghost use Rattle.dlm_images.specs.declared.fault.FolderFault.TheVariants.{NoMemory};
+ghost use Rattle.dlm_images.specs.Folders.{image_name, ReadsHeader};
 
 use crate::fault::FolderFault;
 use disk::{Disk, DiskFault, FileDisk, ImageFault};
@@ -15,7 +17,8 @@ use torn_block::HEADER_LENGTH;
 
 /// The path of the image of this number.
 pub fn image_path(alloc: Global, folder: &str, disk: u8) -> Result<PathBuf, FolderFault>
-    ensures { IfErr result (λ fault. fault ≡ NoMemory) }
+    ensures path { IfOk result (λ path. path_buf_bytes path ≡ path_join folder.now (image_name disk)) }
+    ensures fault { IfErr result (λ fault. fault ≡ NoMemory) }
 {
     let name = format!(in alloc; "disk{disk}.img")?;
     Ok(Path::new(folder).join(alloc, name.as_str())?)
@@ -30,7 +33,9 @@ pub fn open_image<R: Files>(
 where
     R::File: FileExt + OpenFile + Drop,
     ensures right { IfOk result (λ image. IsHeader image.0) }
+    ensures number { IfOk result (λ image. image.0.disk ≡ disk) }
     ensures long { IfOk result (λ image. image.1.size ≡ image_length image.0.slots) }
+    ensures used { IfOk result (λ image. image.1.used ≡ true) }
 {
     let mut file = FileDisk::open(files, path)?;
     let header = read_header(&mut file, disk)?;
@@ -40,7 +45,9 @@ where
 /// The header of a device, where it is that of the image of this number.
 fn read_header<D: Disk>(device: &mut D, disk: u8) -> Result<Header, ImageFault>
     ensures right { IfOk result IsHeader }
+    ensures number { IfOk result (λ header. header.disk ≡ disk) }
     ensures long { IfOk result (λ header. image_length header.slots ≡ (D.device device.old).size) }
+    ensures told { IfOk result (λ header. ReadsHeader D.gives device.old disk (D.device device.old).size header device.new) }
     ensures device { D.device device.new ≡ D.device device.old }
 {
     let long = device.size();

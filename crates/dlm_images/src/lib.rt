@@ -2,6 +2,7 @@
 #![tactic(auto)]
 
 mod disk_host;
+mod examples;
 mod fault;
 mod folder;
 mod format;
@@ -10,8 +11,9 @@ mod operation;
 mod set;
 
 pub use disk_host::{Acknowledgement, DiskHost};
+pub use examples::first_operation_is_acknowledged;
 pub use fault::FolderFault;
 pub use folder::{Folder, open_folder};
 pub use format::{format_folder, lay_out};
 pub use operation::drive;
-pub use set::{SetFault, common_header};
+pub use set::{ImageSet, SetFault, set_of};

@@ -2,6 +2,7 @@ ghost use Rattle.std.specs.Prelude.{◌≡◌, ◌≤◌, ℕ, true, Some, lengt
 ghost use Rattle.torn_block.specs.declared.layout.TheConstants.{DISKS, SLOTS};
 ghost use Rattle.paxos_block.specs.Places.{image_length};
 ghost use Rattle.attempt.specs.History.{Fits};
+ghost use Rattle.beats.specs.Calls.{device_answer};
 ghost use Rattle.phases.specs.Calls.{IsWithin, device_call_of, heard_of};
 ghost use Rattle.host.specs.Kept.{is_idle};
 ghost use Rattle.dlm_images.specs.Operations.{IsKnown, HasHeard};
@@ -11,10 +12,9 @@ use host::HostCore;
 use phases::{DeviceCall, Heard};
 use torn_block::{DISKS, ROW_LENGTH, SLOTS};
 
-/// No operation makes more calls: each attempt makes 17 a disk at most, and learns a slot, or uses a try, or is the last. A
-/// marking makes 9 a disk at most.
-const MOST_CALLS: u64 = (SLOTS as u64 * 256 + 257) * (17 * DISKS as u64 + 1)
-    + (9 * DISKS as u64 + 1);
+/// No operation makes more calls: each of its attempts makes 17 a disk at most, and learns a slot, or uses one of at most 255 tries,
+/// or is the last. A marking makes 9 a disk at most.
+const MOST_CALLS: u64 = (SLOTS as u64 + 256) * (17 * DISKS as u64);
 
 /// Makes the calls of a host's operation or marking on its disks, until it has ended.
 pub fn drive<D: Disk>(host: &mut HostCore, disks: &mut [D])
@@ -27,7 +27,8 @@ pub fn drive<D: Disk>(host: &mut HostCore, disks: &mut [D])
     ensures shape { host.new.learner.shape ≡ host.old.learner.shape }
     ensures large { (k : ℕ) (d : D) → slice_get disks.new k ≡ Some d →
         image_length host.old.learner.shape.slots ≤ (D.device d).size }
-    ensures heard { HasHeard host.old host.new }
+    ensures heard { HasHeard D.gives (record { core = host.old; disks = disks.old })
+        (record { core = host.new; disks = disks.new }) }
 {
     let mut row = [0; ROW_LENGTH];
     for _made in 0..MOST_CALLS {
@@ -40,7 +41,7 @@ pub fn drive<D: Disk>(host: &mut HostCore, disks: &mut [D])
     }
 }
 
-/// Makes a device call. A row that is read is in `row`.
+/// Makes one call of the disk, and tells what the disk answered. A row that is read is in `row`.
 fn answer_of<'a, D: Disk>(
     disk: &mut D,
     call: &DeviceCall<'_>,
@@ -48,6 +49,7 @@ fn answer_of<'a, D: Disk>(
 ) -> Heard<'a>
     requires { IsWithin (D.device disk.old).size call.now }
     ensures fits { Fits (device_call_of call.now) (heard_of result) }
+    ensures gave { D.gives disk.old (device_call_of call.now) (device_answer result) disk.new }
     ensures device { D.device disk.new ≡ D.device disk.old }
 {
     match call {

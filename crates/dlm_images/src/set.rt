@@ -1,11 +1,20 @@
-ghost use Rattle.std.specs.Prelude.{◌<◌, ◌≤◌, ◌↔◌, IfOk, IfErr, IsTrue, length, None};
-ghost use Rattle.dlm_images.specs.Sets.{IsSameSet, IsSetOf};
-ghost use Rattle.dlm_images.specs.SetFaults.{HasSetFault};
+ghost use Rattle.std.specs.Prelude.{◌≡◌, ◌<◌, ◌≤◌, ◌↔◌, IfOk, IfErr, IsTrue, length, None};
 ghost use Rattle.torn_block.specs.declared.layout.TheConstants.{DISKS};
+ghost use Rattle.paxos_block.specs.Headers.{IsHeader};
+ghost use Rattle.dlm_images.specs.Sets.{AreHeaders, IsSameSet, IsSetOf, HasNumbers};
+ghost use Rattle.dlm_images.specs.SetFaults.{HasSetFault};
 
 use disk::ImageFault;
+use host::Config;
 use paxos_block::Header;
 use torn_block::DISKS;
+
+/// What the images of one set have in common.
+#[derive(Clone, Copy, Debug, PartialEq, Eq)]
+pub struct ImageSet {
+    pub config: Config,
+    pub cluster: u64,
+}
 
 /// Why no set of images is found, and of which image that is told.
 #[derive(Clone, Copy, Debug, PartialEq, Eq)]
@@ -14,8 +23,23 @@ pub struct SetFault {
     pub fault: ImageFault,
 }
 
+/// The set that images are, by what was found of each: its right header, or why it is refused.
+pub fn set_of(found: &[Result<Header, ImageFault>]) -> Result<ImageSet, SetFault>
+    requires some { 0 < length found.now }
+    requires few { length found.now ≤ DISKS }
+    requires headers { AreHeaders found.now }
+    ensures set { IfOk result (λ set. HasNumbers found.now set.config set.cluster) }
+    ensures fault { IfErr result (HasSetFault found.now) }
+{
+    let header = common_header(found)?;
+    Ok(ImageSet {
+        config: config_of(&header),
+        cluster: header.cluster,
+    })
+}
+
 /// The header of the first image that has a right one, where all right ones are of one set.
-pub fn common_header(found: &[Result<Header, ImageFault>]) -> Result<Header, SetFault>
+fn common_header(found: &[Result<Header, ImageFault>]) -> Result<Header, SetFault>
     requires some { 0 < length found.now }
     requires few { length found.now ≤ DISKS }
     ensures set { IfOk result (IsSetOf found.now) }
@@ -48,4 +72,16 @@ fn is_same_set(a: &Header, b: &Header) -> bool
     ensures { IsTrue result ↔ IsSameSet a.now b.now }
 {
     a.disks == b.disks && a.slots == b.slots && a.cluster == b.cluster
+}
+
+/// How large the cluster is whose images have this header.
+fn config_of(header: &Header) -> Config
+    requires { IsHeader header.now }
+    ensures disks { result.disks ≡ header.now.disks }
+    ensures slots { result.slots ≡ header.now.slots }
+{
+    match Config::new(header.disks, header.slots as u16) {
+        Some(config) => config,
+        None => unreachable!(),
+    }
 }

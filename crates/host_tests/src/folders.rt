@@ -1,7 +1,7 @@
 ghost use Rattle.std.specs.Prelude.{◌≡◌, IfSome};
 
-use disk::Disk;
-use dlm_images::{DiskHost, format_folder, open_folder};
+use disk::{Disk, ImageFault};
+use dlm_images::{DiskHost, FolderFault, format_folder, open_folder};
 use host::Config;
 use lock_command::{
     Action, ClientNumber, Command, HostNumber, LockName, LockNumber, RequestNumber,
@@ -113,6 +113,54 @@ fn host_that_stays_open(rt: HostRuntime) -> Result<(), Fail> {
     let (learned, same) = learn_all(&rt, folder)?;
     assert_eq!(rt; learned, 3);
     assert_eq!(rt; same.as_slice(), want.as_slice());
+    fs::remove_dir_all(&rt, folder)?;
+    Ok(())
+}
+
+// How many disks and slots an open folder has, its cluster number, and how many images are open.
+fn opened(rt: &HostRuntime, folder: &str) -> Result<(u8, u16, u64, usize), Fail> {
+    let folder = open_folder(rt, folder)?;
+    let config = folder.config;
+    Ok((
+        config.disks(),
+        config.slots(),
+        folder.cluster,
+        folder.disks.len(),
+    ))
+}
+
+// An open folder has the numbers that it was made with, with the first image and without it.
+#[test]
+fn numbers_of_a_folder(rt: HostRuntime) -> Result<(), Fail> {
+    let folder = "dlm_images_numbers";
+    make(&rt, folder)?;
+    assert_eq!(rt; opened(&rt, folder)?, (3, 8, 7, 3));
+    fs::remove_file(&rt, "dlm_images_numbers/disk0.img")?;
+    assert_eq!(rt; opened(&rt, folder)?, (3, 8, 7, 3));
+    fs::remove_dir_all(&rt, folder)?;
+    Ok(())
+}
+
+// Where one of the files is there nothing is made, and that file stays as it was; nor is anything made where there is no folder.
+#[test]
+fn files_that_are_there_stay(rt: HostRuntime) -> Result<(), Fail> {
+    let folder = "dlm_images_kept";
+    let config = Config::new(3, 8).ok_or("a size")?;
+    let _ = fs::remove_dir_all(&rt, folder);
+    let missing = FolderFault::Image {
+        disk: 0,
+        fault: ImageFault::Unreadable,
+    };
+    assert_eq!(rt; format_folder(&rt, folder, config, 7).err(), Some(missing));
+    fs::create_dir(&rt, folder)?;
+    fs::write(&rt, "dlm_images_kept/disk2.img", b"kept")?;
+    assert_eq!(rt;
+        format_folder(&rt, folder, config, 7).err(),
+        Some(FolderFault::AlreadyThere)
+    );
+    let bytes = fs::read(&rt, "dlm_images_kept/disk2.img")?;
+    assert_eq!(rt; bytes.as_slice(), b"kept".as_slice());
+    assert!(rt; fs::read(&rt, "dlm_images_kept/disk0.img").is_err());
     fs::remove_dir_all(&rt, folder)?;
     Ok(())
 }

@@ -6,6 +6,8 @@ mod folders;
 #[cfg(test)]
 mod host_core_runs;
 #[cfg(test)]
+mod laid_out;
+#[cfg(test)]
 mod raced;
 #[cfg(test)]
 mod simulated;

@@ -138,6 +138,7 @@ fn laws_of_the_world(_rt: HostRuntime) {
     world_served::alone_submissions_are_served();
     world_served::alone_attempts_are_served();
     world_served::seventeen_calls_are_taken();
+    dlm_images::first_operation_is_acknowledged();
 }
 
 #[test]

@@ -1,18 +1,23 @@
-use Rattle.std.proofs.Common.{◌≡◌, ◌≤◌, ◌<◌, length, arith, sym, ◌∙◌, subst, refl}
+use Rattle.std.proofs.Common.{◌≡◌, ◌≤◌, ◌<◌, ℕ, length, slice_get, slice_set, get_or, Some, ap, arith, sym, ◌∙◌, subst, refl}
 use Rattle.std.proofs.lemmas.Option.{slice_get-get_or}
 use Rattle.std.proofs.lemmas.List.{length-set}
 use Rattle.disk.specs.Disk as device
 use Rattle.paxos_block.specs.Places.{image_length}
 use Rattle.slot_log.specs.Shape.{Shape}
 use Rattle.attempt.specs.Answers.{Answered}
+use Rattle.attempt.specs.History.{Fits}
+use Rattle.beats.specs.Calls.{device_answer}
+use Rattle.host.specs.Host.{hears_from}
+use Rattle.host.proofs.Hosts.{heard_same}
+use Rattle.dlm_images.specs.Operations.{Made, Standing}
 use Rattle.phases.specs.Calls.{IsWithin, call_of_need, heard_of}
-use Rattle.host.specs.Kept.{due_call}
-use Rattle.dlm_images.proofs.Driving.{attempt_hears, driven_at_first, driven_more, within_more, answers_due, set_keeps}
+use Rattle.host.specs.Kept.{LeadsTo, due_call}
+use Rattle.dlm_images.proofs.Driving.{attempt_hears, driven_at_first, driven_more, within_more, set_keeps}
 use Rattle.dlm_images.proofs.operation.drive.Goals as goal
 
 pub loop-made-init : goal.loop-made-init
 loop-made-init g c = record {
-  driven = driven_at_first c.args.host.now c.requires.known c.requires.few.1;
+  driven = driven_at_first g.D.Disk.gives c.args.disks.now c.args.host.now c.requires.known c.requires.few.1;
   as_many = refl;
   large = c.requires.large;
 }
@@ -32,11 +37,30 @@ loop-made-preserved g c = record {
   driven =
       let x : Answered = record { disk = (due_call c.loop-made.host).0; heard = heard_of c.answer_of-heard.result } in
       let few : c.args.host.now.learner.shape.disks ≤ 7 = omega (arith, c.requires.few.0, c.requires.as_many) in
-      driven_more c.args.host.now.learner.shape c.args.host.now c.loop-made.host c.hear.new.self x c.loop-made._made few
+      let due = call_of_need c.call-need.result in
+      let y : Made = record { disk = due.0; call = due.1; answer = device_answer c.answer_of-heard.result } in
+      let shape = c.args.host.now.learner.shape in
+      let same : c.loop-made.host.learner.shape ≡ shape = c.loop-made.invariant.driven.leads.learner.shape in
+      let there : c.call-need.result.disk < shape.disks = subst (λ (s : Shape). c.call-need.result.disk < s.disks) same c.call-need.ensures.disk in
+      let within : c.from.result < length c.loop-made.disks = omega (arith, there, c.from.ensures, c.requires.as_many, c.loop-made.invariant.as_many) in
+      let old : Standing g.row.D.Denot = record { core = c.args.host.now; disks = c.args.disks.now } in
+      let now : Standing g.row.D.Denot = record { core = c.loop-made.host; disks = c.loop-made.disks } in
+      let new : Standing g.row.D.Denot = record { core = c.hear.new.self; disks = slice_set c.loop-made.disks c.from.result c.answer_of-heard.new.disk } in
+      driven_more g.D.Disk.gives shape old now new y x c.loop-made._made few
+      (record {
+        gave = record {
+          before = get_or c.loop-made.disks c.from.result c.index-disks-from.result;
+          after = c.answer_of-heard.new.disk;
+          is = subst (λ (k : ℕ). slice_get c.loop-made.disks k ≡ Some (get_or c.loop-made.disks c.from.result c.index-disks-from.result)) c.from.ensures (slice_get-get_or c.loop-made.disks c.from.result c.index-disks-from.result within);
+          gave = c.answer_of-heard.ensures.gave;
+          others = ap (λ (k : ℕ). slice_set c.loop-made.disks k c.answer_of-heard.new.disk) c.from.ensures;
+        };
+        due = λ s h m leads. record { next = c.call-need.ensures.next s h m leads; fits = subst (Fits due.1) (heard_same c.answer_of-heard.result) c.answer_of-heard.ensures.fits };
+        leads = λ s h m leads. subst (λ (p : ℕ × device.Call). LeadsTo s h (hears_from s h m m.doing p.0 (device_answer c.answer_of-heard.result)) c.hear.new.self) (sym c.call-need.ensures.due) (c.hear.ensures.leads s h m leads);
+      })
       (record {
         busy = λ s h m leads. sym (c.idle.ensures.known s h m leads) ∙ c.if-idle.false;
-        fits = λ s h m leads. answers_due _ (call_of_need c.call-need.result) (due_call c.loop-made.host) x (c.call-need.ensures.next s h m leads) c.call-need.ensures.due refl c.answer_of-heard.ensures.fits;
-        leads = attempt_hears c.args.host.now c.loop-made.host c.hear.new.self _ c.args.host.now.learner.shape c.loop-made.invariant.driven (due_call c.loop-made.host).0 c.answer_of-heard.result
+        leads = attempt_hears g.D.Disk.gives old now c.hear.new.self _ shape c.loop-made.invariant.driven (due_call c.loop-made.host).0 c.answer_of-heard.result
             c.hear.ensures.leads;
         alone = λ s h m leads. c.hear.ensures.alone s h m leads;
         nine = λ s h m leads. c.hear.ensures.marked_nine s h m leads;

@@ -2,8 +2,7 @@ use Rattle.std.proofs.Common.{◌≡◌, ◌≤◌, ◌++◌, ℕ, List, Some, l
 use Rattle.paxos_block.specs.Places.{image_length}
 use Rattle.slot_log.specs.Shape.{Shape}
 use Rattle.host.specs.Host.{Recovering}
-use Rattle.host.specs.Kept.{Kept}
-use Rattle.dlm_images.specs.Operations.{IsSmall, HasOperated}
+use Rattle.dlm_images.specs.Operations.{IsSmall, Standing, HasOperated}
 use Rattle.dlm_images.proofs.Driving.{known_begun, begun_shape, known_operated, operated, operated_ends, written_back}
 use Rattle.dlm_images.proofs.disk_host.DiskHost.recover.Goals as goal
 
@@ -32,18 +31,18 @@ drive-requires-clause-large g c =
 
 pub recovered-requires : goal.recovered-requires
 recovered-requires g c =
-    operated_ends Recovering c.args.tries c.self.inside.core c.drive.new.host tt c.self.invariant.known c.self.invariant.idle
-    (operated Recovering c.args.tries c.self.inside.core c.recover.new.self c.drive.new.host c.recover.ensures c.drive.ensures.heard c.drive.ensures.ended)
+    operated_ends g.D.Disk.gives Recovering c.args.tries (record { core = c.self.inside.core; disks = c.deref_mut.result.now }) (record { core = c.drive.new.host; disks = c.drive.new.disks }) tt c.self.invariant.known c.self.invariant.idle
+    (operated g.D.Disk.gives Recovering c.args.tries (record { core = c.self.inside.core; disks = c.deref_mut.result.now }) c.recover.new.self (record { core = c.drive.new.host; disks = c.drive.new.disks }) c.recover.ensures c.drive.ensures.heard c.drive.ensures.ended)
 
 pub invariant_of-self : goal.invariant_of-self
 invariant_of-self g c =
-    let done : HasOperated Recovering c.args.tries c.self.inside.core c.drive.new.host =
-    operated Recovering c.args.tries c.self.inside.core c.recover.new.self c.drive.new.host c.recover.ensures c.drive.ensures.heard c.drive.ensures.ended in
+    let done : HasOperated g.D.Disk.gives Recovering c.args.tries (record { core = c.self.inside.core; disks = c.deref_mut.result.now }) (record { core = c.drive.new.host; disks = c.drive.new.disks }) =
+    operated g.D.Disk.gives Recovering c.args.tries (record { core = c.self.inside.core; disks = c.deref_mut.result.now }) c.recover.new.self (record { core = c.drive.new.host; disks = c.drive.new.disks }) c.recover.ensures c.drive.ensures.heard c.drive.ensures.ended in
     let begun : c.recover.new.self.learner.shape ≡ c.self.inside.core.learner.shape = begun_shape Recovering c.args.tries c.self.inside.core c.recover.new.self c.self.invariant.known c.recover.ensures in
     let same : c.drive.new.host.learner.shape ≡ c.self.inside.core.learner.shape = c.drive.ensures.shape ∙ begun in
     let kept : take c.self.inside.disks.len (c.drive.new.disks ++ drop (length c.drive.new.disks) c.self.inside.disks.items) ≡ c.drive.new.disks =
     written_back c.drive.new.disks c.self.inside.disks.items c.self.inside.disks.len (c.drive.auto.disks ∙ c.deref_mut.ensures.len) in record {
-      known = known_operated Recovering c.args.tries c.self.inside.core c.drive.new.host c.self.invariant.known done;
+      known = known_operated g.D.Disk.gives Recovering c.args.tries (record { core = c.self.inside.core; disks = c.deref_mut.result.now }) (record { core = c.drive.new.host; disks = c.drive.new.disks }) c.self.invariant.known done;
       idle = c.drive.ensures.ended;
       small = subst IsSmall (sym same) c.self.invariant.small;
       as_many =
@@ -56,5 +55,10 @@ invariant_of-self g c =
 
 pub returns-clause-operated : goal.returns-clause-operated
 returns-clause-operated g c =
-    subst (λ (k : Kept). HasOperated Recovering c.args.tries k c.drive.new.host) c.self.view_is
-    (operated Recovering c.args.tries c.self.inside.core c.recover.new.self c.drive.new.host c.recover.ensures c.drive.ensures.heard c.drive.ensures.ended)
+    let kept : take c.self.inside.disks.len (c.drive.new.disks ++ drop (length c.drive.new.disks) c.self.inside.disks.items) ≡ c.drive.new.disks =
+    written_back c.drive.new.disks c.self.inside.disks.items c.self.inside.disks.len (c.drive.auto.disks ∙ c.deref_mut.ensures.len) in
+    let new : Standing g.row.D.Denot = record { core = c.drive.new.host; disks = take c.self.inside.disks.len (c.drive.new.disks ++ drop (length c.drive.new.disks) c.self.inside.disks.items) } in
+    subst (λ (s : Standing g.row.D.Denot). HasOperated g.D.Disk.gives Recovering c.args.tries s new) c.self.view_is
+    (subst (λ (ds : List g.row.D.Denot). HasOperated g.D.Disk.gives Recovering c.args.tries (record { core = c.self.inside.core; disks = ds }) new) c.deref_mut.ensures.value
+    (subst (λ (ds : List g.row.D.Denot). HasOperated g.D.Disk.gives Recovering c.args.tries (record { core = c.self.inside.core; disks = c.deref_mut.result.now }) (record { core = c.drive.new.host; disks = ds })) (sym kept)
+    (operated g.D.Disk.gives Recovering c.args.tries (record { core = c.self.inside.core; disks = c.deref_mut.result.now }) c.recover.new.self (record { core = c.drive.new.host; disks = c.drive.new.disks }) c.recover.ensures c.drive.ensures.heard c.drive.ensures.ended)))

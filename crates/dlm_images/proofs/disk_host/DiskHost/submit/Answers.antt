@@ -2,8 +2,7 @@ use Rattle.std.proofs.Common.{◌≡◌, ◌≤◌, ◌++◌, ℕ, List, Some, l
 use Rattle.paxos_block.specs.Places.{image_length}
 use Rattle.slot_log.specs.Shape.{Shape}
 use Rattle.host.specs.Host.{Submitting}
-use Rattle.host.specs.Kept.{Kept}
-use Rattle.dlm_images.specs.Operations.{IsSmall, HasOperated}
+use Rattle.dlm_images.specs.Operations.{IsSmall, Standing, HasOperated}
 use Rattle.dlm_images.proofs.Driving.{known_begun, begun_shape, known_operated, operated, operated_ends, written_back}
 use Rattle.dlm_images.proofs.Ending.{reads_back}
 use Rattle.dlm_images.proofs.disk_host.DiskHost.submit.Goals as goal
@@ -33,18 +32,18 @@ drive-requires-clause-large g c =
 
 pub acknowledged-requires : goal.acknowledged-requires
 acknowledged-requires g c =
-    operated_ends (Submitting c.args.command) c.args.tries c.self.inside.core c.drive.new.host (reads_back c.args.command c.encode-spelled.ensures.fits) c.self.invariant.known c.self.invariant.idle
-    (operated (Submitting c.args.command) c.args.tries c.self.inside.core c.submit.new.self c.drive.new.host c.submit.ensures c.drive.ensures.heard c.drive.ensures.ended)
+    operated_ends g.D.Disk.gives (Submitting c.args.command) c.args.tries (record { core = c.self.inside.core; disks = c.deref_mut.result.now }) (record { core = c.drive.new.host; disks = c.drive.new.disks }) (reads_back c.args.command c.encode-spelled.ensures.fits) c.self.invariant.known c.self.invariant.idle
+    (operated g.D.Disk.gives (Submitting c.args.command) c.args.tries (record { core = c.self.inside.core; disks = c.deref_mut.result.now }) c.submit.new.self (record { core = c.drive.new.host; disks = c.drive.new.disks }) c.submit.ensures c.drive.ensures.heard c.drive.ensures.ended)
 
 pub invariant_of-self : goal.invariant_of-self
 invariant_of-self g c =
-    let done : HasOperated (Submitting c.args.command) c.args.tries c.self.inside.core c.drive.new.host =
-    operated (Submitting c.args.command) c.args.tries c.self.inside.core c.submit.new.self c.drive.new.host c.submit.ensures c.drive.ensures.heard c.drive.ensures.ended in
+    let done : HasOperated g.D.Disk.gives (Submitting c.args.command) c.args.tries (record { core = c.self.inside.core; disks = c.deref_mut.result.now }) (record { core = c.drive.new.host; disks = c.drive.new.disks }) =
+    operated g.D.Disk.gives (Submitting c.args.command) c.args.tries (record { core = c.self.inside.core; disks = c.deref_mut.result.now }) c.submit.new.self (record { core = c.drive.new.host; disks = c.drive.new.disks }) c.submit.ensures c.drive.ensures.heard c.drive.ensures.ended in
     let begun : c.submit.new.self.learner.shape ≡ c.self.inside.core.learner.shape = begun_shape (Submitting c.args.command) c.args.tries c.self.inside.core c.submit.new.self c.self.invariant.known c.submit.ensures in
     let same : c.drive.new.host.learner.shape ≡ c.self.inside.core.learner.shape = c.drive.ensures.shape ∙ begun in
     let kept : take c.self.inside.disks.len (c.drive.new.disks ++ drop (length c.drive.new.disks) c.self.inside.disks.items) ≡ c.drive.new.disks =
     written_back c.drive.new.disks c.self.inside.disks.items c.self.inside.disks.len (c.drive.auto.disks ∙ c.deref_mut.ensures.len) in record {
-      known = known_operated (Submitting c.args.command) c.args.tries c.self.inside.core c.drive.new.host c.self.invariant.known done;
+      known = known_operated g.D.Disk.gives (Submitting c.args.command) c.args.tries (record { core = c.self.inside.core; disks = c.deref_mut.result.now }) (record { core = c.drive.new.host; disks = c.drive.new.disks }) c.self.invariant.known done;
       idle = c.drive.ensures.ended;
       small = subst IsSmall (sym same) c.self.invariant.small;
       as_many =
@@ -57,5 +56,13 @@ invariant_of-self g c =
 
 pub returns-clause-operated : goal.returns-clause-operated
 returns-clause-operated g c =
-    subst (λ (k : Kept). HasOperated (Submitting c.args.command) c.args.tries k c.drive.new.host) c.self.view_is
-    (operated (Submitting c.args.command) c.args.tries c.self.inside.core c.submit.new.self c.drive.new.host c.submit.ensures c.drive.ensures.heard c.drive.ensures.ended)
+    let kept : take c.self.inside.disks.len (c.drive.new.disks ++ drop (length c.drive.new.disks) c.self.inside.disks.items) ≡ c.drive.new.disks =
+    written_back c.drive.new.disks c.self.inside.disks.items c.self.inside.disks.len (c.drive.auto.disks ∙ c.deref_mut.ensures.len) in
+    let new : Standing g.row.D.Denot = record { core = c.drive.new.host; disks = take c.self.inside.disks.len (c.drive.new.disks ++ drop (length c.drive.new.disks) c.self.inside.disks.items) } in
+    subst (λ (s : Standing g.row.D.Denot). HasOperated g.D.Disk.gives (Submitting c.args.command) c.args.tries s new) c.self.view_is
+    (subst (λ (ds : List g.row.D.Denot). HasOperated g.D.Disk.gives (Submitting c.args.command) c.args.tries (record { core = c.self.inside.core; disks = ds }) new) c.deref_mut.ensures.value
+    (subst (λ (ds : List g.row.D.Denot). HasOperated g.D.Disk.gives (Submitting c.args.command) c.args.tries (record { core = c.self.inside.core; disks = c.deref_mut.result.now }) (record { core = c.drive.new.host; disks = ds })) (sym kept)
+    (operated g.D.Disk.gives (Submitting c.args.command) c.args.tries (record { core = c.self.inside.core; disks = c.deref_mut.result.now }) c.submit.new.self (record { core = c.drive.new.host; disks = c.drive.new.disks }) c.submit.ensures c.drive.ensures.heard c.drive.ensures.ended)))
+
+pub returns-clause-readable : goal.returns-clause-readable
+returns-clause-readable g c = reads_back c.args.command c.encode-spelled.ensures.fits

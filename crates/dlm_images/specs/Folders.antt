@@ -1,0 +1,49 @@
+-- The images of a folder: their names, how one is read, and the disks that a folder has once it is open.
+use Rattle.std.specs.Prelude.{◌≡◌, ◌==◌, ◌++◌, ℕ, true, false, List, codes, decimal, slice_get, Some, Result, Ok, Err, is_ok, if◌then◌else◌}
+use Rattle.disk.specs.declared.fault.ImageFault.{ImageFault}
+use Rattle.disk.specs.Disk.{Call, Attach, Read, Answer, Booted, Told}
+use Rattle.disk.specs.FileStates.{FileState}
+use Rattle.torn_block.specs.declared.layout.TheConstants.{HEADER_LENGTH}
+use Rattle.paxos_block.specs.declared.header.Header.{Header}
+use Rattle.paxos_block.specs.Headers.{IsRight}
+use Rattle.paxos_block.specs.Places.{image_length}
+use Rattle.slot_log.specs.Shape.{Shape}
+use Rattle.dlm_images.specs.Sets.{Found, AreImages, HasNumbers}
+
+-- ONE IMAGE
+
+-- the name of the image of this number
+abbrev pub image_name : ℕ → List ℕ
+image_name disk = codes "disk" ++ decimal disk ++ codes ".img"
+
+-- The device told its first bytes, and as those of the image of this number and size they are right: they say this header.
+pub record ReadsHeader {D : Type 0} (gives : D → Call → Answer → D → Type 0) (old : D) (disk size : ℕ) (header : Header) (new : D) : Type 0 where
+  pub boot : ℕ
+  pub attached : D
+  pub bytes : List ℕ
+  pub boots : gives old Attach (Booted boot) attached
+  pub tells : gives attached (Read boot 0 HEADER_LENGTH) (Told bytes) new
+  pub right : IsRight disk size bytes header
+
+-- an image that is right is in use and as long as its header says; of one that is refused no call is carried out
+abbrev pub IsDiskOf : Result Header ImageFault → FileState → Type 0
+IsDiskOf (Ok header) disk = (disk.used ≡ true) × (disk.size ≡ image_length header.slots)
+IsDiskOf (Err fault) disk = disk.used ≡ false
+
+-- ALL OF THEM
+
+-- a disk of this size, of which every call fails
+abbrev pub missing : ℕ → FileState
+missing size = record { used = false; size = size; failures = 0 }
+
+-- one of another size is not used
+abbrev pub resized : ℕ → FileState → FileState
+resized size disk = if disk.size == size then disk else missing size
+
+-- An open folder has the numbers of the set that was found, and of the set's images those in use whose header was right.
+pub record IsOpened (config : Shape) (cluster : ℕ) (disks : List FileState) : Type 0 where
+  pub found : Found
+  pub images : AreImages found
+  pub numbers : HasNumbers found config cluster
+  pub used : (k : ℕ) (disk : FileState) (image : Result Header ImageFault) → slice_get disks k ≡ Some disk → slice_get found k ≡ Some image →
+      disk.used ≡ is_ok image
