@@ -14,7 +14,7 @@ use Rattle.agreement.proofs.Puts.{all_put, put_same}
 use Rattle.agreement.proofs.Growing.{Grows, value_stays, has_chosen_stays}
 use Rattle.agreement.proofs.Steps.{state_by-append, may_early, may_late, may_both, kept_by}
 use Rattle.agreement.proofs.Runs.{holds_at_start, holds_run, grows_run}
-use Rattle.agreement.proofs.Agreeing.{commits_chosen, one_chosen}
+use Rattle.agreement.proofs.Agreeing.{one_chosen}
 use Rattle.agreement.proofs.Missing.{nothing_chosen}
 
 -- EACH SLOT IS A RUN OF ITS OWN
@@ -91,7 +91,7 @@ module _ {Value : Type 0} (disks : ℕ) (c : Slots Value) (i : HoldsAll disks c)
       (λ k v e. elim (pushed (c.learned g) w k v e) [
         | inl old ↦ inl old
         | inr new ↦ inr (subst (λ x. IsChosen disks (c.slot x) v) (a.0 ∙ sym new.0)
-            (subst (IsChosen disks (c.slot j)) new.1 (ballot, commits_chosen disks (c.slot j) (i.slots j) g ballot w a.1)))
+            (subst (IsChosen disks (c.slot j)) new.1 (ballot, a.1)))
       ])
       (λ h ne k v e. inl e)
   learned_before (Restart g) a = all_put WasLearned c.learned g [] (λ k v e. absurd (cc)) (λ h ne k v e. inl e)

@@ -40,7 +40,7 @@ seven_allowed =
     ⨟ ((refl, refl, refl), tt)
     ⨟ ((refl, refl, refl), tt)
     ⨟ ((refl, refl, reads _ _ _ _ _ refl refl), tt)
-    ⨟ (refl, record { proposing = refl; majority = lit< tt })
+    ⨟ (refl, record { proposed = record { proposal = _; is = refl; value = refl }; majority = lit< tt })
     ⨟ tt
 
 recovery_allowed : AllMayMove 3 (slots_after until_restarted) recovers_7
@@ -62,7 +62,7 @@ recovery_allowed =
     ⨟ ((refl, refl, refl), tt)
     ⨟ ((refl, refl, refl), tt)
     ⨟ ((refl, refl, reads _ _ _ _ _ refl refl), tt)
-    ⨟ (refl, record { proposing = refl; majority = lit< tt })
+    ⨟ (refl, record { proposed = record { proposal = _; is = refl; value = refl }; majority = lit< tt })
     ⨟ tt
 
 empty_allowed : AllMayMove 3 (slots_after until_recovered) (At 1 (Starts 1) ∷ finds_nothing)
@@ -98,7 +98,7 @@ nine_allowed =
     ⨟ ((refl, refl, refl), tt)
     ⨟ ((refl, refl, refl), tt)
     ⨟ ((refl, refl, reads _ _ _ _ _ refl refl), tt)
-    ⨟ (refl, record { proposing = refl; majority = lit< tt })
+    ⨟ (refl, record { proposed = record { proposal = _; is = refl; value = refl }; majority = lit< tt })
     ⨟ tt
 
 -- ONE BEHIND THE OTHER

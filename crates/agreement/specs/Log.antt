@@ -4,7 +4,7 @@ use Rattle.agreement.specs.Run.{state_by, AllMay}
 use Rattle.agreement.specs.State.{Block, State, put, start}
 use Rattle.agreement.specs.Event.{Event, Allowed, after}
 use Rattle.agreement.specs.Event.Event.{Crashes, Stops, Proposes}
-use Rattle.agreement.specs.Chosen.{IsCommitted}
+use Rattle.agreement.specs.Chosen.{IsChosenBy}
 
 -- a state for each slot, and the values that each host has learned, from slot 0 on
 pub record Slots (Value : Type 0) : Type 0 where
@@ -16,7 +16,7 @@ pub data Move (Value : Type 0) : Type 0 where
   At : (k : ℕ) (e : Event Value) → Move Value
   -- a disk crashes, and so settles its blocks of every slot
   Crash : (d : ℕ) (left : ℕ → ℕ → Block Value) → Move Value
-  -- a host learns the value that it has committed in the slot
+  -- a host learns the value that is chosen in the slot: it has committed it, or was told
   Learn : (h k ballot : ℕ) (v : Value) → Move Value
   -- a host stops, and forgets all that it has learned
   Restart : (h : ℕ) → Move Value
@@ -30,7 +30,7 @@ IsNextSlot c k other = Unit {0}
 abbrev pub MayMove : {Value : Type 0} → ℕ → Slots Value → Move Value → Type 0
 MayMove disks c (At k e) = Allowed disks (c.slot k) e × IsNextSlot c k e
 MayMove disks c (Crash d left) = (k : ℕ) → Allowed disks (c.slot k) (Crashes d (left k))
-MayMove disks c (Learn h k ballot v) = (k ≡ length (c.learned h)) × IsCommitted disks (c.slot k) h ballot v
+MayMove disks c (Learn h k ballot v) = (k ≡ length (c.learned h)) × IsChosenBy disks (c.slot k) ballot v
 MayMove disks c (Restart h) = Unit {0}
 
 -- the slots after the move

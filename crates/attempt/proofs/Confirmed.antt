@@ -85,11 +85,11 @@ says_same : (s : Setup) (p : Phase) (f g : Answers) → ((q : Phase) → goal q 
 says_same s Opening f g same = refl
 says_same s One f g same =
     let opening = same Opening (omega arith) in
-    ap₂ (λ (b : ℕ) (vote : PBlock). record { mbal = b; bal = vote.bal; inp = vote.inp }) (ballot_same s f g opening) (own_same s f g opening s.disks)
+    ap₂ (λ (b : ℕ) (vote : PBlock). record { mbal = b; bal = vote.bal; inp = vote.inp; mark = false }) (ballot_same s f g opening) (own_same s f g opening s.disks)
 says_same s Two f g same =
     let opening = same Opening (omega arith) in
     let one = same One (omega arith) in
-    ap₂ (λ (b : ℕ) (value : Option (List ℕ)). record { mbal = b; bal = b; inp = Some (some_value value) }) (ballot_same s f g opening) (proposal_same s f g opening one)
+    ap₂ (λ (b : ℕ) (value : Option (List ℕ)). record { mbal = b; bal = b; inp = Some (some_value value); mark = false }) (ballot_same s f g opening) (proposal_same s f g opening one)
 
 -- a row without a greater mbal of another host
 below_top : (host : ℕ) (row : List SeenBlock) (g : ℕ) → g < HOSTS → g ≢ host → (says_in row g).mbal ≤ others_top_of host row

@@ -3,7 +3,6 @@ use Rattle.std.specs.Prelude.{nat_lt, if◌then◌else◌}
 use Rattle.std.proofs.Common.{ℕ, zero, suc, ◌*◌, ◌<◌, ◌≤◌, ◌≡◌, ◌≢◌, ◌==◌, inl, inr, true, false, Option, Some, None, List, length, is_some, refl, sym, subst, ap, ◌∙◌, arith}
 use Rattle.std.proofs.lemmas.Bool.{cases_lt, both_ways, lt-ltb, ltb-true}
 use Rattle.torn_block.specs.declared.layout.TheConstants.{HOSTS}
-use Rattle.paxos_block.specs.declared.block.PBlock.{PBlock}
 use Rattle.paxos_block.specs.Row.{SeenBlock}
 use Rattle.paxos_block.specs.Votes.{says_in, greatest, top_of, others_top_of}
 use Rattle.paxos_block.proofs.VoteLemmas.{above, greatest_is_greatest}
@@ -11,19 +10,19 @@ use Rattle.attempt.specs.Calls.{Phase, Opening, One, Two, start, goal}
 use Rattle.attempt.specs.Answers.{Heard, Answered, Answers, on, row_in}
 use Rattle.attempt.specs.Setup.{Setup}
 use Rattle.attempt.specs.Numbers.{count}
-use Rattle.attempt.specs.Proposal.{top_in, highest, ballot, others_top, others_mbal, proposal}
+use Rattle.attempt.specs.Proposal.{top_in, highest, ballot, others_top, others_mbal, proposal, decided}
 use Rattle.attempt.specs.Visits.{waits, visited, is_left, are_enough}
 use Rattle.attempt.specs.Standing.{IsIn}
-use Rattle.attempt.specs.Status.{Status, Due, Ended, Committed, Empty, Outrun, NoMajority, BallotsSpent, status}
+use Rattle.attempt.specs.Status.{Status, Due, Ended, Committed, Decided, Empty, Outrun, NoMajority, BallotsSpent, status}
 use Rattle.attempt.specs.History.{IsHistory}
 use Rattle.attempt.specs.Laws.{AnswersWell, AllAnswerWell, MostAnswerWell, OthersRest, IsServed}
 use Rattle.attempt.proofs.Firsts.{none_below}
 use Rattle.attempt.proofs.Lists.{by_eq, row_none}
 use Rattle.attempt.proofs.Visitors.{waiting_is, waiting_if, left_if}
-use Rattle.attempt.proofs.Statuses.{IsDueAt, IsOver, HasFew, HasNone, HasChosen, Tells, told_by, status_tells, enough_more}
+use Rattle.attempt.proofs.Statuses.{IsDueAt, IsOver, HasFew, HasNone, HasChosen, HasDecided, Tells, told_by, status_tells, enough_more}
 use Rattle.attempt.proofs.OneDisk.{IsDisk}
-use Rattle.attempt.proofs.Histories.{IsReached, history_reached, visit}
-use Rattle.attempt.proofs.Totals.{total_bound, total_below, total_exact, history_total}
+use Rattle.attempt.proofs.Histories.{IsReached, history_reached, visit, all_counted}
+use Rattle.attempt.proofs.Totals.{total_bound, total_below, total_exact}
 
 -- DISKS THAT ANSWER WELL
 
@@ -98,13 +97,13 @@ opened_too Opening a row disk is = ap is_some is
 opened_too One a row disk is = has_passed One a row disk (omega arith) is
 opened_too Two a row disk is = has_passed Two a row disk (omega arith) is
 
--- a row that says of other hosts what an earlier one said has no greater mbal of another host
-rest_top : (host : ℕ) (first later : List SeenBlock) → ((g : ℕ) → g ≢ host → says_in later g ≡ says_in first g) → others_top_of host later ≤ top_of first
+-- a row that has the mbal of other hosts that an earlier one had has no greater mbal of another host
+rest_top : (host : ℕ) (first later : List SeenBlock) → ((g : ℕ) → g ≢ host → (says_in later g).mbal ≡ (says_in first g).mbal) → others_top_of host later ≤ top_of first
 rest_top host first later same =
     greatest_bound HOSTS (λ g. if g == host then 0 else (says_in later g).mbal) (top_of first) (λ g l.
     by_eq (λ t. (if t then 0 else (says_in later g).mbal) ≤ top_of first) g host (λ e. omega arith) (λ off.
     let one : (says_in first g).mbal ≤ top_of first = greatest_is_greatest HOSTS (λ k. (says_in first k).mbal) g l in
-    subst (λ (says : PBlock). says.mbal ≤ top_of first) (sym (same g off)) one))
+    subst (λ (mbal : ℕ). mbal ≤ top_of first) (sym (same g off)) one))
 
 module _ (s : Setup) (f : Answers) (reached : IsReached s f) (rest : OthersRest s f) (p : Phase) where
   -- what a phase's row of a disk shows of other hosts, its opening's row showed
@@ -146,7 +145,7 @@ module _ (s : Setup) (heard : List Answered) (is : IsHistory s heard) where
 
   -- all gave at most seventeen a disk
   pub bound : length heard ≤ 17 * s.disks
-  bound = omega (arith, history_total s heard is, total_bound s.disks 17 f (λ e l. at_most e))
+  bound = omega (arith, all_counted s heard is, total_bound s.disks 17 f (λ e l. at_most e))
 
   -- fewer while the calls of a disk are not through
   going_at : (p : Phase) (d : ℕ) → IsDueAt s p d f → length heard < 17 * s.disks
@@ -154,7 +153,7 @@ module _ (s : Setup) (heard : List Answered) (is : IsHistory s heard) where
       let first = visit s p d f due in
       let waiting = waiting_is s p (f d) first.passes in
       let fewer : length (f d) < 17 = omega (arith, waiting.short, ends_at p) in
-      omega (arith, history_total s heard is, total_below s.disks 17 f d (λ e l. at_most e) first.below fewer)
+      omega (arith, all_counted s heard is, total_below s.disks 17 f d (λ e l. at_most e) first.below fewer)
 
   -- so while a call is due
   pub going : (p : Phase) (d : ℕ) → status s f ≡ Due p d → length heard < 17 * s.disks
@@ -164,7 +163,7 @@ module _ (s : Setup) (heard : List Answered) (is : IsHistory s heard) where
   pub committed : (value : List ℕ) → AllAnswerWell s f → status s f ≡ Ended (Committed value) → length heard ≡ 17 * s.disks
   committed value well ended =
       let chosen : HasChosen s value f = told_by s f (Ended (Committed value)) ended in
-      history_total s heard is
+      all_counted s heard is
       ∙ total_exact s.disks 17 f (λ d l. (let all = makes_all s f d l (well d l) Two chosen.over in omega (arith, at_most d)))
 
   -- without a proposal phase 2 was not come to
@@ -177,10 +176,26 @@ module _ (s : Setup) (heard : List Answered) (is : IsHistory s heard) where
   pub empty : AllAnswerWell s f → status s f ≡ Ended Empty → length heard ≡ 10 * s.disks
   empty well ended =
       let none : HasNone s f = told_by s f (Ended Empty) ended in
-      history_total s heard is
+      all_counted s heard is
       ∙ total_exact s.disks 10 f (λ d l. (
       let all = makes_all s f d l (well d l) One none.over in
       let last = before_two reached.phase none.none reached.come in
+      omega (arith, reached.behind d)))
+
+  -- where something is decided phase 1 was not come to
+  before_one : (p : Phase) (value : List ℕ) → decided s f ≡ Some value → IsIn s p f → goal p ≤ 3
+  before_one Opening value some come = omega arith
+  before_one One value some come = let none = come.undecided in absurd (cc)
+  before_one Two value some come = let none = (come.1).taken.undecided in absurd (cc)
+
+  -- and three a disk of one to which a marked block tells the value
+  pub decides : (value : List ℕ) → AllAnswerWell s f → status s f ≡ Ended (Decided value) → length heard ≡ 3 * s.disks
+  decides value well ended =
+      let told : HasDecided s value f = told_by s f (Ended (Decided value)) ended in
+      all_counted s heard is
+      ∙ total_exact s.disks 3 f (λ d l. (
+      let all = makes_all s f d l (well d l) Opening told.over in
+      let last = before_one reached.phase value told.decided_is reached.come in
       omega (arith, reached.behind d)))
 
   -- where most answer well, there is a majority
@@ -191,6 +206,7 @@ module _ (s : Setup) (heard : List Answered) (is : IsHistory s heard) where
   served_by : OthersRest s f → MostAnswerWell s f → (st : Status) → Tells s f st → IsServed s heard st
   served_by rest good (Due p d) tells = going_at p d tells
   served_by rest good (Ended (Committed value)) tells = tt
+  served_by rest good (Ended (Decided value)) tells = tt
   served_by rest good (Ended Empty) tells = tt
   served_by rest good (Ended BallotsSpent) tells = tt
   served_by rest good (Ended (Outrun mbal)) tells = not_above s f reached rest tells.phase tells.above

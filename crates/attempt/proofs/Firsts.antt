@@ -80,3 +80,26 @@ count_below (suc n) g h e = go (g n) (h n) refl refl (count_below n g h (λ d l.
 -- where the same pass, it is the same
 pub count_same : (n : ℕ) (g h : ℕ → Bool) → ((d : ℕ) → d < n → g d ≡ h d) → count n g ≡ count n h
 count_same n g h e = le_antisymm (count_below n g h (λ d l is. sym (e d l) ∙ is)) (count_below n h g (λ d l is. e d l ∙ is))
+
+-- where all pass, it is the bound
+pub count_all : (n : ℕ) → count n (λ d. true) ≡ n
+count_all zero = refl
+count_all (suc n) = let before : count n (λ d. true) ≡ n = count_all n in omega arith
+
+-- where all from a number on pass, it is that much more
+pub count_from : (n from : ℕ) (p : ℕ → Bool) → from ≤ n → ((e : ℕ) → from ≤ e → p e ≡ true) → count n p + from ≡ count from p + n
+count_from zero from p few all = (let same : from ≡ zero = omega arith in subst (λ (k : ℕ). count zero p + k ≡ count k p + zero) (sym same) refl)
+count_from (suc n) from p few all = elim (cases_eq from (suc n)) [
+  | inl same ↦ subst (λ (k : ℕ). count (suc n) p + k ≡ count k p + suc n) (sym same) refl
+  | inr off ↦
+      (let rest = count_from n from p (omega arith) all in
+      let one : ℕ = 1 in
+      let here : cond (p n) 1 0 ≡ one = ap (λ (b : Bool). cond b 1 0) (all n (omega arith)) in
+      omega (arith, rest, here))
+]
+
+-- by the next number it is one more, if that passes
+pub count_next : (n : ℕ) (p : ℕ → Bool) (b : Bool) → p n ≡ b → count (n + 1) p ≡ count n p + cond b 1 0
+count_next n p b is =
+    let more : n + 1 ≡ suc n = omega arith in
+    ap (λ (k : ℕ). count k p) more ∙ ap (λ (t : Bool). count n p + cond t 1 0) is

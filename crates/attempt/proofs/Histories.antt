@@ -15,7 +15,9 @@ use Rattle.attempt.proofs.Lists.{length_more}
 use Rattle.attempt.proofs.More.{more_there, by_disk, on_more}
 use Rattle.attempt.proofs.Visitors.{IsWaiting, part_is, waiting_is}
 use Rattle.attempt.proofs.Statuses.{IsDueAt, due_is, in_kept}
-use Rattle.attempt.proofs.Replies.{by_history, IsAnswer, answer_is}
+use Rattle.attempt.proofs.Hearing.{by_history}
+use Rattle.attempt.proofs.Replies.{IsAnswer, answer_is}
+use Rattle.attempt.proofs.Totals.{total, history_total}
 use Rattle.attempt.proofs.OneDisk.{IsDisk, disk_new, disk_more}
 
 -- ALL DISKS
@@ -165,7 +167,20 @@ module _ (s : Setup) where
 
   -- so it is after every history
   pub history_reached : (heard : List Answered) → IsHistory s heard → IsReached s (on heard)
-  history_reached heard is = by_history s (λ l. IsReached s (on l)) reached_next reached_start heard is
+  history_reached heard is = by_history (next_call s) (λ l. IsReached s (on l)) reached_next reached_start heard is
+
+-- HOW MANY
+
+-- a call is due on one of the cluster's disks
+due_inside : (s : Setup) (xs : List Answered) (x : Answered) → IsAnswerTo (next_call s (on xs)) x → x.disk < s.disks
+due_inside s xs x answers =
+    let answer = answer_is s (on xs) x answers in
+    let first = visit s answer.phase x.disk (on xs) (due_is s (on xs) answer.phase x.disk answer.due) in
+    first.below
+
+-- the answers of a history are those of its disks
+pub all_counted : (s : Setup) (heard : List Answered) → IsHistory s heard → length heard ≡ total s.disks (on heard)
+all_counted s heard is = history_total (next_call s) s.disks (due_inside s) heard is
 
 -- WHILE A CALL IS DUE
 

@@ -1,4 +1,5 @@
 pub mod Firsts
+pub mod Hearing
 pub mod Histories
 pub mod Lists
 pub mod More
@@ -8,6 +9,8 @@ pub mod Rows
 pub mod Statuses
 pub mod Visitors
 pub mod Totals
+pub mod Deciding
+pub mod Looking
 pub mod Ends
 pub mod Proposals
 pub mod Moments

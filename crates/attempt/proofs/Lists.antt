@@ -2,9 +2,10 @@
 use Rattle.std.specs.Prelude.{option_and_then, slice_get}
 use Rattle.std.specs.List.{list_any}
 use Rattle.std.proofs.Common.{ℕ, zero, suc, pred, ◌+◌, ◌<◌, ◌≤◌, ◌≡◌, ◌≢◌, ◌==◌, ◌&&◌, ◌||◌, not, inl, inr, Bool, true, false, Option, Some, None, List, [], ◌∷◌, ◌++◌, length, refl, sym, ap, ◌∙◌, arith, length-append}
-use Rattle.std.proofs.lemmas.Bool.{eqb-true, eqb-false, cases_lt}
+use Rattle.std.proofs.lemmas.Bool.{and_right, eqb-true, eqb-false, cases_lt}
 use Rattle.paxos_block.specs.Row.{SeenBlock}
 use Rattle.attempt.specs.Calls.{Phase, Opening, One, Two, goal}
+use Rattle.attempt.specs.Heard as hearing
 use Rattle.attempt.specs.Answers.{Heard, Booted, Done, Told, Fault, is_bad, all_good, told, row_in, later_row, last_row, boot_of}
 
 -- what holds in both cases of a comparison holds of it
@@ -18,24 +19,24 @@ by_eq P i k here there = go (i == k) refl
 -- THE LIST
 
 -- it is one longer
-pub length_more : (a : List Heard) (x : Heard) → length (a ++ x ∷ []) ≡ length a + 1
+pub length_more : {A : Type 0} (a : List (hearing.Heard A)) (x : hearing.Heard A) → length (a ++ x ∷ []) ≡ length a + 1
 length_more a x = length-append a (x ∷ [])
 
 -- the answers before are as they were
-pub get_front : (a : List Heard) (x : Heard) (n : ℕ) → n < length a → slice_get (a ++ x ∷ []) n ≡ slice_get a n
+pub get_front : {A : Type 0} (a : List (hearing.Heard A)) (x : hearing.Heard A) (n : ℕ) → n < length a → slice_get (a ++ x ∷ []) n ≡ slice_get a n
 get_front [] x n l = absurd (omega arith)
 get_front (y ∷ a) x zero l = refl
 get_front (y ∷ a) x (suc n) l = get_front a x n (omega arith)
 
 -- the new one is the last
-pub get_last : (a : List Heard) (x : Heard) (n : ℕ) → n ≡ length a → slice_get (a ++ x ∷ []) n ≡ Some x
+pub get_last : {A : Type 0} (a : List (hearing.Heard A)) (x : hearing.Heard A) (n : ℕ) → n ≡ length a → slice_get (a ++ x ∷ []) n ≡ Some x
 get_last [] x zero l = refl
 get_last [] x (suc n) l = absurd (omega arith)
 get_last (y ∷ a) x zero l = absurd (omega arith)
 get_last (y ∷ a) x (suc n) l = get_last a x n (omega arith)
 
 -- behind the last there is none
-pub get_none : (a : List Heard) (n : ℕ) → length a ≤ n → slice_get a n ≡ None
+pub get_none : {A : Type 0} (a : List (hearing.Heard A)) (n : ℕ) → length a ≤ n → slice_get a n ≡ None
 get_none [] n l = refl
 get_none (y ∷ a) zero l = absurd (omega arith)
 get_none (y ∷ a) (suc n) l = get_none a n (omega arith)
@@ -53,9 +54,13 @@ one_more true rest before new e = refl
 one_more false rest before new e = e
 
 -- all are good where those before are, and the new one
-pub good_more : (a : List Heard) (x : Heard) → all_good (a ++ x ∷ []) ≡ (all_good a && not (is_bad x))
+pub good_more : {A : Type 0} (a : List (hearing.Heard A)) (x : hearing.Heard A) → all_good (a ++ x ∷ []) ≡ (all_good a && not (is_bad x))
 good_more [] x = or_none (is_bad x)
 good_more (y ∷ a) x = one_more (is_bad y) (list_any is_bad (a ++ x ∷ [])) (list_any is_bad a) (not (is_bad x)) (good_more a x)
+
+-- so they are not all good with one that is bad
+pub bad_more : {A : Type 0} (a : List (hearing.Heard A)) (x : hearing.Heard A) → is_bad x ≡ true → all_good (a ++ x ∷ []) ≡ false
+bad_more a x bad = good_more a x ∙ and_right (all_good a) (not (is_bad x)) (ap not bad)
 
 -- THE ROW READ LAST
 
@@ -76,18 +81,19 @@ last_more (y ∷ a) x = ap (later_row (told y)) (last_more a x) ∙ later_assoc 
 
 -- THE BOOT NUMBER
 
--- it is told by the first answer
-pub boot_is : (a : List Heard) (boot : ℕ) → slice_get a 0 ≡ Some (Booted boot) → boot_of a ≡ boot
-boot_is [] boot is = absurd (cc)
-boot_is (Booted number ∷ a) boot is = let same : Some (Booted number) ≡ Some (Booted boot) = is in cc
-boot_is (Done ∷ a) boot is = absurd (cc)
-boot_is (Told row ∷ a) boot is = absurd (cc)
-boot_is (Fault fault ∷ a) boot is = absurd (cc)
+module _ {A : Type 0} where
+  boot_at : (x : hearing.Heard A) (a : List (hearing.Heard A)) (boot : ℕ) → x ≡ Booted boot → boot_of (x ∷ a) ≡ boot
+  boot_at x a boot is = ap (λ (y : hearing.Heard A). boot_of (y ∷ a)) is
 
--- and stays
-pub boot_more : (a : List Heard) (x : Heard) (boot : ℕ) → slice_get a 0 ≡ Some (Booted boot) → boot_of (a ++ x ∷ []) ≡ boot_of a
-boot_more [] x boot is = absurd (cc)
-boot_more (y ∷ a) x boot is = boot_is (y ∷ a ++ x ∷ []) boot is ∙ sym (boot_is (y ∷ a) boot is)
+  -- it is told by the first answer
+  pub boot_is : (a : List (hearing.Heard A)) (boot : ℕ) → slice_get a 0 ≡ Some (Booted boot) → boot_of a ≡ boot
+  boot_is [] boot is = absurd (cc)
+  boot_is (x ∷ a) boot is = boot_at x a boot (let both : Some x ≡ Some (Booted boot) = is in cc)
+
+  -- and stays
+  pub boot_more : (a : List (hearing.Heard A)) (x : hearing.Heard A) (boot : ℕ) → slice_get a 0 ≡ Some (Booted boot) → boot_of (a ++ x ∷ []) ≡ boot_of a
+  boot_more [] x boot is = absurd (cc)
+  boot_more (y ∷ a) x boot is = boot_is (y ∷ a ++ x ∷ []) boot is ∙ sym (boot_is (y ∷ a) boot is)
 
 -- THE ROW OF A PHASE
 

@@ -17,7 +17,8 @@ use Rattle.attempt.specs.Status.{Status, Due, Ended, status}
 use Rattle.attempt.specs.History.{Fits, IsAnswerTo, IsHistory}
 use Rattle.attempt.specs.Laws.{AnswersWell, OthersRest, CanEnd}
 use Rattle.attempt.proofs.More.{on_more, by_disk}
-use Rattle.attempt.proofs.Replies.{history_more, next_is}
+use Rattle.attempt.proofs.Hearing.{history_more}
+use Rattle.attempt.proofs.Replies.{next_is}
 use Rattle.attempt.proofs.Visitors.{waiting_is}
 use Rattle.attempt.proofs.Statuses.{due_is}
 use Rattle.attempt.proofs.Histories.{visit}
@@ -97,7 +98,7 @@ plain_rest : (s : Setup) (f : Answers) → ((d : ℕ) → ArePlain (f d)) → Ot
 plain_rest s f plain p d host first later before is other =
     let one = row_plain (f d) (pred (goal Opening)) first (plain d) before in
     let two = row_plain (f d) (pred (goal p)) later (plain d) is in
-    ap (λ (row : List SeenBlock). says_in row host) (two ∙ sym one)
+    ap (λ (row : List SeenBlock). (says_in row host).mbal) (two ∙ sym one)
 
 -- ONE AFTER THE OTHER
 
@@ -116,7 +117,7 @@ to_is_plain Reading = tt
 to_is_plain (Putting p call) = tt
 
 -- it fits
-done_fits : (call : WriteCall) (w : Write128) (boot : ℕ) → Fits (call_of call w boot) Done
+done_fits : (call : WriteCall) (w : Write128) (boot : ℕ) → Fits {A = List SeenBlock} (call_of call w boot) Done
 done_fits CloseGate w boot = tt
 done_fits SyncClosed w boot = tt
 done_fits PutBody w boot = tt
@@ -150,7 +151,7 @@ module _ (s : Setup) where
       record {
         answer = x;
         next = record {
-          is = history_more s heard x so.is answers;
+          is = history_more (next_call s) heard x so.is answers;
           plain = subst (λ (f : Answers). (e : ℕ) → ArePlain (f e)) (sym (on_more heard x)) (by_disk (on heard) d (plain_to kind) (λ e a. ArePlain a) (plain_more (on heard d) (plain_to kind) (so.plain d) (to_is_plain kind)) (λ e off. so.plain e));
         };
       }

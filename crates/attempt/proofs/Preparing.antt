@@ -84,7 +84,7 @@ module _ (s : Setup) (heard : List Answered) (is : IsHistory s heard) where
           most = chosen.over.enough;
           each = λ d l left. (
               let here = confirmed s heard is d Two (omega arith) ((history_reached s heard is).disk d) (left_is s Two (visited s Two f) f d left).good (left_over s Two f d chosen.over.visits l left) l chosen.over.not_outrun refl in
-              subst (λ (o : Option (List ℕ)). IsConfirmedOn s heard Two (record { mbal = ballot s f; bal = ballot s f; inp = Some (some_value o) }) d) chosen.proposal_is here);
+              subst (λ (o : Option (List ℕ)). IsConfirmedOn s heard Two (record { mbal = ballot s f; bal = ballot s f; inp = Some (some_value o); mark = false }) d) chosen.proposal_is here);
         }
 
     -- an attempt whose proposal is chosen is accepted

@@ -1,4 +1,4 @@
--- A history by its last answer, and what an answer to the call due tells.
+-- What an answer to the call that is due tells.
 use Rattle.std.specs.Prelude.{slice_get, option_map}
 use Rattle.std.proofs.Common.{true≢false, ℕ, ◌≡◌, true, false, Option, Some, None, List, [], ◌∷◌, ◌++◌, length, refl, sym, subst, ap, ◌∙◌, append-nil, append_assoc}
 use Rattle.disk.specs.Disk as device
@@ -12,30 +12,6 @@ use Rattle.attempt.specs.Setup.{Setup}
 use Rattle.attempt.specs.NextCall.{call_by, with_disk, next_in, next_call}
 use Rattle.attempt.specs.Status.{Status, Due, Ended, status}
 use Rattle.attempt.specs.History.{Fits, IsAnswerTo, IsHistoryFrom, IsHistory}
-
--- BY THE LAST ANSWER
-
--- a history is empty, or a history and an answer to the call that is due behind it
-module _ (s : Setup) where
-  -- from any state on
-  from_front : (before xs : List Answered) (x : Answered) → IsHistoryFrom s before xs → IsAnswerTo (next_call s (on (before ++ xs))) x → IsHistoryFrom s before (xs ++ x ∷ [])
-  from_front before [] x is answers = (subst (λ (l : List Answered). IsAnswerTo (next_call s (on l)) x) (append-nil before) answers, tt)
-  from_front before (y ∷ xs) x is answers =
-      (is.0, from_front (before ++ y ∷ []) xs x is.1 (subst (λ (l : List Answered). IsAnswerTo (next_call s (on l)) x) (sym (append_assoc before (y ∷ []) xs)) answers))
-
-  -- from the start on
-  pub history_more : (xs : List Answered) (x : Answered) → IsHistory s xs → IsAnswerTo (next_call s (on xs)) x → IsHistory s (xs ++ x ∷ [])
-  history_more xs x is answers = from_front [] xs x is answers
-
-  module _ (P : List Answered → Type 0) (next : (xs : List Answered) (x : Answered) → P xs → IsAnswerTo (next_call s (on xs)) x → P (xs ++ x ∷ [])) where
-    -- what holds then holds further on
-    by_front : (before xs : List Answered) → P before → IsHistoryFrom s before xs → P (before ++ xs)
-    by_front before [] holds is = subst P (sym (append-nil before)) holds
-    by_front before (x ∷ xs) holds is = subst P (append_assoc before (x ∷ []) xs) (by_front (before ++ x ∷ []) xs (next before x holds is.0) is.1)
-
-    -- what holds at the start, and with each answer to the call due, holds of every history
-    pub by_history : P [] → (heard : List Answered) → IsHistory s heard → P heard
-    by_history none heard is = by_front [] heard none is
 
 -- AN ANSWER
 
@@ -84,7 +60,7 @@ attaching_tells (Told None) fits good = absurd (true≢false good)
 attaching_tells (Fault fault) fits good = absurd (true≢false good)
 
 -- an answer to a call of a write is no boot number
-no_boot : (call : WriteCall) (w : Write128) (boot number : ℕ) → ¬ Fits (call_of call w boot) (Booted number)
+no_boot : (call : WriteCall) (w : Write128) (boot number : ℕ) → ¬ Fits {A = List SeenBlock} (call_of call w boot) (Booted number)
 no_boot CloseGate w boot number fits = fits
 no_boot SyncClosed w boot number fits = fits
 no_boot PutBody w boot number fits = fits

@@ -3,12 +3,12 @@ use Rattle.std.proofs.Common.{ℕ, zero, suc, ◌+◌, ◌<◌, ◌≤◌, ◌�
 use Rattle.std.proofs.lemmas.Bool.{cases_eq}
 use Rattle.paxos_block.specs.declared.block.PBlock.{PBlock}
 use Rattle.paxos_block.specs.Row.{SeenBlock}
-use Rattle.paxos_block.specs.Votes.{says_in, greatest, top_of, others_top_of, later_of, latest_in, ballot_above}
+use Rattle.paxos_block.specs.Votes.{says_in, greatest, top_of, others_top_of, later_of, latest_in, marked_in, ballot_above}
 use Rattle.paxos_block.proofs.VoteLemmas.{greatest_same}
 use Rattle.attempt.specs.Calls.{Phase, Opening, One, goal}
 use Rattle.attempt.specs.Answers.{Heard, Told, Answers, told, row_in, more}
 use Rattle.attempt.specs.Setup.{Setup}
-use Rattle.attempt.specs.Proposal.{top_in, highest, ballot, own_in, own_below, own, best_in, best_below, best, or_else, proposal, others_top, others_mbal}
+use Rattle.attempt.specs.Proposal.{top_in, highest, ballot, own_in, own_below, own, best_in, best_below, best, or_else, proposal, decided_in, decided_below, decided, others_top, others_mbal}
 use Rattle.attempt.specs.Status.{is_opened}
 use Rattle.attempt.proofs.Lists.{length_more, row_kept, row_last, row_none, row_same}
 use Rattle.attempt.proofs.More.{more_here, more_there, by_disk}
@@ -32,6 +32,14 @@ module _ (s : Setup) (f g : Answers) where
   pub own_same : AreSameRows Opening f g → (n : ℕ) → own_below s f n ≡ own_below s g n
   own_same same zero = refl
   own_same same (suc n) = ap₂ (own_in s.host) (own_same same n) (same n)
+
+  -- and what is decided
+  pub decided_same_below : AreSameRows Opening f g → (n : ℕ) → decided_below s f n ≡ decided_below s g n
+  decided_same_below same zero = refl
+  decided_same_below same (suc n) = ap₂ (λ (before : Option (List ℕ)) (row : Option (List SeenBlock)). or_else before (decided_in row)) (decided_same_below same n) (same n)
+
+  pub decided_same : AreSameRows Opening f g → decided s f ≡ decided s g
+  decided_same same = decided_same_below same s.disks
 
   -- those of phase 1 the proposal
   pub best_same : AreSameRows Opening f g → AreSameRows One f g → (n : ℕ) → best_below s f n ≡ best_below s g n
@@ -96,6 +104,11 @@ pub record IsLast (s : Setup) (p : Phase) (d : ℕ) (f : Answers) : Type 0 where
   pub last : length (f d) + 1 ≡ goal p
   pub behind : (e : ℕ) → d < e → e < s.disks → row_in p (f e) ≡ None
 
+-- nothing more is nothing new
+or_none : (before : Option (List ℕ)) → or_else before None ≡ before
+or_none None = refl
+or_none (Some value) = refl
+
 -- a phase without rows adds no votes
 pub best_none : (s : Setup) (f : Answers) (n : ℕ) → ((e : ℕ) → e < n → row_in One (f e) ≡ None) → best_below s f n ≡ own s f
 best_none s f zero none = refl
@@ -145,6 +158,14 @@ module _ (s : Setup) (f : Answers) (d : ℕ) (row : List SeenBlock) where
       fold_takes (own_in s.host) (λ a. refl) (λ e. row_in Opening (f e)) (λ e. row_in Opening (new e)) d s.disks (Some row)
       (row_here Opening is) (row_there Opening) (from_here Opening is)
       (own_below s f) (own_below s new) refl (λ n. refl) (λ n. refl)
+      s.disks is.below (omega arith)
+
+  -- a row of the opening: what is decided was before, or the row shows it
+  pub decided_takes : IsLast s Opening d f → decided s new ≡ or_else (decided s f) (marked_in row)
+  decided_takes is =
+      fold_takes (λ (before : Option (List ℕ)) (o : Option (List SeenBlock)). or_else before (decided_in o)) or_none (λ e. row_in Opening (f e)) (λ e. row_in Opening (new e)) d s.disks (Some row)
+      (row_here Opening is) (row_there Opening) (from_here Opening is)
+      (decided_below s f) (decided_below s new) refl (λ n. refl) (λ n. refl)
       s.disks is.below (omega arith)
 
   -- before phase 1 the latest vote is the own one, and takes the row in likewise

@@ -8,11 +8,11 @@ use Rattle.attempt.specs.Answers.{Heard, Answers, more}
 use Rattle.attempt.specs.Setup.{Setup}
 use Rattle.attempt.specs.Numbers.{count}
 use Rattle.attempt.specs.Visits.{takes_part, visited, is_left, is_left_at, are_enough}
-use Rattle.attempt.specs.Proposal.{ballot, proposal, others_mbal}
-use Rattle.attempt.specs.Status.{Status, Due, Ended, Committed, Empty, Outrun, NoMajority, BallotsSpent, next_or, through, unless_outrun, proposing, voting, promising, status}
+use Rattle.attempt.specs.Proposal.{ballot, proposal, decided, others_mbal}
+use Rattle.attempt.specs.Status.{Status, Due, Ended, Committed, Decided, Empty, Outrun, NoMajority, BallotsSpent, next_or, through, unless_outrun, proposing, voting, promising, balloting, unless_decided, status}
 use Rattle.attempt.specs.Standing.{IsIn, NotOutrun, HasBallot, HasProposal}
 use Rattle.attempt.proofs.Firsts.{count_below}
-use Rattle.attempt.proofs.Rows.{AreSameRows, ballot_same, others_same, proposal_same, rows_kept}
+use Rattle.attempt.proofs.Rows.{AreSameRows, ballot_same, decided_same, others_same, proposal_same, rows_kept}
 use Rattle.attempt.proofs.Visitors.{visited_kept, part_is, part_if, part_before, not_stuck, left_is, left_if}
 
 -- WHERE AN ATTEMPT STANDS
@@ -45,9 +45,15 @@ pub record IsOutrun (s : Setup) (mbal : ℕ) (f : Answers) : Type 0 where
   pub above : nat_lt (ballot s f) (others_mbal s phase f) ≡ true
   pub mbal_is : others_mbal s phase f ≡ mbal
 
+-- the opening is over, and a marked block tells the value
+pub record HasDecided (s : Setup) (value : List ℕ) (f : Answers) : Type 0 where
+  pub over : IsOver s Opening f
+  pub decided_is : decided s f ≡ Some value
+
 -- the opening is over, and there is no ballot
 pub record HasSpent (s : Setup) (f : Answers) : Type 0 where
   pub over : IsOver s Opening f
+  pub undecided : decided s f ≡ None
   pub spent : nat_lt LAST_BALLOT (ballot s f) ≡ true
 
 -- phase 1 is over, and there is no proposal
@@ -64,6 +70,7 @@ pub record HasChosen (s : Setup) (value : List ℕ) (f : Answers) : Type 0 where
 abbrev pub Tells : Setup → Answers → Status → Type 0
 Tells s f (Due p d) = IsDueAt s p d f
 Tells s f (Ended (Committed value)) = HasChosen s value f
+Tells s f (Ended (Decided value)) = HasDecided s value f
 Tells s f (Ended Empty) = HasNone s f
 Tells s f (Ended (Outrun mbal)) = IsOutrun s mbal f
 Tells s f (Ended NoMajority) = HasFew s f
@@ -154,13 +161,18 @@ module _ (s : Setup) (f : Answers) where
       (λ below. tells_through One (proposing (proposal s f) (voting s f)) come below (λ over. tells_proposing over (proposal s f) refl))
 
   -- the ballot
-  tells_ballot : IsOver s Opening f → (t : Bool) → nat_lt LAST_BALLOT (ballot s f) ≡ t → Tells s f (if t then Ended BallotsSpent else promising s f)
-  tells_ballot over true is = record { over = over; spent = is }
-  tells_ballot over false is = tells_promising (record { over = over.visits; fits = is })
+  tells_ballot : IsOver s Opening f → decided s f ≡ None → (t : Bool) → nat_lt LAST_BALLOT (ballot s f) ≡ t → Tells s f (if t then Ended BallotsSpent else promising s f)
+  tells_ballot over none true is = record { over = over; undecided = none; spent = is }
+  tells_ballot over none false is = tells_promising (record { over = over.visits; undecided = none; fits = is })
+
+  -- what is decided
+  tells_decided : IsOver s Opening f → (o : Option (List ℕ)) → decided s f ≡ o → Tells s f (unless_decided o (balloting s f))
+  tells_decided over None is = tells_ballot over is (nat_lt LAST_BALLOT (ballot s f)) refl
+  tells_decided over (Some value) is = record { over = over; decided_is = is }
 
   -- the status tells where the attempt stands
   pub status_tells : Tells s f (status s f)
-  status_tells = tells_through Opening (if nat_lt LAST_BALLOT (ballot s f) then Ended BallotsSpent else promising s f) tt tt (λ over. tells_ballot over (nat_lt LAST_BALLOT (ballot s f)) refl)
+  status_tells = tells_through Opening (unless_decided (decided s f) (balloting s f)) tt tt (λ over. tells_decided over (decided s f) refl)
 
   -- and so any status that it is
   pub told_by : (st : Status) → status s f ≡ st → Tells s f st
@@ -182,12 +194,16 @@ module _ (s : Setup) (f : Answers) where
   outrun_is p rest above is = ap (λ (t : Bool). if t then Ended (Outrun (others_mbal s p f)) else rest) is
 
   -- the ballot, by its own
-  ballot_is : (spent : Bool) → nat_lt LAST_BALLOT (ballot s f) ≡ spent → (if nat_lt LAST_BALLOT (ballot s f) then Ended BallotsSpent else promising s f) ≡ (if spent then Ended BallotsSpent else promising s f)
+  ballot_is : (spent : Bool) → nat_lt LAST_BALLOT (ballot s f) ≡ spent → balloting s f ≡ (if spent then Ended BallotsSpent else promising s f)
   ballot_is spent is = ap (λ (t : Bool). if t then Ended BallotsSpent else promising s f) is
+
+  -- what is decided, by what is
+  decided_is : (o : Option (List ℕ)) → decided s f ≡ o → unless_decided (decided s f) (balloting s f) ≡ unless_decided o (balloting s f)
+  decided_is o is = ap (λ (value : Option (List ℕ)). unless_decided value (balloting s f)) is
 
   -- what comes after a phase
   abbrev rest : (p : Phase) → IsIn s p f → Status
-  rest Opening come = if nat_lt LAST_BALLOT (ballot s f) then Ended BallotsSpent else promising s f
+  rest Opening come = unless_decided (decided s f) (balloting s f)
   rest One come = proposing (proposal s f) (voting s f)
   rest Two come = Ended (Committed come.0)
 
@@ -199,7 +215,7 @@ module _ (s : Setup) (f : Answers) where
 
   -- behind the opening stands phase 1
   to_promising : HasBallot s f → are_enough s (is_left s Opening f) ≡ true → status s f ≡ promising s f
-  to_promising come enough = through_is Opening (rest Opening tt) true None enough come.over ∙ ballot_is false come.fits
+  to_promising come enough = through_is Opening (rest Opening tt) true None enough come.over ∙ decided_is None come.undecided ∙ ballot_is false come.fits
 
   -- behind phase 1 stands phase 2
   to_voting : (value : List ℕ) → HasProposal s f value → are_enough s (is_left s One f) ≡ true → promising s f ≡ voting s f value
@@ -234,7 +250,11 @@ module _ (s : Setup) (f : Answers) where
 
   -- there is no ballot
   pub spent : HasSpent s f → status s f ≡ Ended BallotsSpent
-  spent is = over Opening is.over ∙ ballot_is true is.spent
+  spent is = over Opening is.over ∙ decided_is None is.undecided ∙ ballot_is true is.spent
+
+  -- a marked block tells the value
+  pub decides : (value : List ℕ) → HasDecided s value f → status s f ≡ Ended (Decided value)
+  decides value is = over Opening is.over ∙ decided_is (Some value) is.decided_is
 
   -- there is no proposal
   pub empty : HasNone s f → status s f ≡ Ended Empty
@@ -291,6 +311,7 @@ module _ (s : Setup) (f : Answers) (d : ℕ) (x : Heard) where
   ballot_kept l come =
       record {
         over = visited_kept s f d x Opening l come.over;
+        undecided = decided_same s (more f d x) f (rows_kept f d x Opening l) ∙ come.undecided;
         fits = ap (nat_lt LAST_BALLOT) (ballot_same s (more f d x) f (rows_kept f d x Opening l)) ∙ come.fits;
       }
 

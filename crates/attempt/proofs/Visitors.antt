@@ -68,10 +68,6 @@ part_more p a x good is =
       come = omega (arith, length_more a x, is.come);
     }
 
--- a bad one drops it
-pub bad_more : (a : List Heard) (x : Heard) → is_bad x ≡ true → all_good (a ++ x ∷ []) ≡ false
-bad_more a x bad = good_more a x ∙ and_right (all_good a) (not (is_bad x)) (ap not bad)
-
 -- and it takes part in nothing then
 pub bad_part : (p : Phase) (a : List Heard) → all_good a ≡ false → takes_part p a ≡ false
 bad_part p a bad = and_left (all_good a) (nat_le (start p) (length a)) bad

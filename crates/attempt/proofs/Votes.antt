@@ -44,19 +44,19 @@ value_long block value long is =
     (length-take-le COPY_LENGTH block (omega (arith, long))) (omega (arith, length-drop COPY_LENGTH block, long)) is
 
 -- the length of a body, by its input
-heading_long : (voted : Bool) → length (heading voted) ≡ HEADING_LENGTH
+heading_long : (voted marked : Bool) → length (heading voted marked) ≡ HEADING_LENGTH
 unfolding heading
-heading_long voted = refl
+heading_long voted marked = refl
 
 body_is : (says : PBlock) → length (body_saying says) ≡ 23 + length (value_bytes says.inp)
 unfolding body_saying
 body_is says =
     omega (
       arith,
-      length-append (heading (is_some says.inp)) (number_bytes says.mbal ++ (number_bytes says.bal ++ value_bytes says.inp)),
+      length-append (heading (is_some says.inp) says.mark) (number_bytes says.mbal ++ (number_bytes says.bal ++ value_bytes says.inp)),
       length-append (number_bytes says.mbal) (number_bytes says.bal ++ value_bytes says.inp),
       length-append (number_bytes says.bal) (value_bytes says.inp),
-      heading_long (is_some says.inp),
+      heading_long (is_some says.inp) says.mark,
       length-number says.mbal,
       length-number says.bal,
     )
@@ -73,7 +73,7 @@ long_by (Some value) is = is
 pub fills : (says : PBlock) → IsLong says.inp → length (body_saying says) ≡ BODY_LENGTH
 fills says long = omega (arith, body_is says, zeros_long says.inp long)
 
-said_long : (host : ℕ) (block : List ℕ) (says : PBlock) (o : Option (ℕ × List ℕ)) → length block ≡ BLOCK_LENGTH → value_of block ≡ o → IsSaid host o says → IsLong says.inp
+pub said_long : (host : ℕ) (block : List ℕ) (says : PBlock) (o : Option (ℕ × List ℕ)) → length block ≡ BLOCK_LENGTH → value_of block ≡ o → IsSaid host o says → IsLong says.inp
 said_long host block says None long is said = subst (λ (x : PBlock). IsLong x.inp) (sym said) tt
 said_long host block says (Some value) long is said =
     long_by says.inp (let all = value_long block value long is in let body = ap length said.2 in omega (arith, body_is says, all, body))
@@ -104,13 +104,13 @@ votes_more a x before last n row is = elim (cases_lt n (length a)) [
       ]
 ]
 
-told_is : (o : Option Heard) (row : List SeenBlock) → option_and_then told o ≡ Some row → o ≡ Some (Told (Some row))
+pub told_is : (o : Option Heard) (row : List SeenBlock) → option_and_then told o ≡ Some row → o ≡ Some (Told (Some row))
 told_is None row is = absurd (cc)
 told_is (Some (Told (Some seen))) row is = let same : seen ≡ row = cc in ap (λ (r : List SeenBlock). Some (Told (Some r))) same
 told_is (Some (Told None)) row is = absurd (cc)
 told_is (Some other) row is = absurd (cc)
 
-row_told : (p : Phase) (a : List Heard) (row : List SeenBlock) → TellsVotes a → row_in p a ≡ Some row → ShowsVotes row
+pub row_told : (p : Phase) (a : List Heard) (row : List SeenBlock) → TellsVotes a → row_in p a ≡ Some row → ShowsVotes row
 row_told p a row votes is = votes (pred (goal p)) row (told_is (slice_get a (pred (goal p))) row is)
 
 -- WHAT FOLLOWS FROM THEM
@@ -197,6 +197,6 @@ module _ (s : Setup) (f : Answers) (host_below : s.host < HOSTS) (votes : (d : �
 pub says_same : (s : Setup) (f g : Answers) (p : Phase) → ((q : Phase) → goal q ≤ start p → AreSameRows q f g) → says_for s p f ≡ says_for s p g
 says_same s f g Opening same = refl
 says_same s f g One same =
-    ap₂ (λ (b : ℕ) (vote : PBlock). record { mbal = b; bal = vote.bal; inp = vote.inp }) (ballot_same s f g (same Opening (omega arith))) (own_same s f g (same Opening (omega arith)) s.disks)
+    ap₂ (λ (b : ℕ) (vote : PBlock). record { mbal = b; bal = vote.bal; inp = vote.inp; mark = false }) (ballot_same s f g (same Opening (omega arith))) (own_same s f g (same Opening (omega arith)) s.disks)
 says_same s f g Two same =
-    ap₂ (λ (b : ℕ) (o : Option (List ℕ)). record { mbal = b; bal = b; inp = Some (some_value o) }) (ballot_same s f g (same Opening (omega arith))) (proposal_same s f g (same Opening (omega arith)) (same One (omega arith)))
+    ap₂ (λ (b : ℕ) (o : Option (List ℕ)). record { mbal = b; bal = b; inp = Some (some_value o); mark = false }) (ballot_same s f g (same Opening (omega arith))) (proposal_same s f g (same Opening (omega arith)) (same One (omega arith)))

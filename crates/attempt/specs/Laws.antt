@@ -7,7 +7,7 @@ use Rattle.attempt.specs.Answers.{Heard, Answered, Answers, on, all_good, row_in
 use Rattle.attempt.specs.Setup.{Setup}
 use Rattle.attempt.specs.History.{IsHistory}
 use Rattle.attempt.specs.Visits.{is_stuck, are_enough}
-use Rattle.attempt.specs.Status.{Status, End, status, Due, Ended, Committed, Empty, Outrun, NoMajority, BallotsSpent}
+use Rattle.attempt.specs.Status.{Status, End, status, Due, Ended, Committed, Decided, Empty, Outrun, NoMajority, BallotsSpent}
 
 -- a disk gave good answers alone, and no write was due there to a spent block
 pub record AnswersWell (s : Setup) (a : List Heard) : Type 0 where
@@ -28,16 +28,17 @@ pub record OnMost (s : Setup) (IsSo : ℕ → Type 0) : Type 0 where
 abbrev pub MostAnswerWell : Setup → Answers → Type 0
 MostAnswerWell s f = OnMost s (λ d. AnswersWell s (f d))
 
--- what a later row of a disk says of the other hosts is what the opening's row there said
+-- a later row of a disk shows no other ballot of another host than the opening's row there did: nobody else promised or voted there
 abbrev pub OthersRest : Setup → Answers → Type 0
 OthersRest s f =
-    (p : Phase) (d host : ℕ) (first later : List SeenBlock) → row_in Opening (f d) ≡ Some first → row_in p (f d) ≡ Some later → host ≢ s.host → says_in later host ≡ says_in first host
+    (p : Phase) (d host : ℕ) (first later : List SeenBlock) → row_in Opening (f d) ≡ Some first → row_in p (f d) ≡ Some later → host ≢ s.host → (says_in later host).mbal ≡ (says_in first host).mbal
 
--- an attempt goes on within seventeen calls a disk, or its proposal is chosen, or it finds none and has none, or there is
--- no greater ballot; it is not outrun, and does not lack a majority
+-- an attempt goes on within seventeen calls a disk, or its proposal is chosen, or it is told what was decided, or it finds
+-- none and has none, or there is no greater ballot; it is not outrun, and does not lack a majority
 abbrev pub IsServed : Setup → List Answered → Status → Type 0
 IsServed s heard (Due p d) = length heard < 17 * s.disks
 IsServed s heard (Ended (Committed value)) = Unit {0}
+IsServed s heard (Ended (Decided value)) = Unit {0}
 IsServed s heard (Ended Empty) = Unit {0}
 IsServed s heard (Ended BallotsSpent) = Unit {0}
 IsServed s heard (Ended (Outrun mbal)) = ⊥

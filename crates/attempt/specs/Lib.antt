@@ -1,8 +1,10 @@
 pub mod Answers
 pub mod Calls
 pub mod Chosen
+pub mod Heard
 pub mod History
 pub mod Laws
+pub mod Looking
 pub mod NextCall
 pub mod Numbers
 pub mod Prepared

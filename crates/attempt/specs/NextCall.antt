@@ -1,5 +1,5 @@
 -- The device call that an attempt makes next, with its boot number and its bytes.
-use Rattle.std.specs.Prelude.{ℕ, List, [], length, slice_get, Option, Some, None, option_map}
+use Rattle.std.specs.Prelude.{ℕ, false, List, [], length, slice_get, Option, Some, None, option_map}
 use Rattle.disk.specs.Disk as device
 use Rattle.torn_block.specs.declared.layout.TheConstants.{ROW_LENGTH}
 use Rattle.torn_block.specs.Stage.{Write128, call_of}
@@ -18,9 +18,9 @@ some_value (Some value) = value
 
 -- what is written in a phase: the ballot with the own latest vote, and then with the vote for the proposal
 abbrev pub says_for : Setup → Phase → Answers → PBlock
-says_for s Opening f = record { mbal = 0; bal = 0; inp = None }
-says_for s One f = record { mbal = ballot s f; bal = (own s f).bal; inp = (own s f).inp }
-says_for s Two f = record { mbal = ballot s f; bal = ballot s f; inp = Some (some_value (proposal s f)) }
+says_for s Opening f = record { mbal = 0; bal = 0; inp = None; mark = false }
+says_for s One f = record { mbal = ballot s f; bal = (own s f).bal; inp = (own s f).inp; mark = false }
+says_for s Two f = record { mbal = ballot s f; bal = ballot s f; inp = Some (some_value (proposal s f)); mark = false }
 
 -- the write of a phase goes to the own block, as it was read last
 abbrev pub write_on : Setup → Phase → ℕ → Answers → Write128

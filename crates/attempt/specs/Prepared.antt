@@ -1,5 +1,5 @@
 -- What an attempt has done once it proposes and once its proposal is chosen, told by the places of its history.
-use Rattle.std.specs.Prelude.{◌≡◌, ◌≢◌, ◌⊎◌, ◌<◌, ◌≤◌, ℕ, true, List, take, slice_get, Some, None}
+use Rattle.std.specs.Prelude.{◌≡◌, ◌≢◌, ◌⊎◌, ◌<◌, ◌≤◌, ℕ, true, false, List, take, slice_get, Some, None}
 use Rattle.disk.specs.Disk as device
 use Rattle.torn_block.specs.declared.layout.TheConstants.{HOSTS, ROW_LENGTH}
 use Rattle.torn_block.specs.declared.write_steps.WriteCall.{WriteCall}
@@ -52,11 +52,11 @@ pub record IsConfirmedOn (s : Setup) (heard : List Answered) (p : Phase) (says :
 
 -- its ballot, with its own latest vote, is confirmed on more than half of the disks
 abbrev pub IsPrepared : Setup → List Answered → Type 0
-IsPrepared s heard = OnMost s (IsConfirmedOn s heard One (record { mbal = ballot s (on heard); bal = (own s (on heard)).bal; inp = (own s (on heard)).inp }))
+IsPrepared s heard = OnMost s (IsConfirmedOn s heard One (record { mbal = ballot s (on heard); bal = (own s (on heard)).bal; inp = (own s (on heard)).inp; mark = false }))
 
 -- its ballot, with its vote for this value at that ballot, is confirmed on more than half of the disks
 abbrev pub IsAccepted : Setup → List Answered → List ℕ → Type 0
-IsAccepted s heard value = OnMost s (IsConfirmedOn s heard Two (record { mbal = ballot s (on heard); bal = ballot s (on heard); inp = Some value }))
+IsAccepted s heard value = OnMost s (IsConfirmedOn s heard Two (record { mbal = ballot s (on heard); bal = ballot s (on heard); inp = Some value; mark = false }))
 
 -- THE PROPOSAL
 
@@ -108,6 +108,19 @@ pub record HasNoInput (s : Setup) (f : Answers) : Type 0 where
 -- a proposal is the latest input that was seen, or where none was seen the attempt's own
 abbrev pub IsProposal : Setup → Answers → List ℕ → Type 0
 IsProposal s f value = IsLatestInput s f value ⊎ IsOwnInput s f value
+
+-- WHAT WAS DECIDED
+
+-- a marked block in the opening's row of some disk has this input
+pub record IsMarkSeen (s : Setup) (f : Answers) (value : List ℕ) : Type 0 where
+  pub disk : ℕ
+  pub row : List SeenBlock
+  pub host : ℕ
+  pub inside : disk < s.disks
+  pub read : row_in Opening (f disk) ≡ Some row
+  pub below : host < HOSTS
+  pub mark : (says_in row host).mark ≡ true
+  pub inp : (says_in row host).inp ≡ Some value
 
 -- each block in the rows that were read says a vote of its host
 abbrev pub AreVotes : Answers → Type 0

@@ -3,7 +3,7 @@ use Rattle.std.specs.Prelude.{ℕ, zero, suc, List, max, Option, Some, None}
 use Rattle.std.specs.Option.{option_or}
 use Rattle.paxos_block.specs.declared.block.PBlock.{PBlock}
 use Rattle.paxos_block.specs.Row.{SeenBlock, blank}
-use Rattle.paxos_block.specs.Votes.{says_in, greatest, top_of, others_top_of, later_of, latest_in, ballot_above}
+use Rattle.paxos_block.specs.Votes.{says_in, greatest, top_of, others_top_of, later_of, latest_in, marked_in, ballot_above}
 use Rattle.attempt.specs.Calls.{Phase, Opening, One}
 use Rattle.attempt.specs.Answers.{Answers, row_in}
 use Rattle.attempt.specs.Setup.{Setup}
@@ -54,6 +54,20 @@ or_else first other = option_or first other
 -- what was voted for there, or where nothing was the attempt's input
 abbrev pub proposal : Setup → Answers → Option (List ℕ)
 proposal s f = or_else (best s f).inp s.input
+
+-- WHAT IS DECIDED
+
+abbrev pub decided_in : Option (List SeenBlock) → Option (List ℕ)
+decided_in None = None
+decided_in (Some row) = marked_in row
+
+-- the input of the first marked block in the opening's rows of the first n disks
+abbrev pub decided_below : Setup → Answers → ℕ → Option (List ℕ)
+decided_below s f zero = None
+decided_below s f (suc d) = or_else (decided_below s f d) (decided_in (row_in Opening (f d)))
+
+abbrev pub decided : Setup → Answers → Option (List ℕ)
+decided s f = decided_below s f s.disks
 
 -- OTHER HOSTS
 

@@ -5,7 +5,7 @@ use Rattle.attempt.specs.Calls.{Phase, Opening, One, Two}
 use Rattle.attempt.specs.Answers.{Answers}
 use Rattle.attempt.specs.Setup.{Setup}
 use Rattle.attempt.specs.Visits.{visited}
-use Rattle.attempt.specs.Proposal.{ballot, proposal, others_mbal}
+use Rattle.attempt.specs.Proposal.{ballot, proposal, decided, others_mbal}
 
 -- no other host was seen with a greater ballot in the phase
 abbrev pub NotOutrun : Setup → Phase → Answers → Type 0
@@ -13,9 +13,10 @@ NotOutrun s Opening f = Unit {0}
 NotOutrun s One f = nat_lt (ballot s f) (others_mbal s One f) ≡ false
 NotOutrun s Two f = nat_lt (ballot s f) (others_mbal s Two f) ≡ false
 
--- the opening is over, and there is a ballot
+-- the opening is over, nothing is decided, and there is a ballot
 pub record HasBallot (s : Setup) (f : Answers) : Type 0 where
   pub over : visited s Opening f ≡ None
+  pub undecided : decided s f ≡ None
   pub fits : nat_lt LAST_BALLOT (ballot s f) ≡ false
 
 -- so is phase 1, and there is a proposal

@@ -1,16 +1,21 @@
 // What bounds an attempt's device calls, how one ends that its disks answer, and what one has done that proposes.
 ghost use Rattle.std.specs.Prelude.{◌≡◌, ◌≢◌, ◌*◌, ◌<◌, ◌≤◌, ℕ, List, length};
+ghost use Rattle.disk.specs.Disk.{Call};
 ghost use Rattle.torn_block.specs.declared.layout.TheConstants.{HOSTS};
-ghost use Rattle.attempt.specs.Calls.{Phase, Two};
-ghost use Rattle.attempt.specs.Answers.{Answered, on};
+ghost use Rattle.paxos_block.specs.declared.ballot.TheConstants.{LAST_BALLOT};
+ghost use Rattle.attempt.specs.Calls.{Phase, Opening, Two};
+ghost use Rattle.attempt.specs.Answers.{Answered, Answers, on};
 ghost use Rattle.attempt.specs.Setup.{Setup};
-ghost use Rattle.attempt.specs.Status.{Due, Ended, Committed, Empty, NoMajority, status};
+ghost use Rattle.attempt.specs.Status.{Due, Ended, End, Committed, Decided, Empty, NoMajority, status, taken};
 ghost use Rattle.attempt.specs.History.{IsHistory};
-ghost use Rattle.attempt.specs.Prepared.{Proposes, IsPrepared, IsAccepted, IsProposal, HasNoInput, AreVotes};
+ghost use Rattle.attempt.specs.Looking.{OnlyReads, EndsTheOpening};
+ghost use Rattle.attempt.specs.NextCall.{next_call};
+ghost use Rattle.attempt.specs.Prepared.{Proposes, IsPrepared, IsAccepted, IsProposal, HasNoInput, IsMarkSeen, AreVotes};
 ghost use Rattle.attempt.specs.Laws.{AllAnswerWell, MostAnswerWell, OthersRest, IsServed, CanEnd};
 
 /// An attempt makes at most seventeen calls a disk. Over disks that answer well it makes all of
-/// them where its proposal is chosen, ten where it finds none, and does not lack a majority.
+/// them where its proposal is chosen, ten where it finds none, three where a marked block tells it
+/// what was chosen, and does not lack a majority.
 pub fn seventeen_calls_a_disk()
     ensures bound { (s : Setup) (heard : List Answered) → IsHistory s heard →
         length heard ≤ 17 * s.disks }
@@ -22,6 +27,9 @@ pub fn seventeen_calls_a_disk()
     ensures empty { (s : Setup) (heard : List Answered) →
         IsHistory s heard → AllAnswerWell s (on heard) →
         status s (on heard) ≡ Ended Empty → length heard ≡ 10 * s.disks }
+    ensures decided { (s : Setup) (heard : List Answered) (value : List ℕ) →
+        IsHistory s heard → AllAnswerWell s (on heard) →
+        status s (on heard) ≡ Ended (Decided value) → length heard ≡ 3 * s.disks }
     ensures majority { (s : Setup) (heard : List Answered) → 1 ≤ s.disks →
         IsHistory s heard → AllAnswerWell s (on heard) →
         status s (on heard) ≢ Ended NoMajority }
@@ -56,4 +64,21 @@ pub fn prepared_and_proposed()
         status s (on heard) ≡ Ended Empty → HasNoInput s (on heard) }
     ensures accepted { (s : Setup) (heard : List Answered) (value : List ℕ) → IsHistory s heard →
         status s (on heard) ≡ Ended (Committed value) → IsAccepted s heard value }
+    // What is decided was read in the opening, as the input of a marked block.
+    ensures decided { (s : Setup) (heard : List Answered) (value : List ℕ) →
+        status s (on heard) ≡ Ended (Decided value) → IsMarkSeen s (on heard) value }
+{}
+
+/// An attempt with the last ballot as its floor has none to take, so that it ends with its opening. It makes at most three
+/// calls a disk, and writes nothing; it is told what was decided, or that nothing is, or lacks a majority.
+pub fn without_a_ballot()
+    ensures opening { (s : Setup) (f : Answers) (p : Phase) (d : ℕ) → LAST_BALLOT ≤ s.floor →
+        status s f ≡ Due p d → p ≡ Opening }
+    ensures reads { (s : Setup) (f : Answers) (d : ℕ) (call : Call) → LAST_BALLOT ≤ s.floor →
+        next_call s f ≡ Some (d, call) → OnlyReads call }
+    ensures three { (s : Setup) (heard : List Answered) → LAST_BALLOT ≤ s.floor →
+        IsHistory s heard → length heard ≤ 3 * s.disks }
+    ensures ends { (s : Setup) (f : Answers) (end : End) → LAST_BALLOT ≤ s.floor →
+        status s f ≡ Ended end → EndsTheOpening end }
+    ensures none { (s : Setup) (f : Answers) → LAST_BALLOT ≤ s.floor → taken s f ≡ 0 }
 {}

@@ -3,4 +3,4 @@
 
 mod law;
 
-pub use law::{alone_answered, prepared_and_proposed, seventeen_calls_a_disk};
+pub use law::{alone_answered, prepared_and_proposed, seventeen_calls_a_disk, without_a_ballot};

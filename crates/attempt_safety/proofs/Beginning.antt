@@ -8,7 +8,7 @@ use Rattle.attempt.specs.Calls.{Phase, Opening, One, Two, Putting, goal}
 use Rattle.attempt.specs.Answers.{Answered, on}
 use Rattle.attempt.specs.Setup.{Setup}
 use Rattle.attempt.specs.Proposal.{own_below}
-use Rattle.attempt.specs.Status.{Status, Due, Ended, Committed, Empty, Outrun, NoMajority, BallotsSpent, status}
+use Rattle.attempt.specs.Status.{Status, Due, Ended, Committed, Decided, Empty, Outrun, NoMajority, BallotsSpent, status}
 use Rattle.attempt.proofs.Visitors.{waiting_is}
 use Rattle.attempt.proofs.Statuses.{IsOver, Tells, status_tells, due_is}
 use Rattle.attempt.proofs.Histories.{visit}
@@ -53,6 +53,7 @@ module _ (s : Setup) where
     agrees_by (Due One d) tells = let w = waiting_is s One [] (visit s One d (on []) tells).passes in absurd (omega (arith, w.part.come))
     agrees_by (Due Two d) tells = let w = waiting_is s Two [] (visit s Two d (on []) tells).passes in absurd (omega (arith, w.part.come))
     agrees_by (Ended (Committed value)) tells = absurd (none_yet Two (omega arith) tells.over)
+    agrees_by (Ended (Decided value)) tells = tt
     agrees_by (Ended Empty) tells = absurd (none_yet One (omega arith) tells.over)
     agrees_by (Ended (Outrun mbal)) tells = tt
     agrees_by (Ended NoMajority) tells = tt

@@ -21,7 +21,8 @@ use Rattle.attempt.specs.Chosen.{accepts_in, accepts, Chooses}
 use Rattle.attempt.specs.Prepared.{Proposes}
 use Rattle.attempt.proofs.Lists.{length_more, row_last}
 use Rattle.attempt.proofs.More.{more_here, more_there, by_disk, on_more}
-use Rattle.attempt.proofs.Replies.{history_more, IsAnswer, answer_is}
+use Rattle.attempt.proofs.Hearing.{history_more}
+use Rattle.attempt.proofs.Replies.{IsAnswer, answer_is}
 use Rattle.attempt.proofs.Rows.{ballot_same, rows_kept}
 use Rattle.attempt.proofs.Visitors.{IsWaiting, waiting_is, part_if, part_more, left_is}
 use Rattle.attempt.proofs.Statuses.{IsDueAt, due_is, status_tells, in_kept, EnoughBefore, enough_before, enough_more, outrun_one, outrun_two}
@@ -216,7 +217,7 @@ module _ (s : Setup) (early : List (Event (List ℕ))) (heard : List Answered) (
       → RegistersAllow s.host x.disk (on heard x.disk) x.heard (state_after early) → Leads s early heard x
   leads host_below is_run follows answers allow =
       let answer = answer_is s (on heard) x answers in
-      let history = history_more s heard x follows.history answers in
+      let history = history_more (next_call s) heard x follows.history answers in
       let reached_then = subst (IsReached s) (on_more heard x) (history_reached s new history) in
       let stands : StandsIn s answer.phase (on heard) (state_after early) = subst (Agrees s (on heard) (state_after early)) answer.due follows.agrees in
       leads_by is_run history

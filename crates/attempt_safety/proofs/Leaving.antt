@@ -2,7 +2,7 @@
 use Rattle.std.proofs.Common.{ℕ, ◌≡◌, ◌≢◌, ◌==◌, List, refl, ap, ◌∙◌, arith}
 use Rattle.attempt.specs.Answers.{Answered, Answers, on}
 use Rattle.attempt.specs.Setup.{Setup}
-use Rattle.attempt.specs.Status.{Status, Due, Ended, Committed, Empty, Outrun, NoMajority, BallotsSpent, status}
+use Rattle.attempt.specs.Status.{Status, Due, Ended, Committed, Decided, Empty, Outrun, NoMajority, BallotsSpent, status}
 use Rattle.agreement.specs.Majority.{IsMajority}
 use Rattle.agreement.specs.State.{Block, Cell, put, Mind, none_opened}
 use Rattle.agreement.specs.State.Mind.{Idle, Opening}
@@ -26,6 +26,7 @@ module _ (s : Setup) (old new : Machine) (same : IsSameHost s.host old new) wher
   agrees_same : (f : Answers) (st : Status) → Agrees s f old st → Agrees s f new st
   agrees_same f (Due p d) k = record { mind = same.mind ∙ k.mind; stages = λ e takes. same.stages e ∙ k.stages e takes }
   agrees_same f (Ended (Committed value)) k = record { proposing = same.mind ∙ k.proposing; majority = majority_same _ k.majority }
+  agrees_same f (Ended (Decided value)) k = tt
   agrees_same f (Ended Empty) k =
       record { asking = k.asking; prepared = record { asking = same.mind ∙ k.prepared.asking; majority = majority_same _ k.prepared.majority }; no_input = k.no_input }
   agrees_same f (Ended (Outrun mbal)) k = tt

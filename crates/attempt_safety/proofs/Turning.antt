@@ -11,7 +11,7 @@ use Rattle.attempt.specs.Setup.{Setup}
 use Rattle.attempt.specs.Visits.{takes_part, visited, is_left, are_enough}
 use Rattle.attempt.specs.Proposal.{highest, ballot, own, best, or_else, proposal}
 use Rattle.attempt.specs.Standing.{IsIn, HasBallot}
-use Rattle.attempt.specs.Status.{Status, Due, Ended, Committed, Empty, Outrun, NoMajority, BallotsSpent}
+use Rattle.attempt.specs.Status.{Status, Due, Ended, Committed, Decided, Empty, Outrun, NoMajority, BallotsSpent}
 use Rattle.attempt.specs.Chosen.{Chooses}
 use Rattle.attempt.specs.Prepared.{Proposes}
 use Rattle.attempt.proofs.Lists.{row_none}
@@ -187,6 +187,7 @@ module _ (s : Setup) (g : Answers) (disk : (e : ℕ) → IsDisk (g e)) (host_bel
     agrees_then (Due One e) tells n next = let over = proposes.has.over in let visits = tells.visits in absurd (cc)
     agrees_then (Due Two e) tells n next = next
     agrees_then (Ended (Committed other)) tells n next = absurd (none_over s g m One stands behind Two (omega arith) tells.over)
+    agrees_then (Ended (Decided other)) tells n next = tt
     agrees_then (Ended Empty) tells n next = let is = proposes.has.is in let none = tells.none in absurd (cc)
     agrees_then (Ended (Outrun mbal)) tells n next = tt
     agrees_then (Ended NoMajority) tells n next = tt
@@ -254,6 +255,7 @@ module _ (s : Setup) (g : Answers) (disk : (e : ℕ) → IsDisk (g e)) (host_bel
   to_status : (p : Phase) (st : Status) → NoneIn p s g → StandsIn s p g m → ((e : ℕ) → length (g e) ≤ goal p) → IsIn s p g → Tells s g st → Turns s g m st
   to_status p (Due q e) none stands behind come tells = to_due p q e none stands behind come tells
   to_status p (Ended (Committed value)) none stands behind come tells = to_committed p value none stands behind tells
+  to_status p (Ended (Decided value)) none stands behind come tells = at_once p none stands behind (Ended (Decided value)) tt
   to_status p (Ended Empty) none stands behind come tells = to_empty p none stands behind come tells
   to_status p (Ended (Outrun mbal)) none stands behind come tells = at_once p none stands behind (Ended (Outrun mbal)) tt
   to_status p (Ended NoMajority) none stands behind come tells = at_once p none stands behind (Ended NoMajority) tt

@@ -5,7 +5,7 @@ use Rattle.attempt.specs.Answers.{Answered, Answers, on}
 use Rattle.attempt.specs.Setup.{Setup}
 use Rattle.attempt.specs.Visits.{takes_part}
 use Rattle.attempt.specs.Proposal.{ballot}
-use Rattle.attempt.specs.Status.{Status, Due, Ended, Committed, Empty, Outrun, NoMajority, BallotsSpent, status}
+use Rattle.attempt.specs.Status.{Status, Due, Ended, Committed, Decided, Empty, Outrun, NoMajority, BallotsSpent, status}
 use Rattle.attempt.specs.History.{IsHistory}
 use Rattle.agreement.specs.Chosen.{IsCommitted, IsEmpty}
 use Rattle.attempt_safety.specs.Machine.{Machine, stage_at, mind_in}
@@ -17,10 +17,11 @@ pub record StandsIn (s : Setup) (p : Phase) (f : Answers) (m : Machine) : Type 0
   pub stages : (d : ℕ) → takes_part p (f d) ≡ true → (m.cell s.host d).stage ≡ stage_at (length (f d))
 
 -- Where a call is due, the host stands in its phase; what the attempt has committed, the host has committed; where it
--- ended empty, the host has found no vote. Other ends owe nothing.
+-- ended empty, the host has found no vote. Other ends owe nothing: what a marked block tells is no vote of this host's.
 abbrev pub Agrees : Setup → Answers → Machine → Status → Type 0
 Agrees s f m (Due p d) = StandsIn s p f m
 Agrees s f m (Ended (Committed value)) = IsCommitted s.disks m s.host (ballot s f) value
+Agrees s f m (Ended (Decided value)) = Unit {0}
 Agrees s f m (Ended Empty) = IsEmpty s.disks m s.host
 Agrees s f m (Ended (Outrun mbal)) = Unit {0}
 Agrees s f m (Ended NoMajority) = Unit {0}

@@ -19,14 +19,15 @@ use Rattle.phases.specs.Steps.{made, write_due}
 use Rattle.heartbeat.specs.Beat.{beat_body, counter_of, counter_at, counters_in}
 use Rattle.beats.specs.Answers.{Heard, Booted, Done, Told, Answers, more, is_bad, reading_of}
 use Rattle.std.specs.Option.{option_map}
-use Rattle.beats.specs.Status.{Setup, status, next_in, next_call, call_on, with_disk, is_left, waits}
+use Rattle.attempt.specs.NextCall.{with_disk}
+use Rattle.beats.specs.Status.{Setup, status, next_in, next_call, call_on, is_left, waits}
 use Rattle.beats.specs.Kept.{IsPassed, IsVisiting, IsAt, IsWriting, Follows, Stands, call_at, call_due, end_of, end_of_status}
 use Rattle.beats.specs.declared.end.End as code_end
 use Rattle.beats.specs.declared.notes.Notes.{Notes}
 use Rattle.beats.specs.declared.notes.Stage.{Stage}
 use Rattle.beats.specs.declared.notes.Stage.TheVariants as stage
 use Rattle.beats.proofs.Beating.{IsKept, stays, passes, ahead_still, read_same, reading_kept, bad_not_left, not_left_waits, due_here}
-use Rattle.beats.proofs.More.{by_disk}
+use Rattle.attempt.proofs.More.{by_disk}
 
 -- a sequence number is spent where there is no next one
 pub spent_is : (o : Option (ℕ × List ℕ)) → (next_sequence_at o ≤ 2 ^ 62 → ⊥) → nat_le LAST_SEQUENCE (counter_at o) ≡ true
@@ -57,7 +58,7 @@ module _ (s : Setup) (f : Answers) (n : Notes) (is : Follows s f n) (going : n.e
   -- the disk was attached
   pub attaches : n.stage ≡ stage.Attaching → (boot : Boot) → Follows s (more f n.disk (Booted boot.number)) (record n { boot = boot; stage = stage.Syncing })
   attaches st boot =
-      let x = Booted boot.number in
+      let x : Heard = Booted boot.number in
       let new : Notes = record n { boot = boot; stage = stage.Syncing } in
       let here = at stage.Attaching st in
       follows_of (more f n.disk x) new going

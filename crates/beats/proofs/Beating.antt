@@ -5,42 +5,21 @@ use Rattle.std.specs.List.{list_any, range_with_len}
 use Rattle.std.proofs.lemmas.Bool.{cases_eq, ltb-true, lt-ltb, false_from_ne_true}
 use Rattle.std.proofs.lemmas.List.Folds.{list_any-append}
 use Rattle.attempt.specs.Numbers.{count}
-use Rattle.attempt.proofs.Firsts.{below_none, below_some, count_same}
+use Rattle.attempt.proofs.Firsts.{below_none, below_some, count_same, count_from, count_next}
+use Rattle.attempt.proofs.Lists.{bad_more}
+use Rattle.attempt.proofs.More.{more_here, more_there, by_disk}
 use Rattle.beats.specs.Answers.{Heard, Booted, Done, Told, Fault, Answers, more, is_bad, all_good, reading_of}
 use Rattle.beats.specs.Status.{Setup, Due, Ended, Beaten, NoMajority, status, visited, is_stuck, is_left, waits, readings, due_or}
 use Rattle.beats.specs.Kept.{IsPassed, IsVisiting, IsAt, readings_of}
 use Rattle.beats.specs.declared.notes.Notes.{Notes}
 use Rattle.beats.specs.declared.notes.Stage.{Stage}
 use Rattle.beats.specs.declared.notes.Stage.TheVariants as stage
-use Rattle.beats.proofs.More.{more_here, more_there, by_disk}
 
--- COUNTS
-
--- where all from a number on pass, the count is that much more
-count_from : (n from : ℕ) (p : ℕ → Bool) → from ≤ n → ((e : ℕ) → from ≤ e → p e ≡ true) → count n p + from ≡ count from p + n
-count_from zero from p few all = (let same : from ≡ zero = omega arith in subst (λ (k : ℕ). count zero p + k ≡ count k p + zero) (sym same) refl)
-count_from (suc n) from p few all = elim (cases_eq from (suc n)) [
-  | inl same ↦ subst (λ (k : ℕ). count (suc n) p + k ≡ count k p + suc n) (sym same) refl
-  | inr off ↦
-      (let rest = count_from n from p (omega arith) all in
-      let one : ℕ = 1 in
-      let here : cond (p n) 1 0 ≡ one = ap (λ (b : Bool). cond b 1 0) (all n (omega arith)) in
-      omega (arith, rest, here))
-]
-
-bad_any : (x : Heard) → is_bad x ≡ true → list_any is_bad (x ∷ []) ≡ true
-bad_any x bad = ap (λ (b : Bool). b || false) bad
-
-or_true : (a b : Bool) → b ≡ true → (a || b) ≡ true
-or_true true b is = refl
-or_true false b is = is
+-- A DISK THAT IS DROPPED
 
 -- a disk with a bad answer is not left
-bad_not_good : (a : List Heard) (x : Heard) → is_bad x ≡ true → all_good (a ++ x ∷ []) ≡ false
-bad_not_good a x bad = ap not (list_any-append is_bad a (x ∷ []) ∙ or_true (list_any is_bad a) (list_any is_bad (x ∷ [])) (bad_any x bad))
-
 pub bad_not_left : (host : ℕ) (a : List Heard) (x : Heard) → is_bad x ≡ true → is_left host (a ++ x ∷ []) ≡ false
-bad_not_left host a x bad = ap (λ (b : Bool). b && not (is_stuck host (a ++ x ∷ []))) (bad_not_good a x bad)
+bad_not_left host a x bad = ap (λ (b : Bool). b && not (is_stuck host (a ++ x ∷ []))) (bad_more a x bad)
 
 pub not_left_waits : (host : ℕ) (a : List Heard) → is_left host a ≡ false → waits host a ≡ false
 not_left_waits host a left = ap (λ (b : Bool). b && nat_lt (length a) 9) left

@@ -1,4 +1,3 @@
 pub mod Answering
 pub mod Beating
 pub mod Histories
-pub mod More

@@ -7,6 +7,7 @@ use Rattle.torn_block.specs.declared.write_steps.WriteCall.{WriteCall}
 use Rattle.torn_block.specs.Stage.{Write128, call_of}
 use Rattle.paxos_block.specs.Places.{place_of, BeatOf, area_place}
 use Rattle.attempt.specs.Calls.{six_calls}
+use Rattle.attempt.specs.NextCall.{with_disk}
 use Rattle.attempt.specs.Numbers.{count, first_below}
 use Rattle.heartbeat.specs.Beat.{beat_body, counter_of}
 use Rattle.beats.specs.Answers.{Heard, Answers, all_good, boot_of, own_block, reading_of}
@@ -90,10 +91,6 @@ call_by s a (Putting call) = call_of call (write_on s a) (boot_of a)
 -- of a disk's nine calls, the one behind those that were answered
 abbrev pub call_on : Setup → List Heard → Option device.Call
 call_on s a = option_map (call_by s a) (slice_get nine (length a))
-
-abbrev pub with_disk : ℕ → Option device.Call → Option (ℕ × device.Call)
-with_disk d None = None
-with_disk d (Some call) = Some (d, call)
 
 abbrev pub next_in : Setup → Answers → Status → Option (ℕ × device.Call)
 next_in s f (Due d) = with_disk d (call_on s (f d))

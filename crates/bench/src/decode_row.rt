@@ -22,11 +22,13 @@ impl Benchmark for DecodeRow {
                 mbal: ballot,
                 bal: 0,
                 inp: None,
+                mark: false,
             };
             let vote = PBlock {
                 mbal: ballot,
                 bal: ballot,
                 inp: Some([1; VALUE_LENGTH]),
+                mark: false,
             };
             'copies: for says in [promise, vote] {
                 if !may_say(host as u8, &says) {

@@ -9,9 +9,11 @@ use Rattle.lock_command.specs.Command.{Fits as FitsCommand}
 use Rattle.torn_block.specs.declared.layout.TheConstants.{HOSTS}
 use Rattle.slot_log.specs.Shape.{Shape}
 use Rattle.host.specs.declared.answer.HostAnswer.{HostAnswer}
-use Rattle.host.specs.Host.{Host, Running, fresh, Operation, Memory, Doing, goes_on, begins, says, full_answer, starts_beat, is_idle, is_idle_in, idles, is_stopped, said_of}
+use Rattle.host.specs.Host.{Host, Running, fresh, Operation, Memory, Doing, goes_on, begins, says, full_answer, starts_beat, with_marking, starts_marking, is_idle, is_idle_in, idles, is_stopped, said_of}
 use Rattle.host.specs.Kept.{Kept, LeadsTo}
-use Rattle.world.specs.Entry.{Filled, Start, Stop, Submit, Recover, Beat, host_step, is_of}
+use Rattle.slot_log.specs.declared.outcome.Refusal.TheVariants as refusal
+use Rattle.host.specs.declared.answer.HostAnswer.TheVariants.{Refused}
+use Rattle.world.specs.Entry.{Filled, Start, Stop, Submit, Recover, Beat, Mark, host_step, is_of}
 use Rattle.world.specs.World.{IsRun}
 use Rattle.world.proofs.Runs as runs
 use Rattle.world.proofs.Projections.{host_here}
@@ -19,17 +21,25 @@ use Rattle.world.proofs.Follow.{command_reads_back}
 use Rattle.cluster_tie.specs.Parts.{Own, own_of, adds, of_host}
 use Rattle.cluster.specs.declared.receipt.Receipt.{Receipt}
 use Rattle.cluster.specs.Receipts.{still, receipt_by, receipts_at, receipts_of}
-use Rattle.cluster.specs.Seat.{host_in, IsKeptFor, IsSilentInBeat, IsDoing, IsRunning}
+use Rattle.cluster.specs.Seat.{host_in, IsKeptFor, IsSilentInMarking, IsSilentInBeat, IsDoing, IsRunning}
 use Rattle.cluster.proofs.Adding.{host_adds, receipts_adds}
 use Rattle.cluster.proofs.Operating.{idle_rests}
 use Rattle.cluster.proofs.Parts.{host_is}
 
-kept_if : (c : Shape) (m : Memory) → m.beats.heard ≡ None → (operation : Operation) (tries : ℕ) (sub : Option Command) → IsKeptFor operation sub → (b : Bool) → nat_lt (length m.learned) c.slots ≡ b
-    → let new = if b then begins m operation tries else says m (full_answer operation (length m.learned)) in IsDoing c new new.doing sub
-kept_if c m rest operation tries sub kept true is = (ltb-true (length m.learned) c.slots is, kept, refl, rest)
-kept_if c m rest operation tries sub kept false is = subst (IsSilentInBeat (says m (full_answer operation (length m.learned)))) (sym rest) tt
+-- neither a beat nor a marking is under way
+abbrev Rests : Memory → Type 0
+Rests m = (m.beats.heard ≡ None) × (m.marking ≡ None)
 
-kept_on : (c : Shape) (m : Memory) → m.beats.heard ≡ None → (operation : Operation) (tries : ℕ) (sub : Option Command) → IsKeptFor operation sub → let new = goes_on c m operation tries in IsDoing c new new.doing sub
+-- so none has to keep quiet
+quiet : (m : Memory) → Rests m → IsSilentInBeat m m.beats.heard
+quiet m rest = subst (IsSilentInBeat m) (sym rest.0) (subst (IsSilentInMarking m) (sym rest.1) tt)
+
+kept_if : (c : Shape) (m : Memory) → Rests m → (operation : Operation) (tries : ℕ) (sub : Option Command) → IsKeptFor operation sub → (b : Bool) → nat_lt (length m.learned) c.slots ≡ b
+    → let new = if b then begins m operation tries else says m (full_answer operation (length m.learned)) in IsDoing c new new.doing sub
+kept_if c m rest operation tries sub kept true is = (ltb-true (length m.learned) c.slots is, kept, refl, rest.0, rest.1)
+kept_if c m rest operation tries sub kept false is = quiet (says m (full_answer operation (length m.learned))) rest
+
+kept_on : (c : Shape) (m : Memory) → Rests m → (operation : Operation) (tries : ℕ) (sub : Option Command) → IsKeptFor operation sub → let new = goes_on c m operation tries in IsDoing c new new.doing sub
 kept_on c m rest operation tries sub kept = kept_if c m rest operation tries sub kept (nat_lt (length m.learned) c.slots) refl
 
 same_if : (m first other : Memory) (b : Bool) → first.learned ≡ m.learned → other.learned ≡ m.learned → (if b then first else other).learned ≡ m.learned
@@ -78,7 +88,7 @@ module _ (c : Shape) (own : Own) (core new : Kept) (sub : Option Command) (at : 
   beat_entry = Beat own.number
 
   pub beat_begun : IsRunning c (adds own at beat_entry) new sub
-  beat_begun = record { memory = starts_beat r.memory; is = host_adds c own at beat_entry ∙ ap (λ (s : Host). host_step c own.number s beat_entry) r.is; leads = next c own.number r.memory r.leads; doing = refl }
+  beat_begun = record { memory = starts_beat r.memory; is = host_adds c own at beat_entry ∙ ap (λ (s : Host). host_step c own.number s beat_entry) r.is; leads = next c own.number r.memory r.leads; doing = (refl, (idle_rests r.memory idle).1) }
 
   none_with : receipts_at c own.number (host_in c own) at beat_entry ≡ []
   none_with = ap (λ (s : Host). receipts_at c own.number s at beat_entry) r.is ∙ none_by own.number at r.memory r.memory.doing (said_of (host_step c own.number (Running r.memory) beat_entry)) idle
@@ -91,6 +101,41 @@ module _ (c : Shape) (own : Own) (core new : Kept) (sub : Option Command) (at : 
       let was = ap (λ (l : List Command). length l) r.leads.prefix in
       let now = ap (λ (l : List Command). length l) (next c own.number r.memory r.leads).prefix in
       omega (arith, less, was, now)
+
+-- A MARKING BEGINS
+
+marking_kept : (c : Shape) (m : Memory) → Rests m → (slot : ℕ) (sub : Option Command) (b : Bool) → let new = if b then with_marking m (Some (record { slot = slot; heard = [] })) None else with_marking m m.marking (Some (Refused refusal.NotLearned)) in IsDoing c new new.doing sub
+marking_kept c m rest slot sub true = subst (IsSilentInBeat (with_marking m (Some (record { slot = slot; heard = [] })) None)) (sym rest.0) refl
+marking_kept c m rest slot sub false = quiet (with_marking m m.marking (Some (Refused refusal.NotLearned))) rest
+
+marking_learns : (m : Memory) (slot : ℕ) → (starts_marking m slot).learned ≡ m.learned
+marking_learns m slot = same_if m (with_marking m (Some (record { slot = slot; heard = [] })) None) (with_marking m m.marking (Some (Refused refusal.NotLearned))) (nat_lt slot (length m.learned)) refl refl
+
+module _ (c : Shape) (own : Own) (core new : Kept) (sub : Option Command) (at slot : ℕ) (r : IsRunning c own core sub) (idle : is_idle r.memory ≡ true)
+    (next : (c : Shape) (h : ℕ) (m : Memory) → LeadsTo c h m core → LeadsTo c h (starts_marking m slot) new) where
+  abbrev mark_entry : Filled
+  mark_entry = Mark own.number slot
+
+  pub marking_begun : IsRunning c (adds own at mark_entry) new sub
+  marking_begun = record {
+    memory = starts_marking r.memory slot;
+    is = host_adds c own at mark_entry ∙ ap (λ (s : Host). host_step c own.number s mark_entry) r.is;
+    leads = next c own.number r.memory r.leads;
+    doing = marking_kept c r.memory (idle_rests r.memory idle) slot sub (nat_lt slot (length r.memory.learned));
+  }
+
+  none_beside : receipts_at c own.number (host_in c own) at mark_entry ≡ []
+  none_beside = ap (λ (s : Host). receipts_at c own.number s at mark_entry) r.is ∙ none_by own.number at r.memory r.memory.doing (said_of (host_step c own.number (Running r.memory) mark_entry)) idle
+
+  pub none_marked : receipts_of c own ≡ receipts_of c (adds own at mark_entry)
+  none_marked = sym (receipts_adds c own at mark_entry ∙ ap (λ (l : List Receipt). receipts_of c own ++ l) none_beside ∙ append-nil (receipts_of c own))
+
+  pub as_many_marked : (acks : ℕ) → acks ≤ length core.prefix → acks ≤ length new.prefix
+  as_many_marked acks less =
+      let was = ap (λ (l : List Command). length l) r.leads.prefix in
+      let now = ap (λ (l : List Command). length l) (next c own.number r.memory r.leads).prefix in
+      let same = ap (λ (l : List Command). length l) (marking_learns r.memory slot) in
+      omega (arith, less, was, now, same)
 
 -- RUNS
 
@@ -105,6 +150,9 @@ recovers c log seat tries run of_seat idle tried =
 
 pub beats : (c : Shape) (log : List Filled) (seat : Own) → IsRun c log → seat.entries ≡ of_host seat.number log → idles (host_in c seat) ≡ true → IsRun c (log ++ Beat seat.number ∷ [])
 beats c log seat run of_seat idle = runs.more c log (Beat seat.number) run (ap idles (host_is c log seat of_seat) ∙ idle)
+
+pub marks : (c : Shape) (log : List Filled) (seat : Own) (slot : ℕ) → IsRun c log → seat.entries ≡ of_host seat.number log → idles (host_in c seat) ≡ true → slot < c.slots → IsRun c (log ++ Mark seat.number slot ∷ [])
+marks c log seat slot run of_seat idle inside = runs.more c log (Mark seat.number slot) run (ap idles (host_is c log seat of_seat) ∙ idle, inside)
 
 -- and by the start of a host that has no entry
 pub starts : (c : Shape) (log : List Filled) (h : ℕ) → IsRun c log → [] ≡ of_host h log → h < HOSTS → IsRun c (log ++ Start h ∷ [])

@@ -1,36 +1,37 @@
 -- What an answer makes of the operation that a seat keeps, and of its receipts.
-use Rattle.std.specs.Prelude.{nat_lt, nat_le, if◌then◌else◌}
+use Rattle.std.specs.Prelude.{nat_lt, nat_le, ◌&&◌, not, is_some, if◌then◌else◌}
 use Rattle.std.proofs.Common.{◌≡◌, ◌+◌, ◌-◌, ◌<◌, ◌≤◌, ℕ, Bool, true, false, List, [], ◌∷◌, ◌++◌, length, Option, Some, None, refl, sym, ap, subst, arith, length-append}
 use Rattle.std.proofs.lemmas.Bool.{ltb-true}
 use Rattle.disk.specs.Disk.{Answer}
 use Rattle.attempt.specs.Answers.{Answered, on, heard_as}
-use Rattle.attempt.specs.Status.{Status, Due, Ended, End, Committed, Empty, Outrun, NoMajority, BallotsSpent, status, taken}
+use Rattle.attempt.specs.Status.{Status, Due, Ended, End, Committed, Decided, Empty, Outrun, NoMajority, BallotsSpent, status, taken}
 use Rattle.lock_command.specs.declared.command.Command.{Command}
 use Rattle.lock_command.specs.Reading.{decoded}
 use Rattle.lock_table.specs.declared.reply.Reply.{Reply}
 use Rattle.beats.specs.Answers as beat_answers
 use Rattle.beats.specs.Status as beat
+use Rattle.marks.specs.Status as mark
 use Rattle.slot_log.specs.Shape.{Shape}
 use Rattle.slot_log.specs.declared.outcome.Refusal.{Refusal}
 use Rattle.slot_log.specs.declared.outcome.Refusal.TheVariants as refusal
 use Rattle.host.specs.declared.answer.HostAnswer.{HostAnswer}
-use Rattle.host.specs.declared.answer.HostAnswer.TheVariants.{Ack, Recovered, Beaten, Refused}
-use Rattle.host.specs.Host.{Operation, Submitting, Recovering, Doing, Memory, setup_of, says, begins, full_answer, goes_on, is_submitted, after_learning, learns, takes, with_floor, ended, by_status, with_heard, hears_from, hears_beat, beat_by, beat_of, rests, is_idle_in, reply_after}
+use Rattle.host.specs.declared.answer.HostAnswer.TheVariants.{Ack, Recovered, Beaten, Marked, Refused}
+use Rattle.host.specs.Host.{Operation, Submitting, Recovering, Doing, Memory, setup_of, says, begins, full_answer, goes_on, is_submitted, after_learning, learns, takes, with_floor, ended, by_status, with_heard, hears_from, hears_beside, hears_beat, beat_by, beat_of, Marking, hears_marking, marking_by, marking_with, marking_of, rests, is_idle_in, reply_after}
 use Rattle.cluster.specs.Receipts.{receipt_for, receipt_by, receipts_said}
-use Rattle.cluster.specs.Seat.{IsKeptFor, IsSilentInBeat, IsDoing}
+use Rattle.cluster.specs.Seat.{IsKeptFor, IsSilentInMarking, IsSilentInBeat, IsDoing}
 
 -- at most one receipt
 one_for : (h place : ℕ) (operation : Operation) (slot : ℕ) (reply : Reply) → length (receipt_for h place operation slot reply) ≤ 1
 one_for h place (Submitting command) slot reply = omega arith
 one_for h place Recovering slot reply = omega arith
 
--- no beat is under way
+-- neither a beat nor a marking is under way
 abbrev Rests : Memory → Type 0
-Rests m = m.beats.heard ≡ None
+Rests m = (m.beats.heard ≡ None) × (m.marking ≡ None)
 
 -- so none has to keep quiet
 quiet : (m : Memory) → Rests m → IsSilentInBeat m m.beats.heard
-quiet m rest = subst (IsSilentInBeat m) (sym rest) tt
+quiet m rest = subst (IsSilentInBeat m) (sym rest.0) (subst (IsSilentInMarking m) (sym rest.1) tt)
 
 module _ (c : Shape) (h place : ℕ) (sub : Option Command) (t : Doing) (kept : IsKeptFor t.operation sub) (n : ℕ) where
   -- the operation under way is kept, and with a receipt a command more was learned
@@ -38,7 +39,7 @@ module _ (c : Shape) (h place : ℕ) (sub : Option Command) (t : Doing) (kept : 
   So m = IsDoing c m m.doing sub × (length (receipt_by h place (Some t) m.said) + n ≤ length m.learned)
 
   begun : (m : Memory) → Rests m → (tries : ℕ) → n ≤ length m.learned → length m.learned < c.slots → So (begins m t.operation tries)
-  begun m rest tries more less = ((less, kept, refl, rest), omega (arith, more))
+  begun m rest tries more less = ((less, kept, refl, rest.0, rest.1), omega (arith, more))
 
   full : (m : Memory) → Rests m → (operation : Operation) → n ≤ length m.learned → So (says m (full_answer operation (length m.learned)))
   full m rest (Submitting command) more = (quiet (says m (full_answer (Submitting command) (length m.learned))) rest, omega (arith, more))
@@ -73,13 +74,14 @@ module _ (c : Shape) (h place : ℕ) (sub : Option Command) (t : Doing) (kept : 
 
   over : (m : Memory) → Rests m → (ballot : ℕ) (end : End) → n ≤ length m.learned → length m.learned < c.slots → So (ended c m t ballot end)
   over m rest ballot (Committed value) more less = took m rest ballot value (decoded value) more
+  over m rest ballot (Decided value) more less = took m rest ballot value (decoded value) more
   over m rest ballot Empty more less = (quiet (says (with_floor m ballot) (Recovered (length m.learned))) rest, omega (arith, more))
   over m rest ballot (Outrun mbal) more less = tried (with_floor (with_floor m ballot) mbal) rest t.tries (nat_le t.tries 1) more less
   over m rest ballot NoMajority more less = refused (with_floor m ballot) rest refusal.NoMajority more
   over m rest ballot BallotsSpent more less = refused (with_floor m ballot) rest refusal.BallotsSpent more
 
   goes : (m : Memory) → Rests m → (ballot : ℕ) (st : Status) → n ≤ length m.learned → length m.learned < c.slots → So (by_status c m t ballot st)
-  goes m rest ballot (Due phase disk) more less = ((less, kept, refl, rest), omega (arith, more))
+  goes m rest ballot (Due phase disk) more less = ((less, kept, refl, rest.0, rest.1), omega (arith, more))
   goes m rest ballot (Ended end) more less = over m rest ballot end more less
 
 -- WHAT BRINGS NO RECEIPT
@@ -100,7 +102,11 @@ none_beaten : (h place : ℕ) (sub : Option Command) (host : ℕ) → receipts_s
 none_beaten h place None host = refl
 none_beaten h place (Some command) host = refl
 
--- A BEAT
+none_marked : (h place : ℕ) (sub : Option Command) (count : ℕ) → receipts_said h place sub (Some (Marked count)) ≡ []
+none_marked h place None count = refl
+none_marked h place (Some command) count = refl
+
+-- A BEAT AND A MARKING
 
 -- it tells nothing while it is under way, learns nothing, and acknowledges nothing
 record BeatsSilently (c : Shape) (h place : ℕ) (sub : Option Command) (m new : Memory) : Type 0 where
@@ -108,14 +114,31 @@ record BeatsSilently (c : Shape) (h place : ℕ) (sub : Option Command) (m new :
   pub learned : new.learned ≡ m.learned
   pub said : receipts_said h place sub new.said ≡ []
 
-beats_by : (c : Shape) (h place : ℕ) (sub : Option Command) (m : Memory) (heard : List beat_answers.Answered) (st : beat.Status) → BeatsSilently c h place sub m (beat_by h m heard st)
-beats_by c h place sub m heard (beat.Due disk) = record { keeps = refl; learned = refl; said = none_said h place sub }
-beats_by c h place sub m heard (beat.Ended (beat.Beaten readings)) = record { keeps = tt; learned = refl; said = none_beaten h place sub _ }
-beats_by c h place sub m heard (beat.Ended beat.NoMajority) = record { keeps = tt; learned = refl; said = none_refused h place sub refusal.NoMajority }
+beats_by : (c : Shape) (h place : ℕ) (sub : Option Command) (m : Memory) → m.marking ≡ None → (heard : List beat_answers.Answered) (st : beat.Status) → BeatsSilently c h place sub m (beat_by h m heard st)
+beats_by c h place sub m none heard (beat.Due disk) = record { keeps = (refl, none); learned = refl; said = none_said h place sub }
+beats_by c h place sub m none heard (beat.Ended (beat.Beaten readings)) =
+    record { keeps = subst (IsSilentInMarking (beat_by h m heard (beat.Ended (beat.Beaten readings)))) (sym none) tt; learned = refl; said = none_beaten h place sub _ }
+beats_by c h place sub m none heard (beat.Ended beat.NoMajority) =
+    record { keeps = subst (IsSilentInMarking (beat_by h m heard (beat.Ended beat.NoMajority))) (sym none) tt; learned = refl; said = none_refused h place sub refusal.NoMajority }
 
-beats : (c : Shape) (h place : ℕ) (sub : Option Command) (m : Memory) (o : Option (List beat_answers.Answered)) (x : beat_answers.Answered) → rests o ≡ false → BeatsSilently c h place sub m (hears_beat c h m o x)
-beats c h place sub m None x busy = absurd (cc busy)
-beats c h place sub m (Some heard) x busy = beats_by c h place sub m (heard ++ x ∷ []) (beat.status (beat_of c h) (beat_answers.on (heard ++ x ∷ [])))
+-- so does a marking
+marks_by : (c : Shape) (h place : ℕ) (sub : Option Command) (m : Memory) → m.beats.heard ≡ None → (t : Marking) (st : mark.Status) → BeatsSilently c h place sub m (marking_by m t st)
+marks_by c h place sub m none t (mark.Due disk) =
+    record { keeps = subst (IsSilentInBeat (marking_by m t (mark.Due disk))) (sym none) refl; learned = refl; said = none_said h place sub }
+marks_by c h place sub m none t (mark.Ended (mark.Marked count)) =
+    record { keeps = subst (IsSilentInBeat (marking_by m t (mark.Ended (mark.Marked count)))) (sym none) tt; learned = refl; said = none_marked h place sub count }
+marks_by c h place sub m none t (mark.Ended mark.NoMajority) =
+    record { keeps = subst (IsSilentInBeat (marking_by m t (mark.Ended mark.NoMajority))) (sym none) tt; learned = refl; said = none_refused h place sub refusal.NoMajority }
+
+marks : (c : Shape) (h place : ℕ) (sub : Option Command) (m : Memory) → m.beats.heard ≡ None → (o : Option Marking) (x : Answered) → not (is_some o) ≡ false → BeatsSilently c h place sub m (hears_marking c h m o x)
+marks c h place sub m none None x busy = absurd (cc busy)
+marks c h place sub m none (Some t) x busy = marks_by c h place sub m none (marking_with t x) (mark.status (marking_of c h m t.slot) (on (marking_with t x).heard))
+
+beside : (c : Shape) (h place : ℕ) (sub : Option Command) (m : Memory) (o : Option (List beat_answers.Answered)) (k : ℕ) (answer : Answer) → m.beats.heard ≡ o → (rests o && not (is_some m.marking)) ≡ false → IsSilentInBeat m o → BeatsSilently c h place sub m (hears_beside c h m o k answer)
+beside c h place sub m None k answer none busy is = marks c h place sub m none m.marking (record { disk = k; heard = heard_as answer }) busy
+beside c h place sub m (Some heard) k answer beats busy is =
+    let x : beat_answers.Answered = record { disk = k; heard = beat_answers.heard_as answer } in
+    beats_by c h place sub m is.1 (heard ++ x ∷ []) (beat.status (beat_of c h) (beat_answers.on (heard ++ x ∷ [])))
 
 -- AN ANSWER
 
@@ -124,21 +147,21 @@ attempt_heard k answer = record { disk = k; heard = heard_as answer }
 
 -- the task that is kept is still so behind an answer
 pub hears_keeps : (c : Shape) (h : ℕ) (sub : Option Command) (m : Memory) (o : Option Doing) (k : ℕ) (answer : Answer) → is_idle_in m o ≡ false → IsDoing c m o sub → let new = hears_from c h m o k answer in IsDoing c new new.doing sub
-hears_keeps c h sub m None k answer busy is = (beats c h 0 sub m m.beats.heard (record { disk = k; heard = beat_answers.heard_as answer }) busy).keeps
+hears_keeps c h sub m None k answer busy is = (beside c h 0 sub m m.beats.heard k answer refl busy is).keeps
 hears_keeps c h sub m (Some t) k answer busy is =
     let s = setup_of c h m t.operation in
     let heard = t.heard ++ attempt_heard k answer ∷ [] in
-    (goes c h 0 sub (with_heard t (attempt_heard k answer)) is.1 (length m.learned) m is.3 (taken s (on heard)) (status s (on heard)) (omega arith) is.0).0
+    (goes c h 0 sub (with_heard t (attempt_heard k answer)) is.1 (length m.learned) m (is.3, is.4) (taken s (on heard)) (status s (on heard)) (omega arith) is.0).0
 
 -- and with a receipt a command more was learned
 pub hears_counts : (c : Shape) (h place : ℕ) (sub : Option Command) (m : Memory) (o : Option Doing) (k : ℕ) (answer : Answer) → is_idle_in m o ≡ false → IsDoing c m o sub → let new = hears_from c h m o k answer in length (receipt_by h place o new.said) + length m.learned ≤ length new.learned
 hears_counts c h place sub m None k answer busy is =
-    let same = ap (λ (l : List Command). length l) (beats c h place sub m m.beats.heard (record { disk = k; heard = beat_answers.heard_as answer }) busy).learned in
+    let same = ap (λ (l : List Command). length l) (beside c h place sub m m.beats.heard k answer refl busy is).learned in
     omega (arith, same)
 hears_counts c h place sub m (Some t) k answer busy is =
     let s = setup_of c h m t.operation in
     let heard = t.heard ++ attempt_heard k answer ∷ [] in
-    (goes c h place sub (with_heard t (attempt_heard k answer)) is.1 (length m.learned) m is.3 (taken s (on heard)) (status s (on heard)) (omega arith) is.0).1
+    (goes c h place sub (with_heard t (attempt_heard k answer)) is.1 (length m.learned) m (is.3, is.4) (taken s (on heard)) (status s (on heard)) (omega arith) is.0).1
 
 said_for : (h place : ℕ) (operation : Operation) (sub : Option Command) (slot : ℕ) (reply : Reply) → IsKeptFor operation sub → receipts_said h place sub (Some (Ack slot reply)) ≡ receipt_for h place operation slot reply
 said_for h place (Submitting command) sub slot reply is = ap (λ (o : Option Command). receipts_said h place o (Some (Ack slot reply))) is
@@ -150,8 +173,9 @@ said_by h place sub t None is = none_said h place sub
 said_by h place sub t (Some (Ack slot reply)) is = said_for h place t.operation sub slot reply is
 said_by h place sub t (Some (Recovered n)) is = none_recovered h place sub n
 said_by h place sub t (Some (Beaten host)) is = none_beaten h place sub host
+said_by h place sub t (Some (Marked count)) is = none_marked h place sub count
 said_by h place sub t (Some (Refused r)) is = none_refused h place sub r
 
 pub said_is : (c : Shape) (h place : ℕ) (sub : Option Command) (m : Memory) (o : Option Doing) (k : ℕ) (answer : Answer) → is_idle_in m o ≡ false → IsDoing c m o sub → let new = hears_from c h m o k answer in receipts_said h place sub new.said ≡ receipt_by h place o new.said
-said_is c h place sub m None k answer busy is = (beats c h place sub m m.beats.heard (record { disk = k; heard = beat_answers.heard_as answer }) busy).said
+said_is c h place sub m None k answer busy is = (beside c h place sub m m.beats.heard k answer refl busy is).said
 said_is c h place sub m (Some t) k answer busy is = said_by h place sub t (hears_from c h m (Some t) k answer).said is.1

@@ -1,11 +1,12 @@
 -- A task stays what it is, until its host answers it.
-use Rattle.std.specs.Prelude.{nat_lt, nat_le, if◌then◌else◌}
+use Rattle.std.specs.Prelude.{nat_lt, nat_le, ◌&&◌, not, is_some, if◌then◌else◌}
 use Rattle.std.proofs.Common.{◌≡◌, ◌-◌, ◌⊎◌, ℕ, Bool, true, false, List, [], ◌∷◌, ◌++◌, length, Option, Some, None, refl, sym, ap, subst, ◌∙◌, inl, inr, append_assoc}
 use Rattle.std.proofs.lemmas.List.{append-nil}
 use Rattle.attempt.specs.Answers.{Answered, on, heard_as}
 use Rattle.beats.specs.Answers as beat_answers
 use Rattle.beats.specs.Status as beat
-use Rattle.attempt.specs.Status.{Status, Due, Ended, Committed, Empty, Outrun, NoMajority, BallotsSpent, status, taken}
+use Rattle.marks.specs.Status as mark
+use Rattle.attempt.specs.Status.{Status, Due, Ended, Committed, Decided, Empty, Outrun, NoMajority, BallotsSpent, status, taken}
 use Rattle.lock_command.specs.declared.command.Command.{Command}
 use Rattle.lock_command.specs.Reading.{decoded}
 use Rattle.lock_table.specs.declared.reply.Reply.{Reply}
@@ -14,9 +15,9 @@ use Rattle.slot_log.specs.declared.outcome.Refusal.{Refusal}
 use Rattle.slot_log.specs.declared.outcome.Refusal.TheVariants as refusal
 use Rattle.disk.specs.Disk.{Call}
 use Rattle.host.specs.declared.answer.HostAnswer.{HostAnswer}
-use Rattle.host.specs.declared.answer.HostAnswer.TheVariants.{Ack, Recovered, Beaten, Refused}
-use Rattle.host.specs.Host.{Operation, Submitting, Recovering, Doing, Memory, Host, Stopped, Running, setup_of, says, begins, does, full_answer, goes_on, is_submitted, after_learning, learns, takes, tries_again, with_floor, by_status, with_heard, hears, hears_from, hears_beat, beat_by, beat_of, starts_beat, rests, is_idle, is_idle_in, idles, said_of, learned_of, next_of, next_doing, next_beat, reply_after}
-use Rattle.world.specs.Entry.{Filled, Submit, Recover, Beat, Called, host_step}
+use Rattle.host.specs.declared.answer.HostAnswer.TheVariants.{Ack, Recovered, Beaten, Marked, Refused}
+use Rattle.host.specs.Host.{Operation, Submitting, Recovering, Doing, Marking, Memory, Host, Stopped, Running, setup_of, says, begins, does, full_answer, goes_on, is_submitted, after_learning, learns, takes, tries_again, with_floor, by_status, with_heard, hears, hears_from, hears_beside, hears_beat, beat_by, beat_of, starts_beat, hears_marking, marking_by, marking_with, marking_of, with_marking, starts_marking, rests, is_idle, is_idle_in, idles, said_of, learned_of, next_of, next_doing, next_beside, next_marking, reply_after}
+use Rattle.world.specs.Entry.{Filled, Submit, Recover, Beat, Mark, Called, host_step}
 use Rattle.world_safety.proofs.Claims.Begun.{empty_recovers}
 use Rattle.cluster_tie.specs.Parts.{Placed, Own, own_of, adds}
 use Rattle.cluster.specs.declared.fault.HostFault.{HostFault}
@@ -24,9 +25,9 @@ use Rattle.cluster.specs.declared.fault.HostFault.TheVariants as fault
 use Rattle.cluster.specs.declared.receipt.Receipt.{Receipt}
 use Rattle.cluster.specs.Cluster.{IsStep, Ends, AreSteps, GoesOn}
 use Rattle.cluster.specs.declared.operate.Resumed.TheVariants.{Submitted}
-use Rattle.cluster.specs.Operations.{IsLast, HasAnswered, Stops, Task, Attempting, Beating, IsAnswer, IsCarriedBeside, IsCarried, HasReceipt, Carries, IsRefusedBy}
+use Rattle.cluster.specs.Operations.{IsLast, HasAnswered, Stops, Task, Attempting, Beating, MarkingSlot, IsAnswer, IsCarriedInMarking, IsCarriedBeside, IsCarried, HasReceipt, Carries, IsRefusedBy}
 use Rattle.cluster.specs.Receipts.{receipt_by, receipts_of, doing_of}
-use Rattle.cluster.specs.Seat.{host_in, due_in, IsDoing}
+use Rattle.cluster.specs.Seat.{host_in, due_in, IsSilentInMarking, IsSilentInBeat, IsDoing}
 use Rattle.cluster.proofs.Adding.{host_adds, receipts_adds}
 use Rattle.cluster.proofs.Goes.{more}
 
@@ -55,19 +56,19 @@ recovers Recovering learned is = refl
 abbrev So : Task → Memory → Type 0
 So task m = IsCarried task m m.doing
 
--- no beat is under way
+-- neither a beat nor a marking is under way
 abbrev Rests : Memory → Type 0
-Rests m = m.beats.heard ≡ None
+Rests m = (m.beats.heard ≡ None) × (m.marking ≡ None)
 
 -- so the task is over
 over : (task : Task) (m : Memory) → Rests m → IsAnswer task m.learned m.said → IsCarriedBeside task m m.beats.heard
-over task m rest is = subst (IsCarriedBeside task m) (sym rest) is
+over task m rest is = subst (IsCarriedBeside task m) (sym rest.0) (subst (IsCarriedInMarking task m) (sym rest.1) is)
 
 going : (c : Shape) (o : Operation) (m : Memory) (tries : ℕ) → Rests m → So (Attempting o) (goes_on c m o tries)
 going c o m tries rest = go (nat_lt (length m.learned) c.slots)
   where
     go : (b : Bool) → So (Attempting o) (if b then begins m o tries else says m (full_answer o (length m.learned)))
-    go true = (refl, refl, rest)
+    go true = (refl, refl, rest.0, rest.1)
     go false = over (Attempting o) (says m (full_answer o (length m.learned))) rest (full_answers o m.learned)
 
 module _ (c : Shape) (t : Doing) where
@@ -91,11 +92,12 @@ module _ (c : Shape) (t : Doing) where
     where
       go : (last : Bool) → So its (if last then says m (Refused refusal.Outrun) else begins m t.operation (t.tries - 1))
       go true = refused_so m rest refusal.Outrun
-      go false = (refl, refl, rest)
+      go false = (refl, refl, rest.0, rest.1)
 
   status_so : (m : Memory) → Rests m → (ballot : ℕ) (st : Status) → (st ≡ Ended Empty → t.operation ≡ Recovering) → So its (by_status c m t ballot st)
-  status_so m rest ballot (Due phase disk) only = (refl, refl, rest)
+  status_so m rest ballot (Due phase disk) only = (refl, refl, rest.0, rest.1)
   status_so m rest ballot (Ended (Committed value)) only = taken_so m rest ballot value (decoded value)
+  status_so m rest ballot (Ended (Decided value)) only = taken_so m rest ballot value (decoded value)
   status_so m rest ballot (Ended Empty) only = over its (says (with_floor m ballot) (Recovered (length m.learned))) rest (recovers t.operation m.learned (only refl))
   status_so m rest ballot (Ended (Outrun mbal)) only = tried_so (with_floor (with_floor m ballot) mbal) rest
   status_so m rest ballot (Ended NoMajority) only = refused_so (with_floor m ballot) rest refusal.NoMajority
@@ -109,10 +111,16 @@ heard_so c h m rest t x =
     status_so c (with_heard t x) m rest (taken s (on heard)) (status s (on heard)) (empty_recovers c h m t.operation heard)
 
 -- so it is with a beat
-beat_so : (h : ℕ) (m : Memory) (heard : List beat_answers.Answered) (st : beat.Status) → So Beating (beat_by h m heard st)
-beat_so h m heard (beat.Due disk) = (refl, refl)
-beat_so h m heard (beat.Ended (beat.Beaten readings)) = tt
-beat_so h m heard (beat.Ended beat.NoMajority) = tt
+beat_so : (h : ℕ) (m : Memory) → m.marking ≡ None → (heard : List beat_answers.Answered) (st : beat.Status) → So Beating (beat_by h m heard st)
+beat_so h m none heard (beat.Due disk) = (refl, refl, none)
+beat_so h m none heard (beat.Ended (beat.Beaten readings)) = subst (IsCarriedInMarking Beating (beat_by h m heard (beat.Ended (beat.Beaten readings)))) (sym none) tt
+beat_so h m none heard (beat.Ended beat.NoMajority) = subst (IsCarriedInMarking Beating (beat_by h m heard (beat.Ended beat.NoMajority))) (sym none) tt
+
+-- and with a marking
+mark_so : (m : Memory) → m.beats.heard ≡ None → (t : Marking) (st : mark.Status) → So MarkingSlot (marking_by m t st)
+mark_so m none t (mark.Due disk) = subst (IsCarriedBeside MarkingSlot (marking_by m t (mark.Due disk))) (sym none) (refl, refl)
+mark_so m none t (mark.Ended (mark.Marked count)) = subst (IsCarriedBeside MarkingSlot (marking_by m t (mark.Ended (mark.Marked count)))) (sym none) tt
+mark_so m none t (mark.Ended mark.NoMajority) = subst (IsCarriedBeside MarkingSlot (marking_by m t (mark.Ended mark.NoMajority))) (sym none) tt
 
 -- RECEIPTS
 
@@ -125,22 +133,32 @@ acked_by c own at before t (Submitting command) (Some (Ack slot reply)) new is s
     (at, (before, all ∙ ap (λ (l : List Receipt). before ++ l) one ∙ ap (λ (h : ℕ). before ++ R h ∷ []) (sym same)))
 acked_by c own at before t (Submitting command) (Some (Recovered n)) new is same all = tt
 acked_by c own at before t (Submitting command) (Some (Beaten host)) new is same all = tt
+acked_by c own at before t (Submitting command) (Some (Marked count)) new is same all = tt
 acked_by c own at before t (Submitting command) (Some (Refused r)) new is same all = tt
 acked_by c own at before t Recovering said new is same all = tt
 
 -- ONE STEP MORE
 
 -- a call is due, so a task is under way
-due_task : (c : Shape) (h : ℕ) (m : Memory) (due : ℕ × Call) → next_doing c h m m.doing ≡ Some due → ((t : Doing) × (m.doing ≡ Some t)) ⊎ ((m.doing ≡ None) × (heard : List beat_answers.Answered) × (m.beats.heard ≡ Some heard))
+data IsUnderWay (m : Memory) : Type 0 where
+  Tries : (t : Doing) → m.doing ≡ Some t → IsUnderWay m
+  Beats : (heard : List beat_answers.Answered) → m.doing ≡ None → m.beats.heard ≡ Some heard → IsUnderWay m
+  Marks : (t : Marking) → m.doing ≡ None → m.beats.heard ≡ None → m.marking ≡ Some t → IsUnderWay m
+
+due_task : (c : Shape) (h : ℕ) (m : Memory) (due : ℕ × Call) → next_doing c h m m.doing ≡ Some due → IsUnderWay m
 due_task c h m due is = go m.doing refl is
   where
-    by_beat : (o : Option (List beat_answers.Answered)) → m.beats.heard ≡ o → next_beat c h o ≡ Some due → (heard : List beat_answers.Answered) × (m.beats.heard ≡ Some heard)
-    by_beat None none next = absurd (cc next)
-    by_beat (Some heard) some next = (heard, some)
+    by_marking : (o : Option Marking) → m.doing ≡ None → m.beats.heard ≡ None → m.marking ≡ o → next_marking c h m o ≡ Some due → IsUnderWay m
+    by_marking None none rest unmarked next = absurd (cc next)
+    by_marking (Some t) none rest some next = Marks t none rest some
 
-    go : (o : Option Doing) → m.doing ≡ o → next_doing c h m o ≡ Some due → ((t : Doing) × (m.doing ≡ Some t)) ⊎ ((m.doing ≡ None) × (heard : List beat_answers.Answered) × (m.beats.heard ≡ Some heard))
-    go None none next = let found = by_beat m.beats.heard refl next in inr (none, found.0, found.1)
-    go (Some t) does next = inl (t, does)
+    by_beat : (o : Option (List beat_answers.Answered)) → m.doing ≡ None → m.beats.heard ≡ o → next_beside c h m o ≡ Some due → IsUnderWay m
+    by_beat None none rest next = by_marking m.marking none rest refl next
+    by_beat (Some heard) none some next = Beats heard none some
+
+    go : (o : Option Doing) → m.doing ≡ o → next_doing c h m o ≡ Some due → IsUnderWay m
+    go None none next = by_beat m.beats.heard none refl next
+    go (Some t) does next = Tries t does
 
 module _ (c : Shape) (task : Task) (old new : Own) (carries : Carries c task old) (step : IsStep c old new) where
   abbrev m : Memory
@@ -162,7 +180,7 @@ module _ (c : Shape) (task : Task) (old new : Own) (carries : Carries c task old
       let known = subst (λ (d : Option Doing). IsCarried task m d) does carries.doing in
       let after : Memory = hears c old.number m (Some t) x in
       let is : host_in c next ≡ Running after = hears_it ∙ ap (λ (d : Option Doing). Running (hears_from c old.number m d step.disk step.answer)) does in
-      let so : So task after = subst (λ (k : Task). So k after) known.0 (heard_so c old.number m known.2 t x) in
+      let so : So task after = subst (λ (k : Task). So k after) known.0 (heard_so c old.number m (known.2, known.3) t x) in
       let all : receipts_of c next ≡ receipts_of c old ++ receipt_by old.number step.place (Some t) after.said =
       receipts_adds c old step.place e
       ∙ (λ i. receipts_of c old ++ receipt_by old.number step.place ((ap doing_of carries.is ∙ does) i) (said_of ((sym (host_adds c old step.place e) ∙ is) i))) in
@@ -177,17 +195,33 @@ module _ (c : Shape) (task : Task) (old new : Own) (carries : Carries c task old
       let after : Memory = beat_by old.number m all (beat.status (beat_of c old.number) (beat_answers.on all)) in
       let is : host_in c next ≡ Running after =
       hears_it ∙ ap (λ (d : Option Doing). Running (hears_from c old.number m d step.disk step.answer)) none
-      ∙ ap (λ (o : Option (List beat_answers.Answered)). Running (hears_beat c old.number m o x)) beats in
-      let there : Carries c Beating next = record { memory = after; is = is; doing = beat_so old.number m all (beat.status (beat_of c old.number) (beat_answers.on all)); receipt = tt } in
+      ∙ ap (λ (o : Option (List beat_answers.Answered)). Running (hears_beside c old.number m o step.disk step.answer)) beats in
+      let there : Carries c Beating next = record { memory = after; is = is; doing = beat_so old.number m known.2 all (beat.status (beat_of c old.number) (beat_answers.on all)); receipt = tt } in
       subst (λ (k : Task). Carries c k next) (sym known.0) there
+
+  marks_on : (t : Marking) → m.doing ≡ None → m.beats.heard ≡ None → m.marking ≡ Some t → Carries c task next
+  marks_on t none rest marks =
+      let x : Answered = record { disk = step.disk; heard = heard_as step.answer } in
+      let beside = subst (λ (o : Option (List beat_answers.Answered)). IsCarriedBeside task m o) rest (subst (λ (d : Option Doing). IsCarried task m d) none carries.doing) in
+      let known = subst (λ (o : Option Marking). IsCarriedInMarking task m o) marks beside in
+      let st : mark.Status = mark.status (marking_of c old.number m t.slot) (on (marking_with t x).heard) in
+      let after : Memory = marking_by m (marking_with t x) st in
+      let is : host_in c next ≡ Running after =
+      hears_it ∙ ap (λ (d : Option Doing). Running (hears_from c old.number m d step.disk step.answer)) none
+      ∙ ap (λ (o : Option (List beat_answers.Answered)). Running (hears_beside c old.number m o step.disk step.answer)) rest
+      ∙ ap (λ (o : Option Marking). Running (hears_marking c old.number m o x)) marks in
+      let there : Carries c MarkingSlot next = record { memory = after; is = is; doing = mark_so m rest (marking_with t x) st; receipt = tt } in
+      subst (λ (k : Task). Carries c k next) (sym known.0) there
+
+  carried_on : IsUnderWay m → Carries c task next
+  carried_on (Tries t does) = attempts_on t does
+  carried_on (Beats heard none beats) = beats_on none heard beats
+  carried_on (Marks t none rest marks) = marks_on t none rest marks
 
   pub steps_on : Carries c task new
   steps_on =
       subst (Carries c task) (sym step.is)
-      (elim (due_task c old.number m (step.disk, (due_in c old).1) (sym (ap (next_of c old.number) carries.is) ∙ step.due)) [
-        | inl tries ↦ attempts_on tries.0 tries.1
-        | inr beats ↦ beats_on beats.0 beats.1 beats.2
-      ])
+      (carried_on (due_task c old.number m (step.disk, (due_in c old).1) (sym (ap (next_of c old.number) carries.is) ∙ step.due)))
 
 pub goes_on_so : (c : Shape) (task : Task) (old new : Own) → Carries c task old → GoesOn c old new → Carries c task new
 goes_on_so c task old new carries goes = subst (Carries c task) (sym goes.is) (go old goes.added carries goes.steps)
@@ -200,16 +234,17 @@ goes_on_so c task old new carries goes = subst (Carries c task) (sym goes.is) (g
 
 -- AT THE BEGINNING
 
--- no beat of an idle host is under way
-pub idle_rests : (m : Memory) → is_idle m ≡ true → m.beats.heard ≡ None
+-- neither a beat nor a marking of an idle host is under way
+pub idle_rests : (m : Memory) → is_idle m ≡ true → (m.beats.heard ≡ None) × (m.marking ≡ None)
 idle_rests m idle = go m.doing idle
   where
-    by_beat : (o : Option (List beat_answers.Answered)) → rests o ≡ true → o ≡ None
-    by_beat None is = refl
-    by_beat (Some heard) is = absurd (cc is)
+    by_beat : (o : Option (List beat_answers.Answered)) (t : Option Marking) → (rests o && not (is_some t)) ≡ true → (o ≡ None) × (t ≡ None)
+    by_beat None None is = (refl, refl)
+    by_beat None (Some t) is = absurd (cc is)
+    by_beat (Some heard) t is = absurd (cc is)
 
-    go : (o : Option Doing) → is_idle_in m o ≡ true → m.beats.heard ≡ None
-    go None is = by_beat m.beats.heard is
+    go : (o : Option Doing) → is_idle_in m o ≡ true → (m.beats.heard ≡ None) × (m.marking ≡ None)
+    go None is = by_beat m.beats.heard m.marking is
     go (Some t) is = absurd (cc is)
 
 -- an operation begins at an idle host
@@ -242,7 +277,21 @@ beating : (c : Shape) (own : Own) (at : ℕ) (host : Host) → host_in c own ≡
 beating c own at Stopped is idle = absurd (cc idle)
 beating c own at (Running m) is idle =
     let e : Filled = Beat own.number in
-    record { memory = starts_beat m; is = host_adds c own at e ∙ ap (λ (s : Host). host_step c own.number s e) is; doing = (refl, refl); receipt = tt }
+    record { memory = starts_beat m; is = host_adds c own at e ∙ ap (λ (s : Host). host_step c own.number s e) is; doing = (refl, refl, (idle_rests m idle).1); receipt = tt }
+
+-- or a marking does
+marking : (c : Shape) (slot : ℕ) (own : Own) (at : ℕ) (host : Host) → host_in c own ≡ host → idles host ≡ true → Carries c MarkingSlot (adds own at (Mark own.number slot))
+marking c slot own at Stopped is idle = absurd (cc idle)
+marking c slot own at (Running m) is idle =
+    let e : Filled = Mark own.number slot in
+    record { memory = starts_marking m slot; is = host_adds c own at e ∙ ap (λ (s : Host). host_step c own.number s e) is; doing = go (nat_lt slot (length m.learned)); receipt = tt }
+  where
+    go : (b : Bool) → So MarkingSlot (if b then with_marking m (Some (record { slot = slot; heard = [] })) None else with_marking m m.marking (Some (Refused refusal.NotLearned)))
+    go true = subst (IsCarriedBeside MarkingSlot (with_marking m (Some (record { slot = slot; heard = [] })) None)) (sym (idle_rests m idle).0) (refl, refl)
+    go false = over MarkingSlot (with_marking m m.marking (Some (Refused refusal.NotLearned))) (idle_rests m idle) tt
+
+pub marking_slot_by : (c : Shape) (slot : ℕ) (own new : Own) (at : ℕ) → idles (host_in c own) ≡ true → new ≡ adds own at (Mark own.number slot) → Carries c MarkingSlot new
+marking_slot_by c slot own new at idle is = subst (Carries c MarkingSlot) (sym is) (marking c slot own at (host_in c own) refl idle)
 
 pub submitted_by : (c : Shape) (command : Command) (tries : ℕ) (own new : Own) (at : ℕ) → idles (host_in c own) ≡ true → new ≡ adds own at (Submit own.number command tries) → Carries c (Attempting (Submitting command)) new
 submitted_by c command tries own new at idle is = subst (Carries c (Attempting (Submitting command))) (sym is) (submitted c command tries own at idle)
@@ -262,8 +311,12 @@ said_idle c task own carries said is = ap idles carries.is ∙ go carries.memory
     not_said : carries.memory.said ≡ None → ⊥
     not_said none = let no : None ≡ Some said = sym none ∙ sym (ap said_of carries.is) ∙ is in cc no
 
-    by_beat : (o : Option (List beat_answers.Answered)) → IsCarriedBeside task carries.memory o → rests o ≡ true
-    by_beat None k = refl
+    by_marking : (o : Option Marking) → IsCarriedInMarking task carries.memory o → not (is_some o) ≡ true
+    by_marking None k = refl
+    by_marking (Some t) k = absurd (not_said k.1)
+
+    by_beat : (o : Option (List beat_answers.Answered)) → IsCarriedBeside task carries.memory o → (rests o && not (is_some carries.memory.marking)) ≡ true
+    by_beat None k = by_marking carries.memory.marking k
     by_beat (Some heard) k = absurd (not_said k.1)
 
     go : (d : Option Doing) → IsCarried task carries.memory d → is_idle_in carries.memory d ≡ true
@@ -274,8 +327,12 @@ said_idle c task own carries said is = ap idles carries.is ∙ go carries.memory
 pub answered : (c : Shape) (task : Task) (own : Own) → Carries c task own → idles (host_in c own) ≡ true → IsAnswer task (learned_of (host_in c own)) (said_of (host_in c own))
 answered c task own carries idle = subst (λ (s : Host). IsAnswer task (learned_of s) (said_of s)) (sym carries.is) (go carries.memory.doing carries.doing (sym (ap idles carries.is) ∙ idle))
   where
-    by_beat : (o : Option (List beat_answers.Answered)) → IsCarriedBeside task carries.memory o → rests o ≡ true → IsAnswer task carries.memory.learned carries.memory.said
-    by_beat None k is = k
+    by_marking : (o : Option Marking) → IsCarriedInMarking task carries.memory o → not (is_some o) ≡ true → IsAnswer task carries.memory.learned carries.memory.said
+    by_marking None k is = k
+    by_marking (Some t) k is = absurd (cc is)
+
+    by_beat : (o : Option (List beat_answers.Answered)) → IsCarriedBeside task carries.memory o → (rests o && not (is_some carries.memory.marking)) ≡ true → IsAnswer task carries.memory.learned carries.memory.said
+    by_beat None k is = by_marking carries.memory.marking k is
     by_beat (Some heard) k is = absurd (cc is)
 
     go : (d : Option Doing) → IsCarried task carries.memory d → is_idle_in carries.memory d ≡ true → IsAnswer task carries.memory.learned carries.memory.said
@@ -293,6 +350,9 @@ only_acks c command own carries n is = answered_by c (Attempting (Submitting com
 pub acks_unbeaten : (c : Shape) (command : Command) (own : Own) → Carries c (Attempting (Submitting command)) own → (host : ℕ) → said_of (host_in c own) ≡ Some (Beaten host) → ⊥
 acks_unbeaten c command own carries host is = answered_by c (Attempting (Submitting command)) own carries (Beaten host) is
 
+pub acks_unmarked : (c : Shape) (command : Command) (own : Own) → Carries c (Attempting (Submitting command)) own → (count : ℕ) → said_of (host_in c own) ≡ Some (Marked count) → ⊥
+acks_unmarked c command own carries count is = answered_by c (Attempting (Submitting command)) own carries (Marked count) is
+
 -- a recovery acknowledges nothing and does not beat
 pub only_recovers : (c : Shape) (own : Own) → Carries c (Attempting Recovering) own → (slot : ℕ) (reply : Reply) → said_of (host_in c own) ≡ Some (Ack slot reply) → ⊥
 only_recovers c own carries slot reply is = answered_by c (Attempting Recovering) own carries (Ack slot reply) is
@@ -300,12 +360,28 @@ only_recovers c own carries slot reply is = answered_by c (Attempting Recovering
 pub recovers_unbeaten : (c : Shape) (own : Own) → Carries c (Attempting Recovering) own → (host : ℕ) → said_of (host_in c own) ≡ Some (Beaten host) → ⊥
 recovers_unbeaten c own carries host is = answered_by c (Attempting Recovering) own carries (Beaten host) is
 
+pub recovers_unmarked : (c : Shape) (own : Own) → Carries c (Attempting Recovering) own → (count : ℕ) → said_of (host_in c own) ≡ Some (Marked count) → ⊥
+recovers_unmarked c own carries count is = answered_by c (Attempting Recovering) own carries (Marked count) is
+
 -- and a beat neither acknowledges nor recovers
 pub beats_unacknowledged : (c : Shape) (own : Own) → Carries c Beating own → (slot : ℕ) (reply : Reply) → said_of (host_in c own) ≡ Some (Ack slot reply) → ⊥
 beats_unacknowledged c own carries slot reply is = answered_by c Beating own carries (Ack slot reply) is
 
 pub beats_unrecovered : (c : Shape) (own : Own) → Carries c Beating own → (n : ℕ) → said_of (host_in c own) ≡ Some (Recovered n) → ⊥
 beats_unrecovered c own carries n is = answered_by c Beating own carries (Recovered n) is
+
+pub beats_unmarked : (c : Shape) (own : Own) → Carries c Beating own → (count : ℕ) → said_of (host_in c own) ≡ Some (Marked count) → ⊥
+beats_unmarked c own carries count is = answered_by c Beating own carries (Marked count) is
+
+-- and a marking does none of these
+pub marks_unacknowledged : (c : Shape) (own : Own) → Carries c MarkingSlot own → (slot : ℕ) (reply : Reply) → said_of (host_in c own) ≡ Some (Ack slot reply) → ⊥
+marks_unacknowledged c own carries slot reply is = answered_by c MarkingSlot own carries (Ack slot reply) is
+
+pub marks_unrecovered : (c : Shape) (own : Own) → Carries c MarkingSlot own → (n : ℕ) → said_of (host_in c own) ≡ Some (Recovered n) → ⊥
+marks_unrecovered c own carries n is = answered_by c MarkingSlot own carries (Recovered n) is
+
+pub marks_unbeaten : (c : Shape) (own : Own) → Carries c MarkingSlot own → (host : ℕ) → said_of (host_in c own) ≡ Some (Beaten host) → ⊥
+marks_unbeaten c own carries host is = answered_by c MarkingSlot own carries (Beaten host) is
 
 -- the last receipt is that of the acknowledgement
 pub record IsAcked (c : Shape) (own : Own) (slot : ℕ) (reply : Reply) : Type 0 where
@@ -321,6 +397,7 @@ pub acked : (c : Shape) (task : Task) (own : Own) → Carries c task own → (sl
 acked c (Attempting (Submitting command)) own carries slot reply is = let r = acked_for c command own carries slot reply is in record { command = command; place = r.0; last = r.1 }
 acked c (Attempting Recovering) own carries slot reply is = absurd (only_recovers c own carries slot reply is)
 acked c Beating own carries slot reply is = absurd (beats_unacknowledged c own carries slot reply is)
+acked c MarkingSlot own carries slot reply is = absurd (marks_unacknowledged c own carries slot reply is)
 
 -- a step that was refused, or could not be made, stops the task
 pub stops : (c : Shape) (o : Task) (f : HostFault) (old mid new : Own) → Carries c o old → GoesOn c old mid → idles (host_in c mid) ≡ false → Ends c f mid new → Stops c f old new
@@ -348,6 +425,7 @@ no_receipt : (c : Shape) (own : Own) (task : Task) → HasReceipt c own task Non
 no_receipt c own (Attempting (Submitting command)) = tt
 no_receipt c own (Attempting Recovering) = tt
 no_receipt c own Beating = tt
+no_receipt c own MarkingSlot = tt
 
 -- a host that is not idle carries a task out
 pub carries_one : (c : Shape) (own : Own) (m : Memory) (submitting : Option Command) → host_in c own ≡ Running m → IsDoing c m m.doing submitting → idles (host_in c own) ≡ false → (task : Task) × Carries c task own
@@ -359,14 +437,21 @@ carries_one c own m submitting is doing busy = go m.doing refl doing (sym (ap id
       record { memory = m; is = is; doing = carried; receipt = subst (HasReceipt c own task) (sym none) (no_receipt c own task) },
     )
 
-    by_beat : (o : Option (List beat_answers.Answered)) → m.doing ≡ None → m.beats.heard ≡ o → IsDoing c (record m { beats = record m.beats { heard = o } }) None submitting → rests o ≡ false → (task : Task) × Carries c task own
-    by_beat None none rest known off = absurd (cc off)
+    by_marking : (o : Option Marking) → m.doing ≡ None → m.beats.heard ≡ None → m.marking ≡ o → IsSilentInMarking m o → not (is_some o) ≡ false → (task : Task) × Carries c task own
+    by_marking None none rest unmarked known off = absurd (cc off)
+    by_marking (Some t) none rest marks known off =
+        quiet MarkingSlot known (subst (λ (d : Option Doing). IsCarried MarkingSlot m d) (sym none)
+        (subst (λ (o : Option (List beat_answers.Answered)). IsCarriedBeside MarkingSlot m o) (sym rest)
+        (subst (λ (o : Option Marking). IsCarriedInMarking MarkingSlot m o) (sym marks) (refl, known))))
+
+    by_beat : (o : Option (List beat_answers.Answered)) → m.doing ≡ None → m.beats.heard ≡ o → IsSilentInBeat m o → (rests o && not (is_some m.marking)) ≡ false → (task : Task) × Carries c task own
+    by_beat None none rest known off = by_marking m.marking none rest refl known off
     by_beat (Some heard) none beats known off =
-        quiet Beating known (subst (λ (d : Option Doing). IsCarried Beating m d) (sym none) (subst (λ (o : Option (List beat_answers.Answered)). IsCarriedBeside Beating m o) (sym beats) (refl, known)))
+        quiet Beating known.0 (subst (λ (d : Option Doing). IsCarried Beating m d) (sym none) (subst (λ (o : Option (List beat_answers.Answered)). IsCarriedBeside Beating m o) (sym beats) (refl, known.0, known.1)))
 
     go : (d : Option Doing) → m.doing ≡ d → IsDoing c m d submitting → is_idle_in m d ≡ false → (task : Task) × Carries c task own
     go None none known off = by_beat m.beats.heard none refl known off
-    go (Some t) does known off = quiet (Attempting t.operation) known.2 (subst (λ (d : Option Doing). IsCarried (Attempting t.operation) m d) (sym does) (refl, known.2, known.3))
+    go (Some t) does known off = quiet (Attempting t.operation) known.2 (subst (λ (d : Option Doing). IsCarried (Attempting t.operation) m d) (sym does) (refl, known.2, known.3, known.4))
 
 -- WHICH COMMAND
 

@@ -6,7 +6,7 @@ use Rattle.lock_command.specs.declared.command.Command.{Command}
 use Rattle.lock_table.specs.declared.reply.Reply.{Reply}
 use Rattle.slot_log.specs.Shape.{Shape}
 use Rattle.host.specs.declared.answer.HostAnswer.{HostAnswer}
-use Rattle.host.specs.declared.answer.HostAnswer.TheVariants.{Ack, Recovered, Beaten, Refused}
+use Rattle.host.specs.declared.answer.HostAnswer.TheVariants.{Ack, Recovered, Beaten, Marked, Refused}
 use Rattle.host.specs.Host.{Operation, Submitting, Recovering, Doing, Memory, Host, Stopped, Running, said_of, learned_of}
 use Rattle.world.specs.Entry.{Filled, Start, is_of, host_step}
 use Rattle.world.specs.World.{world, IsRun}
@@ -71,6 +71,7 @@ module _ (c : Shape) (log : List Filled) (h : ℕ) where
     for_saying (Some (Ack slot reply)) says = for_operation slot reply says t.operation refl
     for_saying (Some (Recovered n)) says = tt
     for_saying (Some (Beaten host)) says = tt
+    for_saying (Some (Marked count)) says = tt
     for_saying (Some (Refused r)) says = tt
 
   for_doing : (i : ℕ) (e : Filled) → slice_get log i ≡ Some e → is_of h e ≡ true → (host : Host) → (at c log i).host h ≡ host → (o : Option Doing) → doing_of host ≡ o → (said : Option HostAnswer) → said_of ((at c log (i + 1)).host h) ≡ said → HaveAll (receipt_by h i o said)

@@ -1,13 +1,13 @@
 -- What a seat keeps, before and behind an answer.
-use Rattle.std.proofs.Common.{◌≡◌, ◌≤◌, ◌<◌, ℕ, true, false, List, ◌++◌, length, Option, Some, None, refl, sym, ap, ◌∙◌, arith, length-append}
-use Rattle.std.specs.Prelude.{is_some}
+use Rattle.std.proofs.Common.{◌≡◌, ◌≤◌, ◌<◌, ℕ, Bool, true, false, subst, List, ◌++◌, length, Option, Some, None, refl, sym, ap, ◌∙◌, arith, length-append}
+use Rattle.std.specs.Prelude.{◌&&◌, not, is_some}
 use Rattle.disk.specs.Disk.{Call, Answer}
 use Rattle.beats.specs.Answers.{Answered as Beaten}
 use Rattle.lock_command.specs.declared.command.Command.{Command}
 use Rattle.slot_log.specs.Shape.{Shape}
-use Rattle.host.specs.Host.{Host, Running, Memory, Doing, hears_from, rests, is_idle_in, idles, next_beat, next_doing, next_in, next_of}
-use Rattle.host.specs.Kept.{Kept, LeadsTo, has_no_beat}
-use Rattle.host.proofs.Hosts.{rests_by}
+use Rattle.host.specs.Host.{Host, Running, Memory, Doing, Marking, hears_from, rests, is_idle_in, idles, next_marking, next_beside, next_doing, next_in, next_of}
+use Rattle.host.specs.Kept.{Kept, LeadsTo, MarkingLeadsTo, has_no_beat}
+use Rattle.host.proofs.Hosts.{rests_by, no_marking}
 use Rattle.world.specs.Entry.{Called, host_step}
 use Rattle.cluster_tie.specs.Parts.{Own, adds}
 use Rattle.cluster.specs.declared.receipt.Receipt.{Receipt}
@@ -16,12 +16,16 @@ use Rattle.cluster.specs.Seat.{host_in, due_in, IsDueOn, IsDoing, IsRunning}
 use Rattle.cluster.proofs.Adding.{host_adds, receipts_adds}
 use Rattle.cluster.proofs.Heard.{hears_keeps, hears_counts, said_is}
 
-due_beats : (c : Shape) (h : ℕ) (o : Option (List Beaten)) (due : ℕ × Call) → next_beat c h o ≡ Some due → rests o ≡ false
-due_beats c h None due is = absurd (cc is)
-due_beats c h (Some heard) due is = refl
+due_marks : (c : Shape) (h : ℕ) (m : Memory) (o : Option Marking) (due : ℕ × Call) → next_marking c h m o ≡ Some due → not (is_some o) ≡ false
+due_marks c h m None due is = absurd (cc is)
+due_marks c h m (Some t) due is = refl
+
+due_beats : (c : Shape) (h : ℕ) (m : Memory) (o : Option (List Beaten)) (due : ℕ × Call) → next_beside c h m o ≡ Some due → (rests o && not (is_some m.marking)) ≡ false
+due_beats c h m None due is = due_marks c h m m.marking due is
+due_beats c h m (Some heard) due is = refl
 
 due_busy : (c : Shape) (h : ℕ) (m : Memory) (o : Option Doing) (due : ℕ × Call) → next_doing c h m o ≡ Some due → is_idle_in m o ≡ false
-due_busy c h m None due is = due_beats c h m.beats.heard due is
+due_busy c h m None due is = due_beats c h m m.beats.heard due is
 due_busy c h m (Some t) due is = refl
 
 module _ (c : Shape) (own : Own) (core : Kept) (sub : Option Command) (r : IsRunning c own core sub) where
@@ -35,15 +39,21 @@ module _ (c : Shape) (own : Own) (core : Kept) (sub : Option Command) (r : IsRun
   pub busy : (k : ℕ) → IsDueOn c own k → is_idle_in r.memory r.memory.doing ≡ false
   busy k due = due_busy c own.number r.memory r.memory.doing (k, (due_in c own).1) (sym next_is ∙ due)
 
-  -- with no beat under way, an attempt is
-  resting : core.beat ≡ None → is_idle_in r.memory r.memory.doing ≡ false → is_some r.memory.doing ≡ true
-  resting none at_work = go r.memory.doing at_work
+  -- with no beat and no marking under way, an attempt is
+  resting : core.beat ≡ None → core.marking ≡ None → is_idle_in r.memory r.memory.doing ≡ false → is_some r.memory.doing ≡ true
+  resting none unmarking at_work = go r.memory.doing at_work
     where
       rest : rests r.memory.beats.heard ≡ true
       rest = sym (rests_by c own.number r.memory.beats.heard core.beat r.leads.beat) ∙ ap has_no_beat none
 
+      unmarked : r.memory.marking ≡ None
+      unmarked = no_marking c own.number r.memory r.memory.marking (subst (MarkingLeadsTo c own.number r.memory r.memory.marking) unmarking r.leads.marking)
+
+      idle : (rests r.memory.beats.heard && not (is_some r.memory.marking)) ≡ true
+      idle = ap (λ (b : Bool). b && not (is_some r.memory.marking)) rest ∙ ap (λ (o : Option Marking). not (is_some o)) unmarked
+
       go : (o : Option Doing) → is_idle_in r.memory o ≡ false → is_some o ≡ true
-      go None off = absurd (let both : true ≡ false = sym rest ∙ off in cc both)
+      go None off = absurd (let both : true ≡ false = sym idle ∙ off in cc both)
       go (Some t) off = refl
 
   pub below : (o : Option Doing) → is_some o ≡ true → IsDoing c r.memory o sub → length r.memory.learned < c.slots
@@ -51,8 +61,8 @@ module _ (c : Shape) (own : Own) (core : Kept) (sub : Option Command) (r : IsRun
   below (Some t) at_work is = is.0
 
   -- so there is room for one receipt more
-  pub few : (acks : ℕ) → core.beat ≡ None → is_idle_in r.memory r.memory.doing ≡ false → acks ≤ length core.prefix → acks < c.slots
-  few acks none at_work less = let slots = below r.memory.doing (resting none at_work) r.doing in let same = ap (λ (l : List Command). length l) r.leads.prefix in omega (arith, slots, same, less)
+  pub few : (acks : ℕ) → core.beat ≡ None → core.marking ≡ None → is_idle_in r.memory r.memory.doing ≡ false → acks ≤ length core.prefix → acks < c.slots
+  few acks none unmarking at_work less = let slots = below r.memory.doing (resting none unmarking at_work) r.doing in let same = ap (λ (l : List Command). length l) r.leads.prefix in omega (arith, slots, same, less)
 
   module _ (new : Kept) (at k : ℕ) (call : Call) (answer : Answer) (left : List ℕ) (at_work : is_idle_in r.memory r.memory.doing ≡ false)
       (next : (c : Shape) (h : ℕ) (m : Memory) → LeadsTo c h m core → LeadsTo c h (hears_from c h m m.doing k answer) new) where

@@ -5,7 +5,7 @@ use Rattle.lock_command.specs.declared.command.Command.{Command}
 use Rattle.slot_log.specs.Shape.{Shape}
 use Rattle.host.specs.declared.answer.HostAnswer.{HostAnswer}
 use Rattle.host.specs.declared.answer.HostAnswer.TheVariants as said
-use Rattle.host.specs.Host.{Operation, Submitting, Recovering, Doing, Memory, Running, idles, said_of, learned_of}
+use Rattle.host.specs.Host.{Operation, Submitting, Recovering, Doing, Marking, Memory, Running, idles, said_of, learned_of}
 use Rattle.world.specs.Entry.{Filled, Start, Stop}
 use Rattle.cluster_tie.specs.Parts.{Own, own_of, adds}
 use Rattle.cluster.specs.Cluster.{GoesOn}
@@ -14,7 +14,7 @@ use Rattle.cluster.specs.Seat.{host_in}
 use Rattle.cluster.specs.declared.fault.HostFault.{HostFault}
 use Rattle.cluster.specs.declared.fault.HostFault.TheVariants.{Refused, NoMemory, JournalFull, SeatTaken, SeatsMissing, OpenCall}
 use Rattle.cluster.specs.declared.operate.Resumed.{Resumed}
-use Rattle.cluster.specs.declared.operate.Resumed.TheVariants.{Submitted, Recovered, Beaten}
+use Rattle.cluster.specs.declared.operate.Resumed.TheVariants.{Submitted, Recovered, Beaten, Marked}
 use Rattle.cluster.specs.declared.receipt.Receipt.{Receipt}
 
 -- ANSWERS
@@ -23,14 +23,15 @@ use Rattle.cluster.specs.declared.receipt.Receipt.{Receipt}
 abbrev pub IsLast : Receipt → List Receipt → Type 0
 IsLast receipt all = (before : List Receipt) × (all ≡ before ++ receipt ∷ [])
 
--- The host is idle, and what it said last is this answer: an acknowledgement with the last receipt of the list, how many commands it has learned, or
--- which host a beat suggests.
+-- The host is idle, and what it said last is this answer: an acknowledgement with the last receipt of the list, how many commands it has learned,
+-- which host a beat suggests, or on how many disks its block of a slot is marked.
 abbrev pub HasAnswered : Shape → Resumed → Own → Type 0
 HasAnswered c (Submitted receipt) own =
     (idles (host_in c own) ≡ true) × (said_of (host_in c own) ≡ Some (said.Ack receipt.slot receipt.reply)) × IsLast receipt (receipts_of c own)
 HasAnswered c (Recovered n) own =
     (idles (host_in c own) ≡ true) × (said_of (host_in c own) ≡ Some (said.Recovered n)) × (n ≡ length (learned_of (host_in c own)))
 HasAnswered c (Beaten host) own = (idles (host_in c own) ≡ true) × (said_of (host_in c own) ≡ Some (said.Beaten host))
+HasAnswered c (Marked count) own = (idles (host_in c own) ≡ true) × (said_of (host_in c own) ≡ Some (said.Marked count))
 
 -- WHAT WAS ADDED
 
@@ -72,10 +73,11 @@ Restarts old new = (place : ℕ) × (new ≡ adds (adds old place (Stop old.numb
 
 -- WHILE A TASK IS UNDER WAY
 
--- what a host carries out: an operation on the log, or a beat
+-- what a host carries out: an operation on the log, a beat, or the marking of a slot
 pub data Task : Type 0 where
   Attempting : (operation : Operation) → Task
   Beating : Task
+  MarkingSlot : Task
 
 -- the host may answer the task so
 abbrev pub IsAnswer : Task → List Command → Option HostAnswer → Type 0
@@ -83,18 +85,24 @@ IsAnswer task learned None = ⊥
 IsAnswer (Attempting (Submitting command)) learned (Some (said.Ack slot reply)) = Unit {0}
 IsAnswer (Attempting Recovering) learned (Some (said.Recovered n)) = n ≡ length learned
 IsAnswer Beating learned (Some (said.Beaten host)) = Unit {0}
+IsAnswer MarkingSlot learned (Some (said.Marked count)) = Unit {0}
 IsAnswer task learned (Some (said.Refused refusal)) = Unit {0}
 IsAnswer task learned other = ⊥
 
--- the beat is under way, or the task was answered
-abbrev pub IsCarriedBeside : Task → Memory → Option (List Answered) → Type 0
-IsCarriedBeside task m None = IsAnswer task m.learned m.said
-IsCarriedBeside task m (Some heard) = (task ≡ Beating) × (m.said ≡ None)
+-- the marking is under way, or the task was answered
+abbrev pub IsCarriedInMarking : Task → Memory → Option Marking → Type 0
+IsCarriedInMarking task m None = IsAnswer task m.learned m.said
+IsCarriedInMarking task m (Some t) = (task ≡ MarkingSlot) × (m.said ≡ None)
 
--- or the operation is, and no beat
+-- or the beat is, and no marking
+abbrev pub IsCarriedBeside : Task → Memory → Option (List Answered) → Type 0
+IsCarriedBeside task m None = IsCarriedInMarking task m m.marking
+IsCarriedBeside task m (Some heard) = (task ≡ Beating) × (m.said ≡ None) × (m.marking ≡ None)
+
+-- or the operation is, and neither of them
 abbrev pub IsCarried : Task → Memory → Option Doing → Type 0
 IsCarried task m None = IsCarriedBeside task m m.beats.heard
-IsCarried task m (Some t) = (Attempting t.operation ≡ task) × (m.said ≡ None) × (m.beats.heard ≡ None)
+IsCarried task m (Some t) = (Attempting t.operation ≡ task) × (m.said ≡ None) × (m.beats.heard ≡ None) × (m.marking ≡ None)
 
 -- a submission that was acknowledged has the last receipt
 abbrev pub HasReceipt : Shape → Own → Task → Option HostAnswer → Type 0

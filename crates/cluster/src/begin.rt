@@ -1,6 +1,6 @@
-ghost use Rattle.std.specs.Prelude.{◌≡◌, ◌≤◌, ◌+◌, ◌++◌, ◌∷◌, [], true, OnOk, OnErr, IfErr, ◌⊎◌, length};
+ghost use Rattle.std.specs.Prelude.{◌≡◌, ◌<◌, ◌≤◌, ◌+◌, ◌++◌, ◌∷◌, [], true, OnOk, OnErr, IfErr, ◌⊎◌, length};
 ghost use Rattle.host.specs.Host.{idles};
-ghost use Rattle.world.specs.Entry.{Submit, Recover, Beat};
+ghost use Rattle.world.specs.Entry.{Submit, Recover, Beat, Mark};
 ghost use Rattle.cluster_tie.specs.Parts.{adds};
 ghost use Rattle.cluster.specs.Seat.{host_in};
 
@@ -120,6 +120,37 @@ impl<'a, N: Named> Journal<'a, N> {
         self.ties.append_host::<E>(&mut self.tie, &mut seat.tie);
         self.entries.push_reserved(Entry::Beat(host));
         seat.core.beat();
+        Ok(())
+    }
+}
+
+impl<'a, N: Named> Journal<'a, N> {
+    // The host begins to mark a slot.
+    pub(crate) fn mark(&mut self, seat: &mut HostSeat<N>, slot: u16) -> Result<(), HostFault>
+        requires idle { idles (host_in N.shape seat.old) ≡ true }
+        requires slot { slot < N.shape.slots }
+        ensures seat { OnOk result (seat.new ≡ adds seat.old (length self.old.log) (Mark seat.old.number slot)) }
+        ensures journal { OnOk result (self.new ≡ record self.old { log = self.old.log ++ Mark seat.old.number slot ∷ [] }) }
+        ensures unchanged { OnErr result ((seat.new ≡ seat.old) × (self.new ≡ self.old)) }
+        ensures causes { IfErr result (λ fault. (fault ≡ HostFault.JournalFull) ⊎ (fault ≡ HostFault.NoMemory)) }
+    {
+        self.mark_as::<Brand>(seat, slot)
+    }
+
+    fn mark_as<E: Told>(&mut self, seat: &mut HostSeat<N>, slot: u16) -> Result<(), HostFault>
+        requires told { E.entry ≡ Mark seat.old.number slot }
+        requires idle { idles (host_in N.shape seat.old) ≡ true }
+        requires slot { slot < N.shape.slots }
+        ensures seat { OnOk result (seat.new ≡ adds seat.old (length self.old.log) E.entry) }
+        ensures journal { OnOk result (self.new ≡ record self.old { log = self.old.log ++ E.entry ∷ [] }) }
+        ensures unchanged { OnErr result ((seat.new ≡ seat.old) × (self.new ≡ self.old)) }
+        ensures causes { IfErr result (λ fault. (fault ≡ HostFault.JournalFull) ⊎ (fault ≡ HostFault.NoMemory)) }
+    {
+        has_room(&mut self.entries, self.promised)?;
+        let host = seat.core.host();
+        self.ties.append_host::<E>(&mut self.tie, &mut seat.tie);
+        self.entries.push_reserved(Entry::Mark { host, slot });
+        seat.core.mark(slot);
         Ok(())
     }
 }

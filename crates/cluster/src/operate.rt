@@ -1,6 +1,6 @@
-ghost use Rattle.std.specs.Prelude.{◌≡◌, ◌⊎◌, ◌≤◌, ◌+◌, true, false, length, IfOk, IfErr, OnOk, OnErr};
+ghost use Rattle.std.specs.Prelude.{◌≡◌, ◌⊎◌, ◌<◌, ◌≤◌, ◌+◌, true, false, length, IfOk, IfErr, OnOk, OnErr};
 ghost use Rattle.host.specs.Host.{idles};
-ghost use Rattle.world.specs.Entry.{Submit, Recover, Beat};
+ghost use Rattle.world.specs.Entry.{Submit, Recover, Beat, Mark};
 ghost use Rattle.cluster.specs.Cluster.{GoesOn};
 ghost use Rattle.cluster.specs.Operations.{HasAnswered, CarriesOne, Fails, IsRefusedBy, Operates, Restarts, Stops};
 ghost use Rattle.cluster.specs.Seat.{host_in};
@@ -17,12 +17,14 @@ use lock_command::Command;
 use std::alloc::Global;
 use std::sync::Wait;
 
-/// What an operation gave: a receipt, how many commands were recovered, or the host that a beat suggests.
+/// What an operation gave: a receipt, how many commands were recovered, the host that a beat suggests, or on how many disks the
+/// host's block of a slot is marked.
 #[derive(Clone, Copy, Debug)]
 pub enum Resumed {
     Submitted(Receipt),
     Recovered(u16),
     Beaten(u8),
+    Marked(u8),
 }
 
 impl<'a, N: Named, D: Disk + Drop> Cluster<'a, N, D> {
@@ -47,7 +49,7 @@ impl<'a, N: Named, D: Disk + Drop> Cluster<'a, N, D> {
         self.go_on(rt, seat, gate)?;
         match outcome(seat)? {
             Resumed::Submitted(receipt) => Ok(receipt),
-            Resumed::Recovered(_) | Resumed::Beaten(_) => unreachable!(),
+            Resumed::Recovered(_) | Resumed::Beaten(_) | Resumed::Marked(_) => unreachable!(),
         }
     }
 
@@ -69,7 +71,7 @@ impl<'a, N: Named, D: Disk + Drop> Cluster<'a, N, D> {
         self.go_on(rt, seat, gate)?;
         match outcome(seat)? {
             Resumed::Recovered(length) => Ok(length),
-            Resumed::Submitted(_) | Resumed::Beaten(_) => unreachable!(),
+            Resumed::Submitted(_) | Resumed::Beaten(_) | Resumed::Marked(_) => unreachable!(),
         }
     }
 
@@ -90,7 +92,30 @@ impl<'a, N: Named, D: Disk + Drop> Cluster<'a, N, D> {
         self.go_on(rt, seat, gate)?;
         match outcome(seat)? {
             Resumed::Beaten(host) => Ok(host),
-            Resumed::Submitted(_) | Resumed::Recovered(_) => unreachable!(),
+            Resumed::Submitted(_) | Resumed::Recovered(_) | Resumed::Marked(_) => unreachable!(),
+        }
+    }
+
+    /// Marks a slot that the host has learned, so that others learn it in one reading, and tells on
+    /// how many disks the host's block is marked then.
+    pub fn mark<G: Gate>(
+        &self,
+        rt: &impl Wait,
+        seat: &mut HostSeat<N>,
+        gate: &mut G,
+        slot: u16,
+    ) -> Result<u8, HostFault>
+        requires idle { idles (host_in N.shape seat.old) ≡ true }
+        requires slot { slot < N.shape.slots }
+        ensures steps { OnOk result (Operates N.shape (Mark seat.old.number slot) seat.old seat.new) }
+        ensures answer { IfOk result (λ count. HasAnswered N.shape (Resumed.Marked count) seat.new) }
+        ensures err { IfErr result (λ fault. Fails N.shape (Mark seat.old.number slot) fault seat.old seat.new) }
+    {
+        self.journal.lock(rt).mark(seat, slot)?;
+        self.go_on(rt, seat, gate)?;
+        match outcome(seat)? {
+            Resumed::Marked(count) => Ok(count),
+            Resumed::Submitted(_) | Resumed::Recovered(_) | Resumed::Beaten(_) => unreachable!(),
         }
     }
 
@@ -164,6 +189,7 @@ fn outcome<N: Named>(seat: &HostSeat<N>) -> Result<Resumed, HostFault>
         },
         Some(HostAnswer::Recovered { length }) => Ok(Resumed::Recovered(length)),
         Some(HostAnswer::Beaten { host }) => Ok(Resumed::Beaten(host)),
+        Some(HostAnswer::Marked { count }) => Ok(Resumed::Marked(count)),
         Some(HostAnswer::Refused(refusal)) => Err(HostFault::Refused(refusal)),
         None => unreachable!(),
     }

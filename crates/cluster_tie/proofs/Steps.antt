@@ -8,7 +8,7 @@ use Rattle.std.proofs.lemmas.List.{get_or_push, get_or_append_left}
 use native.Mathlib.Decide.{dec_lt}
 use Rattle.atomic_table.specs.Table.{State, Act, keeps, Me, step, Allows, Splits, Joins}
 use Rattle.atomic_table.proofs.Lists.{at_set, set_again}
-use Rattle.world.specs.Entry.{Filled, Start, Stop, Submit, Recover, Beat, Called, Torn, Crashed, Lost, is_on, is_of}
+use Rattle.world.specs.Entry.{Filled, Start, Stop, Submit, Recover, Look, Beat, Mark, Called, Torn, Crashed, Lost, is_on, is_of}
 use Rattle.cluster_tie.specs.Parts.{Placed, belongs, placed, disk_of, host_of, Own, own_of, AreFresh}
 use Rattle.cluster_tie.specs.View.{Part, Known, part, keeper, holder, kept_back, handed, lent, own, parts_from, host_parts, all_parts}
 use Rattle.cluster_tie.specs.Rules.{same_role, Each, IsPartOf, Fits, Kept, Tied, grown, Agrees, Appended, appended, seen}
@@ -230,7 +230,9 @@ on_named n (Start h) = refl
 on_named n (Stop h) = refl
 on_named n (Submit h command tries) = refl
 on_named n (Recover h tries) = refl
+on_named n (Look h) = refl
 on_named n (Beat h) = refl
+on_named n (Mark h slot) = refl
 on_named n (Called h k call answer left) = refl
 on_named n (Torn h k call left) = refl
 on_named n (Crashed k left) = refl
@@ -241,7 +243,9 @@ of_named n (Start h) = refl
 of_named n (Stop h) = refl
 of_named n (Submit h command tries) = refl
 of_named n (Recover h tries) = refl
+of_named n (Look h) = refl
 of_named n (Beat h) = refl
+of_named n (Mark h slot) = refl
 of_named n (Called h k call answer left) = refl
 of_named n (Torn h k call left) = refl
 of_named n (Crashed k left) = refl

@@ -46,6 +46,24 @@ impl<F: FileExt + OpenFile + Drop> FileDisk<F> {
         }
     }
 
+    /// The file at this path, which is there and can be read. Every write to it fails.
+    pub fn open_to_read<R: Files<File = F>>(
+        files: &R,
+        path: &str,
+    ) -> Result<FileDisk<F>, ImageFault>
+        ensures used { IfOk result (λ d. (d.used ≡ true) × (d.failures ≡ 0)) }
+        ensures fault { IfErr result (λ fault. fault ≡ Unreadable) }
+    {
+        match open_file_to_read(files, path) {
+            Ok((file, size)) => Ok(FileDisk {
+                file: Some(file),
+                size,
+                failures: 0,
+            }),
+            Err(_) => Err(ImageFault::Unreadable),
+        }
+    }
+
     /// A new and empty file at this path, for a disk of this size. Nothing is there before.
     pub fn make<R: Files<File = F>>(
         files: &R,
@@ -91,6 +109,15 @@ where
     R::File: OpenFile,
 {
     let file = OpenOptions::new().read(true).write(true).open(files, path)?;
+    let size = file.metadata()?.len();
+    Ok((file, size))
+}
+
+fn open_file_to_read<R: Files>(files: &R, path: &str) -> io::Result<(R::File, u64)>
+where
+    R::File: OpenFile,
+{
+    let file = OpenOptions::new().read(true).open(files, path)?;
     let size = file.metadata()?.len();
     Ok((file, size))
 }

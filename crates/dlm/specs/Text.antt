@@ -8,9 +8,9 @@ use Rattle.lock_table.specs.declared.reply.Reply.TheVariants.{Granted, Queued, R
 use Rattle.lock_table.specs.declared.reply.Refusal as table
 use Rattle.lock_table.specs.declared.reply.Refusal.TheVariants.{LockInUse, NoSuchLock, NotOwner, AlreadyConverting, StillWaiting, NotQueued, TableFull, Stale, ClientsFull, NothingToCancel}
 use Rattle.slot_log.specs.declared.outcome.Refusal as operation
-use Rattle.slot_log.specs.declared.outcome.Refusal.TheVariants.{Outrun, NoMajority, BallotsSpent, LogFull, NotACommand}
+use Rattle.slot_log.specs.declared.outcome.Refusal.TheVariants.{Outrun, NoMajority, BallotsSpent, LogFull, NotACommand, NotLearned}
 use Rattle.host.specs.declared.answer.HostAnswer.{HostAnswer}
-use Rattle.host.specs.declared.answer.HostAnswer.TheVariants.{Ack, Recovered, Beaten, Refused as Ended}
+use Rattle.host.specs.declared.answer.HostAnswer.TheVariants.{Ack, Recovered, Beaten, Marked, Refused as Ended}
 use Rattle.inspect.specs.Text.{mode_name}
 use Rattle.cluster.specs.declared.fault.HostFault.{HostFault}
 use Rattle.cluster.specs.declared.fault.HostFault.TheVariants as fault
@@ -63,12 +63,14 @@ refusal_text NoMajority = codes "7 NoMajority"
 refusal_text BallotsSpent = codes "8 BallotsSpent"
 refusal_text LogFull = codes "9 LogFull"
 refusal_text NotACommand = codes "10 NotACommand"
+refusal_text NotLearned = codes "30 NotLearned"
 
 -- what a host answers
 abbrev pub answer_text : HostAnswer → List ℕ
 answer_text (Ack slot reply) = codes "ack " ++ decimal slot ++ codes " " ++ reply_text reply
 answer_text (Recovered length) = codes "recovered " ++ decimal length
 answer_text (Beaten host) = codes "beaten " ++ decimal host
+answer_text (Marked count) = codes "marked " ++ decimal count
 answer_text (Ended refusal) = codes "refused " ++ refusal_text refusal
 
 -- the numbers and names of what a cluster of host threads refuses

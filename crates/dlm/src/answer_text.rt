@@ -26,6 +26,7 @@ impl fmt::Display for AnswerText {
             }
             HostAnswer::Recovered { length } => write!(f, "recovered {length}"),
             HostAnswer::Beaten { host } => write!(f, "beaten {host}"),
+            HostAnswer::Marked { count } => write!(f, "marked {count}"),
             HostAnswer::Refused(refusal) => {
                 let refusal = refusal_text(refusal);
                 write!(f, "refused {refusal}")
@@ -59,5 +60,6 @@ pub fn refusal_text(refusal: Refusal) -> &'static str
         Refusal::BallotsSpent => "8 BallotsSpent",
         Refusal::LogFull => "9 LogFull",
         Refusal::NotACommand => "10 NotACommand",
+        Refusal::NotLearned => "30 NotLearned",
     }
 }

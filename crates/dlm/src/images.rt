@@ -49,7 +49,12 @@ where
 {
     let mut host = host_over(rt, folder, command.host)?;
     match host.submit(command, TRIES) {
-        Ok(done) => print_ack(done, out),
+        Ok(done) => {
+            print_ack(done, out)?;
+            // The command stands in the log whether or not that comes to its end.
+            let _ = host.mark(done.slot);
+            Ok(())
+        }
         Err(refusal) => Err(Failure::from(Fault::from(refusal))),
     }
 }

@@ -1,9 +1,9 @@
 -- How long an operation lasts: each answer brings it nearer to its end.
-use Rattle.std.proofs.Common.{◌≡◌, ◌<◌, ◌≤◌, ◌+◌, ◌-◌, ◌*◌, ℕ, zero, suc, Bool, true, false, List, [], ◌∷◌, ◌++◌, length, nat_lt, nat_le, Option, Some, None, refl, sym, ◌∙◌, ap, subst, arith, if◌then◌else◌, slice_get, slice_set, take, drop}
+use Rattle.std.proofs.Common.{◌≡◌, ◌&&◌, not, ◌<◌, ◌≤◌, ◌+◌, ◌-◌, ◌*◌, ℕ, zero, suc, Bool, true, false, List, [], ◌∷◌, ◌++◌, length, nat_lt, nat_le, Option, Some, None, refl, sym, ◌∙◌, ap, subst, arith, if◌then◌else◌, slice_get, slice_set, take, drop}
 use Rattle.std.proofs.Math.Seq.{take-append_seam}
 use Rattle.std.proofs.lemmas.Bool.{ltb-true, leb-false}
 use Rattle.std.proofs.lemmas.List.{length-append}
-use Rattle.attempt.specs.Answers.{Answered}
+use Rattle.attempt.specs.Answers.{Answered, Heard, on}
 use Rattle.attempt.specs.History.{IsAnswerTo, Fits}
 use Rattle.attempt.specs.Status as attempt
 use Rattle.attempt.specs.Status.{Status, Due, Ended}
@@ -15,19 +15,22 @@ use Rattle.beats.specs.declared.notes.Notes.{Notes as BeatNotes}
 use Rattle.phases.specs.Calls.{heard_of}
 use Rattle.phases.specs.declared.heard.Heard as code_heard
 use Rattle.slot_log.specs.Shape.{Shape}
-use Rattle.host.specs.Host.{Operation, Doing, Memory, Beats, hears, hears_from, goes_on, begins, by_status, takes, after_learning, is_submitted, learns, with_heard, with_floor, tries_again, next_in, rests, is_idle_in}
+use Rattle.host.specs.Host.{Operation, Doing, Memory, Beats, Marking, hears, hears_from, hears_beside, hears_marking, marking_by, marking_with, marking_of, with_marking, starts_marking, goes_on, begins, by_status, takes, after_learning, is_submitted, learns, with_heard, with_floor, tries_again, next_in, rests, is_idle_in}
 use Rattle.host.specs.Kept.{Kept, LeadsTo, BeatLeadsTo, is_idle}
-use Rattle.host.proofs.Hosts.{idle_is, from_attempt, beats-goes_on, beats-hears}
+use Rattle.marks.specs.Status as mark
+use Rattle.slot_log.specs.declared.outcome.Refusal.TheVariants as refusal
+use Rattle.host.specs.declared.answer.HostAnswer.TheVariants.{Refused}
+use Rattle.host.proofs.Hosts.{idle_is, heard_same, beats-goes_on, beats-hears, marking_heard}
 use Rattle.std.specs.Prelude.{is_some}
 use Rattle.std.proofs.Common.{true≢false}
 use Rattle.disk.specs.Disk as device
 use Rattle.phases.specs.Calls.{IsWithin}
 use Rattle.phases.specs.declared.need.DeviceCall as code_call
 use Rattle.phases.specs.declared.need.DeviceCall.TheVariants as call
-use Rattle.host.specs.Alone.{IsAnsweredAlone}
+use Rattle.host.specs.Alone.{IsAnsweredAlone, IsMarkedWithinNine}
 use Rattle.host.specs.declared.answer.HostAnswer.{HostAnswer}
-use Rattle.dlm_images.specs.Operations.{IsKnown, HasHeard, after_answers, AnswersDue, tries_in, HasOperated, Ends}
-use Rattle.dlm_images.proofs.Ending.{ReadsBack, operation_ends}
+use Rattle.dlm_images.specs.Operations.{IsKnown, HasHeard, hears_one, after_answers, AnswersDue, tries_in, HasOperated, HasMarked, Ends, EndsMarking}
+use Rattle.dlm_images.proofs.Ending.{ReadsBack, operation_ends, marking_ends, marking_learns}
 
 -- What an operation may still do: the slots that it may learn, then the tries, then the answers that its attempt may hear.
 abbrev pub left_with : Shape → ℕ → Option Doing → ℕ
@@ -73,6 +76,7 @@ tries_fewer c m o tries n room some = on_test (nat_le tries 1) refl
 status_fewer : (c : Shape) (m : Memory) (t : Doing) (ballot : ℕ) (s : Status) (n : ℕ) → left_with c (length m.learned) (Some t) < n → ((c.slots - length m.learned) * 256 + t.tries + 1) * 120 ≤ n → 0 < n → Fewer c n (by_status c m t ballot s)
 status_fewer c m t ballot (Due p d) n due room some = due
 status_fewer c m t ballot (Ended (attempt.Committed value)) n due room some = takes_fewer c m t ballot value (decoded value) n room some
+status_fewer c m t ballot (Ended (attempt.Decided value)) n due room some = takes_fewer c m t ballot value (decoded value) n room some
 status_fewer c m t ballot (Ended attempt.Empty) n due room some = some
 status_fewer c m t ballot (Ended (attempt.Outrun mbal)) n due room some = tries_fewer c (with_floor (with_floor m ballot) mbal) t.operation t.tries n room some
 status_fewer c m t ballot (Ended attempt.NoMajority) n due room some = some
@@ -84,6 +88,40 @@ falls c h m t x few =
     let one : length (t.heard ++ x ∷ []) ≡ length t.heard + 1 = length-append t.heard (x ∷ []) in
     status_fewer c m (with_heard t x) _ _ (left_with c (length m.learned) (Some t)) (omega (arith, one, few)) (omega arith) (omega arith)
 
+-- the answers that a marking may still hear
+abbrev pub left_marking : Option Marking → ℕ
+left_marking None = 0
+left_marking (Some t) = 1 + (63 - length t.heard)
+
+marked_by : (m : Memory) (t : Marking) (st : mark.Status) → left_marking (marking_by m t st).marking ≤ left_marking (Some t)
+marked_by m t (mark.Due disk) = omega arith
+marked_by m t (mark.Ended (mark.Marked count)) = omega arith
+marked_by m t (mark.Ended mark.NoMajority) = omega arith
+
+-- a marking ends or goes on, and no attempt begins
+rests_by : (m : Memory) (t : Marking) (st : mark.Status) → (marking_by m t st).doing ≡ None
+rests_by m t (mark.Due disk) = refl
+rests_by m t (mark.Ended (mark.Marked count)) = refl
+rests_by m t (mark.Ended mark.NoMajority) = refl
+
+beats_by : (m : Memory) (t : Marking) (st : mark.Status) → (marking_by m t st).beats ≡ m.beats
+beats_by m t (mark.Due disk) = refl
+beats_by m t (mark.Ended (mark.Marked count)) = refl
+beats_by m t (mark.Ended mark.NoMajority) = refl
+
+rests_hearing : (c : Shape) (h : ℕ) (m : Memory) (o : Option Marking) (x : Answered) → m.doing ≡ None → (hears_marking c h m o x).doing ≡ None
+rests_hearing c h m None x none = none
+rests_hearing c h m (Some t) x none = rests_by m (marking_with t x) (mark.status (marking_of c h m t.slot) (on (marking_with t x).heard))
+
+beats_hearing : (c : Shape) (h : ℕ) (m : Memory) (o : Option Marking) (x : Answered) → (hears_marking c h m o x).beats ≡ m.beats
+beats_hearing c h m None x = refl
+beats_hearing c h m (Some t) x = beats_by m (marking_with t x) (mark.status (marking_of c h m t.slot) (on (marking_with t x).heard))
+
+-- no beat begins
+beats_one : (c : Shape) (h : ℕ) (m : Memory) (o : Option Doing) (x : Answered) → m.doing ≡ o → (hears_one c h m o x).beats ≡ m.beats
+beats_one c h m None x is = beats_hearing c h m m.marking x
+beats_one c h m (Some t) x is = subst (λ (o : Option Doing). (hears c h m o x).beats ≡ m.beats) is (beats-hears c h m x)
+
 -- HEARING
 
 -- The host has heard something since, and so many answers more are the most that it may hear.
@@ -93,22 +131,22 @@ pub record IsDriven (c : Shape) (old new : Kept) (more : ℕ) : Type 0 where
   pub memory : Memory
   pub leads : LeadsTo c host memory new
   pub rest : memory.beats.heard ≡ None
-  pub left : left_in c memory ≤ more
+  pub left : left_in c memory + left_marking memory.marking ≤ more
 
-after_one_more : (c : Shape) (h : ℕ) (m : Memory) (xs : List Answered) (x : Answered) → after_answers c h m (xs ++ x ∷ []) ≡ (let n = after_answers c h m xs in hears c h n n.doing x)
+after_one_more : (c : Shape) (h : ℕ) (m : Memory) (xs : List Answered) (x : Answered) → after_answers c h m (xs ++ x ∷ []) ≡ (let n = after_answers c h m xs in hears_one c h n n.doing x)
 after_one_more c h m [] x = refl
-after_one_more c h m (y ∷ ys) x = after_one_more c h (hears c h m m.doing y) ys x
+after_one_more c h m (y ∷ ys) x = after_one_more c h (hears_one c h m m.doing y) ys x
 
 due_one_more : (c : Shape) (h : ℕ) (m : Memory) (xs : List Answered) (x : Answered) → AnswersDue c h m xs → IsAnswerTo (next_in c h (after_answers c h m xs)) x → AnswersDue c h m (xs ++ x ∷ [])
 due_one_more c h m [] x due last = (last, tt)
-due_one_more c h m (y ∷ ys) x due last = (due.0, due_one_more c h (hears c h m m.doing y) ys x due.1 last)
+due_one_more c h m (y ∷ ys) x due last = (due.0, due_one_more c h (hears_one c h m m.doing y) ys x due.1 last)
 
 -- nothing was heard yet
 pub heard_nothing : (k : Kept) → HasHeard k k
 heard_nothing k = record { heard = []; due = λ c h m leads. tt; leads = λ c h m leads. leads }
 
 -- one answer more
-pub heard_more : (old now new : Kept) (x : Answered) → HasHeard old now → ((c : Shape) (h : ℕ) (m : Memory) → LeadsTo c h m now → IsAnswerTo (next_in c h m) x) → ((c : Shape) (h : ℕ) (m : Memory) → LeadsTo c h m now → LeadsTo c h (hears c h m m.doing x) new) → HasHeard old new
+pub heard_more : (old now new : Kept) (x : Answered) → HasHeard old now → ((c : Shape) (h : ℕ) (m : Memory) → LeadsTo c h m now → IsAnswerTo (next_in c h m) x) → ((c : Shape) (h : ℕ) (m : Memory) → LeadsTo c h m now → LeadsTo c h (hears_one c h m m.doing x) new) → HasHeard old new
 heard_more old now new x before fits leads = record {
   heard = before.heard ++ x ∷ [];
   due = λ c h m is. due_one_more c h m before.heard x (before.due c h m is) (fits c h (after_answers c h m before.heard) (before.leads c h m is));
@@ -120,43 +158,77 @@ left_at_first : (c : Shape) (n : ℕ) (o : Option Doing) → c.slots ≤ 4096 �
 left_at_first c n None slots tries = omega arith
 left_at_first c n (Some t) slots tries = omega arith
 
-pub driven_at_first : (k : Kept) → IsKnown k → k.learner.shape.slots ≤ 4096 → IsDriven k.learner.shape k k 125859960
+left_marking_at_first : (o : Option Marking) → left_marking o ≤ 64
+left_marking_at_first None = omega arith
+left_marking_at_first (Some t) = omega arith
+
+pub driven_at_first : (k : Kept) → IsKnown k → k.learner.shape.slots ≤ 4096 → IsDriven k.learner.shape k k 125860024
 driven_at_first k known slots = record {
   has_heard = heard_nothing k;
   host = known.host;
   memory = known.memory;
   leads = subst (λ (c : Shape). LeadsTo c known.host known.memory k) (sym known.leads.learner.shape) known.leads;
   rest = known.rests;
-  left = left_at_first k.learner.shape (length known.memory.learned) known.memory.doing slots known.tries;
+  left =
+      let attempts : left_in k.learner.shape known.memory ≤ 125859960 = left_at_first k.learner.shape (length known.memory.learned) known.memory.doing slots known.tries in
+      let marks : left_marking known.memory.marking ≤ 64 = left_marking_at_first known.memory.marking in
+      omega (arith, attempts, marks);
 }
 
 -- what is known of an answer to a busy host
 pub record IsHeardBy (now new : Kept) (x : Answered) : Type 0 where
   pub busy : (c : Shape) (h : ℕ) (m : Memory) → LeadsTo c h m now → is_idle_in m m.doing ≡ false
   pub fits : (c : Shape) (h : ℕ) (m : Memory) → LeadsTo c h m now → IsAnswerTo (next_in c h m) x
-  pub leads : (c : Shape) (h : ℕ) (m : Memory) → LeadsTo c h m now → LeadsTo c h (hears c h m m.doing x) new
+  pub leads : (c : Shape) (h : ℕ) (m : Memory) → LeadsTo c h m now → LeadsTo c h (hears_one c h m m.doing x) new
   pub alone : (c : Shape) (h : ℕ) (m : Memory) → LeadsTo c h m now → IsAnsweredAlone c h m m.doing x
+  pub nine : (c : Shape) (h : ℕ) (m : Memory) → LeadsTo c h m now → IsMarkedWithinNine c m.marking
 
-less_left : (c : Shape) (h : ℕ) (m : Memory) → m.beats.heard ≡ None → (o : Option Doing) (x : Answered) (more : ℕ) → c.disks ≤ 7 → is_idle_in m o ≡ false → IsAnsweredAlone c h m o x → left_with c (length m.learned) o ≤ more → left_in c (hears c h m o x) < more
-less_left c h m rest None x more few busy alone left = absurd (true≢false (sym (ap rests rest) ∙ busy))
-less_left c h m rest (Some t) x more few busy alone left =
+-- what a marking hears leaves it less to do
+less_marking : (c : Shape) (h : ℕ) (m : Memory) (o : Option Marking) (x : Answered) → c.disks ≤ 7 → is_some o ≡ true → IsMarkedWithinNine c o → left_marking (hears_marking c h m o x).marking < left_marking o
+less_marking c h m None x few some nine = absurd (cc)
+less_marking c h m (Some t) x few some nine =
+    let one : length (t.heard ++ x ∷ []) ≡ length t.heard + 1 = length-append t.heard (x ∷ []) in
+    let long : length t.heard < 9 * c.disks = nine in
+    let at_most : left_marking (hears_marking c h m (Some t) x).marking ≤ left_marking (Some (marking_with t x)) =
+    marked_by m (marking_with t x) (mark.status (marking_of c h m t.slot) (on (marking_with t x).heard)) in
+    omega (arith, one, long, few, at_most)
+
+is_marking : (m : Memory) → m.beats.heard ≡ None → is_idle_in m None ≡ false → is_some m.marking ≡ true
+is_marking m rest busy = go m.beats.heard m.marking rest busy
+  where
+    go : (beat : Option (List Beaten)) (o : Option Marking) → beat ≡ None → (rests beat && not (is_some o)) ≡ false → is_some o ≡ true
+    go None None rest busy = absurd (true≢false busy)
+    go None (Some t) rest busy = refl
+    go (Some heard) o rest busy = absurd (cc)
+
+none_left : (c : Shape) (m : Memory) → m.doing ≡ None → left_in c m ≡ 0
+none_left c m none = ap (left_with c (length m.learned)) none
+
+less_left : (c : Shape) (h : ℕ) (m : Memory) → m.beats.heard ≡ None → (o : Option Doing) → m.doing ≡ o → (x : Answered) (more : ℕ) → c.disks ≤ 7 → is_idle_in m o ≡ false → IsAnsweredAlone c h m o x → IsMarkedWithinNine c m.marking
+    → left_with c (length m.learned) o + left_marking m.marking ≤ more → left_in c (hears_one c h m o x) + left_marking (hears_one c h m o x).marking < more
+less_left c h m rest None is x more few busy alone nine left =
+    let none : left_in c (hears_marking c h m m.marking x) ≡ 0 = none_left c (hears_marking c h m m.marking x) (rests_hearing c h m m.marking x is) in
+    let fewer : left_marking (hears_marking c h m m.marking x).marking < left_marking m.marking = less_marking c h m m.marking x few (is_marking m rest busy) nine in
+    omega (arith, none, fewer, left)
+less_left c h m rest (Some t) is x more few busy alone nine left =
     let long : length (t.heard ++ x ∷ []) ≤ 17 * c.disks = alone.bound in
     let fewer : left_in c (hears c h m (Some t) x) < left_with c (length m.learned) (Some t) = falls c h m t x (omega (arith, long, few)) in
-    omega (arith, fewer, left)
+    let same : left_marking (hears c h m (Some t) x).marking ≡ left_marking m.marking = ap left_marking (marking_heard c h m (Some t) x) in
+    omega (arith, fewer, same, left)
 
-pub driven_more : (c : Shape) (old now new : Kept) (x : Answered) (made : ℕ) → c.disks ≤ 7 → IsHeardBy now new x → IsDriven c old now (125859960 - made) → IsDriven c old new (125859960 - (made + 1))
+pub driven_more : (c : Shape) (old now new : Kept) (x : Answered) (made : ℕ) → c.disks ≤ 7 → IsHeardBy now new x → IsDriven c old now (125860024 - made) → IsDriven c old new (125860024 - (made + 1))
 driven_more c old now new x made few by driven =
-    let fewer : left_in c (hears c driven.host driven.memory driven.memory.doing x) < 125859960 - made =
-    less_left c driven.host driven.memory driven.rest driven.memory.doing x (125859960 - made) few (by.busy c driven.host driven.memory driven.leads) (by.alone c driven.host driven.memory driven.leads) driven.left in record {
+    let fewer : left_in c (hears_one c driven.host driven.memory driven.memory.doing x) + left_marking (hears_one c driven.host driven.memory driven.memory.doing x).marking < 125860024 - made =
+    less_left c driven.host driven.memory driven.rest driven.memory.doing refl x (125860024 - made) few (by.busy c driven.host driven.memory driven.leads) (by.alone c driven.host driven.memory driven.leads) (by.nine c driven.host driven.memory driven.leads) driven.left in record {
       has_heard = heard_more old now new x driven.has_heard by.fits by.leads;
       host = driven.host;
-      memory = hears c driven.host driven.memory driven.memory.doing x;
+      memory = hears_one c driven.host driven.memory driven.memory.doing x;
       leads = by.leads c driven.host driven.memory driven.leads;
-      rest = ap (λ (b : Beats). b.heard) (beats-hears c driven.host driven.memory x) ∙ driven.rest;
+      rest = ap (λ (b : Beats). b.heard) (beats_one c driven.host driven.memory driven.memory.doing x refl) ∙ driven.rest;
       left = omega (arith, fewer);
     }
 
--- no beat hears the answer, so the attempt does
+-- no beat hears the answer, so the attempt does, or the marking
 none_kept : (c : Shape) (h : ℕ) (o : Option (List Beaten)) (beat : Option BeatNotes) → BeatLeadsTo c h o beat → o ≡ None → beat ≡ None
 none_kept c h None None going none = refl
 none_kept c h None (Some notes) going none = absurd going
@@ -167,17 +239,19 @@ none_known c h None beat going none = refl
 none_known c h (Some heard) None going none = absurd going
 none_known c h (Some heard) (Some notes) going none = absurd (cc)
 
-attempting : (m : Memory) (o : Option Doing) → m.beats.heard ≡ None → is_idle_in m o ≡ false → is_some o ≡ true
-attempting m None rest busy = absurd (true≢false (sym (ap rests rest) ∙ busy))
-attempting m (Some t) rest busy = refl
+one_hears : (c : Shape) (h : ℕ) (m : Memory) (o : Option Doing) (d : ℕ) (heard : code_heard.Heard) → m.beats.heard ≡ None → hears_one c h m o (record { disk = d; heard = heard_of heard }) ≡ hears_from c h m o d (device_answer heard)
+one_hears c h m None d heard rest =
+    ap (λ (y : Heard). hears_marking c h m m.marking (record { disk = d; heard = y })) (heard_same heard)
+    ∙ ap (λ (o : Option (List Beaten)). hears_beside c h m o d (device_answer heard)) (sym rest)
+one_hears c h m (Some t) d heard rest = ap (λ (y : Heard). hears c h m (Some t) (record { disk = d; heard = y })) (heard_same heard)
 
-pub attempt_hears : (old now new : Kept) (made : ℕ) (c : Shape) → IsDriven c old now made → (d : ℕ) (heard : code_heard.Heard) → ((s : Shape) (h : ℕ) (m : Memory) → LeadsTo s h m now → is_idle_in m m.doing ≡ false)
+pub attempt_hears : (old now new : Kept) (made : ℕ) (c : Shape) → IsDriven c old now made → (d : ℕ) (heard : code_heard.Heard)
     → ((s : Shape) (h : ℕ) (m : Memory) → LeadsTo s h m now → LeadsTo s h (hears_from s h m m.doing d (device_answer heard)) new)
-    → (s : Shape) (h : ℕ) (m : Memory) → LeadsTo s h m now → LeadsTo s h (hears s h m m.doing (record { disk = d; heard = heard_of heard })) new
-attempt_hears old now new made c driven d heard busy hears_it s h m leads =
+    → (s : Shape) (h : ℕ) (m : Memory) → LeadsTo s h m now → LeadsTo s h (hears_one s h m m.doing (record { disk = d; heard = heard_of heard })) new
+attempt_hears old now new made c driven d heard hears_it s h m leads =
     let none : now.beat ≡ None = none_kept c driven.host driven.memory.beats.heard now.beat driven.leads.beat driven.rest in
     let rest : m.beats.heard ≡ None = none_known s h m.beats.heard now.beat leads.beat none in
-    subst (λ (n : Memory). LeadsTo s h n new) (sym (from_attempt s h m m.doing d heard (attempting m m.doing rest (busy s h m leads)))) (hears_it s h m leads)
+    subst (λ (n : Memory). LeadsTo s h n new) (sym (one_hears s h m m.doing d heard rest)) (hears_it s h m leads)
 
 -- CALLS
 
@@ -207,9 +281,14 @@ none_doing : (m : Memory) (o : Option Doing) → is_idle_in m o ≡ true → o �
 none_doing m None idle = refl
 none_doing m (Some t) idle = absurd (true≢false (sym idle))
 
-none_beating : (o : Option (List Beaten)) → rests o ≡ true → o ≡ None
-none_beating None idle = refl
-none_beating (Some heard) idle = absurd (true≢false (sym idle))
+none_beating : (o : Option (List Beaten)) (t : Option Marking) → (rests o && not (is_some t)) ≡ true → o ≡ None
+none_beating None t idle = refl
+none_beating (Some heard) t idle = absurd (true≢false (sym idle))
+
+none_marking : (o : Option (List Beaten)) (t : Option Marking) → (rests o && not (is_some t)) ≡ true → t ≡ None
+none_marking None None idle = refl
+none_marking None (Some t) idle = absurd (true≢false (sym idle))
+none_marking (Some heard) t idle = absurd (true≢false (sym idle))
 
 -- what is known of an idle host has no operation under way
 pub idle_memory : (c : Shape) (h : ℕ) (m : Memory) (k : Kept) → LeadsTo c h m k → is_idle k ≡ true → m.doing ≡ None
@@ -218,7 +297,12 @@ idle_memory c h m k leads idle = none_doing m m.doing (sym (idle_is c h m k lead
 -- and no beat
 idle_rests : (c : Shape) (h : ℕ) (m : Memory) (k : Kept) → LeadsTo c h m k → is_idle k ≡ true → m.beats.heard ≡ None
 idle_rests c h m k leads idle =
-    none_beating m.beats.heard (subst (λ (o : Option Doing). is_idle_in m o ≡ true) (idle_memory c h m k leads idle) (sym (idle_is c h m k leads) ∙ idle))
+    none_beating m.beats.heard m.marking (subst (λ (o : Option Doing). is_idle_in m o ≡ true) (idle_memory c h m k leads idle) (sym (idle_is c h m k leads) ∙ idle))
+
+-- and no marking
+idle_unmarked : (c : Shape) (h : ℕ) (m : Memory) (k : Kept) → LeadsTo c h m k → is_idle k ≡ true → m.marking ≡ None
+idle_unmarked c h m k leads idle =
+    none_marking m.beats.heard m.marking (subst (λ (o : Option Doing). is_idle_in m o ≡ true) (idle_memory c h m k leads idle) (sym (idle_is c h m k leads) ∙ idle))
 
 no_tries : (o : Option Doing) → o ≡ None → tries_in o ≤ 255
 no_tries None is = omega arith
@@ -266,10 +350,64 @@ known_operated o tries old new known done =
     (done.leads known.shape known.host known.memory known.leads) done.ended
 
 -- and the host has said how it ended
-pub operated_ends : (o : Operation) (tries : ℕ) (old new : Kept) → ReadsBack o → IsKnown old → HasOperated o tries old new → Ends o new.prefix new.said
-operated_ends o tries old new back known done =
+pub operated_ends : (o : Operation) (tries : ℕ) (old new : Kept) → ReadsBack o → IsKnown old → is_idle old ≡ true → HasOperated o tries old new → Ends o new.prefix new.said
+operated_ends o tries old new back known idle done =
     let n = after_answers known.shape known.host (goes_on known.shape known.memory o tries) done.heard in
     let leads : LeadsTo known.shape known.host n new = done.leads known.shape known.host known.memory known.leads in
     let ends : Ends o n.learned n.said =
-    operation_ends known.shape known.host known.memory o tries done.heard back (idle_memory known.shape known.host n new leads done.ended) in
+    operation_ends known.shape known.host known.memory o tries done.heard back (idle_unmarked known.shape known.host known.memory old known.leads idle) (idle_memory known.shape known.host n new leads done.ended) in
     subst (λ (said : Option HostAnswer). Ends o new.prefix said) (sym leads.said) (subst (λ (learned : List Command). Ends o learned n.said) (sym leads.prefix) ends)
+
+-- A MARKING
+
+beats_begun : (m : Memory) (slot : ℕ) (b : Bool) → (if b then with_marking m (Some (record { slot = slot; heard = [] })) None else with_marking m m.marking (Some (Refused refusal.NotLearned))).beats ≡ m.beats
+beats_begun m slot true = refl
+beats_begun m slot false = refl
+
+tries_begun : (m : Memory) (slot : ℕ) (b : Bool) → tries_in (if b then with_marking m (Some (record { slot = slot; heard = [] })) None else with_marking m m.marking (Some (Refused refusal.NotLearned))).doing ≤ 255
+tries_begun m slot true = omega arith
+tries_begun m slot false = omega arith
+
+module _ (slot : ℕ) (old begun : Kept) (known : IsKnown old) (begins_so : (c : Shape) (h : ℕ) (m : Memory) → LeadsTo c h m old → LeadsTo c h (starts_marking m slot) begun) where
+  -- something is known of the host where it begins
+  pub known_marking : IsKnown begun
+  known_marking = record {
+    shape = known.shape;
+    host = known.host;
+    memory = starts_marking known.memory slot;
+    leads = begins_so known.shape known.host known.memory known.leads;
+    rests = ap (λ (b : Beats). b.heard) (beats_begun known.memory slot (nat_lt slot (length known.memory.learned))) ∙ known.rests;
+    tries = tries_begun known.memory slot (nat_lt slot (length known.memory.learned));
+  }
+
+  -- of a cluster of the same shape
+  pub marking_shape : begun.learner.shape ≡ old.learner.shape
+  marking_shape = (begins_so known.shape known.host known.memory known.leads).learner.shape ∙ sym known.leads.learner.shape
+
+  -- what was heard between the beginning and the end is the marking's
+  pub marked : (ended : Kept) → HasHeard begun ended → is_idle ended ≡ true → HasMarked slot old ended
+  marked ended heard idle = record {
+    heard = heard.heard;
+    due = λ c h m leads. heard.due c h (starts_marking m slot) (begins_so c h m leads);
+    leads = λ c h m leads. heard.leads c h (starts_marking m slot) (begins_so c h m leads);
+    ended = idle;
+  }
+
+-- once it has ended
+module _ (slot : ℕ) (old new : Kept) (known : IsKnown old) (done : HasMarked slot old new) where
+  leads_then : LeadsTo known.shape known.host (after_answers known.shape known.host (starts_marking known.memory slot) done.heard) new
+  leads_then = done.leads known.shape known.host known.memory known.leads
+
+  -- something is known of the host
+  pub known_marked : IsKnown new
+  known_marked = known_idle known.shape known.host _ new leads_then done.ended
+
+  -- what it has learned stayed
+  pub marked_prefix : new.prefix ≡ old.prefix
+  marked_prefix = leads_then.prefix ∙ marking_learns known.shape known.host known.memory slot done.heard ∙ sym known.leads.prefix
+
+  -- and it has said how it ended
+  pub marked_ends : EndsMarking new.said
+  marked_ends =
+      subst EndsMarking (sym leads_then.said)
+      (marking_ends known.shape known.host known.memory slot done.heard (idle_unmarked known.shape known.host _ new leads_then done.ended))

@@ -1,7 +1,6 @@
 -- How an operation ends: whatever it hears, it goes on, or has ended with an answer of its own.
-use Rattle.std.proofs.Common.{◌≡◌, ◌<◌, ◌≤◌, ◌+◌, ℕ, Bool, true, false, List, [], ◌∷◌, ◌++◌, length, nat_lt, nat_le, Option, Some, None, refl, sym, ◌∙◌, ap, subst, if◌then◌else◌, is_some}
+use Rattle.std.proofs.Common.{◌≡◌, ℕ, Bool, true, false, List, [], ◌∷◌, ◌++◌, length, nat_lt, nat_le, Option, Some, None, refl, sym, ◌∙◌, ap, subst, if◌then◌else◌}
 use Rattle.std.proofs.lemmas.Slice.Eq.{bytes_eq-Decides}
-use Rattle.std.specs.Str.{bytes_eq}
 use Rattle.std.specs.Option.{option_or}
 use Rattle.paxos_block.specs.declared.ballot.TheConstants.{LAST_BALLOT}
 use Rattle.attempt.specs.Answers as answers
@@ -9,9 +8,9 @@ use Rattle.attempt.specs.Answers.{Answered, on}
 use Rattle.attempt.specs.Calls.{Phase, Opening, One, Two}
 use Rattle.attempt.specs.Setup.{Setup}
 use Rattle.attempt.specs.Status as attempt
-use Rattle.attempt.specs.Status.{Status, Due, Ended, status, taken, through, next_or, unless_outrun, proposing, voting, promising}
+use Rattle.attempt.specs.Status.{Status, Due, Ended, status, taken, through, next_or, unless_outrun, unless_decided, proposing, voting, promising, balloting}
 use Rattle.attempt.specs.Visits.{visited, is_left_at, are_enough}
-use Rattle.attempt.specs.Proposal.{ballot, proposal, others_mbal, best}
+use Rattle.attempt.specs.Proposal.{ballot, proposal, decided, others_mbal, best}
 use Rattle.lock_command.specs.declared.command.Command.{Command}
 use Rattle.lock_command.specs.Command.{spelling, Fits as FitsCommand}
 use Rattle.lock_command.specs.Reading.{decoded, checked}
@@ -19,9 +18,11 @@ use Rattle.lock_command.proofs.Readings.{command_at-spelling}
 use Rattle.slot_log.specs.Shape.{Shape}
 use Rattle.slot_log.specs.declared.outcome.Refusal.{Refusal}
 use Rattle.slot_log.specs.declared.outcome.Refusal.TheVariants as refusal
-use Rattle.host.specs.declared.answer.HostAnswer.TheVariants.{Ack, Recovered, Refused}
-use Rattle.host.specs.Host.{Memory, Doing, Operation, Submitting, Recovering, goes_on, goes_by, hears, begins, by_status, takes, after_learning, is_submitted, learns, with_heard, with_floor, tries_again, full_answer, says, setup_of, input_of}
-use Rattle.dlm_images.specs.Operations.{Ends, IsAcknowledged, after_answers}
+use Rattle.marks.specs.Status as mark
+use Rattle.host.specs.declared.answer.HostAnswer.TheVariants.{Recovered, Refused}
+use Rattle.host.proofs.Hosts.{marking-goes_on, marking_heard}
+use Rattle.host.specs.Host.{Memory, Doing, Operation, Submitting, Recovering, goes_on, hears, begins, by_status, takes, after_learning, is_submitted, learns, with_heard, with_floor, tries_again, full_answer, says, setup_of, input_of, Marking, hears_marking, marking_by, marking_with, marking_of, with_marking, starts_marking}
+use Rattle.dlm_images.specs.Operations.{Ends, EndsMarking, hears_one, after_answers}
 
 -- NO INPUT, NO PROPOSAL
 
@@ -29,6 +30,7 @@ use Rattle.dlm_images.specs.Operations.{Ends, IsAcknowledged, after_answers}
 abbrev HasInput : Setup → Status → Type 0
 HasInput s (Due phase disk) = Unit {0}
 HasInput s (Ended (attempt.Committed value)) = Unit {0}
+HasInput s (Ended (attempt.Decided value)) = Unit {0}
 HasInput s (Ended attempt.Empty) = s.input ≡ None
 HasInput s (Ended (attempt.Outrun mbal)) = Unit {0}
 HasInput s (Ended attempt.NoMajority) = Unit {0}
@@ -67,9 +69,14 @@ module _ (s : Setup) (f : answers.Answers) where
       by_outrun One (through s One f (proposing (proposal s f) (voting s f)))
       (by_through One (proposing (proposal s f) (voting s f)) (by_proposing (proposal s f) (none_else (best s f).inp s.input)))
 
+  by_decided : (o : Option (List ℕ)) (rest : Status) → HasInput s rest → HasInput s (unless_decided o rest)
+  by_decided None rest has = has
+  by_decided (Some value) rest has = tt
+
   pub has_input : HasInput s (status s f)
   has_input =
-      by_through Opening _ (by_test (nat_lt LAST_BALLOT (ballot s f)) (Ended attempt.BallotsSpent) (promising s f) tt by_promising)
+      by_through Opening (unless_decided (decided s f) (balloting s f))
+      (by_decided (decided s f) (balloting s f) (by_test (nat_lt LAST_BALLOT (ballot s f)) (Ended attempt.BallotsSpent) (promising s f) tt by_promising))
 
 -- A COMMAND READS BACK
 
@@ -146,31 +153,99 @@ empty_of Recovering m none = refl
 status_of : (c : Shape) (m : Memory) (t : Doing) (ballot : ℕ) (s : Setup) (at : Status) → s.input ≡ input_of t.operation → HasInput s at → ReadsBack t.operation → IsOf t.operation (by_status c m t ballot at)
 status_of c m t ballot s (Due phase disk) same has back = refl
 status_of c m t ballot s (Ended (attempt.Committed value)) same has back = taken_of c m t ballot value back (decoded value) refl
+status_of c m t ballot s (Ended (attempt.Decided value)) same has back = taken_of c m t ballot value back (decoded value) refl
 status_of c m t ballot s (Ended attempt.Empty) same has back = empty_of t.operation (with_floor m ballot) (sym same ∙ has)
 status_of c m t ballot s (Ended (attempt.Outrun mbal)) same has back = tries_of (with_floor (with_floor m ballot) mbal) t.operation t.tries
 status_of c m t ballot s (Ended attempt.NoMajority) same has back = refusal_of t.operation m.learned refusal.NoMajority
 status_of c m t ballot s (Ended attempt.BallotsSpent) same has back = refusal_of t.operation m.learned refusal.BallotsSpent
 
-hears_of : (c : Shape) (h : ℕ) (m : Memory) (o : Operation) (doing : Option Doing) (x : Answered) → ReadsBack o → m.doing ≡ doing → GoesOn o m doing → IsOf o (hears c h m doing x)
-hears_of c h m o None x back is goes = subst (GoesOn o m) (sym is) goes
-hears_of c h m o (Some t) x back is goes =
+unmarked_of : (c : Shape) (h : ℕ) (m : Memory) (o : Operation) (marking : Option Marking) (x : Answered) → marking ≡ None → IsOf o m → IsOf o (hears_marking c h m marking x)
+unmarked_of c h m o None x none is = is
+unmarked_of c h m o (Some t) x none is = absurd (cc)
+
+hears_of : (c : Shape) (h : ℕ) (m : Memory) (o : Operation) (doing : Option Doing) (x : Answered) → ReadsBack o → m.marking ≡ None → m.doing ≡ doing → GoesOn o m doing → IsOf o (hears_one c h m doing x)
+hears_of c h m o None x back unmarked is goes = unmarked_of c h m o m.marking x unmarked (subst (GoesOn o m) (sym is) goes)
+hears_of c h m o (Some t) x back unmarked is goes =
     let s : Setup = setup_of c h m t.operation in
     let heard = on (t.heard ++ x ∷ []) in
     subst (λ (p : Operation). IsOf p (hears c h m (Some t) x)) goes
     (status_of c m (with_heard t x) (taken s heard) s (status s heard) refl (has_input s heard) (subst ReadsBack (sym goes) back))
 
+-- no marking begins meanwhile
+unmarked_hearing : (c : Shape) (h : ℕ) (m : Memory) (marking : Option Marking) (x : Answered) → marking ≡ None → m.marking ≡ None → (hears_marking c h m marking x).marking ≡ None
+unmarked_hearing c h m None x none is = is
+unmarked_hearing c h m (Some t) x none is = absurd (cc)
+
+unmarked_one : (c : Shape) (h : ℕ) (m : Memory) (doing : Option Doing) (x : Answered) → m.marking ≡ None → (hears_one c h m doing x).marking ≡ None
+unmarked_one c h m None x is = unmarked_hearing c h m m.marking x is is
+unmarked_one c h m (Some t) x is = marking_heard c h m (Some t) x ∙ is
+
 -- whatever it hears, an operation goes on, or has ended
-after_of : (c : Shape) (h : ℕ) (m : Memory) (o : Operation) (xs : List Answered) → ReadsBack o → IsOf o m → IsOf o (after_answers c h m xs)
-after_of c h m o [] back is = is
-after_of c h m o (x ∷ xs) back is = after_of c h (hears c h m m.doing x) o xs back (hears_of c h m o m.doing x back refl is)
+after_of : (c : Shape) (h : ℕ) (m : Memory) (o : Operation) (xs : List Answered) → ReadsBack o → m.marking ≡ None → IsOf o m → IsOf o (after_answers c h m xs)
+after_of c h m o [] back unmarked is = is
+after_of c h m o (x ∷ xs) back unmarked is =
+    after_of c h (hears_one c h m m.doing x) o xs back (unmarked_one c h m m.doing x unmarked) (hears_of c h m o m.doing x back unmarked refl is)
 
 ended_with : (o : Operation) (m : Memory) (doing : Option Doing) → doing ≡ None → GoesOn o m doing → Ends o m.learned m.said
 ended_with o m None none goes = goes
 ended_with o m (Some t) none goes = absurd (cc)
 
 -- an operation that is under way no more has ended
-pub operation_ends : (c : Shape) (h : ℕ) (m : Memory) (o : Operation) (tries : ℕ) (xs : List Answered) → ReadsBack o → (after_answers c h (goes_on c m o tries) xs).doing ≡ None →
+pub operation_ends : (c : Shape) (h : ℕ) (m : Memory) (o : Operation) (tries : ℕ) (xs : List Answered) → ReadsBack o → m.marking ≡ None → (after_answers c h (goes_on c m o tries) xs).doing ≡ None →
     Ends o (after_answers c h (goes_on c m o tries) xs).learned (after_answers c h (goes_on c m o tries) xs).said
-operation_ends c h m o tries xs back none =
+operation_ends c h m o tries xs back unmarked none =
     let n = after_answers c h (goes_on c m o tries) xs in
-    ended_with o n n.doing none (after_of c h (goes_on c m o tries) o xs back (goes_on_of c m o tries))
+    ended_with o n n.doing none (after_of c h (goes_on c m o tries) o xs back (marking-goes_on c m o tries ∙ unmarked) (goes_on_of c m o tries))
+
+-- A MARKING
+
+-- the marking is under way, or has ended
+abbrev MarksOn : Memory → Option Marking → Type 0
+MarksOn m None = EndsMarking m.said
+MarksOn m (Some t) = Unit {0}
+
+record IsOfMarking (learned : List Command) (m : Memory) : Type 0 where
+  rests : m.doing ≡ None
+  learns : m.learned ≡ learned
+  ends : MarksOn m m.marking
+
+refused_on : (m : Memory) (r : Refusal) (o : Option Marking) → m.said ≡ Some (Refused r) → MarksOn m o
+refused_on m r None is = subst EndsMarking (sym is) tt
+refused_on m r (Some t) is = tt
+
+begun_of : (m : Memory) (slot : ℕ) (b : Bool) → IsOfMarking m.learned (if b then with_marking m (Some (record { slot = slot; heard = [] })) None else with_marking m m.marking (Some (Refused refusal.NotLearned)))
+begun_of m slot true = record { rests = refl; learns = refl; ends = tt }
+begun_of m slot false =
+    record { rests = refl; learns = refl; ends = refused_on (with_marking m m.marking (Some (Refused refusal.NotLearned))) refusal.NotLearned m.marking refl }
+
+module _ (c : Shape) (h : ℕ) (learned : List Command) where
+  marked_of : (m : Memory) (t : Marking) (st : mark.Status) → m.learned ≡ learned → IsOfMarking learned (marking_by m t st)
+  marked_of m t (mark.Due disk) is = record { rests = refl; learns = is; ends = tt }
+  marked_of m t (mark.Ended (mark.Marked count)) is = record { rests = refl; learns = is; ends = tt }
+  marked_of m t (mark.Ended mark.NoMajority) is = record { rests = refl; learns = is; ends = tt }
+
+  marks_of : (m : Memory) (o : Option Marking) (x : Answered) → IsOfMarking learned m → IsOfMarking learned (hears_marking c h m o x)
+  marks_of m None x is = is
+  marks_of m (Some t) x is = marked_of m (marking_with t x) (mark.status (marking_of c h m t.slot) (on (marking_with t x).heard)) is.learns
+
+  mark_hears : (m : Memory) (doing : Option Doing) (x : Answered) → doing ≡ None → IsOfMarking learned m → IsOfMarking learned (hears_one c h m doing x)
+  mark_hears m None x none is = marks_of m m.marking x is
+  mark_hears m (Some t) x none is = absurd (cc)
+
+  after_marking : (m : Memory) (xs : List Answered) → IsOfMarking learned m → IsOfMarking learned (after_answers c h m xs)
+  after_marking m [] is = is
+  after_marking m (x ∷ xs) is = after_marking (hears_one c h m m.doing x) xs (mark_hears m m.doing x is.rests is)
+
+marking_is_of : (c : Shape) (h : ℕ) (m : Memory) (slot : ℕ) (xs : List Answered) → IsOfMarking m.learned (after_answers c h (starts_marking m slot) xs)
+marking_is_of c h m slot xs = after_marking c h m.learned (starts_marking m slot) xs (begun_of m slot (nat_lt slot (length m.learned)))
+
+-- a marking changes nothing that was learned
+pub marking_learns : (c : Shape) (h : ℕ) (m : Memory) (slot : ℕ) (xs : List Answered) → (after_answers c h (starts_marking m slot) xs).learned ≡ m.learned
+marking_learns c h m slot xs = (marking_is_of c h m slot xs).learns
+
+-- and one that is under way no more has ended
+pub marking_ends : (c : Shape) (h : ℕ) (m : Memory) (slot : ℕ) (xs : List Answered) → (after_answers c h (starts_marking m slot) xs).marking ≡ None →
+    EndsMarking (after_answers c h (starts_marking m slot) xs).said
+marking_ends c h m slot xs none =
+    let n = after_answers c h (starts_marking m slot) xs in
+    subst (MarksOn n) none (marking_is_of c h m slot xs).ends

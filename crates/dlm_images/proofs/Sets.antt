@@ -1,5 +1,5 @@
 -- The first right header, as far as a folder's images were looked at.
-use Rattle.std.proofs.Common.{◌≡◌, ◌<◌, ℕ, Option, Some, None}
+use Rattle.std.proofs.Common.{ℕ, Option, Some, None}
 use Rattle.paxos_block.specs.declared.header.Header.{Header}
 use Rattle.dlm_images.specs.Sets.{Found, IsFirst, AreOfSetBelow, AreRefusedBelow}
 

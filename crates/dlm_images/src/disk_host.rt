@@ -4,7 +4,7 @@ ghost use Rattle.lock_table.specs.Apply.{table_after};
 ghost use Rattle.lock_table.specs.Picture.{IsPictureOf};
 ghost use Rattle.host.specs.Host.{Submitting, Recovering, fresh};
 ghost use Rattle.host.specs.Kept.{Kept, LeadsTo};
-ghost use Rattle.dlm_images.specs.Operations.{HasOperated, IsAcknowledged, Ends};
+ghost use Rattle.dlm_images.specs.Operations.{HasOperated, HasMarked, IsAcknowledged, Ends, EndsMarking};
 
 use crate::operation::drive;
 use disk::{Disk, NoMemory};
@@ -103,6 +103,19 @@ impl<D: Disk> DiskHost<D> {
         acknowledged(&self.core, &command)
     }
 
+    /// Marks a slot that this host has learned, so that others learn it in one reading, and tells on how many disks its block is
+    /// marked then.
+    pub fn mark(&mut self, slot: u16) -> Result<u8, Refusal>
+        ensures marked { HasMarked slot self.old self.new }
+        ensures kept { self.new.prefix ≡ self.old.prefix }
+        ensures counted { IfOk result (λ count. self.new.said ≡ Some (HostAnswer.Marked count)) }
+        ensures refused { IfErr result (λ refusal. self.new.said ≡ Some (HostAnswer.Refused refusal)) }
+    {
+        self.core.mark(slot);
+        drive(&mut self.core, &mut self.disks);
+        marked(&self.core)
+    }
+
     /// Learns all that is in the log, and tells how much that is. Up to `tries` attempts may be outrun, the last of which ends
     /// the recovery.
     pub fn recover(&mut self, tries: u8) -> Result<u16, Refusal>
@@ -138,6 +151,19 @@ fn recovered(core: &HostCore) -> Result<u16, Refusal>
 {
     match core.answer() {
         Some(HostAnswer::Recovered { length }) => Ok(length),
+        Some(HostAnswer::Refused(refusal)) => Err(refusal),
+        _ => unreachable!(),
+    }
+}
+
+/// How a marking has ended.
+fn marked(core: &HostCore) -> Result<u8, Refusal>
+    requires { EndsMarking core.now.said }
+    ensures counted { IfOk result (λ count. core.now.said ≡ Some (HostAnswer.Marked count)) }
+    ensures refused { IfErr result (λ refusal. core.now.said ≡ Some (HostAnswer.Refused refusal)) }
+{
+    match core.answer() {
+        Some(HostAnswer::Marked { count }) => Ok(count),
         Some(HostAnswer::Refused(refusal)) => Err(refusal),
         _ => unreachable!(),
     }

@@ -11,10 +11,12 @@ use host::HostCore;
 use phases::{DeviceCall, Heard};
 use torn_block::{DISKS, ROW_LENGTH, SLOTS};
 
-/// No operation makes more calls: each attempt makes 17 a disk at most, and learns a slot, or uses a try, or is the last.
-const MOST_CALLS: u64 = (SLOTS as u64 * 256 + 257) * (17 * DISKS as u64 + 1);
+/// No operation makes more calls: each attempt makes 17 a disk at most, and learns a slot, or uses a try, or is the last. A
+/// marking makes 9 a disk at most.
+const MOST_CALLS: u64 = (SLOTS as u64 * 256 + 257) * (17 * DISKS as u64 + 1)
+    + (9 * DISKS as u64 + 1);
 
-/// Makes the calls of a host's operation on its disks, until it has ended.
+/// Makes the calls of a host's operation or marking on its disks, until it has ended.
 pub fn drive<D: Disk>(host: &mut HostCore, disks: &mut [D])
     requires known { IsKnown host.old }
     requires as_many { length disks.old ≡ host.old.learner.shape.disks }

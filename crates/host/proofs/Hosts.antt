@@ -1,11 +1,18 @@
 -- What a host knows is what its learner knows, once each value that it offers is judged by its spelling.
-use Rattle.std.proofs.Common.{◌≡◌, ◌≤◌, ◌-◌, ◌*◌, ◌&&◌, ℕ, Bool, true, false, zero, suc, List, [], ◌∷◌, ◌++◌, length, map, Option, Some, None, refl, sym, ◌∙◌, ap, subst, arith, length-append, if◌then◌else◌}
-use Rattle.std.specs.Prelude.{bytes_eq, IsNone, is_some, nat_lt, nat_le, take}
+use Rattle.std.proofs.Common.{◌≡◌, ◌≤◌, ◌-◌, ◌*◌, ◌&&◌, ℕ, Bool, true, false, zero, suc, List, [], ◌∷◌, ◌++◌, ◌<◌, get_or, length, map, Option, Some, None, refl, sym, ◌∙◌, ap, ap₂, not, subst, arith, length-append, if◌then◌else◌}
+use Rattle.std.specs.Prelude.{bytes_eq, IsNone, is_some, nat_lt, nat_le, slice_get, take}
 use Rattle.beats.specs.declared.notes.Notes as beat_notes
+use Rattle.marks.specs.declared.notes.Notes as mark_notes
+use Rattle.marks.specs.declared.end.End as mark_end
+use Rattle.marks.specs.declared.end.End.TheVariants as mark_ends
+use Rattle.marks.specs.Kept as mark_kept
+use Rattle.marks.specs.Status as mark
 use Rattle.std.specs.Option.{option_map}
 use Rattle.std.proofs.lemmas.List.{length-map, map-append, append-nil}
+use Rattle.std.proofs.lemmas.Bool.{and_parts, lt-ltb, le-ltb}
 use Rattle.std.proofs.lemmas.Slice.Eq.{bytes_eq-Decides}
 use Rattle.attempt.specs.Answers.{Answered, Answers, Heard, on, heard_as}
+use Rattle.attempt.specs.NextCall.{next_call}
 use Rattle.heartbeat.specs.Suggesting.{Readings}
 use Rattle.beats.specs.Answers as beat_answers
 use Rattle.beats.specs.Calls.{device_answer}
@@ -40,11 +47,11 @@ use Rattle.slot_log.specs.declared.outcome.Outcome.{Outcome}
 use Rattle.slot_log.specs.declared.outcome.Outcome.TheVariants as outcome
 use Rattle.slot_log.specs.declared.outcome.Refusal.TheVariants as refusal
 use Rattle.host.specs.declared.answer.HostAnswer.{HostAnswer}
-use Rattle.host.specs.declared.answer.HostAnswer.TheVariants.{Ack, Recovered, Beaten, Refused}
-use Rattle.host.specs.Alone.{IsAnsweredAlone, IsWithinNine}
-use Rattle.host.specs.Host.{Beats, Memory, Doing, Operation, Submitting, Recovering, input_of, setup_of, says, begins, goes_on, full_answer, learns, takes, after_learning, is_submitted, with_floor, by_status, hears, with_heard, reply_after, hears_from, hears_beat, beat_of, beat_by, with_beats, suggested, is_idle_in, rests, next_in, next_doing, next_beat}
+use Rattle.host.specs.declared.answer.HostAnswer.TheVariants.{Ack, Recovered, Looked, Beaten, Marked, Refused}
+use Rattle.host.specs.Alone.{IsAnsweredAlone, IsWithinNine, IsMarkedWithinNine}
+use Rattle.host.specs.Host.{Beats, Memory, Doing, Operation, Submitting, Recovering, Looking, input_of, floor_for, setup_of, says, begins, goes_on, full_answer, spent_answer, learns, takes, after_learning, is_submitted, with_floor, by_status, hears, with_heard, reply_after, hears_from, hears_beat, beat_of, beat_by, with_beats, suggested, is_idle_in, rests, next_in, next_doing, next_beside, next_marking, Marking, marking_of, marking_by, marking_with, hears_beside, hears_marking, with_marking, starts_marking, spelled}
 use Rattle.host.specs.declared.host_core.HostCore.TheInside.{Inside}
-use Rattle.host.specs.Kept.{Kept, LeadsTo, operation_of, outcome_in, doing_of, values_with, values_of, answer_of, option_list, BeatLeadsTo, BeatsAlone, IsOneAtATime, due_in, due_call, has_no_beat, is_idle}
+use Rattle.host.specs.Kept.{Kept, LeadsTo, operation_of, outcome_in, doing_of, values_with, values_of, answer_of, option_list, BeatLeadsTo, MarkingLeadsTo, BeatsAlone, MarksAlone, IsOneAtATime, IsAloneToo, due_in, due_beside, due_call, has_no_beat, has_no_marking, is_idle}
 
 -- ANSWERS
 
@@ -53,14 +60,18 @@ abbrev pub Carries : Option Reply → Option HostAnswer → Type 0
 Carries reply None = Unit {0}
 Carries reply (Some (Ack slot told)) = reply ≡ Some told
 Carries reply (Some (Recovered length)) = Unit {0}
+Carries reply (Some (Looked length)) = Unit {0}
 Carries reply (Some (Beaten host)) = ⊥
+Carries reply (Some (Marked count)) = ⊥
 Carries reply (Some (Refused refusal)) = Unit {0}
 
 pub answer_of-outcome_of : (reply : Option Reply) (said : Option HostAnswer) → Carries reply said → answer_of (outcome_in said) reply ≡ said
 answer_of-outcome_of reply None carries = refl
 answer_of-outcome_of reply (Some (Ack slot told)) carries = ap (answer_of (outcome_in (Some (Ack slot told)))) carries
 answer_of-outcome_of reply (Some (Recovered length)) carries = refl
+answer_of-outcome_of reply (Some (Looked length)) carries = refl
 answer_of-outcome_of reply (Some (Beaten host)) carries = absurd carries
+answer_of-outcome_of reply (Some (Marked count)) carries = absurd carries
 answer_of-outcome_of reply (Some (Refused refusal)) carries = refl
 
 -- THE NEXT ATTEMPT
@@ -69,16 +80,29 @@ length_same : (m : Memory) → length (map spelling m.learned) ≡ length m.lear
 length_same m = length-map m.learned spelling
 
 abbrev setup_at : Shape → ℕ → Memory → Operation → ℕ → Setup
-setup_at c h m operation slot = record { host = h; slot = slot; disks = c.disks; floor = m.floor; input = input_of operation }
+setup_at c h m operation slot = record { host = h; slot = slot; disks = c.disks; floor = floor_for operation m.floor; input = input_of operation }
 
 -- it is the same for both
 pub setup_same : (c : Shape) (h : ℕ) (m : Memory) (operation : Operation) → log.setup_of c h (values_of m) (operation_of operation) ≡ setup_of c h m operation
 setup_same c h m (Submitting command) = ap (setup_at c h m (Submitting command)) (length_same m)
 setup_same c h m Recovering = ap (setup_at c h m Recovering) (length_same m)
+setup_same c h m Looking = ap (setup_at c h m Looking) (length_same m)
+
+-- and so is the call that is due
+pub attempt_next : (c : Shape) (h : ℕ) (m : Memory) (said : Option Outcome) (o : Option Doing) → m.doing ≡ o → (call : ℕ × device.Call) → log.next_in c h (values_with said m) (option_map doing_of o) ≡ Some call → next_in c h m ≡ Some call
+attempt_next c h m said None is call next = absurd (let none : None ≡ Some call = next in cc)
+attempt_next c h m said (Some t) is call next =
+    ap (next_doing c h m) is ∙ ap (λ (s : Setup). next_call s (on t.heard)) (sym (setup_same c h m t.operation)) ∙ next
 
 full_same : (operation : Operation) (n : ℕ) → Some (log.full_outcome (operation_of operation) n) ≡ outcome_in (Some (full_answer operation n))
 full_same (Submitting command) n = refl
 full_same Recovering n = refl
+full_same Looking n = refl
+
+spent_same : (operation : Operation) (n : ℕ) → Some (log.spent_outcome (operation_of operation) n) ≡ outcome_in (Some (spent_answer operation n))
+spent_same (Submitting command) n = refl
+spent_same Recovering n = refl
+spent_same Looking n = refl
 
 goes_by_test : (m : Memory) (operation : Operation) (tries n : ℕ) (b : Bool) → (if b then log.begins (values_of m) (operation_of operation) tries else log.says (values_of m) (log.full_outcome (operation_of operation) n)) ≡ values_of (if b then begins m operation tries else says m (full_answer operation n))
 goes_by_test m operation tries n true = refl
@@ -103,6 +127,12 @@ carries_by_test : (reply : Option Reply) (m : Memory) (operation : Operation) (t
 carries_by_test reply m operation tries n true = tt
 carries_by_test reply m (Submitting command) tries n false = tt
 carries_by_test reply m Recovering tries n false = tt
+carries_by_test reply m Looking tries n false = tt
+
+carries_spent : (operation : Operation) (n : ℕ) → Carries None (Some (spent_answer operation n))
+carries_spent (Submitting command) n = tt
+carries_spent Recovering n = tt
+carries_spent Looking n = tt
 
 -- nothing is acknowledged there
 pub carries-goes_on : (reply : Option Reply) (c : Shape) (m : Memory) (operation : Operation) (tries : ℕ) → Carries reply (goes_on c m operation tries).said
@@ -126,14 +156,18 @@ module _ (c : Shape) (m : Memory) (t : Doing) (ballot : ℕ) where
   pub values_of-by_status : (last : Option Outcome) (st : Status) → offered_by st ≡ None → log.by_status (values_with last m) (doing_of t) ballot st ≡ values_of (by_status c m t ballot st)
   values_of-by_status last (Due p d) none = refl
   values_of-by_status last (Ended (attempt.Committed value)) none = absurd (cc)
+  values_of-by_status last (Ended (attempt.Decided value)) none = absurd (cc)
   values_of-by_status last (Ended attempt.Empty) none = ap (λ (n : ℕ). log.says (log.with_floor (values_of m) ballot) (outcome.Recovered n)) (length_same m)
   values_of-by_status last (Ended (attempt.Outrun mbal)) none = tries_by_test (with_floor (with_floor m ballot) mbal) t.operation (t.tries - 1) (nat_le t.tries 1)
   values_of-by_status last (Ended attempt.NoMajority) none = refl
-  values_of-by_status last (Ended attempt.BallotsSpent) none = refl
+  values_of-by_status last (Ended attempt.BallotsSpent) none =
+      ap (λ (n : ℕ). log.says (log.with_floor (values_of m) ballot) (log.spent_outcome (operation_of t.operation) n)) (length_same m)
+      ∙ ap (λ (o : Option Outcome). record (log.says (log.with_floor (values_of m) ballot) (outcome.Recovered 0)) { said = o }) (spent_same t.operation (length m.learned))
 
   pub learned-by_status : (st : Status) → offered_by st ≡ None → (by_status c m t ballot st).learned ≡ m.learned
   learned-by_status (Due p d) none = refl
   learned-by_status (Ended (attempt.Committed value)) none = absurd (cc)
+  learned-by_status (Ended (attempt.Decided value)) none = absurd (cc)
   learned-by_status (Ended attempt.Empty) none = refl
   learned-by_status (Ended (attempt.Outrun mbal)) none = learned_by_tries (with_floor (with_floor m ballot) mbal) t.operation (t.tries - 1) (nat_le t.tries 1)
   learned-by_status (Ended attempt.NoMajority) none = refl
@@ -142,10 +176,11 @@ module _ (c : Shape) (m : Memory) (t : Doing) (ballot : ℕ) where
   pub carries-by_status : (st : Status) → offered_by st ≡ None → Carries None (by_status c m t ballot st).said
   carries-by_status (Due p d) none = tt
   carries-by_status (Ended (attempt.Committed value)) none = absurd (cc)
+  carries-by_status (Ended (attempt.Decided value)) none = absurd (cc)
   carries-by_status (Ended attempt.Empty) none = tt
   carries-by_status (Ended (attempt.Outrun mbal)) none = carries_by_tries (with_floor (with_floor m ballot) mbal) t.operation (t.tries - 1) (nat_le t.tries 1)
   carries-by_status (Ended attempt.NoMajority) none = tt
-  carries-by_status (Ended attempt.BallotsSpent) none = tt
+  carries-by_status (Ended attempt.BallotsSpent) none = carries_spent t.operation (length m.learned)
 
 -- A COMMITTED VALUE
 
@@ -173,6 +208,7 @@ values_of-learns m command value is =
 placed_same : (operation : Operation) (value : List ℕ) → log.is_placed (operation_of operation) value ≡ is_submitted operation value
 placed_same (Submitting command) value = refl
 placed_same Recovering value = refl
+placed_same Looking value = refl
 
 module _ (c : Shape) (m : Memory) (t : Doing) (ballot : ℕ) (value : List ℕ) where
   abbrev after_values : Bool → log.Memory
@@ -243,18 +279,31 @@ tries_offer_none c h m operation tries false = fresh_offers_none (log.setup_of c
 pub offered_after : (c : Shape) (h : ℕ) (m : log.Memory) (t : log.Doing) (ballot : ℕ) (st : Status) → status (log.setup_of c h m t.operation) (on t.heard) ≡ st → offered_in c h (log.by_status m t ballot st) (log.by_status m t ballot st).doing ≡ offered_by st
 offered_after c h m t ballot (Due p d) is = ap offered_by is
 offered_after c h m t ballot (Ended (attempt.Committed value)) is = ap offered_by is
+offered_after c h m t ballot (Ended (attempt.Decided value)) is = ap offered_by is
 offered_after c h m t ballot (Ended attempt.Empty) is = refl
 offered_after c h m t ballot (Ended (attempt.Outrun mbal)) is = tries_offer_none c h (log.with_floor (log.with_floor m ballot) mbal) t.operation (t.tries - 1) (nat_le t.tries 1)
 offered_after c h m t ballot (Ended attempt.NoMajority) is = refl
 offered_after c h m t ballot (Ended attempt.BallotsSpent) is = refl
 
-pub committed_is : (st : Status) (value : List ℕ) → offered_by st ≡ Some value → st ≡ Ended (attempt.Committed value)
-committed_is (Due p d) value is = absurd (cc)
-committed_is (Ended (attempt.Committed other)) value is = cc
-committed_is (Ended attempt.Empty) value is = absurd (cc)
-committed_is (Ended (attempt.Outrun mbal)) value is = absurd (cc)
-committed_is (Ended attempt.NoMajority) value is = absurd (cc)
-committed_is (Ended attempt.BallotsSpent) value is = absurd (cc)
+-- while it is offered, the learner waits,
+waits_by : (m : log.Memory) (t : log.Doing) (ballot : ℕ) (st : Status) (value : List ℕ) → offered_by st ≡ Some value → log.by_status m t ballot st ≡ log.does m t
+waits_by m t ballot (Due p d) value is = absurd (cc)
+waits_by m t ballot (Ended (attempt.Committed other)) value is = refl
+waits_by m t ballot (Ended (attempt.Decided other)) value is = refl
+waits_by m t ballot (Ended attempt.Empty) value is = absurd (cc)
+waits_by m t ballot (Ended (attempt.Outrun mbal)) value is = absurd (cc)
+waits_by m t ballot (Ended attempt.NoMajority) value is = absurd (cc)
+waits_by m t ballot (Ended attempt.BallotsSpent) value is = absurd (cc)
+
+-- and the host takes it
+takes_by : (c : Shape) (m : Memory) (t : Doing) (ballot : ℕ) (st : Status) (value : List ℕ) → offered_by st ≡ Some value → by_status c m t ballot st ≡ takes c m t ballot value (decoded value)
+takes_by c m t ballot (Due p d) value is = absurd (cc)
+takes_by c m t ballot (Ended (attempt.Committed other)) value is = (let same : other ≡ value = cc in ap (λ (v : List ℕ). takes c m t ballot v (decoded v)) same)
+takes_by c m t ballot (Ended (attempt.Decided other)) value is = (let same : other ≡ value = cc in ap (λ (v : List ℕ). takes c m t ballot v (decoded v)) same)
+takes_by c m t ballot (Ended attempt.Empty) value is = absurd (cc)
+takes_by c m t ballot (Ended (attempt.Outrun mbal)) value is = absurd (cc)
+takes_by c m t ballot (Ended attempt.NoMajority) value is = absurd (cc)
+takes_by c m t ballot (Ended attempt.BallotsSpent) value is = absurd (cc)
 
 -- AN ANSWER IS HEARD
 
@@ -309,14 +358,14 @@ module _ (c : Shape) (h : ℕ) (last : Option Outcome) (m : Memory) (t : Doing) 
   -- or a value, which is judged
   pub heard_value : (value : List ℕ) → offered_in c h by_values by_values.doing ≡ Some value → (log.takes c h by_values by_values.doing (is_some (decoded value)) ≡ values_of (hears c h m m.doing x)) × ((hears c h m m.doing x).learned ≡ m.learned ++ option_list (decoded value)) × Carries (option_map (reply_after m.learned) (decoded value)) (hears c h m m.doing x).said
   heard_value value offered =
-      let committed : stands ≡ Ended (attempt.Committed value) = committed_is stands value (sym offered_is ∙ offered) in
-      let waits : by_values ≡ log.does (values_with last m) (doing_of told) = by_values_is ∙ ap (log.by_status (values_with last m) (doing_of told) ballot) committed in
+      let there : offered_by stands ≡ Some value = sym offered_is ∙ offered in
+      let waits : by_values ≡ log.does (values_with last m) (doing_of told) = by_values_is ∙ waits_by (values_with last m) (doing_of told) ballot stands value there in
       let is_command = is_some (decoded value) in
-      let hears' : hears c h m m.doing x ≡ takes c m told ballot value (decoded value) = hears_is ∙ ap (by_status c m told ballot) committed in
+      let hears' : hears c h m m.doing x ≡ takes c m told ballot value (decoded value) = hears_is ∙ takes_by c m told ballot stands value there in
       let IsCarried : Memory → Type 0 = λ n. Carries (option_map (reply_after m.learned) (decoded value)) n.said in (
         ap (λ (l : log.Memory). log.takes c h l l.doing is_command) waits
             ∙ ap (λ (s : Setup). log.judges c (log.does (values_with last m) (doing_of told)) (doing_of told) (taken s (on told.heard)) (offered_by (status s (on told.heard))) is_command) (setup_same c h m t.operation)
-            ∙ ap (λ (st : Status). log.judges c (log.does (values_with last m) (doing_of told)) (doing_of told) ballot (offered_by st) is_command) committed
+            ∙ ap (λ (o : Option (List ℕ)). log.judges c (log.does (values_with last m) (doing_of told)) (doing_of told) ballot o is_command) there
             ∙ values_of-takes c m told ballot value (decoded value) (decoded_spelled value)
             ∙ ap values_of (sym hears'),
         ap (λ (n : Memory). n.learned) hears' ∙ learned-takes c m told ballot value (decoded value),
@@ -325,8 +374,8 @@ module _ (c : Shape) (h : ℕ) (last : Option Outcome) (m : Memory) (t : Doing) 
 
 -- what follows for a host from what follows for its learner
 pub follows : (c : Shape) (h : ℕ) (m : Memory) (l : log.Memory) (k : Kept) (reply : Option Reply) → learners.LeadsTo c h l k.learner → l ≡ values_of m → k.prefix ≡ m.learned → k.said ≡ answer_of k.learner.said reply → Carries reply m.said
-    → option_map (take c.disks) k.readings ≡ m.beats.readings → BeatLeadsTo c h m.beats.heard k.beat → LeadsTo c h m k
-follows c h m l k reply leads is prefix said carries readings beat =
+    → option_map (take c.disks) k.readings ≡ m.beats.readings → BeatLeadsTo c h m.beats.heard k.beat → MarkingLeadsTo c h m m.marking k.marking → LeadsTo c h m k
+follows c h m l k reply leads is prefix said carries readings beat marking =
     let Known : log.Memory → Type 0 = λ n. learners.LeadsTo c h n k.learner in
     let known : learners.LeadsTo c h (values_of m) k.learner = subst Known is leads in
     record {
@@ -335,6 +384,7 @@ follows c h m l k reply leads is prefix said carries readings beat =
       said = said ∙ ap (λ (o : Option Outcome). answer_of o reply) known.said ∙ answer_of-outcome_of reply m.said carries;
       readings = readings;
       beat = beat;
+      marking = marking;
     }
 
 -- BEATS STAY
@@ -362,6 +412,7 @@ module _ (c : Shape) (m : Memory) (t : Doing) (ballot : ℕ) where
   pub beats-by_status : (st : Status) → (by_status c m t ballot st).beats ≡ m.beats
   beats-by_status (Due p d) = refl
   beats-by_status (Ended (attempt.Committed value)) = beats-takes value (decoded value)
+  beats-by_status (Ended (attempt.Decided value)) = beats-takes value (decoded value)
   beats-by_status (Ended attempt.Empty) = refl
   beats-by_status (Ended (attempt.Outrun mbal)) = beats_by_tries (with_floor (with_floor m ballot) mbal) t.operation (t.tries - 1) (nat_le t.tries 1)
   beats-by_status (Ended attempt.NoMajority) = refl
@@ -384,6 +435,62 @@ pub beats_kept : (c : Shape) (h : ℕ) (m new : Memory) (readings : Option Readi
 beats_kept c h m new readings beat same are going =
     (are ∙ ap (λ (b : Beats). b.readings) (sym same), subst (λ (b : Beats). BeatLeadsTo c h b.heard beat) (sym same) going)
 
+-- NO MARKING COMES
+
+marking_by_test : (m : Memory) (operation : Operation) (tries n : ℕ) (b : Bool) → (if b then begins m operation tries else says m (full_answer operation n)).marking ≡ m.marking
+marking_by_test m operation tries n true = refl
+marking_by_test m operation tries n false = refl
+
+pub marking-goes_on : (c : Shape) (m : Memory) (operation : Operation) (tries : ℕ) → (goes_on c m operation tries).marking ≡ m.marking
+marking-goes_on c m operation tries = marking_by_test m operation tries (length m.learned) (nat_lt (length m.learned) c.slots)
+
+marking_by_tries : (m : Memory) (operation : Operation) (tries : ℕ) (b : Bool) → (if b then says m (Refused refusal.Outrun) else begins m operation tries).marking ≡ m.marking
+marking_by_tries m operation tries true = refl
+marking_by_tries m operation tries false = refl
+
+module _ (c : Shape) (m : Memory) (t : Doing) (ballot : ℕ) where
+  marking_after : (command : Command) (placed : Bool) → (after_learning c m t command placed).marking ≡ m.marking
+  marking_after command true = refl
+  marking_after command false = marking-goes_on c (learns m command) t.operation t.tries
+
+  marking-takes : (value : List ℕ) (o : Option Command) → (takes c m t ballot value o).marking ≡ m.marking
+  marking-takes value None = refl
+  marking-takes value (Some command) = marking_after command (is_submitted t.operation value)
+
+  marking-by_status : (st : Status) → (by_status c m t ballot st).marking ≡ m.marking
+  marking-by_status (Due p d) = refl
+  marking-by_status (Ended (attempt.Committed value)) = marking-takes value (decoded value)
+  marking-by_status (Ended (attempt.Decided value)) = marking-takes value (decoded value)
+  marking-by_status (Ended attempt.Empty) = refl
+  marking-by_status (Ended (attempt.Outrun mbal)) = marking_by_tries (with_floor (with_floor m ballot) mbal) t.operation (t.tries - 1) (nat_le t.tries 1)
+  marking-by_status (Ended attempt.NoMajority) = refl
+  marking-by_status (Ended attempt.BallotsSpent) = refl
+
+pub marking_heard : (c : Shape) (h : ℕ) (m : Memory) (o : Option Doing) (x : Answered) → (hears c h m o x).marking ≡ m.marking
+marking_heard c h m None x = refl
+marking_heard c h m (Some t) x =
+    let s = setup_of c h m t.operation in
+    let told = with_heard t x in
+    marking-by_status c m told (taken s (on told.heard)) (status s (on told.heard))
+
+-- where none is kept, none is under way
+pub no_marking : (c : Shape) (h : ℕ) (m : Memory) (o : Option Marking) → MarkingLeadsTo c h m o None → o ≡ None
+no_marking c h m None leads = refl
+no_marking c h m (Some t) leads = absurd leads
+
+-- and so it stays
+pub none_marked : (c : Shape) (h : ℕ) (m new : Memory) (kept : Option mark_notes.Notes) → kept ≡ None → new.marking ≡ m.marking → MarkingLeadsTo c h m m.marking kept → MarkingLeadsTo c h new new.marking kept
+none_marked c h m new kept none same leads =
+    let there : new.marking ≡ None = same ∙ no_marking c h m m.marking (subst (MarkingLeadsTo c h m m.marking) none leads) in
+    subst (MarkingLeadsTo c h new new.marking) (sym none) (subst (λ (o : Option Marking). MarkingLeadsTo c h new o None) (sym there) tt)
+
+-- what is kept of a marking goes by what was learned
+pub marking_still : (c : Shape) (h : ℕ) (m : Memory) (bs : Beats) (said : Option HostAnswer) (o : Option Marking) (kept : Option mark_notes.Notes) → MarkingLeadsTo c h m o kept → MarkingLeadsTo c h (with_beats m bs said) o kept
+marking_still c h m bs said None None leads = tt
+marking_still c h m bs said (Some t) (Some notes) leads = leads
+marking_still c h m bs said None (Some notes) leads = absurd leads
+marking_still c h m bs said (Some t) None leads = absurd leads
+
 -- LEFT ALONE
 
 alone_with : (c : Shape) (h : ℕ) (last : Option Outcome) (m : Memory) (o : Option Doing) (x : Answered) → log_alone.IsAnsweredAlone c h (values_with last m) (option_map doing_of o) x → IsAnsweredAlone c h m o x
@@ -402,9 +509,12 @@ and_true : (b : Bool) → (b && true) ≡ false → b ≡ false
 and_true true is = is
 and_true false is = refl
 
--- with no beat under way the learner is busy
-pub attempt_busy : (learner : learners.Kept) (beat : Option beat_notes.Notes) → beat ≡ None → (learners.is_idle learner && has_no_beat beat) ≡ false → learners.is_idle learner ≡ false
-attempt_busy learner beat none busy = and_true (learners.is_idle learner) (subst (λ (b : Option beat_notes.Notes). (learners.is_idle learner && has_no_beat b) ≡ false) none busy)
+-- with no beat and no marking under way the learner is busy
+pub attempt_busy : (learner : learners.Kept) (beat : Option beat_notes.Notes) (marking : Option mark_notes.Notes) → beat ≡ None → marking ≡ None → (learners.is_idle learner && has_no_beat beat && has_no_marking marking) ≡ false → learners.is_idle learner ≡ false
+attempt_busy learner beat marking none none_too busy =
+    let plain : (learners.is_idle learner && true && true) ≡ false =
+    subst (λ (k : Option mark_notes.Notes). (learners.is_idle learner && true && has_no_marking k) ≡ false) none_too (subst (λ (b : Option beat_notes.Notes). (learners.is_idle learner && has_no_beat b && has_no_marking marking) ≡ false) none busy) in
+    and_true (learners.is_idle learner) (and_true (learners.is_idle learner && true) plain)
 
 idle_with : (c : Shape) (h : ℕ) (m : log.Memory) (o : Option Doing) (task : Option Task) (a : Notes) → AreDoing c h m (option_map doing_of o) task a → is_idle_with task ≡ true → o ≡ None
 idle_with c h m (Some t) (Some task) a are idle = absurd (cc)
@@ -417,16 +527,22 @@ rests_by c h (Some heard) (Some notes) going = refl
 rests_by c h None (Some notes) going = absurd going
 rests_by c h (Some heard) None going = absurd going
 
-idle_by : (c : Shape) (h : ℕ) (m : Memory) (l : log.Memory) (o : Option Doing) (task : Option Task) (a : Notes) (beat : Option beat_notes.Notes) → AreDoing c h l (option_map doing_of o) task a → BeatLeadsTo c h m.beats.heard beat
-    → (is_idle_with task && has_no_beat beat) ≡ is_idle_in m o
-idle_by c h m l None None a beat are going = rests_by c h m.beats.heard beat going
-idle_by c h m l (Some t) (Some task) a beat are going = refl
-idle_by c h m l None (Some task) a beat are going = absurd are
-idle_by c h m l (Some t) None a beat are going = absurd are
+unmarked_by : (c : Shape) (h : ℕ) (m : Memory) (o : Option Marking) (marking : Option mark_notes.Notes) → MarkingLeadsTo c h m o marking → has_no_marking marking ≡ not (is_some o)
+unmarked_by c h m None None going = refl
+unmarked_by c h m (Some t) (Some notes) going = refl
+unmarked_by c h m None (Some notes) going = absurd going
+unmarked_by c h m (Some t) None going = absurd going
+
+idle_by : (c : Shape) (h : ℕ) (m : Memory) (l : log.Memory) (o : Option Doing) (task : Option Task) (a : Notes) (beat : Option beat_notes.Notes) (marking : Option mark_notes.Notes) → AreDoing c h l (option_map doing_of o) task a → BeatLeadsTo c h m.beats.heard beat → MarkingLeadsTo c h m m.marking marking
+    → (is_idle_with task && has_no_beat beat && has_no_marking marking) ≡ is_idle_in m o
+idle_by c h m l None None a beat marking are going marks = ap₂ (λ (x y : Bool). x && y) (rests_by c h m.beats.heard beat going) (unmarked_by c h m m.marking marking marks)
+idle_by c h m l (Some t) (Some task) a beat marking are going marks = refl
+idle_by c h m l None (Some task) a beat marking are going marks = absurd are
+idle_by c h m l (Some t) None a beat marking are going marks = absurd are
 
 -- the host is idle where what is kept of it is
 pub idle_is : (c : Shape) (h : ℕ) (m : Memory) (k : Kept) → LeadsTo c h m k → is_idle k ≡ is_idle_in m m.doing
-idle_is c h m k is = idle_by c h m (values_with k.learner.said m) m.doing k.learner.task k.learner.attempt k.beat is.learner.doing is.beat
+idle_is c h m k is = idle_by c h m (values_with k.learner.said m) m.doing k.learner.task k.learner.attempt k.beat k.marking is.learner.doing is.beat is.marking
 
 -- where the learner is idle no attempt is under way
 pub idle_doing : (c : Shape) (h : ℕ) (m : Memory) (k : learners.Kept) → learners.LeadsTo c h (values_with k.said m) k → learners.is_idle k ≡ true → m.doing ≡ None
@@ -451,6 +567,10 @@ pub none_by : {A : Type 0} (o : Option A) → IsNone o → o ≡ None
 none_by None is = refl
 none_by (Some x) is = absurd (cc)
 
+pub none_is : {A : Type 0} (o : Option A) → is_some o ≡ false → o ≡ None
+none_is None is = refl
+none_is (Some x) is = absurd (cc)
+
 -- none is under way
 pub no_beat_nine : (c : Shape) (h : ℕ) (o : Option (List beat_answers.Answered)) → BeatLeadsTo c h o None → IsWithinNine c o
 no_beat_nine c h None going = tt
@@ -470,7 +590,7 @@ heard_by c h (Some heard) b going = (heard, refl, going)
 
 -- what is kept in the fields
 abbrev pub kept_in : Inside → Kept
-kept_in p = record { learner = p.learner; prefix = p.prefix.items; said = p.said; beat = p.beat; readings = p.readings }
+kept_in p = record { learner = p.learner; prefix = p.prefix.items; said = p.said; beat = p.beat; readings = p.readings; marking = p.marking }
 
 -- The fields are what is kept, and a beat is under way.
 module _ (c : Shape) (h : ℕ) (m : Memory) (p : Inside) (view : Kept) (shown : kept_in p ≡ view) (b : beat_notes.Notes) (beats : p.beat ≡ Some b) (one : IsOneAtATime p.learner p.beat) (led : LeadsTo c h m view) (answer : code_heard.Heard) where
@@ -496,18 +616,18 @@ module _ (c : Shape) (h : ℕ) (m : Memory) (p : Inside) (view : Kept) (shown : 
   behind = beat.status (beat_of c h) (beat_answers.on heard)
 
   heard_is : hears_from c h m m.doing b.disk (device_answer answer) ≡ beat_by h m heard behind
-  heard_is = ap (λ (o : Option Doing). hears_from c h m o b.disk (device_answer answer)) none ∙ ap (λ (o : Option (List beat_answers.Answered)). hears_beat c h m o (beat_kept.answer_of b answer)) going.1
+  heard_is = ap (λ (o : Option Doing). hears_from c h m o b.disk (device_answer answer)) none ∙ ap (λ (o : Option (List beat_answers.Answered)). hears_beside c h m o b.disk (device_answer answer)) going.1
 
   -- the host hears what the beat hears
   of_beat : (new : Kept) (n : Memory) → beat_by h m heard behind ≡ n → LeadsTo c h n new → LeadsTo c h (hears_from c h m m.doing (due_call view).0 (device_answer answer)) new
   of_beat new n comes leads_on =
       subst (λ (v : Kept). LeadsTo c h (hears_from c h m m.doing (due_call v).0 (device_answer answer)) new) shown
-      (subst (λ (o : Option beat_notes.Notes). LeadsTo c h (hears_from c h m m.doing (due_in k.learner o).0 (device_answer answer)) new) (sym beats)
+      (subst (λ (o : Option beat_notes.Notes). LeadsTo c h (hears_from c h m m.doing (due_in k.learner o k.marking).0 (device_answer answer)) new) (sym beats)
       (subst (λ (o : Memory). LeadsTo c h o new) (sym (heard_is ∙ comes)) leads_on))
 
   -- the call that is due is the beat's
   pub beat_next : (call : ℕ × device.Call) → ((s : beat.Setup) (answers : List beat_answers.Answered) → beat_kept.LeadsTo s answers b → beat.next_call s (beat_answers.on answers) ≡ Some call) → next_in c h m ≡ Some call
-  beat_next call due = ap (λ (o : Option Doing). next_doing c h m o) none ∙ ap (λ (o : Option (List beat_answers.Answered)). next_beat c h o) going.1 ∙ due (beat_of c h) going.0 going.2
+  beat_next call due = ap (λ (o : Option Doing). next_doing c h m o) none ∙ ap (λ (o : Option (List beat_answers.Answered)). next_beside c h m o) going.1 ∙ due (beat_of c h) going.0 going.2
 
   -- no attempt is under way
   pub beat_rests : m.doing ≡ None
@@ -523,6 +643,9 @@ module _ (c : Shape) (h : ℕ) (m : Memory) (p : Inside) (view : Kept) (shown : 
   learner_still bs said =
       subst (λ (o : Option Doing). learners.LeadsTo c h (record { learned = map spelling m.learned; floor = m.floor; doing = option_map doing_of o; said = k.learner.said }) k.learner) none leads.learner
 
+  marking_on : (bs : Beats) (said : Option HostAnswer) → MarkingLeadsTo c h (with_beats m bs said) m.marking k.marking
+  marking_on bs said = marking_still c h m bs said m.marking k.marking leads.marking
+
   module _ (new : beat_notes.Notes) (heard_leads : (s : beat.Setup) (answers : List beat_answers.Answered) → beat_kept.LeadsTo s answers b → beat_kept.LeadsTo s (answers ++ beat_kept.answer_of b answer ∷ []) new) (same : beat_kept.IsSameBeat b new)
       (end : Option code_end.End) (ended : (s : beat.Setup) (answers : List beat_answers.Answered) → beat_kept.LeadsTo s answers new → option_map (beat_kept.end_of new) end ≡ beat_kept.end_of_status (beat.status s (beat_answers.on answers))) where
     leads_then : beat_kept.LeadsTo (beat_of c h) heard new
@@ -532,21 +655,21 @@ module _ (c : Shape) (h : ℕ) (m : Memory) (p : Inside) (view : Kept) (shown : 
     end_is = ended (beat_of c h) heard leads_then
 
     -- a call is due
-    pub beat_goes : end ≡ None → LeadsTo c h (hears_from c h m m.doing (due_call view).0 (device_answer answer)) (record { learner = k.learner; prefix = k.prefix; said = None; beat = Some new; readings = k.readings })
+    pub beat_goes : end ≡ None → LeadsTo c h (hears_from c h m m.doing (due_call view).0 (device_answer answer)) (record { learner = k.learner; prefix = k.prefix; said = None; beat = Some new; readings = k.readings; marking = k.marking })
     beat_goes is_none =
         let due = is_due behind (sym (ap (option_map (beat_kept.end_of new)) is_none) ∙ end_is) in
         of_beat _ (beat_by h m heard (beat.Due due.0)) (ap (beat_by h m heard) due.1)
-        (record { learner = learner_still (record { readings = m.beats.readings; heard = Some heard }) None; prefix = leads.prefix; said = refl; readings = leads.readings; beat = leads_then })
+        (record { learner = learner_still (record { readings = m.beats.readings; heard = Some heard }) None; prefix = leads.prefix; said = refl; readings = leads.readings; beat = leads_then; marking = marking_on (record { readings = m.beats.readings; heard = Some heard }) None })
 
     -- it has ended
-    pub beat_fails : end ≡ Some code_ends.NoMajority → LeadsTo c h (hears_from c h m m.doing (due_call view).0 (device_answer answer)) (record { learner = k.learner; prefix = k.prefix; said = Some (Refused refusal.NoMajority); beat = None; readings = k.readings })
+    pub beat_fails : end ≡ Some code_ends.NoMajority → LeadsTo c h (hears_from c h m m.doing (due_call view).0 (device_answer answer)) (record { learner = k.learner; prefix = k.prefix; said = Some (Refused refusal.NoMajority); beat = None; readings = k.readings; marking = k.marking })
     beat_fails is_end =
         let over = is_ended behind beat.NoMajority (sym (ap (option_map (beat_kept.end_of new)) is_end) ∙ end_is) in
         of_beat _ (beat_by h m heard (beat.Ended beat.NoMajority)) (ap (beat_by h m heard) over)
-        (record { learner = learner_still (record { readings = m.beats.readings; heard = None }) (Some (Refused refusal.NoMajority)); prefix = leads.prefix; said = refl; readings = leads.readings; beat = tt })
+        (record { learner = learner_still (record { readings = m.beats.readings; heard = None }) (Some (Refused refusal.NoMajority)); prefix = leads.prefix; said = refl; readings = leads.readings; beat = tt; marking = marking_on (record { readings = m.beats.readings; heard = None }) (Some (Refused refusal.NoMajority)) })
 
     pub beat_ends : end ≡ Some code_ends.Beaten → (after : Readings) → after ≡ new.readings → (host : ℕ) → host ≡ suggested k.learner.host (option_map (take k.learner.shape.disks) k.readings) (take k.learner.shape.disks after)
-        → LeadsTo c h (hears_from c h m m.doing (due_call view).0 (device_answer answer)) (record { learner = k.learner; prefix = k.prefix; said = Some (Beaten host); beat = None; readings = Some after })
+        → LeadsTo c h (hears_from c h m m.doing (due_call view).0 (device_answer answer)) (record { learner = k.learner; prefix = k.prefix; said = Some (Beaten host); beat = None; readings = Some after; marking = k.marking })
     beat_ends is_end after after_is host host_is =
         let over = is_ended behind (beat.Beaten (beat_kept.readings_of new)) (sym (ap (option_map (beat_kept.end_of new)) is_end) ∙ end_is) in
         let shape : k.learner.shape ≡ c = leads.learner.shape in
@@ -565,24 +688,228 @@ module _ (c : Shape) (h : ℕ) (m : Memory) (p : Inside) (view : Kept) (shown : 
           said = ap (λ (g : ℕ). Some (Beaten g)) told;
           readings = ap Some read;
           beat = tt;
+          marking = marking_on (record { readings = Some (beat_kept.readings_of new); heard = None }) (Some (Beaten (suggested h m.beats.readings (beat_kept.readings_of new))));
         })
 
 -- AN ATTEMPT GOES ON
 
--- The fields are what is kept, and an operation is carried out, with no beat under way.
-module _ (c : Shape) (h : ℕ) (m : Memory) (p : Inside) (view : Kept) (shown : kept_in p ≡ view) (resting : view.beat ≡ None) (busy : is_idle view ≡ false) (led : LeadsTo c h m view) where
+-- The fields are what is kept, and an operation is carried out, with no beat and no marking under way.
+module _ (c : Shape) (h : ℕ) (m : Memory) (p : Inside) (view : Kept) (shown : kept_in p ≡ view) (resting : view.beat ≡ None) (unmarking : view.marking ≡ None) (busy : is_idle view ≡ false) (led : LeadsTo c h m view) where
   pub attempt_known : LeadsTo c h m (kept_in p)
   attempt_known = subst (λ (v : Kept). LeadsTo c h m v) (sym shown) led
 
   no_beat : p.beat ≡ None
   no_beat = ap (λ (v : Kept). v.beat) shown ∙ resting
 
+  pub unmarked : p.marking ≡ None
+  unmarked = ap (λ (v : Kept). v.marking) shown ∙ unmarking
+
   pub attempt_doing : (t : Doing) × (m.doing ≡ Some t)
-  attempt_doing = busy_doing c h m p.learner attempt_known.learner (attempt_busy p.learner p.beat no_beat (ap is_idle shown ∙ busy))
+  attempt_doing = busy_doing c h m p.learner attempt_known.learner (attempt_busy p.learner p.beat p.marking no_beat unmarked (ap is_idle shown ∙ busy))
 
   -- the disk that is due is the learner's
-  pub attempt_due : (P : ℕ → Type 0) → P (due_in p.learner None).0 → P (due_call view).0
-  attempt_due P holds = subst (λ (v : Kept). P (due_call v).0) shown (subst (λ (b : Option beat_notes.Notes). P (due_in p.learner b).0) (sym no_beat) holds)
+  pub attempt_due : (P : ℕ → Type 0) → P (due_in p.learner None None).0 → P (due_call view).0
+  attempt_due P holds = subst (λ (v : Kept). P (due_call v).0) shown (subst (λ (b : Option beat_notes.Notes). P (due_in p.learner b p.marking).0) (sym no_beat) (subst (λ (k : Option mark_notes.Notes). P (due_in p.learner None k).0) (sym unmarked) holds))
 
   pub attempt_alone : (answer : Heard) → ((n : log.Memory) → learners.LeadsTo c h n p.learner → log_alone.IsAnsweredAlone c h n n.doing (record { disk = p.learner.attempt.disk; heard = answer })) → IsAnsweredAlone c h m m.doing (record { disk = (due_call view).0; heard = answer })
   attempt_alone answer served = attempt_due (λ d. IsAnsweredAlone c h m m.doing (record { disk = d; heard = answer })) (alone c h m p.learner answer attempt_known.learner served)
+
+-- A MARKING GOES ON
+
+-- none is under way
+pub no_marking_nine : (c : Shape) (h : ℕ) (m : Memory) (o : Option Marking) → MarkingLeadsTo c h m o None → IsMarkedWithinNine c o
+no_marking_nine c h m None going = tt
+no_marking_nine c h m (Some t) going = absurd going
+
+is_marking_due : (st : mark.Status) → None ≡ mark_kept.end_of_status st → (d : ℕ) × (st ≡ mark.Due d)
+is_marking_due (mark.Due d) is = (d, refl)
+is_marking_due (mark.Ended end) is = absurd (cc)
+
+is_marking_over : (st : mark.Status) (end : mark.End) → Some end ≡ mark_kept.end_of_status st → st ≡ mark.Ended end
+is_marking_over (mark.Due d) end is = absurd (cc)
+is_marking_over (mark.Ended other) end is = (let same : end ≡ other = cc in ap mark.Ended (sym same))
+
+marked_by : (c : Shape) (h : ℕ) (m : Memory) (o : Option Marking) (b : mark_notes.Notes) → MarkingLeadsTo c h m o (Some b) → (t : Marking) × (o ≡ Some t) × mark_kept.LeadsTo (marking_of c h m t.slot) t.heard b
+marked_by c h m None b going = absurd going
+marked_by c h m (Some t) b going = (t, refl, going)
+
+no_beat_heard : (c : Shape) (h : ℕ) (o : Option (List beat_answers.Answered)) → BeatLeadsTo c h o None → o ≡ None
+no_beat_heard c h None going = refl
+no_beat_heard c h (Some heard) going = absurd going
+
+-- The fields are what is kept, and a marking is under way.
+module _ (c : Shape) (h : ℕ) (m : Memory) (p : Inside) (view : Kept) (shown : kept_in p ≡ view) (b : mark_notes.Notes) (marks : p.marking ≡ Some b) (one : IsAloneToo p.learner p.beat p.marking) (led : LeadsTo c h m view) (answer : code_heard.Heard) where
+  abbrev mk : Kept
+  mk = kept_in p
+
+  marks_alone : MarksAlone mk.learner p.beat b
+  marks_alone = subst (IsAloneToo mk.learner p.beat) marks one
+
+  mark_led : LeadsTo c h m mk
+  mark_led = subst (λ (v : Kept). LeadsTo c h m v) (sym shown) led
+
+  mark_leads : LeadsTo c h m (record mk { marking = Some b })
+  mark_leads = subst (λ (o : Option mark_notes.Notes). LeadsTo c h m (record mk { marking = o })) marks mark_led
+
+  no_doing : m.doing ≡ None
+  no_doing = idle_doing c h m mk.learner mark_led.learner marks_alone.idle
+
+  no_beats : m.beats.heard ≡ None
+  no_beats = no_beat_heard c h m.beats.heard (subst (BeatLeadsTo c h m.beats.heard) marks_alone.resting mark_led.beat)
+
+  marking : (t : Marking) × (m.marking ≡ Some t) × mark_kept.LeadsTo (marking_of c h m t.slot) t.heard b
+  marking = marked_by c h m m.marking b mark_leads.marking
+
+  abbrev behind_it : Marking
+  behind_it = marking_with marking.0 (mark_kept.answer_of b answer)
+
+  abbrev mark_setup : mark.Setup
+  mark_setup = marking_of c h m marking.0.slot
+
+  abbrev mark_stands : mark.Status
+  mark_stands = mark.status mark_setup (on behind_it.heard)
+
+  marking_is : hears_from c h m m.doing b.disk (device_answer answer) ≡ marking_by m behind_it mark_stands
+  marking_is =
+      ap (λ (o : Option Doing). hears_from c h m o b.disk (device_answer answer)) no_doing
+      ∙ ap (λ (o : Option (List beat_answers.Answered)). hears_beside c h m o b.disk (device_answer answer)) no_beats
+      ∙ ap (λ (o : Option Marking). hears_marking c h m o (record { disk = b.disk; heard = heard_as (device_answer answer) })) marking.1
+      ∙ ap (λ (y : Heard). marking_by m (marking_with marking.0 (record { disk = b.disk; heard = y })) (mark.status mark_setup (on (marking_with marking.0 (record { disk = b.disk; heard = y })).heard))) (sym (heard_same answer))
+
+  -- the host hears what the marking hears
+  of_marking : (new : Kept) (n : Memory) → marking_by m behind_it mark_stands ≡ n → LeadsTo c h n new → LeadsTo c h (hears_from c h m m.doing (due_call view).0 (device_answer answer)) new
+  of_marking new n comes leads_on =
+      subst (λ (v : Kept). LeadsTo c h (hears_from c h m m.doing (due_call v).0 (device_answer answer)) new) shown
+      (subst (λ (o : Option beat_notes.Notes). LeadsTo c h (hears_from c h m m.doing (due_in mk.learner o mk.marking).0 (device_answer answer)) new) (sym marks_alone.resting)
+      (subst (λ (o : Option mark_notes.Notes). LeadsTo c h (hears_from c h m m.doing (due_in mk.learner None o).0 (device_answer answer)) new) (sym marks)
+      (subst (λ (o : Memory). LeadsTo c h o new) (sym (marking_is ∙ comes)) leads_on)))
+
+  -- the call that is due is the marking's
+  pub marking_next : (call : ℕ × device.Call) → ((s : mark.Setup) (answers : List Answered) → mark_kept.LeadsTo s answers b → mark.next_call s (on answers) ≡ Some call) → next_in c h m ≡ Some call
+  marking_next call due =
+      ap (λ (o : Option Doing). next_doing c h m o) no_doing
+      ∙ ap (λ (o : Option (List beat_answers.Answered)). next_beside c h m o) no_beats
+      ∙ ap (λ (o : Option Marking). next_marking c h m o) marking.1
+      ∙ due mark_setup marking.0.heard marking.2
+
+  -- no attempt is under way
+  pub marking_rests : m.doing ≡ None
+  marking_rests = no_doing
+
+  -- it has heard fewer than nine answers a disk before this one
+  pub marking_nine : ((s : mark.Setup) (answers : List Answered) → mark_kept.LeadsTo s answers b → length (answers ++ mark_kept.answer_of b answer ∷ []) ≤ 9 * s.disks) → IsMarkedWithinNine c m.marking
+  marking_nine bound =
+      subst (IsMarkedWithinNine c) (sym marking.1)
+      (let all = bound mark_setup marking.0.heard marking.2 in omega (arith, all, length-append marking.0.heard (mark_kept.answer_of b answer ∷ [])))
+
+  learner_on : (o : Option Marking) (said : Option HostAnswer) → learners.LeadsTo c h (values_with mk.learner.said (with_marking m o said)) mk.learner
+  learner_on o said =
+      subst (λ (t : Option Doing). learners.LeadsTo c h (record { learned = map spelling m.learned; floor = m.floor; doing = option_map doing_of t; said = mk.learner.said }) mk.learner) no_doing mark_led.learner
+
+  module _ (new : mark_notes.Notes) (heard_leads : (s : mark.Setup) (answers : List Answered) → mark_kept.LeadsTo s answers b → mark_kept.LeadsTo s (answers ++ mark_kept.answer_of b answer ∷ []) new)
+      (end : Option mark_end.End) (ended : (s : mark.Setup) (answers : List Answered) → mark_kept.LeadsTo s answers new → option_map mark_kept.end_of end ≡ mark_kept.end_of_status (mark.status s (on answers))) where
+    marked_then : mark_kept.LeadsTo mark_setup behind_it.heard new
+    marked_then = heard_leads mark_setup marking.0.heard marking.2
+
+    mark_end_is : option_map mark_kept.end_of end ≡ mark_kept.end_of_status mark_stands
+    mark_end_is = ended mark_setup behind_it.heard marked_then
+
+    -- a call is due
+    pub marking_goes : end ≡ None → LeadsTo c h (hears_from c h m m.doing (due_call view).0 (device_answer answer)) (record { learner = mk.learner; prefix = mk.prefix; said = None; beat = mk.beat; readings = mk.readings; marking = Some new })
+    marking_goes is_none =
+        let due = is_marking_due mark_stands (sym (ap (option_map mark_kept.end_of) is_none) ∙ mark_end_is) in
+        of_marking _ (marking_by m behind_it (mark.Due due.0)) (ap (marking_by m behind_it) due.1)
+        (record { learner = learner_on (Some behind_it) None; prefix = mark_led.prefix; said = refl; readings = mark_led.readings; beat = mark_led.beat; marking = marked_then })
+
+    -- it has ended
+    pub marking_fails : end ≡ Some mark_ends.NoMajority → LeadsTo c h (hears_from c h m m.doing (due_call view).0 (device_answer answer)) (record { learner = mk.learner; prefix = mk.prefix; said = Some (Refused refusal.NoMajority); beat = mk.beat; readings = mk.readings; marking = None })
+    marking_fails is_end =
+        let over = is_marking_over mark_stands mark.NoMajority (sym (ap (option_map mark_kept.end_of) is_end) ∙ mark_end_is) in
+        of_marking _ (marking_by m behind_it (mark.Ended mark.NoMajority)) (ap (marking_by m behind_it) over)
+        (record { learner = learner_on None (Some (Refused refusal.NoMajority)); prefix = mark_led.prefix; said = refl; readings = mark_led.readings; beat = mark_led.beat; marking = tt })
+
+    pub marking_ends : (count : ℕ) → end ≡ Some (mark_ends.Marked count) → LeadsTo c h (hears_from c h m m.doing (due_call view).0 (device_answer answer)) (record { learner = mk.learner; prefix = mk.prefix; said = Some (Marked count); beat = mk.beat; readings = mk.readings; marking = None })
+    marking_ends count is_end =
+        let over = is_marking_over mark_stands (mark.Marked count) (sym (ap (option_map mark_kept.end_of) is_end) ∙ mark_end_is) in
+        of_marking _ (marking_by m behind_it (mark.Ended (mark.Marked count))) (ap (marking_by m behind_it) over)
+        (record { learner = learner_on None (Some (Marked count)); prefix = mark_led.prefix; said = refl; readings = mark_led.readings; beat = mark_led.beat; marking = tt })
+
+-- AN IDLE HOST
+
+and_parts_too : (a b : Bool) → (a && b) ≡ true → b ≡ true
+and_parts_too true b is = is
+and_parts_too false b is = absurd (cc)
+
+none_kept : (o : Option mark_notes.Notes) → has_no_marking o ≡ true → o ≡ None
+none_kept None is = refl
+none_kept (Some notes) is = absurd (cc)
+
+-- it marks nothing
+pub idle_unmarked : (k : Kept) → is_idle k ≡ true → k.marking ≡ None
+idle_unmarked k idle = none_kept k.marking (and_parts_too (learners.is_idle k.learner && has_no_beat k.beat) (has_no_marking k.marking) idle)
+
+-- A MARKING BEGINS
+
+-- the values learned are the spellings of the commands
+value_at : (l : List Command) (i : ℕ) (d : List ℕ) → i < length l → get_or (map spelling l) i d ≡ spelled (slice_get l i)
+value_at [] i d below = absurd (omega arith)
+value_at (command ∷ l) zero d below = refl
+value_at (command ∷ l) (suc i) d below = value_at l i d (omega arith)
+
+starts_by : (c : Shape) (h : ℕ) (m : Memory) (k : Kept) (slot : ℕ) (t : Bool) → nat_lt slot (length m.learned) ≡ t → t ≡ true → LeadsTo c h (with_marking m (Some (record { slot = slot; heard = [] })) None) k → LeadsTo c h (starts_marking m slot) k
+starts_by c h m k slot t is so leads =
+    subst (λ (b : Bool). LeadsTo c h (if b then with_marking m (Some (record { slot = slot; heard = [] })) None else with_marking m m.marking (Some (Refused refusal.NotLearned))) k) (sym (is ∙ so)) leads
+
+module _ (c : Shape) (h : ℕ) (m : Memory) (k : Kept) (slot host disks : ℕ) (value : List ℕ) (b : mark_notes.Notes) (leads : LeadsTo c h m k) (idle : is_idle k ≡ true) (inside : slot < length k.learner.learned) (value_is : value ≡ get_or k.learner.learned slot value) (host_is : host ≡ k.learner.host) (disks_are : disks ≡ k.learner.shape.disks)
+    (begun : mark_kept.LeadsTo (record { host = host; slot = slot; disks = disks; value = value }) [] b) where
+  learner_idle : learners.is_idle k.learner ≡ true
+  learner_idle = (and_parts (learners.is_idle k.learner) (has_no_beat k.beat) (and_parts (learners.is_idle k.learner && has_no_beat k.beat) (has_no_marking k.marking) idle).0).0
+
+  no_operation : m.doing ≡ None
+  no_operation = idle_doing c h m k.learner leads.learner learner_idle
+
+  is_learned : slot < length m.learned
+  is_learned = (let long = ap length leads.learner.learned ∙ length-map m.learned spelling in omega arith)
+
+  setup_is : record { host = host; slot = slot; disks = disks; value = value } ≡ marking_of c h m slot
+  setup_is =
+      let g = host_is ∙ leads.learner.is_host in
+      let n = disks_are ∙ ap (λ (s : Shape). s.disks) leads.learner.shape in
+      let v = value_is ∙ ap (λ (l : List (List ℕ)). get_or l slot value) leads.learner.learned ∙ value_at m.learned slot value is_learned in
+      λ i. record { host = g i; slot = slot; disks = n i; value = v i }
+
+  -- of the slot that is learned
+  pub begins_marking : LeadsTo c h (starts_marking m slot) (record k { said = None; marking = Some b })
+  begins_marking =
+      starts_by c h m (record k { said = None; marking = Some b }) slot (nat_lt slot (length m.learned)) refl (lt-ltb slot (length m.learned) is_learned)
+      (record {
+        learner = subst (λ (t : Option Doing). learners.LeadsTo c h (record { learned = map spelling m.learned; floor = m.floor; doing = option_map doing_of t; said = k.learner.said }) k.learner) no_operation leads.learner;
+        prefix = leads.prefix;
+        said = refl;
+        readings = leads.readings;
+        beat = leads.beat;
+        marking = subst (λ (s : mark.Setup). mark_kept.LeadsTo s [] b) setup_is begun;
+      })
+
+module _ (c : Shape) (h : ℕ) (m : Memory) (k : Kept) (slot : ℕ) (leads : LeadsTo c h m k) (idle : is_idle k ≡ true) (beyond : length k.learner.learned ≤ slot) where
+  -- or of none, which is refused
+  pub refuses_marking : LeadsTo c h (starts_marking m slot) (record k { said = Some (Refused refusal.NotLearned) })
+  refuses_marking =
+      let learner = (and_parts (learners.is_idle k.learner) (has_no_beat k.beat) (and_parts (learners.is_idle k.learner && has_no_beat k.beat) (has_no_marking k.marking) idle).0).0 in
+      let none = idle_doing c h m k.learner leads.learner learner in
+      let long = ap length leads.learner.learned ∙ length-map m.learned spelling in
+      subst (λ (b : Bool). LeadsTo c h (if b then with_marking m (Some (record { slot = slot; heard = [] })) None else with_marking m m.marking (Some (Refused refusal.NotLearned))) (record k { said = Some (Refused refusal.NotLearned) })) (sym (le-ltb slot (length m.learned) (omega arith)))
+      (record {
+        learner = subst (λ (t : Option Doing). learners.LeadsTo c h (record { learned = map spelling m.learned; floor = m.floor; doing = option_map doing_of t; said = k.learner.said }) k.learner) none leads.learner;
+        prefix = leads.prefix;
+        said = refl;
+        readings = leads.readings;
+        beat = leads.beat;
+        marking = stands m.marking k.marking leads.marking;
+      })
+    where
+      stands : (o : Option Marking) (kept : Option mark_notes.Notes) → MarkingLeadsTo c h m o kept → MarkingLeadsTo c h (with_marking m m.marking (Some (Refused refusal.NotLearned))) o kept
+      stands None None going = tt
+      stands (Some t) (Some notes) going = going
+      stands None (Some notes) going = absurd going
+      stands (Some t) None going = absurd going

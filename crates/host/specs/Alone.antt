@@ -1,10 +1,10 @@
--- How many answers an attempt and a beat hear, and how an attempt is answered whose host is left alone.
+-- How many answers an attempt, a beat and a marking hear, and how an attempt is answered whose host is left alone.
 use Rattle.std.specs.Prelude.{◌<◌, ◌*◌, ℕ, List, [], ◌∷◌, ◌++◌, length, Option, Some, None}
 use Rattle.attempt.specs.Answers.{Answered}
 use Rattle.beats.specs.Answers as beat_answers
 use Rattle.slot_log.specs.Alone.{IsAnsweredIn}
 use Rattle.slot_log.specs.Shape.{Shape}
-use Rattle.host.specs.Host.{Memory, Doing, setup_of}
+use Rattle.host.specs.Host.{Memory, Doing, Marking, setup_of}
 
 -- the attempt under way, with one more answer, has heard at most seventeen a disk, and is served where the other hosts
 -- rest and most disks answer well
@@ -16,3 +16,8 @@ IsAnsweredAlone c h m (Some t) x = IsAnsweredIn (setup_of c h m t.operation) (t.
 abbrev pub IsWithinNine : Shape → Option (List beat_answers.Answered) → Type 0
 IsWithinNine c None = Unit {0}
 IsWithinNine c (Some heard) = length heard < 9 * c.disks
+
+-- so has the marking under way
+abbrev pub IsMarkedWithinNine : Shape → Option Marking → Type 0
+IsMarkedWithinNine c None = Unit {0}
+IsMarkedWithinNine c (Some t) = length t.heard < 9 * c.disks

@@ -1,6 +1,7 @@
 -- A host: what follows from its operations and the answers that it has heard since its start.
-use Rattle.std.specs.Prelude.{◌-◌, ℕ, Bool, true, false, List, [], ◌∷◌, ◌++◌, length, max, nat_lt, nat_le, Option, Some, None, if◌then◌else◌, bytes_eq}
+use Rattle.std.specs.Prelude.{◌-◌, ◌&&◌, ℕ, Bool, true, false, not, List, [], ◌∷◌, ◌++◌, length, max, nat_lt, nat_le, slice_get, Option, Some, None, is_some, if◌then◌else◌, bytes_eq}
 use Rattle.disk.specs.Disk as device
+use Rattle.paxos_block.specs.declared.ballot.TheConstants.{LAST_BALLOT}
 use Rattle.attempt.specs.Answers.{Answered, on, heard_as}
 use Rattle.attempt.specs.Setup.{Setup}
 use Rattle.attempt.specs.Status.{Status, Due, Ended, End, status, taken}
@@ -9,6 +10,7 @@ use Rattle.attempt.specs.NextCall.{next_call}
 use Rattle.heartbeat.specs.Suggesting.{Readings, suggestion}
 use Rattle.beats.specs.Answers as beat_answers
 use Rattle.beats.specs.Status as beat
+use Rattle.marks.specs.Status as mark
 use Rattle.lock_command.specs.declared.command.Command.{Command}
 use Rattle.lock_command.specs.Command.{spelling}
 use Rattle.lock_command.specs.Reading.{decoded}
@@ -17,7 +19,7 @@ use Rattle.lock_table.specs.Apply.{applied, table_after}
 use Rattle.slot_log.specs.Shape.{Shape}
 use Rattle.slot_log.specs.declared.outcome.Refusal.TheVariants as refusal
 use Rattle.host.specs.declared.answer.HostAnswer.{HostAnswer}
-use Rattle.host.specs.declared.answer.HostAnswer.TheVariants.{Ack, Recovered, Beaten, Refused}
+use Rattle.host.specs.declared.answer.HostAnswer.TheVariants.{Ack, Recovered, Looked, Beaten, Marked, Refused}
 
 -- COMMANDS
 
@@ -30,6 +32,7 @@ reply_after before command = (applied (table_after before) command).reply
 pub data Operation : Type 0 where
   Submitting : (command : Command) → Operation
   Recovering : Operation
+  Looking : Operation
 
 -- an operation under way: its tries left, and what its attempt on the next slot has heard
 pub record Doing : Type 0 where
@@ -42,14 +45,20 @@ pub record Beats : Type 0 where
   pub readings : Option Readings
   pub heard : Option (List beat_answers.Answered)
 
--- a running host: the commands that it has learned, by slot, its floor on the next slot, what its last entry made it say, and
--- its beats
+-- the marking under way: its slot, and what it has heard
+pub record Marking : Type 0 where
+  pub slot : ℕ
+  pub heard : List Answered
+
+-- a running host: the commands that it has learned, by slot, its floor on the next slot, what its last entry made it say, its
+-- beats, and the marking under way
 pub record Memory : Type 0 where
   pub learned : List Command
   pub floor : ℕ
   pub doing : Option Doing
   pub said : Option HostAnswer
   pub beats : Beats
+  pub marking : Option Marking
 
 pub data Host : Type 0 where
   Stopped : Host
@@ -57,20 +66,20 @@ pub data Host : Type 0 where
 
 -- at its start a host knows nothing
 abbrev pub fresh : Memory
-fresh = record { learned = []; floor = 0; doing = None; said = None; beats = record { readings = None; heard = None } }
+fresh = record { learned = []; floor = 0; doing = None; said = None; beats = record { readings = None; heard = None }; marking = None }
 
 abbrev pub says : Memory → HostAnswer → Memory
-says m said = record { learned = m.learned; floor = m.floor; doing = None; said = Some said; beats = m.beats }
+says m said = record { learned = m.learned; floor = m.floor; doing = None; said = Some said; beats = m.beats; marking = m.marking }
 
 abbrev pub does : Memory → Doing → Memory
-does m t = record { learned = m.learned; floor = m.floor; doing = Some t; said = None; beats = m.beats }
+does m t = record { learned = m.learned; floor = m.floor; doing = Some t; said = None; beats = m.beats; marking = m.marking }
 
 -- a ballot of the next slot counts from now on
 abbrev pub with_floor : Memory → ℕ → Memory
-with_floor m ballot = record { learned = m.learned; floor = max m.floor ballot; doing = None; said = None; beats = m.beats }
+with_floor m ballot = record { learned = m.learned; floor = max m.floor ballot; doing = None; said = None; beats = m.beats; marking = m.marking }
 
 abbrev pub learns : Memory → Command → Memory
-learns m command = record { learned = m.learned ++ command ∷ []; floor = 0; doing = None; said = None; beats = m.beats }
+learns m command = record { learned = m.learned ++ command ∷ []; floor = 0; doing = None; said = None; beats = m.beats; marking = m.marking }
 
 -- AN OPERATION GOES ON
 
@@ -78,10 +87,17 @@ learns m command = record { learned = m.learned ++ command ∷ []; floor = 0; do
 abbrev pub input_of : Operation → Option (List ℕ)
 input_of (Submitting command) = Some (spelling command)
 input_of Recovering = None
+input_of Looking = None
+
+-- above what they take their ballots; those of a look have none to take, and so end with their opening
+abbrev pub floor_for : Operation → ℕ → ℕ
+floor_for (Submitting command) floor = floor
+floor_for Recovering floor = floor
+floor_for Looking floor = max floor LAST_BALLOT
 
 -- the attempt on the next slot
 abbrev pub setup_of : Shape → ℕ → Memory → Operation → Setup
-setup_of c h m operation = record { host = h; slot = length m.learned; disks = c.disks; floor = m.floor; input = input_of operation }
+setup_of c h m operation = record { host = h; slot = length m.learned; disks = c.disks; floor = floor_for operation m.floor; input = input_of operation }
 
 -- an attempt on the next slot begins
 abbrev pub begins : Memory → Operation → ℕ → Memory
@@ -91,6 +107,13 @@ begins m operation tries = does m (record { operation = operation; tries = tries
 abbrev pub full_answer : Operation → ℕ → HostAnswer
 full_answer (Submitting command) learned = Refused refusal.LogFull
 full_answer Recovering learned = Recovered learned
+full_answer Looking learned = Looked learned
+
+-- and once an attempt has no ballot: a look has seen that no mark tells the next slot
+abbrev pub spent_answer : Operation → ℕ → HostAnswer
+spent_answer (Submitting command) learned = Refused refusal.BallotsSpent
+spent_answer Recovering learned = Refused refusal.BallotsSpent
+spent_answer Looking learned = Looked learned
 
 -- the next slot is tried, where there is one
 abbrev pub goes_on : Shape → Memory → Operation → ℕ → Memory
@@ -101,13 +124,14 @@ goes_on c m operation tries =
 abbrev pub is_submitted : Operation → List ℕ → Bool
 is_submitted (Submitting command) value = bytes_eq (spelling command) value
 is_submitted Recovering value = false
+is_submitted Looking value = false
 
 -- a submitted command that was learned is acknowledged; else the next slot is tried
 abbrev pub after_learning : Shape → Memory → Doing → Command → Bool → Memory
 after_learning c m t command true = says (learns m command) (Ack (length m.learned) (reply_after m.learned command))
 after_learning c m t command false = goes_on c (learns m command) t.operation t.tries
 
--- a committed value that is no command is not learned
+-- a value that is no command is not learned
 abbrev pub takes : Shape → Memory → Doing → ℕ → List ℕ → Option Command → Memory
 takes c m t ballot value None = says (with_floor m ballot) (Refused refusal.NotACommand)
 takes c m t ballot value (Some command) = after_learning c m t command (is_submitted t.operation value)
@@ -119,10 +143,11 @@ tries_again m operation tries = if nat_le tries 1 then says m (Refused refusal.O
 -- an attempt has ended, and its ballot counts
 abbrev pub ended : Shape → Memory → Doing → ℕ → End → Memory
 ended c m t ballot (attempt.Committed value) = takes c m t ballot value (decoded value)
+ended c m t ballot (attempt.Decided value) = takes c m t ballot value (decoded value)
 ended c m t ballot attempt.Empty = says (with_floor m ballot) (Recovered (length m.learned))
 ended c m t ballot (attempt.Outrun mbal) = tries_again (with_floor (with_floor m ballot) mbal) t.operation t.tries
 ended c m t ballot attempt.NoMajority = says (with_floor m ballot) (Refused refusal.NoMajority)
-ended c m t ballot attempt.BallotsSpent = says (with_floor m ballot) (Refused refusal.BallotsSpent)
+ended c m t ballot attempt.BallotsSpent = says (with_floor m ballot) (spent_answer t.operation (length m.learned))
 
 abbrev pub by_status : Shape → Memory → Doing → ℕ → Status → Memory
 by_status c m t ballot (Due phase disk) = does m t
@@ -147,7 +172,7 @@ beat_of c h = record { host = h; disks = c.disks }
 
 -- its beats have come to this, and it says that; what it has learned stays
 abbrev pub with_beats : Memory → Beats → Option HostAnswer → Memory
-with_beats m beats said = record { learned = m.learned; floor = m.floor; doing = None; said = said; beats = beats }
+with_beats m beats said = record { learned = m.learned; floor = m.floor; doing = None; said = said; beats = beats; marking = m.marking }
 
 -- a beat begins
 abbrev pub starts_beat : Memory → Memory
@@ -172,11 +197,51 @@ abbrev pub hears_beat : Shape → ℕ → Memory → Option (List beat_answers.A
 hears_beat c h m None x = m
 hears_beat c h m (Some heard) x = beat_by h m (heard ++ x ∷ []) (beat.status (beat_of c h) (beat_answers.on (heard ++ x ∷ [])))
 
+-- A MARKING
+
+abbrev pub spelled : Option Command → List ℕ
+spelled None = []
+spelled (Some command) = spelling command
+
+-- a host marks the learned value of a slot on all disks
+abbrev pub marking_of : Shape → ℕ → Memory → ℕ → mark.Setup
+marking_of c h m slot = record { host = h; slot = slot; disks = c.disks; value = spelled (slice_get m.learned slot) }
+
+-- its marking has come to this, and it says that; what it has learned stays
+abbrev pub with_marking : Memory → Option Marking → Option HostAnswer → Memory
+with_marking m marking said = record { learned = m.learned; floor = m.floor; doing = None; said = said; beats = m.beats; marking = marking }
+
+-- a marking begins, where the slot is learned
+abbrev pub starts_marking : Memory → ℕ → Memory
+starts_marking m slot =
+    if nat_lt slot (length m.learned) then with_marking m (Some (record { slot = slot; heard = [] })) None else with_marking m m.marking (Some (Refused refusal.NotLearned))
+
+abbrev pub marking_ended : Memory → mark.End → Memory
+marking_ended m (mark.Marked count) = with_marking m None (Some (Marked count))
+marking_ended m mark.NoMajority = with_marking m None (Some (Refused refusal.NoMajority))
+
+abbrev pub marking_by : Memory → Marking → mark.Status → Memory
+marking_by m t (mark.Due disk) = with_marking m (Some t) None
+marking_by m t (mark.Ended end) = marking_ended m end
+
+abbrev pub marking_with : Marking → Answered → Marking
+marking_with t x = record { slot = t.slot; heard = t.heard ++ x ∷ [] }
+
+-- the marking under way hears one more answer
+abbrev pub hears_marking : Shape → ℕ → Memory → Option Marking → Answered → Memory
+hears_marking c h m None x = m
+hears_marking c h m (Some t) x = marking_by m (marking_with t x) (mark.status (marking_of c h m t.slot) (on (marking_with t x).heard))
+
 -- A DISK ANSWERS
 
--- the attempt under way hears it, or else the beat
+-- where no attempt is under way the beat hears it, or else the marking
+abbrev pub hears_beside : Shape → ℕ → Memory → Option (List beat_answers.Answered) → ℕ → device.Answer → Memory
+hears_beside c h m None d answer = hears_marking c h m m.marking (record { disk = d; heard = heard_as answer })
+hears_beside c h m (Some heard) d answer = hears_beat c h m (Some heard) (record { disk = d; heard = beat_answers.heard_as answer })
+
+-- the attempt under way hears it, or else the beat or the marking
 abbrev pub hears_from : Shape → ℕ → Memory → Option Doing → ℕ → device.Answer → Memory
-hears_from c h m None d answer = hears_beat c h m m.beats.heard (record { disk = d; heard = beat_answers.heard_as answer })
+hears_from c h m None d answer = hears_beside c h m m.beats.heard d answer
 hears_from c h m (Some t) d answer = hears c h m (Some t) (record { disk = d; heard = heard_as answer })
 
 -- WHAT A HOST DOES NEXT
@@ -185,20 +250,24 @@ abbrev pub rests : Option (List beat_answers.Answered) → Bool
 rests None = true
 rests (Some heard) = false
 
--- neither an attempt nor a beat is under way
+-- neither an attempt nor a beat nor a marking is under way
 abbrev pub is_idle_in : Memory → Option Doing → Bool
-is_idle_in m None = rests m.beats.heard
+is_idle_in m None = rests m.beats.heard && not (is_some m.marking)
 is_idle_in m (Some t) = false
 
 abbrev pub is_idle : Memory → Bool
 is_idle m = is_idle_in m m.doing
 
-abbrev pub next_beat : Shape → ℕ → Option (List beat_answers.Answered) → Option (ℕ × device.Call)
-next_beat c h None = None
-next_beat c h (Some heard) = beat.next_call (beat_of c h) (beat_answers.on heard)
+abbrev pub next_marking : Shape → ℕ → Memory → Option Marking → Option (ℕ × device.Call)
+next_marking c h m None = None
+next_marking c h m (Some t) = mark.next_call (marking_of c h m t.slot) (on t.heard)
+
+abbrev pub next_beside : Shape → ℕ → Memory → Option (List beat_answers.Answered) → Option (ℕ × device.Call)
+next_beside c h m None = next_marking c h m m.marking
+next_beside c h m (Some heard) = beat.next_call (beat_of c h) (beat_answers.on heard)
 
 abbrev pub next_doing : Shape → ℕ → Memory → Option Doing → Option (ℕ × device.Call)
-next_doing c h m None = next_beat c h m.beats.heard
+next_doing c h m None = next_beside c h m m.beats.heard
 next_doing c h m (Some t) = next_call (setup_of c h m t.operation) (on t.heard)
 
 -- the disk and the device call that are due

@@ -1,5 +1,5 @@
 -- What a host keeps, and when that is what follows from its operations and answers.
-use Rattle.std.specs.Prelude.{◌≡◌, ◌&&◌, ℕ, Bool, true, false, List, [], ◌∷◌, map, take, Option, Some, None}
+use Rattle.std.specs.Prelude.{◌≡◌, ◌<◌, ◌&&◌, ℕ, Bool, true, false, List, [], ◌∷◌, map, take, Option, Some, None}
 use Rattle.std.specs.Option.{option_map}
 use Rattle.disk.specs.Disk as device
 use Rattle.lock_command.specs.declared.command.Command.{Command}
@@ -10,6 +10,8 @@ use Rattle.heartbeat.specs.Suggesting.{Readings}
 use Rattle.beats.specs.Answers as beat_answers
 use Rattle.beats.specs.Kept as beat_kept
 use Rattle.beats.specs.declared.notes.Notes.{Notes}
+use Rattle.marks.specs.Kept as mark_kept
+use Rattle.marks.specs.declared.notes.Notes as mark_notes
 use Rattle.slot_log.specs.Kept as learners
 use Rattle.slot_log.specs.Learning as log
 use Rattle.slot_log.specs.declared.operation.Operation as log_operation
@@ -17,34 +19,44 @@ use Rattle.slot_log.specs.declared.operation.Operation.TheVariants as operation
 use Rattle.slot_log.specs.declared.outcome.Outcome as log_outcome
 use Rattle.slot_log.specs.declared.outcome.Outcome.TheVariants as outcome
 use Rattle.host.specs.declared.answer.HostAnswer.{HostAnswer}
-use Rattle.host.specs.declared.answer.HostAnswer.TheVariants.{Ack, Recovered, Beaten, Refused}
-use Rattle.host.specs.Host.{Operation, Submitting, Recovering, Doing, Memory, beat_of}
+use Rattle.host.specs.declared.answer.HostAnswer.TheVariants.{Ack, Recovered, Looked, Beaten, Marked, Refused}
+use Rattle.host.specs.Host.{Operation, Submitting, Recovering, Looking, Doing, Marking, Memory, beat_of, marking_of}
 
--- its learner, the commands learned, what the last entry made it say, the beat under way, and what the last beat that ended
--- well read
+-- its learner, the commands learned, what the last entry made it say, the beat under way, what the last beat that ended
+-- well read, and the marking under way
 pub record Kept : Type 0 where
   pub learner : learners.Kept
   pub prefix : List Command
   pub said : Option HostAnswer
   pub beat : Option Notes
   pub readings : Option Readings
+  pub marking : Option mark_notes.Notes
 
 -- no beat is under way
 abbrev pub has_no_beat : Option Notes → Bool
 has_no_beat None = true
 has_no_beat (Some notes) = false
 
+-- nor a marking
+abbrev pub has_no_marking : Option mark_notes.Notes → Bool
+has_no_marking None = true
+has_no_marking (Some notes) = false
+
 -- no operation is under way
 abbrev pub is_idle : Kept → Bool
-is_idle k = learners.is_idle k.learner && has_no_beat k.beat
+is_idle k = learners.is_idle k.learner && has_no_beat k.beat && has_no_marking k.marking
 
-abbrev pub due_in : learners.Kept → Option Notes → ℕ × device.Call
-due_in learner None = learners.due_call learner
-due_in learner (Some notes) = beat_kept.call_due notes
+abbrev pub due_beside : learners.Kept → Option mark_notes.Notes → ℕ × device.Call
+due_beside learner None = learners.due_call learner
+due_beside learner (Some notes) = mark_kept.call_due notes
+
+abbrev pub due_in : learners.Kept → Option Notes → Option mark_notes.Notes → ℕ × device.Call
+due_in learner None marking = due_beside learner marking
+due_in learner (Some notes) marking = beat_kept.call_due notes
 
 -- the disk and the device call that are due, where an operation is under way
 abbrev pub due_call : Kept → ℕ × device.Call
-due_call k = due_in k.learner k.beat
+due_call k = due_in k.learner k.beat k.marking
 
 -- a beat is under way of the same host and on the same disks, while the learner is idle
 pub record BeatsAlone (learner : learners.Kept) (notes : Notes) : Type 0 where
@@ -57,6 +69,20 @@ abbrev pub IsOneAtATime : learners.Kept → Option Notes → Type 0
 IsOneAtATime learner None = Unit {0}
 IsOneAtATime learner (Some notes) = BeatsAlone learner notes
 
+-- a marking is under way of the same host, on the same disks and of a slot of the log, while the learner is idle and no
+-- beat is under way
+pub record MarksAlone (learner : learners.Kept) (beat : Option Notes) (notes : mark_notes.Notes) : Type 0 where
+  pub idle : learners.is_idle learner ≡ true
+  pub resting : beat ≡ None
+  pub going : notes.end ≡ None
+  pub is_host : notes.host ≡ learner.host
+  pub as_many : notes.disks ≡ learner.shape.disks
+  pub inside : notes.slot < learner.shape.slots
+
+abbrev pub IsAloneToo : learners.Kept → Option Notes → Option mark_notes.Notes → Type 0
+IsAloneToo learner beat None = Unit {0}
+IsAloneToo learner beat (Some notes) = MarksAlone learner beat notes
+
 -- what there is, as a list
 abbrev pub option_list : {A : Type 0} → Option A → List A
 option_list None = []
@@ -67,12 +93,15 @@ option_list (Some x) = x ∷ []
 abbrev pub operation_of : Operation → log_operation.Operation
 operation_of (Submitting command) = operation.Placing (spelling command)
 operation_of Recovering = operation.Recovering
+operation_of Looking = operation.Looking
 
 abbrev pub outcome_in : Option HostAnswer → Option log_outcome.Outcome
 outcome_in None = None
 outcome_in (Some (Ack slot reply)) = Some (outcome.Placed slot)
 outcome_in (Some (Recovered length)) = Some (outcome.Recovered length)
+outcome_in (Some (Looked length)) = Some (outcome.Looked length)
 outcome_in (Some (Beaten host)) = None
+outcome_in (Some (Marked count)) = None
 outcome_in (Some (Refused refusal)) = Some (outcome.Refused refusal)
 
 abbrev pub doing_of : Doing → log.Doing
@@ -91,6 +120,7 @@ answer_of None reply = None
 answer_of (Some (outcome.Placed slot)) None = None
 answer_of (Some (outcome.Placed slot)) (Some reply) = Some (Ack slot reply)
 answer_of (Some (outcome.Recovered length)) reply = Some (Recovered length)
+answer_of (Some (outcome.Looked length)) reply = Some (Looked length)
 answer_of (Some (outcome.Refused refusal)) reply = Some (Refused refusal)
 
 -- no command is acknowledged
@@ -98,7 +128,9 @@ abbrev pub AcknowledgesNone : Option HostAnswer → Type 0
 AcknowledgesNone None = Unit {0}
 AcknowledgesNone (Some (Ack slot reply)) = ⊥
 AcknowledgesNone (Some (Recovered length)) = Unit {0}
+AcknowledgesNone (Some (Looked length)) = Unit {0}
 AcknowledgesNone (Some (Beaten host)) = Unit {0}
+AcknowledgesNone (Some (Marked count)) = Unit {0}
 AcknowledgesNone (Some (Refused refusal)) = Unit {0}
 
 -- WHAT FOLLOWS
@@ -109,6 +141,12 @@ BeatLeadsTo c h None None = Unit {0}
 BeatLeadsTo c h (Some heard) (Some notes) = beat_kept.LeadsTo (beat_of c h) heard notes
 BeatLeadsTo c h heard notes = ⊥
 
+-- the same marking, if any, which has heard this
+abbrev pub MarkingLeadsTo : Shape → ℕ → Memory → Option Marking → Option mark_notes.Notes → Type 0
+MarkingLeadsTo c h m None None = Unit {0}
+MarkingLeadsTo c h m (Some t) (Some notes) = mark_kept.LeadsTo (marking_of c h m t.slot) t.heard notes
+MarkingLeadsTo c h m t notes = ⊥
+
 -- What is known leads to this: it is what the host keeps.
 pub record LeadsTo (c : Shape) (h : ℕ) (m : Memory) (k : Kept) : Type 0 where
   pub learner : learners.LeadsTo c h (values_with k.learner.said m) k.learner
@@ -116,3 +154,4 @@ pub record LeadsTo (c : Shape) (h : ℕ) (m : Memory) (k : Kept) : Type 0 where
   pub said : k.said ≡ m.said
   pub readings : option_map (take c.disks) k.readings ≡ m.beats.readings
   pub beat : BeatLeadsTo c h m.beats.heard k.beat
+  pub marking : MarkingLeadsTo c h m m.marking k.marking

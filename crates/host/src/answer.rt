@@ -8,8 +8,12 @@ pub enum HostAnswer {
     Ack { slot: u16, reply: Reply },
     /// So many commands are learned, and they were all.
     Recovered { length: u16 },
+    /// So many commands are learned, and no mark told the next one when it was looked at.
+    Looked { length: u16 },
     /// A beat ended well, and suggests this host.
     Beaten { host: u8 },
+    /// A marking ended well: on so many disks that are left the host's block of the slot is marked.
+    Marked { count: u8 },
     Refused(Refusal),
 }
 
@@ -27,6 +31,7 @@ impl HostAnswer {
                 reply: reply?,
             }),
             Outcome::Recovered { length } => Some(HostAnswer::Recovered { length }),
+            Outcome::Looked { length } => Some(HostAnswer::Looked { length }),
             Outcome::Refused(refusal) => Some(HostAnswer::Refused(refusal)),
         }
     }

@@ -11,9 +11,9 @@ ghost use Rattle.slot_log.specs.Kept as learners;
 ghost use Rattle.slot_log.specs.Kept.{offered_of};
 ghost use Rattle.slot_log.specs.Learning as log;
 ghost use Rattle.slot_log.specs.Shape.{Shape};
-ghost use Rattle.host.specs.Alone.{IsAnsweredAlone, IsWithinNine};
+ghost use Rattle.host.specs.Alone.{IsAnsweredAlone, IsWithinNine, IsMarkedWithinNine};
 ghost use Rattle.beats.specs.Calls.{device_answer};
-ghost use Rattle.host.specs.Host.{Memory, Submitting, Recovering, fresh, goes_on, hears, hears_from, starts_beat, suggested, is_idle_in, next_in, reply_after};
+ghost use Rattle.host.specs.Host.{Memory, Submitting, Recovering, Looking, fresh, goes_on, hears, hears_from, starts_beat, starts_marking, suggested, is_idle_in, next_in, reply_after};
 ghost use Rattle.host.specs.Kept.{Kept, LeadsTo, AcknowledgesNone, is_idle, due_call, option_list};
 
 use crate::answer::HostAnswer;
@@ -22,6 +22,7 @@ use disk::NoMemory;
 use heartbeat::suggest;
 use lock_command::{Command, HostNumber, decode};
 use lock_table::{Reply, Table};
+use marks::Marking;
 use paxos_block::Value;
 use phases::{Heard, Need};
 use slot_log::{Config, Learner, Outcome, Refusal};
@@ -42,6 +43,7 @@ pub struct HostCore {
     beat: Option<Beat>,
     /// Of the last beat that ended well.
     readings: Option<Readings>,
+    marking: Option<Marking>,
 }
 
 impl Model for HostCore {
@@ -51,11 +53,11 @@ impl Model for HostCore {
     ghost use Rattle.lock_table.specs.Apply.{table_after};
     ghost use Rattle.lock_table.specs.Picture.{IsPictureOf};
     ghost use Rattle.slot_log.specs.Kept.{offered_of};
-    ghost use Rattle.host.specs.Kept.{Kept, IsOneAtATime};
+    ghost use Rattle.host.specs.Kept.{Kept, IsOneAtATime, IsAloneToo};
 
     ghost Value = { Kept };
 
-    ghost view = { λ core. record { learner = core.learner; prefix = core.prefix.items; said = core.said; beat = core.beat; readings = core.readings } };
+    ghost view = { λ core. record { learner = core.learner; prefix = core.prefix.items; said = core.said; beat = core.beat; readings = core.readings; marking = core.marking } };
 
     ghost invariant = { λ core. record {
       host : core.learner.host ≡ core.host;
@@ -66,6 +68,7 @@ impl Model for HostCore {
       room : core.learner.shape.slots ≤ vec_capacity core.prefix;
       table : IsPictureOf core.table (table_after core.prefix.items);
       beat : IsOneAtATime core.learner core.beat;
+      marking : IsAloneToo core.learner core.beat core.marking;
     } };
 }
 
@@ -89,6 +92,7 @@ impl HostCore {
             said: None,
             beat: None,
             readings: None,
+            marking: None,
         })
     }
 
@@ -98,7 +102,7 @@ impl HostCore {
             result ≡ is_idle_in m m.doing }
         ensures idle { result ≡ is_idle self.now }
     {
-        self.learner.idle() && self.beat.is_none()
+        self.learner.idle() && self.beat.is_none() && self.marking.is_none()
     }
 
     /// The host's number.
@@ -159,6 +163,17 @@ impl HostCore {
         self.said = HostAnswer::of(self.learner.said(), None);
     }
 
+    /// Begins to learn the commands that marks tell, slot by slot, up to the first slot of which none does. It writes
+    /// nothing, and outruns nobody; but what was acknowledged and not marked is not found.
+    pub fn look(&mut self)
+        requires idle { is_idle self.old ≡ true }
+        ensures { (c : Shape) (h : ℕ) (m : Memory) → LeadsTo c h m self.old →
+            LeadsTo c h (goes_on c m Looking 1) self.new }
+    {
+        self.learner.look();
+        self.said = HostAnswer::of(self.learner.said(), None);
+    }
+
     /// Begins a beat: this host's heartbeat blocks get their next sequence numbers, and the counters of all hosts are read.
     pub fn beat(&mut self)
         requires idle { is_idle self.old ≡ true }
@@ -167,6 +182,24 @@ impl HostCore {
     {
         self.beat = Some(Beat::new(self.host.get(), self.config.disks()));
         self.said = None;
+    }
+
+    /// Begins to mark a slot: on each disk this host's block of the slot, where it holds what was learned, is written anew
+    /// with a mark, by which others learn it in one reading. A slot that is not learned is refused at once.
+    pub fn mark(&mut self, slot: u16)
+        requires idle { is_idle self.old ≡ true }
+        ensures { (c : Shape) (h : ℕ) (m : Memory) → LeadsTo c h m self.old →
+            LeadsTo c h (starts_marking m slot) self.new }
+    {
+        match self.learner.learned().get(usize::from(slot)) {
+            Some(value) => {
+                let value = *value;
+                let disks = self.config.disks();
+                self.marking = Some(Marking::new(self.host.get(), slot, disks, value));
+                self.said = None;
+            }
+            None => self.said = Some(HostAnswer::Refused(Refusal::NotLearned)),
+        }
     }
 
     /// The device call that is due.
@@ -180,8 +213,11 @@ impl HostCore {
         ensures range { IsWithin (image_length self.now.learner.shape.slots) result.call }
         ensures disk { result.disk < self.now.learner.shape.disks }
     {
-        match &self.beat {
-            Some(beat) => beat.call(),
+        if let Some(beat) = &self.beat {
+            return beat.call();
+        }
+        match &self.marking {
+            Some(marking) => marking.call(),
             None => self.learner.call(),
         }
     }
@@ -194,18 +230,24 @@ impl HostCore {
         requires fits { Fits (due_call self.old).1 (heard_of heard.now) }
         ensures leads { (c : Shape) (h : ℕ) (m : Memory) → LeadsTo c h m self.old →
             LeadsTo c h (hears_from c h m m.doing (due_call self.old).0 (device_answer heard.now)) self.new }
-        // By Committed, Empty or BallotsSpent within 17 calls a disk, if no other host makes a call on the slot meanwhile.
+        // By Committed, Decided, Empty or BallotsSpent within 17 calls a disk, if no other host makes a call on the slot meanwhile.
         ensures alone { (c : Shape) (h : ℕ) (m : Memory) → LeadsTo c h m self.old →
             IsAnsweredAlone c h m m.doing (record { disk = (due_call self.old).0; heard = heard_of heard.now }) }
         // With this answer a beat has heard at most nine a disk, and it acknowledges nothing.
         ensures nine { (c : Shape) (h : ℕ) (m : Memory) → LeadsTo c h m self.old →
             IsWithinNine c m.beats.heard }
         ensures silent { is_some self.old.beat ≡ true → AcknowledgesNone self.new.said }
+        // So has a marking.
+        ensures marked_nine { (c : Shape) (h : ℕ) (m : Memory) → LeadsTo c h m self.old →
+            IsMarkedWithinNine c m.marking }
+        ensures marks_silently { is_some self.old.marking ≡ true → AcknowledgesNone self.new.said }
     {
-        if self.beat.is_none() {
-            self.hear_attempt(heard);
-        } else {
+        if self.beat.is_some() {
             self.hear_beat(heard);
+        } else if self.marking.is_some() {
+            self.hear_marking(heard);
+        } else {
+            self.hear_attempt(heard);
         }
     }
 
@@ -213,6 +255,7 @@ impl HostCore {
     #[inline(always)]
     fn hear_attempt(&mut self, heard: &Heard<'_>)
         requires resting { self.old.beat ≡ None }
+        requires unmarking { self.old.marking ≡ None }
         requires busy { is_idle self.old ≡ false }
         requires fits { Fits (due_call self.old).1 (heard_of heard.now) }
         ensures leads { (c : Shape) (h : ℕ) (m : Memory) → LeadsTo c h m self.old →
@@ -260,6 +303,38 @@ impl HostCore {
                 let host = self.suggested(&after);
                 self.readings = Some(after);
                 self.said = Some(HostAnswer::Beaten { host });
+            }
+        }
+    }
+
+    // The marking under way hears the answer.
+    #[inline(never)]
+    fn hear_marking(&mut self, heard: &Heard<'_>)
+        requires resting { self.old.beat ≡ None }
+        requires marks { is_some self.old.marking ≡ true }
+        requires fits { Fits (due_call self.old).1 (heard_of heard.now) }
+        ensures leads { (c : Shape) (h : ℕ) (m : Memory) → LeadsTo c h m self.old →
+            LeadsTo c h (hears_from c h m m.doing (due_call self.old).0 (device_answer heard.now)) self.new }
+        ensures nine { (c : Shape) (h : ℕ) (m : Memory) → LeadsTo c h m self.old →
+            IsMarkedWithinNine c m.marking }
+        ensures silent { AcknowledgesNone self.new.said }
+        // No attempt hears it.
+        ensures rests { (c : Shape) (h : ℕ) (m : Memory) → LeadsTo c h m self.old → m.doing ≡ None }
+    {
+        let Some(marking) = &mut self.marking else {
+            return;
+        };
+        marking.hear(heard);
+        match marking.end() {
+            None => self.said = None,
+            Some(marks::End::NoMajority) => {
+                let refusal = Refusal::NoMajority;
+                self.said = Some(HostAnswer::Refused(refusal));
+                self.marking = None;
+            }
+            Some(marks::End::Marked { count }) => {
+                self.said = Some(HostAnswer::Marked { count });
+                self.marking = None;
             }
         }
     }

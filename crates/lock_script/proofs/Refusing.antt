@@ -18,10 +18,10 @@ use Rattle.lock_script.specs.Words.{words_of}
 use Rattle.lock_script.specs.Spelling.{line_words, FitsFirst, FitsBehind}
 use Rattle.lock_script.specs.Script.{events_in, Content, said_lines, IsScript, AreGood}
 use Rattle.lock_script.specs.Reading.{line_at}
-use Rattle.lock_script.specs.Draft.{SoFar, is_on_disk_of, added, read_line, Says}
+use Rattle.lock_script.specs.Draft.{SoFar, is_within, added, read_line, Says}
 use Rattle.lock_script.proofs.Readings.{is_passed}
 use Rattle.lock_script.proofs.Spoken.{FitsLine, line_at-only}
-use Rattle.lock_script.proofs.Saying.{said_more, fits_somewhere, is_on_its_disk}
+use Rattle.lock_script.proofs.Saying.{said_more, fits_somewhere, is_within_it}
 
 -- words spell one line at most
 one_line : (l m : Line) → FitsLine l → FitsLine m → line_words l ≡ line_words m → l ≡ m
@@ -44,12 +44,12 @@ same_front (l ∷ ls) (m ∷ ms) words fit fit_too same =
     (rest.0, is, rest.2)
 
 -- all lines of a script are in their ranges
-all_fit : (shape : Shape) (behind : List Line) → FitsFirst shape → All (FitsBehind shape.disks) behind → All FitsLine (Cluster shape ∷ behind)
+all_fit : (shape : Shape) (behind : List Line) → FitsFirst shape → All (FitsBehind shape) behind → All FitsLine (Cluster shape ∷ behind)
 all_fit shape behind first fits = All-cons FitsLine (Cluster shape) behind first (others behind fits) where
-  others : (lines : List Line) → All (FitsBehind shape.disks) lines → All FitsLine lines
+  others : (lines : List Line) → All (FitsBehind shape) lines → All FitsLine lines
   others [] fits = All-nil FitsLine
   others (l ∷ lines) fits =
-      All-cons FitsLine l lines (fits_somewhere shape.disks l first.disks.1 (All-head (FitsBehind shape.disks) l lines fits)) (others lines (All-tail (FitsBehind shape.disks) l lines fits))
+      All-cons FitsLine l lines (fits_somewhere shape l first.disks.1 first.slots.1 (All-head (FitsBehind shape) l lines fits)) (others lines (All-tail (FitsBehind shape) l lines fits))
 
 -- the last of some lines
 last_fits : (P : Line → Type 0) (lines : List Line) (l : Line) → All P (lines ++ l ∷ []) → P l
@@ -57,13 +57,13 @@ last_fits P [] l all = All-head P l [] all
 last_fits P (m ∷ lines) l all = last_fits P lines l (All-tail P m (lines ++ l ∷ []) all)
 
 -- a line that may stand there is added
-may_add : (shape : Shape) (events : List Event) (shows : List shown.Show) (l : Line) → FitsBehind shape.disks l → length events + length (events_in l) ≤ 1000000
+may_add : (shape : Shape) (events : List Event) (shows : List shown.Show) (l : Line) → FitsBehind shape l → length events + length (events_in l) ≤ 1000000
     → (next : SoFar) × (added (record { shape = Some shape; events = events; shows = shows }) l ≡ Some next)
 may_add shape events shows (Cluster other) fits few = absurd fits
 may_add shape events shows (Once event) fits few =
     let made : SoFar = record { shape = Some shape; events = events ++ event ∷ []; shows = shows } in
     let room : nat_lt (length events) 1000000 ≡ true = lt-ltb (length events) 1000000 (omega arith) in
-    (made, is_passed (nat_lt (length events) 1000000 && is_on_disk_of shape.disks event) made (both_true room (is_on_its_disk shape.disks event fits)))
+    (made, is_passed (nat_lt (length events) 1000000 && is_within shape event) made (both_true room (is_within_it shape event fits)))
 may_add shape events shows (Steps host times) fits few =
     let made : SoFar = record { shape = Some shape; events = events ++ replicate times (Step host); shows = shows } in
     let long = length-replicate times (Step host) in
@@ -97,8 +97,8 @@ module _ (lines : List (List ℕ)) (line : List ℕ) (says : is_passed_over line
       let whole : Cluster content.shape ∷ script.behind ≡ Cluster shape ∷ (so_far.behind ++ l ∷ []) = front.1 in
       let shapes : content.shape ≡ shape = cc in
       let behinds : script.behind ≡ so_far.behind ++ l ∷ [] = cc in
-      let fits_there : All (FitsBehind shape.disks) (so_far.behind ++ l ∷ []) = subst (λ (b : List Line). All (FitsBehind shape.disks) b) behinds (subst (λ (s : Shape). All (FitsBehind s.disks) script.behind) shapes script.fits) in
-      let fits = last_fits (FitsBehind shape.disks) so_far.behind l fits_there in
+      let fits_there : All (FitsBehind shape) (so_far.behind ++ l ∷ []) = subst (λ (b : List Line). All (FitsBehind shape) b) behinds (subst (λ (s : Shape). All (FitsBehind s) script.behind) shapes script.fits) in
+      let fits = last_fits (FitsBehind shape) so_far.behind l fits_there in
       let grown = flat_map-append events_in so_far.behind (l ∷ []) in
       let all : content.events ≡ events ++ (events_in l ++ []) = script.events ∙ ap (flat_map events_in) behinds ∙ grown ∙ ap (λ (e : List Event). e ++ (events_in l ++ [])) (sym so_far.events) in
       let long = ap length all in
@@ -106,7 +106,7 @@ module _ (lines : List (List ℕ)) (line : List ℕ) (says : is_passed_over line
       let alone = ap length (append-nil (events_in l)) in
       let few : length events + length (events_in l) ≤ 1000000 = omega (arith, script.few) in
       let next = may_add shape events shows l fits few in
-      (l, ap line_at front.2 ∙ line_at-only l (fits_somewhere shape.disks l so_far.first.disks.1 fits), next)
+      (l, ap line_at front.2 ∙ line_at-only l (fits_somewhere shape l so_far.first.disks.1 so_far.first.slots.1 fits), next)
 
   -- a line that is not added breaks a rule
   pub refused_breaks : (said : SoFar) → Says lines said → read_line said line ≡ None → AreGood (lines ++ line ∷ []) → ⊥

@@ -5,10 +5,10 @@ use Rattle.std.specs.List.{flat_map}
 use Rattle.std.proofs.lemmas.List.{map-append, length-replicate}
 use Rattle.std.proofs.lemmas.List.Elements.{All-cons, All-nil, All-append, filter-append}
 use Rattle.std.proofs.lemmas.Grind.{flat_map-append}
-use Rattle.torn_block.specs.declared.layout.TheConstants.{DISKS}
+use Rattle.torn_block.specs.declared.layout.TheConstants.{DISKS, SLOTS}
 use Rattle.slot_log.specs.Shape.{Shape}
 use Rattle.lock_script.specs.declared.event.Event.{Event}
-use Rattle.lock_script.specs.declared.event.Event.TheVariants.{Start, Stop, Submit, Recover, Beat, Step, Tear, FailCall, DiskCrash, DiskGone}
+use Rattle.lock_script.specs.declared.event.Event.TheVariants.{Start, Stop, Submit, Recover, Look, Beat, Mark, Step, Tear, FailCall, DiskCrash, DiskGone}
 use Rattle.lock_script.specs.declared.line.Line.{Line}
 use Rattle.lock_script.specs.declared.line.Line.TheVariants.{Cluster, Once, Steps, Show}
 use Rattle.lock_script.specs.declared.show.Show as shown
@@ -17,53 +17,59 @@ use Rattle.lock_script.specs.Words.{words_of}
 use Rattle.lock_script.specs.Spelling.{line_words, FitsEvent, FitsBehind}
 use Rattle.lock_script.specs.Script.{events_in, shows_at, shows_in, Content, said_lines, IsScript, AreGood}
 use Rattle.lock_script.specs.Reading.{line_at}
-use Rattle.lock_script.specs.Draft.{SoFar, is_on_disk_of, added, read_line, Says}
+use Rattle.lock_script.specs.Draft.{SoFar, is_within, added, read_line, Says}
 use Rattle.lock_script.proofs.Readings.{bound, was_passed, both_are}
-use Rattle.lock_script.proofs.Spoken.{FitsLine, Spells, line_at-found}
+use Rattle.lock_script.proofs.Spoken.{FitsLine, largest, Spells, line_at-found}
 
 -- RANGES
 
-on_some_disk : (disks : ℕ) (event : Event) → disks ≤ DISKS → FitsEvent disks event → FitsEvent DISKS event
-on_some_disk disks (Start host) few fits = fits
-on_some_disk disks (Stop host) few fits = fits
-on_some_disk disks (Submit command tries) few fits = fits
-on_some_disk disks (Recover host tries) few fits = fits
-on_some_disk disks (Beat host) few fits = fits
-on_some_disk disks (Step host) few fits = fits
-on_some_disk disks (Tear host given) few fits = fits
-on_some_disk disks (FailCall host given) few fits = fits
-on_some_disk disks (DiskCrash disk given) few fits = (omega (arith, fits.0), fits.1)
-on_some_disk disks (DiskGone disk) few fits = omega arith
+on_some_disk : (c : Shape) (event : Event) → c.disks ≤ DISKS → c.slots ≤ SLOTS → FitsEvent c event → FitsEvent largest event
+on_some_disk c (Start host) few short fits = fits
+on_some_disk c (Stop host) few short fits = fits
+on_some_disk c (Submit command tries) few short fits = fits
+on_some_disk c (Recover host tries) few short fits = fits
+on_some_disk c (Look host) few short fits = fits
+on_some_disk c (Beat host) few short fits = fits
+on_some_disk c (Mark host slot) few short fits = (fits.0, omega (arith, fits.1))
+on_some_disk c (Step host) few short fits = fits
+on_some_disk c (Tear host given) few short fits = fits
+on_some_disk c (FailCall host given) few short fits = fits
+on_some_disk c (DiskCrash disk given) few short fits = (omega (arith, fits.0), fits.1)
+on_some_disk c (DiskGone disk) few short fits = omega arith
 
-on_a_disk_of : (disks : ℕ) (event : Event) → FitsEvent DISKS event → is_on_disk_of disks event ≡ true → FitsEvent disks event
-on_a_disk_of disks (Start host) fits on = fits
-on_a_disk_of disks (Stop host) fits on = fits
-on_a_disk_of disks (Submit command tries) fits on = fits
-on_a_disk_of disks (Recover host tries) fits on = fits
-on_a_disk_of disks (Beat host) fits on = fits
-on_a_disk_of disks (Step host) fits on = fits
-on_a_disk_of disks (Tear host given) fits on = fits
-on_a_disk_of disks (FailCall host given) fits on = fits
-on_a_disk_of disks (DiskCrash disk given) fits on = (ltb-true disk disks on, fits.1)
-on_a_disk_of disks (DiskGone disk) fits on = ltb-true disk disks on
+fits_within : (c : Shape) (event : Event) → FitsEvent largest event → is_within c event ≡ true → FitsEvent c event
+fits_within c (Start host) fits on = fits
+fits_within c (Stop host) fits on = fits
+fits_within c (Submit command tries) fits on = fits
+fits_within c (Recover host tries) fits on = fits
+fits_within c (Look host) fits on = fits
+fits_within c (Beat host) fits on = fits
+fits_within c (Mark host slot) fits on = (fits.0, ltb-true slot c.slots on)
+fits_within c (Step host) fits on = fits
+fits_within c (Tear host given) fits on = fits
+fits_within c (FailCall host given) fits on = fits
+fits_within c (DiskCrash disk given) fits on = (ltb-true disk c.disks on, fits.1)
+fits_within c (DiskGone disk) fits on = ltb-true disk c.disks on
 
-pub is_on_its_disk : (disks : ℕ) (event : Event) → FitsEvent disks event → is_on_disk_of disks event ≡ true
-is_on_its_disk disks (Start host) fits = refl
-is_on_its_disk disks (Stop host) fits = refl
-is_on_its_disk disks (Submit command tries) fits = refl
-is_on_its_disk disks (Recover host tries) fits = refl
-is_on_its_disk disks (Beat host) fits = refl
-is_on_its_disk disks (Step host) fits = refl
-is_on_its_disk disks (Tear host given) fits = refl
-is_on_its_disk disks (FailCall host given) fits = refl
-is_on_its_disk disks (DiskCrash disk given) fits = lt-ltb disk disks fits.0
-is_on_its_disk disks (DiskGone disk) fits = lt-ltb disk disks fits
+pub is_within_it : (c : Shape) (event : Event) → FitsEvent c event → is_within c event ≡ true
+is_within_it c (Start host) fits = refl
+is_within_it c (Stop host) fits = refl
+is_within_it c (Submit command tries) fits = refl
+is_within_it c (Recover host tries) fits = refl
+is_within_it c (Look host) fits = refl
+is_within_it c (Beat host) fits = refl
+is_within_it c (Mark host slot) fits = lt-ltb slot c.slots fits.1
+is_within_it c (Step host) fits = refl
+is_within_it c (Tear host given) fits = refl
+is_within_it c (FailCall host given) fits = refl
+is_within_it c (DiskCrash disk given) fits = lt-ltb disk c.disks fits.0
+is_within_it c (DiskGone disk) fits = lt-ltb disk c.disks fits
 
-pub fits_somewhere : (disks : ℕ) (line : Line) → disks ≤ DISKS → FitsBehind disks line → FitsLine line
-fits_somewhere disks (Cluster shape) few fits = absurd fits
-fits_somewhere disks (Once event) few fits = on_some_disk disks event few fits
-fits_somewhere disks (Steps host times) few fits = fits
-fits_somewhere disks (Show view host) few fits = fits
+pub fits_somewhere : (c : Shape) (line : Line) → c.disks ≤ DISKS → c.slots ≤ SLOTS → FitsBehind c line → FitsLine line
+fits_somewhere c (Cluster shape) few short fits = absurd fits
+fits_somewhere c (Once event) few short fits = on_some_disk c event few short fits
+fits_somewhere c (Steps host times) few short fits = fits
+fits_somewhere c (Show view host) few short fits = fits
 
 -- LINES
 
@@ -93,7 +99,7 @@ shows_in-push place (first ∷ lines) line =
     ∙ sym (append_assoc (shows_at place first) behind (shows_at (place + length (events_in first ++ flat_map events_in lines)) line))
 
 -- a script and one line more
-longer : (lines : List (List ℕ)) (content : Content) (line : List ℕ) (l : Line) → is_passed_over line ≡ false → IsScript lines content → Spells (words_of line) l → FitsBehind content.shape.disks l
+longer : (lines : List (List ℕ)) (content : Content) (line : List ℕ) (l : Line) → is_passed_over line ≡ false → IsScript lines content → Spells (words_of line) l → FitsBehind content.shape l
     → length (content.events ++ events_in l) ≤ 1000000
     → IsScript (lines ++ line ∷ []) (record { shape = content.shape; events = content.events ++ events_in l; shows = content.shows ++ shows_at (length content.events) l })
 longer lines content line l says script spells fits few =
@@ -105,7 +111,7 @@ longer lines content line l says script spells fits few =
           ∙ ap (λ w. w ++ words_of line ∷ []) script.words ∙ ap (λ w. front ++ w ∷ []) spells.words_are
           ∙ ap (λ w. line_words (Cluster content.shape) ∷ w) (sym (map-append line_words script.behind (l ∷ [])));
       first = script.first;
-      fits = All-append (FitsBehind content.shape.disks) script.behind (l ∷ []) script.fits (All-cons (FitsBehind content.shape.disks) l [] fits (All-nil (FitsBehind content.shape.disks)));
+      fits = All-append (FitsBehind content.shape) script.behind (l ∷ []) script.fits (All-cons (FitsBehind content.shape) l [] fits (All-nil (FitsBehind content.shape)));
       events =
           ap (λ e. e ++ events_in l) script.events ∙ ap (λ e. flat_map events_in script.behind ++ e) (sym (append-nil (events_in l)))
           ∙ sym (flat_map-append events_in script.behind (l ∷ []));
@@ -125,7 +131,7 @@ opened lines line shape says none spells =
       behind = [];
       words = ap (map words_of) (said_more lines line says) ∙ ap (λ (s : List (List ℕ)). map words_of (s ++ line ∷ [])) none ∙ ap (λ w. w ∷ []) spells.words_are;
       first = spells.fits;
-      fits = All-nil (FitsBehind shape.disks);
+      fits = All-nil (FitsBehind shape);
       events = refl;
       few = omega arith;
       shows = refl;
@@ -149,12 +155,12 @@ module _ (lines : List (List ℕ)) (line : List ℕ) (says : is_passed_over line
   next_added shape events shows (Cluster other) next script spells h = absurd (cc)
   next_added shape events shows (Once event) next script spells h =
       let made : SoFar = record { shape = Some shape; events = events ++ event ∷ []; shows = shows } in
-      let p = was_passed (nat_lt (length events) 1000000 && is_on_disk_of shape.disks event) made next h in
-      let tests = both_are (nat_lt (length events) 1000000) (is_on_disk_of shape.disks event) p.0 in
+      let p = was_passed (nat_lt (length events) 1000000 && is_within shape event) made next h in
+      let tests = both_are (nat_lt (length events) 1000000) (is_within shape event) p.0 in
       let room = ltb-true (length events) 1000000 tests.0 in
       let grown = length-append events (event ∷ []) in
       let few : length (events ++ event ∷ []) ≤ 1000000 = omega arith in
-      let more = longer lines (record { shape = shape; events = events; shows = shows }) line (Once event) says script spells (on_a_disk_of shape.disks event spells.fits tests.1) few in
+      let more = longer lines (record { shape = shape; events = events; shows = shows }) line (Once event) says script spells (fits_within shape event spells.fits tests.1) few in
       subst (Says (lines ++ line ∷ [])) p.1 (subst (λ (s : List shown.Show). IsScript (lines ++ line ∷ []) (record { shape = shape; events = events ++ event ∷ []; shows = s })) (append-nil shows) more)
   next_added shape events shows (Steps host times) next script spells h =
       let made : SoFar = record { shape = Some shape; events = events ++ replicate times (Step host); shows = shows } in

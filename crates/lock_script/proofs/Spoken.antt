@@ -1,29 +1,34 @@
 -- Words are read as a line exactly where they spell it.
 use Rattle.std.proofs.Common.{◌≡◌, ◌<◌, ◌∙◌, inl, inr, ℕ, List, [], ◌∷◌, Option, Some, arith, refl, sym, ap, subst}
 use Rattle.std.specs.Prelude.{codes, decimal}
-use Rattle.torn_block.specs.declared.layout.TheConstants.{DISKS}
+use Rattle.torn_block.specs.declared.layout.TheConstants.{DISKS, SLOTS}
+use Rattle.slot_log.specs.Shape.{Shape}
 use Rattle.lock_command.specs.declared.command.Command.{Command}
 use Rattle.lock_command.specs.Command.{Fits as FitsCommand}
 use Rattle.lock_command.specs.Reading.{◌>>=◌}
-use Rattle.lock_script.specs.declared.event.Event.TheVariants.{Start, Stop, Submit, Recover, Beat, Step, Tear, FailCall, DiskCrash, DiskGone}
+use Rattle.lock_script.specs.declared.event.Event.TheVariants.{Start, Stop, Submit, Recover, Look, Beat, Mark, Step, Tear, FailCall, DiskCrash, DiskGone}
 use Rattle.lock_script.specs.declared.line.Line.{Line}
 use Rattle.lock_script.specs.declared.show.View.{View}
 use Rattle.lock_script.specs.declared.show.View.TheVariants.{Queues, Blocking}
 use Rattle.lock_script.specs.declared.line.Line.TheVariants.{Cluster, Once, Steps, Show}
 use Rattle.lock_script.specs.Words.{first_word, words_behind, last_word}
-use Rattle.lock_script.specs.Reading.{number_in, host_of, disk_of, tries_of, times_of, given_of, command_at, cluster_at, submit_at, recover_at, step_at, tear_at, fail_at, crash_at, plain_at, show_at, said_at, line_at}
+use Rattle.lock_script.specs.Reading.{number_in, host_of, disk_of, slot_of, tries_of, times_of, given_of, command_at, cluster_at, submit_at, recover_at, mark_at, step_at, tear_at, fail_at, crash_at, plain_at, show_at, said_at, line_at}
 use Rattle.lock_script.specs.Spelling.{hex_word, command_words, view_word, line_words, IsTries, FitsEvent, FitsFirst, FitsBehind}
 use Rattle.lock_script.proofs.Readings.{bound, picked, one_read}
 use Rattle.lock_script.proofs.Numbers.{number_in-found, number_in-only}
 use Rattle.lock_script.proofs.Givens.{given_of-found, given_of-only}
 use Rattle.lock_script.proofs.Commands.{nothing, command_at-found, command_at-only}
 
+-- the largest cluster
+abbrev pub largest : Shape
+largest = record { disks = DISKS; slots = SLOTS }
+
 -- the numbers of a line are in their ranges, whatever the cluster
 abbrev pub FitsLine : Line → Type 0
 FitsLine (Cluster shape) = FitsFirst shape
-FitsLine (Once event) = FitsEvent DISKS event
-FitsLine (Steps host times) = FitsBehind DISKS (Steps host times)
-FitsLine (Show view host) = FitsBehind DISKS (Show view host)
+FitsLine (Once event) = FitsEvent largest event
+FitsLine (Steps host times) = FitsBehind largest (Steps host times)
+FitsLine (Show view host) = FitsBehind largest (Show view host)
 
 -- words that spell this line
 pub record Spells (words : List (List ℕ)) (line : Line) : Type 0 where
@@ -169,6 +174,17 @@ gone_found kind words line named h =
     let is : kind ∷ words ≡ codes "gone" ∷ decimal disk.0 ∷ [] = cc (named, one.words_are, d.spelled) in
     subst (Spells (kind ∷ words)) e (record { words_are = is; fits = range })
 
+mark_found : (kind : List ℕ) (words : List (List ℕ)) (line : Line) → kind ≡ codes "mark" → mark_at words ≡ Some line → Spells (kind ∷ words) line
+unfolding mark_at
+mark_found kind words line named h =
+    let r = two_read host_of slot_of (λ x y. Once (Mark x y)) words line h in
+    let d = number_in-found 0 7 r.first r.a r.reads in
+    let s = number_in-found 0 4095 r.second r.b r.then_reads in
+    let host : r.a < 8 = omega (arith, d.high) in
+    let slot : r.b < 4096 = omega (arith, s.high) in
+    let is : kind ∷ words ≡ codes "mark" ∷ decimal r.a ∷ decimal r.b ∷ [] = cc (named, r.words_are, d.spelled, s.spelled) in
+    subst (Spells (kind ∷ words)) r.made (record { words_are = is; fits = (host, slot) })
+
 show_found : (view : View) (kind : List ℕ) (words : List (List ℕ)) (line : Line) → kind ≡ view_word view → show_at view words ≡ Some line → Spells (kind ∷ words) line
 unfolding show_at
 show_found view kind words line named h = host_alone kind words (Show view) line (λ host. (ap (λ w. w ∷ decimal host ∷ []) (sym named), λ fits. fits)) h
@@ -182,21 +198,27 @@ plain_found kind words line h =
         | inl p ↦ submit_found kind words line p.0 p.1
         | inr other ↦ elim (picked kind (codes "recover") _ _ line other) [
           | inl p ↦ recover_found kind words line p.0 p.1
-          | inr other ↦ elim (picked kind (codes "beat") _ _ line other) [
-            | inl p ↦ host_alone kind words (λ host. Once (Beat host)) line (λ host. (ap (λ w. w ∷ decimal host ∷ []) (sym p.0), λ fits. fits)) p.1
-            | inr other ↦ elim (picked kind (codes "start") _ _ line other) [
-              | inl p ↦ host_alone kind words (λ host. Once (Start host)) line (λ host. (ap (λ w. w ∷ decimal host ∷ []) (sym p.0), λ fits. fits)) p.1
-              | inr other ↦ elim (picked kind (codes "stop") _ _ line other) [
-                | inl p ↦ host_alone kind words (λ host. Once (Stop host)) line (λ host. (ap (λ w. w ∷ decimal host ∷ []) (sym p.0), λ fits. fits)) p.1
-                | inr other ↦ elim (picked kind (codes "gone") _ _ line other) [
-                  | inl p ↦ gone_found kind words line p.0 p.1
-                  | inr other ↦ elim (picked kind (codes "show") _ _ line other) [
-                    | inl p ↦ show_found Queues kind words line p.0 p.1
-                    | inr other ↦ elim (picked kind (codes "blocking") _ _ line other) [
-                      | inl p ↦ show_found Blocking kind words line p.0 p.1
-                      | inr other ↦ elim (picked kind (codes "cluster") _ _ line other) [
-                        | inl p ↦ cluster_found kind words line p.0 p.1
-                        | inr other ↦ absurd (cc)
+          | inr other ↦ elim (picked kind (codes "look") _ _ line other) [
+            | inl p ↦ host_alone kind words (λ host. Once (Look host)) line (λ host. (ap (λ w. w ∷ decimal host ∷ []) (sym p.0), λ fits. fits)) p.1
+            | inr other ↦ elim (picked kind (codes "beat") _ _ line other) [
+              | inl p ↦ host_alone kind words (λ host. Once (Beat host)) line (λ host. (ap (λ w. w ∷ decimal host ∷ []) (sym p.0), λ fits. fits)) p.1
+              | inr other ↦ elim (picked kind (codes "mark") _ _ line other) [
+                | inl p ↦ mark_found kind words line p.0 p.1
+                | inr other ↦ elim (picked kind (codes "start") _ _ line other) [
+                  | inl p ↦ host_alone kind words (λ host. Once (Start host)) line (λ host. (ap (λ w. w ∷ decimal host ∷ []) (sym p.0), λ fits. fits)) p.1
+                  | inr other ↦ elim (picked kind (codes "stop") _ _ line other) [
+                    | inl p ↦ host_alone kind words (λ host. Once (Stop host)) line (λ host. (ap (λ w. w ∷ decimal host ∷ []) (sym p.0), λ fits. fits)) p.1
+                    | inr other ↦ elim (picked kind (codes "gone") _ _ line other) [
+                      | inl p ↦ gone_found kind words line p.0 p.1
+                      | inr other ↦ elim (picked kind (codes "show") _ _ line other) [
+                        | inl p ↦ show_found Queues kind words line p.0 p.1
+                        | inr other ↦ elim (picked kind (codes "blocking") _ _ line other) [
+                          | inl p ↦ show_found Blocking kind words line p.0 p.1
+                          | inr other ↦ elim (picked kind (codes "cluster") _ _ line other) [
+                            | inl p ↦ cluster_found kind words line p.0 p.1
+                            | inr other ↦ absurd (cc)
+                          ]
+                        ]
                       ]
                     ]
                   ]
@@ -229,11 +251,14 @@ host_of-only host small = number_in-only 0 7 host (omega arith) (omega arith) (o
 disk_of-only : (disk : ℕ) → disk < 7 → disk_of (decimal disk) ≡ Some disk
 disk_of-only disk small = number_in-only 0 6 disk (omega arith) (omega arith) (omega arith)
 
+slot_of-only : (slot : ℕ) → slot < 4096 → slot_of (decimal slot) ≡ Some slot
+slot_of-only slot small = number_in-only 0 4095 slot (omega arith) (omega arith) (omega arith)
+
 tries_of-only : (tries : ℕ) → IsTries tries → tries_of (decimal tries) ≡ Some tries
 tries_of-only tries is = number_in-only 1 255 tries is.0 is.1 (omega (arith, is.1))
 
 pub line_at-only : (line : Line) → FitsLine line → line_at (line_words line) ≡ Some line
-unfolding line_at said_at plain_at show_at cluster_at submit_at recover_at step_at tear_at fail_at crash_at
+unfolding line_at said_at plain_at show_at cluster_at submit_at recover_at mark_at step_at tear_at fail_at crash_at
 line_at-only (Cluster shape) fits =
     two_spelled (number_in 1 7) (number_in 1 4096) (λ d s. Cluster (record { disks = d; slots = s })) (decimal shape.disks) (decimal shape.slots) shape.disks shape.slots
     (number_in-only 1 7 shape.disks fits.disks.0 fits.disks.1 (omega (arith, fits.disks.1)))
@@ -246,7 +271,10 @@ line_at-only (Once (Submit command tries)) fits =
     ∙ ap (λ (found : Option Command). found >>= λ c. Some (Once (Submit c tries))) (command_at-only command fits.0)
 line_at-only (Once (Recover host tries)) fits =
     two_spelled host_of tries_of (λ h t. Once (Recover h t)) (decimal host) (decimal tries) host tries (host_of-only host fits.0) (tries_of-only tries fits.1)
+line_at-only (Once (Look host)) fits = ap (λ (found : Option ℕ). found >>= λ h. Some (Once (Look h))) (host_of-only host fits)
 line_at-only (Once (Beat host)) fits = ap (λ (found : Option ℕ). found >>= λ h. Some (Once (Beat h))) (host_of-only host fits)
+line_at-only (Once (Mark host slot)) fits =
+    two_spelled host_of slot_of (λ h s. Once (Mark h s)) (decimal host) (decimal slot) host slot (host_of-only host fits.0) (slot_of-only slot fits.1)
 line_at-only (Once (Step host)) fits = ap (λ (found : Option ℕ). found >>= λ h. Some (Once (Step h))) (host_of-only host fits)
 line_at-only (Once (Tear host given)) fits =
     two_spelled host_of given_of (λ h g. Once (Tear h g)) (decimal host) (hex_word given) host given (host_of-only host fits.0) (given_of-only given fits.1)

@@ -4,7 +4,7 @@ use Rattle.std.specs.Option.{is_none}
 use Rattle.slot_log.specs.Shape.{Shape}
 use Rattle.lock_command.specs.Reading.{◌>>=◌, passed}
 use Rattle.lock_script.specs.declared.event.Event.{Event}
-use Rattle.lock_script.specs.declared.event.Event.TheVariants.{Start, Stop, Submit, Recover, Beat, Step, Tear, FailCall, DiskCrash, DiskGone}
+use Rattle.lock_script.specs.declared.event.Event.TheVariants.{Start, Stop, Submit, Recover, Look, Beat, Mark, Step, Tear, FailCall, DiskCrash, DiskGone}
 use Rattle.lock_script.specs.declared.line.Line.{Line}
 use Rattle.lock_script.specs.declared.line.Line.TheVariants.{Cluster, Once, Steps, Show}
 use Rattle.lock_script.specs.declared.show.Show as shown
@@ -22,25 +22,27 @@ pub record SoFar : Type 0 where
 abbrev pub so_far : Draft → SoFar
 so_far draft = record { shape = draft.config; events = draft.events; shows = draft.shows.items }
 
--- whether the event's disk, where it names one, is one of so many
-abbrev pub is_on_disk_of : ℕ → Event → Bool
-is_on_disk_of disks (Start host) = true
-is_on_disk_of disks (Stop host) = true
-is_on_disk_of disks (Submit command tries) = true
-is_on_disk_of disks (Recover host tries) = true
-is_on_disk_of disks (Beat host) = true
-is_on_disk_of disks (Step host) = true
-is_on_disk_of disks (Tear host given) = true
-is_on_disk_of disks (FailCall host given) = true
-is_on_disk_of disks (DiskCrash disk given) = nat_lt disk disks
-is_on_disk_of disks (DiskGone disk) = nat_lt disk disks
+-- whether the event's disk or slot, where it names one, is one of the cluster's
+abbrev pub is_within : Shape → Event → Bool
+is_within c (Start host) = true
+is_within c (Stop host) = true
+is_within c (Submit command tries) = true
+is_within c (Recover host tries) = true
+is_within c (Look host) = true
+is_within c (Beat host) = true
+is_within c (Mark host slot) = nat_lt slot c.slots
+is_within c (Step host) = true
+is_within c (Tear host given) = true
+is_within c (FailCall host given) = true
+is_within c (DiskCrash disk given) = nat_lt disk c.disks
+is_within c (DiskGone disk) = nat_lt disk c.disks
 
 -- one line more, if it may stand there
 abbrev pub added : SoFar → Line → Option SoFar
 added said (Cluster shape) = passed (is_none said.shape) (record said { shape = Some shape })
 added said (Once event) = do
   shape ← said.shape
-  passed (nat_lt (length said.events) 1000000 && is_on_disk_of shape.disks event) (record said { events = said.events ++ event ∷ [] })
+  passed (nat_lt (length said.events) 1000000 && is_within shape event) (record said { events = said.events ++ event ∷ [] })
 added said (Steps host times) = do
   shape ← said.shape
   passed (nat_le (length said.events + times) 1000000) (record said { events = said.events ++ replicate times (Step host) })

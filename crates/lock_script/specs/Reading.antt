@@ -9,7 +9,7 @@ use Rattle.lock_command.specs.declared.command.Command.{Command}
 use Rattle.lock_command.specs.declared.command.Action.{Action}
 use Rattle.lock_command.specs.declared.command.Action.TheVariants.{Enqueue, Convert, Release, Cancel, Status, Purge}
 use Rattle.lock_command.specs.Reading.{◌>>=◌, passed, name_of}
-use Rattle.lock_script.specs.declared.event.Event.TheVariants.{Start, Stop, Submit, Recover, Beat, Step, Tear, FailCall, DiskCrash, DiskGone}
+use Rattle.lock_script.specs.declared.event.Event.TheVariants.{Start, Stop, Submit, Recover, Look, Beat, Mark, Step, Tear, FailCall, DiskCrash, DiskGone}
 use Rattle.lock_script.specs.declared.line.Line.{Line}
 use Rattle.lock_script.specs.declared.show.View.{View}
 use Rattle.lock_script.specs.declared.show.View.TheVariants.{Queues, Blocking}
@@ -41,6 +41,9 @@ host_of = number_in 0 7
 
 abbrev pub disk_of : List ℕ → Option ℕ
 disk_of = number_in 0 6
+
+abbrev pub slot_of : List ℕ → Option ℕ
+slot_of = number_in 0 4095
 
 abbrev pub tries_of : List ℕ → Option ℕ
 tries_of = number_in 1 255
@@ -195,6 +198,12 @@ crash_at words = do
   given ← last_given (words_behind words)
   Some (Once (DiskCrash disk given))
 
+unfoldable pub mark_at : List (List ℕ) → Option Line
+mark_at words = do
+  host ← next_host words
+  slot ← last_word (words_behind words) >>= slot_of
+  Some (Once (Mark host slot))
+
 unfoldable pub show_at : View → List (List ℕ) → Option Line
 show_at view words = do
   host ← last_word words >>= host_of
@@ -206,7 +215,9 @@ plain_at kind words =
     if bytes_eq kind (codes "step") then step_at words
     else if bytes_eq kind (codes "submit") then submit_at words
     else if bytes_eq kind (codes "recover") then recover_at words
+    else if bytes_eq kind (codes "look") then (do host ← last_word words >>= host_of; Some (Once (Look host)))
     else if bytes_eq kind (codes "beat") then (do host ← last_word words >>= host_of; Some (Once (Beat host)))
+    else if bytes_eq kind (codes "mark") then mark_at words
     else if bytes_eq kind (codes "start") then (do host ← last_word words >>= host_of; Some (Once (Start host)))
     else if bytes_eq kind (codes "stop") then (do host ← last_word words >>= host_of; Some (Once (Stop host)))
     else if bytes_eq kind (codes "gone") then (do disk ← last_word words >>= disk_of; Some (Once (DiskGone disk)))

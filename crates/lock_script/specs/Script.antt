@@ -49,7 +49,7 @@ pub record IsScript (lines : List (List ℕ)) (content : Content) : Type 0 where
   pub behind : List Line
   pub words : map words_of (said_lines lines) ≡ map line_words (Cluster content.shape ∷ behind)
   pub first : FitsFirst content.shape
-  pub fits : All (FitsBehind content.shape.disks) behind
+  pub fits : All (FitsBehind content.shape) behind
   pub events : content.events ≡ flat_map events_in behind
   pub few : length content.events ≤ 1000000
   pub shows : content.shows ≡ shows_in 0 behind

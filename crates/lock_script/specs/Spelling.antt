@@ -10,7 +10,7 @@ use Rattle.lock_command.specs.declared.command.Action.TheVariants.{Enqueue, Conv
 use Rattle.lock_command.specs.Command.{Fits as FitsCommand}
 use Rattle.slot_log.specs.Shape.{Shape}
 use Rattle.lock_script.specs.declared.event.Event.{Event}
-use Rattle.lock_script.specs.declared.event.Event.TheVariants.{Start, Stop, Submit, Recover, Beat, Step, Tear, FailCall, DiskCrash, DiskGone}
+use Rattle.lock_script.specs.declared.event.Event.TheVariants.{Start, Stop, Submit, Recover, Look, Beat, Mark, Step, Tear, FailCall, DiskCrash, DiskGone}
 use Rattle.lock_script.specs.declared.line.Line.{Line}
 use Rattle.lock_script.specs.declared.show.View.{View}
 use Rattle.lock_script.specs.declared.show.View.TheVariants.{Queues, Blocking}
@@ -71,7 +71,9 @@ event_words (Start host) = codes "start" ∷ decimal host ∷ []
 event_words (Stop host) = codes "stop" ∷ decimal host ∷ []
 event_words (Submit command tries) = codes "submit" ∷ decimal command.host ∷ decimal tries ∷ command_words command
 event_words (Recover host tries) = codes "recover" ∷ decimal host ∷ decimal tries ∷ []
+event_words (Look host) = codes "look" ∷ decimal host ∷ []
 event_words (Beat host) = codes "beat" ∷ decimal host ∷ []
+event_words (Mark host slot) = codes "mark" ∷ decimal host ∷ decimal slot ∷ []
 event_words (Step host) = codes "step" ∷ decimal host ∷ []
 event_words (Tear host given) = codes "tear" ∷ decimal host ∷ hex_word given ∷ []
 event_words (FailCall host given) = codes "fail" ∷ decimal host ∷ hex_word given ∷ []
@@ -87,18 +89,20 @@ pub record AreGiven (given : List ℕ) : Type 0 where
 abbrev pub IsTries : ℕ → Type 0
 IsTries tries = (1 ≤ tries) × (tries ≤ 255)
 
--- the numbers of an event are in their ranges, in a cluster of so many disks
-abbrev pub FitsEvent : ℕ → Event → Type 0
-FitsEvent disks (Start host) = host < HOSTS
-FitsEvent disks (Stop host) = host < HOSTS
-FitsEvent disks (Submit command tries) = FitsCommand command × IsTries tries
-FitsEvent disks (Recover host tries) = (host < HOSTS) × IsTries tries
-FitsEvent disks (Beat host) = host < HOSTS
-FitsEvent disks (Step host) = host < HOSTS
-FitsEvent disks (Tear host given) = (host < HOSTS) × AreGiven given
-FitsEvent disks (FailCall host given) = (host < HOSTS) × AreGiven given
-FitsEvent disks (DiskCrash disk given) = (disk < disks) × AreGiven given
-FitsEvent disks (DiskGone disk) = disk < disks
+-- the numbers of an event are in their ranges, in a cluster of this shape
+abbrev pub FitsEvent : Shape → Event → Type 0
+FitsEvent c (Start host) = host < HOSTS
+FitsEvent c (Stop host) = host < HOSTS
+FitsEvent c (Submit command tries) = FitsCommand command × IsTries tries
+FitsEvent c (Recover host tries) = (host < HOSTS) × IsTries tries
+FitsEvent c (Look host) = host < HOSTS
+FitsEvent c (Beat host) = host < HOSTS
+FitsEvent c (Mark host slot) = (host < HOSTS) × (slot < c.slots)
+FitsEvent c (Step host) = host < HOSTS
+FitsEvent c (Tear host given) = (host < HOSTS) × AreGiven given
+FitsEvent c (FailCall host given) = (host < HOSTS) × AreGiven given
+FitsEvent c (DiskCrash disk given) = (disk < c.disks) × AreGiven given
+FitsEvent c (DiskGone disk) = disk < c.disks
 
 -- LINES
 
@@ -118,9 +122,9 @@ pub record FitsFirst (shape : Shape) : Type 0 where
   pub disks : (1 ≤ shape.disks) × (shape.disks ≤ DISKS)
   pub slots : (1 ≤ shape.slots) × (shape.slots ≤ SLOTS)
 
--- a line that may stand behind the first, in a cluster of so many disks
-abbrev pub FitsBehind : ℕ → Line → Type 0
-FitsBehind disks (Cluster shape) = ⊥
-FitsBehind disks (Once event) = FitsEvent disks event
-FitsBehind disks (Steps host times) = (host < HOSTS) × (1 ≤ times) × (times ≤ 100000)
-FitsBehind disks (Show view host) = host < HOSTS
+-- a line that may stand behind the first, in a cluster of this shape
+abbrev pub FitsBehind : Shape → Line → Type 0
+FitsBehind c (Cluster shape) = ⊥
+FitsBehind c (Once event) = FitsEvent c event
+FitsBehind c (Steps host times) = (host < HOSTS) × (1 ≤ times) × (times ≤ 100000)
+FitsBehind c (Show view host) = host < HOSTS

@@ -1,5 +1,5 @@
 ghost use Rattle.std.specs.Prelude.{◌≡◌, OnOk, Some, None};
-ghost use Rattle.lock_script.specs.Draft.{is_on_disk_of};
+ghost use Rattle.lock_script.specs.Draft.{is_within};
 ghost use Rattle.lock_script.specs.Faults.{fault_at};
 
 use crate::event::Event;
@@ -104,7 +104,7 @@ impl Draft {
         let Some(config) = self.config else {
             return Err(LineFault::Bad);
         };
-        if self.events.len() >= MOST_EVENTS || !is_on_disk_of(config, &event) {
+        if self.events.len() >= MOST_EVENTS || !is_within(config, &event) {
             return Err(LineFault::Bad);
         }
         self.events.push(event, 1)?;
@@ -141,12 +141,13 @@ impl Draft {
     }
 }
 
-/// Whether the event's disk, where it names one, is one of the cluster's.
-fn is_on_disk_of(config: Config, event: &Event) -> bool
-    ensures { result ≡ is_on_disk_of config.disks event.now }
+/// Whether the event's disk or slot, where it names one, is one of the cluster's.
+fn is_within(config: Config, event: &Event) -> bool
+    ensures { result ≡ is_within config event.now }
 {
     match event {
         Event::DiskCrash { disk, .. } | Event::DiskGone(disk) => *disk < config.disks(),
+        Event::Mark { slot, .. } => *slot < config.slots(),
         _ => true,
     }
 }

@@ -15,8 +15,12 @@ pub enum Event {
     Submit { command: Command, tries: u8 },
     /// An idle host begins to learn all that is in the log.
     Recover { host: HostNumber, tries: u8 },
+    /// An idle host begins to learn what marks tell, and writes nothing.
+    Look(HostNumber),
     /// An idle host begins to write its next heartbeat and to read those of all hosts.
     Beat(HostNumber),
+    /// An idle host begins to mark a slot of the log.
+    Mark { host: HostNumber, slot: u16 },
     /// A busy host makes its next device call, which does not fail.
     Step(HostNumber),
     /// A busy host stops within its next call, if that is a write: its range takes the given bytes.
@@ -45,7 +49,12 @@ impl Event {
                 host: *host,
                 tries: *tries,
             },
+            Event::Look(host) => Event::Look(*host),
             Event::Beat(host) => Event::Beat(*host),
+            Event::Mark { host, slot } => Event::Mark {
+                host: *host,
+                slot: *slot,
+            },
             Event::Step(host) => Event::Step(*host),
             Event::Tear { host, given } => Event::Tear {
                 host: *host,

@@ -1,15 +1,18 @@
 ghost use Rattle.std.specs.Prelude.{◌≡◌};
-ghost use Rattle.lock_script.specs.Reading.{host_of, disk_of, tries_of, times_of, client_of, request_of, lock_of};
+ghost use Rattle.lock_script.specs.Reading.{host_of, disk_of, slot_of, tries_of, times_of, client_of, request_of, lock_of};
 
 use crate::number::number_in;
 use lock_command::{ClientNumber, HOSTS, HostNumber, LockNumber, RequestNumber};
-use torn_block::DISKS;
+use torn_block::{DISKS, SLOTS};
 
 /// Hosts are numbered from 0.
 const LAST_HOST: u64 = HOSTS as u64 - 1;
 
 /// Disks are, too. No cluster has one with a higher number.
 const LAST_DISK: u64 = DISKS as u64 - 1;
+
+/// So are slots. No log has one with a higher number.
+const LAST_SLOT: u64 = SLOTS as u64 - 1;
 
 /// The most steps that one line asks for.
 const MOST_STEPS: u64 = 100_000;
@@ -26,6 +29,13 @@ pub fn disk_of(word: &[u8]) -> Option<u8>
     ensures { result ≡ disk_of word.now }
 {
     Some(number_in(word, 0, LAST_DISK)? as u8)
+}
+
+/// The number of a slot, 0 to 4095. Whether the log has that slot is not looked at.
+pub fn slot_of(word: &[u8]) -> Option<u16>
+    ensures { result ≡ slot_of word.now }
+{
+    Some(number_in(word, 0, LAST_SLOT)? as u16)
 }
 
 /// How many attempts may be outrun.

@@ -6,7 +6,7 @@ use crate::bytes::is;
 use crate::command_words::command_at;
 use crate::digits::given_of;
 use crate::event::Event;
-use crate::fields::{disk_of, host_of, times_of, tries_of};
+use crate::fields::{disk_of, host_of, slot_of, times_of, tries_of};
 use crate::given::Given;
 use crate::number::number_in;
 use crate::show::View;
@@ -62,8 +62,12 @@ fn plain_at(kind: &[u8], words: &mut Words<'_>) -> Option<Line>
         submit_at(words)
     } else if is(kind, b"recover") {
         recover_at(words)
+    } else if is(kind, b"look") {
+        Some(Line::Once(Event::Look(host_of(words.last()?)?)))
     } else if is(kind, b"beat") {
         Some(Line::Once(Event::Beat(host_of(words.last()?)?)))
+    } else if is(kind, b"mark") {
+        mark_at(words)
     } else if is(kind, b"start") {
         Some(Line::Once(Event::Start(host_of(words.last()?)?)))
     } else if is(kind, b"stop") {
@@ -107,6 +111,15 @@ fn recover_at(words: &mut Words<'_>) -> Option<Line>
     let host = next_host(words)?;
     let tries = tries_of(words.last()?)?;
     Some(Line::Once(Event::Recover { host, tries }))
+}
+
+#[tactic(auto, unfolding(crate::specs::Reading::mark_at))]
+fn mark_at(words: &mut Words<'_>) -> Option<Line>
+    ensures { result ≡ Read.mark_at words.old }
+{
+    let host = next_host(words)?;
+    let slot = slot_of(words.last()?)?;
+    Some(Line::Once(Event::Mark { host, slot }))
 }
 
 #[tactic(auto, unfolding(crate::specs::Reading::step_at))]

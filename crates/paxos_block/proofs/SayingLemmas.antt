@@ -1,6 +1,6 @@
 -- A body is read as what it was written to say, and what is read is spelled so.
 use Rattle.std.specs.Prelude.{◌≡◌, ◌≢◌, ◌==◌, ◌&&◌, ◌+◌, ◌-◌, ◌≤◌, ◌<◌, ◌^◌, ◌++◌, ℕ, Bool, true, false, List, [], ◌∷◌, length, take, drop, slice_index, Option, Some, None, is_some, IfSome, nat_eq, nat_le, if◌then◌else◌}
-use Rattle.std.proofs.Common.{zero, suc, refl, sym, ap, ◌∙◌, subst, arith, inl, inr, length-drop}
+use Rattle.std.proofs.Common.{true≢false, zero, suc, refl, sym, ap, ◌∙◌, subst, arith, inl, inr, length-drop}
 use Rattle.std.specs.List.{list_all}
 use Rattle.std.proofs.lemmas.List.{take_rest, take_at, drop_at, drop-drop, take-append-drop, take-take, length-replicate, get_or_append_left}
 use Rattle.std.proofs.lemmas.Bool.{and_parts, and_from, leb-true, le-leb, eqb-true, eq-eqb, cases_Bool, cond-true, cond-false, false_from_ne_true, both_ways, ne_eqb}
@@ -11,12 +11,12 @@ use Rattle.torn_block.specs.Numbers.{AreBytes}
 use Rattle.torn_block.proofs.NumberLaws.{AreBytes-drop, spelled_8, spelled_4}
 use Rattle.torn_block.specs.Block.{number_bytes}
 use Rattle.torn_block.specs.declared.layout.TheConstants.{VALUE_LENGTH, HEADING_LENGTH}
-use Rattle.paxos_block.specs.declared.block.TheConstants.{VOTE_LENGTH, BALLOTS_LENGTH, VOTED_START, BLANK_START}
+use Rattle.paxos_block.specs.declared.block.TheConstants.{VOTE_LENGTH, BALLOTS_LENGTH, VOTED_START, MARKED_START, BLANK_START}
 use Rattle.paxos_block.specs.declared.number.TheConstants.{NUMBER_LENGTH}
 use Rattle.paxos_block.specs.declared.block.PBlock.{PBlock}
 use Rattle.paxos_block.specs.Ballot.{IsBallotOf, is_ballot_of, may_vote, may_promise, owner_of}
 use Rattle.paxos_block.specs.Headers.{short_at}
-use Rattle.paxos_block.specs.Saying.{zeros, MaySay, IsVoteOf, flag_of, heading, value_bytes, body_saying, number_at, claim_of, may_say, is_said, said_by}
+use Rattle.paxos_block.specs.Saying.{zeros, MaySay, IsVoteOf, IsMarkOf, flag_of, heading, value_bytes, body_saying, number_at, claim_of, may_mark, may_say, is_said, said_by}
 
 and-true : (b : Bool) → (b && true) ≡ b
 and-true true = refl
@@ -47,14 +47,25 @@ vote_since host mbal bal None vote = eq-eqb bal 0 vote
 vote_since host mbal bal (Some value) vote =
     and_from (is_ballot_of host bal) (nat_le bal mbal) (is_ballot_since host bal vote.0) (le-leb bal mbal vote.1)
 
+mark_tells : (mark : Bool) (inp : Option (List ℕ)) → may_mark mark (is_some inp) ≡ true → IsMarkOf mark inp
+mark_tells false inp t = tt
+mark_tells true inp t = t
+
+mark_since : (mark : Bool) (inp : Option (List ℕ)) → IsMarkOf mark inp → may_mark mark (is_some inp) ≡ true
+mark_since false inp is = refl
+mark_since true inp is = is
+
 pub may_say_tells : (host : ℕ) (says : PBlock) → may_say host says ≡ true → MaySay host says
 may_say_tells host says t =
-    let a = and_parts (is_ballot_of host says.mbal) (may_vote host says.mbal says.bal (is_some says.inp)) t in
-    record { mbal = is_ballot_tells host says.mbal a.0; vote = vote_tells host says.mbal says.bal says.inp a.1 }
+    let both = and_parts (may_promise host says.mbal says.bal (is_some says.inp)) (may_mark says.mark (is_some says.inp)) t in
+    let a = and_parts (is_ballot_of host says.mbal) (may_vote host says.mbal says.bal (is_some says.inp)) both.0 in
+    record { mbal = is_ballot_tells host says.mbal a.0; vote = vote_tells host says.mbal says.bal says.inp a.1; mark = mark_tells says.mark says.inp both.1 }
 
 pub may_say_since : (host : ℕ) (says : PBlock) → MaySay host says → may_say host says ≡ true
 may_say_since host says may =
-    and_from (is_ballot_of host says.mbal) (may_vote host says.mbal says.bal (is_some says.inp)) (is_ballot_since host says.mbal may.mbal) (vote_since host says.mbal says.bal says.inp may.vote)
+    and_from (may_promise host says.mbal says.bal (is_some says.inp)) (may_mark says.mark (is_some says.inp))
+    (and_from (is_ballot_of host says.mbal) (may_vote host says.mbal says.bal (is_some says.inp)) (is_ballot_since host says.mbal may.mbal) (vote_since host says.mbal says.bal says.inp may.vote))
+    (mark_since says.mark says.inp may.mark)
 
 -- ---- what a host may say has numbers of eight bytes
 
@@ -68,17 +79,21 @@ pub length-number : (n : ℕ) → length (number_bytes n) ≡ NUMBER_LENGTH
 unfolding number_bytes
 length-number n = length-bytes_high_first 8 n
 
-length-heading : (voted : Bool) → length (heading voted) ≡ HEADING_LENGTH
+length-heading : (voted marked : Bool) → length (heading voted marked) ≡ HEADING_LENGTH
 unfolding heading
-length-heading voted = refl
+length-heading voted marked = refl
 
 pub length-zeros : (n : ℕ) → length (zeros n) ≡ n
 unfolding zeros
 length-zeros n = length-replicate n 0
 
-flag_in_heading : (voted : Bool) (rest : List ℕ) → slice_index (heading voted ++ rest) 1 ≡ flag_of voted
+flag_in_heading : (voted marked : Bool) (rest : List ℕ) → slice_index (heading voted marked ++ rest) 1 ≡ flag_of voted
 unfolding heading
-flag_in_heading voted rest = refl
+flag_in_heading voted marked rest = refl
+
+mark_in_heading : (voted marked : Bool) (rest : List ℕ) → slice_index (heading voted marked ++ rest) 2 ≡ flag_of marked
+unfolding heading
+mark_in_heading voted marked rest = refl
 
 flag_tells : (voted : Bool) → (flag_of voted == 1) ≡ voted
 flag_tells true = refl
@@ -98,7 +113,7 @@ module _ (says : PBlock) where
 
   behind_heading : drop HEADING_LENGTH (body_saying says) ≡ behind
   unfolding body_saying behind
-  behind_heading = drop_at (heading (is_some says.inp)) behind 7 (length-heading (is_some says.inp))
+  behind_heading = drop_at (heading (is_some says.inp) says.mark) behind 7 (length-heading (is_some says.inp) says.mark)
 
   behind_mbal : drop (HEADING_LENGTH + NUMBER_LENGTH) (body_saying says) ≡ behind_bal
   unfolding behind behind_bal
@@ -120,7 +135,11 @@ module _ (says : PBlock) where
 
   reads_flag : slice_index (body_saying says) 1 ≡ flag_of (is_some says.inp)
   unfolding body_saying behind
-  reads_flag = flag_in_heading (is_some says.inp) behind
+  reads_flag = flag_in_heading (is_some says.inp) says.mark behind
+
+  reads_mark : (slice_index (body_saying says) 2 == 1) ≡ says.mark
+  unfolding body_saying behind
+  reads_mark = ap (λ (n : ℕ). n == 1) (mark_in_heading (is_some says.inp) says.mark behind) ∙ flag_tells says.mark
 
   input_by : (inp : Option (List ℕ)) → (if is_some inp then Some (value_bytes inp) else None) ≡ inp
   input_by None = refl
@@ -140,6 +159,7 @@ module _ (says : PBlock) where
         mbal = reads_mbal may.mbal.within i;
         bal = reads_bal (bal_within host says.mbal says.bal says.inp may.vote) i;
         inp = reads_input i;
+        mark = reads_mark i;
       }
 
 -- what was spelled is said
@@ -212,8 +232,11 @@ module _ (front back : List ℕ) (seven : length front ≡ HEADING_LENGTH) (rest
   flag_in_front : slice_index (front ++ back) 1 ≡ slice_index front 1
   flag_in_front = get_or_append_left front back 0 1 (omega arith)
 
+  mark_in_front : slice_index (front ++ back) 2 ≡ slice_index front 2
+  mark_in_front = get_or_append_left front back 0 2 (omega arith)
+
   abbrev pub claim_apart : PBlock
-  claim_apart = record { mbal = number_at 0 back; bal = number_at NUMBER_LENGTH back; inp = if slice_index front 1 == 1 then Some (drop BALLOTS_LENGTH back) else None }
+  claim_apart = record { mbal = number_at 0 back; bal = number_at NUMBER_LENGTH back; inp = if slice_index front 1 == 1 then Some (drop BALLOTS_LENGTH back) else None; mark = slice_index front 2 == 1 }
 
   pub claim_of-parts : claim_of (front ++ back) ≡ claim_apart
   unfolding claim_of number_at
@@ -222,6 +245,7 @@ module _ (front back : List ℕ) (seven : length front ≡ HEADING_LENGTH) (rest
         mbal = big_number 8 (rest_at_heading i);
         bal = big_number 8 (rest_at_bal i);
         inp = if flag_in_front i == 1 then Some (rest_at_value i) else None;
+        mark = mark_in_front i == 1;
       }
 
   -- the numbers are spelled as they stand
@@ -243,8 +267,11 @@ module _ (front back : List ℕ) (seven : length front ≡ HEADING_LENGTH) (rest
   inp : Option (List ℕ)
   inp = if slice_index front 1 == 1 then Some (drop BALLOTS_LENGTH back) else None
 
-  spelled_apart : body_saying claim_apart ≡ heading (is_some inp) ++ (number_bytes (number_at 0 back) ++ (number_bytes (number_at NUMBER_LENGTH back) ++ value_bytes inp))
-  unfolding body_saying inp
+  mark : Bool
+  mark = slice_index front 2 == 1
+
+  spelled_apart : body_saying claim_apart ≡ heading (is_some inp) mark ++ (number_bytes (number_at 0 back) ++ (number_bytes (number_at NUMBER_LENGTH back) ++ value_bytes inp))
+  unfolding body_saying inp mark
   spelled_apart = refl
 
   with_input : slice_index front 1 ≡ 1 → inp ≡ Some (drop BALLOTS_LENGTH back)
@@ -256,48 +283,54 @@ module _ (front back : List ℕ) (seven : length front ≡ HEADING_LENGTH) (rest
   without_input is = cond-false (slice_index front 1 == 1) (Some (drop BALLOTS_LENGTH back)) None is
 
   abbrev stands_by : Option (List ℕ) → List ℕ
-  stands_by o = heading (is_some o) ++ (number_bytes (number_at 0 back) ++ (number_bytes (number_at NUMBER_LENGTH back) ++ value_bytes o))
+  stands_by o = heading (is_some o) mark ++ (number_bytes (number_at 0 back) ++ (number_bytes (number_at NUMBER_LENGTH back) ++ value_bytes o))
 
-  voted_stands : slice_index front 1 ≡ 1 → body_saying claim_apart ≡ heading true ++ back
+  voted_stands : slice_index front 1 ≡ 1 → body_saying claim_apart ≡ heading true mark ++ back
   voted_stands is =
-      spelled_apart ∙ ap stands_by (with_input is) ∙ ap (λ (l : List ℕ). heading true ++ l) numbers_stand
+      spelled_apart ∙ ap stands_by (with_input is) ∙ ap (λ (l : List ℕ). heading true mark ++ l) numbers_stand
 
-  blank_stands : (slice_index front 1 == 1) ≡ false → drop BALLOTS_LENGTH back ≡ zeros VALUE_LENGTH → body_saying claim_apart ≡ heading false ++ back
+  blank_stands : (slice_index front 1 == 1) ≡ false → drop BALLOTS_LENGTH back ≡ zeros VALUE_LENGTH → body_saying claim_apart ≡ heading false mark ++ back
   blank_stands is zero_value =
       spelled_apart
       ∙ ap stands_by (without_input is)
-      ∙ ap (λ (l : List ℕ). heading false ++ (number_bytes (number_at 0 back) ++ (number_bytes (number_at NUMBER_LENGTH back) ++ l))) (sym zero_value)
-      ∙ ap (λ (l : List ℕ). heading false ++ l) numbers_stand
+      ∙ ap (λ (l : List ℕ). heading false mark ++ (number_bytes (number_at 0 back) ++ (number_bytes (number_at NUMBER_LENGTH back) ++ l))) (sym zero_value)
+      ∙ ap (λ (l : List ℕ). heading false mark ++ l) numbers_stand
 
   -- ---- so a reader that tests the heading, the value and the ballots tests what is said
 
   body_is : body_saying (claim_of (front ++ back)) ≡ body_saying claim_apart
   body_is = ap body_saying claim_of-parts
 
-  said_if_it_stands : (host : ℕ) (voted : Bool) → is_some inp ≡ voted → front ≡ heading voted → body_saying claim_apart ≡ heading voted ++ back → is_said host (front ++ back) ≡ may_promise host (number_at 0 back) (number_at NUMBER_LENGTH back) voted
-  unfolding is_said inp
-  said_if_it_stands host voted flag is stands =
-      let same = (bytes_decides (body_saying (claim_of (front ++ back))) (front ++ back)).1 (body_is ∙ stands ∙ ap (λ (l : List ℕ). l ++ back) (sym is)) in
+  said_if_it_stands : (host : ℕ) (voted marked : Bool) → may_mark marked voted ≡ true → is_some inp ≡ voted → mark ≡ marked → front ≡ heading voted marked → body_saying claim_apart ≡ heading voted mark ++ back → is_said host (front ++ back) ≡ may_promise host (number_at 0 back) (number_at NUMBER_LENGTH back) voted
+  unfolding is_said inp mark
+  said_if_it_stands host voted marked may flag mark_is is stands =
+      let same = (bytes_decides (body_saying (claim_of (front ++ back))) (front ++ back)).1 (body_is ∙ stands ∙ ap (λ (b : Bool). heading voted b ++ back) mark_is ∙ ap (λ (l : List ℕ). l ++ back) (sym is)) in
       ap (λ (b : Bool). may_say host (claim_of (front ++ back)) && b) same
       ∙ and-true (may_say host (claim_of (front ++ back)))
       ∙ ap (may_say host) claim_of-parts
-      ∙ ap (may_promise host (number_at 0 back) (number_at NUMBER_LENGTH back)) flag
+      ∙ ap (λ (b : Bool). may_promise host (number_at 0 back) (number_at NUMBER_LENGTH back) b && may_mark (slice_index front 2 == 1) b) flag
+      ∙ ap (λ (b : Bool). may_promise host (number_at 0 back) (number_at NUMBER_LENGTH back) voted && b) (ap (λ (b : Bool). may_mark b voted) mark_is ∙ may)
+      ∙ and-true (may_promise host (number_at 0 back) (number_at NUMBER_LENGTH back) voted)
 
-  heading_flag : (voted : Bool) → front ≡ heading voted → slice_index front 1 ≡ flag_of voted
+  heading_flag : (voted marked : Bool) → front ≡ heading voted marked → slice_index front 1 ≡ flag_of voted
   unfolding heading
-  heading_flag voted is = ap (λ (l : List ℕ). slice_index l 1) is
+  heading_flag voted marked is = ap (λ (l : List ℕ). slice_index l 1) is
 
-  pub said_voted : (host : ℕ) → front ≡ heading true → is_said host (front ++ back) ≡ may_promise host (number_at 0 back) (number_at NUMBER_LENGTH back) true
-  said_voted host is =
-      let one = heading_flag true is in
-      said_if_it_stands host true (ap is_some (with_input one)) is (voted_stands one)
+  heading_mark : (voted marked : Bool) → front ≡ heading voted marked → mark ≡ marked
+  unfolding heading mark
+  heading_mark voted marked is = ap (λ (l : List ℕ). slice_index l 2 == 1) is ∙ flag_tells marked
 
-  no_flag : front ≡ heading false → (slice_index front 1 == 1) ≡ false
-  no_flag is = ap (λ (n : ℕ). n == 1) (heading_flag false is)
+  pub said_voted : (host : ℕ) (marked : Bool) → may_mark marked true ≡ true → front ≡ heading true marked → is_said host (front ++ back) ≡ may_promise host (number_at 0 back) (number_at NUMBER_LENGTH back) true
+  said_voted host marked may is =
+      let one = heading_flag true marked is in
+      said_if_it_stands host true marked may (ap is_some (with_input one)) (heading_mark true marked is) is (voted_stands one)
 
-  pub said_blank : (host : ℕ) → front ≡ heading false → drop BALLOTS_LENGTH back ≡ zeros VALUE_LENGTH → is_said host (front ++ back) ≡ may_promise host (number_at 0 back) (number_at NUMBER_LENGTH back) false
-  said_blank host is zero_value =
-      said_if_it_stands host false (ap is_some (without_input (no_flag is))) is (blank_stands (no_flag is) zero_value)
+  no_flag : (marked : Bool) → front ≡ heading false marked → (slice_index front 1 == 1) ≡ false
+  no_flag marked is = ap (λ (n : ℕ). n == 1) (heading_flag false marked is)
+
+  pub said_blank : (host : ℕ) (marked : Bool) → may_mark marked false ≡ true → front ≡ heading false marked → drop BALLOTS_LENGTH back ≡ zeros VALUE_LENGTH → is_said host (front ++ back) ≡ may_promise host (number_at 0 back) (number_at NUMBER_LENGTH back) false
+  said_blank host marked may is zero_value =
+      said_if_it_stands host false marked may (ap is_some (without_input (no_flag marked is))) (heading_mark false marked is) is (blank_stands (no_flag marked is) zero_value)
 
   -- what is said stands as it is spelled
   stands_if_said : (host : ℕ) → is_said host (front ++ back) ≡ true → body_saying claim_apart ≡ front ++ back
@@ -305,28 +338,35 @@ module _ (front back : List ℕ) (seven : length front ≡ HEADING_LENGTH) (rest
   stands_if_said host t =
       sym body_is ∙ (bytes_decides (body_saying (claim_of (front ++ back))) (front ++ back)).0 (and_parts (may_say host (claim_of (front ++ back))) (pointwise nat_eq (body_saying (claim_of (front ++ back))) (front ++ back)) t).1
 
-  pub not_said_unheaded : (host : ℕ) → ((voted : Bool) → front ≢ heading voted) → is_said host (front ++ back) ≡ false
+  -- and its mark may be there
+  may_be_marked : (host : ℕ) → is_said host (front ++ back) ≡ true → may_mark mark (is_some inp) ≡ true
+  unfolding is_said mark inp
+  may_be_marked host t =
+      let may = (and_parts (may_say host (claim_of (front ++ back))) (pointwise nat_eq (body_saying (claim_of (front ++ back))) (front ++ back)) t).0 in
+      (and_parts (may_promise host (number_at 0 back) (number_at NUMBER_LENGTH back) (is_some inp)) (may_mark mark (is_some inp)) (ap (may_say host) (sym claim_of-parts) ∙ may)).1
+
+  pub not_said_unheaded : (host : ℕ) → ((voted marked : Bool) → may_mark marked voted ≡ true → front ≢ heading voted marked) → is_said host (front ++ back) ≡ false
   not_said_unheaded host unheaded =
       false_from_ne_true (is_said host (front ++ back)) (λ t.
       let stands = stands_if_said host t in
-      let headed : heading (is_some inp) ≡ front =
-      sym (take_at (heading (is_some inp)) (number_bytes (number_at 0 back) ++ (number_bytes (number_at NUMBER_LENGTH back) ++ value_bytes inp)) 7 (length-heading (is_some inp)))
+      let headed : heading (is_some inp) mark ≡ front =
+      sym (take_at (heading (is_some inp) mark) (number_bytes (number_at 0 back) ++ (number_bytes (number_at NUMBER_LENGTH back) ++ value_bytes inp)) 7 (length-heading (is_some inp) mark))
       ∙ ap (take 7) (sym spelled_apart ∙ stands)
       ∙ take_at front back 7 seven in
-      unheaded (is_some inp) (sym headed))
+      unheaded (is_some inp) mark (may_be_marked host t) (sym headed))
 
-  pub not_said_with_a_tail : (host : ℕ) → front ≡ heading false → drop BALLOTS_LENGTH back ≢ zeros VALUE_LENGTH → is_said host (front ++ back) ≡ false
+  pub not_said_with_a_tail : (host : ℕ) (marked : Bool) → front ≡ heading false marked → drop BALLOTS_LENGTH back ≢ zeros VALUE_LENGTH → is_said host (front ++ back) ≡ false
   unfolding inp
-  not_said_with_a_tail host is tail =
+  not_said_with_a_tail host marked is tail =
       false_from_ne_true (is_said host (front ++ back)) (λ t.
       let stands = stands_if_said host t in
       let value : value_bytes inp ≡ drop BALLOTS_LENGTH back = sym (behind_ballots claim_apart) ∙ ap (drop (HEADING_LENGTH + BALLOTS_LENGTH)) stands ∙ rest_at_value in
-      tail (sym value ∙ ap value_bytes (without_input (no_flag is))))
+      tail (sym value ∙ ap value_bytes (without_input (no_flag marked is))))
 
   -- ---- as the code has the parts
 
   abbrev claimed : ℕ → ℕ → Option (List ℕ) → PBlock
-  claimed m b i = record { mbal = m; bal = b; inp = i }
+  claimed m b i = record { mbal = m; bal = b; inp = i; mark = slice_index front 2 == 1 }
 
   pub claim_voted : (m b : ℕ) (value : List ℕ) → slice_index front 1 ≡ 1 → m ≡ number_at 0 back → b ≡ number_at 0 (take (length back - NUMBER_LENGTH) (drop NUMBER_LENGTH back)) → value ≡ take (length back - BALLOTS_LENGTH) (drop BALLOTS_LENGTH back) → claimed m b (Some value) ≡ claim_of (front ++ back)
   unfolding inp number_at
@@ -362,23 +402,30 @@ module _ (front back : List ℕ) (seven : length front ≡ HEADING_LENGTH) (rest
 
 -- ---- a heading by the numbers in its first and in its last four bytes
 
-pub heading_ends : (voted : Bool) → short_at 0 (drop 3 (heading voted)) ≡ 0
+pub heading_ends : (voted marked : Bool) → short_at 0 (drop 3 (heading voted marked)) ≡ 0
 unfolding heading short_at
-heading_ends voted = refl
+heading_ends voted marked = refl
 
-pub heading_starts : (voted : Bool) → short_at 0 (heading voted) ≡ (if voted then VOTED_START else BLANK_START)
+abbrev pub start_of : Bool → Bool → ℕ
+start_of voted marked = if voted then (if marked then MARKED_START else VOTED_START) else BLANK_START
+
+pub heading_starts : (voted marked : Bool) → may_mark marked voted ≡ true → short_at 0 (heading voted marked) ≡ start_of voted marked
 unfolding heading short_at
-heading_starts true = refl
-heading_starts false = refl
+heading_starts true true may = refl
+heading_starts true false may = refl
+heading_starts false false may = refl
+heading_starts false true may = absurd (true≢false (sym may))
 
-heading_joined : (voted : Bool) → take 3 (take 4 (heading voted)) ++ big_bytes 4 0 ≡ heading voted
+heading_joined : (voted marked : Bool) → take 3 (take 4 (heading voted marked)) ++ big_bytes 4 0 ≡ heading voted marked
 unfolding heading
-heading_joined voted = refl
+heading_joined voted marked = refl
 
-heading_start_stands : (voted : Bool) → big_bytes 4 (short_at 0 (heading voted)) ≡ take 4 (heading voted)
+heading_start_stands : (voted marked : Bool) → big_bytes 4 (short_at 0 (heading voted marked)) ≡ take 4 (heading voted marked)
 unfolding heading short_at
-heading_start_stands true = refl
-heading_start_stands false = refl
+heading_start_stands true true = refl
+heading_start_stands true false = refl
+heading_start_stands false true = refl
+heading_start_stands false false = refl
 
 module _ (front : List ℕ) (seven : length front ≡ HEADING_LENGTH) (fits : AreBytes front) where
   start_stands : big_bytes 4 (short_at 0 front) ≡ take 4 front
@@ -394,10 +441,10 @@ module _ (front : List ℕ) (seven : length front ≡ HEADING_LENGTH) (fits : Ar
       ∙ take_rest front 3
 
   -- what starts and ends as a heading is that heading
-  pub headed : (voted : Bool) → short_at 0 front ≡ (if voted then VOTED_START else BLANK_START) → short_at 0 (drop 3 front) ≡ 0 → front ≡ heading voted
-  headed voted start end =
-      let first = sym start_stands ∙ ap (big_bytes 4) (start ∙ sym (heading_starts voted)) ∙ heading_start_stands voted in
+  pub headed : (voted marked : Bool) → may_mark marked voted ≡ true → short_at 0 front ≡ start_of voted marked → short_at 0 (drop 3 front) ≡ 0 → front ≡ heading voted marked
+  headed voted marked may start end =
+      let first = sym start_stands ∙ ap (big_bytes 4) (start ∙ sym (heading_starts voted marked may)) ∙ heading_start_stands voted marked in
       sym (take-append-drop 3 front)
       ∙ ap (λ (l : List ℕ). l ++ drop 3 front) (sym (take-take 3 4 front (omega arith)) ∙ ap (take 3) first)
-      ∙ ap (λ (l : List ℕ). take 3 (take 4 (heading voted)) ++ l) (sym end_stands ∙ ap (big_bytes 4) end)
-      ∙ heading_joined voted
+      ∙ ap (λ (l : List ℕ). take 3 (take 4 (heading voted marked)) ++ l) (sym end_stands ∙ ap (big_bytes 4) end)
+      ∙ heading_joined voted marked

@@ -76,12 +76,12 @@ pub later_vote : (host b : ℕ) (best says : PBlock) → IsVoteOf host b best.ba
 later_vote host b best says first second = later_by host b best says (nat_lt best.bal says.bal) refl first second
 
 -- a vote may be promised with at a ballot that is not below
-pub may_promise : (host b : ℕ) (vote : PBlock) → IsBallotOf host b → IsVoteOf host b vote.bal vote.inp → MaySay host (record { mbal = b; bal = vote.bal; inp = vote.inp })
-may_promise host b vote is voted = record { mbal = is; vote = voted }
+pub may_promise : (host b : ℕ) (vote : PBlock) → IsBallotOf host b → IsVoteOf host b vote.bal vote.inp → MaySay host (record { mbal = b; bal = vote.bal; inp = vote.inp; mark = false })
+may_promise host b vote is voted = record { mbal = is; vote = voted; mark = tt }
 
 -- any value may be voted for at the own ballot
-pub may_vote : (host b : ℕ) (value : List ℕ) → IsBallotOf host b → MaySay host (record { mbal = b; bal = b; inp = Some value })
-may_vote host b value is = record { mbal = is; vote = (is, omega arith) }
+pub may_vote : (host b : ℕ) (value : List ℕ) → IsBallotOf host b → MaySay host (record { mbal = b; bal = b; inp = Some value; mark = false })
+may_vote host b value is = record { mbal = is; vote = (is, omega arith); mark = tt }
 
 -- SEQUENCE NUMBERS
 

@@ -35,7 +35,7 @@ IsDamagedRow row = IsDamaged IsSound row
 
 -- what a blank block says
 abbrev pub blank : PBlock
-blank = record { mbal = 0; bal = 0; inp = None }
+blank = record { mbal = 0; bal = 0; inp = None; mark = false }
 
 -- what a block's value says, which is its sequence number and body
 abbrev pub says_of : Option (ℕ × List ℕ) → PBlock

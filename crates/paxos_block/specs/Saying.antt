@@ -5,7 +5,7 @@ use Rattle.std.specs.Prelude.{nat_eq}
 use Rattle.byteorder.specs.Endian.{big_number}
 use Rattle.torn_block.specs.Block.{number_bytes}
 use Rattle.torn_block.specs.declared.layout.TheConstants.{VERSION, VALUE_LENGTH, HEADING_LENGTH}
-use Rattle.paxos_block.specs.declared.block.TheConstants.{BALLOTS_LENGTH, FLAG_AT}
+use Rattle.paxos_block.specs.declared.block.TheConstants.{BALLOTS_LENGTH, FLAG_AT, MARK_AT}
 use Rattle.paxos_block.specs.declared.number.TheConstants.{NUMBER_LENGTH}
 use Rattle.paxos_block.specs.declared.block.PBlock.{PBlock}
 use Rattle.paxos_block.specs.Ballot.{IsBallotOf, may_promise}
@@ -20,21 +20,27 @@ abbrev pub IsVoteOf : ℕ → ℕ → ℕ → Option (List ℕ) → Type 0
 IsVoteOf host mbal bal None = bal ≡ 0
 IsVoteOf host mbal bal (Some value) = IsBallotOf host bal × (bal ≤ mbal)
 
+-- What is marked is an input: a block without one has no mark.
+abbrev pub IsMarkOf : Bool → Option (List ℕ) → Type 0
+IsMarkOf false inp = Unit {0}
+IsMarkOf true inp = is_some inp ≡ true
+
 -- a host may say this
 pub record MaySay (host : ℕ) (says : PBlock) : Type 0 where
   pub mbal : IsBallotOf host says.mbal
   pub vote : IsVoteOf host says.mbal says.bal says.inp
+  pub mark : IsMarkOf says.mark says.inp
 
 -- ---- how it is spelled
 
--- whether there is an input, in a byte
+-- whether there is an input, or a mark, in a byte
 abbrev pub flag_of : Bool → ℕ
 flag_of true = 1
 flag_of false = 0
 
--- bytes 1 to 7 of a copy: the version, the flag, no mark, and four zeros
-unfoldable pub heading : Bool → List ℕ
-heading voted = VERSION ∷ flag_of voted ∷ 0 ∷ 0 ∷ 0 ∷ 0 ∷ 0 ∷ []
+-- bytes 1 to 7 of a copy: the version, the flag, the mark, and four zeros
+unfoldable pub heading : Bool → Bool → List ℕ
+heading voted marked = VERSION ∷ flag_of voted ∷ flag_of marked ∷ 0 ∷ 0 ∷ 0 ∷ 0 ∷ []
 
 -- the input, or as many zeros
 abbrev pub value_bytes : Option (List ℕ) → List ℕ
@@ -44,7 +50,7 @@ value_bytes (Some value) = value
 -- the body of a copy that says this
 unfoldable pub body_saying : PBlock → List ℕ
 body_saying says =
-    heading (is_some says.inp) ++ (number_bytes says.mbal ++ (number_bytes says.bal ++ value_bytes says.inp))
+    heading (is_some says.inp) says.mark ++ (number_bytes says.mbal ++ (number_bytes says.bal ++ value_bytes says.inp))
 
 -- ---- how it is read
 
@@ -59,10 +65,15 @@ claim_of body =
       mbal = number_at HEADING_LENGTH body;
       bal = number_at (HEADING_LENGTH + NUMBER_LENGTH) body;
       inp = if slice_index body FLAG_AT == 1 then Some (drop (HEADING_LENGTH + BALLOTS_LENGTH) body) else None;
+      mark = slice_index body MARK_AT == 1;
     }
 
+abbrev pub may_mark : Bool → Bool → Bool
+may_mark false voted = true
+may_mark true voted = voted
+
 abbrev pub may_say : ℕ → PBlock → Bool
-may_say host says = may_promise host says.mbal says.bal (is_some says.inp)
+may_say host says = may_promise host says.mbal says.bal (is_some says.inp) && may_mark says.mark (is_some says.inp)
 
 -- the claim is one that the host may make, and it is spelled so
 unfoldable pub is_said : ℕ → List ℕ → Bool

@@ -1,5 +1,6 @@
 -- What a row shows of ballots and votes, and the ballot that a host takes above them.
-use Rattle.std.specs.Prelude.{◌+◌, ◌-◌, ◌*◌, ◌/◌, ◌==◌, ℕ, zero, suc, List, max, nat_lt, if◌then◌else◌}
+use Rattle.std.specs.Prelude.{◌+◌, ◌-◌, ◌*◌, ◌/◌, ◌==◌, ℕ, zero, suc, List, max, nat_lt, Option, None, if◌then◌else◌}
+use Rattle.std.specs.Option.{option_or}
 use Rattle.torn_block.specs.declared.layout.TheConstants.{HOSTS}
 use Rattle.paxos_block.specs.declared.block.PBlock.{PBlock}
 use Rattle.paxos_block.specs.Row.{SeenBlock, seen_at}
@@ -33,6 +34,18 @@ latest_below host row (suc g) best =
 
 abbrev pub latest_in : ℕ → List SeenBlock → PBlock → PBlock
 latest_in host row best = latest_below host row HOSTS best
+
+-- the input of a marked block
+abbrev pub marked : PBlock → Option (List ℕ)
+marked says = if says.mark then says.inp else None
+
+-- that of the first marked block among those of the first n hosts in a row
+abbrev pub marked_below : List SeenBlock → ℕ → Option (List ℕ)
+marked_below row zero = None
+marked_below row (suc g) = option_or (marked_below row g) (marked (says_in row g))
+
+abbrev pub marked_in : List SeenBlock → Option (List ℕ)
+marked_in row = marked_below row HOSTS
 
 -- the least ballot of the host above n: host h owns h + 1, and every eighth from there on
 abbrev pub ballot_above : ℕ → ℕ → ℕ

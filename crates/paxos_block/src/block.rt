@@ -1,9 +1,9 @@
-ghost use Rattle.std.specs.Prelude.{◌≡◌, ◌≢◌, ◌↔◌, ◌++◌, ◌==◌, Bool, IsTrue, length, Some, IfSome, MatchOption, option_copied};
+ghost use Rattle.std.specs.Prelude.{◌≡◌, ◌≢◌, ◌↔◌, ◌++◌, ◌==◌, Bool, true, is_some, IsTrue, length, Some, IfSome, MatchOption, option_copied};
 ghost use Rattle.std.specs.List.{list_all};
 ghost use Rattle.paxos_block.specs.Ballot;
 ghost use Rattle.paxos_block.specs.Saying;
-ghost use Rattle.paxos_block.specs.Saying.{MaySay, body_saying, claim_of, said_by, heading, value_bytes};
-ghost use Rattle.paxos_block.specs.Votes.{later_of};
+ghost use Rattle.paxos_block.specs.Saying.{MaySay, body_saying, claim_of, said_by, flag_of, heading, may_mark, value_bytes};
+ghost use Rattle.paxos_block.specs.Votes.{later_of, marked};
 
 use crate::ballot::is_ballot_of;
 use crate::number::{NUMBER_LENGTH, SHORT_LENGTH, number_in, short_in};
@@ -15,16 +15,15 @@ pub const VOTE_LENGTH: usize = BODY_LENGTH - HEADING_LENGTH;
 // The two ballots of a body.
 const BALLOTS_LENGTH: usize = 2 * NUMBER_LENGTH;
 
-// Where a body says whether there is an input.
+// Where a body says whether there is an input, and whether it is marked.
 const FLAG_AT: usize = 1;
 
-// The bytes in front of the ballots, with an input and without one.
-const VOTED: [u8; HEADING_LENGTH] = [VERSION, 1, 0, 0, 0, 0, 0];
+const MARK_AT: usize = 2;
 
-const BLANK: [u8; HEADING_LENGTH] = [VERSION, 0, 0, 0, 0, 0, 0];
-
-// The first four bytes of these, as numbers.
+// The first four bytes of a body, as a number: with an input, with one that is marked, and without one.
 const VOTED_START: u32 = 0x0101_0000;
+
+const MARKED_START: u32 = 0x0101_0100;
 
 const BLANK_START: u32 = 0x0100_0000;
 
@@ -42,6 +41,8 @@ pub struct PBlock {
     pub bal: u64,
     /// What it voted for then.
     pub inp: Option<Value>,
+    /// The input is known to be chosen.
+    pub mark: bool,
 }
 
 impl PBlock {
@@ -50,7 +51,15 @@ impl PBlock {
         mbal: 0,
         bal: 0,
         inp: None,
+        mark: false,
     };
+
+    /// The input, where it is marked.
+    pub fn marked(&self) -> Option<Value>
+        ensures { result ≡ marked self.now }
+    {
+        if self.mark { self.inp } else { None }
+    }
 
     /// The later vote: that with the greater bal, `self` where they have one bal.
     pub fn or_later(self, other: &PBlock) -> PBlock
@@ -77,10 +86,24 @@ fn put_block(bytes: &mut [u8], block: &PBlock)
     let (front, back) = bytes.split_at_mut(HEADING_LENGTH);
     let (mbal, rest) = back.split_at_mut(NUMBER_LENGTH);
     let (bal, value) = rest.split_at_mut(NUMBER_LENGTH);
-    front.copy_from_slice(if block.inp.is_some() { &VOTED } else { &BLANK });
+    front.copy_from_slice(&heading(block));
     put_number(mbal, block.mbal);
     put_number(bal, block.bal);
     put_value(value, block.inp.as_ref());
+}
+
+// The bytes in front of the ballots.
+fn heading(block: &PBlock) -> [u8; HEADING_LENGTH]
+    ensures { result ≡ Saying.heading (is_some block.now.inp) block.now.mark }
+{
+    let (voted, marked) = (flag(block.inp.is_some()), flag(block.mark));
+    [VERSION, voted, marked, 0, 0, 0, 0]
+}
+
+fn flag(is: bool) -> u8
+    ensures { result ≡ flag_of is }
+{
+    if is { 1 } else { 0 }
 }
 
 fn put_value(bytes: &mut [u8], inp: Option<&Value>)
@@ -155,6 +178,7 @@ pub(crate) fn claim(front: &[u8], back: &[u8]) -> PBlock
     PBlock {
         mbal: number_in(back),
         bal: number_in(&back[NUMBER_LENGTH..]),
+        mark: front[MARK_AT] == 1,
         inp: if front[FLAG_AT] == 1 {
             Some(value_in(&back[BALLOTS_LENGTH..]))
         } else {
@@ -185,14 +209,15 @@ fn has_no_value(bytes: &[u8]) -> bool
 fn flag_in(front: &[u8]) -> Option<bool>
     requires { length front.now ≡ HEADING_LENGTH }
     ensures { MatchOption result
-        ((voted : Bool) → front.now ≢ heading voted)
-        (λ voted. front.now ≡ heading voted) }
+        ((voted marked : Bool) → may_mark marked voted ≡ true → front.now ≢ heading voted marked)
+        (λ voted. (marked : Bool) × (may_mark marked voted ≡ true) × (front.now ≡ heading voted marked)) }
 {
     if short_in(&front[HEADING_LENGTH - SHORT_LENGTH..]) != 0 {
         return None;
     }
     match short_in(front) {
         VOTED_START => Some(true),
+        MARKED_START => Some(true),
         BLANK_START => Some(false),
         _ => None,
     }
@@ -202,7 +227,14 @@ fn flag_in(front: &[u8]) -> Option<bool>
 pub fn may_say(host: u8, block: &PBlock) -> bool
     ensures { IsTrue result ↔ MaySay host block.now }
 {
-    may_promise(host, block.mbal, block.bal, block.inp.is_some())
+    let voted = block.inp.is_some();
+    may_promise(host, block.mbal, block.bal, voted) && may_mark(block.mark, voted)
+}
+
+fn may_mark(mark: bool, voted: bool) -> bool
+    ensures { result ≡ Saying.may_mark mark voted }
+{
+    if mark { voted } else { true }
 }
 
 fn may_promise(host: u8, mbal: u64, bal: u64, voted: bool) -> bool

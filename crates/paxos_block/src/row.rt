@@ -2,9 +2,9 @@ ghost use Rattle.std.specs.Prelude.{◌≡◌, ◌↔◌, ◌<◌, List, None, I
 ghost use Rattle.std.specs.Option.{IsSomeAnd};
 ghost use Rattle.torn_block.specs.declared.layout.TheConstants.{HOSTS};
 ghost use Rattle.paxos_block.specs.Row.{IsRow, IsDamagedRow, SeenBlock, row_said, seen_at, IsSeenAs, AreSeenAs};
-ghost use Rattle.paxos_block.specs.Votes.{top_of, others_top_of, latest_in};
+ghost use Rattle.paxos_block.specs.Votes.{top_of, others_top_of, latest_in, marked_in};
 
-use crate::block::PBlock;
+use crate::block::{PBlock, Value};
 use crate::cell::{Cell, is_blank};
 use crate::damaged::Damaged;
 use torn_block::{BLOCK_LENGTH, HOSTS, ROW_LENGTH};
@@ -90,6 +90,17 @@ impl Row {
             }
         }
         best
+    }
+
+    /// The input of the first marked block, by host.
+    pub fn marked(&self) -> Option<Value>
+        ensures { (seen : List SeenBlock) → AreSeenAs seen self.now → result ≡ marked_in seen }
+    {
+        let mut marked = None;
+        for g in 0..HOSTS {
+            marked = marked.or(self.cells[g].says.marked());
+        }
+        marked
     }
 }
 

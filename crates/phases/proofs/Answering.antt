@@ -135,8 +135,8 @@ module _ (q : code_phase.Phase) (f : Answers) (n : Notes) (v : IsVisiting q f n)
   drops room x bad =
       let rowless = bad_tells x bad in
       let new : Visit = record visit { left = false } in
-      passes q f n v order x (Dropped bad rowless) n.highest n.best (with_visit new)
-      (same_rows_kept s f (more f d x) n.highest n.best (rows_stay f d x rowless Opening) (rows_stay f d x rowless One) v.rows)
+      passes q f n v order x (Dropped bad rowless) n.highest n.best n.decided (with_visit new)
+      (same_rows_kept s f (more f d x) n.highest n.best n.decided (rows_stay f d x rowless Opening) (rows_stay f d x rowless One) v.rows)
       (same_not_outrun s f (more f d x) p (rows_stay f d x rowless Opening) (rows_stay f d x rowless p) due.at.not_outrun)
       (others new)
       (ap (λ (w : Visit). w.left) (set_is room new))
@@ -174,13 +174,13 @@ module _ (q : code_phase.Phase) (f : Answers) (n : Notes) (v : IsVisiting q f n)
     some_answers Two e = omega arith
 
     -- the disk is done with
-    pub reads : d < length n.visits → (cell : Cell) → IsSeenAs (seen_at row s.host) cell → (top : ℕ) (vote : PBlock)
-        → KeepsRows s (more f d (Told (Some row))) top vote → NotOutrun s p (more f d (Told (Some row)))
-        → ArePassed s q (more f d (Told (Some row))) top vote n.says (with_visit (record visit { block = cell.block })) (d + 1)
-    reads room cell shows top vote rows below =
+    pub reads : d < length n.visits → (cell : Cell) → IsSeenAs (seen_at row s.host) cell → (top : ℕ) (vote : PBlock) (told : Option (List ℕ))
+        → KeepsRows s (more f d (Told (Some row))) top vote told → NotOutrun s p (more f d (Told (Some row)))
+        → ArePassed s q (more f d (Told (Some row))) top vote told n.says (with_visit (record visit { block = cell.block })) (d + 1)
+    reads room cell shows top vote told rows below =
         let new : Visit = record visit { block = cell.block } in
         let row_is : last_row (f d ++ Told (Some row) ∷ []) ≡ Some row = last_more (f d) (Told (Some row)) in
-        passes q f n v order (Told (Some row)) is_read top vote (with_visit new) rows below
+        passes q f n v order (Told (Some row)) is_read top vote told (with_visit new) rows below
         (others new)
         (ap (λ (w : Visit). w.left) (set_is room new) ∙ left_now q f n v order)
         (λ kept. subst (Remembers s.host (f d ++ Told (Some row) ∷ [])) (sym (set_is room new)) (record {

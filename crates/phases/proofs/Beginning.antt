@@ -1,6 +1,6 @@
 -- What follows once a phase is over: the next one begins, or the attempt ends.
 use Rattle.std.specs.Prelude.{nat_lt, nat_le, if◌then◌else◌}
-use Rattle.std.proofs.Common.{◌≡◌, ◌<◌, ◌≤◌, ◌&&◌, not, ℕ, zero, suc, Bool, true, false, Some, None, List, length, refl, sym, subst, ap, ap₂, ◌∙◌, arith}
+use Rattle.std.proofs.Common.{◌≡◌, ◌<◌, ◌≤◌, ◌&&◌, not, ℕ, zero, suc, Bool, true, false, Option, Some, None, List, length, refl, sym, subst, ap, ap₂, ◌∙◌, arith}
 use Rattle.std.proofs.lemmas.Bool.{le-ltb, lt-ltb, and_from, le-leb}
 use Rattle.paxos_block.specs.declared.ballot.TheConstants.{LAST_BALLOT}
 use Rattle.paxos_block.specs.declared.block.PBlock.{PBlock}
@@ -9,9 +9,9 @@ use Rattle.paxos_block.proofs.VoteLemmas.{greatest_same}
 use Rattle.attempt.specs.Calls.{Phase, Opening, One, Two, start, goal}
 use Rattle.attempt.specs.Answers.{Answers, all_good, row_in}
 use Rattle.attempt.specs.Setup.{Setup}
-use Rattle.attempt.specs.Visits.{is_stuck, takes_part, visited, is_left, is_left_at}
-use Rattle.attempt.specs.Proposal.{ballot, own, or_else, proposal, others_top, others_mbal}
-use Rattle.attempt.specs.Status.{is_opened, taken, taken_by}
+use Rattle.attempt.specs.Visits.{is_stuck, takes_part, visited, is_left, is_left_at, are_enough}
+use Rattle.attempt.specs.Proposal.{ballot, own, or_else, proposal, decided, others_top, others_mbal}
+use Rattle.attempt.specs.Status.{is_opened, taken, taken_by, if_open}
 use Rattle.attempt.specs.NextCall.{some_value}
 use Rattle.attempt.proofs.Lists.{row_none}
 use Rattle.attempt.proofs.Rows.{best_none}
@@ -87,34 +87,44 @@ module _ (f : Answers) (n : Notes) (is : IsOver phase.Opening f n) where
       is.passed.opened e
       ∙ and_from (all_good (f e)) (nat_le 3 (length (f e))) (left_is s Opening (visited s Opening f) f e left).good (le-leb 3 (length (f e)) (left_over s Opening f e over l left))
 
-  taken_is : taken s f ≡ (if nat_lt LAST_BALLOT (ballot s f) then 0 else ballot s f)
-  taken_is = ap₂ (taken_by (ballot s f)) over (statuses.enough_more s (is_left s Opening f) (is_opened f) left_opened is.enough)
+  told_is : (o : Option (List ℕ)) → n.decided ≡ o → decided s f ≡ o
+  told_is o none = sym is.passed.rows.decided ∙ none
+
+  taken_is : n.decided ≡ None → taken s f ≡ (if nat_lt LAST_BALLOT (ballot s f) then 0 else ballot s f)
+  taken_is none = ap (λ (o : Option (List ℕ)). if_open o (taken_by (ballot s f) (visited s Opening f) (are_enough s (is_opened f)))) (told_is None none) ∙ ap₂ (taken_by (ballot s f)) over (statuses.enough_more s (is_left s Opening f) (is_opened f) left_opened is.enough)
 
   ballot_is : ballot_above s.host n.highest ≡ ballot s f
   ballot_is = ap (ballot_above s.host) is.passed.rows.highest
 
+  -- a marked block tells the value
+  pub ends_decided : (value : List ℕ) → n.decided ≡ Some value → Follows f (record n { end = Some (end.Decided value) })
+  ends_decided value some = record {
+    ballot = ap (λ (x : PBlock). x.mbal) is.passed.says_is ∙ sym (ap (λ (o : Option (List ℕ)). if_open o (taken_by (ballot s f) (visited s Opening f) (are_enough s (is_opened f)))) (told_is (Some value) some));
+    stands = statuses.decides s f value (record { over = record { come = tt; not_outrun = tt; visits = over; enough = is.enough }; decided_is = told_is (Some value) some });
+  }
+
   -- there is no ballot
-  pub ends_spent : LAST_BALLOT < ballot_above s.host n.highest → Follows f (record n { end = Some end.BallotsSpent })
-  ends_spent above =
+  pub ends_spent : n.decided ≡ None → LAST_BALLOT < ballot_above s.host n.highest → Follows f (record n { end = Some end.BallotsSpent })
+  ends_spent none above =
       let high : nat_lt LAST_BALLOT (ballot s f) ≡ true = lt-ltb LAST_BALLOT (ballot s f) (omega (arith, above, ballot_is)) in
       record {
-        ballot = ap (λ (x : PBlock). x.mbal) is.passed.says_is ∙ sym (taken_is ∙ ap (λ (t : Bool). if t then 0 else ballot s f) high);
-        stands = statuses.spent s f (record { over = record { come = tt; not_outrun = tt; visits = over; enough = is.enough }; spent = high });
+        ballot = ap (λ (x : PBlock). x.mbal) is.passed.says_is ∙ sym (taken_is none ∙ ap (λ (t : Bool). if t then 0 else ballot s f) high);
+        stands = statuses.spent s f (record { over = record { come = tt; not_outrun = tt; visits = over; enough = is.enough }; undecided = told_is None none; spent = high });
       }
 
   -- phase 1 begins with the ballot
-  pub begins_one : (b : ℕ) → b ≡ ballot_above s.host n.highest → b ≤ LAST_BALLOT
-      → IsPassed phase.One f (record n { phase = phase.One; says = record { mbal = b; bal = n.best.bal; inp = n.best.inp } }) 0
-  begins_one b b_is low =
+  pub begins_one : n.decided ≡ None → (b : ℕ) → b ≡ ballot_above s.host n.highest → b ≤ LAST_BALLOT
+      → IsPassed phase.One f (record n { phase = phase.One; says = record { mbal = b; bal = n.best.bal; inp = n.best.inp; mark = false } }) 0
+  begins_one undecided b b_is low =
       let fits : nat_lt LAST_BALLOT (ballot s f) ≡ false = le-ltb LAST_BALLOT (ballot s f) (omega (arith, b_is, ballot_is)) in
       let none : (e : ℕ) → row_in One (f e) ≡ None = λ e. row_none One (f e) (let l = is.passed.behind e in omega arith) in
       let own_is : n.best ≡ own s f = is.passed.rows.best ∙ best_none s f s.disks (λ e l. none e) in
       record {
         rows = is.passed.rows;
-        come = record { over = over; fits = fits };
+        come = record { over = over; undecided = told_is None undecided; fits = fits };
         not_outrun = not_above s One f none;
-        opened = taken_is ∙ ap (λ (t : Bool). if t then 0 else ballot s f) fits;
-        says_is = λ i. record { mbal = (b_is ∙ ballot_is) i; bal = (own_is i).bal; inp = (own_is i).inp };
+        opened = taken_is undecided ∙ ap (λ (t : Bool). if t then 0 else ballot s f) fits;
+        says_is = λ i. record { mbal = (b_is ∙ ballot_is) i; bal = (own_is i).bal; inp = (own_is i).inp; mark = false };
         past = λ e l u. absurd (omega arith);
         ahead = λ e l takes. (let part = part_is One (f e) takes in let most = is.passed.behind e in omega (arith, part.come));
         behind = λ e. (let most = is.passed.behind e in omega arith);
@@ -139,7 +149,7 @@ module _ (f : Answers) (n : Notes) (is : IsOver phase.One f n) where
 
   -- phase 2 begins with the proposal
   pub begins_two : (value : List ℕ) → or_else n.best.inp n.of.input ≡ Some value
-      → IsPassed phase.Two f (record n { phase = phase.Two; says = record { mbal = n.says.mbal; bal = n.says.mbal; inp = Some value } }) 0
+      → IsPassed phase.Two f (record n { phase = phase.Two; says = record { mbal = n.says.mbal; bal = n.says.mbal; inp = Some value; mark = false } }) 0
   begins_two value value_is =
       let s = n.of in
       let proposed : proposal s f ≡ Some value = sym proposal_is ∙ value_is in
@@ -150,7 +160,7 @@ module _ (f : Answers) (n : Notes) (is : IsOver phase.One f n) where
         come = (value, record { taken = is.passed.come; over = none_waits phase.One f n is.passed; not_outrun = is.passed.not_outrun; is = proposed });
         not_outrun = not_above s Two f (λ e. row_none Two (f e) (let l = is.passed.behind e in omega arith));
         opened = is.passed.opened;
-        says_is = λ i. record { mbal = b i; bal = b i; inp = Some (some i) };
+        says_is = λ i. record { mbal = b i; bal = b i; inp = Some (some i); mark = false };
         past = λ e l u. absurd (omega arith);
         ahead = λ e l takes. (let part = part_is Two (f e) takes in let most = is.passed.behind e in omega (arith, part.come));
         behind = λ e. (let most = is.passed.behind e in omega arith);

@@ -22,7 +22,7 @@ use Rattle.attempt.specs.NextCall.{write_on, call_by, call_on, with_disk, next_i
 use Rattle.attempt.proofs.Histories.{IsOrderly, orderly}
 use Rattle.attempt.proofs.Lists.{row_none}
 use Rattle.attempt.proofs.More.{on_more}
-use Rattle.attempt.proofs.Replies.{history_more}
+use Rattle.attempt.proofs.Hearing.{history_more}
 use Rattle.phases.specs.declared.end.End as code_end
 use Rattle.phases.specs.declared.phase.Phase as code_phase
 use Rattle.phases.specs.declared.phase.Phase.TheVariants as phase
@@ -145,7 +145,7 @@ module _ (s : Setup) (heard : List Answered) (n : Notes) (leads : LeadsTo s hear
   pub leads_on : (x : Heard) (m : Notes) → Fits (call_due n).1 x → m.of ≡ n.of → Takes x n m → LeadsTo s (heard ++ record { disk = n.disk; heard = x } ∷ []) m
   leads_on x m fits same takes = record {
     of = same ∙ leads.of;
-    history = history_more s heard (record { disk = n.disk; heard = x }) leads.history (subst (λ (o : Option (ℕ × device.Call)). IsAnswerTo o (record { disk = n.disk; heard = x })) (sym call_is) (refl, fits));
+    history = history_more (next_call s) heard (record { disk = n.disk; heard = x }) leads.history (subst (λ (o : Option (ℕ × device.Call)). IsAnswerTo o (record { disk = n.disk; heard = x })) (sym call_is) (refl, fits));
     follows = subst (λ (g : Answers). Follows g m) (sym (on_more heard (record { disk = n.disk; heard = x }))) (takes f in_order leads.follows);
   }
 

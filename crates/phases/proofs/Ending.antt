@@ -8,7 +8,7 @@ use Rattle.attempt.specs.Answers.{Answers, all_good}
 use Rattle.attempt.specs.Setup.{Setup}
 use Rattle.attempt.specs.Visits.{is_stuck, takes_part, waits, visited, is_left, is_left_at, are_enough}
 use Rattle.attempt.specs.Status.{is_opened, taken, taken_by}
-use Rattle.attempt.specs.Proposal.{ballot}
+use Rattle.attempt.specs.Proposal.{ballot, decided}
 use Rattle.attempt.specs.NextCall.{says_for}
 use Rattle.attempt.proofs.Firsts.{below_none, below_some, count_same}
 use Rattle.attempt.proofs.Visitors.{waiting_is, left_if, part_if, not_stuck}
@@ -19,7 +19,7 @@ use Rattle.phases.specs.Calls.{phase_in}
 use Rattle.phases.specs.Notes.{Notes, visit_at}
 use Rattle.phases.specs.Kept.{Follows}
 use Rattle.phases.specs.Moves.{IsOpenedIn, IsPassed, IsBegun, IsOver, keeps_majority}
-use Rattle.phases.proofs.Hearing.{follows}
+use Rattle.phases.proofs.Hearing.{none_if, follows}
 
 -- HOW MANY ARE LEFT
 
@@ -79,8 +79,8 @@ none_taken b None false few = refl
 ballot_few : (s : Setup) (f : Answers) (p : Phase) (says : PBlock) → says ≡ says_for s p f → IsOpenedIn s p f → are_enough s (is_left s p f) ≡ false → says.mbal ≡ taken s f
 ballot_few s f Opening says is opened few =
     ap (λ (x : PBlock). x.mbal) is
-    ∙ sym (none_taken (ballot s f) (visited s Opening f) (are_enough s (is_opened f))
-    (few_by (are_enough s (is_opened f)) (are_enough s (is_left s Opening f)) (statuses.enough_more s (is_opened f) (is_left s Opening f) (λ e l o. opened_left s f (visited s Opening f) e (opened e) o)) few))
+    ∙ sym (none_if (decided s f) (taken_by (ballot s f) (visited s Opening f) (are_enough s (is_opened f))) (none_taken (ballot s f) (visited s Opening f) (are_enough s (is_opened f))
+    (few_by (are_enough s (is_opened f)) (are_enough s (is_left s Opening f)) (statuses.enough_more s (is_opened f) (is_left s Opening f) (λ e l o. opened_left s f (visited s Opening f) e (opened e) o)) few)))
 ballot_few s f One says is opened few = ap (λ (x : PBlock). x.mbal) is ∙ sym opened
 ballot_few s f Two says is opened few = ap (λ (x : PBlock). x.mbal) is ∙ sym opened
 

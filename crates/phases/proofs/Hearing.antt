@@ -10,15 +10,15 @@ use Rattle.attempt.specs.Calls.{Phase, Opening, One, Two, start, goal}
 use Rattle.attempt.specs.Answers.{Heard, Told, Answers, more, is_bad, all_good, told, row_in, last_row, later_row, seen_block, boot_of}
 use Rattle.attempt.specs.Setup.{Setup}
 use Rattle.attempt.specs.Visits.{is_stuck, takes_part, waits, visited, is_left, is_left_at, are_enough}
-use Rattle.attempt.specs.Proposal.{ballot}
-use Rattle.attempt.specs.Status.{Due, status, is_opened, taken, taken_by}
+use Rattle.attempt.specs.Proposal.{ballot, decided}
+use Rattle.attempt.specs.Status.{Due, status, is_opened, taken, taken_by, if_open}
 use Rattle.attempt.specs.Standing.{IsIn, NotOutrun}
 use Rattle.attempt.specs.NextCall.{says_for, some_value}
 use Rattle.attempt.proofs.Firsts.{IsFirst, some_below, below_some, count_same}
-use Rattle.attempt.proofs.Lists.{length_more, last_more, boot_more, row_last, row_none, row_same}
+use Rattle.attempt.proofs.Lists.{bad_more, length_more, last_more, boot_more, row_last, row_none, row_same}
 use Rattle.attempt.proofs.More.{more_here, more_there, by_disk}
-use Rattle.attempt.proofs.Rows.{AreSameRows, highest_same, ballot_same, own_same, best_same, proposal_same, others_same, opened_same, rows_stay, rows_kept}
-use Rattle.attempt.proofs.Visitors.{part_if, part_more, bad_more, bad_part, IsWaiting, waiting_is, waiting_if, waits_over, not_stuck, visited_kept}
+use Rattle.attempt.proofs.Rows.{AreSameRows, highest_same, ballot_same, own_same, best_same, decided_same, proposal_same, others_same, opened_same, rows_stay, rows_kept}
+use Rattle.attempt.proofs.Visitors.{part_if, part_more, bad_part, IsWaiting, waiting_is, waiting_if, waits_over, not_stuck, visited_kept}
 use Rattle.attempt.proofs.Statuses as statuses
 use Rattle.phases.specs.declared.phase.Phase as code_phase
 use Rattle.phases.specs.declared.phase.Stage.{Stage}
@@ -54,10 +54,11 @@ same_not_outrun s f g One opening rows is = ap₂ nat_lt (ballot_same s g f open
 same_not_outrun s f g Two opening rows is = ap₂ nat_lt (ballot_same s g f opening) (others_same s g f Two rows) ∙ is
 
 -- the ballot and the proposal go by the same
-pub same_rows_kept : (s : Setup) (f g : Answers) (top : ℕ) (vote : PBlock) → AreSameRows Opening g f → AreSameRows One g f → KeepsRows s f top vote → KeepsRows s g top vote
-same_rows_kept s f g top vote opening one is = record {
+pub same_rows_kept : (s : Setup) (f g : Answers) (top : ℕ) (vote : PBlock) (told : Option (List ℕ)) → AreSameRows Opening g f → AreSameRows One g f → KeepsRows s f top vote told → KeepsRows s g top vote told
+same_rows_kept s f g top vote told opening one is = record {
   highest = is.highest ∙ sym (highest_same s g f opening);
   best = is.best ∙ sym (best_same s g f opening one s.disks);
+  decided = is.decided ∙ sym (decided_same s g f opening);
 }
 
 -- what is said in a phase goes by the rows of those before
@@ -66,11 +67,11 @@ says_same s f g Opening opening one = refl
 says_same s f g One opening one =
     let b = ballot_same s g f (opening (omega arith)) in
     let o = own_same s g f (opening (omega arith)) s.disks in
-    λ i. record { mbal = b i; bal = (o i).bal; inp = (o i).inp }
+    λ i. record { mbal = b i; bal = (o i).bal; inp = (o i).inp; mark = false }
 says_same s f g Two opening one =
     let b = ballot_same s g f (opening (omega arith)) in
     let v = proposal_same s g f (opening (omega arith)) (one (omega arith)) in
-    λ i. record { mbal = b i; bal = b i; inp = Some (some_value (v i)) }
+    λ i. record { mbal = b i; bal = b i; inp = Some (some_value (v i)); mark = false }
 
 -- THE BALLOT TAKEN
 
@@ -79,10 +80,16 @@ not_taken : (b d : ℕ) (enough : Bool) → taken_by b (Some d) enough ≡ 0
 not_taken b d true = refl
 not_taken b d false = refl
 
+-- nor where something is decided
+pub none_if : (o : Option (List ℕ)) (b : ℕ) → b ≡ 0 → if_open o b ≡ 0
+none_if None b none = none
+none_if (Some value) b none = refl
+
 -- while a call of the phase is due
 pub ballot_visiting : (s : Setup) (f : Answers) (p : Phase) (d : ℕ) (says : PBlock) → says ≡ says_for s p f → IsOpenedIn s p f → visited s p f ≡ Some d → says.mbal ≡ taken s f
 ballot_visiting s f Opening d says is opened visits =
-    ap (λ (x : PBlock). x.mbal) is ∙ sym (ap (λ (o : Option ℕ). taken_by (ballot s f) o (are_enough s (is_opened f))) visits ∙ not_taken (ballot s f) d (are_enough s (is_opened f)))
+    ap (λ (x : PBlock). x.mbal) is
+    ∙ sym (none_if (decided s f) (taken_by (ballot s f) (visited s Opening f) (are_enough s (is_opened f))) (ap (λ (o : Option ℕ). taken_by (ballot s f) o (are_enough s (is_opened f))) visits ∙ not_taken (ballot s f) d (are_enough s (is_opened f))))
 ballot_visiting s f One d says is opened visits = ap (λ (x : PBlock). x.mbal) is ∙ sym opened
 ballot_visiting s f Two d says is opened visits = ap (λ (x : PBlock). x.mbal) is ∙ sym opened
 
@@ -146,8 +153,9 @@ module _ (s : Setup) (p : Phase) (d : ℕ) (f : Answers) (x : Heard) (due : IsDu
       let opening : AreSameRows Opening new f = rows_kept f d x Opening l in
       let b : ballot s new ≡ ballot s f = ballot_same s new f opening in
       let enough : are_enough s (is_opened new) ≡ are_enough s (is_opened f) = ap (λ (k : ℕ). nat_lt s.disks (2 * k)) (count_same s.disks (is_opened new) (is_opened f) (λ e u. opened_same s new f opening e)) in
-      ap (λ (o : Option ℕ). taken_by (ballot s new) o (are_enough s (is_opened new))) (visited_kept s f d x Opening l none ∙ sym none)
-      ∙ ap₂ (λ (k : ℕ) (t : Bool). taken_by k (visited s Opening f) t) b enough
+      ap (λ (o : Option (List ℕ)). if_open o (taken_by (ballot s new) (visited s Opening new) (are_enough s (is_opened new)))) (decided_same s new f opening)
+      ∙ ap (λ (o : Option ℕ). if_open (decided s f) (taken_by (ballot s new) o (are_enough s (is_opened new)))) (visited_kept s f d x Opening l none ∙ sym none)
+      ∙ ap₂ (λ (k : ℕ) (t : Bool). if_open (decided s f) (taken_by k (visited s Opening f) t)) b enough
       ∙ is
       ∙ sym b
 
@@ -322,7 +330,7 @@ module _ (q : code_phase.Phase) (f : Answers) (n : Notes) (v : IsVisiting q f n)
   stays_there x stays visits stage suits answers others left here writes =
       let due = due_there in
       record {
-        rows = same_rows_kept s f (more f d x) n.highest n.best (rows_stay f d x stays.rowless Opening) (rows_stay f d x stays.rowless One) v.rows;
+        rows = same_rows_kept s f (more f d x) n.highest n.best n.decided (rows_stay f d x stays.rowless Opening) (rows_stay f d x stays.rowless One) v.rows;
         status = status_still s p d f x due stays;
         suits = suits;
         answers = ap length (more_here f d x) ∙ length_more (f d) x ∙ answers;
@@ -340,13 +348,13 @@ module _ (q : code_phase.Phase) (f : Answers) (n : Notes) (v : IsVisiting q f n)
         writes = writes;
       }
 
-  pub passes : (x : Heard) (ending : Ending p (f d) x) (top : ℕ) (vote : PBlock) (visits : List Visit)
-      → KeepsRows s (more f d x) top vote → NotOutrun s p (more f d x)
+  pub passes : (x : Heard) (ending : Ending p (f d) x) (top : ℕ) (vote : PBlock) (told : Option (List ℕ)) (visits : List Visit)
+      → KeepsRows s (more f d x) top vote told → NotOutrun s p (more f d x)
       → ((e : ℕ) → e ≢ d → visit_at visits e ≡ visit_at n.visits e)
       → (visit_at visits d).left ≡ keeps_it p (f d) x ending
       → (keeps_it p (f d) x ending ≡ true → Remembers s.host (f d ++ x ∷ []) (visit_at visits d))
-      → ArePassed s q (more f d x) top vote n.says visits (d + 1)
-  passes x ending top vote visits rows below others left here =
+      → ArePassed s q (more f d x) top vote told n.says visits (d + 1)
+  passes x ending top vote told visits rows below others left here =
       let due = due_there in
       let there : (e : ℕ) → e ≢ d → is_left s p f e ≡ is_left_at (Some (d + 1)) s p (more f d x) e = λ e off. ap (λ (o : Option ℕ). is_left_at o s p f e) due.at.visits ∙ sym (left_then_there s p d f x due ending e off) in
       record {

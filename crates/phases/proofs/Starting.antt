@@ -1,5 +1,5 @@
 -- What an attempt keeps that has heard nothing.
-use Rattle.std.proofs.Common.{◌≡◌, ◌*◌, ◌<◌, ℕ, zero, suc, true, None, List, [], refl, sym, subst, ap, ◌∙◌, arith}
+use Rattle.std.proofs.Common.{◌≡◌, ◌*◌, ◌<◌, ℕ, zero, suc, true, Option, None, List, [], refl, sym, subst, ap, ◌∙◌, arith}
 use Rattle.std.proofs.lemmas.Bool.{lt-ltb}
 use Rattle.paxos_block.specs.Saying.{zeros}
 use Rattle.paxos_block.specs.Row.{blank}
@@ -9,7 +9,7 @@ use Rattle.attempt.specs.Answers.{Answers}
 use Rattle.attempt.specs.Numbers.{count}
 use Rattle.attempt.specs.Setup.{Setup}
 use Rattle.attempt.specs.Visits.{waits}
-use Rattle.attempt.specs.Proposal.{own_below}
+use Rattle.attempt.specs.Proposal.{own_below, decided_below, or_else}
 use Rattle.attempt.proofs.Firsts.{below_some}
 use Rattle.attempt.proofs.Rows.{best_none}
 use Rattle.attempt.proofs.Statuses as statuses
@@ -39,6 +39,10 @@ own_none : (s : Setup) (n : ℕ) → own_below s nothing n ≡ blank
 own_none s zero = refl
 own_none s (suc n) = own_none s n
 
+decided_none : (s : Setup) (n : ℕ) → decided_below s nothing n ≡ None
+decided_none s zero = refl
+decided_none s (suc n) = ap (λ (o : Option (List ℕ)). or_else o None) (decided_none s n)
+
 all_count : (n : ℕ) → count n (λ d. true) ≡ n
 all_count zero = refl
 all_count (suc n) = let before : count n (λ d. true) ≡ n = all_count n in omega arith
@@ -48,6 +52,7 @@ pub starts : (s : Setup) (visits : List Visit) → 0 < s.disks → ((e : ℕ) �
       of = s;
       highest = s.floor;
       best = blank;
+      decided = None;
       says = blank;
       visits = visits;
       phase = phase.Opening;
@@ -56,7 +61,7 @@ pub starts : (s : Setup) (visits : List Visit) → 0 < s.disks → ((e : ℕ) �
       end = None;
     })
 starts s visits some unseen_all =
-    let n : Notes = record { of = s; highest = s.floor; best = blank; says = blank; visits = visits; phase = phase.Opening; disk = 0; stage = stage.Attaching; end = None } in
+    let n : Notes = record { of = s; highest = s.floor; best = blank; decided = None; says = blank; visits = visits; phase = phase.Opening; disk = 0; stage = stage.Attaching; end = None } in
     record {
       of = refl;
       history = tt;
@@ -64,6 +69,7 @@ starts s visits some unseen_all =
         rows = record {
           highest = (let none : greatest s.disks (λ d. 0) ≡ 0 = greatest_zero s.disks in omega arith);
           best = sym (best_none s nothing s.disks (λ e l. refl) ∙ own_none s s.disks);
+          decided = sym (decided_none s s.disks);
         };
         status = statuses.due_if s nothing Opening 0 (record {
           come = tt;

@@ -1,6 +1,6 @@
 -- What follows from the row of each phase.
 use Rattle.std.specs.Prelude.{nat_lt, slice_set, if◌then◌else◌}
-use Rattle.std.proofs.Common.{◌≡◌, ◌+◌, ◌<◌, ◌≤◌, max, ℕ, Bool, true, false, Some, None, List, [], ◌∷◌, ◌++◌, length, refl, sym, subst, ap, ◌∙◌, arith}
+use Rattle.std.proofs.Common.{◌≡◌, ◌+◌, ◌<◌, ◌≤◌, max, ℕ, Bool, true, false, Option, Some, None, List, [], ◌∷◌, ◌++◌, length, refl, sym, subst, ap, ◌∙◌, arith}
 use Rattle.std.proofs.lemmas.Bool.{le-ltb, lt-ltb, ltb-false, ltb-true}
 use Rattle.torn_block.specs.declared.layout.TheConstants.{HOSTS}
 use Rattle.torn_block.specs.Block.{value_of}
@@ -8,20 +8,20 @@ use Rattle.paxos_block.specs.declared.block.PBlock.{PBlock}
 use Rattle.paxos_block.specs.declared.cell.Cell.{Cell}
 use Rattle.paxos_block.specs.Row.{SeenBlock, seen_at, row_said, IsSeenAs}
 use Rattle.paxos_block.specs.Saying.{IsVoteOf}
-use Rattle.paxos_block.specs.Votes.{says_in, top_of, others_top_of, later_of, latest_in}
+use Rattle.paxos_block.specs.Votes.{says_in, top_of, others_top_of, later_of, latest_in, marked_in}
 use Rattle.paxos_block.proofs.RowLemmas.{said_is_said}
 use Rattle.paxos_block.proofs.VoteLemmas.{greatest_is_greatest, vote_at, vote_in, later_vote}
 use Rattle.attempt.specs.Calls.{Phase, Opening, One, start, goal}
 use Rattle.attempt.specs.Answers.{Told, Answers, more}
 use Rattle.attempt.specs.Setup.{Setup}
 use Rattle.attempt.specs.Visits.{takes_part}
-use Rattle.attempt.specs.Proposal.{ballot, others_mbal}
+use Rattle.attempt.specs.Proposal.{ballot, or_else, others_mbal}
 use Rattle.attempt.specs.Status.{Ended, Outrun, status, taken}
 use Rattle.attempt.specs.Standing.{IsIn, NotOutrun}
 use Rattle.attempt.specs.NextCall.{says_for}
 use Rattle.attempt.proofs.Lists.{row_none}
 use Rattle.attempt.proofs.More.{by_disk}
-use Rattle.attempt.proofs.Rows.{IsLast, AreSameRows, highest_same, ballot_same, rows_kept, highest_takes, best_opens, best_takes, others_takes}
+use Rattle.attempt.proofs.Rows.{IsLast, AreSameRows, highest_same, ballot_same, decided_same, rows_kept, highest_takes, decided_takes, best_opens, best_takes, others_takes}
 use Rattle.attempt.proofs.Visitors.{part_is, part_if, part_more}
 use Rattle.attempt.proofs.Statuses as statuses
 use Rattle.phases.specs.declared.end.End.TheVariants as end
@@ -49,13 +49,13 @@ own_vote bytes seen host n vote below said voted =
     later_vote host m vote in_row (vote_at host n m vote.bal vote.inp (omega arith) voted) own
 
 -- so what is kept in the opening stays sound
-pub opening_sound : (bytes : List ℕ) (seen : List SeenBlock) (n : Notes) (h : ℕ) (b says : PBlock) → IsSound n → n.phase ≡ phase.Opening → row_said bytes ≡ Some seen → h ≡ max n.highest (top_of seen) → b ≡ later_of n.best says → says ≡ says_in seen n.of.host
-    → IsSound (record n { highest = h; best = b })
-opening_sound bytes seen n h b says is first said h_is b_is says_is = record {
+pub opening_sound : (bytes : List ℕ) (seen : List SeenBlock) (n : Notes) (h : ℕ) (b says : PBlock) (told : Option (List ℕ)) → IsSound n → n.phase ≡ phase.Opening → row_said bytes ≡ Some seen → h ≡ max n.highest (top_of seen) → b ≡ later_of n.best says → says ≡ says_in seen n.of.host
+    → IsSound (record n { highest = h; best = b; decided = told })
+opening_sound bytes seen n h b says told is first said h_is b_is says_is = record {
   is_host = is.is_host;
   visits_one = is.visits_one;
   few = is.few;
-  said = subst (λ (q : code_phase.Phase). SaysWell q (record n { highest = h; best = b })) (sym first) (
+  said = subst (λ (q : code_phase.Phase). SaysWell q (record n { highest = h; best = b; decided = told })) (sym first) (
       let best_is : later_of n.best (says_in seen n.of.host) ≡ b = ap (later_of n.best) (sym says_is) ∙ sym b_is in
       subst (λ (k : ℕ). IsVoteOf n.of.host k b.bal b.inp) (sym h_is)
       (subst (λ (x : PBlock). IsVoteOf n.of.host (max n.highest (top_of seen)) x.bal x.inp) best_is
@@ -144,22 +144,24 @@ pub row_passes : (q : code_phase.Phase) (f : Answers) (n : Notes) (v : IsVisitin
     → IsPassed q (more f n.disk (Told (Some row))) (record (noted q n row) { visits = slice_set n.visits n.disk (record (visit_at n.visits n.disk) { block = cell.block }) }) (n.disk + 1)
 row_passes phase.Opening f n v order at row room cell shows none =
     let last = is_last phase.Opening f n v order at row in
-    reads phase.Opening f n v order at row room cell shows _ _ (record {
+    reads phase.Opening f n v order at row room cell shows _ _ _ (record {
       highest = ap (λ (k : ℕ). max k (top_of row)) v.rows.highest ∙ sym (highest_takes n.of f n.disk row last);
       best =
           ap (λ (x : PBlock). later_of x (says_in row n.of.host)) v.rows.best
           ∙ sym (best_opens n.of f n.disk row last (λ e l. row_none One (f e) (let most = order.behind e in omega arith)));
+      decided = ap (λ (o : Option (List ℕ)). or_else o (marked_in row)) v.rows.decided ∙ sym (decided_takes n.of f n.disk row last);
     }) tt
 row_passes phase.One f n v order at row room cell shows none =
     let g = more f n.disk (Told (Some row)) in
     let opening : AreSameRows Opening g f = kept phase.One f n v order at row Opening (omega arith) in
-    reads phase.One f n v order at row room cell shows _ _ (record {
+    reads phase.One f n v order at row room cell shows _ _ _ (record {
       highest = v.rows.highest ∙ sym (highest_same n.of g f opening);
       best = ap (latest_in n.of.host row) v.rows.best ∙ sym (best_takes n.of f n.disk row (is_last phase.One f n v order at row));
+      decided = v.rows.decided ∙ sym (decided_same n.of g f opening);
     }) (runs phase.One f n v order at row (omega arith) refl (λ run. run) none)
 row_passes phase.Two f n v order at row room cell shows none =
     let g = more f n.disk (Told (Some row)) in
-    reads phase.Two f n v order at row room cell shows _ _ (same_rows_kept n.of f g n.highest n.best (kept phase.Two f n v order at row Opening (omega arith)) (kept phase.Two f n v order at row One (omega arith)) v.rows)
+    reads phase.Two f n v order at row room cell shows _ _ _ (same_rows_kept n.of f g n.highest n.best n.decided (kept phase.Two f n v order at row Opening (omega arith)) (kept phase.Two f n v order at row One (omega arith)) v.rows)
     (runs phase.Two f n v order at row (omega arith) refl (λ run. run) none)
 
 -- or the attempt

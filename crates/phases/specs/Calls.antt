@@ -6,7 +6,7 @@ use Rattle.torn_block.specs.declared.layout.TheConstants.{ROW_LENGTH}
 use Rattle.paxos_block.specs.Row.{row_said}
 use Rattle.attempt.specs.Calls.{Phase, Opening, One, Two}
 use Rattle.attempt.specs.Answers.{Heard, Booted, Done, Told, Fault}
-use Rattle.attempt.specs.Status.{End, Committed, Empty, Outrun, NoMajority, BallotsSpent}
+use Rattle.attempt.specs.Status.{End, Committed, Decided, Empty, Outrun, NoMajority, BallotsSpent}
 use Rattle.phases.specs.declared.phase.Phase as code_phase
 use Rattle.phases.specs.declared.phase.Phase.TheVariants as phase
 use Rattle.phases.specs.declared.heard.Heard as code_heard
@@ -48,6 +48,7 @@ heard_of (answer.Fault fault) = Fault fault
 
 abbrev pub end_of : code_end.End → End
 end_of (end.Committed value) = Committed value
+end_of (end.Decided value) = Decided value
 end_of end.Empty = Empty
 end_of (end.Outrun mbal) = Outrun mbal
 end_of end.NoMajority = NoMajority

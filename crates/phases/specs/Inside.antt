@@ -7,6 +7,7 @@ notes_in a = record {
   of = setup_in a.of;
   highest = a.highest;
   best = a.best;
+  decided = a.decided;
   says = a.says;
   visits = a.visits;
   phase = a.phase;

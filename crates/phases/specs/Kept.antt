@@ -11,7 +11,7 @@ use Rattle.paxos_block.specs.Places.{place_of, VoteOf, row_place}
 use Rattle.attempt.specs.Answers.{Heard, Answered, Answers, on, last_row, seen_block, boot_of}
 use Rattle.attempt.specs.Setup.{Setup}
 use Rattle.attempt.specs.Visits.{is_left}
-use Rattle.attempt.specs.Proposal.{highest, best}
+use Rattle.attempt.specs.Proposal.{highest, best, decided}
 use Rattle.attempt.specs.Status.{End, Status, Due, Ended, status, taken}
 use Rattle.attempt.specs.NextCall.{says_for}
 use Rattle.attempt.specs.History.{IsHistory}
@@ -58,10 +58,11 @@ pub record KeepsVisits (s : Setup) (f : Answers) (is_kept : ℕ → Bool) (visit
   pub left : (e : ℕ) → e < s.disks → (visit_at visits e).left ≡ is_kept e
   pub each : (e : ℕ) → e < s.disks → is_kept e ≡ true → Remembers s.host (f e) (visit_at visits e)
 
--- what its ballot and its proposal go by is what the rows say
-pub record KeepsRows (s : Setup) (f : Answers) (top : ℕ) (vote : PBlock) : Type 0 where
+-- what its ballot and its proposal go by, and what was decided, is what the rows say
+pub record KeepsRows (s : Setup) (f : Answers) (top : ℕ) (vote : PBlock) (told : Option (List ℕ)) : Type 0 where
   pub highest : top ≡ highest s f
   pub best : vote ≡ best s f
+  pub decided : told ≡ decided s f
 
 -- the write under way on a disk, of which a call is due
 pub record IsWriting (says : PBlock) (visit : Visit) (plan : Plan) : Type 0 where
@@ -74,7 +75,7 @@ Writes other says visit = Unit {0}
 
 -- in this phase a call is due on the disk that is visited
 pub record IsVisiting (q : code_phase.Phase) (f : Answers) (n : Notes) : Type 0 where
-  pub rows : KeepsRows n.of f n.highest n.best
+  pub rows : KeepsRows n.of f n.highest n.best n.decided
   pub status : status n.of f ≡ Due (phase_in q) n.disk
   pub suits : Suits q n.stage
   pub answers : length (f n.disk) ≡ answered (phase_in q) n.stage

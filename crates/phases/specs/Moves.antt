@@ -4,13 +4,13 @@ use Rattle.std.specs.Prelude.{◌≡◌, ◌<◌, ◌≤◌, ◌*◌, ◌&&◌, 
 use Rattle.paxos_block.specs.declared.block.PBlock.{PBlock}
 use Rattle.paxos_block.specs.declared.row.Row.{Row}
 use Rattle.paxos_block.specs.Row.{SeenBlock, AreSeenAs, row_said}
-use Rattle.paxos_block.specs.Votes.{says_in, top_of, others_top_of, later_of, latest_in}
+use Rattle.paxos_block.specs.Votes.{says_in, top_of, others_top_of, later_of, latest_in, marked_in}
 use Rattle.attempt.specs.Calls.{Phase, Opening, One, Two, start, goal}
 use Rattle.attempt.specs.Answers.{Heard, Booted, Answers, more, all_good, row_in}
 use Rattle.attempt.specs.Numbers.{count}
 use Rattle.attempt.specs.Setup.{Setup}
 use Rattle.attempt.specs.Visits.{takes_part, waits, is_left, is_left_at, are_enough}
-use Rattle.attempt.specs.Proposal.{ballot}
+use Rattle.attempt.specs.Proposal.{ballot, or_else}
 use Rattle.attempt.specs.Status.{is_opened, taken}
 use Rattle.attempt.specs.Standing.{IsIn, NotOutrun}
 use Rattle.attempt.specs.NextCall.{says_for}
@@ -57,7 +57,7 @@ outruns phase.Opening n seen = None
 outruns phase.One n seen = above n.says.mbal (others_top_of n.of.host seen)
 outruns phase.Two n seen = above n.says.mbal (others_top_of n.of.host seen)
 
--- the opening takes a row's ballots and the own vote there, and phase 1 the other hosts' votes
+-- the opening takes a row's ballots, the own vote and what is marked there, and phase 1 the other hosts' votes
 abbrev pub top_then : code_phase.Phase → ℕ → List SeenBlock → ℕ
 top_then phase.Opening top seen = max top (top_of seen)
 top_then other top seen = top
@@ -67,14 +67,18 @@ vote_then phase.Opening host vote seen = later_of vote (says_in seen host)
 vote_then phase.One host vote seen = latest_in host seen vote
 vote_then phase.Two host vote seen = vote
 
+abbrev pub decided_then : code_phase.Phase → Option (List ℕ) → List SeenBlock → Option (List ℕ)
+decided_then phase.Opening told seen = or_else told (marked_in seen)
+decided_then other told seen = told
+
 abbrev pub noted : code_phase.Phase → Notes → List SeenBlock → Notes
-noted q n seen = record n { highest = top_then q n.highest seen; best = vote_then q n.of.host n.best seen }
+noted q n seen = record n { highest = top_then q n.highest seen; best = vote_then q n.of.host n.best seen; decided = decided_then q n.decided seen }
 
 -- BETWEEN AN ANSWER AND THE NEXT CALL
 
 -- the disks below `from` are done with in the phase, and those from there on still wait for it
-pub record ArePassed (s : Setup) (q : code_phase.Phase) (f : Answers) (top : ℕ) (vote says : PBlock) (visits : List Visit) (from : ℕ) : Type 0 where
-  pub rows : KeepsRows s f top vote
+pub record ArePassed (s : Setup) (q : code_phase.Phase) (f : Answers) (top : ℕ) (vote : PBlock) (told : Option (List ℕ)) (says : PBlock) (visits : List Visit) (from : ℕ) : Type 0 where
+  pub rows : KeepsRows s f top vote told
   pub come : IsIn s (phase_in q) f
   pub not_outrun : NotOutrun s (phase_in q) f
   pub opened : IsOpenedIn s (phase_in q) f
@@ -85,7 +89,7 @@ pub record ArePassed (s : Setup) (q : code_phase.Phase) (f : Answers) (top : ℕ
   pub kept : KeepsVisits s f (is_left_at (Some from) s (phase_in q) f) visits
 
 abbrev pub IsPassed : code_phase.Phase → Answers → Notes → ℕ → Type 0
-IsPassed q f n from = ArePassed n.of q f n.highest n.best n.says n.visits from
+IsPassed q f n from = ArePassed n.of q f n.highest n.best n.decided n.says n.visits from
 
 -- the phase begins on the disk that is visited now
 pub record IsBegun (q : code_phase.Phase) (f : Answers) (n : Notes) : Type 0 where

@@ -15,12 +15,13 @@ use Rattle.phases.specs.Steps.{IsDueIn}
 abbrev pub setup_in : code_setup.Setup → Setup
 setup_in of = record { host = of.host; slot = of.slot; disks = of.disks; floor = of.floor; input = of.input }
 
--- what it is of; what its ballot and its proposal go by; what it says; each disk's visit; and the call that is due, or
+-- what it is of; what its ballot and its proposal go by; what was decided; what it says; each disk's visit; and the call that is due, or
 -- the end
 pub record Notes : Type 0 where
   pub of : Setup
   pub highest : ℕ
   pub best : PBlock
+  pub decided : Option (List ℕ)
   pub says : PBlock
   pub visits : List Visit
   pub phase : Phase

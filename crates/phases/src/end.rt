@@ -5,6 +5,8 @@ use paxos_block::Value;
 pub enum End {
     /// This value is chosen for the slot.
     Committed(Value),
+    /// A marked block says that this value is chosen for the slot.
+    Decided(Value),
     /// No input was found, and the attempt has none. Nothing had been chosen for the slot when it began.
     Empty,
     /// Another host has this ballot, which is greater.

@@ -41,6 +41,8 @@ pub struct Attempt {
     highest: u64,
     /// The latest vote that was found: the host's own in the opening, and then any host's.
     best: PBlock,
+    /// The input of the first marked block in the opening's rows.
+    decided: Option<Value>,
     /// What is written in the phase; blank in the opening.
     says: PBlock,
     /// By the disks' numbers.
@@ -84,6 +86,7 @@ impl Attempt {
             },
             highest: floor,
             best: PBlock::BLANK,
+            decided: None,
             says: PBlock::BLANK,
             visits: [UNSEEN; PLACES],
             phase: Phase::Opening,
@@ -270,6 +273,7 @@ impl Attempt {
             Phase::Opening => {
                 self.highest = self.highest.max(row.greatest_mbal());
                 self.best = self.best.or_later(&row.cell(host).says);
+                self.decided = self.decided.or(row.marked());
             }
             Phase::One => self.best = row.latest_vote(host, self.best),
             Phase::Two => {}
@@ -315,7 +319,7 @@ impl Attempt {
         }
     }
 
-    // The opening is over: the ballot is taken, and phase 1 begins.
+    // The opening is over: a marked block ends the attempt, or else the ballot is taken, and phase 1 begins.
     fn take_ballot(&mut self) -> bool
         requires going { self.old.end ≡ None }
         requires phase { self.old.phase ≡ Phase.Opening }
@@ -326,6 +330,10 @@ impl Attempt {
             IsPassed self.new.phase f self.new 0) }
         ensures ends { OnFalse result ((f : Answers) → IsOver self.old.phase f self.old → Follows f self.new) }
     {
+        if let Some(value) = self.decided {
+            self.end = Some(End::Decided(value));
+            return false;
+        }
         let Some(ballot) = ballot_above(self.of.host, self.highest) else {
             self.end = Some(End::BallotsSpent);
             return false;
@@ -335,6 +343,7 @@ impl Attempt {
             mbal: ballot,
             bal: self.best.bal,
             inp: self.best.inp,
+            mark: false,
         };
         true
     }
@@ -359,6 +368,7 @@ impl Attempt {
             mbal: self.says.mbal,
             bal: self.says.mbal,
             inp: Some(value),
+            mark: false,
         };
         true
     }

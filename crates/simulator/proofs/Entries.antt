@@ -7,7 +7,7 @@ use Rattle.std.proofs.lemmas.List.{take_more, take-take}
 use Rattle.std.proofs.lemmas.Option.{slice_get_within, get_or_from_slice_get}
 use Rattle.slot_log.specs.Shape.{Shape}
 use Rattle.host.specs.Host.{said_of}
-use Rattle.world.specs.Entry.{Filled, Start, Stop, Submit, Recover, Beat, Called, Torn, Crashed, Lost, is_of}
+use Rattle.world.specs.Entry.{Filled, Start, Stop, Submit, Recover, Beat, Mark, Called, Torn, Crashed, Lost, is_of}
 use Rattle.world.specs.World.{world}
 use Rattle.world.specs.Happens.{Event, Line, entry_of, with_entry, happens, happen, run, host_of, lines_at, answers_from, answers}
 use Rattle.world.specs.Chosen.{at, SaysAt}
@@ -117,6 +117,7 @@ own (Stop g) h is = eq-eqb g h (cc)
 own (Submit g command tries) h is = eq-eqb g h (cc)
 own (Recover g tries) h is = eq-eqb g h (cc)
 own (Beat g) h is = eq-eqb g h (cc)
+own (Mark g slot) h is = eq-eqb g h (cc)
 own (Called g k call answer left) h is = eq-eqb g h (cc)
 own (Torn g k call left) h is = eq-eqb g h (cc)
 own (Crashed k left) h is = absurd (cc)

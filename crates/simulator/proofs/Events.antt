@@ -9,13 +9,13 @@ use Rattle.slot_log.specs.Shape.{Shape}
 use Rattle.lock_command.specs.declared.command.Command.{Command}
 use Rattle.lock_command.specs.Command.{spelling, Fits as FitsCommand}
 use Rattle.lock_command.specs.Reading.{decoded}
-use Rattle.host.specs.Host.{Host, Stopped, Running, Memory, Submitting, Recovering, fresh, goes_on, starts_beat, idles, is_stopped}
+use Rattle.host.specs.Host.{Host, Stopped, Running, Memory, Submitting, Recovering, fresh, goes_on, starts_beat, starts_marking, idles, is_stopped}
 use Rattle.host.specs.Kept as hosts
 use Rattle.host.proofs.Hosts.{idle_is}
 use Rattle.world.specs.Entry as entries
-use Rattle.world.specs.Entry.{Filled, Called, Torn, Crashed, Lost, is_on, is_of, disk_step, host_step, started, beats as beats_then}
+use Rattle.world.specs.Entry.{Filled, Called, Torn, Crashed, Lost, is_on, is_of, disk_step, host_step, started, beats as beats_then, marks as marks_then}
 use Rattle.world.specs.World.{world}
-use Rattle.world.specs.Happens.{Start, Stop, Submit, Recover, Beat, brings_if, submitted}
+use Rattle.world.specs.Happens.{Start, Stop, Submit, Recover, Beat, Mark, brings_if, submitted}
 use Rattle.world.proofs.Follow.{command_reads_back}
 use Rattle.host.specs.declared.answer.HostAnswer.{HostAnswer}
 use Rattle.world.specs.Happens.{lines_after}
@@ -101,6 +101,17 @@ module _ (log : List Filled) (old : Kept) (leads : LeadsTo log old) where
   pub beats_not : (h : ℕ) (o : Option hosts.Kept) → get_or old.hosts h None ≡ o → is_free o ≡ false → Brings log (Beat h) old old None
   beats_not h o is busy = nothing log old leads (Beat h) (ap (λ (b : Bool). brings_if b (Some (entries.Beat h))) (not_idle h o is busy))
 
+  pub marks_not : (h slot : ℕ) (o : Option hosts.Kept) → get_or old.hosts h None ≡ o → is_free o ≡ false → Brings log (Mark h slot) old old None
+  marks_not h slot o is busy =
+      nothing log old leads (Mark h slot) (ap (λ (b : Bool). brings_if (b && nat_lt slot old.shape.slots) (Some (entries.Mark h slot))) (not_idle h o is busy))
+
+  -- behind the log
+  pub marks_behind : (h slot : ℕ) → nat_lt slot old.shape.slots ≡ false → Brings log (Mark h slot) old old None
+  marks_behind h slot behind =
+      nothing log old leads (Mark h slot)
+      (ap (λ (b : Bool). brings_if (idles ((world old.shape log).host h) && b) (Some (entries.Mark h slot))) behind
+      ∙ ap (λ (b : Bool). brings_if b (Some (entries.Mark h slot))) (and_no (idles ((world old.shape log).host h))))
+
   -- without tries
   pub submits_untried : (h : ℕ) (command : Command) (tries : ℕ) → tries ≡ 0 → Brings log (Submit h command tries) old old None
   submits_untried h command tries none =
@@ -170,3 +181,20 @@ module _ (log : List Filled) (old : Kept) (leads : LeadsTo log old) where
       leads.sized
       (λ place. subst (λ (o : Option HostAnswer). lines_of place (saying h o) ≡ lines_after (world old.shape (log ++ e ∷ [])) place (Some h)) kept.said
       (says_by log old leads e h (starts_beat r.0) new (self_eq h) steps kept place))
+
+  pub marks : (h slot : ℕ) (core new : hosts.Kept) → h < HOSTS → slot < old.shape.slots
+      → get_or old.hosts h None ≡ Some core → hosts.is_idle core ≡ true
+      → ((c : Shape) (g : ℕ) (m : Memory) → hosts.LeadsTo c g m core → hosts.LeadsTo c g (starts_marking m slot) new)
+      → Brings log (Mark h slot) old (record old { hosts = set old.hosts h (Some new) }) (saying h new.said)
+  marks h slot core new within inside is idle goes =
+      let e : Filled = entries.Mark h slot in
+      let r = running_at h core is in
+      let steps : host_step old.shape h ((world old.shape log).host h) e ≡ Running (starts_marking r.0 slot) = ap (λ (x : Host). marks_then x slot) r.1 in
+      let kept : hosts.LeadsTo old.shape h (starts_marking r.0 slot) new = goes old.shape h r.0 r.2 in
+      let applies : (idles ((world old.shape log).host h) && nat_lt slot old.shape.slots) ≡ true =
+      ap (λ (b : Bool). b && nat_lt slot old.shape.slots) (idle_then h core is idle) ∙ lt-ltb slot old.shape.slots inside in
+      something log old leads (Mark h slot) e (record old { hosts = set old.hosts h (Some new) }) (saying h new.said)
+      (ap (λ (b : Bool). brings_if b (Some e)) applies) refl
+      (by_host log old leads e h (Some new) within (λ d. refl) (λ g. refl) (subst (λ (x : Host). IsHost old.shape h x (Some new)) (sym steps) kept))
+      leads.sized
+      (λ place. says_by log old leads e h (starts_marking r.0 slot) new (self_eq h) steps kept place)

@@ -17,11 +17,11 @@ use Rattle.lock_command.specs.Command.{Fits as FitsCommand}
 use Rattle.phases.specs.declared.need.Need.{Need}
 use Rattle.phases.specs.declared.need.DeviceCall as code_call
 use Rattle.phases.specs.Calls.{call_of_need, device_call_of, IsWithin}
-use Rattle.host.specs.Host.{Stopped, Memory, Submitting, Recovering, fresh, goes_on, hears_from, next_in, starts_beat}
+use Rattle.host.specs.Host.{Stopped, Memory, Submitting, Recovering, fresh, goes_on, hears_from, next_in, starts_beat, starts_marking}
 use Rattle.host.specs.Kept as hosts
 use Rattle.world.specs.Entry.{Filled, called_by}
 use Rattle.world.specs.World.{world}
-use Rattle.world.specs.Happens.{Event, Start, Stop, Submit, Recover, Beat, Step, Tear, FailCall, DiskCrash, DiskGone, answer_of, spread_over}
+use Rattle.world.specs.Happens.{Event, Start, Stop, Submit, Recover, Beat, Mark, Step, Tear, FailCall, DiskCrash, DiskGone, answer_of, spread_over}
 use Rattle.simulator.specs.declared.parts.Said.{Said}
 use Rattle.simulator.specs.declared.parts.Parts.TheInside.{Inside}
 use Rattle.simulator.specs.Calls.{is_write, may_crash, crashed_if, lost_if}
@@ -124,6 +124,9 @@ module _ (old : Kept) (h i : ℕ) (same : i ≡ h) (within : i < HOSTS) where
     pub beats_busy : is_free o ≡ false → (log : List Filled) → LeadsTo log old → Brings log (Beat h) old old None
     beats_busy busy log leads = subst (λ (j : ℕ). Brings log (Beat j) old old None) same (events.beats_not log old leads i o is busy)
 
+    pub marks_busy : (slot : ℕ) → is_free o ≡ false → (log : List Filled) → LeadsTo log old → Brings log (Mark h slot) old old None
+    marks_busy slot busy log leads = subst (λ (j : ℕ). Brings log (Mark j slot) old old None) same (events.marks_not log old leads i slot o is busy)
+
   -- a call that is no write is not torn
   pub tears_no_write : (core : hosts.Kept) (need : Need) → get_or old.hosts i None ≡ Some core
       → ((c : Shape) (g : ℕ) (m : Memory) → hosts.LeadsTo c g m core → next_in c g m ≡ Some (call_of_need need))
@@ -149,6 +152,13 @@ module _ (old : Kept) (h i : ℕ) (same : i ≡ h) (within : i < HOSTS) where
     recovers tries some idle goes log leads =
         named (λ j. Recover j tries) log old (record old { hosts = set old.hosts i (Some new) }) i h new.said said same is_said
         (events.recovers log old leads i tries core new within some found idle goes)
+
+    pub marks : (slot : ℕ) → slot < old.shape.slots → hosts.is_idle core ≡ true
+        → ((c : Shape) (g : ℕ) (m : Memory) → hosts.LeadsTo c g m core → hosts.LeadsTo c g (starts_marking m slot) new)
+        → (log : List Filled) → LeadsTo log old → Brings log (Mark h slot) old (record old { hosts = set old.hosts i (Some new) }) said
+    marks slot inside idle goes log leads =
+        named (λ j. Mark j slot) log old (record old { hosts = set old.hosts i (Some new) }) i h new.said said same is_said
+        (events.marks log old leads i slot core new within inside found idle goes)
 
   pub beats : (core new : hosts.Kept) → get_or old.hosts i None ≡ Some core → hosts.is_idle core ≡ true → ((c : Shape) (g : ℕ) (m : Memory) → hosts.LeadsTo c g m core → hosts.LeadsTo c g (starts_beat m) new)
       → (log : List Filled) → LeadsTo log old → Brings log (Beat h) old (record old { hosts = set old.hosts i (Some new) }) None

@@ -1,6 +1,6 @@
 -- With which events a host may answer that it has recovered.
 use Rattle.std.specs.Prelude.{nat_lt, ◌&&◌, not, option_and_then, if◌then◌else◌}
-use Rattle.std.proofs.Common.{ℕ, ◌≡◌, Bool, true, false, Option, Some, None, List, length, slice_get, refl, sym, ap, ◌∙◌}
+use Rattle.std.proofs.Common.{ℕ, ◌≡◌, Bool, true, false, Option, Some, None, List, [], length, slice_get, refl, sym, ap, ◌∙◌}
 use Rattle.disk.specs.declared.fault.DiskFault.{DiskFault}
 use Rattle.disk.specs.Disk.{Call, Attach, Read, Write, Sync}
 use Rattle.disk.specs.Simulated.{refusal_of}
@@ -9,12 +9,13 @@ use Rattle.lock_command.specs.declared.command.Command.{Command}
 use Rattle.lock_command.specs.Command.{spelling}
 use Rattle.lock_command.specs.Reading.{decoded}
 use Rattle.slot_log.specs.Shape.{Shape}
-use Rattle.host.specs.declared.answer.HostAnswer.TheVariants.{Recovered}
-use Rattle.host.specs.Host.{Submitting, Host, Stopped, Running, begins, says, full_answer, is_stopped, idles, next_of, said_of}
+use Rattle.slot_log.specs.declared.outcome.Refusal.TheVariants as refusal
+use Rattle.host.specs.declared.answer.HostAnswer.TheVariants.{Recovered, Refused}
+use Rattle.host.specs.Host.{Submitting, Host, Stopped, Running, begins, says, full_answer, with_marking, is_stopped, idles, next_of, said_of}
 use Rattle.world.specs.Entry as entries
 use Rattle.world.specs.Entry.{Filled, host_step}
 use Rattle.world.specs.World.{World, world}
-use Rattle.world.specs.Happens.{Event, Start, Stop, Submit, Recover, Beat, Step, Tear, FailCall, DiskCrash, DiskGone, Line, brings_if, spread_over, torn_entry, torn, submitted, host_of, entry_of}
+use Rattle.world.specs.Happens.{Event, Start, Stop, Submit, Recover, Beat, Mark, Step, Tear, FailCall, DiskCrash, DiskGone, Line, brings_if, spread_over, torn_entry, torn, submitted, host_of, entry_of}
 use Rattle.world.proofs.Projections.{host_here}
 use Rattle.simulator.specs.declared.parts.Said.{Said}
 use Rattle.simulator.specs.Answers.{may_recover}
@@ -43,6 +44,14 @@ module _ (c : Shape) (h n : ℕ) where
   beats_silent : (g : ℕ) (old : Host) → Silent old (entries.Beat g)
   beats_silent g Stopped says = cc
   beats_silent g (Running m) says = cc
+
+  marks_silent : (g slot : ℕ) (old : Host) → Silent old (entries.Mark g slot)
+  marks_silent g slot Stopped says_so = cc
+  marks_silent g slot (Running m) says_so = go (nat_lt slot (length m.learned)) says_so
+    where
+      go : (b : Bool) → said_of (Running (if b then with_marking m (Some (record { slot = slot; heard = [] })) None else with_marking m m.marking (Some (Refused refusal.NotLearned)))) ≡ Some (Recovered n) → ⊥
+      go true is = cc
+      go false is = cc
 
   submits_silent : (g : ℕ) (command : Command) (tries : ℕ) (old : Host) → Silent old (entries.Submit g command tries)
   submits_silent g command tries Stopped says = cc
@@ -96,6 +105,10 @@ module _ (c : Shape) (h n : ℕ) where
         absurd (given_if (idles (w.host g)) (Some (entries.Beat g)) f ⊥ is (λ passed same.
         (let one : entries.Beat g ≡ f = cc in
         beats_silent g (w.host h) (ap (λ (e : Filled). said_of (host_step c h (w.host h) e)) one ∙ says_so))))
+    only_these (Mark g slot) is =
+        absurd (given_if (idles (w.host g) && nat_lt slot c.slots) (Some (entries.Mark g slot)) f ⊥ is (λ passed same.
+        (let one : entries.Mark g slot ≡ f = cc in
+        marks_silent g slot (w.host h) (ap (λ (e : Filled). said_of (host_step c h (w.host h) e)) one ∙ says_so))))
     only_these (Submit g command tries) is =
         absurd (given_if (idles (w.host g) && nat_lt 0 tries) (submitted g tries (decoded (spelling command))) f ⊥ is (λ passed same. no_submit g tries (decoded (spelling command)) same))
     only_these (Tear g given) is = absurd (given_if _ (option_and_then (torn w g given) (next_of c g (w.host g))) f ⊥ is (λ passed same. no_tear g given (next_of c g (w.host g)) same))

@@ -13,7 +13,7 @@ use Rattle.host.proofs.Hosts.{decoded_spelled}
 use Rattle.world.specs.Entry as entries
 use Rattle.world.specs.Entry.{Filled}
 use Rattle.world.specs.World.{World}
-use Rattle.world.specs.Happens.{Event, Start, Stop, Submit, Recover, Beat, Step, Tear, FailCall, DiskCrash, DiskGone, brings_if, stepped, failed_entry, failed, torn_entry, torn, submitted, entry_of}
+use Rattle.world.specs.Happens.{Event, Start, Stop, Submit, Recover, Beat, Mark, Step, Tear, FailCall, DiskCrash, DiskGone, brings_if, stepped, failed_entry, failed, torn_entry, torn, submitted, entry_of}
 
 -- an entry that is brought under a test is the one that stands there
 brought : (b : Bool) (o : Option Filled) (e : Filled) → brings_if b o ≡ Some e → o ≡ Some e
@@ -76,6 +76,7 @@ module _ (c : Shape) (w : World) (h : ℕ) (command : Command) (tries : ℕ) whe
       (brought (idles (w.host g) && nat_lt 0 t) (submitted g t (decoded (spelling given))) _ is)
   of_submission (Recover g t) is = absurd (let some = brought _ (Some (entries.Recover g t)) _ is in cc)
   of_submission (Beat g) is = absurd (let some = brought _ (Some (entries.Beat g)) _ is in cc)
+  of_submission (Mark g slot) is = absurd (let some = brought _ (Some (entries.Mark g slot)) _ is in cc)
   of_submission (Step g) is = absurd (no_step g (next_of c g (w.host g)) is)
   of_submission (Tear g given) is = absurd (no_torn g given (next_of c g (w.host g)) (brought _ (option_and_then (torn w g given) (next_of c g (w.host g))) _ is))
   of_submission (FailCall g given) is = absurd (no_failed g given (next_of c g (w.host g)) (brought _ (option_and_then (failed w g given) (next_of c g (w.host g))) _ is))

@@ -10,7 +10,7 @@ use Rattle.lock_command.specs.Command.{spelling}
 use Rattle.lock_table.specs.Apply.{table_after}
 use Rattle.slot_log.specs.Shape.{Shape}
 use Rattle.host.specs.declared.answer.HostAnswer.{HostAnswer}
-use Rattle.host.specs.declared.answer.HostAnswer.TheVariants.{Ack, Recovered, Beaten, Refused}
+use Rattle.host.specs.declared.answer.HostAnswer.TheVariants.{Ack, Recovered, Beaten, Marked, Refused}
 use Rattle.host.specs.Host.{idles, learned_of}
 use Rattle.host.specs.Kept as hosts
 use Rattle.world.specs.World.{World, world}
@@ -127,6 +127,7 @@ module _ (c : Shape) (events : List Event) where
         subst (λ (s : HostAnswer). IsPicturedBy s a.picture (table_after (learned_of ((world c (before c events (a.place + 1))).host a.host)))) is pictured in
         record { within = found.0; table = subst (λ (l : List Command). ShowsTable a.picture (table_after l)) left shown }
     goes_as (Beaten host) is = tt
+    goes_as (Marked count) is = tt
     goes_as (Refused refusal) is = tt
 
     goes : GoesBy c events log a

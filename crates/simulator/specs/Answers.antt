@@ -4,7 +4,7 @@ use Rattle.lock_table.specs.Apply.{Plain, table_after}
 use Rattle.lock_table.specs.Picture.{IsPictureOf}
 use Rattle.slot_log.specs.Shape.{Shape}
 use Rattle.host.specs.declared.answer.HostAnswer.{HostAnswer}
-use Rattle.host.specs.declared.answer.HostAnswer.TheVariants.{Ack, Recovered, Beaten, Refused}
+use Rattle.host.specs.declared.answer.HostAnswer.TheVariants.{Ack, Recovered, Beaten, Marked, Refused}
 use Rattle.host.specs.Host.{learned_of}
 use Rattle.world.specs.World.{World, world}
 use Rattle.world.specs.Happens.{Event, Recover, Step, FailCall, Line, run}
@@ -35,6 +35,7 @@ abbrev pub IsPicturedBy : HostAnswer → Option Plain → Plain → Type 0
 IsPicturedBy (Ack slot reply) picture table = picture ≡ None
 IsPicturedBy (Recovered length) picture table = ShowsTable picture table
 IsPicturedBy (Beaten host) picture table = picture ≡ None
+IsPicturedBy (Marked count) picture table = picture ≡ None
 IsPicturedBy (Refused refusal) picture table = picture ≡ None
 
 -- the table is that of the answer's host in this world

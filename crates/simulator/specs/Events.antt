@@ -2,7 +2,7 @@
 use Rattle.std.specs.Prelude.{ℕ, List, [], ◌∷◌, map, Option, Some, None}
 use Rattle.lock_script.specs.declared.event.Event as code
 use Rattle.lock_script.specs.declared.event.Event.TheVariants as of_code
-use Rattle.world.specs.Happens.{Event, Start, Stop, Submit, Recover, Beat, Step, Tear, FailCall, DiskCrash, DiskGone, Line}
+use Rattle.world.specs.Happens.{Event, Start, Stop, Submit, Recover, Beat, Mark, Step, Tear, FailCall, DiskCrash, DiskGone, Line}
 use Rattle.simulator.specs.declared.parts.Said.{Said}
 
 abbrev pub event_of : code.Event → Event
@@ -11,6 +11,7 @@ event_of (of_code.Stop host) = Stop host
 event_of (of_code.Submit command tries) = Submit command.host command tries
 event_of (of_code.Recover host tries) = Recover host tries
 event_of (of_code.Beat host) = Beat host
+event_of (of_code.Mark host slot) = Mark host slot
 event_of (of_code.Step host) = Step host
 event_of (of_code.Tear host given) = Tear host given
 event_of (of_code.FailCall host given) = FailCall host given

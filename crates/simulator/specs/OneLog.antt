@@ -6,7 +6,7 @@ use Rattle.lock_table.specs.declared.reply.Reply.{Reply}
 use Rattle.lock_table.specs.Apply.{table_after}
 use Rattle.slot_log.specs.Shape.{Shape}
 use Rattle.host.specs.declared.answer.HostAnswer.{HostAnswer}
-use Rattle.host.specs.declared.answer.HostAnswer.TheVariants.{Ack, Recovered, Beaten, Refused}
+use Rattle.host.specs.declared.answer.HostAnswer.TheVariants.{Ack, Recovered, Beaten, Marked, Refused}
 use Rattle.host.specs.Host.{Operation, Submitting, Doing, Memory, Host, Running, idles, learned_of, reply_after}
 use Rattle.world.specs.World.{world}
 use Rattle.world.specs.Happens.{Event, Submit, Line, run}
@@ -83,6 +83,7 @@ abbrev pub goes_by : Shape → List Event → List Command → Answer → HostAn
 goes_by c events log a (Ack slot reply) = IsAcknowledged c events log a slot reply
 goes_by c events log a (Recovered n) = IsRecovered log a n
 goes_by c events log a (Beaten host) = Unit {0}
+goes_by c events log a (Marked count) = Unit {0}
 goes_by c events log a (Refused refusal) = Unit {0}
 
 -- what an answer says goes by the log

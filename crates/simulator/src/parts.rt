@@ -4,7 +4,7 @@ ghost use Rattle.paxos_block.specs.Places.{image_length};
 ghost use Rattle.std.specs.Option.{option_map};
 ghost use Rattle.slot_log.specs.Shape.{Shape};
 ghost use Rattle.world.specs.Entry.{Filled};
-ghost use Rattle.world.specs.Happens.{Start, Stop, Submit, Recover, Beat, Step, Tear, FailCall, DiskCrash, DiskGone};
+ghost use Rattle.world.specs.Happens.{Start, Stop, Submit, Recover, Beat, Mark, Step, Tear, FailCall, DiskCrash, DiskGone};
 ghost use Rattle.simulator.specs.Events.{event_of};
 ghost use Rattle.simulator.specs.Kept.{Kept, LeadsTo, Brings, calm, is_busy, is_free};
 
@@ -93,6 +93,7 @@ impl Parts {
                 self.beat(*host);
                 Ok(None)
             }
+            Event::Mark { host, slot } => Ok(self.mark(*host, *slot)),
             Event::Step(host) => Ok(self.step(*host)),
             Event::Tear { host, given } => {
                 self.tear(*host, given.as_slice());
@@ -176,6 +177,23 @@ impl Parts {
             unreachable!()
         };
         core.beat();
+    }
+
+    fn mark(&mut self, host: HostNumber, slot: u16) -> Option<Said>
+        ensures { (log : List Filled) → LeadsTo log self.old → Brings log (Mark host slot) self.old self.new result }
+    {
+        let at = usize::from(host.get());
+        if slot >= self.config.slots() {
+            return None;
+        }
+        if !is_free(&self.hosts[at]) {
+            return None;
+        }
+        let Some(core) = &mut self.hosts[at] else {
+            unreachable!()
+        };
+        core.mark(slot);
+        answer_of(host, core)
     }
 
     fn step(&mut self, host: HostNumber) -> Option<Said>

@@ -52,7 +52,10 @@ impl Room {
         let Said { host, answer } = said;
         let picture = match answer {
             HostAnswer::Recovered { .. } => Some(self.filled(parts, host)),
-            HostAnswer::Ack { .. } | HostAnswer::Beaten { .. } | HostAnswer::Refused(_) => None,
+            HostAnswer::Ack { .. }
+            | HostAnswer::Beaten { .. }
+            | HostAnswer::Marked { .. }
+            | HostAnswer::Refused(_) => None,
         };
         Answer {
             place,
@@ -89,6 +92,7 @@ fn may_recover(event: &Event) -> bool
         | Event::Stop(_)
         | Event::Submit { .. }
         | Event::Beat(_)
+        | Event::Mark { .. }
         | Event::Tear { .. }
         | Event::DiskCrash { .. }
         | Event::DiskGone(_) => false,

@@ -1,7 +1,9 @@
 -- What a learner keeps while an operation goes on.
-use Rattle.std.proofs.Common.{◌≡◌, ◌<◌, ◌≤◌, ◌-◌, ◌*◌, ℕ, true, false, List, [], ◌∷◌, ◌++◌, length, max, Option, Some, None, refl, sym, ◌∙◌, ap, subst}
+use Rattle.std.proofs.Common.{◌≡◌, ◌<◌, ◌≤◌, ◌-◌, ◌*◌, ℕ, true, false, List, [], ◌∷◌, ◌++◌, length, max, Option, Some, None, is_some, refl, sym, ◌∙◌, ap, subst}
 use Rattle.std.proofs.lemmas.Bool.{lt-leb}
+use Rattle.disk.specs.Disk as device
 use Rattle.attempt.specs.Answers.{Answered, Heard, on}
+use Rattle.attempt.specs.NextCall.{next_call}
 use Rattle.attempt.specs.Setup.{Setup}
 use Rattle.attempt.specs.Status as attempt
 use Rattle.attempt.specs.Status.{Status, Due, Ended, status, taken}
@@ -14,8 +16,11 @@ use Rattle.phases.specs.Kept.{end_of_status}
 use Rattle.attempt.specs.Laws.{IsServedAlone}
 use Rattle.slot_log.specs.Alone.{IsAnsweredAlone}
 use Rattle.slot_log.specs.Shape.{Shape}
-use Rattle.slot_log.specs.Learning.{Memory, Doing, setup_of, does, begins, ended, tries_again, with_floor, with_heard, by_status, hears, takes, judges, offered_in, after_learning, is_placed, learns, goes_on}
-use Rattle.slot_log.specs.Kept.{Kept, LeadsTo, GoesOn, AreDoing, IsDoing, IsOf, IsOver, is_idle, is_idle_with}
+use Rattle.slot_log.specs.Learning.{Memory, Doing, setup_of, next_in, offered_by, says, does, begins, ended, tries_again, with_floor, with_heard, by_status, hears, takes, judges, offered_in, after_learning, is_placed, learns, goes_on}
+use Rattle.slot_log.specs.Kept.{Kept, LeadsTo, chosen_in, GoesOn, AreDoing, IsDoing, IsOf, IsOver, is_idle, is_idle_with}
+use Rattle.slot_log.specs.declared.outcome.Outcome.{Outcome}
+use Rattle.slot_log.specs.declared.outcome.Outcome.TheVariants.{Refused}
+use Rattle.slot_log.specs.declared.outcome.Refusal.TheVariants as refusal
 use Rattle.slot_log.specs.declared.operation.Operation.{Operation}
 use Rattle.slot_log.specs.declared.operation.Task.{Task}
 
@@ -68,6 +73,7 @@ status_ended (Ended x) e is = cc
 -- an end without a value does not go by what the attempt heard before it
 ended_same : (m : Memory) (t : Doing) (x : Answered) (ballot : ℕ) (e : End) → IsOver e → ended m (with_heard t x) ballot (end_of e) ≡ ended m t ballot (end_of e)
 ended_same m t x ballot (end.Committed value) over = absurd over
+ended_same m t x ballot (end.Decided value) over = absurd over
 ended_same m t x ballot end.Empty over = refl
 ended_same m t x ballot (end.Outrun mbal) over = refl
 ended_same m t x ballot end.NoMajority over = refl
@@ -99,6 +105,27 @@ takes_value c h m t value is offered =
     ap (λ (o : Option Doing). takes c h m o true) is
     ∙ ap F (sym (offered ∙ ap (offered_in c h m) is))
 
+-- or it is no command, and the operation ends
+pub refuses_value : (c : Shape) (h : ℕ) (m : Memory) (t : Doing) (value : List ℕ) (ballot : ℕ) → m.doing ≡ Some t → Some value ≡ offered_in c h m m.doing → ballot ≡ taken (setup_of c h m t.operation) (on t.heard)
+    → takes c h m m.doing false ≡ says (with_floor m ballot) (Refused refusal.NotACommand)
+refuses_value c h m t value ballot is offered took =
+    let s = setup_of c h m t.operation in
+    let F : Option (List ℕ) → Memory = λ o. judges c m t (taken s (on t.heard)) o false in
+    ap (λ (o : Option Doing). takes c h m o false) is
+    ∙ ap F (sym (offered ∙ ap (offered_in c h m) is))
+    ∙ ap (λ (b : ℕ). says (with_floor m b) (Refused refusal.NotACommand)) (sym took)
+
+pub finished : (c : Shape) (h : ℕ) (m : Memory) (old new : Kept) (outcome : Outcome) → LeadsTo c h m old → new ≡ record old { task = None; said = Some outcome } → LeadsTo c h (says m outcome) new
+finished c h m old new outcome leads is =
+    subst (LeadsTo c h (says m outcome)) (sym is) (record {
+      shape = leads.shape;
+      is_host = leads.is_host;
+      learned = leads.learned;
+      floor = leads.floor;
+      said = refl;
+      doing = tt;
+    })
+
 -- THE ATTEMPT GOES ON, OR ITS VALUE WAITS
 
 no_end : (m : Memory) (t : Doing) (ballot : ℕ) (st : Status) → None ≡ end_of_status st → by_status m t ballot st ≡ does m t
@@ -108,6 +135,7 @@ no_end m t ballot (Ended e) is = absurd (cc)
 waiting_status : (m : Memory) (t : Doing) (ballot : ℕ) (st : Status) (e : Option End) → GoesOn e → end_in e ≡ end_of_status st → by_status m t ballot st ≡ does m t
 waiting_status m t ballot st None on is = no_end m t ballot st is
 waiting_status m t ballot st (Some (end.Committed value)) on is = ap (by_status m t ballot) (status_ended st (attempt.Committed value) (sym is))
+waiting_status m t ballot st (Some (end.Decided value)) on is = ap (by_status m t ballot) (status_ended st (attempt.Decided value) (sym is))
 waiting_status m t ballot st (Some end.Empty) on is = absurd on
 waiting_status m t ballot st (Some (end.Outrun mbal)) on is = absurd on
 waiting_status m t ballot st (Some end.NoMajority) on is = absurd on
@@ -116,6 +144,40 @@ waiting_status m t ballot st (Some end.BallotsSpent) on is = absurd on
 busy_task : (task : Option Task) → is_idle_with task ≡ false → (there : Task) × (task ≡ Some there)
 busy_task None busy = absurd (cc)
 busy_task (Some task) busy = (task, refl)
+
+-- the call that is due is the attempt's
+pub call_next : (c : Shape) (h : ℕ) (m : Memory) (old now : Kept) → old ≡ now → LeadsTo c h m now → is_idle now ≡ false → (due : ℕ × device.Call)
+    → ((s : Setup) (heard : List Answered) → attempts.LeadsTo s heard old.attempt → next_call s (on heard) ≡ Some due) → next_in c h m m.doing ≡ Some due
+call_next c h m old now is leads busy due next =
+    let Known : Kept → Type 0 = λ k. LeadsTo c h m k in
+    let there = busy_task old.task (ap is_idle is ∙ busy) in
+    let doing = task_is c h m old there.0 (subst Known (sym is) leads) there.1 in
+    ap (next_in c h m) doing.1 ∙ next (setup_of c h m (doing.0).operation) (doing.0).heard doing.2.heard
+
+-- and the value that waits is that of its end
+offers : (o : Option End) (st : Status) → end_in o ≡ end_of_status st → offered_by st ≡ chosen_in o
+offers None (Due p d) is = refl
+offers None (Ended e) is = absurd (cc)
+offers (Some e) (Due p d) is = absurd (cc)
+offers (Some (end.Committed value)) (Ended x) is = ap (λ (y : attempt.End). offered_by (Ended y)) (let both : Some (attempt.Committed value) ≡ Some x = is in let same : x ≡ attempt.Committed value = cc in same)
+offers (Some (end.Decided value)) (Ended x) is = ap (λ (y : attempt.End). offered_by (Ended y)) (let both : Some (attempt.Decided value) ≡ Some x = is in let same : x ≡ attempt.Decided value = cc in same)
+offers (Some end.Empty) (Ended x) is = ap (λ (y : attempt.End). offered_by (Ended y)) (let both : Some attempt.Empty ≡ Some x = is in let same : x ≡ attempt.Empty = cc in same)
+offers (Some (end.Outrun mbal)) (Ended x) is = ap (λ (y : attempt.End). offered_by (Ended y)) (let both : Some (attempt.Outrun mbal) ≡ Some x = is in let same : x ≡ attempt.Outrun mbal = cc in same)
+offers (Some end.NoMajority) (Ended x) is = ap (λ (y : attempt.End). offered_by (Ended y)) (let both : Some attempt.NoMajority ≡ Some x = is in let same : x ≡ attempt.NoMajority = cc in same)
+offers (Some end.BallotsSpent) (Ended x) is = ap (λ (y : attempt.End). offered_by (Ended y)) (let both : Some attempt.BallotsSpent ≡ Some x = is in let same : x ≡ attempt.BallotsSpent = cc in same)
+
+some_task : (task : Option Task) → is_some task ≡ true → (there : Task) × (task ≡ Some there)
+some_task None some = absurd (cc)
+some_task (Some task) some = (task, refl)
+
+pub offered_is : (c : Shape) (h : ℕ) (m : Memory) (old now : Kept) (o : Option End) → old ≡ now → LeadsTo c h m now → is_some old.task ≡ true
+    → ((s : Setup) (heard : List Answered) → attempts.LeadsTo s heard old.attempt → end_in o ≡ end_of_status (status s (on heard))) → chosen_in o ≡ offered_in c h m m.doing
+offered_is c h m old now o is leads busy ends =
+    let Known : Kept → Type 0 = λ k. LeadsTo c h m k in
+    let there = some_task old.task busy in
+    let doing = task_is c h m old there.0 (subst Known (sym is) leads) there.1 in
+    let s = setup_of c h m (doing.0).operation in
+    sym (ap (offered_in c h m) doing.1 ∙ offers o (status s (on (doing.0).heard)) (ends s (doing.0).heard doing.2.heard))
 
 -- what the attempt under way has become by an answer, without an end but a value
 pub record Goes (old new : Notes) (x : Answered) (e : Option End) : Type 0 where
@@ -169,10 +231,11 @@ alone c h m old now answer is leads said =
     let known : LeadsTo c h m old = subst Known (sym is) leads in
     subst By is (alone_with c h m m.doing old.task old.attempt (record { disk = old.attempt.disk; heard = answer }) known.doing said)
 
--- an end that is no committed value
-pub over : (e : End) → ((value : List ℕ) → e ≡ end.Committed value → ⊥) → IsOver e
-over (end.Committed value) other = absurd (other value refl)
-over end.Empty other = tt
-over (end.Outrun mbal) other = tt
-over end.NoMajority other = tt
-over end.BallotsSpent other = tt
+-- an end that is no committed or decided value
+pub over : (e : End) → ((value : List ℕ) → e ≡ end.Committed value → ⊥) → ((value : List ℕ) → e ≡ end.Decided value → ⊥) → IsOver e
+over (end.Committed value) other told = absurd (other value refl)
+over (end.Decided value) other told = absurd (told value refl)
+over end.Empty other told = tt
+over (end.Outrun mbal) other told = tt
+over end.NoMajority other told = tt
+over end.BallotsSpent other told = tt

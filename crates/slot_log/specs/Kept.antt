@@ -32,13 +32,14 @@ is_idle_with (Some task) = false
 abbrev pub is_idle : Kept → Bool
 is_idle k = is_idle_with k.task
 
-abbrev pub committed_in : Option End → Option (List ℕ)
-committed_in (Some (end.Committed value)) = Some value
-committed_in other = None
+abbrev pub chosen_in : Option End → Option (List ℕ)
+chosen_in (Some (end.Committed value)) = Some value
+chosen_in (Some (end.Decided value)) = Some value
+chosen_in other = None
 
 abbrev pub offered_with : Option Task → Option End → Option (List ℕ)
 offered_with None e = None
-offered_with (Some task) e = committed_in e
+offered_with (Some task) e = chosen_in e
 
 -- the value that waits to be judged
 abbrev pub offered_of : Kept → Option (List ℕ)
@@ -50,10 +51,11 @@ due_call k = attempts.call_due k.attempt
 
 -- WHAT IS KEPT AT ANY TIME
 
--- a call is due, or a committed value waits
+-- a call is due, or a committed or decided value waits
 abbrev pub GoesOn : Option End → Type 0
 GoesOn None = Unit {0}
 GoesOn (Some (end.Committed value)) = Unit {0}
+GoesOn (Some (end.Decided value)) = Unit {0}
 GoesOn (Some other) = ⊥
 
 -- the operation's attempt is on the next slot
@@ -114,6 +116,7 @@ pub record IsOf (t : Doing) (task : Task) : Type 0 where
 -- an attempt has ended without a value
 abbrev pub IsOver : End → Type 0
 IsOver (end.Committed value) = ⊥
+IsOver (end.Decided value) = ⊥
 IsOver other = Unit {0}
 
 -- the same values are learned

@@ -121,6 +121,18 @@ impl Learner {
         self.go_on(Operation::Recovering, tries);
     }
 
+    /// Begins to learn the values that marks tell, slot by slot, up to the first slot of which none does. Nothing is written,
+    /// so no host is outrun by it.
+    pub fn look(&mut self)
+        requires idle { is_idle self.old ≡ true }
+        ensures leads { (c : Shape) (h : ℕ) (m : Memory) → LeadsTo c h m self.old →
+            LeadsTo c h (goes_on c m Operation.Looking 1) self.new }
+        ensures same { IsSameLog self.old self.new }
+        ensures judged { offered_of self.new ≡ None }
+    {
+        self.go_on(Operation::Looking, 1);
+    }
+
     /// Begins to put a value into the log. Up to `tries` attempts may be outrun, the last of which ends the operation.
     pub fn place(&mut self, value: Value, tries: u8)
         requires idle { is_idle self.old ≡ true }
@@ -154,7 +166,7 @@ impl Learner {
         requires fits { Fits (due_call self.old).1 (heard_of heard.now) }
         ensures leads { (c : Shape) (h : ℕ) (m : Memory) → LeadsTo c h m self.old →
             LeadsTo c h (hears c h m m.doing (record { disk = (due_call self.old).0; heard = heard_of heard.now })) self.new }
-        // By Committed, Empty or BallotsSpent within 17 calls a disk, if no other host makes a call on the slot meanwhile.
+        // By Committed, Decided, Empty or BallotsSpent within 17 calls a disk, if no other host makes a call on the slot meanwhile.
         ensures alone { (c : Shape) (h : ℕ) (m : Memory) → LeadsTo c h m self.old →
             IsAnsweredAlone c h m m.doing (record { disk = (due_call self.old).0; heard = heard_of heard.now }) }
         ensures same { IsSameLog self.old self.new }
@@ -167,6 +179,7 @@ impl Learner {
         match end {
             // The value waits until it is judged.
             End::Committed(_) => self.said = None,
+            End::Decided(_) => self.said = None,
             _ => {
                 let Some(task) = self.task.take() else {
                     unreachable!()
@@ -178,7 +191,7 @@ impl Learner {
         }
     }
 
-    /// The value that an attempt committed, until it is judged.
+    /// The value that an attempt committed, or was told to be decided, until it is judged.
     pub fn offered(&self) -> Option<Value>
         ensures value { (c : Shape) (h : ℕ) (m : Memory) → LeadsTo c h m self.now →
             result ≡ offered_in c h m m.doing }
@@ -190,6 +203,7 @@ impl Learner {
         }
         match self.attempt.end() {
             Some(End::Committed(value)) => Some(value),
+            Some(End::Decided(value)) => Some(value),
             _ => None,
         }
     }
@@ -250,7 +264,8 @@ impl Learner {
     {
         let slot = self.learned.len() as u16;
         let input = operation.input();
-        self.attempt = Attempt::new(self.host, slot, self.config.disks(), self.floor, input);
+        let floor = operation.floor(self.floor);
+        self.attempt = Attempt::new(self.host, slot, self.config.disks(), floor, input);
         self.task = Some(Task { operation, tries });
         self.said = None;
     }
@@ -284,7 +299,7 @@ impl Learner {
         ensures same { IsSameLog self.old self.new }
     {
         match end {
-            End::Committed(_) => unreachable!(),
+            End::Committed(_) | End::Decided(_) => unreachable!(),
             End::Empty => {
                 let length = self.learned.len() as u16;
                 self.finish(Outcome::Recovered { length });
@@ -298,7 +313,10 @@ impl Learner {
                 }
             }
             End::NoMajority => self.finish(Outcome::Refused(Refusal::NoMajority)),
-            End::BallotsSpent => self.finish(Outcome::Refused(Refusal::BallotsSpent)),
+            End::BallotsSpent => {
+                let learned = self.learned.len() as u16;
+                self.finish(task.operation.outcome_without_ballot(learned));
+            }
         }
     }
 

@@ -1,5 +1,5 @@
 use crate::outcome::{Outcome, Refusal};
-use paxos_block::Value;
+use paxos_block::{LAST_BALLOT, Value};
 
 /// What a learner is asked to do.
 #[derive(Clone, Copy, Debug, PartialEq, Eq)]
@@ -8,6 +8,8 @@ pub enum Operation {
     Placing(Value),
     /// To learn all that is in the log.
     Recovering,
+    /// To learn what marks tell, and to write nothing.
+    Looking,
 }
 
 /// An operation under way.
@@ -20,7 +22,7 @@ pub struct Task {
 
 impl Operation {
     ghost use Rattle.std.specs.Prelude.{◌≡◌};
-    ghost use Rattle.slot_log.specs.Learning.{input_of, is_placed, full_outcome};
+    ghost use Rattle.slot_log.specs.Learning.{input_of, floor_for, is_placed, full_outcome, spent_outcome};
 
     /// What its attempts propose.
     pub fn input(&self) -> Option<Value>
@@ -29,6 +31,18 @@ impl Operation {
         match self {
             Operation::Placing(value) => Some(*value),
             Operation::Recovering => None,
+            Operation::Looking => None,
+        }
+    }
+
+    /// The number above which its attempts take their ballots. A look has none to take, so that it ends with the opening.
+    pub fn floor(&self, floor: u64) -> u64
+        ensures { result ≡ floor_for self.now floor }
+    {
+        match self {
+            Operation::Placing(_) => floor,
+            Operation::Recovering => floor,
+            Operation::Looking => floor.max(LAST_BALLOT),
         }
     }
 
@@ -39,6 +53,7 @@ impl Operation {
         match self {
             Operation::Placing(wanted) => *wanted == *value,
             Operation::Recovering => false,
+            Operation::Looking => false,
         }
     }
 
@@ -49,6 +64,18 @@ impl Operation {
         match self {
             Operation::Placing(_) => Outcome::Refused(Refusal::LogFull),
             Operation::Recovering => Outcome::Recovered { length: learned },
+            Operation::Looking => Outcome::Looked { length: learned },
+        }
+    }
+
+    /// How it ends where so many slots are learned, and the attempt on the next one has no ballot.
+    pub fn outcome_without_ballot(&self, length: u16) -> Outcome
+        ensures { result ≡ spent_outcome self.now length }
+    {
+        match self {
+            Operation::Placing(_) => Outcome::Refused(Refusal::BallotsSpent),
+            Operation::Recovering => Outcome::Refused(Refusal::BallotsSpent),
+            Operation::Looking => Outcome::Looked { length },
         }
     }
 }

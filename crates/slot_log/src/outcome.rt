@@ -16,9 +16,12 @@ pub enum Refusal {
     /// All slots of the log are learned.
     #[error("the log is full")]
     LogFull,
-    /// A committed value is no command. It is not learned.
+    /// A chosen value is no command. It is not learned.
     #[error("a committed value is no command")]
     NotACommand,
+    /// The slot that was to be marked is not learned.
+    #[error("the slot is not learned")]
+    NotLearned,
 }
 
 /// How an operation ended.
@@ -28,5 +31,7 @@ pub enum Outcome {
     Placed { slot: u16 },
     /// So many slots are learned, and nothing had been chosen for the next one when its attempt began.
     Recovered { length: u16 },
+    /// So many slots are learned, and no mark told the value of the next one when it was looked at.
+    Looked { length: u16 },
     Refused(Refusal),
 }

@@ -91,6 +91,7 @@ impl Replay {
             } => self.submits(*host, command, *tries, place)?,
             Entry::Recover { host, tries } => self.recovers(*host, *tries),
             Entry::Beat(host) => self.beats(*host),
+            Entry::Mark { host, slot } => self.marks(*host, *slot),
             Entry::Called {
                 host,
                 disk,
@@ -169,6 +170,17 @@ impl Replay {
             return false;
         }
         replica.core.beat();
+        true
+    }
+
+    fn marks(&mut self, host: HostNumber, slot: u16) -> bool {
+        let Some(replica) = self.host(host) else {
+            return false;
+        };
+        if !replica.core.idle() {
+            return false;
+        }
+        replica.core.mark(slot);
         true
     }
 

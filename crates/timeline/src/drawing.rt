@@ -200,6 +200,7 @@ fn draw_answer<O: Write>(x: u64, y: u64, answer: &HostAnswer, out: &mut O) -> io
         HostAnswer::Ack { slot, reply } => write!(out, "ack {slot} {reply:?}")?,
         HostAnswer::Recovered { length } => write!(out, "recovered {length}")?,
         HostAnswer::Beaten { host } => write!(out, "beaten {host}")?,
+        HostAnswer::Marked { count } => write!(out, "marked {count}")?,
         HostAnswer::Refused(refusal) => write!(out, "{refusal:?}")?,
     }
     writeln!(out, "</text>")

@@ -11,6 +11,7 @@ pub enum Task {
     Purge,
     Recover,
     Beat,
+    Mark,
 }
 
 impl Task {
@@ -37,6 +38,7 @@ impl Task {
             Task::Purge => "purge",
             Task::Recover => "recover",
             Task::Beat => "beat",
+            Task::Mark => "mark",
         }
     }
 }

@@ -77,6 +77,7 @@ impl Watch {
             ),
             Event::Recover { host, .. } => self.began(parts, *host, Task::Recover),
             Event::Beat(host) => self.began(parts, *host, Task::Beat),
+            Event::Mark { host, .. } => self.began(parts, *host, Task::Mark),
             Event::Step(host) => self.called(parts, *host, Ending::Done),
             Event::Tear { host, .. } => self.called(parts, *host, Ending::Torn),
             Event::FailCall { host, .. } => self.called(parts, *host, Ending::Failed),

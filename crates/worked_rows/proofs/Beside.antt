@@ -5,7 +5,7 @@ use Rattle.std.proofs.lemmas.Bool.{cases_Bool, eqb-true}
 use Rattle.disk.specs.Disk.{DiskState}
 use Rattle.slot_log.specs.Shape.{Shape}
 use Rattle.host.specs.Host.{Host}
-use Rattle.world.specs.Entry.{Filled, Start, Stop, Submit, Recover, Beat, Called, Torn, Crashed, Lost, is_on, is_of, disk_step, host_step}
+use Rattle.world.specs.Entry.{Filled, Start, Stop, Submit, Recover, Look, Beat, Mark, Called, Torn, Crashed, Lost, is_on, is_of, disk_step, host_step}
 use Rattle.world.specs.World.{World, world}
 use Rattle.world.specs.Happens.{Event, Line, entry_of, host_of, happens, happen, with_entry, lines_after, lines_at, answers_from, answers}
 use Rattle.disk.specs.Simulated.{fresh_disk}
@@ -38,7 +38,9 @@ hosts_after c hosts (Start h) = at_one hosts h (host_step c h (hosts h) (Start h
 hosts_after c hosts (Stop h) = at_one hosts h (host_step c h (hosts h) (Stop h))
 hosts_after c hosts (Submit h command tries) = at_one hosts h (host_step c h (hosts h) (Submit h command tries))
 hosts_after c hosts (Recover h tries) = at_one hosts h (host_step c h (hosts h) (Recover h tries))
+hosts_after c hosts (Look h) = at_one hosts h (host_step c h (hosts h) (Look h))
 hosts_after c hosts (Beat h) = at_one hosts h (host_step c h (hosts h) (Beat h))
+hosts_after c hosts (Mark h slot) = at_one hosts h (host_step c h (hosts h) (Mark h slot))
 hosts_after c hosts (Called h d call answer left) = at_one hosts h (host_step c h (hosts h) (Called h d call answer left))
 hosts_after c hosts (Torn h d call left) = at_one hosts h (host_step c h (hosts h) (Torn h d call left))
 hosts_after c hosts other = hosts
@@ -93,7 +95,9 @@ module _ (c : Shape) (log : List Filled) where
   disks_next (Stop h) k = sym (disk_there c log (Stop h) k refl)
   disks_next (Submit h command tries) k = sym (disk_there c log (Submit h command tries) k refl)
   disks_next (Recover h tries) k = sym (disk_there c log (Recover h tries) k refl)
+  disks_next (Look h) k = sym (disk_there c log (Look h) k refl)
   disks_next (Beat h) k = sym (disk_there c log (Beat h) k refl)
+  disks_next (Mark h slot) k = sym (disk_there c log (Mark h slot) k refl)
   disks_next (Called h d call answer left) k = disk_at (Called h d call answer left) d (λ j. refl) k
   disks_next (Torn h d call left) k = disk_at (Torn h d call left) d (λ j. refl) k
   disks_next (Crashed d left) k = disk_at (Crashed d left) d (λ j. refl) k
@@ -104,7 +108,9 @@ module _ (c : Shape) (log : List Filled) where
   hosts_next (Stop h) g = host_at (Stop h) h (λ j. refl) g
   hosts_next (Submit h command tries) g = host_at (Submit h command tries) h (λ j. refl) g
   hosts_next (Recover h tries) g = host_at (Recover h tries) h (λ j. refl) g
+  hosts_next (Look h) g = host_at (Look h) h (λ j. refl) g
   hosts_next (Beat h) g = host_at (Beat h) h (λ j. refl) g
+  hosts_next (Mark h slot) g = host_at (Mark h slot) h (λ j. refl) g
   hosts_next (Called h d call answer left) g = host_at (Called h d call answer left) h (λ j. refl) g
   hosts_next (Torn h d call left) g = host_at (Torn h d call left) h (λ j. refl) g
   hosts_next (Crashed d left) g = sym (host_there c log (Crashed d left) g refl)

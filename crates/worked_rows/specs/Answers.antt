@@ -13,7 +13,7 @@ use Rattle.paxos_block.specs.Row.{row_said}
 use Rattle.paxos_block.specs.Votes.{says_in}
 use Rattle.slot_log.specs.Shape.{Shape}
 use Rattle.slot_log.specs.declared.outcome.Refusal.{Refusal}
-use Rattle.host.specs.declared.answer.HostAnswer.TheVariants.{Ack, Recovered, Beaten, Refused}
+use Rattle.host.specs.declared.answer.HostAnswer.TheVariants.{Ack, Recovered, Looked, Beaten, Marked, Refused}
 use Rattle.host.specs.Host.{Host, Stopped, Running, learned_of}
 use Rattle.world.specs.World.{World, world}
 use Rattle.world.specs.Happens.{Event, Line, run, answers}
@@ -51,6 +51,14 @@ recovered place host commands = record { place = place; host = host; said = Reco
 -- at this event the host's beat suggests a host
 abbrev pub beaten : ℕ → ℕ → ℕ → Line
 beaten place host suggested = record { place = place; host = host; said = Beaten suggested }
+
+-- at this event the host has looked, and has learned so many commands
+abbrev pub looked : ℕ → ℕ → ℕ → Line
+looked place host length = record { place = place; host = host; said = Looked length }
+
+-- at this event the host has marked its block on so many disks
+abbrev pub marked : ℕ → ℕ → ℕ → Line
+marked place host count = record { place = place; host = host; said = Marked count }
 
 -- at this event the host is refused
 abbrev pub refused : ℕ → ℕ → Refusal → Line

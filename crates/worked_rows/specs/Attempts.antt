@@ -1,5 +1,5 @@
 -- Attempts by themselves: what they end with over disks that answer in some plain way, and after how many answers.
-use Rattle.std.specs.Prelude.{◌-◌, ℕ, zero, suc, List, [], ◌∷◌, ◌++◌, map, replicate, length, nat_lt, Option, Some, None, slice_get, if◌then◌else◌}
+use Rattle.std.specs.Prelude.{false, ◌-◌, ℕ, zero, suc, List, [], ◌∷◌, ◌++◌, map, replicate, length, nat_lt, Option, Some, None, slice_get, if◌then◌else◌}
 use Rattle.disk.specs.declared.fault.DiskFault.TheVariants.{Gone}
 use Rattle.torn_block.specs.declared.layout.TheConstants.{LAST_SEQUENCE}
 use Rattle.paxos_block.specs.Row.{SeenBlock, blank_seen}
@@ -102,7 +102,7 @@ ballot_seeing row s = ballot s (on (map (λ heard. record { disk = 0; heard = he
 
 -- a host's block after so many writes
 abbrev pub saying : (sequence mbal bal : ℕ) → Option (List ℕ) → SeenBlock
-saying sequence mbal bal inp = record { bytes = blank_seen.bytes; sequence = sequence; says = record { mbal = mbal; bal = bal; inp = inp } }
+saying sequence mbal bal inp = record { bytes = blank_seen.bytes; sequence = sequence; says = record { mbal = mbal; bal = bal; inp = inp; mark = false } }
 
 -- host 0 has promised ballot 9 and voted for 1 at ballot 1; host 1 has voted for 2 at ballot 2
 abbrev pub two_votes : List SeenBlock

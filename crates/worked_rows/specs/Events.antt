@@ -5,7 +5,7 @@ use Rattle.lock_modes.specs.declared.mode.Mode.TheVariants.{Null, ConcurrentRead
 use Rattle.lock_command.specs.declared.command.Command.{Command}
 use Rattle.lock_command.specs.declared.command.Action.{Action}
 use Rattle.lock_command.specs.declared.command.Action.TheVariants.{Enqueue, Convert, Release, Cancel, Status, Purge}
-use Rattle.world.specs.Happens.{Event, Start, Stop, Submit, Recover, Beat, Step, Tear, FailCall, DiskCrash, DiskGone}
+use Rattle.world.specs.Happens.{Event, Start, Stop, Submit, Recover, Look, Beat, Mark, Step, Tear, FailCall, DiskCrash, DiskGone}
 
 -- COMMANDS
 
@@ -285,6 +285,24 @@ area_of_a_dropped_disk = Start 0 ∷ Start 1 ∷ Beat 0 ∷ steps 0 3 ++ FailCal
 abbrev pub beat_without_a_majority : List Event
 beat_without_a_majority = Start 0 ∷ Start 1 ∷ beats 1 3 ++ beats 0 3 ++ Beat 1 ∷ FailCall 1 (0 ∷ []) ∷ FailCall 1 (0 ∷ []) ∷ beats 1 3
 
+-- A HOST MARKS
+
+-- host 0 marks its first slot
+abbrev pub marks_first : List Event
+marks_first = Mark 0 0 ∷ []
+
+-- host 1 recovers by three calls on each of three disks, and ten more on each of the next slot
+abbrev pub recovery_by_marks : List Event
+recovery_by_marks = submits ++ steps 0 51 ++ marks_first ++ steps 0 27 ++ recovers 1 ++ steps 1 39
+
+-- the mark is torn on one disk before its gate is open; host 1 recovers by voting
+abbrev pub torn_mark : List Event
+torn_mark = submits ++ steps 0 17 ++ marks_first ++ steps 0 5 ++ Tear 0 (0 ∷ []) ∷ recovers 1 ++ steps 1 27
+
+-- a host has learned nothing; and a slot that there is not
+abbrev pub slot_that_is_not_learned : List Event
+slot_that_is_not_learned = Start 0 ∷ Mark 0 1 ∷ Mark 0 2 ∷ []
+
 -- EVENTS THAT DO NOT APPLY
 
 -- to a stopped host, a host or a disk that there is not, or without bytes
@@ -303,3 +321,11 @@ while_busy = Submit 0 (takes_db 0) 1 ∷ Recover 0 1 ∷ Tear 0 (0 ∷ []) ∷ F
 abbrev pub events_that_do_not_apply : List Event
 events_that_do_not_apply = before_a_start ++ Start 0 ∷ while_idle ++ Submit 0 (takes_db 0) 1 ∷ while_busy ++ steps 0 17
     ++ DiskGone 0 ∷ DiskGone 0 ∷ DiskCrash 0 (0 ∷ []) ∷ []
+
+-- host 1 looks once host 0 has marked its first slot
+abbrev pub look_behind_a_mark : List Event
+look_behind_a_mark = submits ++ steps 0 17 ++ marks_first ++ steps 0 9 ++ Start 1 ∷ Look 1 ∷ steps 1 6
+
+-- it looks where nothing is marked
+abbrev pub look_without_a_mark : List Event
+look_without_a_mark = submits ++ steps 0 17 ++ Start 1 ∷ Look 1 ∷ steps 1 3

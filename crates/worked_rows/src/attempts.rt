@@ -101,5 +101,6 @@ pub fn value_that_is_no_command()
       doing = None;
       said = Some (Refused refusal.NotACommand);
       beats = record { readings = None; heard = None };
+      marking = None;
     } }
 {}

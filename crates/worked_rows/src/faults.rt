@@ -1,5 +1,5 @@
 // Rows in which a call fails, or a disk crashes or is lost, over three disks.
-ghost use Rattle.std.specs.Prelude.{◌≡◌, ◌∷◌, [], Some, None};
+ghost use Rattle.std.specs.Prelude.{false, ◌≡◌, ◌∷◌, [], Some, None};
 ghost use Rattle.lock_command.specs.Command.{spelling};
 ghost use Rattle.slot_log.specs.declared.outcome.Refusal.TheVariants as refusal;
 ghost use Rattle.worked_rows.specs.Answers.{said_over, world_over, locks_of, vote_on, floor_of, granted, recovered, refused, db_is_held};
@@ -50,13 +50,13 @@ pub fn crash_between_two_calls()
 /// `submit 0 1 enqueue 1 1 1 EX db | step 0 51`
 pub fn floor_of_a_ballot_never_written()
     ensures unwritten { vote_on (world_over 3 2 events.loses_its_majority) 0 0 0 ≡
-        Some (record { mbal = 0; bal = 0; inp = None }) }
+        Some (record { mbal = 0; bal = 0; inp = None; mark = false }) }
     ensures kept { floor_of (world_over 3 2 events.loses_its_majority) 0 ≡ 1 }
     ensures promised { vote_on (world_over 3 2 (events.tries_again 15)) 0 0 0 ≡
-        Some (record { mbal = 9; bal = 0; inp = None }) }
+        Some (record { mbal = 9; bal = 0; inp = None; mark = false }) }
     ensures next_slot { floor_of (world_over 3 2 (events.tries_again 51)) 0 ≡ 0 }
     ensures voted { vote_on (world_over 3 2 (events.tries_again 51)) 0 0 0 ≡
-        Some (record { mbal = 9; bal = 9; inp = Some (spelling (events.takes_db 0)) }) }
+        Some (record { mbal = 9; bal = 9; inp = Some (spelling (events.takes_db 0)); mark = false }) }
     ensures answers { said_over 3 2 (events.tries_again 51) ≡
         refused 12 0 refusal.NoMajority ∷ granted 64 0 0 ∷ [] }
 {}
@@ -69,7 +69,7 @@ pub fn no_floor_without_a_ballot()
     ensures answers { said_over 3 2 events.loses_its_majority_early ≡
         refused 7 0 refusal.NoMajority ∷ [] }
     ensures promised { vote_on (world_over 3 2 events.loses_its_majority_early) 0 0 0 ≡
-        Some (record { mbal = 1; bal = 0; inp = None }) }
+        Some (record { mbal = 1; bal = 0; inp = None; mark = false }) }
 {}
 
 /// The ballot that outran a host counts for it, also where the disk that showed it is lost: host 0
@@ -82,9 +82,9 @@ pub fn floor_of_an_outrun()
     ensures answers { said_over 3 2 events.outrun_on_a_lost_disk ≡
         refused 23 1 refusal.NoMajority ∷ [] }
     ensures outran { vote_on (world_over 3 2 events.outrun_on_a_lost_disk) 0 0 1 ≡
-        Some (record { mbal = 10; bal = 0; inp = None }) }
+        Some (record { mbal = 10; bal = 0; inp = None; mark = false }) }
     ensures unseen { vote_on (world_over 3 2 events.outrun_on_a_lost_disk) 1 0 1 ≡
-        Some (record { mbal = 0; bal = 0; inp = None }) }
+        Some (record { mbal = 0; bal = 0; inp = None; mark = false }) }
     ensures promised { vote_on (world_over 3 2 events.outrun_on_a_lost_disk) 1 0 0 ≡
-        Some (record { mbal = 17; bal = 0; inp = None }) }
+        Some (record { mbal = 17; bal = 0; inp = None; mark = false }) }
 {}

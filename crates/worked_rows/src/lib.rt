@@ -6,6 +6,7 @@ mod attempts;
 mod faults;
 mod heartbeats;
 mod locks;
+mod markings;
 mod remains;
 mod stops;
 
@@ -32,6 +33,9 @@ pub use locks::{
     deadlock_of_two_conversions, held_mode_of_a_queued_conversion_counts, nobody_overtakes,
     one_has_to_wait, purge_goes_by_the_enqueue, purge_of_a_host, purge_settles_each_name,
     refused_cancels, refused_conversions, refused_where_it_would_queue,
+};
+pub use markings::{
+    look_behind_a_mark, look_without_a_mark, recovery_by_marks, slot_that_is_not_learned, torn_mark,
 };
 pub use remains::{
     body_torn_to_three_bytes, crash_behind_a_body, crashes_within_a_recovery,

@@ -1,13 +1,14 @@
 -- A host's account: what it has learned, its floor and its refusals follow from how its attempts ended.
-use Rattle.std.specs.Prelude.{◌-◌, max, nat_lt, nat_le, if◌then◌else◌}
+use Rattle.std.specs.Prelude.{◌-◌, not, is_some, max, nat_lt, nat_le, if◌then◌else◌}
 use Rattle.std.proofs.Common.{ℕ, ◌+◌, ◌<◌, ◌≤◌, ◌≡◌, ◌==◌, ◌↔◌, Bool, true, false, Option, Some, None, List, [], ◌∷◌, ◌++◌, length, refl, sym, ap, ◌∙◌, subst, arith, append_assoc, append-nil, length-append}
-use Rattle.std.proofs.lemmas.Bool.{eq-eqb, ne_eqb, leb-true, leb-false}
+use Rattle.std.proofs.lemmas.Bool.{and_parts, eq-eqb, ne_eqb, leb-true, leb-false}
 use Rattle.attempt.specs.Answers.{Answered, on, heard_as}
 use Rattle.attempt.specs.Setup.{Setup}
 use Rattle.attempt.specs.Status.{Status, Due, Ended, End, status, taken}
 use Rattle.attempt.specs.Status as attempt
 use Rattle.beats.specs.Answers as beat_answers
 use Rattle.beats.specs.Status as beat
+use Rattle.marks.specs.Status as mark
 use Rattle.disk.specs.Disk.{Answer}
 use Rattle.lock_command.specs.declared.command.Command.{Command}
 use Rattle.lock_command.specs.Reading.{decoded}
@@ -15,7 +16,7 @@ use Rattle.slot_log.specs.Shape.{Shape}
 use Rattle.slot_log.specs.declared.outcome.Refusal.TheVariants as refusal
 use Rattle.host.specs.declared.answer.HostAnswer.{HostAnswer}
 use Rattle.host.specs.declared.answer.HostAnswer.TheVariants.{Refused}
-use Rattle.host.specs.Host.{Operation, Submitting, Recovering, Doing, Memory, Host, Stopped, Running, fresh, says, begins, goes_on, full_answer, is_submitted, after_learning, takes, tries_again, with_floor, ended, by_status, with_heard, setup_of, beat_of, beat_by, hears_beat, hears_from, rests, is_idle, is_idle_in, said_of, learned_of}
+use Rattle.host.specs.Host.{Operation, Submitting, Recovering, Looking, Doing, Memory, Host, Stopped, Running, fresh, says, begins, goes_on, full_answer, spent_answer, is_submitted, after_learning, takes, tries_again, with_floor, ended, by_status, with_heard, setup_of, Marking, beat_of, beat_by, hears_beat, hears_beside, hears_marking, marking_by, marking_with, marking_of, with_marking, starts_marking, hears_from, rests, is_idle, is_idle_in, said_of, learned_of}
 use Rattle.world.specs.Entry as entries
 use Rattle.world.specs.Entry.{Filled, Called, Torn, Crashed, Lost, host_step, host_after}
 use Rattle.world.specs.Account.{Ending, ending_by, ending_in, ending_at, endings, read_as, committed_by, committed, outran, greatest_on, one_if_outrun, outruns, floor_of, GoesOn, AllGoOn, AccountsFor, BeginsWith, IsCalled, AllCalled, GivesUp}
@@ -95,14 +96,14 @@ module _ (m new : Memory) (past : List Ending) (is : Accounts m past) where
         up_to = subst (λ (l : List Command). AreUpTo (length l) (past ++ x ∷ [])) (sym learned) (up_to_more (length m.learned) past (x ∷ []) is.up_to (omega arith, tt));
       }
 
-  -- it has committed a command, which is learned
-  learns_one : (ballot : ℕ) (value : List ℕ) (command : Command) → decoded value ≡ Some command → new.learned ≡ m.learned ++ command ∷ [] → new.floor ≡ 0
-      → Accounts new (past ++ record { slot = length m.learned; ballot = ballot; end = attempt.Committed value } ∷ [])
-  learns_one ballot value command reads learned floor =
-      let x : Ending = record { slot = length m.learned; ballot = ballot; end = attempt.Committed value } in
+  -- it has told a command, which is learned
+  learns_one : (ballot : ℕ) (end : End) (command : Command) → committed_by end ≡ command ∷ [] → new.learned ≡ m.learned ++ command ∷ [] → new.floor ≡ 0
+      → Accounts new (past ++ record { slot = length m.learned; ballot = ballot; end = end } ∷ [])
+  learns_one ballot end command tells_it learned floor =
+      let x : Ending = record { slot = length m.learned; ballot = ballot; end = end } in
       let long : length new.learned ≡ length m.learned + 1 = ap length learned ∙ length-append m.learned (command ∷ []) in
       let both : AreUpTo (length m.learned) (past ++ x ∷ []) = up_to_more (length m.learned) past (x ∷ []) is.up_to (omega arith, tt) in
-      let one : committed (x ∷ []) ≡ command ∷ [] = append-nil (committed_by (attempt.Committed value)) ∙ ap read_as reads in
+      let one : committed (x ∷ []) ≡ command ∷ [] = append-nil (committed_by end) ∙ tells_it in
       record {
         learned = learned ∙ ap (λ (l : List Command). l ++ command ∷ []) is.learned ∙ sym (committed_more past (x ∷ []) ∙ ap (λ (l : List Command). committed past ++ l) one);
         floor = floor ∙ sym (none_behind (length m.learned) (past ++ x ∷ []) both) ∙ ap (λ (n : ℕ). greatest_on n (past ++ x ∷ [])) (sym long);
@@ -130,20 +131,21 @@ floor_again : (m : Memory) (operation : Operation) (tries : ℕ) → (tries_agai
 floor_again m operation tries = on_either (nat_le tries 1) (says m (Refused refusal.Outrun)) (begins m operation (tries - 1)) (λ k. k.floor ≡ m.floor) (λ e. refl) (λ e. refl)
 
 module _ (c : Shape) (h : ℕ) (m : Memory) (past : List Ending) (is : Accounts m past) where
-  learning : (t : Doing) (ballot : ℕ) (value : List ℕ) (command : Command) → decoded value ≡ Some command → (b : Bool)
-      → Accounts (after_learning c m t command b) (past ++ record { slot = length m.learned; ballot = ballot; end = attempt.Committed value } ∷ [])
-  learning t ballot value command reads true = learns_one m (after_learning c m t command true) past is ballot value command reads refl refl
-  learning t ballot value command reads false =
-      let m' : Memory = record { learned = m.learned ++ command ∷ []; floor = 0; doing = None; said = None; beats = m.beats } in
-      learns_one m (after_learning c m t command false) past is ballot value command reads (learned_on c m' t.operation t.tries) (floor_on c m' t.operation t.tries)
+  learning : (t : Doing) (ballot : ℕ) (end : End) (command : Command) → committed_by end ≡ command ∷ [] → (b : Bool)
+      → Accounts (after_learning c m t command b) (past ++ record { slot = length m.learned; ballot = ballot; end = end } ∷ [])
+  learning t ballot end command told true = learns_one m (after_learning c m t command true) past is ballot end command told refl refl
+  learning t ballot end command told false =
+      let m' : Memory = record { learned = m.learned ++ command ∷ []; floor = 0; doing = None; said = None; beats = m.beats; marking = m.marking } in
+      learns_one m (after_learning c m t command false) past is ballot end command told (learned_on c m' t.operation t.tries) (floor_on c m' t.operation t.tries)
 
-  taking : (t : Doing) (ballot : ℕ) (value : List ℕ) (read : Option Command) → decoded value ≡ read
-      → Accounts (takes c m t ballot value read) (past ++ record { slot = length m.learned; ballot = ballot; end = attempt.Committed value } ∷ [])
-  taking t ballot value None reads = counts m (takes c m t ballot value None) past is ballot (attempt.Committed value) (ap read_as reads) refl (omega arith)
-  taking t ballot value (Some command) reads = learning t ballot value command reads (is_submitted t.operation value)
+  taking : (t : Doing) (ballot : ℕ) (value : List ℕ) (end : End) → outran end ≡ 0 → (read : Option Command) → committed_by end ≡ read_as read
+      → Accounts (takes c m t ballot value read) (past ++ record { slot = length m.learned; ballot = ballot; end = end } ∷ [])
+  taking t ballot value end calm None told = counts m (takes c m t ballot value None) past is ballot end told refl (omega (arith, calm))
+  taking t ballot value end calm (Some command) told = learning t ballot end command told (is_submitted t.operation value)
 
   ending : (t : Doing) (ballot : ℕ) (end : End) → Accounts (ended c m t ballot end) (past ++ record { slot = length m.learned; ballot = ballot; end = end } ∷ [])
-  ending t ballot (attempt.Committed value) = taking t ballot value (decoded value) refl
+  ending t ballot (attempt.Committed value) = taking t ballot value (attempt.Committed value) refl (decoded value) refl
+  ending t ballot (attempt.Decided value) = taking t ballot value (attempt.Decided value) refl (decoded value) refl
   ending t ballot attempt.Empty = counts m (ended c m t ballot attempt.Empty) past is ballot attempt.Empty refl refl (omega arith)
   ending t ballot attempt.NoMajority = counts m (ended c m t ballot attempt.NoMajority) past is ballot attempt.NoMajority refl refl (omega arith)
   ending t ballot attempt.BallotsSpent = counts m (ended c m t ballot attempt.BallotsSpent) past is ballot attempt.BallotsSpent refl refl (omega arith)
@@ -166,8 +168,21 @@ module _ (c : Shape) (h : ℕ) (m : Memory) (past : List Ending) (is : Accounts 
   beating None x = same_account m m past refl refl is
   beating (Some heard) x = by_beat (heard ++ x ∷ []) (beat.status (beat_of c h) (beat_answers.on (heard ++ x ∷ [])))
 
+  by_marking : (t : Marking) (st : mark.Status) → Accounts (marking_by m t st) (past ++ [])
+  by_marking t (mark.Due disk) = same_account m (marking_by m t (mark.Due disk)) past refl refl is
+  by_marking t (mark.Ended (mark.Marked count)) = same_account m (marking_by m t (mark.Ended (mark.Marked count))) past refl refl is
+  by_marking t (mark.Ended mark.NoMajority) = same_account m (marking_by m t (mark.Ended mark.NoMajority)) past refl refl is
+
+  marking : (o : Option Marking) (x : Answered) → Accounts (hears_marking c h m o x) (past ++ [])
+  marking None x = same_account m m past refl refl is
+  marking (Some t) x = by_marking (marking_with t x) (mark.status (marking_of c h m t.slot) (on (marking_with t x).heard))
+
+  beside : (o : Option (List beat_answers.Answered)) (d : ℕ) (answer : Answer) → Accounts (hears_beside c h m o d answer) (past ++ [])
+  beside None d answer = marking m.marking (record { disk = d; heard = heard_as answer })
+  beside (Some heard) d answer = beating (Some heard) (record { disk = d; heard = beat_answers.heard_as answer })
+
   hearing : (o : Option Doing) (d : ℕ) (answer : Answer) → Accounts (hears_from c h m o d answer) (past ++ ending_in c h m o (record { disk = d; heard = heard_as answer }))
-  hearing None d answer = beating m.beats.heard (record { disk = d; heard = beat_answers.heard_as answer })
+  hearing None d answer = beside m.beats.heard d answer
   hearing (Some t) d answer =
       let x : Answered = record { disk = d; heard = heard_as answer } in
       let s = setup_of c h m t.operation in
@@ -181,7 +196,11 @@ one_accounts c h (Running m) past (entries.Stop g) on is = absurd on
 one_accounts c h (Running m) past (entries.Submit g command tries) on is =
     same_account m (goes_on c m (Submitting command) tries) past (learned_on c m (Submitting command) tries) (floor_on c m (Submitting command) tries) is
 one_accounts c h (Running m) past (entries.Recover g tries) on is = same_account m (goes_on c m Recovering tries) past (learned_on c m Recovering tries) (floor_on c m Recovering tries) is
+one_accounts c h (Running m) past (entries.Look g) on is = same_account m (goes_on c m Looking 1) past (learned_on c m Looking 1) (floor_on c m Looking 1) is
 one_accounts c h (Running m) past (entries.Beat g) on is = same_account m _ past refl refl is
+one_accounts c h (Running m) past (entries.Mark g slot) on is =
+    on_either (nat_lt slot (length m.learned)) (with_marking m (Some (record { slot = slot; heard = [] })) None) (with_marking m m.marking (Some (Refused refusal.NotLearned))) (λ n. Accounts n (past ++ []))
+    (λ e. same_account m _ past refl refl is) (λ e. same_account m _ past refl refl is)
 one_accounts c h (Running m) past (Called g d call answer left) on is = hearing c h m past is m.doing d answer
 one_accounts c h (Running m) past (Torn g d call left) on is = absurd on
 one_accounts c h (Running m) past (Crashed d left) on is = same_account m m past refl refl is
@@ -213,9 +232,13 @@ abbrev IsTried : ℕ → Option Doing → Option HostAnswer → ℕ → Type 0
 IsTried tries (Some t) said n = (t.tries + n ≡ tries) × (1 ≤ t.tries) × (said ≡ None)
 IsTried tries None said n = (n ≤ tries) × ((said ≡ Some (Refused refusal.Outrun)) ↔ (n ≡ tries))
 
--- and no beat is under way
+-- and neither a beat nor a marking is under way
+record AreResting (heard : Option (List beat_answers.Answered)) (marking : Option Marking) : Type 0 where
+  beat : heard ≡ None
+  mark : marking ≡ None
+
 abbrev Tried : ℕ → Memory → ℕ → Type 0
-Tried tries m n = IsTried tries m.doing m.said n × (m.beats.heard ≡ None)
+Tried tries m n = IsTried tries m.doing m.said n × AreResting m.beats.heard m.marking
 
 abbrev TriedAt : ℕ → Host → ℕ → Type 0
 TriedAt tries Stopped n = ⊥
@@ -228,26 +251,32 @@ ends_so tries n said left other = (omega arith, (λ is. absurd (other is), λ is
 not_full : (operation : Operation) (learned : ℕ) → Some (full_answer operation learned) ≡ Some (Refused refusal.Outrun) → ⊥
 not_full (Submitting command) learned is = cc
 not_full Recovering learned is = cc
+not_full Looking learned is = cc
 
-tried_on : (c : Shape) (m : Memory) (operation : Operation) (k tries n : ℕ) → k + n ≡ tries → 1 ≤ k → m.beats.heard ≡ None → Tried tries (goes_on c m operation k) n
+not_spent : (operation : Operation) (learned : ℕ) → Some (spent_answer operation learned) ≡ Some (Refused refusal.Outrun) → ⊥
+not_spent (Submitting command) learned is = cc
+not_spent Recovering learned is = cc
+not_spent Looking learned is = cc
+
+tried_on : (c : Shape) (m : Memory) (operation : Operation) (k tries n : ℕ) → k + n ≡ tries → 1 ≤ k → AreResting m.beats.heard m.marking → Tried tries (goes_on c m operation k) n
 tried_on c m operation k tries n all some rest =
     on_either (nat_lt (length m.learned) c.slots) (begins m operation k) (says m (full_answer operation (length m.learned))) (λ x. Tried tries x n)
     (λ e. ((all, some, refl), rest))
     (λ e. (ends_so tries n (full_answer operation (length m.learned)) (omega arith) (not_full operation (length m.learned)), rest))
 
-module _ (c : Shape) (h tries : ℕ) (m : Memory) (t : Doing) (n : ℕ) (all : t.tries + n ≡ tries) (some : 1 ≤ t.tries) (rest : m.beats.heard ≡ None) where
+module _ (c : Shape) (h tries : ℕ) (m : Memory) (t : Doing) (n : ℕ) (all : t.tries + n ≡ tries) (some : 1 ≤ t.tries) (rest : AreResting m.beats.heard m.marking) where
   tries_left : n < tries
   tries_left = omega (arith, all, some)
 
   tried_learning : (command : Command) (b : Bool) → Tried tries (after_learning c m t command b) n
   tried_learning command true = (ends_so tries n _ tries_left (λ is. cc), rest)
-  tried_learning command false = tried_on c (record { learned = m.learned ++ command ∷ []; floor = 0; doing = None; said = None; beats = m.beats }) t.operation t.tries tries n all some rest
+  tried_learning command false = tried_on c (record { learned = m.learned ++ command ∷ []; floor = 0; doing = None; said = None; beats = m.beats; marking = m.marking }) t.operation t.tries tries n all some rest
 
   tried_taking : (ballot : ℕ) (value : List ℕ) (read : Option Command) → Tried tries (takes c m t ballot value read) n
   tried_taking ballot value None = (ends_so tries n _ tries_left (λ is. cc), rest)
   tried_taking ballot value (Some command) = tried_learning command (is_submitted t.operation value)
 
-  tried_again : (m' : Memory) → m'.beats.heard ≡ None → Tried tries (tries_again m' t.operation t.tries) (n + 1)
+  tried_again : (m' : Memory) → AreResting m'.beats.heard m'.marking → Tried tries (tries_again m' t.operation t.tries) (n + 1)
   tried_again m' rest' =
       on_either (nat_le t.tries 1) (says m' (Refused refusal.Outrun)) (begins m' t.operation (t.tries - 1)) (λ x. Tried tries x (n + 1))
       (λ last. let one : t.tries ≤ 1 = leb-true t.tries 1 last in ((omega (arith, all, some), (λ is. omega (arith, all, some, one), λ is. refl)), rest'))
@@ -255,23 +284,28 @@ module _ (c : Shape) (h tries : ℕ) (m : Memory) (t : Doing) (n : ℕ) (all : t
 
   tried_ending : (ballot : ℕ) (end : End) → Tried tries (ended c m t ballot end) (n + (one_if_outrun end + 0))
   tried_ending ballot (attempt.Committed value) = subst (Tried tries (ended c m t ballot (attempt.Committed value))) (omega arith) (tried_taking ballot value (decoded value))
+  tried_ending ballot (attempt.Decided value) = subst (Tried tries (ended c m t ballot (attempt.Decided value))) (omega arith) (tried_taking ballot value (decoded value))
   tried_ending ballot attempt.Empty = subst (Tried tries (ended c m t ballot attempt.Empty)) (omega arith) (ends_so tries n _ tries_left (λ is. cc), rest)
   tried_ending ballot attempt.NoMajority = subst (Tried tries (ended c m t ballot attempt.NoMajority)) (omega arith) (ends_so tries n _ tries_left (λ is. cc), rest)
-  tried_ending ballot attempt.BallotsSpent = subst (Tried tries (ended c m t ballot attempt.BallotsSpent)) (omega arith) (ends_so tries n _ tries_left (λ is. cc), rest)
+  tried_ending ballot attempt.BallotsSpent = subst (Tried tries (ended c m t ballot attempt.BallotsSpent)) (omega arith) (ends_so tries n _ tries_left (not_spent t.operation (length m.learned)), rest)
   tried_ending ballot (attempt.Outrun mbal) = subst (Tried tries (ended c m t ballot (attempt.Outrun mbal))) (omega arith) (tried_again (with_floor (with_floor m ballot) mbal) rest)
 
   tried_status : (s : Setup) (heard : List Answered) (st : Status) → Tried tries (by_status c m t (taken s (on heard)) st) (n + outruns (ending_by s heard st))
   tried_status s heard (Due phase d) = subst (Tried tries (by_status c m t (taken s (on heard)) (Due phase d))) (omega arith) ((all, some, refl), rest)
   tried_status s heard (Ended end) = tried_ending (taken s (on heard)) end
 
-tried_idle : (c : Shape) (h tries : ℕ) (m : Memory) (n : ℕ) (o : Option (List beat_answers.Answered)) (x : beat_answers.Answered) → o ≡ None → Tried tries m n → Tried tries (hears_beat c h m o x) n
-tried_idle c h tries m n None x rest is = is
-tried_idle c h tries m n (Some heard) x rest is = absurd (cc)
+tried_unmarked : (c : Shape) (h tries : ℕ) (m : Memory) (n : ℕ) (o : Option Marking) (x : Answered) → o ≡ None → Tried tries m n → Tried tries (hears_marking c h m o x) n
+tried_unmarked c h tries m n None x rest is = is
+tried_unmarked c h tries m n (Some t) x rest is = absurd (cc)
+
+tried_idle : (c : Shape) (h tries : ℕ) (m : Memory) (n : ℕ) (o : Option (List beat_answers.Answered)) (d : ℕ) (answer : Answer) → o ≡ None → m.marking ≡ None → Tried tries m n → Tried tries (hears_beside c h m o d answer) n
+tried_idle c h tries m n None d answer rest none is = tried_unmarked c h tries m n m.marking (record { disk = d; heard = heard_as answer }) none is
+tried_idle c h tries m n (Some heard) d answer rest none is = absurd (cc)
 
 tried_hearing : (c : Shape) (h tries : ℕ) (m : Memory) (n : ℕ) (o : Option Doing) → m.doing ≡ o → Tried tries m n → (d : ℕ) (answer : Answer)
     → Tried tries (hears_from c h m o d answer) (n + outruns (ending_in c h m o (record { disk = d; heard = heard_as answer })))
 tried_hearing c h tries m n None doing is d answer =
-    subst (Tried tries (hears_from c h m None d answer)) (omega arith) (tried_idle c h tries m n m.beats.heard (record { disk = d; heard = beat_answers.heard_as answer }) is.1 is)
+    subst (Tried tries (hears_from c h m None d answer)) (omega arith) (tried_idle c h tries m n m.beats.heard d answer is.1.beat is.1.mark is)
 tried_hearing c h tries m n (Some t) doing is d answer =
     let now : IsTried tries (Some t) m.said n = subst (λ (o : Option Doing). IsTried tries o m.said n) doing is.0 in
     let x : Answered = record { disk = d; heard = heard_as answer } in
@@ -303,8 +337,14 @@ rests_none : (o : Option (List beat_answers.Answered)) → rests o ≡ true → 
 rests_none None is = refl
 rests_none (Some heard) is = absurd (cc)
 
-idle_rests : (m : Memory) (o : Option Doing) → is_idle_in m o ≡ true → m.beats.heard ≡ None
-idle_rests m None is = rests_none m.beats.heard is
+unmarked_none : (o : Option Marking) → not (is_some o) ≡ true → o ≡ None
+unmarked_none None is = refl
+unmarked_none (Some t) is = absurd (cc)
+
+idle_rests : (m : Memory) (o : Option Doing) → is_idle_in m o ≡ true → AreResting m.beats.heard m.marking
+idle_rests m None is =
+    let both = and_parts (rests m.beats.heard) (not (is_some m.marking)) is in
+    record { beat = rests_none m.beats.heard both.0; mark = unmarked_none m.marking both.1 }
 idle_rests m (Some t) is = absurd (cc)
 
 begins_tried : (c : Shape) (h tries : ℕ) (m : Memory) (e : Filled) → is_idle m ≡ true → 1 ≤ tries → BeginsWith tries e → TriedAt tries (host_step c h (Running m) e) (outruns (ending_at c h (Running m) e))

@@ -1,20 +1,27 @@
 -- In a run each host's beat has heard a history, and a busy host has a call to make.
-use Rattle.std.proofs.Common.{ℕ, ◌*◌, ◌<◌, ◌≤◌, ◌≡◌, true, false, Option, Some, None, List, [], ◌∷◌, ◌++◌, length, refl, sym, subst, ap, ◌∙◌, inl, inr}
+use Rattle.std.specs.Prelude.{not, is_some, nat_lt, if◌then◌else◌}
+use Rattle.slot_log.specs.declared.outcome.Refusal.TheVariants as refusal
+use Rattle.host.specs.declared.answer.HostAnswer.TheVariants.{Refused}
+use Rattle.std.proofs.Common.{ℕ, ◌*◌, ◌<◌, ◌≤◌, ◌≡◌, Bool, true, false, Option, Some, None, List, [], ◌∷◌, ◌++◌, length, refl, sym, subst, ap, ◌∙◌, inl, inr}
 use Rattle.std.proofs.lemmas.Bool.{eqb-true, cases_Bool}
 use Rattle.disk.specs.Disk.{Call, Answer}
 use Rattle.beats.specs.Answers.{Answered, on, heard_as}
 use Rattle.beats.specs.History.{Fits, IsAnswerTo, IsHistory}
-use Rattle.beats.specs.Status.{Setup, Status, Due, Ended, Beaten, NoMajority, status}
+use Rattle.beats.specs.Status.{Setup, Status, Due, Ended, Beaten, NoMajority, status, next_call}
+use Rattle.attempt.specs.Answers as attempt
+use Rattle.marks.specs.Status as mark
 use Rattle.beats.proofs.Histories as histories
-use Rattle.beats.proofs.Histories.{fits_too, history_more, starts}
+use Rattle.attempt.proofs.Hearing.{history_more}
+use Rattle.beats.proofs.Histories.{fits_too, starts}
 use Rattle.slot_log.specs.Shape.{Shape}
-use Rattle.host.specs.Host.{Operation, Submitting, Recovering, Doing, Memory, Host, Stopped, Running, hears_from, hears_beat, beat_by, beat_of, is_idle, is_idle_in, next_beat, next_doing, next_of}
+use Rattle.host.specs.Host.{Operation, Submitting, Recovering, Looking, Doing, Memory, Host, Stopped, Running, Marking, hears_from, hears_beside, hears_beat, hears_marking, marking_by, marking_with, marking_of, with_marking, starts_marking, beat_by, beat_of, is_idle, is_idle_in, next_beside, next_marking, next_doing, next_of}
 use Rattle.host.proofs.Hosts.{beats-goes_on, beats_heard}
-use Rattle.world.specs.Entry.{Filled, Start, Stop, Submit, Recover, Beat, Called, Torn, Crashed, Lost, is_of, host_step, started, beats, begins_on}
+use Rattle.world.specs.Entry.{Filled, Start, Stop, Submit, Recover, Look, Beat, Mark, Called, Torn, Crashed, Lost, is_of, host_step, started, beats, marks, begins_on}
 use Rattle.world.specs.World.{World, world, MayFollow, IsRun}
 use Rattle.world.proofs.Histories.{step_fits, has_call}
 use Rattle.world.proofs.Projections.{host_here, host_there}
 use Rattle.world.proofs.Runs.{by_run}
+use Rattle.world.proofs.Markings.{marking_call}
 
 -- a beat under way has heard a history, and has a call to make
 record IsUnderWay (s : Setup) (heard : List Answered) : Type 0 where
@@ -47,14 +54,32 @@ module _ (c : Shape) (h : ℕ) where
   goes m heard (Ended (Beaten readings)) now is = tt
   goes m heard (Ended NoMajority) now is = tt
 
-  beat_heard : (m : Memory) (o : Option (List Answered)) → m.beats.heard ≡ o → (k : ℕ) (call : Call) (answer : Answer) → next_beat c h o ≡ Some (k, call) → Fits call (heard_as answer) → IsBeating o
-      → IsHeard (Running (hears_beat c h m o (record { disk = k; heard = heard_as answer })))
-  beat_heard m None none k call answer next fits is = absurd (cc)
+  -- a marking leaves beats as they were
+  marking_by_stays : (m : Memory) (t : Marking) (st : mark.Status) → IsBeating m.beats.heard → IsHeard (Running (marking_by m t st))
+  marking_by_stays m t (mark.Due disk) is = is
+  marking_by_stays m t (mark.Ended (mark.Marked count)) is = is
+  marking_by_stays m t (mark.Ended mark.NoMajority) is = is
+
+  marking_stays : (m : Memory) (o : Option Marking) (x : attempt.Answered) → IsBeating m.beats.heard → IsHeard (Running (hears_marking c h m o x))
+  marking_stays m None x is = is
+  marking_stays m (Some t) x is = marking_by_stays m (marking_with t x) (mark.status (marking_of c h m t.slot) (attempt.on (marking_with t x).heard)) is
+
+  marking_begun : (old : Host) (slot : ℕ) → IsHeard old → IsHeard (marks old slot)
+  marking_begun Stopped slot is = tt
+  marking_begun (Running m) slot is = go (nat_lt slot (length m.learned))
+    where
+      go : (b : Bool) → IsHeard (Running (if b then with_marking m (Some (record { slot = slot; heard = [] })) None else with_marking m m.marking (Some (Refused refusal.NotLearned))))
+      go true = is
+      go false = is
+
+  beat_heard : (m : Memory) (o : Option (List Answered)) → m.beats.heard ≡ o → (k : ℕ) (call : Call) (answer : Answer) → next_beside c h m o ≡ Some (k, call) → Fits call (heard_as answer) → IsBeating o
+      → IsHeard (Running (hears_beside c h m o k answer))
+  beat_heard m None none k call answer next fits is = marking_stays m m.marking (record { disk = k; heard = attempt.heard_as answer }) (subst IsBeating (sym none) tt)
   beat_heard m (Some heard) same k call answer next fits is =
       let s = beat_of c h in
       let x : Answered = record { disk = k; heard = heard_as answer } in
       goes m (heard ++ x ∷ []) (status s (on (heard ++ x ∷ []))) refl
-      (history_more s heard x is.history (subst (λ (o : Option (ℕ × Call)). IsAnswerTo o x) (sym next) (refl, fits)))
+      (history_more (next_call s) heard x is.history (subst (λ (o : Option (ℕ × Call)). IsAnswerTo o x) (sym next) (refl, fits)))
 
   heard_from : (m : Memory) (o : Option Doing) → m.doing ≡ o → (k : ℕ) (call : Call) (answer : Answer) → next_doing c h m o ≡ Some (k, call) → Fits call (heard_as answer) → IsBeating m.beats.heard → IsHeard (Running (hears_from c h m o k answer))
   heard_from m None none k call answer next fits is = beat_heard m m.beats.heard refl k call answer next fits is
@@ -74,7 +99,9 @@ module _ (c : Shape) (h : ℕ) where
   step_heard w (Stop g) of m is = tt
   step_heard w (Submit g command tries) of m is = operated (w.host h) (Submitting command) tries is
   step_heard w (Recover g tries) of m is = operated (w.host h) Recovering tries is
+  step_heard w (Look g) of m is = operated (w.host h) Looking 1 is
   step_heard w (Beat g) of m is = begun (w.host h)
+  step_heard w (Mark g slot) of m is = marking_begun (w.host h) slot is
   step_heard w (Called g k call answer left) of m is =
       let next : next_of c h (w.host h) ≡ Some (k, call) = subst (λ (i : ℕ). next_of c i (w.host i) ≡ Some (k, call)) (eqb-true g h of) m.0 in
       heard_on (w.host h) k call answer next (fits_too call answer (step_fits (w.disk k) _ call answer m.1)) is left
@@ -107,7 +134,7 @@ module _ (c : Shape) (log : List Filled) (h : ℕ) (m : Memory) where
       histories.going (beat_of c h) heard due.0 is.history due.1
 
   -- a call of the beat is due
-  beat_call : (heard : List Answered) → 1 ≤ c.disks → IsRun c log → (world c log).host h ≡ Running m → m.beats.heard ≡ Some heard → (k : ℕ) × (call : Call) × (k < c.disks) × (next_beat c h (Some heard) ≡ Some (k, call))
+  beat_call : (heard : List Answered) → 1 ≤ c.disks → IsRun c log → (world c log).host h ≡ Running m → m.beats.heard ≡ Some heard → (k : ℕ) × (call : Call) × (k < c.disks) × (next_beside c h m (Some heard) ≡ Some (k, call))
   beat_call heard some run running beats =
       let s = beat_of c h in
       let due = (under_way heard run running beats).due some in
@@ -119,11 +146,17 @@ module _ (c : Shape) (log : List Filled) (h : ℕ) (m : Memory) where
   pub busy_call : 1 ≤ c.disks → IsRun c log → (world c log).host h ≡ Running m → is_idle m ≡ false → (k : ℕ) × (call : Call) × (k < c.disks) × (next_of c h (Running m) ≡ Some (k, call))
   busy_call some run running busy = go m.doing refl busy
     where
+      by_marking : (o : Option Marking) → m.doing ≡ None → m.beats.heard ≡ None → m.marking ≡ o → not (is_some o) ≡ false → (k : ℕ) × (call : Call) × (k < c.disks) × (next_of c h (Running m) ≡ Some (k, call))
+      by_marking None none rests marking busy = absurd (cc)
+      by_marking (Some t) none rests marking busy =
+          let call = marking_call c log h m t some run running marking in
+          (call.0, call.1, call.2, ap (next_doing c h m) none ∙ ap (next_beside c h m) rests ∙ ap (next_marking c h m) marking ∙ call.3)
+
       by_beat : (o : Option (List Answered)) → m.doing ≡ None → m.beats.heard ≡ o → is_idle_in (record m { beats = record m.beats { heard = o } }) None ≡ false → (k : ℕ) × (call : Call) × (k < c.disks) × (next_of c h (Running m) ≡ Some (k, call))
-      by_beat None none beats busy = absurd (cc)
+      by_beat None none beats busy = by_marking m.marking none beats refl busy
       by_beat (Some heard) none beats busy =
           let call = beat_call heard some run running beats in
-          (call.0, call.1, call.2, ap (next_doing c h m) none ∙ ap (next_beat c h) beats ∙ call.3)
+          (call.0, call.1, call.2, ap (next_doing c h m) none ∙ ap (next_beside c h m) beats ∙ call.3)
 
       go : (o : Option Doing) → m.doing ≡ o → is_idle_in m o ≡ false → (k : ℕ) × (call : Call) × (k < c.disks) × (next_of c h (Running m) ≡ Some (k, call))
       go None none busy = by_beat m.beats.heard none refl busy

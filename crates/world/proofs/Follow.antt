@@ -21,7 +21,7 @@ use Rattle.host.proofs.Hosts.{decoded_spelled}
 use Rattle.world.specs.Entry as entries
 use Rattle.world.specs.Entry.{Filled, Called, Torn, Crashed, called_by}
 use Rattle.world.specs.World.{World, MayFollow, ReadsBack, HasDisk}
-use Rattle.world.specs.Happens.{Event, Start, Stop, Submit, Recover, Beat, Step, Tear, FailCall, DiskCrash, DiskGone, answer_by, answer_of, spread_over, stepped, failed_entry, failed, torn_entry, torn, brings_if, are_some, has_disk, submitted, entry_of}
+use Rattle.world.specs.Happens.{Event, Start, Stop, Submit, Recover, Look, Beat, Mark, Step, Tear, FailCall, DiskCrash, DiskGone, answer_by, answer_of, spread_over, stepped, failed_entry, failed, torn_entry, torn, brings_if, are_some, has_disk, submitted, entry_of}
 
 -- WHAT A TEST TELLS
 
@@ -154,7 +154,9 @@ module _ (c : Shape) (w : World) (whole : (k : ℕ) → IsWhole (w.disk k)) wher
   may_follow (Submit h command tries) e is =
       given_if _ _ e (MayFollow c w e) is (λ t s. let p = and_parts (idles (w.host h)) (nat_lt 0 tries) t in submitting h tries (decoded (spelling command)) (spelling command) e p.0 (ltb-true _ _ p.1) refl s)
   may_follow (Recover h tries) e is = some_if _ _ e (MayFollow c w) is (λ t. let p = and_parts (idles (w.host h)) (nat_lt 0 tries) t in (p.0, ltb-true _ _ p.1))
+  may_follow (Look h) e is = some_if _ _ e (MayFollow c w) is (λ t. t)
   may_follow (Beat h) e is = some_if _ _ e (MayFollow c w) is (λ t. t)
+  may_follow (Mark h slot) e is = some_if _ _ e (MayFollow c w) is (λ t. let p = and_parts (idles (w.host h)) (nat_lt slot c.slots) t in (p.0, ltb-true _ _ p.1))
   may_follow (Step h) e is = stepping h (next_of c h (w.host h)) e refl is
   may_follow (Tear h given) e is = given_if _ _ e (MayFollow c w e) is (λ t s. tearing h given (next_of c h (w.host h)) e refl s)
   may_follow (FailCall h given) e is = given_if _ _ e (MayFollow c w e) is (λ t s. failing h given (next_of c h (w.host h)) e refl s)

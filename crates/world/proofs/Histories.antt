@@ -6,14 +6,15 @@ use Rattle.std.proofs.Common.{inl, inr}
 use Rattle.disk.specs.Disk.{DiskState, Call, Attach, Read, Write, Sync, Answer, Booted, Told, Done, Fault, Step, success_of}
 use Rattle.attempt.specs.Answers.{Answered, Answers, on, heard_as, row_in}
 use Rattle.attempt.specs.Setup.{Setup}
-use Rattle.attempt.specs.Status.{Status, Due, Ended, End, Committed, Empty, Outrun, NoMajority, BallotsSpent, status, taken}
+use Rattle.attempt.specs.Status.{Status, Due, Ended, End, Committed, Decided, Empty, Outrun, NoMajority, BallotsSpent, status, taken}
 use Rattle.attempt.specs.History.{Fits, IsAnswerTo, IsHistory}
 use Rattle.attempt.specs.Standing.{HasProposal}
 use Rattle.attempt.specs.Chosen.{accepts_in, accepts, Chooses}
 use Rattle.attempt.specs.Visits.{waits, visited, is_left}
 use Rattle.attempt.specs.Proposal.{ballot, others_top, others_mbal}
 use Rattle.attempt.specs.Calls.{Phase, Opening, One, Two, goal, seventeen}
-use Rattle.attempt.proofs.Replies.{history_more, next_is}
+use Rattle.attempt.proofs.Hearing.{history_more}
+use Rattle.attempt.proofs.Replies.{next_is}
 use Rattle.attempt.specs.Numbers.{count}
 use Rattle.attempt.specs.NextCall.{call_by, next_call}
 use Rattle.attempt.proofs.Firsts.{below_some}
@@ -28,10 +29,11 @@ use Rattle.lock_command.specs.Reading.{decoded}
 use Rattle.slot_log.specs.Shape.{Shape}
 use Rattle.slot_log.specs.declared.outcome.Refusal.TheVariants as refusal
 use Rattle.host.specs.declared.answer.HostAnswer.TheVariants.{Refused}
-use Rattle.host.specs.Host.{Operation, Submitting, Recovering, Doing, Memory, Host, Stopped, Running, setup_of, says, begins, full_answer, goes_on, is_submitted, after_learning, learns, takes, tries_again, ended, by_status, with_heard, with_floor, hears, next_doing, next_of, hears_from, hears_beat, beat_by, beat_of}
+use Rattle.host.specs.Host.{Operation, Submitting, Recovering, Looking, Doing, Memory, Host, Stopped, Running, setup_of, says, begins, full_answer, goes_on, is_submitted, after_learning, learns, takes, tries_again, ended, by_status, with_heard, with_floor, hears, next_doing, next_of, hears_from, hears_beside, hears_beat, beat_by, beat_of, Marking, marking_by, marking_with, marking_of, hears_marking, with_marking, starts_marking}
 use Rattle.beats.specs.Answers as beat_answers
 use Rattle.beats.specs.Status as beat
-use Rattle.world.specs.Entry.{Filled, Start, Stop, Submit, Recover, Beat, Called, Torn, Crashed, Lost, is_of, host_step, started, beats, begins_on}
+use Rattle.marks.specs.Status as mark
+use Rattle.world.specs.Entry.{Filled, Start, Stop, Submit, Recover, Look, Beat, Mark, Called, Torn, Crashed, Lost, is_of, host_step, started, beats, marks, begins_on}
 use Rattle.world.specs.World.{World, world, MayFollow, IsRun}
 use Rattle.world.proofs.Projections.{host_here, host_there}
 use Rattle.world.specs.Chosen.{at, Hears, IsChosenAt}
@@ -133,6 +135,7 @@ module _ (c : Shape) (h : ℕ) where
 
   over : (m : Memory) (t : Doing) (ballot : ℕ) (end : End) → IsHeard (Running (ended c m t ballot end))
   over m t ballot (Committed value) = took m t ballot value (decoded value)
+  over m t ballot (Decided value) = took m t ballot value (decoded value)
   over m t ballot Empty = tt
   over m t ballot (Outrun mbal) = tried (with_floor (with_floor m ballot) mbal) t.operation t.tries
   over m t ballot NoMajority = tt
@@ -152,6 +155,24 @@ module _ (c : Shape) (h : ℕ) where
   beat_heard m None x none = subst (IsHeardIn m) (sym none) tt
   beat_heard m (Some heard) x none = beat_heard_by m (heard ++ x ∷ []) (beat.status (beat_of c h) (beat_answers.on (heard ++ x ∷ [])))
 
+  -- nor has a marking
+  marking_heard_by : (m : Memory) (t : Marking) (st : mark.Status) → IsHeard (Running (marking_by m t st))
+  marking_heard_by m t (mark.Due disk) = tt
+  marking_heard_by m t (mark.Ended (mark.Marked count)) = tt
+  marking_heard_by m t (mark.Ended mark.NoMajority) = tt
+
+  marking_heard : (m : Memory) (o : Option Marking) (x : Answered) → m.doing ≡ None → IsHeard (Running (hears_marking c h m o x))
+  marking_heard m None x none = subst (IsHeardIn m) (sym none) tt
+  marking_heard m (Some t) x none = marking_heard_by m (marking_with t x) (mark.status (marking_of c h m t.slot) (on (marking_with t x).heard))
+
+  beside_heard : (m : Memory) (o : Option (List beat_answers.Answered)) (d : ℕ) (answer : Answer) → m.doing ≡ None → IsHeard (Running (hears_beside c h m o d answer))
+  beside_heard m None d answer none = marking_heard m m.marking (record { disk = d; heard = heard_as answer }) none
+  beside_heard m (Some heard) d answer none = beat_heard m (Some heard) (record { disk = d; heard = beat_answers.heard_as answer }) none
+
+  marking_begun : (old : Host) (slot : ℕ) → IsHeard (marks old slot)
+  marking_begun Stopped slot = tt
+  marking_begun (Running m) slot = one_of (nat_lt slot (length m.learned)) (with_marking m (Some (record { slot = slot; heard = [] })) None) (with_marking m m.marking (Some (Refused refusal.NotLearned))) tt tt
+
   beat_begun : (old : Host) → IsHeard (beats old)
   beat_begun Stopped = tt
   beat_begun (Running m) = tt
@@ -160,10 +181,10 @@ module _ (c : Shape) (h : ℕ) where
   heard_more : (m : Memory) (t : Doing) (x : Answered) → IsUnderWay (setup_of c h m t.operation) t.heard → IsAnswerTo (next_doing c h m (Some t)) x → IsHeard (Running (hears c h m (Some t) x))
   heard_more m t x is answers =
       let s = setup_of c h m t.operation in
-      goes m (with_heard t x) (taken s (on (t.heard ++ x ∷ []))) (status s (on (t.heard ++ x ∷ []))) refl (history_more s t.heard x is.history answers)
+      goes m (with_heard t x) (taken s (on (t.heard ++ x ∷ []))) (status s (on (t.heard ++ x ∷ []))) refl (history_more (next_call s) t.heard x is.history answers)
 
   heard_from : (m : Memory) (o : Option Doing) → m.doing ≡ o → (k : ℕ) (call : Call) (answer : Answer) → next_doing c h m o ≡ Some (k, call) → Fits call (heard_as answer) → IsHeardIn m o → IsHeard (Running (hears_from c h m o k answer))
-  heard_from m None none k call answer next fits is = beat_heard m m.beats.heard (record { disk = k; heard = beat_answers.heard_as answer }) none
+  heard_from m None none k call answer next fits is = beside_heard m m.beats.heard k answer none
   heard_from m (Some t) does k call answer next fits is =
       heard_more m t (record { disk = k; heard = heard_as answer }) is
       (subst (λ (o : Option (ℕ × Call)). IsAnswerTo o (record { disk = k; heard = heard_as answer })) (sym next) (refl, fits))
@@ -186,7 +207,9 @@ module _ (c : Shape) (h : ℕ) where
   step_heard w (Stop g) of m is = tt
   step_heard w (Submit g command tries) of m is = operated (w.host h) (Submitting command) tries (Submit g command tries) refl
   step_heard w (Recover g tries) of m is = operated (w.host h) Recovering tries (Recover g tries) refl
+  step_heard w (Look g) of m is = operated (w.host h) Looking 1 (Look g) refl
   step_heard w (Beat g) of m is = beat_begun (w.host h)
+  step_heard w (Mark g slot) of m is = marking_begun (w.host h) slot
   step_heard w (Called g k call answer left) of m is =
       let next : next_of c h (w.host h) ≡ Some (k, call) = subst (λ (i : ℕ). next_of c i (w.host i) ≡ Some (k, call)) (eqb-true g h of) m.0 in
       heard_on (w.host h) k call answer next (step_fits (w.disk k) _ call answer m.1) is left
@@ -237,7 +260,7 @@ module _ (c : Shape) (log : List Filled) (i : ℕ) (s : Setup) (heard : List Ans
       let before = history c (take i log) hears.host hears.memory hears.doing (beginning c log i run) hears.running hears.does in
       let t = hears.doing in
       let x : Answered = record { disk = hears.disk; heard = heard_as hears.answer } in
-      let more = history_more (setup_of c hears.host hears.memory t.operation) t.heard x before answered in
+      let more = history_more (next_call (setup_of c hears.host hears.memory t.operation)) t.heard x before answered in
       subst (λ (xs : List Answered). IsHistory s xs) (sym hears.is_heard) (subst (λ (r : Setup). IsHistory r (t.heard ++ x ∷ [])) (sym hears.is_setup) more)
 
 -- WHAT IS COMMITTED

@@ -18,7 +18,7 @@ use Rattle.world.specs.Entry as entries
 use Rattle.world.specs.Entry.{Filled, Called, Torn, Crashed, Lost, torn_by, called_by, disk_step, host_step, hears_on, is_on, is_of}
 use Rattle.world.specs.World.{World, world, MayFollow, IsRun, HasDisk}
 use Rattle.world.specs.Happens as events
-use Rattle.world.specs.Happens.{Event, Start, Stop, Submit, Recover, Beat, Step, Tear, FailCall, DiskCrash, DiskGone, answer_by, answer_of, spread_over, stepped, failed_entry, failed, torn, brings_if, are_some, has_disk, submitted, entry_of, with_entry, run}
+use Rattle.world.specs.Happens.{Event, Start, Stop, Submit, Recover, Look, Beat, Mark, Step, Tear, FailCall, DiskCrash, DiskGone, answer_by, answer_of, spread_over, stepped, failed_entry, failed, torn, brings_if, are_some, has_disk, submitted, entry_of, with_entry, run}
 use Rattle.world.specs.Lines.{BringsSuch, EventsReachEach, EventsReachAll}
 use Rattle.world.proofs.Projections.{disk_here, disk_there, host_here, host_there}
 use Rattle.world.proofs.Runs.{run_whole, by_run, more, one_more}
@@ -233,7 +233,9 @@ module _ (c : Shape) (w : World) (whole : (k : ℕ) → IsWhole (w.disk k)) wher
   reached (entries.Stop h) may = (Stop h, itself (Stop h) _ (brought_if _ _ (not_false _ may)))
   reached (entries.Submit h command tries) may = (Submit h command tries, itself (Submit h command tries) _ (submitting h tries command may))
   reached (entries.Recover h tries) may = (Recover h tries, itself (Recover h tries) _ (brought_if _ _ (both_true may.0 (lt-ltb 0 tries may.1))))
+  reached (entries.Look h) may = (Look h, itself (Look h) _ (brought_if _ _ may))
   reached (entries.Beat h) may = (Beat h, itself (Beat h) _ (brought_if _ _ may))
+  reached (entries.Mark h slot) may = (Mark h slot, itself (Mark h slot) _ (brought_if _ _ (both_true may.0 (lt-ltb slot c.slots may.1))))
   reached (Called h k call (Fault Failed) left) may = failed_call h k call left may.0 may.1
   reached (Called h k call (Fault Gone) left) may = (Step h, stepping h k call (Fault Gone) left tt may.0 may.1)
   reached (Called h k call (Fault Reset) left) may = (Step h, stepping h k call (Fault Reset) left tt may.0 may.1)

@@ -18,14 +18,14 @@ use Rattle.lock_table.specs.Apply.{applied}
 use Rattle.slot_log.specs.Shape.{Shape}
 use Rattle.slot_log.specs.declared.outcome.Refusal.TheVariants as refusal
 use Rattle.host.specs.declared.answer.HostAnswer.{HostAnswer}
-use Rattle.host.specs.declared.answer.HostAnswer.TheVariants.{Ack, Recovered, Refused}
+use Rattle.host.specs.declared.answer.HostAnswer.TheVariants.{Ack, Recovered, Looked, Marked, Refused}
 use Rattle.host.specs.Host.{Host, Stopped, Running, Memory, Doing, setup_of, with_heard, said_of}
 use Rattle.attempt.specs.Answers.{on, heard_as}
 use Rattle.attempt.specs.Chosen.{accepts}
 use Rattle.std.specs.List.{range_with_len}
 use Rattle.world.specs.Entry.{Filled, Called, is_on, is_of, disk_step, host_step}
 use Rattle.world.specs.World.{World, opening_disk}
-use Rattle.world.specs.Happens.{Event, Start, Stop, Submit, Recover, Step, Tear, FailCall, DiskCrash, DiskGone, entry_of, host_of, Line, line, answers}
+use Rattle.world.specs.Happens.{Event, Start, Stop, Submit, Recover, Look, Mark, Step, Tear, FailCall, DiskCrash, DiskGone, entry_of, host_of, Line, line, answers}
 
 -- A WORLD BESIDE THE LIST
 
@@ -191,3 +191,14 @@ chosen_at_the_end = refl
 outrun_vote : accepting 1 (Start 0 ∷ Start 1 ∷ Submit 0 (asks 0) 1 ∷ (steps 0 16 ++ Submit 1 (asks 1) 1 ∷ steps 1 9)) ≡ false ∷ []
 unfolding fresh_disk sequence_of body_of number_bytes tail_with copy_in row_said zeros heading body_saying number_at claim_of is_said number lock_at request_at mode_of name_at enqueue_at action_at command_at applied
 outrun_vote = refl
+
+-- start 0; submit 0; step 0 17; mark 0 0; step 0 9; start 1; look 1; step 1 6: a mark is seen, and behind it nothing
+look_sees_a_mark : says 1 2 (Start 0 ∷ Submit 0 (asks 0) 1 ∷ (steps 0 17 ++ Mark 0 0 ∷ (steps 0 9 ++ Start 1 ∷ Look 1 ∷ steps 1 6)))
+    ≡ at 18 0 (Ack 0 reply.Granted) ∷ at 28 0 (Marked 1) ∷ at 36 1 (Looked 1) ∷ []
+unfolding fresh_disk sequence_of body_of number_bytes tail_with copy_in row_said zeros heading body_saying number_at claim_of is_said number lock_at request_at mode_of name_at enqueue_at action_at command_at applied
+look_sees_a_mark = refl
+
+-- start 0; submit 0; step 0 17; start 1; look 1; step 1 3: what is not marked is not seen
+look_sees_no_more : says 1 2 (Start 0 ∷ Submit 0 (asks 0) 1 ∷ (steps 0 17 ++ Start 1 ∷ Look 1 ∷ steps 1 3)) ≡ at 18 0 (Ack 0 reply.Granted) ∷ at 23 1 (Looked 0) ∷ []
+unfolding fresh_disk sequence_of body_of number_bytes tail_with copy_in row_said zeros heading body_saying number_at claim_of is_said number lock_at request_at mode_of name_at enqueue_at action_at command_at applied
+look_sees_no_more = refl

@@ -9,7 +9,7 @@ use Rattle.disk.specs.Crash.{IsWhole}
 use Rattle.disk.specs.Simulated.{fresh_disk}
 use Rattle.paxos_block.specs.Places.{image_length}
 use Rattle.slot_log.specs.Shape.{Shape}
-use Rattle.world.specs.Entry.{Filled, Start, Stop, Submit, Recover, Beat, Called, Torn, Crashed, Lost, is_on, torn_by, called_by, disk_step}
+use Rattle.world.specs.Entry.{Filled, Start, Stop, Submit, Recover, Look, Beat, Mark, Called, Torn, Crashed, Lost, is_on, torn_by, called_by, disk_step}
 use Rattle.world.specs.World.{World, world, MayFollow, IsRunFrom, IsRun}
 use Rattle.world.specs.Happens.{Event, entry_of, with_entry, happens, happen, run, Line, lines_at, answers_from, answers}
 use Rattle.world.proofs.Projections.{disk_here, disk_there}
@@ -54,7 +54,9 @@ step_whole c w k (Start h) on m is = absurd (cc)
 step_whole c w k (Stop h) on m is = absurd (cc)
 step_whole c w k (Submit h command tries) on m is = absurd (cc)
 step_whole c w k (Recover h tries) on m is = absurd (cc)
+step_whole c w k (Look h) on m is = absurd (cc)
 step_whole c w k (Beat h) on m is = absurd (cc)
+step_whole c w k (Mark h slot) on m is = absurd (cc)
 step_whole c w k (Called h d call answer left) on m is = called_whole (w.disk k) call answer left (is k)
 step_whole c w k (Torn h d call left) on m is = torn_whole (w.disk k) call left (is k)
 step_whole c w k (Crashed d left) on m is =

@@ -46,9 +46,10 @@ read_as (Some command) = command ∷ []
 
 abbrev pub committed_by : End → List Command
 committed_by (attempt.Committed value) = read_as (decoded value)
+committed_by (attempt.Decided value) = read_as (decoded value)
 committed_by other = []
 
--- the commands that they committed
+-- the commands that they committed, or were told to be decided
 abbrev pub committed : List Ending → List Command
 committed [] = []
 committed (x ∷ xs) = committed_by x.end ++ committed xs

@@ -4,14 +4,16 @@ use Rattle.disk.specs.declared.fault.DiskFault.TheVariants.{Reset, Failed, Gone}
 use Rattle.disk.specs.Disk.{DiskState, Call, Attach, Read, Write, Sync, Answer, Fault, written, done_by, lost}
 use Rattle.lock_command.specs.declared.command.Command.{Command}
 use Rattle.slot_log.specs.Shape.{Shape}
-use Rattle.host.specs.Host.{Operation, Submitting, Recovering, Host, Stopped, Running, fresh, goes_on, starts_beat, hears_from}
+use Rattle.host.specs.Host.{Operation, Submitting, Recovering, Looking, Host, Stopped, Running, fresh, goes_on, starts_beat, starts_marking, hears_from}
 
 pub data Filled : Type 0 where
   Start : (host : ℕ) → Filled
   Stop : (host : ℕ) → Filled
   Submit : (host : ℕ) → (command : Command) → (tries : ℕ) → Filled
   Recover : (host : ℕ) → (tries : ℕ) → Filled
+  Look : (host : ℕ) → Filled
   Beat : (host : ℕ) → Filled
+  Mark : (host slot : ℕ) → Filled
   -- a device call with its answer, and what a write that failed left in its range
   Called : (host disk : ℕ) → (call : Call) → (answer : Answer) → (left : List ℕ) → Filled
   -- a host stopped within a write, which left these bytes in its range
@@ -35,7 +37,9 @@ is_of h (Start g) = g == h
 is_of h (Stop g) = g == h
 is_of h (Submit g command tries) = g == h
 is_of h (Recover g tries) = g == h
+is_of h (Look g) = g == h
 is_of h (Beat g) = g == h
+is_of h (Mark g slot) = g == h
 is_of h (Called g d call answer left) = g == h
 is_of h (Torn g d call left) = g == h
 is_of h other = false
@@ -96,6 +100,11 @@ abbrev pub beats : Host → Host
 beats Stopped = Stopped
 beats (Running m) = Running (starts_beat m)
 
+-- or a marking
+abbrev pub marks : Host → ℕ → Host
+marks Stopped slot = Stopped
+marks (Running m) slot = Running (starts_marking m slot)
+
 -- a running host hears an answer of a disk
 abbrev pub hears_on : Shape → ℕ → Host → ℕ → Answer → Host
 hears_on c h Stopped d answer = Stopped
@@ -106,7 +115,9 @@ host_step c h old (Start g) = started old
 host_step c h old (Stop g) = Stopped
 host_step c h old (Submit g command tries) = begins_on c old (Submitting command) tries
 host_step c h old (Recover g tries) = begins_on c old Recovering tries
+host_step c h old (Look g) = begins_on c old Looking 1
 host_step c h old (Beat g) = beats old
+host_step c h old (Mark g slot) = marks old slot
 host_step c h old (Called g d call answer left) = hears_on c h old d answer
 host_step c h old (Torn g d call left) = Stopped
 host_step c h old other = old

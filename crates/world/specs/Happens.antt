@@ -21,7 +21,9 @@ pub data Event : Type 0 where
   Stop : (host : ℕ) → Event
   Submit : (host : ℕ) → (command : Command) → (tries : ℕ) → Event
   Recover : (host : ℕ) → (tries : ℕ) → Event
+  Look : (host : ℕ) → Event
   Beat : (host : ℕ) → Event
+  Mark : (host slot : ℕ) → Event
   -- the host makes its next device call, which does not fail
   Step : (host : ℕ) → Event
   -- the host stops within its next call, a write, whose range takes the given bytes
@@ -94,7 +96,9 @@ entry_of c w (Stop h) = brings_if (not (is_stopped (w.host h))) (Some (entries.S
 entry_of c w (Submit h command tries) =
     brings_if (idles (w.host h) && nat_lt 0 tries) (submitted h tries (decoded (spelling command)))
 entry_of c w (Recover h tries) = brings_if (idles (w.host h) && nat_lt 0 tries) (Some (entries.Recover h tries))
+entry_of c w (Look h) = brings_if (idles (w.host h)) (Some (entries.Look h))
 entry_of c w (Beat h) = brings_if (idles (w.host h)) (Some (entries.Beat h))
+entry_of c w (Mark h slot) = brings_if (idles (w.host h) && nat_lt slot c.slots) (Some (entries.Mark h slot))
 entry_of c w (Step h) = option_map (stepped w h) (next_of c h (w.host h))
 entry_of c w (Tear h given) = brings_if (are_some given) (option_and_then (torn w h given) (next_of c h (w.host h)))
 entry_of c w (FailCall h given) = brings_if (are_some given) (option_and_then (failed w h given) (next_of c h (w.host h)))
@@ -133,7 +137,9 @@ host_of (entries.Start h) = Some h
 host_of (entries.Stop h) = Some h
 host_of (entries.Submit h command tries) = Some h
 host_of (entries.Recover h tries) = Some h
+host_of (entries.Look h) = Some h
 host_of (entries.Beat h) = Some h
+host_of (entries.Mark h slot) = Some h
 host_of (Called h k call answer left) = Some h
 host_of (Torn h k call left) = Some h
 host_of (Crashed k left) = None

@@ -5,7 +5,7 @@ use Rattle.lock_command.specs.Command.{spelling}
 use Rattle.lock_table.specs.declared.reply.Reply.{Reply}
 use Rattle.lock_table.specs.Apply.{Plain, table_after}
 use Rattle.slot_log.specs.Shape.{Shape}
-use Rattle.host.specs.declared.answer.HostAnswer.TheVariants.{Ack, Recovered}
+use Rattle.host.specs.declared.answer.HostAnswer.TheVariants.{Ack, Recovered, Looked}
 use Rattle.host.specs.Host.{learned_of, reply_after}
 use Rattle.world.specs.Entry.{Filled}
 use Rattle.world.specs.World.{IsRun}
@@ -53,6 +53,8 @@ pub record IsSafe (c : Shape) (log : List Filled) (commands : List Command) : Ty
   pub table : (i host n : ℕ) → SaysAt c log i host (Recovered n) → table_at c log (i + 1) host ≡ table_after (take n commands)
   -- each command that was acknowledged before the recovery began is among them
   pub holds : (i j host n slot : ℕ) (command : Command) → IsRecovery c log i j host n → IsAcknowledgedBefore c log i slot command → slot < n
+  -- a look has learned as many commands of the log as it says, though more may have been acknowledged before
+  pub looked : (i host n : ℕ) → SaysAt c log i host (Looked n) → (n ≤ length commands) × (prefix_at c log (i + 1) host ≡ take n commands)
 
 -- a list has no second log
 abbrev pub HasNoSecondLog : Shape → List Filled → Type 0

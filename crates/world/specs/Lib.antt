@@ -5,5 +5,6 @@ pub mod Happens
 pub mod Chosen
 pub mod Headline
 pub mod Lines
+pub mod Looks
 pub mod Account
 pub mod Examples

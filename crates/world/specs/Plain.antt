@@ -6,7 +6,7 @@ use Rattle.world.specs.declared.entry.Entry.{Entry}
 use Rattle.world.specs.declared.entry.Entry.TheVariants as kept
 use Rattle.world.specs.declared.entry.CallKind.{CallKind}
 use Rattle.world.specs.declared.entry.CallKind.TheVariants as kinds
-use Rattle.world.specs.Entry.{Filled, Start, Stop, Submit, Recover, Beat, Called, Torn, Crashed, Lost}
+use Rattle.world.specs.Entry.{Filled, Start, Stop, Submit, Recover, Look, Beat, Mark, Called, Torn, Crashed, Lost}
 
 abbrev pub kind_of : Call → CallKind
 kind_of Attach = kinds.Attach
@@ -23,7 +23,9 @@ plain (Start h) = kept.Start h
 plain (Stop h) = kept.Stop h
 plain (Submit h command tries) = kept.Submit h command tries
 plain (Recover h tries) = kept.Recover h tries
+plain (Look h) = kept.Look h
 plain (Beat h) = kept.Beat h
+plain (Mark h slot) = kept.Mark h slot
 plain (Called h k call answer left) = kept.Called h k (kind_of call) (fault_in answer)
 plain (Torn h k call left) = kept.Torn h k
 plain (Crashed k left) = kept.DiskCrash k

@@ -10,7 +10,7 @@ use Rattle.lock_command.specs.Command.{spelling}
 use Rattle.lock_command.specs.Reading.{decoded}
 use Rattle.slot_log.specs.Shape.{Shape}
 use Rattle.host.specs.Host.{Host, Stopped, next_of, is_stopped, idles}
-use Rattle.world.specs.Entry.{Filled, Start, Stop, Submit, Recover, Beat, Called, Torn, Crashed, Lost, on_disk, of_host, disk_step, disk_after, host_after}
+use Rattle.world.specs.Entry.{Filled, Start, Stop, Submit, Recover, Look, Beat, Mark, Called, Torn, Crashed, Lost, on_disk, of_host, disk_step, disk_after, host_after}
 
 -- THE WORLD
 
@@ -54,7 +54,9 @@ MayFollow c w (Start h) = (h < HOSTS) × IsTrue (is_stopped (w.host h))
 MayFollow c w (Stop h) = is_stopped (w.host h) ≡ false
 MayFollow c w (Submit h command tries) = IsTrue (idles (w.host h)) × ReadsBack command × (command.host ≡ h) × (0 < tries)
 MayFollow c w (Recover h tries) = IsTrue (idles (w.host h)) × (0 < tries)
+MayFollow c w (Look h) = IsTrue (idles (w.host h))
 MayFollow c w (Beat h) = IsTrue (idles (w.host h))
+MayFollow c w (Mark h slot) = IsTrue (idles (w.host h)) × (slot < c.slots)
 MayFollow c w (Called h k call answer left) =
     IsNext c w h k call × Step (w.disk k) call answer (disk_step (w.disk k) (Called h k call answer left))
 MayFollow c w (Torn h k call left) = IsNext c w h k call × Tears call (w.disk k) (disk_step (w.disk k) (Torn h k call left))

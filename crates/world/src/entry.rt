@@ -25,7 +25,12 @@ pub enum Entry {
         host: HostNumber,
         tries: u8,
     },
+    Look(HostNumber),
     Beat(HostNumber),
+    Mark {
+        host: HostNumber,
+        slot: u16,
+    },
     /// A host made a device call on a disk. It succeeded, or was answered by a fault.
     Called {
         host: HostNumber,

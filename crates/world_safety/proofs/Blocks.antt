@@ -3,6 +3,9 @@ pub mod Standing
 pub mod Keeping
 pub mod Within
 pub mod Owning
+pub mod Values
 pub mod Owned
 pub mod Putting
+pub mod Adding
+pub mod Marked
 pub mod Settled

@@ -6,3 +6,4 @@ pub mod Majorities
 pub mod Safety
 pub mod Growing
 pub mod Ballots
+pub mod Marked

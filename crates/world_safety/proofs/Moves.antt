@@ -12,5 +12,6 @@ pub mod Moving
 pub mod Operating
 pub mod Calling
 pub mod Beating
+pub mod Marking
 pub mod Crashing
 pub mod Entries

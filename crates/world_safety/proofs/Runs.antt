@@ -1,6 +1,7 @@
 -- What stands at each place of a run.
 pub mod Worlds
 pub mod Places
+pub mod Showing
 pub mod Tracks
 pub mod Knowing
 pub mod Deciding

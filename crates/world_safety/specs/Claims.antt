@@ -1,9 +1,13 @@
 -- What else is claimed of every run: of its ballots, of its log as it grows, of its recoveries, and of the majorities behind its answers.
 use Rattle.std.specs.Prelude.{◌≡◌, ◌⊎◌, ◌<◌, ◌≤◌, ℕ, List, take, slice_get, Some}
-use Rattle.attempt.specs.Answers.{Answered, on}
-use Rattle.attempt.specs.Prepared.{Proposes, IsPrepared, IsAccepted}
+use Rattle.paxos_block.specs.Row.{SeenBlock}
+use Rattle.attempt.specs.Answers.{Answered, on, row_in}
+use Rattle.attempt.specs.Calls.{Opening}
+use Rattle.attempt.specs.Laws.{OnMost}
+use Rattle.attempt.specs.Prepared.{Proposes, IsPrepared, IsAccepted, IsMarkSeen}
 use Rattle.attempt.specs.Proposal.{ballot}
 use Rattle.attempt.specs.Setup.{Setup}
+use Rattle.attempt.specs.Status.{Ended, Decided, status}
 use Rattle.lock_table.specs.declared.reply.Reply.{Reply}
 use Rattle.slot_log.specs.Shape.{Shape}
 use Rattle.world.specs.Entry.{Filled, Recover}
@@ -11,6 +15,7 @@ use Rattle.host.specs.declared.answer.HostAnswer.TheVariants.{Ack, Recovered}
 use Rattle.world.specs.Chosen.{at, Hears, IsChosenAt, IsLog, SaysAt, IsRecovery}
 use Rattle.world_safety.specs.Goes.{IsTryingAt}
 use Rattle.world.specs.Headline.{IsPrefix}
+use Rattle.world_safety.specs.Marks.{AllMarksTrue}
 use Rattle.world_safety.specs.Tracks.{IsChosenBefore}
 
 -- BALLOTS
@@ -91,6 +96,17 @@ pub record IsAcceptedAt (c : Shape) (log : List Filled) (i host slot : ℕ) : Ty
   pub value : List ℕ
   pub accepted : IsAccepted setup heard value
 
+-- With the answer of entry i a host's attempt on a slot is told what was decided: on more than half of the disks it has read the slot's row, and in one of these rows a block with this value is marked.
+pub record IsToldAt (c : Shape) (log : List Filled) (i host slot : ℕ) : Type 0 where
+  pub setup : Setup
+  pub heard : List Answered
+  pub hears : Hears c log i setup heard
+  pub of_host : hears.host ≡ host
+  pub on_slot : setup.slot ≡ slot
+  pub value : List ℕ
+  pub opened : OnMost setup (λ d. (row : List SeenBlock) × (row_in Opening (on heard d) ≡ Some row))
+  pub marked : IsMarkSeen setup (on heard) value
+
 -- entry i begins a recovery of a host that has learned all slots
 pub record IsFullAt (c : Shape) (log : List Filled) (i host n : ℕ) : Type 0 where
   pub tries : ℕ
@@ -99,8 +115,18 @@ pub record IsFullAt (c : Shape) (log : List Filled) (i host n : ℕ) : Type 0 wh
 
 -- No acknowledgement without a majority that answered,
 abbrev pub AcknowledgesByMajority : Shape → List Filled → Type 0
-AcknowledgesByMajority c log = (i host slot : ℕ) (reply : Reply) → SaysAt c log i host (Ack slot reply) → IsAcceptedAt c log i host slot
+AcknowledgesByMajority c log = (i host slot : ℕ) (reply : Reply) → SaysAt c log i host (Ack slot reply) → IsAcceptedAt c log i host slot ⊎ IsToldAt c log i host slot
 
 -- and no recovery, but for one that is answered where it begins, as all slots were learned.
 abbrev pub RecoversByMajority : Shape → List Filled → Type 0
-RecoversByMajority c log = (i host n : ℕ) → SaysAt c log i host (Recovered n) → IsPreparedAt c log i host ⊎ IsFullAt c log i host n
+RecoversByMajority c log = (i host n : ℕ) → SaysAt c log i host (Recovered n) → IsPreparedAt c log i host ⊎ (((slot : ℕ) × IsToldAt c log i host slot) ⊎ IsFullAt c log i host n)
+
+-- MARKS
+
+-- Whatever a crash before entry i may make of a host's block of a slot on a disk: if it is marked, its input was chosen before for the slot.
+abbrev pub MarksChosen : Shape → List Filled → Type 0
+MarksChosen c log = (i : ℕ) → AllMarksTrue c (at c log i) (IsChosenBefore c log i)
+
+-- What an attempt takes as decided with the answer of entry i was chosen before, for its slot.
+abbrev pub DecidesChosenBefore : Shape → List Filled → Type 0
+DecidesChosenBefore c log = (i : ℕ) (s : Setup) (heard : List Answered) (value : List ℕ) → Hears c log i s heard → status s (on heard) ≡ Ended (Decided value) → IsChosenBefore c log i s.slot value

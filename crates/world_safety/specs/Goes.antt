@@ -5,16 +5,18 @@ use Rattle.attempt.specs.Chosen.{Chooses}
 use Rattle.attempt.specs.Prepared.{Proposes}
 use Rattle.attempt.specs.Proposal.{ballot}
 use Rattle.attempt.specs.Setup.{Setup}
+use Rattle.attempt.specs.Status.{Ended, Decided, status}
 use Rattle.slot_log.specs.Shape.{Shape}
 use Rattle.host.specs.declared.answer.HostAnswer.TheVariants.{Recovered}
 use Rattle.host.specs.Host.{Doing, Memory, Running, input_of, setup_of}
 use Rattle.world.specs.Entry.{Filled, Called, is_of, host_step}
 use Rattle.world.specs.World.{World}
-use Rattle.agreement.specs.Chosen.{IsInput, IsProposed, IsChosenBy, IsEmpty}
+use Rattle.agreement.specs.Chosen.{IsInput, IsProposed, IsChosenBy, IsChosen, IsEmpty}
 use Rattle.agreement.specs.Event.Event.{Starts}
 use Rattle.agreement.specs.Log.{Move, events_of_slot}
 use Rattle.agreement.specs.Log.Move.{At}
 use Rattle.attempt_safety.specs.Machine.{Machine}
+use Rattle.world_safety.specs.Marks.{KeepsMarks}
 use Rattle.world_safety.specs.Next.{next_world}
 use Rattle.world_safety.specs.Tied.{Moves, machine, Tied}
 
@@ -66,6 +68,14 @@ CarriesOn c w ms (Called h k call answer left) =
     → Carries (machine ms (length m.learned)) (setup_of c h m t.operation) (on (t.heard ++ record { disk = k; heard = heard_as answer } ∷ []))
 CarriesOn c w ms other = Unit {0}
 
+-- Where an attempt ends with the entry by what a marked block tells, that is chosen in the slot.
+abbrev pub DecidesChosen : Shape → World → Moves → Filled → Type 0
+DecidesChosen c w ms (Called h k call answer left) =
+    (m : Memory) (t : Doing) (v : List ℕ) → w.host h ≡ Running m → m.doing ≡ Some t
+    → status (setup_of c h m t.operation) (on (t.heard ++ record { disk = k; heard = heard_as answer } ∷ [])) ≡ Ended (Decided v)
+    → IsChosen c.disks (machine ms (length m.learned)) v
+DecidesChosen c w ms other = Unit {0}
+
 -- The entry is a few moves.
 pub record Goes (c : Shape) (w : World) (e : Filled) (ms : Moves) : Type 0 where
   pub more : Moves
@@ -73,3 +83,4 @@ pub record Goes (c : Shape) (w : World) (e : Filled) (ms : Moves) : Type 0 where
   pub inputs : (j : ℕ) (v : List ℕ) → IsInput (events_of_slot j more) v → IsInputAt c w j e v
   pub host : (h : ℕ) → is_of h e ≡ true → HostGoes c w e ms more h
   pub carries : CarriesOn c w (ms ++ more) e
+  pub marks : KeepsMarks c w (next_world c w e)

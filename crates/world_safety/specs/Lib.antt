@@ -4,6 +4,8 @@ pub mod Claims
 pub mod Goes
 pub mod Knows
 pub mod Log
+pub mod Marking
+pub mod Marks
 pub mod Next
 pub mod Tied
 pub mod Tracks

@@ -13,6 +13,7 @@ use Rattle.attempt_safety.specs.Machine.{Machine}
 use Rattle.attempt_safety.specs.Follows.{Follows}
 use Rattle.world_safety.specs.Blocks.{Stands}
 use Rattle.world_safety.specs.Knows.{Knows}
+use Rattle.world_safety.specs.Marking.{IsMarkingIf}
 use Rattle.attempt.specs.Votes.{IsLong, TellsVotes}
 
 -- moves of all slots, and the machine of a slot after them
@@ -22,16 +23,17 @@ Moves = List (Move (List ℕ))
 abbrev pub machine : Moves → ℕ → Machine
 machine ms k = state_after (events_of_slot k ms)
 
--- A host tries its next slot: the slot's machine follows the attempt, which knows its own blocks there.
+-- A host tries its next slot, and marks none: the slot's machine follows the attempt, which knows its own blocks there.
 pub record IsTrying (c : Shape) (w : World) (ms : Moves) (h : ℕ) (m : Memory) (t : Doing) : Type 0 where
   pub fits : length m.learned < c.slots
   pub follows : Follows (setup_of c h m t.operation) t.heard (machine ms (length m.learned))
   pub knows : (d : ℕ) → Knows (w.disk d) (setup_of c h m t.operation) (on t.heard) d ((machine ms (length m.learned)).cell h d)
   pub votes : (d : ℕ) → TellsVotes (on t.heard d)
   pub input : IsLong (input_of t.operation)
+  pub alone : m.marking ≡ None
 
 abbrev pub IsDoing : Shape → World → Moves → ℕ → Memory → Option Doing → Type 0
-IsDoing c w ms h m None = Unit {0}
+IsDoing c w ms h m None = IsMarkingIf c w h m m.marking
 IsDoing c w ms h m (Some t) = IsTrying c w ms h m t
 
 -- a running host has learned what it has learned in the machines

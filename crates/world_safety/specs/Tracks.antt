@@ -1,13 +1,16 @@
 -- What stands at each place of a list of entries.
-use Rattle.std.specs.Prelude.{◌≡◌, ◌<◌, ℕ, List, length, slice_get, Some}
+use Rattle.std.specs.Prelude.{◌≡◌, ◌<◌, ℕ, List, length, slice_get, Option, Some}
+use Rattle.attempt.specs.Answers.{on}
 use Rattle.lock_command.specs.declared.command.Command.{Command}
 use Rattle.lock_command.specs.Command.{spelling}
 use Rattle.slot_log.specs.Shape.{Shape}
-use Rattle.host.specs.declared.answer.HostAnswer.TheVariants.{Recovered}
+use Rattle.host.specs.declared.answer.HostAnswer.{HostAnswer}
+use Rattle.host.specs.declared.answer.HostAnswer.TheVariants.{Recovered, Looked}
 use Rattle.host.specs.Host.{Operation, Submitting, Doing, Memory, Host, Stopped, Running}
 use Rattle.world.specs.Entry.{Filled, Submit}
 use Rattle.world.specs.World.{ReadsBack}
 use Rattle.world.specs.Chosen.{IsChosenAt}
+use Rattle.world_safety.specs.Marks.{TellsTrueMarks}
 
 -- the value was chosen for the slot before place i
 pub record IsChosenBefore (c : Shape) (log : List Filled) (i slot : ℕ) (value : List ℕ) : Type 0 where
@@ -32,11 +35,19 @@ pub record IsSubmittedBy (log : List Filled) (i h : ℕ) (command : Command) : T
 abbrev pub IsBegun : List Filled → ℕ → ℕ → Operation → Type 0
 IsBegun log i h operation = (command : Command) → operation ≡ Submitting command → IsSubmittedBy log i h command
 
+-- whoever says how many commands it has recovered, or learned by looking, counts all that it has learned
+abbrev pub Counts : Option HostAnswer → ℕ → Type 0
+Counts (Some (Recovered n)) learned = n ≡ learned
+Counts (Some (Looked n)) learned = n ≡ learned
+Counts other learned = Unit {0}
+
 -- What a running host knows is true.
 pub record IsTrue (c : Shape) (log : List Filled) (i h : ℕ) (m : Memory) : Type 0 where
   pub learned : AreChosen c log i m.learned
   pub begun : (t : Doing) → m.doing ≡ Some t → IsBegun log i h t.operation
-  pub recovered : (n : ℕ) → m.said ≡ Some (Recovered n) → n ≡ length m.learned
+  pub counts : Counts m.said (length m.learned)
+  -- what a marked block told its attempt was chosen before
+  pub told : (t : Doing) → m.doing ≡ Some t → (d : ℕ) → TellsTrueMarks (IsChosenBefore c log i (length m.learned)) (on t.heard d)
 
 abbrev pub IsTrueOf : Shape → List Filled → ℕ → ℕ → Host → Type 0
 IsTrueOf c log i h Stopped = Unit {0}

@@ -7,6 +7,7 @@ ghost use Rattle.world.specs.Headline.{Headline, HeadlineOfEvents};
 ghost use Rattle.world_safety.specs.Claims.{BindsGreater, OneProposal, ProposesInOrder};
 ghost use Rattle.world_safety.specs.Claims.{LogGrows, AllBegun, EmptyShows, MissesNothing, NoneShorter};
 ghost use Rattle.world_safety.specs.Claims.{AcknowledgesByMajority, RecoversByMajority};
+ghost use Rattle.world_safety.specs.Claims.{MarksChosen, DecidesChosenBefore};
 
 /// One log, whatever happens, and nothing that was acknowledged is lost: so it is with every run,
 /// however it came about, and with every list of events. The log only grows.
@@ -41,4 +42,11 @@ pub fn majorities_answer()
     ensures acknowledged { (c : Shape) (log : List Filled) → IsRun c log →
         AcknowledgesByMajority c log }
     ensures recovered { (c : Shape) (log : List Filled) → IsRun c log → RecoversByMajority c log }
+{}
+
+/// Marks are true. At each place of a run, and after a crash just then, each marked block has an input
+/// that was chosen before for its slot; so what an attempt takes as decided was chosen before.
+pub fn marks_are_true()
+    ensures blocks { (c : Shape) (log : List Filled) → IsRun c log → MarksChosen c log }
+    ensures decided { (c : Shape) (log : List Filled) → IsRun c log → DecidesChosenBefore c log }
 {}

@@ -4,5 +4,6 @@
 mod law;
 
 pub use law::{
-    ballots_agree, majorities_answer, one_log_and_nothing_lost, recoveries_miss_nothing,
+    ballots_agree, majorities_answer, marks_are_true, one_log_and_nothing_lost,
+    recoveries_miss_nothing,
 };

@@ -7,7 +7,7 @@ use Rattle.attempt.specs.Answers.{Answered, Answers, on}
 use Rattle.attempt.specs.Setup.{Setup}
 use Rattle.attempt.specs.Visits.{waits, is_stuck, is_past, visited, is_left, are_enough}
 use Rattle.attempt.specs.Standing.{IsIn}
-use Rattle.attempt.specs.Status.{Status, Due, Ended, Committed, Empty, Outrun, NoMajority, BallotsSpent, status}
+use Rattle.attempt.specs.Status.{Status, Due, Ended, Committed, Decided, Empty, Outrun, NoMajority, BallotsSpent, status}
 use Rattle.attempt.specs.History.{IsHistory}
 use Rattle.attempt.specs.Laws.{OthersRest, IsServed}
 use Rattle.attempt.proofs.Ends.{not_above, going}
@@ -55,6 +55,7 @@ not_few s f good few =
 served_by : (s : Setup) (heard : List Answered) → IsHistory s heard → OthersRest s (on heard) → MostAnswerEach s (on heard) → (st : Status) → status s (on heard) ≡ st → Tells s (on heard) st → IsServed s heard st
 served_by s heard is rest good (Due p d) so tells = going s heard is p d so
 served_by s heard is rest good (Ended (Committed value)) so tells = tt
+served_by s heard is rest good (Ended (Decided value)) so tells = tt
 served_by s heard is rest good (Ended Empty) so tells = tt
 served_by s heard is rest good (Ended BallotsSpent) so tells = tt
 served_by s heard is rest good (Ended (Outrun mbal)) so tells = not_above s (on heard) (history_reached s heard is) rest tells.phase tells.above

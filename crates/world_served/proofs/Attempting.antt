@@ -10,7 +10,6 @@ use Rattle.attempt.specs.Status as attempt
 use Rattle.attempt.specs.Status.{Status, Due, Ended, status, taken}
 use Rattle.lock_command.specs.declared.command.Command.{Command}
 use Rattle.lock_command.specs.Reading.{decoded}
-use Rattle.beats.specs.Answers as beat_answers
 use Rattle.slot_log.specs.Shape.{Shape}
 use Rattle.slot_log.specs.declared.outcome.Refusal.TheVariants as refusal
 use Rattle.host.specs.declared.answer.HostAnswer.TheVariants.{Refused}
@@ -21,7 +20,7 @@ use Rattle.world.specs.Chosen.{at, Hears, IsCallOf}
 use Rattle.world.proofs.Histories.{heard_then}
 use Rattle.world.proofs.Runs.{each}
 use Rattle.world_safety.specs.Next.{next_world}
-use Rattle.world_safety.proofs.Moves.Beating.{hears_none}
+use Rattle.world_safety.proofs.Moves.Marking.{beside_none}
 use Rattle.world_safety.proofs.Runs.Places.{at_next, at_end}
 use Rattle.world_safety.proofs.Runs.Tracks.{moves_at, tied_at}
 use Rattle.world_served.specs.Alone.{IsAlone, MostAnswerEach}
@@ -83,6 +82,7 @@ module _ (c : Shape) (host : ℕ) where
         (let same : t ≡ u = cc in
         subst (λ (v : Doing). Rests host (length m.learned) disks (on v.heard)) same (known (let size = ap (λ (v : Doing). length v.heard) same in omega arith)))
     status_so m t b (Ended (attempt.Committed value)) known = took_so m t b value (decoded value)
+    status_so m t b (Ended (attempt.Decided value)) known = took_so m t b value (decoded value)
     status_so m t b (Ended attempt.Empty) known = λ u is. absurd (cc)
     status_so m t b (Ended (attempt.Outrun mbal)) known = tried_so (with_floor (with_floor m b) mbal) t.operation t.tries
     status_so m t b (Ended attempt.NoMajority) known = λ u is. absurd (cc)
@@ -108,7 +108,7 @@ module _ (c : Shape) (log : List Filled) (run : IsRun c log) (i j host : ℕ) (a
       where
         go : (o : Option Doing) → q.doing ≡ o → RestsIn c host (next_world c (at c log k) (Called host d call answer left)).disk (calls_between log i k host + 1) (hears_from c host q o d answer)
         go None idle = λ t does less. absurd (
-            let none = hears_none c host q q.beats.heard (record { disk = d; heard = beat_answers.heard_as answer }) idle in
+            let none = beside_none c host q q.beats.heard d answer idle in
             let both : None ≡ Some t = sym none ∙ does in
             cc)
         go (Some t) does =

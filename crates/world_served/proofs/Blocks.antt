@@ -8,6 +8,7 @@ use Rattle.disk.specs.Disk.{DiskState, Call, Answer, Step, put_at}
 use Rattle.disk.proofs.CrashLemmas.{length-put, put-below, put-above}
 use Rattle.disk.proofs.StepLemmas.{step_keeps}
 use Rattle.torn_block.specs.declared.layout.TheConstants.{HOSTS}
+use Rattle.torn_block.specs.Block.{value_of}
 use Rattle.torn_block.specs.Damage.{block_of}
 use Rattle.torn_block.specs.Place.{block_in}
 use Rattle.torn_block.proofs.PlaceLaws.{block_elsewhere}
@@ -15,7 +16,7 @@ use Rattle.torn_block.specs.Register.{LiesOn}
 use Rattle.torn_block.proofs.RegisterLaws.{ranges}
 use Rattle.paxos_block.specs.declared.block.PBlock.{PBlock}
 use Rattle.paxos_block.specs.Places.{Spot, VoteOf, place_of, IsSpot, IsImage, IsWithin, row_of}
-use Rattle.paxos_block.specs.Row.{SeenBlock, blank_seen, hosts, is_damaged_block, seen_in, seen_at, row_seen, row_said}
+use Rattle.paxos_block.specs.Row.{SeenBlock, blank_seen, hosts, is_damaged_block, seen_in, seen_at, says_of, row_seen, row_said}
 use Rattle.paxos_block.specs.Votes.{says_in}
 use Rattle.paxos_block.proofs.PlaceLemmas.{spot_fits, writes_on, leaves_other, block_of-row_of}
 
@@ -62,6 +63,10 @@ beyond (x ∷ row) (suc g) long = beyond row g (omega arith)
 -- what the row of a slot would show of a host now
 abbrev pub shown : DiskState → ℕ → ℕ → PBlock
 shown disk slot g = says_in (row_seen (row_of slot disk.bytes)) g
+
+-- of a host it shows what its block says
+pub shown_is : (slot g : ℕ) (disk : DiskState) → g < HOSTS → shown disk slot g ≡ says_of (value_of (block_in (place_of (VoteOf slot g)) disk.bytes))
+shown_is slot g disk below = ap (λ (b : SeenBlock). b.says) (seen_at-row_seen (row_of slot disk.bytes) g below ∙ ap seen_in (block_of-row_of slot g disk.bytes below))
 
 -- so what it shows of a host, whose block is another than the call's, is as before
 pub shown_beside : (slots slot g : ℕ) (mine : Spot) (disk new : DiskState) (call : Call) (answer : Answer) → slot < slots → IsSpot slots mine → mine ≢ VoteOf slot g → IsImage slots disk → IsWithin mine call → Step disk call answer new

@@ -1,44 +1,64 @@
 -- What an entry leaves of the rows that an attempt has read: of the attempt's own call, and of whatever else may happen meanwhile.
 use Rattle.std.specs.Prelude.{cond, slice_get}
-use Rattle.std.proofs.Common.{ℕ, ◌<◌, ◌≡◌, ◌≢◌, ◌==◌, ◌⊎◌, inl, inr, Bool, true, false, Some, None, List, [], ◌∷◌, ◌++◌, length, refl, sym, subst, ap, ◌∙◌, arith}
-use Rattle.std.proofs.lemmas.Bool.{both_ways, eq-eqb, eqb-true, ne_eqb}
+use Rattle.std.proofs.Common.{ℕ, ◌<◌, ◌≡◌, ◌≢◌, ◌==◌, ◌⊎◌, inl, inr, Bool, true, false, Some, None, List, [], ◌∷◌, ◌++◌, length, refl, sym, subst, ap, ap₂, ◌∙◌, arith}
+use Rattle.std.proofs.lemmas.Bool.{both_ways, cases_eq, eq-eqb, eqb-true, ne_eqb}
 use Rattle.disk.specs.declared.fault.DiskFault.TheVariants.{Failed}
 use Rattle.disk.specs.Disk.{DiskState, Call, Answer, Fault, Step}
-use Rattle.paxos_block.specs.Places.{BeatOf}
+use Rattle.torn_block.specs.declared.layout.TheConstants.{HOSTS}
+use Rattle.paxos_block.specs.declared.block.PBlock.{PBlock}
+use Rattle.paxos_block.specs.Places.{BeatOf, VoteOf, place_of, row_of}
+use Rattle.paxos_block.specs.Row.{row_seen}
+use Rattle.paxos_block.specs.Votes.{says_in}
+use Rattle.attempt.specs.Looking.{OnlyReads}
 use Rattle.attempt.specs.Answers.{Answered, Answers, on, heard_as}
 use Rattle.attempt.specs.Setup.{Setup}
 use Rattle.attempt.specs.NextCall.{call_by}
 use Rattle.attempt.proofs.More.{on_more, by_disk}
 use Rattle.beats.specs.Answers as beat_answers
 use Rattle.slot_log.specs.Shape.{Shape}
-use Rattle.host.specs.Host.{Doing, Memory, Host, Running, setup_of, beat_of, next_of}
-use Rattle.world.specs.Entry.{Filled, Start, Stop, Submit, Recover, Beat, Called, Torn, Crashed, Lost, is_on, is_of, disk_step}
+use Rattle.host.specs.Host.{Looking, Doing, Memory, Host, Running, setup_of, beat_of, next_of}
+use Rattle.world.specs.Entry.{Filled, Start, Stop, Submit, Recover, Look, Beat, Mark, Called, Torn, Crashed, Lost, is_on, is_of, disk_step}
 use Rattle.world.specs.World.{World, IsRun}
 use Rattle.world.specs.Chosen.{at}
+use Rattle.world.proofs.Looks.{reads_only}
 use Rattle.world.proofs.Runs.{each}
 use Rattle.world_safety.specs.Tied.{Moves, IsTrying, IsDoing, IsRunning, HostAt, Tied}
+use Rattle.world_safety.proofs.Blocks.Marked.{promised}
 use Rattle.world_safety.proofs.Blocks.Owning.{boot_kept}
 use Rattle.world_safety.proofs.Blocks.Settled.{current, row_is}
+use Rattle.world_safety.proofs.Blocks.Values.{bytes_left}
 use Rattle.world_safety.proofs.Moves.Beating.{beat_within}
 use Rattle.world_safety.proofs.Moves.Calling.{tears}
-use Rattle.world_safety.proofs.Moves.Due.{Attempts, IsBeatCall, busy, Due, due_of}
+use Rattle.world_safety.proofs.Moves.Due.{Attempts, IsBeatCall, IsMarkCall, busy, Due, due_of}
+use Rattle.world_safety.proofs.Moves.Marking.{promises, mark_inside}
 use Rattle.world_safety.proofs.Moves.Moving.{running_at}
 use Rattle.world_safety.proofs.Runs.Tracks.{moves_at, tied_at}
-use Rattle.world_served.specs.Alone.{IsAlone}
-use Rattle.world_served.proofs.Blocks.{shown_kept, shown_beside}
+use Rattle.world_served.specs.Alone.{LooksAtMost, IsAlone}
+use Rattle.world_served.proofs.Blocks.{shown, shown_is, shown_kept, shown_beside}
 use Rattle.world_served.proofs.Resting.{RestsOn, Rests, rests_on, rests_more}
 
--- no call is made, and no write is torn, but of a beat
+-- a call of a beat or of a marking, or one that only reads
+abbrev pub IsQuietCall : Shape → ℕ → ℕ → Call → Host → Type 0
+IsQuietCall c g k call host = IsBeatCall c g k call host ⊎ (IsMarkCall c g k call host ⊎ OnlyReads call)
+
+-- no other call is made, and no other write is torn
 abbrev pub IsQuiet : Shape → World → Filled → Type 0
-IsQuiet c w (Called g k call answer left) = IsBeatCall c g k call (w.host g) × Step (w.disk k) call answer (disk_step (w.disk k) (Called g k call answer left))
-IsQuiet c w (Torn g k call left) = IsBeatCall c g k call (w.host g) × Step (w.disk k) call (Fault Failed) (disk_step (w.disk k) (Torn g k call left))
+IsQuiet c w (Called g k call answer left) = IsQuietCall c g k call (w.host g) × Step (w.disk k) call answer (disk_step (w.disk k) (Called g k call answer left))
+IsQuiet c w (Torn g k call left) = IsQuietCall c g k call (w.host g) × Step (w.disk k) call (Fault Failed) (disk_step (w.disk k) (Torn g k call left))
 IsQuiet c w other = Unit {0}
 
--- who tries no slot and has a call to make beats
-beats_only : (c : Shape) (h k : ℕ) (call : Call) (host : Host) → ((m : Memory) → host ≡ Running m → m.doing ≡ None) → Attempts host ⊎ IsBeatCall c h k call host → IsBeatCall c h k call host
-beats_only c h k call host rests who = elim who [
-  | inl tries ↦ absurd (let both : None ≡ Some tries.doing = sym (rests tries.memory tries.running) ∙ tries.does in cc)
-  | inr beats ↦ beats
+-- an attempt that looks only reads
+looks_read : (c : Shape) (h k : ℕ) (call : Call) (host : Host) → next_of c h host ≡ Some (k, call) → (m : Memory) (t : Doing) → host ≡ Running m → m.doing ≡ Some t → LooksAtMost m.doing → OnlyReads call
+looks_read c h k call host next m t running does looks =
+    let looking : t.operation ≡ Looking = subst LooksAtMost does looks in
+    reads_only c h k m t call does looking (ap (next_of c h) (sym running) ∙ next)
+
+-- who tries no slot but to look, and has a call to make, makes a quiet one
+quiet_only : (c : Shape) (h k : ℕ) (call : Call) (host : Host) → next_of c h host ≡ Some (k, call) → ((m : Memory) → host ≡ Running m → LooksAtMost m.doing) → Attempts host ⊎ (IsBeatCall c h k call host ⊎ IsMarkCall c h k call host) → IsQuietCall c h k call host
+quiet_only c h k call host next rests who = elim who [
+  | inl tries ↦ inr (inr (looks_read c h k call host next tries.memory tries.doing tries.running tries.does (rests tries.memory tries.running)))
+  | inr (inl beats) ↦ inl beats
+  | inr (inr marks) ↦ inr (inl marks)
 ]
 
 module _ (c : Shape) (log : List Filled) (run : IsRun c log) (i j host : ℕ) (alone : IsAlone c log i j host) (k : ℕ) (behind : i < k) (before : k < j) where
@@ -48,16 +68,18 @@ module _ (c : Shape) (log : List Filled) (run : IsRun c log) (i j host : ℕ) (a
   others_quiet (Stop g) is off = tt
   others_quiet (Submit g other n) is off = tt
   others_quiet (Recover g n) is off = tt
+  others_quiet (Look g) is off = tt
   others_quiet (Beat g) is off = tt
+  others_quiet (Mark g slot) is off = tt
   others_quiet (Called g d call answer left) is off =
       let may = each c log k (Called g d call answer left) run is in
       elim (alone.calls k g d call answer left behind before is) [
         | inl same ↦ absurd (both_ways (g == host) off (eq-eqb g host same))
-        | inr rests ↦ (beats_only c g d call ((at c log k).host g) rests (busy c g d call ((at c log k).host g) may.0), may.1)
+        | inr rests ↦ (quiet_only c g d call ((at c log k).host g) may.0 rests (busy c g d call ((at c log k).host g) may.0), may.1)
       ]
   others_quiet (Torn g d call left) is off =
       let may = each c log k (Torn g d call left) run is in (
-        beats_only c g d call ((at c log k).host g) (alone.tears k g d call left behind before is) (busy c g d call ((at c log k).host g) may.0),
+        quiet_only c g d call ((at c log k).host g) may.0 (alone.tears k g d call left behind before is) (busy c g d call ((at c log k).host g) may.0),
         tears c (at c log k) (moves_at c log run k) (tied_at c log run k) g d call left may.1,
       )
   others_quiet (Crashed d left) is off = tt
@@ -105,7 +127,7 @@ module _ (c : Shape) (w : World) (ms : Moves) (tied : Tied c w ms) (h : ℕ) (m 
     here : RestsOn h slot (w.disk k) (f k) → RestsOn h slot new (f k ++ heard_as answer ∷ [])
     here before =
         rests_more h slot (w.disk k) new (f k) (heard_as answer) (reached.disk k) waiting.part.good (boot_kept (w.disk k) new (call_by s k f is.kind) answer step_by)
-        (λ g off. shown_kept c.slots slot h g (w.disk k) new (call_by s k f is.kind) answer trying.fits runs.below off (tied.images k) inside step_by)
+        (λ g off. ap (λ (says : PBlock). says.mbal) (shown_kept c.slots slot h g (w.disk k) new (call_by s k f is.kind) answer trying.fits runs.below off (tied.images k) inside step_by))
         (λ row tells. (current s f k (w.disk k) new answer is.kind waiting.part.good is.kind_is is.fits step_by row tells runs.below, row_is s f k (w.disk k) new answer is.kind waiting.part.good is.kind_is is.fits step_by row tells runs.below))
         before
 
@@ -124,21 +146,63 @@ module _ (c : Shape) (w : World) (ms : Moves) (tied : Tied c w ms) (h : ℕ) (m 
 
   -- WHAT ELSE MAY HAPPEN
 
-  -- a call of another's beat
-  beat_leaves : (g k : ℕ) (call : Call) (answer : Answer) (e : Filled) → IsBeatCall c g k call (w.host g) → Step (w.disk k) call answer (disk_step (w.disk k) e) → RestsOn h slot (w.disk k) (f k) → RestsOn h slot (disk_step (w.disk k) e) (f k)
-  beat_leaves g k call answer e beats step =
+  -- a call of a marking leaves the mbal that each block shows
+  mark_shows : (g k : ℕ) (call : Call) (answer : Answer) (e : Filled) (marks : IsMarkCall c g k call (w.host g)) → Step (w.disk k) call answer (disk_step (w.disk k) e) → (i : ℕ) → (shown (disk_step (w.disk k) e) slot i).mbal ≡ (shown (w.disk k) slot i).mbal
+  mark_shows g k call answer e marks step i =
+      elim (cases_eq marks.marking.slot slot) [
+        | inl at ↦ elim (cases_eq g i) [ inl own ↦ same_block at own | inr off ↦ beside (λ same. off (let one : g ≡ i = cc in one)) ]
+        | inr off ↦ beside (λ same. off (let one : marks.marking.slot ≡ slot = cc in one))
+      ]
+    where
+      new : DiskState
+      new = disk_step (w.disk k) e
+
+      mine : ℕ → ℕ → ℕ
+      mine j o = place_of (VoteOf j o)
+
+      below : g < HOSTS
+      below = (running_at c w ms tied g marks.memory marks.running).below
+
+      beside : VoteOf marks.marking.slot g ≢ VoteOf slot i → (shown new slot i).mbal ≡ (shown (w.disk k) slot i).mbal
+      beside differ =
+          let it = mark_inside c w ms tied g k call marks e answer step in
+          ap (λ (says : PBlock). says.mbal) (shown_beside c.slots slot i (VoteOf marks.marking.slot g) (w.disk k) new call answer trying.fits (it.0, below) differ (tied.images k) it.1 step)
+
+      same_block : marks.marking.slot ≡ slot → g ≡ i → (shown new slot i).mbal ≡ (shown (w.disk k) slot i).mbal
+      same_block at own =
+          let here : i < HOSTS = subst (λ (n : ℕ). n < HOSTS) own below in
+          let one : mine marks.marking.slot g ≡ mine slot i = ap₂ mine at own in
+          ap (λ (says : PBlock). says.mbal) (shown_is slot i new here)
+          ∙ subst (λ (place : ℕ). promised place new ≡ promised place (w.disk k)) one (promises c w ms tied g k call marks e answer step)
+          ∙ sym (ap (λ (says : PBlock). says.mbal) (shown_is slot i (w.disk k) here))
+
+  -- a quiet call of another
+  quiet_leaves : (g k : ℕ) (call : Call) (answer : Answer) (e : Filled) → IsQuietCall c g k call (w.host g) → Step (w.disk k) call answer (disk_step (w.disk k) e) → RestsOn h slot (w.disk k) (f k) → RestsOn h slot (disk_step (w.disk k) e) (f k)
+  quiet_leaves g k call answer e (inr (inl marks)) step =
+      rests_on h slot (w.disk k) (disk_step (w.disk k) e) (f k) (λ current. (
+        record { good = current.good; boot = current.boot ∙ boot_kept (w.disk k) (disk_step (w.disk k) e) call answer step },
+        λ i off. mark_shows g k call answer e marks step i,
+      ))
+  quiet_leaves g k call answer e (inr (inr reads)) step =
+      let new : DiskState = disk_step (w.disk k) e in
+      let same : new.bytes ≡ (w.disk k).bytes = bytes_left (w.disk k) new call answer reads step in
+      rests_on h slot (w.disk k) new (f k) (λ current. (
+        record { good = current.good; boot = current.boot ∙ boot_kept (w.disk k) new call answer step },
+        λ i off. ap (λ (bytes : List ℕ). (says_in (row_seen (row_of slot bytes)) i).mbal) same,
+      ))
+  quiet_leaves g k call answer e (inl beats) step =
       let below = (running_at c w ms tied g beats.memory beats.running).below in
       let inside = beat_within (beat_of c g) (beat_answers.on beats.heard) k call beats.due in
       rests_on h slot (w.disk k) (disk_step (w.disk k) e) (f k) (λ current. (
         record { good = current.good; boot = current.boot ∙ boot_kept (w.disk k) (disk_step (w.disk k) e) call answer step },
-        λ i off. shown_beside c.slots slot i (BeatOf g) (w.disk k) (disk_step (w.disk k) e) call answer trying.fits below (λ same. cc) (tied.images k) inside step,
+        λ i off. ap (λ (says : PBlock). says.mbal) (shown_beside c.slots slot i (BeatOf g) (w.disk k) (disk_step (w.disk k) e) call answer trying.fits below (λ same. cc) (tied.images k) inside step),
       ))
 
-  beats_leave : (g k : ℕ) (call : Call) (answer : Answer) (e : Filled) → IsBeatCall c g k call (w.host g) → Step (w.disk k) call answer (disk_step (w.disk k) e) → Rests h slot w.disk f → (d : ℕ) → RestsOn h slot (cond (k == d) (disk_step (w.disk d) e) (w.disk d)) (f d)
-  beats_leave g k call answer e beats step before d = go (k == d) refl
+  quiets_leave : (g k : ℕ) (call : Call) (answer : Answer) (e : Filled) → IsQuietCall c g k call (w.host g) → Step (w.disk k) call answer (disk_step (w.disk k) e) → Rests h slot w.disk f → (d : ℕ) → RestsOn h slot (cond (k == d) (disk_step (w.disk d) e) (w.disk d)) (f d)
+  quiets_leave g k call answer e quiet step before d = go (k == d) refl
     where
       go : (b : Bool) → (k == d) ≡ b → RestsOn h slot (cond b (disk_step (w.disk d) e) (w.disk d)) (f d)
-      go true here = subst (λ (i : ℕ). RestsOn h slot (disk_step (w.disk i) e) (f i)) (eqb-true k d here) (beat_leaves g k call answer e beats step (before k))
+      go true here = subst (λ (i : ℕ). RestsOn h slot (disk_step (w.disk i) e) (f i)) (eqb-true k d here) (quiet_leaves g k call answer e quiet step (before k))
       go false there = before d
 
   pub rests_still : (e : Filled) → IsQuiet c w e → Rests h slot w.disk f → Rests h slot (λ d. cond (is_on d e) (disk_step (w.disk d) e) (w.disk d)) f
@@ -146,9 +210,11 @@ module _ (c : Shape) (w : World) (ms : Moves) (tied : Tied c w ms) (h : ℕ) (m 
   rests_still (Stop g) quiet before d = before d
   rests_still (Submit g command tries) quiet before d = before d
   rests_still (Recover g tries) quiet before d = before d
+  rests_still (Look g) quiet before d = before d
   rests_still (Beat g) quiet before d = before d
-  rests_still (Called g k call answer left) quiet before d = beats_leave g k call answer (Called g k call answer left) quiet.0 quiet.1 before d
-  rests_still (Torn g k call left) quiet before d = beats_leave g k call (Fault Failed) (Torn g k call left) quiet.0 quiet.1 before d
+  rests_still (Mark g n) quiet before d = before d
+  rests_still (Called g k call answer left) quiet before d = quiets_leave g k call answer (Called g k call answer left) quiet.0 quiet.1 before d
+  rests_still (Torn g k call left) quiet before d = quiets_leave g k call (Fault Failed) (Torn g k call left) quiet.0 quiet.1 before d
   rests_still (Crashed k left) quiet before d = go (k == d)
     where
       go : (b : Bool) → RestsOn h slot (cond b (disk_step (w.disk d) (Crashed k left)) (w.disk d)) (f d)

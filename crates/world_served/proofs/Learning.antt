@@ -18,17 +18,19 @@ use Rattle.lock_command.specs.declared.command.Command.{Command}
 use Rattle.lock_command.specs.Command.{spelling}
 use Rattle.lock_command.specs.Reading.{decoded}
 use Rattle.slot_log.specs.Shape.{Shape}
-use Rattle.host.specs.Host.{Operation, Submitting, Doing, Memory, Host, Running, setup_of, input_of, learned_of, does, learns, is_submitted, after_learning, takes, by_status, hears_from, Beats}
-use Rattle.host.proofs.Hosts.{beats-by_status}
-use Rattle.world.specs.Entry.{Filled, Start, Stop, Submit, Recover, Beat, Called, Torn, Crashed, Lost, is_of, host_step}
+use Rattle.host.specs.Host.{Operation, Submitting, Looking, spent_answer, Doing, Memory, Host, Running, setup_of, input_of, learned_of, does, learns, is_submitted, after_learning, takes, by_status, hears_from, Beats}
+use Rattle.host.proofs.Hosts.{beats_heard, marking_heard}
+use Rattle.world.specs.Entry.{Filled, Start, Stop, Submit, Recover, Look, Beat, Mark, Called, Torn, Crashed, Lost, is_of, host_step}
 use Rattle.world.specs.World.{World, MayFollow, IsRun}
-use Rattle.world.specs.Chosen.{at, Hears, IsChosenAt}
+use Rattle.world.specs.Chosen.{at, Hears}
 use Rattle.world.proofs.Histories.{heard_then, committed}
 use Rattle.world.proofs.Runs.{each}
 use Rattle.world_safety.specs.Goes.{ProposesWith}
 use Rattle.world_safety.specs.Next.{next_world}
-use Rattle.world_safety.proofs.Runs.Tracks.{moves_at, tied_at, submitted_before, IsPutBefore, put_by_then}
-use Rattle.world_served.specs.Alone.{TriesNone}
+use Rattle.world_safety.proofs.Runs.Tracks.{moves_at, tied_at, submitted_before, IsPutBefore, put_by_then, decided_at}
+use Rattle.world_safety.specs.Tracks.{IsChosenBefore}
+use Rattle.world_served.specs.Alone.{LooksAtMost, TriesNone}
+use Rattle.world_served.specs.Served.{IsServedBy}
 use Rattle.world_served.specs.Served.{IsLeftAlone}
 use Rattle.world_served.proofs.Answered.{served}
 use Rattle.world_served.proofs.Counting.{one_past}
@@ -61,7 +63,7 @@ module _ (c : Shape) (log : List Filled) (run : IsRun c log) (some : 1 ≤ c.dis
   IsOwn w = serving.IsOwn c log i host command marks w
 
   module _ (k : ℕ) (behind : i < k) (before : k < j) (d : ℕ) (call : Call) (answer : Answer) (left : List ℕ) (entry : slice_get log k ≡ Some (Called host d call answer left)) (calls : ℕ)
-      (earlier : (p : ℕ) → i < p → p ≤ k → IsOwn (at c log p)) (m : Memory) (running : (at c log k).host host ≡ Running m) (t : Doing) (doing : m.doing ≡ Some t) (no_beat : m.beats.heard ≡ None) (is : serving.IsServing c log i host command marks calls (at c log k) m t) where
+      (earlier : (p : ℕ) → i < p → p ≤ k → IsOwn (at c log p)) (m : Memory) (running : (at c log k).host host ≡ Running m) (t : Doing) (doing : m.doing ≡ Some t) (no_beat : m.beats.heard ≡ None) (no_mark : m.marking ≡ None) (is : serving.IsServing c log i host command marks calls (at c log k) m t) where
     abbrev w : World
     w = at c log k
 
@@ -116,16 +118,13 @@ module _ (c : Shape) (log : List Filled) (run : IsRun c log) (some : 1 ≤ c.dis
     bounded : calls + 1 ≤ most
     bounded = let fits = is.fits in let learned = is.learned in let all = serving.enough c log i host command marks is.past (omega arith) is.marked in omega (arith, at_most, all)
 
-    -- A VALUE WAS COMMITTED
+    -- A VALUE WAS COMMITTED, OR DECIDED
 
-    module _ (value : List ℕ) (ended : status s (on heard) ≡ Ended (attempt.Committed value)) where
-      chosen : IsChosenAt c log k (length m.learned) value
-      chosen = committed c log k s heard value run hears_it ended
-
+    module _ (value : List ℕ) (chosen : IsChosenBefore c log (suc k) (length m.learned) value) where
       -- it spells a command that was submitted
       reads : (found : Command) × (decoded value ≡ Some found)
       reads =
-          let by = submitted_before c log run k (length m.learned) value chosen in
+          let by = submitted_before c log run chosen.place (length m.learned) value chosen.is in
           let allowed = each c log by.place _ run by.entry in
           (by.command, ap decoded by.spelled ∙ allowed.1)
 
@@ -133,7 +132,9 @@ module _ (c : Shape) (log : List Filled) (run : IsRun c log) (some : 1 ≤ c.dis
       module _ (other : bytes_eq (spelling command) value ≡ false) where
         -- some host put it in by then
         by : IsPutBefore c log run (suc k) (length m.learned) value
-        by = put_by_then c log run k (length m.learned) value chosen
+        by =
+            let put = put_by_then c log run chosen.place (length m.learned) value chosen.is in
+            record { place = put.place; before = (let b = put.before in let early = chosen.before in omega arith); entry = put.entry; is = put.is; put = put.put }
 
         -- not this host behind the submission, which puts in its own
         put_own : (h : ℕ) → h ≡ host → (q : Memory) (u : Doing) → (at c log by.place).host h ≡ Running q → q.doing ≡ Some u → input_of u.operation ≡ Some value → i < by.place → ⊥
@@ -150,13 +151,16 @@ module _ (c : Shape) (log : List Filled) (run : IsRun c log) (some : 1 ≤ c.dis
         put_late (Stop g) found of votes late = votes
         put_late (Submit g other_command n) found of votes late = votes
         put_late (Recover g n) found of votes late = votes
+        put_late (Look g) found of votes late = votes
         put_late (Beat g) found of votes late = votes
+        put_late (Mark g slot) found of votes late = votes
         put_late (Called g n other_call other_answer bytes) found of votes late =
             elim (alone.alone.calls by.place g n other_call other_answer bytes late (let b = by.before in omega arith) found) [
               | inl its ↦ put_own by.put.host (sym (eqb-true g by.put.host of) ∙ its) by.put.memory by.put.doing by.put.running by.put.does by.put.input late
               | inr rests ↦
-                  (let none = subst (TriesNone c log by.place) (eqb-true g by.put.host of) rests by.put.memory by.put.running in
-                  let both : None ≡ Some by.put.doing = sym none ∙ by.put.does in
+                  (let looks_at_most = subst (TriesNone c log by.place) (eqb-true g by.put.host of) rests by.put.memory by.put.running in
+                  let looks : by.put.doing.operation ≡ Looking = subst LooksAtMost by.put.does looks_at_most in
+                  let both : None ≡ Some value = sym (ap input_of looks) ∙ by.put.input in
                   absurd (cc))
             ]
         put_late (Torn g n other_call bytes) found of votes late = votes
@@ -176,7 +180,9 @@ module _ (c : Shape) (log : List Filled) (run : IsRun c log) (some : 1 ≤ c.dis
         put_early (Stop g) found of votes early = absurd votes
         put_early (Submit g other_command n) found of votes early = absurd votes
         put_early (Recover g n) found of votes early = absurd votes
+        put_early (Look g) found of votes early = absurd votes
         put_early (Beat g) found of votes early = absurd votes
+        put_early (Mark g slot) found of votes early = absurd votes
         put_early (Called g n other_call other_answer bytes) found of votes early =
             let put = by.put in
             alone.marked (length m.learned) by.place (ballot (setup_of c put.host put.memory put.doing.operation) (on (put.doing.heard ++ record { disk = n; heard = heard_as other_answer } ∷ []))) value early
@@ -244,13 +250,17 @@ module _ (c : Shape) (log : List Filled) (run : IsRun c log) (some : 1 ≤ c.dis
     status_so : (b : ℕ) (st : Status) → status s (on heard) ≡ st → IsServed s heard st → SoFar (calls + 1) after (by_status c m going b st) (by_status c m going b st).doing
     status_so b (Due p n) so serves =
         record { quiet = refl; operation = is.operation; past = is.past; learned = is.learned; marked = is.marked; fits = is.fits; short = serves; bound = counted; rests = rests }
-    status_so b (Ended (attempt.Committed value)) so serves = taken_so value so b
+    status_so b (Ended (attempt.Committed value)) so serves = taken_so value (record { place = k; before = omega arith; is = committed c log k s heard value run hears_it so }) b
+    status_so b (Ended (attempt.Decided value)) so serves =
+        let before = decided_at c log run k host d call answer left entry m t value running doing so in
+        taken_so value (record { place = before.place; before = (let n = before.before in omega arith); is = before.is }) b
     status_so b (Ended attempt.Empty) so serves =
         let none : HasNone s (on heard) = told_by s (on heard) (Ended attempt.Empty) so in
         absurd (has_value (best s (on heard)).inp (spelling command) (subst (λ (o : Operation). or_else (best s (on heard)).inp (input_of o) ≡ None) is.operation none.none))
     status_so b (Ended (attempt.Outrun mbal)) so serves = absurd serves
     status_so b (Ended attempt.NoMajority) so serves = absurd serves
-    status_so b (Ended attempt.BallotsSpent) so serves = bounded
+    status_so b (Ended attempt.BallotsSpent) so serves =
+        subst (λ (o : Operation). IsServedBy most (calls + 1) (Some (spent_answer o (length m.learned)))) (sym is.operation) bounded
 
     abbrev new : Memory
     new = by_status c m going (taken s (on heard)) (status s (on heard))
@@ -265,6 +275,7 @@ module _ (c : Shape) (log : List Filled) (run : IsRun c log) (some : 1 ≤ c.dis
         record {
           memory = new;
           running = ap (λ (b : Bool). cond b (host_step c host (w.host host) e) (w.host host)) (eq-eqb host host refl) ∙ now;
-          no_beat = ap (λ (b : Beats). b.heard) (beats-by_status c m going (taken s (on heard)) (status s (on heard))) ∙ no_beat;
+          no_beat = ap (λ (b : Beats). b.heard) (beats_heard c host m (Some t) x) ∙ no_beat;
+          no_mark = marking_heard c host m (Some t) x ∙ no_mark;
           so_far = status_so (taken s (on heard)) (status s (on heard)) refl ends;
         }

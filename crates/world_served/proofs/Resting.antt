@@ -1,4 +1,4 @@
--- As long as no other host makes a call, each row that an attempt reads shows of the others what the opening's row of that disk showed.
+-- As long as no other host promises or votes, each row that an attempt reads shows of the others the mbal that the opening's row of that disk showed.
 use Rattle.std.specs.Prelude.{}
 use Rattle.std.proofs.Common.{ℕ, ◌+◌, ◌≤◌, ◌≡◌, ◌≢◌, inl, inr, true, Some, None, List, [], ◌∷◌, ◌++◌, length, sym, ap, ◌∙◌, arith}
 use Rattle.std.proofs.lemmas.Bool.{cases_order}
@@ -14,10 +14,10 @@ use Rattle.attempt.proofs.OneDisk.{IsDisk}
 use Rattle.world_safety.specs.Knows.{IsCurrent}
 use Rattle.world_served.proofs.Blocks.{row_is_seen, shown}
 
--- Of the rows that were read of a disk: they show of the others what the opening's row did, and that is what the disk shows now, as long as it has not crashed.
+-- Of the rows that were read of a disk: they show of the others the mbal that the opening's row did, and that is what the disk shows now, as long as it has not crashed.
 pub record RestsOn (host slot : ℕ) (disk : DiskState) (a : List Heard) : Type 0 where
-  pub among : (p : Phase) (g : ℕ) (first later : List SeenBlock) → row_in Opening a ≡ Some first → row_in p a ≡ Some later → g ≢ host → says_in later g ≡ says_in first g
-  pub now : (g : ℕ) (first : List SeenBlock) → row_in Opening a ≡ Some first → IsCurrent disk a → g ≢ host → says_in first g ≡ shown disk slot g
+  pub among : (p : Phase) (g : ℕ) (first later : List SeenBlock) → row_in Opening a ≡ Some first → row_in p a ≡ Some later → g ≢ host → (says_in later g).mbal ≡ (says_in first g).mbal
+  pub now : (g : ℕ) (first : List SeenBlock) → row_in Opening a ≡ Some first → IsCurrent disk a → g ≢ host → (says_in first g).mbal ≡ (shown disk slot g).mbal
 
 -- so it is on each disk
 abbrev pub Rests : (host slot : ℕ) → (ℕ → DiskState) → Answers → Type 0
@@ -27,8 +27,8 @@ Rests host slot disk f = (d : ℕ) → RestsOn host slot (disk d) (f d)
 pub rests_none : (host slot : ℕ) (disk : DiskState) → RestsOn host slot disk []
 rests_none host slot disk = record { among = λ p g first later is. absurd (let none = row_none Opening [] (omega arith) in let both : None ≡ Some first = sym none ∙ is in cc); now = λ g first is. absurd (let none = row_none Opening [] (omega arith) in let both : None ≡ Some first = sym none ∙ is in cc) }
 
--- the disk is another, which shows the same while the boot number stays
-pub rests_on : (host slot : ℕ) (disk new : DiskState) (a : List Heard) → (IsCurrent new a → IsCurrent disk a × ((g : ℕ) → g ≢ host → shown new slot g ≡ shown disk slot g)) → RestsOn host slot disk a → RestsOn host slot new a
+-- the disk is another, which shows the same mbal while the boot number stays
+pub rests_on : (host slot : ℕ) (disk new : DiskState) (a : List Heard) → (IsCurrent new a → IsCurrent disk a × ((g : ℕ) → g ≢ host → (shown new slot g).mbal ≡ (shown disk slot g).mbal)) → RestsOn host slot disk a → RestsOn host slot new a
 rests_on host slot disk new a same rests =
     record { among = rests.among; now = λ g first is current off. (let old = same current in rests.now g first is old.0 off ∙ sym (old.1 g off)) }
 
@@ -40,7 +40,7 @@ opening_first Opening = omega arith
 opening_first One = omega arith
 opening_first Two = omega arith
 
-module _ (host slot : ℕ) (disk new : DiskState) (a : List Heard) (x : Heard) (is_disk : IsDisk a) (good : all_good a ≡ true) (boot : new.boot ≡ disk.boot) (kept : (g : ℕ) → g ≢ host → shown new slot g ≡ shown disk slot g)
+module _ (host slot : ℕ) (disk new : DiskState) (a : List Heard) (x : Heard) (is_disk : IsDisk a) (good : all_good a ≡ true) (boot : new.boot ≡ disk.boot) (kept : (g : ℕ) → g ≢ host → (shown new slot g).mbal ≡ (shown disk slot g).mbal)
     (reads : (row : List SeenBlock) → x ≡ answers.Told (Some row) → IsCurrent disk a × (row_said (row_of slot disk.bytes) ≡ Some row)) (before : RestsOn host slot disk a) where
   abbrev longer : List Heard
   longer = a ++ x ∷ []
@@ -68,18 +68,18 @@ module _ (host slot : ℕ) (disk new : DiskState) (a : List Heard) (x : Heard) (
       ]
 
   -- what is told now is what the disk shows
-  tells_now : (row : List SeenBlock) (g : ℕ) → x ≡ answers.Told (Some row) → says_in row g ≡ shown disk slot g
-  tells_now row g is = ap (λ (r : List SeenBlock). says_in r g) (row_is_seen (row_of slot disk.bytes) row (reads row is).1)
+  tells_now : (row : List SeenBlock) (g : ℕ) → x ≡ answers.Told (Some row) → (says_in row g).mbal ≡ (shown disk slot g).mbal
+  tells_now row g is = ap (λ (r : List SeenBlock). (says_in r g).mbal) (row_is_seen (row_of slot disk.bytes) row (reads row is).1)
 
-  -- so each shows of the others what the opening's did
-  among_by : (p : Phase) (g : ℕ) (first later : List SeenBlock) → Which Opening first → Which p later → g ≢ host → says_in later g ≡ says_in first g
+  -- so each shows of the others the mbal that the opening's did
+  among_by : (p : Phase) (g : ℕ) (first later : List SeenBlock) → Which Opening first → Which p later → g ≢ host → (says_in later g).mbal ≡ (says_in first g).mbal
   among_by p g first later (Old over is) (Old over_too is_too) off = before.among p g first later is is_too off
   among_by p g first later (Old over is) (New last is_too) off = tells_now later g is_too ∙ sym (before.now g first is (reads later is_too).0 off)
   among_by p g first later (New last is) (New last_too is_too) off = tells_now later g is_too ∙ sym (tells_now first g is)
   among_by p g first later (New last is) (Old over is_too) off = absurd (omega (arith, last, over, opening_first p))
 
   -- and that is what the disk shows now
-  now_by : (g : ℕ) (first : List SeenBlock) → Which Opening first → IsCurrent new longer → g ≢ host → says_in first g ≡ shown new slot g
+  now_by : (g : ℕ) (first : List SeenBlock) → Which Opening first → IsCurrent new longer → g ≢ host → (says_in first g).mbal ≡ (shown new slot g).mbal
   now_by g first (New last is) current off = tells_now first g is ∙ sym (kept g off)
   now_by g first (Old over is) current off =
       let booted = is_disk.booted good (omega (arith, over)) in

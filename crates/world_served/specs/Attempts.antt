@@ -12,7 +12,7 @@ use Rattle.world_served.specs.Served.{calls_between}
 
 -- An attempt of a submission or of a recovery has heard its last answer so far at entry k. Its host made at least as many calls behind entry i, and was
 -- alone since: so all its answers are of that time. Where most disks answered each call of it, it goes on with fewer than seventeen calls a disk,
--- or has ended Committed, Empty or BallotsSpent.
+-- or has ended Committed, Decided, Empty or BallotsSpent.
 abbrev pub ServesAttempts : Shape → List Filled → Type 0
 ServesAttempts c log =
     (i k : ℕ) (s : Setup) (heard : List Answered) (hears : Hears c log k s heard) → IsAlone c log i (suc k) hears.host → i < k

@@ -22,7 +22,7 @@ pub fn alone_submissions_are_served()
 {}
 
 /// Each attempt that hears its answers meanwhile, of a submission or a recovery, goes on with fewer
-/// than seventeen calls a disk, or has ended Committed, Empty or BallotsSpent.
+/// than seventeen calls a disk, or has ended Committed, Decided, Empty or BallotsSpent.
 pub fn alone_attempts_are_served()
     ensures { (c : Shape) (log : List Filled) → IsRun c log → ServesAttempts c log }
 {}

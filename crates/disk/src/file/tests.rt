@@ -25,7 +25,12 @@ fn keeps_what_is_written(rt: HostRuntime) -> Result<(), Fail> {
     let mut back = [0; 3];
     again.read(boot, 4, &mut back)?;
     assert_eq!(rt; back, *b"efg");
-    drop((disk, again));
+    let mut seen = FileDisk::open_to_read(&rt, PATH)?;
+    seen.sync(boot)?;
+    seen.read(boot, 0, &mut back)?;
+    assert_eq!(rt; back, *b"abc");
+    assert_eq!(rt; seen.write(boot, 0, b"x").err(), Some(DiskFault::Failed));
+    drop((disk, again, seen));
     fs::remove_dir_all(&rt, FOLDER)?;
     Ok(())
 }

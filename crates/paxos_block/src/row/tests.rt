@@ -48,11 +48,13 @@ fn both_copies(rt: HostRuntime) -> Result<(), Fail> {
         mbal: 1,
         bal: 0,
         inp: None,
+        mark: false,
     };
     let voted = PBlock {
         mbal: 1,
         bal: 1,
         inp: Some(COMMAND),
+        mark: false,
     };
     for (copy, says) in [(PROMISE, promised), (VOTE, voted)] {
         assert!(rt; may_say(0, &says));
@@ -102,8 +104,9 @@ fn four_damaged_copies(rt: HostRuntime) {
 // Whether a copy of host 0 is sound, read field by field.
 fn is_sound_plainly(copy: &[u8; COPY_LENGTH]) -> bool {
     let has_input = copy[2] == 1;
+    let is_marked = copy[3] == 1;
     let mut rest_is_zero = true;
-    for at in 3..COPY_LENGTH {
+    for at in 4..COPY_LENGTH {
         let is_field = 8 <= at && at < 32 || has_input && 32 <= at;
         rest_is_zero = rest_is_zero && (is_field || copy[at] == 0);
     }
@@ -117,6 +120,8 @@ fn is_sound_plainly(copy: &[u8; COPY_LENGTH]) -> bool {
     };
     copy[1] == 1
         && copy[2] <= 1
+        && copy[3] <= 1
+        && (has_input || !is_marked)
         && rest_is_zero
         && 1 <= sequence
         && sequence <= 1 << 62
@@ -161,6 +166,7 @@ fn what_a_row_tells(rt: HostRuntime) {
         mbal,
         bal,
         inp: Some([byte; 32]),
+        mark: false,
     };
     let mut row = Row::BLANK;
     row.cells[0].says = vote(9, 1, 1);
@@ -170,9 +176,19 @@ fn what_a_row_tells(rt: HostRuntime) {
         mbal: 14,
         bal: 0,
         inp: None,
+        mark: false,
     };
     assert_eq!(rt; row.cell(3).says, vote(4, 2, 3));
     assert_eq!(rt; row.cell(7).says, PBlock::BLANK);
+    assert_eq!(rt; row.marked(), None);
+    row.cells[3].says.mark = true;
+    row.cells[6].says = PBlock {
+        mark: true,
+        ..vote(7, 7, 9)
+    };
+    assert_eq!(rt; row.marked(), Some([3; 32]));
+    row.cells[3].says.mark = false;
+    row.cells[6].says = PBlock::BLANK;
     assert_eq!(rt; row.greatest_mbal(), 14);
     assert_eq!(rt; row.others_mbal(5), 9);
     assert_eq!(rt; row.others_mbal(0), 14);

@@ -238,3 +238,37 @@ fn faster_host_ends_an_attempt(rt: HostRuntime) -> Result<(), Fail> {
     assert_eq!(rt; slow.end(), Some(End::Outrun(2)));
     Ok(())
 }
+
+#[test]
+fn marked_block_ends_an_attempt(rt: HostRuntime) -> Result<(), Fail> {
+    let mut marked = VOTED_FOR_W;
+    marked[3] = 1;
+    // A spent ballot is not looked at then.
+    for (floor, on, calls) in [(0, 0, 9), (0, 2, 9), (LAST_BALLOT, 1, 9)] {
+        let mut disks = blank_disks(rt.alloc(), 3)?;
+        put(disks.get_mut(0), 0, &VOTED_FOR_V)?;
+        put(disks.get_mut(on), 1, &marked)?;
+        let mut attempt = Attempt::new(2, 0, 3, floor, Some(X));
+        assert_eq!(rt; drive(&mut attempt, &mut disks, ENOUGH), calls);
+        assert_eq!(rt; attempt.end(), Some(End::Decided(W)));
+        assert_eq!(rt; attempt.ballot(), 0);
+    }
+    Ok(())
+}
+
+#[test]
+fn other_marks_are_damage(rt: HostRuntime) -> Result<(), Fail> {
+    // A mark of 2, and one without an input.
+    let mut twice = VOTED_FOR_V;
+    twice[3] = 2;
+    let mut bare = SPENT;
+    bare[3] = 1;
+    for damaged in [twice, bare] {
+        let mut disks = blank_disks(rt.alloc(), 1)?;
+        put(disks.get_mut(0), 0, &damaged)?;
+        let mut attempt = Attempt::new(0, 0, 1, 0, Some(W));
+        assert_eq!(rt; drive(&mut attempt, &mut disks, ENOUGH), 3);
+        assert_eq!(rt; attempt.end(), Some(End::NoMajority));
+    }
+    Ok(())
+}

@@ -42,11 +42,11 @@ pub record After (s : Setup) (d : ℕ) (g : Answers) (new : DiskState) (cell : C
   pub stands : Stands new s.slot s.host cell
   pub knows : Knows new s g d cell
 
-not_bad : (b : Bool) → not b ≡ true → b ≡ false
+pub not_bad : (b : Bool) → not b ≡ true → b ≡ false
 not_bad true is = absurd (true≢false (sym is))
 not_bad false is = refl
 
-read_leaves : (disk new : DiskState) (boot at len : ℕ) (answer : Answer) → Step disk (Read boot at len) answer new → new ≡ disk
+pub read_leaves : (disk new : DiskState) (boot at len : ℕ) (answer : Answer) → Step disk (Read boot at len) answer new → new ≡ disk
 read_leaves disk new boot at len (Booted number) step = step.2.1
 read_leaves disk new boot at len (Told bytes) step = step.2.1
 read_leaves disk new boot at len Done step = step.2.1
@@ -54,7 +54,7 @@ read_leaves disk new boot at len (Fault Reset) step = step.2
 read_leaves disk new boot at len (Fault Failed) step = step.2
 read_leaves disk new boot at len (Fault Gone) step = step.1
 
-sync_rests : (place : ℕ) (disk new : DiskState) (boot : ℕ) (answer : Answer) → Step disk (Sync boot) answer new → is_bad (heard_as answer) ≡ false → IsAtRest place new
+pub sync_rests : (place : ℕ) (disk new : DiskState) (boot : ℕ) (answer : Answer) → Step disk (Sync boot) answer new → is_bad (heard_as answer) ≡ false → IsAtRest place new
 sync_rests place disk new boot (Booted number) step good = absurd (let all = step.2.0 in cc)
 sync_rests place disk new boot (Told bytes) step good = absurd (let all = step.2.0 in cc)
 sync_rests place disk new boot Done step good = (known_synced place disk new boot step).0

@@ -16,7 +16,6 @@ use Rattle.torn_block.proofs.PlaceLaws.{length-block_in}
 use Rattle.torn_block.specs.Register.{Value, StandsFor}
 use Rattle.torn_block.specs.Stage.{Write128, call_of, old_value, new_value, in_writing, IsDue, IsPlaced}
 use Rattle.torn_block.proofs.StageLaws.{due_reads, failure_reads, settled_begins}
-use Rattle.paxos_block.specs.declared.block.PBlock.{PBlock}
 use Rattle.paxos_block.specs.Places.{VoteOf, place_of, row_place, row_of, IsImage, IsSoundAt}
 use Rattle.paxos_block.specs.Row.{IsSound, SeenBlock, seen_in, sequence_or_zero, row_said}
 use Rattle.paxos_block.specs.Saying.{MaySay, body_saying}
@@ -28,10 +27,10 @@ use Rattle.attempt.specs.Answers as answers
 use Rattle.attempt.specs.Answers.{Heard, Answers, heard_as, is_bad, last_row, boot_of, seen_block}
 use Rattle.attempt.specs.Setup.{Setup}
 use Rattle.attempt.specs.NextCall.{says_for, write_on}
-use Rattle.agreement.specs.State.{Cell}
+use Rattle.agreement.specs.State.{Block, Cell}
 use Rattle.attempt_safety.specs.Machine.{block_said}
 use Rattle.attempt_safety.specs.Leads.{IsBegun}
-use Rattle.world_safety.specs.Blocks.{said, said_if, Stands}
+use Rattle.world_safety.specs.Blocks.{said, Stands}
 use Rattle.world_safety.specs.Knows.{own_place, CanWrite, KnowsFor}
 
 -- BOOT NUMBERS
@@ -102,34 +101,21 @@ under_is SyncBody w boot now is = is
 under_is OpenGate w boot now is = is
 under_is SyncOpened w boot now is = is
 
-number_fits : (value : Option (ℕ × List ℕ)) (n : ℕ) → sequence_or_zero value ≡ n → nat_le LAST_SEQUENCE n ≡ false → next_sequence_at value ≤ 2 ^ 62
+pub number_fits : (value : Option (ℕ × List ℕ)) (n : ℕ) → sequence_or_zero value ≡ n → nat_le LAST_SEQUENCE n ≡ false → next_sequence_at value ≤ 2 ^ 62
 number_fits None n is fits = omega arith
 number_fits (Some value) n is fits = grind (arith, nat_tests)
 
-none_if : (o : Option Value) → said_if o ≡ None → o ≡ None
-none_if None is = refl
-none_if (Some value) is = absurd (cc)
-
 -- a cell in which nothing is in writing reads as its confirmed value
 confirmed_is : (disk : DiskState) (slot host : ℕ) (cell : Cell (List ℕ)) (is : Stands disk slot host cell) → cell.writing ≡ None → cell.confirmed ≡ said (value_of (block_in (place_of (VoteOf slot host)) disk.bytes))
-confirmed_is disk slot host cell is rests =
-    elim (is.holds disk.bytes (may_leave_now disk)) [
-      | inl kept ↦ is.confirmed ∙ ap said (sym kept)
-      | inr written ↦ absurd (let none = none_if is.register.writing (sym is.writing ∙ rests) in cc)
-    ]
+confirmed_is disk slot host cell is rests = elim (is.reads disk.bytes (may_leave_now disk)) [ inl kept ↦ sym kept | inr written ↦ absurd (cc) ]
 
 -- a value more that is not on the disk does no harm
-pub stands_more : (disk : DiskState) (slot host : ℕ) (says : PBlock) (old new : Cell (List ℕ)) → MaySay host says → old.writing ≡ None → IsBegun (block_said says) old new → Stands disk slot host old → Stands disk slot host new
-stands_more disk slot host says old new may rests begun is =
-    let none = none_if is.register.writing (sym is.writing ∙ rests) in
-    let value : Value = Some (0, body_saying says) in
-    record {
-      register = record { confirmed = is.register.confirmed; writing = Some value };
-      holds = λ bytes left. elim (is.holds bytes left) [ inl kept ↦ inl kept | inr written ↦ absurd (cc) ];
-      sound = is.sound;
-      confirmed = begun.confirmed ∙ is.confirmed;
-      writing = begun.writing ∙ ap (λ (b : PBlock). Some (block_said b)) (sym (claims_back says host may));
-    }
+pub stands_more : (disk : DiskState) (slot host : ℕ) (x : Block (List ℕ)) (old new : Cell (List ℕ)) → old.writing ≡ None → IsBegun x old new → Stands disk slot host old → Stands disk slot host new
+stands_more disk slot host x old new rests begun is =
+    record { reads = λ bytes left. elim (is.reads bytes left) [ inl kept ↦ inl (kept ∙ sym begun.confirmed) | inr written ↦ absurd (cc) ]; sound = is.sound }
+
+some_is : (value other : Value) → Some value ≡ Some other → value ≡ other
+some_is value other is = cc
 
 -- THE OWN BLOCK
 
@@ -150,7 +136,14 @@ module _ (slots : ℕ) (s : Setup) (p : Phase) (d : ℕ) (f : Answers) (disk : D
   new_says may = ap block_said (claims_back (says_for s p f) s.host may)
 
   stands_writing : (new : DiskState) (cell : Cell (List ℕ)) → StandsFor (own_place s) (in_writing w) new → IsSoundAt s.host (own_place s) new → cell.confirmed ≡ said (old_value w) → cell.writing ≡ Some (said (new_value w)) → Stands new s.slot s.host cell
-  stands_writing new cell holds sound confirmed writing = record { register = in_writing w; holds = holds; sound = sound; confirmed = confirmed; writing = writing }
+  stands_writing new cell holds sound confirmed writing =
+      record {
+        reads = λ bytes left. elim (holds bytes left) [
+          | inl kept ↦ inl (ap said kept ∙ sym confirmed)
+          | inr written ↦ inr (writing ∙ ap (λ (b : Block (List ℕ)). Some b) (sym (ap said (some_is _ _ written))))
+        ];
+        sound = sound;
+      }
 
   module _ (can : CanWrite s.host (says_for s p f) w) where
     -- while a call is due

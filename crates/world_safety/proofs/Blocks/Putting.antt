@@ -6,7 +6,6 @@ use Rattle.disk.specs.Disk.{DiskState, Call, Sync, Answer, Booted, Told, Done, F
 use Rattle.torn_block.specs.declared.layout.TheConstants.{BODY_LENGTH, LAST_SEQUENCE}
 use Rattle.torn_block.specs.declared.write_steps.WriteCall.{WriteCall}
 use Rattle.torn_block.specs.declared.write_steps.WriteCall.TheVariants.{CloseGate, SyncClosed, PutBody, SyncBody, OpenGate, SyncOpened}
-use Rattle.torn_block.specs.Register.{at_rest}
 use Rattle.torn_block.proofs.RegisterLaws.{known_synced}
 use Rattle.torn_block.specs.Stage.{Write128, call_of, next_call, old_value, new_value, IsDue, Stands as Next}
 use Rattle.torn_block.proofs.StageLaws.{done_reads, done_leads_on}
@@ -107,7 +106,7 @@ module _ (slots : ℕ) (s : Setup) (p : Phase) (d : ℕ) (f : Answers) (disk new
     writing = begun.writing ∙ ap (λ (b : Block (List ℕ)). Some b) (sym (new_says slots s p d f disk image slot_below host_below ready.may))
 
     more_says : Stands disk s.slot s.host cell
-    more_says = stands_more disk s.slot s.host (says_for s p f) old cell ready.may ready.rests begun stands
+    more_says = stands_more disk s.slot s.host (block_said (says_for s p f)) old cell ready.rests begun stands
 
     begun_done : Step disk (call_of CloseGate w boot) Done new → x ≡ answers.Done → Step disk (call_of CloseGate w boot) answer new → After s d g new cell
     begun_done step is_done given =
@@ -215,11 +214,8 @@ module _ (slots : ℕ) (s : Setup) (p : Phase) (d : ℕ) (f : Answers) (disk new
       let place = placed slots s p d f new image_then slot_below host_below now.can in
       record {
         stands = record {
-          register = at_rest (new_value w);
-          holds = λ bytes left. inl (done_reads w new place all bytes left);
+          reads = λ bytes left. inl (ap said (done_reads w new place all bytes left) ∙ new_says slots s p d f disk image slot_below host_below now.can.is_write.may_say ∙ sym becomes.confirmed);
           sound = sound_when_done s.host w (says_for s p f) new place now.can.is_write all;
-          confirmed = becomes.confirmed ∙ sym (new_says slots s p d f disk image slot_below host_below now.can.is_write.may_say);
-          writing = becomes.writing;
         };
         knows = record {
           boot = boot_behind (Sync boot) step;

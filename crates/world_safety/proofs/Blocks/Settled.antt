@@ -2,14 +2,15 @@
 use Rattle.std.specs.Prelude.{IsSome}
 use Rattle.std.proofs.Common.{ℕ, ◌<◌, ◌≡◌, ◌≢◌, ◌⊎◌, inl, inr, true, Option, Some, None, List, refl, sym, subst, ap, ◌∙◌}
 use Rattle.disk.specs.Disk.{DiskState, Answer, Step}
+use Rattle.disk.proofs.CrashLemmas.{may_leave_now}
 use Rattle.torn_block.specs.declared.layout.TheConstants.{HOSTS}
 use Rattle.torn_block.specs.declared.write_steps.WriteCall.TheVariants.{SyncOpened}
 use Rattle.torn_block.specs.Block.{value_of}
 use Rattle.torn_block.specs.Place.{block_in}
 use Rattle.torn_block.specs.Register.{Value}
-use Rattle.paxos_block.specs.Places.{row_of}
+use Rattle.paxos_block.specs.Places.{VoteOf, place_of, row_of}
 use Rattle.paxos_block.specs.Row.{SeenBlock, seen_in, seen_at, row_said}
-use Rattle.paxos_block.proofs.PlaceLemmas.{told as told_there, block_of-row_of}
+use Rattle.paxos_block.proofs.PlaceLemmas.{block_of-row_of}
 use Rattle.paxos_block.proofs.RowLemmas.{said_sees}
 use Rattle.attempt.specs.Calls.{Phase, Kind, Reading, Putting}
 use Rattle.attempt.specs.Answers as answers
@@ -24,7 +25,6 @@ use Rattle.attempt_safety.specs.Registers.{IsNext, RegistersAllow}
 use Rattle.world_safety.specs.Blocks.{said, Stands}
 use Rattle.world_safety.specs.Knows.{own_place, IsCurrent, Knows}
 use Rattle.world_safety.proofs.Blocks.Owning.{row_told, under}
-use Rattle.world_safety.proofs.Blocks.Standing.{cell_reads}
 use Rattle.world_safety.proofs.Blocks.Within.{reading_kind}
 
 -- a row or none is told
@@ -87,13 +87,11 @@ module _ (s : Setup) (f : Answers) (k : ℕ) (disk new : DiskState) (answer : An
     abbrev pub value_read : Value
     value_read = value_of (block_in (own_place s) disk.bytes)
 
-    own_seen : seen_at row s.host ≡ seen_in (block_in (own_place s) disk.bytes)
-    own_seen = said_sees (row_of s.slot disk.bytes) row s.host host_below row_is ∙ ap seen_in (block_of-row_of s.slot s.host disk.bytes host_below)
+    pub seen_is : (g : ℕ) → g < HOSTS → seen_at row g ≡ seen_in (block_in (place_of (VoteOf s.slot g)) disk.bytes)
+    seen_is g below = said_sees (row_of s.slot disk.bytes) row g below row_is ∙ ap seen_in (block_of-row_of s.slot g disk.bytes below)
 
     other_reads : (g : ℕ) (cell : Cell (List ℕ)) → g < HOSTS → Stands disk s.slot g cell → IsReading cell (blocks_said row g)
-    other_reads g cell below stands =
-        let tells_g = told_there disk s.slot g stands.register row below stands.holds row_is in
-        subst (IsReading cell) (ap (λ (b : SeenBlock). block_said b.says) (sym tells_g.so)) (cell_reads disk s.slot g cell stands (value_of (seen_at row g).bytes) tells_g.reads)
+    other_reads g cell below stands = subst (IsReading cell) (ap (λ (b : SeenBlock). block_said b.says) (sym (seen_is g below))) (stands.reads disk.bytes (may_leave_now disk))
 
     pub allows_row : (m : Machine) → ((g : ℕ) → g < HOSTS → g ≢ s.host → Stands disk s.slot g (m.cell g k)) → (m.cell s.host k).confirmed ≡ said value_read → (m.cell s.host k).writing ≡ None → RegistersAllow s.host k (f k) (heard_as answer) m
     allows_row m stands confirmed rests =
@@ -106,7 +104,7 @@ module _ (s : Setup) (f : Answers) (k : ℕ) (disk new : DiskState) (answer : An
           own_read = λ seen read.
               (let both : Some row ≡ Some seen = ap told_row (sym tells ∙ read.1) in
               let same : row ≡ seen = cc in
-              subst (λ (r : List SeenBlock). blocks_said r s.host ≡ (m.cell s.host k).confirmed) same (ap (λ (b : SeenBlock). block_said b.says) own_seen ∙ sym confirmed));
+              subst (λ (r : List SeenBlock). blocks_said r s.host ≡ (m.cell s.host k).confirmed) same (ap (λ (b : SeenBlock). block_said b.says) (seen_is s.host host_below) ∙ sym confirmed));
           still_writing = λ p there done. absurd (let both : answers.Told (Some row) ≡ answers.Done = sym tells ∙ done in cc);
         }
       where

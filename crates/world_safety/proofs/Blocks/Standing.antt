@@ -9,14 +9,15 @@ use Rattle.torn_block.specs.Block.{is_open, sequence_of, copy_of, choice, value_
 use Rattle.torn_block.specs.Damage.{IsSoundBlock}
 use Rattle.torn_block.specs.Place.{block_in}
 use Rattle.torn_block.specs.Register.{Value, Reads, at_rest, IsAtRest}
-use Rattle.torn_block.proofs.RegisterLaws.{rests_crashed, stands_at_rest, fresh_rests}
+use Rattle.torn_block.proofs.RegisterLaws.{rests_crashed, fresh_rests}
 use Rattle.paxos_block.specs.Places.{VoteOf, place_of}
-use Rattle.paxos_block.specs.Row.{IsSound}
+use Rattle.paxos_block.specs.Row.{IsSound, says_of}
 use Rattle.paxos_block.proofs.Outcomes.{Outcomes}
-use Rattle.agreement.specs.State.{Cell, blank, away}
+use Rattle.agreement.specs.State.{Block, Cell, blank, away}
 use Rattle.agreement.specs.Event.{IsReading}
 use Rattle.attempt_safety.specs.Leads.{IsSameBlock}
-use Rattle.world_safety.specs.Blocks.{said, said_if, Stands}
+use Rattle.world_safety.specs.Blocks.{said, Stands}
+use Rattle.world_safety.specs.Marks.{AllSay}
 
 -- WHAT A BLOCK STANDS FOR
 
@@ -24,52 +25,39 @@ use Rattle.world_safety.specs.Blocks.{said, said_if, Stands}
 pub stands_by : (disk new : DiskState) (slot host : ℕ) (cell : Cell (List ℕ)) → Outcomes disk (place_of (VoteOf slot host)) new → Stands disk slot host cell → Stands new slot host cell
 stands_by disk new slot host cell o is =
     record {
-      register = is.register;
-      holds = λ bytes may. (let b = o bytes may in subst (Reads is.register) (sym (ap value_of b.2)) (is.holds b.0 b.1));
+      reads = λ bytes may. (let b = o bytes may in subst (λ (block : List ℕ). IsReading cell (said (value_of block))) (sym b.2) (is.reads b.0 b.1));
       sound = λ bytes may. (let b = o bytes may in subst (IsSoundBlock (IsSound host)) (sym b.2) (is.sound b.0 b.1));
-      confirmed = is.confirmed;
-      writing = is.writing;
     }
 
 -- a cell of the same block will do
+reads_same : (old new : Cell (List ℕ)) (x : Block (List ℕ)) → IsSameBlock old new → IsReading old x → IsReading new x
+reads_same old new x same (inl e) = inl (e ∙ sym same.confirmed)
+reads_same old new x same (inr e) = inr (same.writing ∙ e)
+
 pub stands_same : (disk : DiskState) (slot host : ℕ) (old new : Cell (List ℕ)) → IsSameBlock old new → Stands disk slot host old → Stands disk slot host new
 stands_same disk slot host old new same is =
-    record { register = is.register; holds = is.holds; sound = is.sound; confirmed = same.confirmed ∙ is.confirmed; writing = same.writing ∙ is.writing }
-
--- what the register reads as, the cell reads as
-pub cell_reads : (disk : DiskState) (slot host : ℕ) (cell : Cell (List ℕ)) (is : Stands disk slot host cell) (value : Value) → Reads is.register value → IsReading cell (said value)
-cell_reads disk slot host cell is value (inl e) = inl (ap said e ∙ sym is.confirmed)
-cell_reads disk slot host cell is value (inr e) = inr (is.writing ∙ sym (ap said_if e))
+    record { reads = λ bytes may. reads_same old new (said (value_of (block_in (place_of (VoteOf slot host)) bytes))) same (is.reads bytes may); sound = is.sound }
 
 -- a block at rest stands for what it is now
 pub stands_resting : (disk : DiskState) (slot host : ℕ) (old new : Cell (List ℕ)) → Stands disk slot host old → IsAtRest (place_of (VoteOf slot host)) disk
-    → new.confirmed ≡ said (value_of (block_in (place_of (VoteOf slot host)) disk.bytes)) → new.writing ≡ None → Stands disk slot host new
-stands_resting disk slot host old new is rests confirmed writing =
-    record {
-      register = at_rest (value_of (block_in (place_of (VoteOf slot host)) disk.bytes));
-      holds = stands_at_rest (place_of (VoteOf slot host)) disk rests;
-      sound = is.sound;
-      confirmed = confirmed;
-      writing = writing;
-    }
+    → new.confirmed ≡ said (value_of (block_in (place_of (VoteOf slot host)) disk.bytes)) → Stands disk slot host new
+stands_resting disk slot host old new is rests confirmed =
+    record { reads = λ bytes may. inl (ap (λ (block : List ℕ). said (value_of block)) (rests bytes may) ∙ sym confirmed); sound = is.sound }
 
 -- after a crash it is at rest
 pub stands_crashed : (disk new : DiskState) (slot host : ℕ) (old cell : Cell (List ℕ)) → Crashes disk new → Stands disk slot host old
-    → cell.confirmed ≡ said (value_of (block_in (place_of (VoteOf slot host)) new.bytes)) → cell.writing ≡ None → Stands new slot host cell
-stands_crashed disk new slot host old cell crash is confirmed writing =
+    → cell.confirmed ≡ said (value_of (block_in (place_of (VoteOf slot host)) new.bytes)) → Stands new slot host cell
+stands_crashed disk new slot host old cell crash is confirmed =
     let place = place_of (VoteOf slot host) in
     record {
-      register = at_rest (value_of (block_in place new.bytes));
-      holds = stands_at_rest place new (rests_crashed place disk new crash);
+      reads = λ bytes may. inl (ap (λ (block : List ℕ). said (value_of block)) (rests_crashed place disk new crash bytes may) ∙ sym confirmed);
       sound = λ bytes may. subst (IsSoundBlock (IsSound host)) (sym (rests_crashed place disk new crash bytes may)) (is.sound new.bytes crash.bytes);
-      confirmed = confirmed;
-      writing = writing;
     }
 
 -- a lost disk has the same bytes
 pub stands_lost : (disk : DiskState) (slot host : ℕ) (cell : Cell (List ℕ)) → Stands disk slot host cell → Stands (lost disk) slot host cell
 stands_lost disk slot host cell is =
-    record { register = is.register; holds = is.holds; sound = is.sound; confirmed = is.confirmed; writing = is.writing }
+    record { reads = λ bytes may. is.reads bytes (record { as_many = may.as_many; same = may.same }); sound = is.sound }
 
 -- A FRESH DISK
 
@@ -105,9 +93,12 @@ stands_fresh size slot host =
     let place = place_of (VoteOf slot host) in
     let rests = fresh_rests place size in
     record {
-      register = at_rest None;
-      holds = rests.0;
+      reads = λ bytes may. inl (ap said (reads_blank (value_of (block_in place bytes)) (rests.0 bytes may)));
       sound = λ bytes may. blank_sound host (block_in place bytes) (reads_blank (value_of (block_in place bytes)) (rests.0 bytes may));
-      confirmed = refl;
-      writing = refl;
     }
+
+-- so none is marked
+pub fresh_unmarked : (size slot host : ℕ) → AllSay (λ says. says.mark ≡ true → ⊥) (place_of (VoteOf slot host)) (fresh_disk size)
+fresh_unmarked size slot host bytes may marked =
+    let blank_value = reads_blank (value_of (block_in (place_of (VoteOf slot host)) bytes)) ((fresh_rests (place_of (VoteOf slot host)) size).0 bytes may) in
+    true≢false (sym marked ∙ ap (λ (v : Value). (says_of v).mark) blank_value)

@@ -20,7 +20,7 @@ use Rattle.agreement.proofs.Slots.{value_below}
 use Rattle.world_safety.specs.Claims.{IsProposedAt, BindsGreater, OneProposal, ProposesInOrder}
 use Rattle.world_safety.specs.Tied.{machine, IsRunning, HostAt}
 use Rattle.world_safety.specs.Tracks.{IsChosenBefore, IsTrue, IsTrueOf}
-use Rattle.world_safety.proofs.Runs.Knowing.{all_true}
+use Rattle.world_safety.proofs.Runs.Tracks.{all_true}
 use Rattle.world_safety.proofs.Moves.Machines.{machine_runs}
 use Rattle.world_safety.proofs.Runs.Tracks.{moves_at, tied_at, carries_then, proposed_by, chosen_by_then, stays_by}
 

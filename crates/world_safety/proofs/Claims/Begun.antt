@@ -15,12 +15,15 @@ use Rattle.beats.specs.Answers as beat_answers
 use Rattle.slot_log.specs.Shape.{Shape}
 use Rattle.slot_log.specs.declared.outcome.Refusal.TheVariants as refusal
 use Rattle.host.specs.declared.answer.HostAnswer.TheVariants.{Recovered, Refused}
-use Rattle.host.specs.Host.{Operation, Submitting, Recovering, Doing, Memory, Host, Stopped, Running, setup_of, says, begins, full_answer, goes_on, with_floor, learns, is_submitted, after_learning, takes, tries_again, by_status, with_heard, hears_from, hears_beat, is_stopped}
-use Rattle.world.specs.Entry.{Filled, Start, Stop, Submit, Recover, Beat, Called, Torn, Crashed, Lost, is_of, started, beats, begins_on, host_step}
+use Rattle.host.specs.Host.{Operation, Submitting, Recovering, Looking, Doing, Memory, Host, Stopped, Running, setup_of, says, begins, full_answer, goes_on, with_floor, learns, is_submitted, after_learning, takes, tries_again, by_status, with_heard, hears_from, hears_beat, hears_beside, is_stopped, Marking, hears_marking, marking_with, marking_of}
+use Rattle.marks.specs.Status as mark
+use Rattle.world.specs.Entry.{Filled, Start, Stop, Submit, Recover, Look, Beat, Mark, Called, Torn, Crashed, Lost, is_of, started, beats, marks, begins_on, host_step}
 use Rattle.world.specs.World.{MayFollow, IsRun}
 use Rattle.world.specs.Chosen.{at, SaysAt, IsCallOf, IsRecovery}
 use Rattle.world_safety.specs.Claims.{AllBegun}
 use Rattle.world_safety.proofs.Moves.Beating.{hears_none}
+use Rattle.attempt.proofs.Looking as looking
+use Rattle.world_safety.proofs.Moves.Marking.{marking_none, begun_doing}
 use Rattle.world_safety.proofs.Runs.Places.{by_place}
 use Rattle.world_safety.proofs.Runs.Saying.{full_recovers, status_recovers, beginning_of, AtItsBeginning, AtACall, memory_at, heard_at, whence}
 
@@ -56,6 +59,7 @@ module _ (c : Shape) (m : Memory) (t : Doing) (b : ℕ) where
   status_does : (st : Status) → Does (by_status c m t b st) t.operation
   status_does (Due p k) d is = let same : t ≡ d = cc in ap (λ (x : Doing). x.operation) (sym same)
   status_does (Ended (attempt.Committed value)) d is = taken_does value (decoded value) d is
+  status_does (Ended (attempt.Decided value)) d is = taken_does value (decoded value) d is
   status_does (Ended attempt.Empty) d is = absurd (cc)
   status_does (Ended (attempt.Outrun mbal)) d is = tries_does (with_floor (with_floor m b) mbal) d is
   status_does (Ended attempt.NoMajority) d is = absurd (cc)
@@ -72,6 +76,7 @@ empty_recovers c h m (Submitting command) heard is =
     let none : HasNone s (on heard) = told_by s (on heard) (Ended attempt.Empty) is in
     absurd (some_proposed (best s (on heard)).inp (spelling command) none.none)
 empty_recovers c h m Recovering heard is = refl
+empty_recovers c h m Looking heard is = absurd (looking.ends (setup_of c h m Looking) (on heard) (omega arith) attempt.Empty is)
 
 -- A RECOVERY UNDER WAY
 
@@ -121,13 +126,29 @@ module _ (c : Shape) (log : List Filled) (h : ℕ) where
   beat_begun : (i : ℕ) (m : Memory) → m.doing ≡ None → (o : Option (List beat_answers.Answered)) (x : beat_answers.Answered) → HasBegun log (suc i) h (Running (hears_beat c h m o x))
   beat_begun i m rests o x = λ t does recovers. absurd (let none = hears_none c h m o x rests in let both : None ≡ Some t = sym none ∙ does in cc)
 
+  -- nor does a marking
+  marking_begun : (i : ℕ) (m : Memory) → m.doing ≡ None → (o : Option Marking) (x : Answered) → HasBegun log (suc i) h (Running (hears_marking c h m o x))
+  marking_begun i m rests None x = λ t does recovers. absurd (let both : None ≡ Some t = sym rests ∙ does in cc)
+  marking_begun i m rests (Some q) x = λ t does recovers. absurd (
+      let none = marking_none m (marking_with q x) (mark.status (marking_of c h m q.slot) (on (marking_with q x).heard)) in
+      let both : None ≡ Some t = sym none ∙ does in
+      cc)
+
+  beside_begun : (i : ℕ) (m : Memory) → m.doing ≡ None → (o : Option (List beat_answers.Answered)) (k : ℕ) (answer : Answer) → HasBegun log (suc i) h (Running (hears_beside c h m o k answer))
+  beside_begun i m rests None k answer = marking_begun i m rests m.marking (record { disk = k; heard = heard_as answer })
+  beside_begun i m rests (Some heard) k answer = beat_begun i m rests (Some heard) (record { disk = k; heard = beat_answers.heard_as answer })
+
+  starts_marking_begun : (i slot : ℕ) (host : Host) → HasBegun log (suc i) h (marks host slot)
+  starts_marking_begun i slot Stopped = tt
+  starts_marking_begun i slot (Running m) = λ t does recovers. absurd (let none = begun_doing m slot in let both : None ≡ Some t = sym none ∙ does in cc)
+
   starts_beat_begun : (i : ℕ) (host : Host) → HasBegun log (suc i) h (beats host)
   starts_beat_begun i Stopped = tt
   starts_beat_begun i (Running m) = λ t does recovers. absurd (cc)
 
   hears_begun : (i k : ℕ) (call : Call) (answer : Answer) (left : List ℕ) → slice_get log i ≡ Some (Called h k call answer left) → (m : Memory) (o : Option Doing) → m.doing ≡ o → HasBegun log i h (Running m)
       → HasBegun log (suc i) h (Running (hears_from c h m o k answer))
-  hears_begun i k call answer left is m None does known = beat_begun i m does m.beats.heard (record { disk = k; heard = beat_answers.heard_as answer })
+  hears_begun i k call answer left is m None does known = beside_begun i m does m.beats.heard k answer
   hears_begun i k call answer left is m (Some t) does known = λ d now recovers.
       let s = setup_of c h m t.operation in
       let x : Answered = record { disk = k; heard = heard_as answer } in
@@ -148,6 +169,10 @@ module _ (c : Shape) (log : List Filled) (h : ℕ) where
   recovered_begun i tries is (Running m) = λ t does recovers.
       record { place = i; tries = tries; before = omega arith; entry = is; calls = λ k e above below found of. absurd (omega arith) }
 
+  looked_begun : (i : ℕ) (host : Host) → HasBegun log (suc i) h (begins_on c host Looking 1)
+  looked_begun i Stopped = tt
+  looked_begun i (Running m) = λ t does recovers. absurd (let same = goes_on_does c m Looking 1 t does in cc)
+
   started_begun : (i : ℕ) (host : Host) → IsTrue (is_stopped host) → HasBegun log (suc i) h (started host)
   started_begun i Stopped stopped = λ t does recovers. absurd (cc)
   started_begun i (Running m) stopped = absurd (cc)
@@ -157,7 +182,9 @@ module _ (c : Shape) (log : List Filled) (h : ℕ) where
   step_begun i (Stop g) is may of known = tt
   step_begun i (Submit g command tries) is may of known = submitted_begun i command tries ((at c log i).host h)
   step_begun i (Recover g tries) is may of known = recovered_begun i tries (is ∙ ap (λ (j : ℕ). Some (Recover j tries)) (eqb-true g h of)) ((at c log i).host h)
+  step_begun i (Look g) is may of known = looked_begun i ((at c log i).host h)
   step_begun i (Beat g) is may of known = starts_beat_begun i ((at c log i).host h)
+  step_begun i (Mark g slot) is may of known = starts_marking_begun i slot ((at c log i).host h)
   step_begun i (Called g k call answer left) is may of known = called_begun i k call answer left (is ∙ ap (λ (j : ℕ). Some (Called j k call answer left)) (eqb-true g h of)) ((at c log i).host h) known
   step_begun i (Torn g k call left) is may of known = tt
   step_begun i (Crashed k left) is may of known = absurd (cc)
@@ -184,6 +211,7 @@ module _ (c : Shape) (log : List Filled) (run : IsRun c log) (j h n : ℕ) (says
   recover_entry : (operation : Operation) (tries : ℕ) → operation ≡ Recovering → slice_get log j ≡ Some (beginning_of h operation tries) → slice_get log j ≡ Some (Recover h tries)
   recover_entry (Submitting command) tries is entry = absurd (cc)
   recover_entry Recovering tries is entry = entry
+  recover_entry Looking tries is entry = absurd (cc)
 
   -- it is answered where it begins
   at_once : AtItsBeginning c log j h (Recovered n) → (i : ℕ) × IsRecovery c log i j h n

@@ -15,7 +15,7 @@ use Rattle.agreement.proofs.Slots.{value_below}
 use Rattle.world_safety.specs.Claims.{LogGrows, NoneShorter}
 use Rattle.world_safety.specs.Tracks.{IsChosenBefore}
 use Rattle.world_safety.proofs.Runs.Commands.{begins_by}
-use Rattle.world_safety.proofs.Runs.Knowing.{all_true}
+use Rattle.world_safety.proofs.Runs.Tracks.{all_true}
 use Rattle.world_safety.proofs.Claims.Recovering.{misses_nothing}
 use Rattle.world_safety.proofs.Claims.Safety.{commands, is_safe, as_many, learned_true}
 

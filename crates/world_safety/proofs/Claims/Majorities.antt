@@ -1,22 +1,29 @@
 -- No acknowledgement and no recovery without a majority of the disks that answered.
 use Rattle.std.specs.Prelude.{slice_get}
-use Rattle.std.proofs.Common.{ℕ, ◌≤◌, ◌≡◌, ◌⊎◌, inl, inr, Some, List, length, refl, arith}
-use Rattle.attempt.specs.Answers.{on, heard_as}
+use Rattle.std.proofs.Common.{ℕ, ◌≤◌, ◌≡◌, ◌⊎◌, inl, inr, true, is_some, Option, Some, None, List, length, refl, subst, arith}
+use Rattle.paxos_block.specs.Row.{SeenBlock}
+use Rattle.attempt.specs.Answers.{on, heard_as, row_in}
+use Rattle.attempt.specs.Calls.{Opening}
 use Rattle.attempt.specs.History.{IsHistory}
 use Rattle.attempt.specs.Prepared.{IsPrepared}
 use Rattle.attempt.specs.Setup.{Setup}
-use Rattle.attempt.specs.Status.{status, taken}
+use Rattle.attempt.specs.Status.{Ended, Decided, status, taken}
+use Rattle.attempt.specs.Visits.{visited, is_left}
+use Rattle.attempt.proofs.Deciding.{mark_seen}
+use Rattle.attempt.proofs.Histories.{history_reached}
+use Rattle.attempt.proofs.Statuses.{HasDecided, told_by}
+use Rattle.attempt.proofs.Visitors.{left_is, left_over}
 use Rattle.attempt.proofs.Preparing as preparing
 use Rattle.slot_log.specs.Shape.{Shape}
 use Rattle.host.specs.declared.answer.HostAnswer.{HostAnswer}
 use Rattle.host.specs.declared.answer.HostAnswer.TheVariants.{Ack, Recovered}
-use Rattle.host.specs.Host.{Operation, Submitting, Recovering, setup_of, with_heard}
+use Rattle.host.specs.Host.{Operation, Submitting, Recovering, Looking, setup_of, with_heard}
 use Rattle.world.specs.Entry.{Filled}
 use Rattle.world.specs.World.{IsRun}
 use Rattle.world.specs.Chosen.{SaysAt}
 use Rattle.world.proofs.Histories.{heard_then}
-use Rattle.world_safety.specs.Claims.{IsPreparedAt, IsAcceptedAt, IsFullAt, AcknowledgesByMajority, RecoversByMajority}
-use Rattle.world_safety.proofs.Runs.Saying.{full_recovers, full_acks, status_recovers, status_commits, beginning_of, AtACall, heard_at, hears_at, whence}
+use Rattle.world_safety.specs.Claims.{IsPreparedAt, IsAcceptedAt, IsToldAt, IsFullAt, AcknowledgesByMajority, RecoversByMajority}
+use Rattle.world_safety.proofs.Runs.Saying.{full_recovers, full_acks, status_recovers, status_gives, beginning_of, AtACall, heard_at, hears_at, whence}
 
 module _ (c : Shape) (log : List Filled) (run : IsRun c log) (i h : ℕ) where
   module _ (said : HostAnswer) (call : AtACall c log i h said) where
@@ -30,26 +37,54 @@ module _ (c : Shape) (log : List Filled) (run : IsRun c log) (i h : ℕ) where
     prepared_at : IsPrepared s (heard_at c log i h said call) → IsPreparedAt c log i h
     prepared_at is = record { setup = s; heard = heard_at c log i h said call; hears = hears_at c log i h said call; of_host = refl; prepared = is }
 
+    some_row : (o : Option (List SeenBlock)) → is_some o ≡ true → (row : List SeenBlock) × (o ≡ Some row)
+    some_row None is = absurd (cc)
+    some_row (Some row) is = (row, refl)
+
+    -- an attempt that is told what was decided has read the row of more than half of the disks
+    told_at : (value : List ℕ) → status s (on (heard_at c log i h said call)) ≡ Ended (Decided value) → IsToldAt c log i h s.slot
+    told_at value ended =
+        let f = on (heard_at c log i h said call) in
+        let has : HasDecided s value f = told_by s f (Ended (Decided value)) ended in
+        record {
+          setup = s;
+          heard = heard_at c log i h said call;
+          hears = hears_at c log i h said call;
+          of_host = refl;
+          on_slot = refl;
+          value = value;
+          opened = record {
+            those = is_left s Opening f;
+            most = has.over.enough;
+            each = λ d below left. some_row (row_in Opening (f d))
+                (((history_reached s (heard_at c log i h said call) history_at).disk d).read Opening (left_is s Opening (visited s Opening f) f d left).good (left_over s Opening f d has.over.visits below left));
+          };
+          marked = mark_seen s f value s.disks (omega arith) has.decided_is;
+        }
+
   -- ACKNOWLEDGEMENTS
 
-  -- one comes behind a call with which a value is committed
-  pub acknowledged : (slot : ℕ) (reply : _) → SaysAt c log i h (Ack slot reply) → IsAcceptedAt c log i h slot
+  -- one comes behind a call with which a value is committed, or told
+  pub acknowledged : (slot : ℕ) (reply : _) → SaysAt c log i h (Ack slot reply) → IsAcceptedAt c log i h slot ⊎ IsToldAt c log i h slot
   acknowledged slot reply says = elim (whence c log i h (Ack slot reply) tt run says).is [
     | inl first ↦ absurd (full_acks first.operation (length first.memory.learned) slot reply first.says.0)
     | inr later ↦
         (let call = later.0 in
         let heard = heard_at c log i h (Ack slot reply) call in
         let own = s (Ack slot reply) call in
-        let by = status_commits c call.memory (with_heard call.doing (record { disk = call.disk; heard = heard_as call.answer })) (taken own (on heard)) (status own (on heard)) slot reply later.1 in
-        record {
-          setup = own;
-          heard = heard;
-          hears = hears_at c log i h (Ack slot reply) call;
-          of_host = refl;
-          on_slot = by.2;
-          value = by.0;
-          accepted = preparing.accepted own heard (history_at (Ack slot reply) call) by.0 by.1;
-        })
+        let by = status_gives c call.memory (with_heard call.doing (record { disk = call.disk; heard = heard_as call.answer })) (taken own (on heard)) (status own (on heard)) slot reply later.1 in
+        elim by.1 [
+          | inl committed ↦ inl (record {
+            setup = own;
+            heard = heard;
+            hears = hears_at c log i h (Ack slot reply) call;
+            of_host = refl;
+            on_slot = by.2;
+            value = by.0;
+            accepted = preparing.accepted own heard (history_at (Ack slot reply) call) by.0 committed;
+          })
+          | inr decided ↦ inr (subst (IsToldAt c log i h) by.2 (told_at (Ack slot reply) call by.0 decided))
+        ])
   ]
 
   -- RECOVERIES
@@ -57,23 +92,27 @@ module _ (c : Shape) (log : List Filled) (run : IsRun c log) (i h : ℕ) where
   full_at : (operation : Operation) (tries learned n : ℕ) → operation ≡ Recovering → learned ≡ n → c.slots ≤ learned → slice_get log i ≡ Some (beginning_of h operation tries) → IsFullAt c log i h n
   full_at (Submitting command) tries learned n is same full entry = absurd (cc)
   full_at Recovering tries learned n is same full entry = record { tries = tries; begins = entry; full = omega arith }
+  full_at Looking tries learned n is same full entry = absurd (cc)
 
   -- one comes behind a call with which its slot is found empty, or the last slot is learned; or where it begins
-  pub recovered : (n : ℕ) → SaysAt c log i h (Recovered n) → IsPreparedAt c log i h ⊎ IsFullAt c log i h n
+  pub recovered : (n : ℕ) → SaysAt c log i h (Recovered n) → IsPreparedAt c log i h ⊎ (((slot : ℕ) × IsToldAt c log i h slot) ⊎ IsFullAt c log i h n)
   recovered n says = elim (whence c log i h (Recovered n) tt run says).is [
     | inl first ↦
         (let is = full_recovers first.operation (length first.memory.learned) n first.says.0 in
-        inr (full_at first.operation first.tries (length first.memory.learned) n is.0 is.1 first.says.1 first.entry))
+        inr (inr (full_at first.operation first.tries (length first.memory.learned) n is.0 is.1 first.says.1 first.entry)))
     | inr later ↦
         (let call = later.0 in
         let heard = heard_at c log i h (Recovered n) call in
         let own = s (Recovered n) call in
         let over = status_recovers c call.memory (with_heard call.doing (record { disk = call.disk; heard = heard_as call.answer })) (taken own (on heard)) (status own (on heard)) n later.1 in
         let history = history_at (Recovered n) call in
-        inl (prepared_at (Recovered n) call (elim over.ended [
-          | inl empty ↦ preparing.prepared_empty own heard history empty
-          | inr last ↦ preparing.prepared own heard history last.0 (preparing.committed own (on heard) last.0 last.1)
-        ])))
+        elim over.ended [
+          | inl empty ↦ inl (prepared_at (Recovered n) call (preparing.prepared_empty own heard history empty))
+          | inr last ↦ elim last.1 [
+            | inl committed ↦ inl (prepared_at (Recovered n) call (preparing.prepared own heard history last.0 (preparing.committed own (on heard) last.0 committed)))
+            | inr decided ↦ inr (inl (own.slot, told_at (Recovered n) call last.0 decided))
+          ]
+        ])
   ]
 
 pub acknowledges_by_majority : (c : Shape) (log : List Filled) → IsRun c log → AcknowledgesByMajority c log

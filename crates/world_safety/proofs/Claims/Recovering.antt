@@ -4,6 +4,7 @@ use Rattle.std.proofs.Common.{ℕ, zero, suc, ◌+◌, ◌-◌, ◌<◌, ◌≤�
 use Rattle.std.proofs.lemmas.Bool.{cases_Bool}
 use Rattle.attempt.specs.Setup.{Setup}
 use Rattle.slot_log.specs.Shape.{Shape}
+use Rattle.host.specs.declared.answer.HostAnswer.{HostAnswer}
 use Rattle.host.specs.declared.answer.HostAnswer.TheVariants.{Recovered}
 use Rattle.host.specs.Host.{Doing, Memory, Host, Stopped, Running, is_idle_in, idles, said_of}
 use Rattle.world.specs.Entry.{Filled, Recover, is_of, host_step}
@@ -20,9 +21,9 @@ use Rattle.attempt_safety.specs.Machine.{Machine}
 use Rattle.world_safety.specs.Goes.{Has, IsTryingAt}
 use Rattle.world_safety.specs.Claims.{EmptyShows, MissesNothing}
 use Rattle.world_safety.specs.Tied.{Moves, machine, HostAt, IsDoing, IsRunning, IsTrying}
-use Rattle.world_safety.specs.Tracks.{IsTrue as IsTrueOfHost, IsTrueOf}
+use Rattle.world_safety.specs.Tracks.{Counts, IsTrue as IsTrueOfHost, IsTrueOf}
 use Rattle.world_safety.proofs.Moves.Moving.{chosen_later}
-use Rattle.world_safety.proofs.Runs.Knowing.{all_true}
+use Rattle.world_safety.proofs.Runs.Tracks.{all_true}
 use Rattle.world_safety.proofs.Moves.Machines.{machine_is}
 use Rattle.world_safety.proofs.Runs.Places.{host_next, host_stays, at_end}
 use Rattle.world_safety.proofs.Runs.Tracks.{moves_at, tied_at, step_at, later_places, chosen_then, stays_at}
@@ -146,7 +147,7 @@ module _ (c : Shape) (log : List Filled) (run : IsRun c log) where
       let number : j + 1 ≡ suc j = omega arith in
       let who = said_by ((at c log (suc j)).host host) n (subst (λ (k : ℕ). said_of ((at c log k).host host) ≡ Some (Recovered n)) number says.says) in
       let known : IsTrueOfHost c log (suc j) host who.0 = subst (IsTrueOf c log (suc j) host) who.1 (all_true c log run (suc j) host) in
-      answered i host n not_yet j place slot value le says.entry says.is says.of_host who.0 who.1 who.2 (known.recovered n who.2) before chosen
+      answered i host n not_yet j place slot value le says.entry says.is says.of_host who.0 who.1 who.2 (subst (λ (o : Option HostAnswer). Counts o (length who.0.learned)) who.2 known.counts) before chosen
 
   -- a recovery begins where its host tries nothing
   pub misses_nothing : MissesNothing c log

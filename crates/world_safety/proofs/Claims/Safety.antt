@@ -1,13 +1,14 @@
 -- Every run has a log, by which all that hosts choose, learn and say goes.
 use Rattle.std.specs.Prelude.{slice_get, map, take}
-use Rattle.std.proofs.Common.{ℕ, ◌+◌, ◌<◌, ◌≤◌, ◌≡◌, Some, List, [], ◌∷◌, ◌++◌, length, refl, sym, subst, ap, ◌∙◌, arith}
+use Rattle.std.proofs.Common.{ℕ, ◌+◌, ◌<◌, ◌≤◌, ◌≡◌, Option, Some, List, [], ◌∷◌, ◌++◌, length, refl, sym, subst, ap, ◌∙◌, arith}
 use Rattle.std.proofs.lemmas.List.{length-take}
 use Rattle.lock_command.specs.declared.command.Command.{Command}
 use Rattle.lock_command.specs.Command.{spelling}
 use Rattle.lock_table.specs.declared.reply.Reply.{Reply}
 use Rattle.lock_table.specs.Apply.{table_after}
 use Rattle.slot_log.specs.Shape.{Shape}
-use Rattle.host.specs.declared.answer.HostAnswer.TheVariants.{Ack, Recovered}
+use Rattle.host.specs.declared.answer.HostAnswer.{HostAnswer}
+use Rattle.host.specs.declared.answer.HostAnswer.TheVariants.{Ack, Recovered, Looked}
 use Rattle.host.specs.Host.{Submitting, Doing, Memory, Host, Stopped, Running, learned_of, reply_after, said_of}
 use Rattle.world.specs.Entry.{Filled}
 use Rattle.world.specs.World.{IsRun}
@@ -18,10 +19,10 @@ use Rattle.world.proofs.Runs.{each, run_is_run}
 use Rattle.world.proofs.Safe.{one_log, one_begins_other}
 use Rattle.world_safety.specs.Acks.{AcksAt}
 use Rattle.world_safety.specs.Log.{IsLogBefore}
-use Rattle.world_safety.specs.Tracks.{IsChosenBefore, AreChosen, IsTrue, IsTrueOf}
+use Rattle.world_safety.specs.Tracks.{IsChosenBefore, AreChosen, Counts, IsTrue, IsTrueOf}
 use Rattle.world_safety.proofs.Claims.Acknowledging.{acks_at}
 use Rattle.world_safety.proofs.Runs.Commands.{IsSpelling, AreSpelled, commands_of, one_command, stands_where, begins_by}
-use Rattle.world_safety.proofs.Runs.Knowing.{all_true}
+use Rattle.world_safety.proofs.Runs.Tracks.{all_true}
 use Rattle.world_safety.proofs.Runs.OneLog.{get_last, log_before, log_is, log_one}
 use Rattle.world_safety.proofs.Claims.Recovering.{misses_nothing}
 use Rattle.world_safety.proofs.Runs.Tracks.{submitted_before}
@@ -117,22 +118,33 @@ module _ (c : Shape) (log : List Filled) (run : IsRun c log) where
 
   -- WHAT THEY RECOVER
 
-  said_by : (host : Host) (n : ℕ) → said_of host ≡ Some (Recovered n) → (m : Memory) × (host ≡ Running m) × (m.said ≡ Some (Recovered n))
-  said_by Stopped n is = absurd (cc)
-  said_by (Running m) n is = (m, refl, is)
+  said_by : (host : Host) (said : HostAnswer) → said_of host ≡ Some said → (m : Memory) × (host ≡ Running m) × (m.said ≡ Some said)
+  said_by Stopped said is = absurd (cc)
+  said_by (Running m) said is = (m, refl, is)
+
+  -- whoever counts what it has learned counts all
+  pub counts_all : (i host : ℕ) (said : HostAnswer) → SaysAt c log i host said → Counts (Some said) (length (prefix_at c log (i + 1) host))
+  counts_all i host said says =
+      let who = said_by ((at c log (i + 1)).host host) said says.says in
+      let known : IsTrue c log (i + 1) host who.0 = subst (IsTrueOf c log (i + 1) host) who.1 (all_true c log run (i + 1) host) in
+      let here : Counts (Some said) (length who.0.learned) = subst (λ (o : Option HostAnswer). Counts o (length who.0.learned)) who.2 known.counts in
+      subst (λ (h : Host). Counts (Some said) (length (learned_of h))) (sym who.1) here
 
   pub as_many : (i host n : ℕ) → SaysAt c log i host (Recovered n) → n ≡ length (prefix_at c log (i + 1) host)
-  as_many i host n says =
-      let who = said_by ((at c log (i + 1)).host host) n says.says in
-      let known : IsTrue c log (i + 1) host who.0 = subst (IsTrueOf c log (i + 1) host) who.1 (all_true c log run (i + 1) host) in
-      known.recovered n who.2 ∙ ap (λ (h : Host). length (learned_of h)) (sym who.1)
+  as_many i host n says = counts_all i host (Recovered n) says
 
-  recovered : (i host n : ℕ) → SaysAt c log i host (Recovered n) → (n ≤ length commands) × (prefix_at c log (i + 1) host ≡ take n commands)
-  recovered i host n says =
-      let many = as_many i host n says in
+  -- so many commands of the log
+  first_of_log : (i host n : ℕ) → n ≡ length (prefix_at c log (i + 1) host) → (n ≤ length commands) × (prefix_at c log (i + 1) host ≡ take n commands)
+  first_of_log i host n many =
       let begins = prefix (i + 1) host in
       let size = ap length begins in
       (omega (arith, many, size, length-take (length (prefix_at c log (i + 1) host)) commands), begins ∙ ap (λ (k : ℕ). take k commands) (sym many))
+
+  recovered : (i host n : ℕ) → SaysAt c log i host (Recovered n) → (n ≤ length commands) × (prefix_at c log (i + 1) host ≡ take n commands)
+  recovered i host n says = first_of_log i host n (as_many i host n says)
+
+  looked : (i host n : ℕ) → SaysAt c log i host (Looked n) → (n ≤ length commands) × (prefix_at c log (i + 1) host ≡ take n commands)
+  looked i host n says = first_of_log i host n (counts_all i host (Looked n) says)
 
   -- what was acknowledged was chosen then
   pub acked_chosen : (place host slot : ℕ) (reply : Reply) → SaysAt c log place host (Ack slot reply) → (value : List ℕ) × IsChosenBefore c log (place + 1) slot value
@@ -167,6 +179,7 @@ module _ (c : Shape) (log : List Filled) (run : IsRun c log) where
         recovered = recovered;
         table = λ i host n says. ap table_after (recovered i host n says).1;
         holds = holds;
+        looked = looked;
       }
 
 -- Every run has one log, and nothing that was acknowledged is lost.

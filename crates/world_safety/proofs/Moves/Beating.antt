@@ -14,22 +14,29 @@ use Rattle.paxos_block.specs.Places.{VoteOf, BeatOf, place_of, IsImage, IsWithin
 use Rattle.paxos_block.proofs.PlaceLemmas.{stays_image}
 use Rattle.attempt.proofs.Lists.{by_eq}
 use Rattle.heartbeat.specs.Beat.{beat_body}
+use Rattle.attempt.specs.NextCall.{with_disk}
 use Rattle.beats.specs.Answers as beat_answers
 use Rattle.beats.specs.Status as beat
 use Rattle.slot_log.specs.Shape.{Shape}
 use Rattle.host.specs.declared.answer.HostAnswer.TheVariants.{Recovered}
-use Rattle.host.specs.Host.{Doing, Memory, Host, Stopped, Running, idles, hears_from, hears_beat, beat_by, beat_of, starts_beat}
+use Rattle.host.specs.Host.{Doing, Memory, Host, Stopped, Running, idles, hears_from, hears_beat, hears_beside, beat_by, beat_of, starts_beat, Marking, spelled}
+use Rattle.lock_command.specs.declared.command.Command.{Command}
+use Rattle.attempt.specs.Answers.{on}
+use Rattle.marks.specs.Status as mark
+use Rattle.world_safety.specs.Marking.{KnowsMark, IsMarkingIf}
+use Rattle.world_safety.specs.Marks.{KeepsMarks}
+use Rattle.world_safety.proofs.Blocks.Marked.{mark_spared}
 use Rattle.world.specs.Entry.{Filled, Beat, Called, Torn, disk_step, host_step, beats}
 use Rattle.world.specs.World.{World}
 use Rattle.agreement.specs.Log.Move.{Restart}
 use Rattle.attempt_safety.proofs.Cells.{block_same}
 use Rattle.world_safety.specs.Goes.{HostGoes, Goes}
 use Rattle.world_safety.specs.Next.{next_world}
-use Rattle.world_safety.specs.Tied.{Moves, machine, IsRunning, HostAt, TiedBut, Tied}
+use Rattle.world_safety.specs.Tied.{Moves, machine, IsDoing, IsRunning, HostAt, TiedBut, Tied}
 use Rattle.world_safety.proofs.Moves.Due.{IsBeatCall}
-use Rattle.world_safety.proofs.Moves.Hosts.{tied_but, tied_with, but_stops, stops_learned, same_host}
+use Rattle.world_safety.proofs.Moves.Hosts.{KeepsMarking, marking_kept, tied_but, tied_with, but_stops, stops_learned, same_host}
 use Rattle.world_safety.proofs.Blocks.Keeping.{Spares, spares_others, spares_same}
-use Rattle.world_safety.proofs.Moves.Moving.{for_host, stopped_goes, running_at}
+use Rattle.world_safety.proofs.Moves.Moving.{idle_is, marks_stay, marks_by, for_host, stopped_goes, running_at}
 use Rattle.world_safety.proofs.Moves.OneBlock.{with_disks, but_one}
 
 -- THE CALL
@@ -67,7 +74,7 @@ kind_within s a beat.Syncing = tt
 kind_within s a beat.Reading = tt
 kind_within s a (beat.Putting call) = put_within s a _ call
 
-call_within : (s : beat.Setup) (a : List beat_answers.Heard) (o : Option beat.Kind) (d k : ℕ) (call : Call) → beat.with_disk d (option_map (beat.call_by s a) o) ≡ Some (k, call) → IsWithin (BeatOf s.host) call
+call_within : (s : beat.Setup) (a : List beat_answers.Heard) (o : Option beat.Kind) (d k : ℕ) (call : Call) → with_disk d (option_map (beat.call_by s a) o) ≡ Some (k, call) → IsWithin (BeatOf s.host) call
 call_within s a None d k call is = absurd (cc)
 call_within s a (Some kind) d k call is =
     let pair : (d, beat.call_by s a kind) ≡ (k, call) = cc in
@@ -100,13 +107,24 @@ not_recovered h m heard (beat.Ended beat.NoMajority) n is = absurd (cc)
 
 module _ (c : Shape) (w : World) (ms : Moves) (tied : Tied c w ms) where
   -- a host that tries nothing has what it had learned
-  running_by : (w2 : World) (h : ℕ) (m : Memory) (heard : List beat_answers.Answered) (st : beat.Status) → IsRunning c w ms h m → IsRunning c w2 ms h (beat_by h m heard st)
-  running_by w2 h m heard (beat.Due disk) is = record { below = is.below; learned = is.learned; doing = tt }
-  running_by w2 h m heard (beat.Ended (beat.Beaten readings)) is = record { below = is.below; learned = is.learned; doing = tt }
-  running_by w2 h m heard (beat.Ended beat.NoMajority) is = record { below = is.below; learned = is.learned; doing = tt }
+  running_by : (w2 : World) (h : ℕ) (m : Memory) (heard : List beat_answers.Answered) (st : beat.Status) → ((new : Memory) → new.learned ≡ m.learned → IsMarkingIf c w2 h new m.marking) → IsRunning c w ms h m → IsRunning c w2 ms h (beat_by h m heard st)
+  running_by w2 h m heard (beat.Due disk) marking is = record { below = is.below; learned = is.learned; doing = marking (beat_by h m heard (beat.Due disk)) refl }
+  running_by w2 h m heard (beat.Ended (beat.Beaten readings)) marking is = record { below = is.below; learned = is.learned; doing = marking (beat_by h m heard (beat.Ended (beat.Beaten readings))) refl }
+  running_by w2 h m heard (beat.Ended beat.NoMajority) marking is = record { below = is.below; learned = is.learned; doing = marking (beat_by h m heard (beat.Ended beat.NoMajority)) refl }
+
+  -- what a marking knows goes by what its host has learned
+  marking_as : (w2 : World) (h : ℕ) (m new : Memory) (o : Option Marking) → new.learned ≡ m.learned → IsMarkingIf c w2 h m o → IsMarkingIf c w2 h new o
+  marking_as w2 h m new None same is = tt
+  marking_as w2 h m new (Some t) same is =
+      record {
+        learned = subst (λ (l : List Command). t.slot < length l) (sym same) is.learned;
+        fits = is.fits;
+        knows = subst (λ (s : mark.Setup). (d : ℕ) → KnowsMark (w2.disk d) s (on t.heard d)) (ap (λ (l : List Command). record { host = h; slot = t.slot; disks = c.disks; value = spelled (slice_get l t.slot) }) (sym same)) is.knows;
+        votes = is.votes;
+      }
 
   -- and makes no move
-  quiet_goes : (e : Filled) (h : ℕ) (new : Memory) → host_step c h (w.host h) e ≡ Running new → new.doing ≡ None → ((n : ℕ) → new.said ≡ Some (Recovered n) → ⊥) → HostGoes c w e ms [] h
+  pub quiet_goes : (e : Filled) (h : ℕ) (new : Memory) → host_step c h (w.host h) e ≡ Running new → new.doing ≡ None → ((n : ℕ) → new.said ≡ Some (Recovered n) → ⊥) → HostGoes c w e ms [] h
   quiet_goes e h new now none quiet =
       record {
         begun = λ m t same does. absurd (let both : Running new ≡ Running m = sym now ∙ same in let one : new ≡ m = cc in let some : new.doing ≡ Some t = ap (λ (k : Memory). k.doing) one ∙ does in let neither : None ≡ Some t = sym none ∙ some in cc);
@@ -120,13 +138,14 @@ module _ (c : Shape) (w : World) (ms : Moves) (tied : Tied c w ms) where
   starts_beat_goes h (Running m) is idle =
       let now : host_step c h (w.host h) (Beat h) ≡ Running (starts_beat m) = ap beats is in
       let run = running_at c w ms tied h m is in
-      let new : IsRunning c w ms h (starts_beat m) = record { below = run.below; learned = run.learned; doing = tt } in
+      let new : IsRunning c w ms h (starts_beat m) = record { below = run.below; learned = run.learned; doing = subst (IsMarkingIf c w h (starts_beat m)) (sym (idle_is m idle).marks) tt } in
       record {
         more = [];
         tied = subst (λ (l : Moves). Tied c (next_world c w (Beat h)) l) (sym (append-nil ms)) (tied_with c w ms h (λ g. host_step c g (w.host g) (Beat h)) (tied_but c w ms h tied) (subst (HostAt c w ms h) (sym now) new));
         inputs = λ j v input. absurd input;
         host = λ g of. for_host (λ i. HostGoes c w (Beat h) ms [] i) h g of (quiet_goes (Beat h) h (starts_beat m) now refl (λ n said. absurd (cc)));
         carries = tt;
+        marks = marks_stay c w (Beat h) (λ d. refl);
       }
 
   -- A CALL OF IT
@@ -167,6 +186,15 @@ module _ (c : Shape) (w : World) (ms : Moves) (tied : Tied c w ms) where
         (λ j g d j_below g_below other. spared j g d j_below g_below)
         (λ below host_below. absurd (omega arith))
 
+    -- what is marked
+    pub beat_marking : KeepsMarking c w (with_disks w disks) h
+    beat_marking s a d is_host slot_below below known =
+        mark_spared c.slots s a (w.disk d) (disks d) (tied.images d) slot_below (subst (λ (j : ℕ). j < HOSTS) (sym is_host) below)
+        (spared s.slot s.host d slot_below (subst (λ (j : ℕ). j < HOSTS) (sym is_host) below)) known
+
+    pub beat_keeps : KeepsMarks c w (with_disks w disks)
+    beat_keeps slot host d slot_below below = marks_by w slot host (w.disk d) (disks d) (spared slot host d slot_below below).outcomes
+
   pub beat_called_goes : (h k : ℕ) (call : Call) (answer : Answer) (left : List ℕ) (is : IsBeatCall c h k call (w.host h)) → Step (w.disk k) call answer (disk_step (w.disk k) (Called h k call answer left)) → Goes c w (Called h k call answer left) ms
   beat_called_goes h k call answer left is step =
       let e : Filled = Called h k call answer left in
@@ -178,8 +206,11 @@ module _ (c : Shape) (w : World) (ms : Moves) (tied : Tied c w ms) where
       let now : host_step c h (w.host h) (Called h k call answer left) ≡ Running new =
       ap (λ (host : Host). host_step c h host (Called h k call answer left)) is.running
       ∙ ap (λ (o : Option Doing). Running (hears_from c h is.memory o k answer)) is.rests
-      ∙ ap (λ (o : Option (List beat_answers.Answered)). Running (hears_beat c h is.memory o x)) is.beats in
-      let runs : IsRunning c w2 ms h new = running_by w2 h is.memory heard st (running_at c w ms tied h is.memory is.running) in
+      ∙ ap (λ (o : Option (List beat_answers.Answered)). Running (hears_beside c h is.memory o k answer)) is.beats in
+      let run = running_at c w ms tied h is.memory is.running in
+      let marking : IsMarkingIf c w h is.memory is.memory.marking = subst (IsDoing c w ms h is.memory) is.rests run.doing in
+      let runs : IsRunning c w2 ms h new = running_by w2 h is.memory heard st
+      (λ other same. marking_as w2 h is.memory other is.memory.marking same (marking_kept c w w2 h (beat_marking h k call is (Called h k call answer left) answer step) is.memory run.below is.memory.marking marking)) run in
       record {
         more = [];
         tied = subst (λ (l : Moves). Tied c (next_world c w (Called h k call answer left)) l) (sym (append-nil ms))
@@ -191,6 +222,7 @@ module _ (c : Shape) (w : World) (ms : Moves) (tied : Tied c w ms) where
             let one : is.memory ≡ m = cc in
             let neither : None ≡ Some t = sym is.rests ∙ ap (λ (q : Memory). q.doing) one ∙ does in
             cc);
+        marks = beat_keeps h k call is (Called h k call answer left) answer step;
       }
 
   pub beat_torn_goes : (h k : ℕ) (call : Call) (left : List ℕ) (is : IsBeatCall c h k call (w.host h)) → Step (w.disk k) call (Fault Failed) (disk_step (w.disk k) (Called h k call (Fault Failed) left)) → Goes c w (Torn h k call left) ms
@@ -203,4 +235,5 @@ module _ (c : Shape) (w : World) (ms : Moves) (tied : Tied c w ms) where
         inputs = λ j v input. absurd (elim input [ inl puts ↦ puts | inr rest ↦ rest ]);
         host = λ g of. for_host (λ i. HostGoes c w (Torn h k call left) ms (Restart h ∷ []) i) h g of (stopped_goes c w (Torn h k call left) ms (Restart h ∷ []) h refl);
         carries = tt;
+        marks = beat_keeps h k call is (Torn h k call left) (Fault Failed) step;
       }

@@ -14,7 +14,7 @@ use Rattle.agreement.specs.Event.{Event}
 use Rattle.agreement.specs.Chosen.{IsInput}
 use Rattle.agreement.specs.Log.{events_of_slot, IsHistory}
 use Rattle.agreement.specs.Log.Move.{Restart}
-use Rattle.world_safety.specs.Goes.{IsTryingAt, HostGoes, Carries, Goes}
+use Rattle.world_safety.specs.Goes.{IsTryingAt, HostGoes, Carries, DecidesChosen, Goes}
 use Rattle.world_safety.specs.Next.{next_world}
 use Rattle.world_safety.specs.Tied.{Moves, machine, IsTrying, IsDoing, IsRunning, Tied}
 use Rattle.world_safety.proofs.Moves.Hearing.{IsPutIn, IsAnswerHeard, hears}
@@ -25,13 +25,13 @@ use Rattle.world_safety.proofs.Moves.Hosts.{Late, tied_with, but_stops, stops_le
 use Rattle.attempt_safety.proofs.Slotting.{events_append}
 use Rattle.world_safety.proofs.Moves.Machines.{input_append}
 use Rattle.world_safety.proofs.Moves.OneBlock.{with_disks}
-use Rattle.world_safety.proofs.Moves.Moving.{carries_later, for_host, late_goes, late_tied, stopped_goes, running_at}
+use Rattle.world_safety.proofs.Moves.Moving.{carries_later, chosen_later, for_host, late_goes, late_tied, stopped_goes, running_at}
 
 module _ (c : Shape) (w : World) (ms : Moves) (tied : Tied c w ms) where
   -- A DEVICE CALL
 
   module _ (h k : ℕ) (call : Call) (answer : Answer) (left : List ℕ) (next : next_of c h (w.host h) ≡ Some (k, call)) (step : Step (w.disk k) call answer (disk_step (w.disk k) (Called h k call answer left)))
-      (m : Memory) (t : Doing) (running : w.host h ≡ Running m) (does : m.doing ≡ Some t) where
+      (m : Memory) (t : Doing) (running : w.host h ≡ Running m) (does : m.doing ≡ Some t) (decides : DecidesChosen c w ms (Called h k call answer left)) where
     abbrev x : Answered
     x = record { disk = k; heard = heard_as answer }
 
@@ -60,7 +60,8 @@ module _ (c : Shape) (w : World) (ms : Moves) (tied : Tied c w ms) where
     new = by_status c m (record { operation = t.operation; tries = t.tries; heard = heard }) (taken s (on heard)) (status s (on heard))
 
     late : Late c w2 (ms ++ hears_it.early) h (Some (length m.learned)) new
-    late = answered_late c w2 (ms ++ hears_it.early) h m t heard hears_it.tied run.below trying.fits trying.input hears_it.learned hears_it.follows hears_it.knows hears_it.votes
+    late = answered_late c w2 (ms ++ hears_it.early) h m t heard hears_it.tied run.below trying.fits trying.input hears_it.learned hears_it.follows hears_it.knows hears_it.votes trying.alone
+        (λ v ended. chosen_later c.disks ms hears_it.early (length m.learned) v hears_it.tied.history (decides m t v running does ended))
 
     now : host_step c h (w.host h) (Called h k call answer left) ≡ Running new
     now = ap (λ (host : Host). host_step c h host (Called h k call answer left)) running ∙ ap (λ (o : Option Doing). Running (hears_from c h m o k answer)) does
@@ -109,6 +110,7 @@ module _ (c : Shape) (w : World) (ms : Moves) (tied : Tied c w ms) where
           host = λ g of. for_host (λ i. HostGoes c w (Called h k call answer left) ms (hears_it.early ++ late.late) i) h g of
               (late_goes c w w2 (Called h k call answer left) ms hears_it.early h (Some (length m.learned)) new late now was);
           carries = called_carries;
+          marks = hears_it.marks;
         }
 
   -- A TORN WRITE: its host stops within it
@@ -135,6 +137,7 @@ module _ (c : Shape) (w : World) (ms : Moves) (tied : Tied c w ms) where
           inputs = λ j v input. absurd (torn_input it.early it.quiet j v input);
           host = λ g of. for_host (λ i. HostGoes c w (Torn h k call left) ms (it.early ++ Restart h ∷ []) i) h g of (stopped_goes c w (Torn h k call left) ms (it.early ++ Restart h ∷ []) h refl);
           carries = tt;
+          marks = it.marks;
         }
 
   pub tears : (h k : ℕ) (call : Call) (left : List ℕ) → Tears call (w.disk k) (disk_step (w.disk k) (Torn h k call left)) → Step (w.disk k) call (Fault Failed) (disk_step (w.disk k) (Called h k call (Fault Failed) left))

@@ -1,15 +1,16 @@
 -- Some events of an attempt, which change its own block on the disk of a call as the answer tells: where all stands behind them.
 use Rattle.std.specs.Prelude.{nat_le, ◌&&◌}
-use Rattle.std.proofs.Common.{ℕ, ◌<◌, ◌≡◌, ◌≢◌, ◌==◌, Bool, false, cond, None, List, [], ◌∷◌, ◌++◌, length, refl, sym, subst, ap, ◌∙◌}
+use Rattle.std.proofs.Common.{ℕ, ◌<◌, ◌≡◌, ◌≢◌, ◌==◌, ◌⊎◌, inl, true, true≢false, Bool, false, cond, None, List, [], ◌∷◌, ◌++◌, length, refl, sym, subst, ap, ◌∙◌}
 use Rattle.std.proofs.lemmas.Bool.{eq-eqb}
 use Rattle.disk.specs.Disk.{DiskState, Call, Answer}
 use Rattle.torn_block.specs.declared.layout.TheConstants.{HOSTS, LAST_SEQUENCE}
 use Rattle.torn_block.specs.declared.write_steps.WriteCall.TheVariants.{CloseGate}
 use Rattle.paxos_block.specs.Places.{VoteOf, place_of, IsImage}
-use Rattle.attempt.specs.Calls.{Kind, Putting, start}
+use Rattle.paxos_block.specs.declared.block.PBlock.{PBlock}
+use Rattle.attempt.specs.Calls.{Phase, Opening, One, Two, Kind, Putting, start}
 use Rattle.attempt.specs.Answers.{Answers, on, heard_as, more, last_row, seen_block}
 use Rattle.attempt.specs.Setup.{Setup}
-use Rattle.attempt.specs.NextCall.{call_by}
+use Rattle.attempt.specs.NextCall.{says_for, call_by}
 use Rattle.attempt.proofs.Histories.{behind_due}
 use Rattle.attempt.proofs.Lists.{by_eq}
 use Rattle.slot_log.specs.Shape.{Shape}
@@ -35,9 +36,12 @@ use Rattle.world_safety.proofs.Moves.Due.{IsCall, Due}
 use Rattle.world_safety.proofs.Moves.Settling.{Ready}
 use Rattle.world_safety.proofs.Blocks.Keeping.{Spares, spares_others, spares_same, knows_elsewhere}
 use Rattle.world_safety.proofs.Moves.Machines.{machine_runs, machine_there}
-use Rattle.world_safety.proofs.Moves.OneBlock.{with_disks, IsOther, other_blocks, other_hosts, but_one}
-use Rattle.world_safety.proofs.Blocks.Owned.{After}
-use Rattle.world_safety.proofs.Blocks.Putting.{own_after}
+use Rattle.world_safety.proofs.Moves.OneBlock.{with_disks, IsOther, by_block, other_blocks, other_hosts, but_one}
+use Rattle.world_safety.specs.Marks.{AllSay, MaySayOn, HasLearned, KeepsMarks}
+use Rattle.world_safety.proofs.Blocks.Owned.{IsOwnCall, After}
+use Rattle.world_safety.proofs.Blocks.Putting.{CanBegin, own_after}
+use Rattle.world_safety.proofs.Blocks.Adding.{own_says}
+use Rattle.world_safety.proofs.Moves.Moving.{marks_by}
 
 module _ (c : Shape) (w : World) (ms : Moves) (h k : ℕ) (call : Call) (answer : Answer) (left : List ℕ) (m : Memory) (t : Doing) (now : IsCall c w ms h k call answer left m t) (known : Due c w ms h k call answer left m t now) where
   open now use {tied}
@@ -98,9 +102,9 @@ module _ (c : Shape) (w : World) (ms : Moves) (h k : ℕ) (call : Call) (answer 
     not_spent there =
         ap (λ (b : Bool). b && nat_le LAST_SEQUENCE (seen_block (last_row (f k)) h).sequence) (sym (eq-eqb (length (f k)) (start is.phase) (first_number is.phase (length (f k)) there))) ∙ waiting.unspent
 
-    own : After s k (more f k (heard_as answer)) new cell
-    own =
-        own_after c.slots s is.phase k f (w.disk k) new answer old cell (record {
+    own_call : IsOwnCall c.slots s is.phase k f (w.disk k) new old
+    own_call =
+        record {
           image = image;
           image_then = image_then;
           slot_below = trying.fits;
@@ -110,10 +114,29 @@ module _ (c : Shape) (w : World) (ms : Moves) (h k : ℕ) (call : Call) (answer 
           come = waiting.part.come;
           stands = r.tied.stands slot h k trying.fits run.below;
           knows = r.trying.knows k;
-        })
-        is.kind phase_is
-        (λ there. record { may = (may CloseGate there).may_say; full = (may CloseGate there).fills; unspent = not_spent there; rests = nothing_written there })
-        is.kind_is is.fits (its.block is.kind is.kind_is) step_by
+        }
+
+    can_begin : IsNext (f k) (Putting is.phase CloseGate) → CanBegin c.slots s is.phase k f (w.disk k) new answer old cell own_call
+    can_begin there = record { may = (may CloseGate there).may_say; full = (may CloseGate there).fills; unspent = not_spent there; rests = nothing_written there }
+
+    own : After s k (more f k (heard_as answer)) new cell
+    own = own_after c.slots s is.phase k f (w.disk k) new answer old cell own_call is.kind phase_is can_begin is.kind_is is.fits (its.block is.kind is.kind_is) step_by
+
+    -- what is written has no mark
+    unmarked : (p : Phase) → (says_for s p f).mark ≡ false
+    unmarked Opening = refl
+    unmarked One = refl
+    unmarked Two = refl
+
+    abbrev IsKept : ℕ → ℕ → ℕ → PBlock → Type 0
+    IsKept j g d says = says.mark ≡ true → MaySayOn (place_of (VoteOf j g)) (w.disk d) says ⊎ HasLearned w g j says
+
+    own_kept : AllSay (IsKept slot h k) (place_of (VoteOf slot h)) new
+    own_kept =
+        own_says c.slots s is.phase k f (w.disk k) new answer old cell own_call (IsKept slot h k)
+        (λ marked. absurd (true≢false (sym marked ∙ unmarked is.phase)))
+        (λ bytes left marked. inl (bytes, left, refl))
+        is.kind phase_is can_begin is.kind_is step_by
 
     differ : (j g d : ℕ) → IsOther slot h k j g d → d ≡ k → VoteOf slot h ≢ VoteOf j g
     differ j g d other same equal = other (let a : slot ≡ j = cc in sym a) (let b : h ≡ g = cc in sym b) same
@@ -124,6 +147,13 @@ module _ (c : Shape) (w : World) (ms : Moves) (h k : ℕ) (call : Call) (answer 
         (λ other. spares_others c.slots (VoteOf slot h) (VoteOf j g) (w.disk k) new (call_by s k f is.kind) answer (trying.fits, run.below) (j_below, g_below) (differ j g k other refl) image inside step_by)
         (λ i off other. spares_same (place_of (VoteOf j g)) (w.disk i))
         d
+
+    -- no block is marked by it
+    pub marks_then : KeepsMarks c w (with_disks w disks)
+    marks_then =
+        by_block slot h k (λ j g d. j < c.slots → g < HOSTS → AllSay (IsKept j g d) (place_of (VoteOf j g)) (disks d))
+        (λ slot_below host_below. at_disk (λ d disk. d ≡ k → AllSay (IsKept slot h d) (place_of (VoteOf slot h)) disk) (λ same. own_kept) (λ d off same. absurd (off same)) k refl)
+        (λ j g d other j_below g_below. marks_by w j g (w.disk d) (disks d) (spared j g d j_below g_below other).outcomes)
 
     -- the machines have come to where the disks and the other hosts stand
     pub but_then : TiedBut c (with_disks w disks) ms2 h

@@ -28,11 +28,16 @@ use Rattle.world_safety.specs.Goes.{Goes}
 use Rattle.world_safety.specs.Knows.{Knows}
 use Rattle.world_safety.specs.Next.{next_world}
 use Rattle.world_safety.specs.Tied.{Moves, machine, Tied}
-use Rattle.world_safety.proofs.Moves.Hosts.{SameHosts, KeepsKnown, host_kept, same_host, host_by}
+use Rattle.world_safety.proofs.Moves.Hosts.{SameHosts, KeepsKnown, KeepsMarking, host_kept, same_host, host_by}
+use Rattle.torn_block.proofs.RegisterLaws.{rests_crashed}
+use Rattle.paxos_block.proofs.Outcomes.{Outcomes, same_outcomes}
+use Rattle.world_safety.specs.Marking.{KnowsMark}
+use Rattle.world_safety.proofs.Blocks.Marked.{mark_spared, mark_crashed}
+use Rattle.world_safety.proofs.Moves.Moving.{marks_by}
 use Rattle.world_safety.proofs.Blocks.Keeping.{Spares, spares_same, spares_lost, knows_spared, knows_crashed}
 use Rattle.world_safety.proofs.Moves.Machines.{machine_is, machine_crash, history_more, learned_more}
 use Rattle.world_safety.proofs.Moves.OneBlock.{with_disks}
-use Rattle.world_safety.proofs.Blocks.Standing.{cell_reads, stands_same, stands_crashed, stands_lost}
+use Rattle.world_safety.proofs.Blocks.Standing.{stands_same, stands_crashed, stands_lost}
 
 module _ (c : Shape) (w : World) (ms : Moves) (tied : Tied c w ms) where
   -- A DISK CRASHES
@@ -68,7 +73,7 @@ module _ (c : Shape) (w : World) (ms : Moves) (tied : Tied c w ms) where
         go true both =
             let parts = and_parts (nat_lt j c.slots) (nat_lt g HOSTS) both in
             let stands = tied.stands j g k (ltb-true j c.slots parts.0) (ltb-true g HOSTS parts.1) in
-            cell_reads (w.disk k) j g ((machine ms j).cell g k) stands (value_left j g) (stands.holds left crash.bytes)
+            stands.reads left crash.bytes
         go false both = inl refl
 
     abbrev crash_move : Move (List ℕ)
@@ -90,11 +95,17 @@ module _ (c : Shape) (w : World) (ms : Moves) (tied : Tied c w ms) where
     crash_stands j g slot below =
         stands_crashed (w.disk k) crashed j g ((machine ms j).cell g k) ((machine behind j).cell g k) crash (tied.stands j g k slot below)
         (ap (λ (cell : Cell (List ℕ)). cell.confirmed) (cell_here j g) ∙ left_is j g slot below)
-        (ap (λ (cell : Cell (List ℕ)). cell.writing) (cell_here j g))
 
     image_crashed : IsImage c.slots crashed
     image_crashed =
         record { whole = length-replicate (length (w.disk k).bytes) false ∙ sym crash.bytes.as_many; long = crash.bytes.as_many ∙ (tied.images k).long }
+
+    -- what a crash left, it might have left before
+    outcomes_then : (place d : ℕ) → Outcomes (w.disk d) place (crash_disks d)
+    outcomes_then place d = at_crash (λ i disk. Outcomes (w.disk i) place disk) (λ bytes may. (left, crash.bytes, rests_crashed place (w.disk k) crashed crash bytes may)) (λ i off. same_outcomes (w.disk i) (w.disk i) place refl) d
+
+    marking_then : (g : ℕ) → KeepsMarking c w (with_disks w crash_disks) g
+    marking_then g s a d is_host slot_below below known = at_crash (λ i disk. KnowsMark (w.disk i) s a → KnowsMark disk s a) (mark_crashed s a (w.disk k) crashed crash) (λ i off now. now) d known
 
     same_then : (g : ℕ) → SameHosts ms behind g
     same_then g j = host_by g (machine ms j) (machine behind j) (after (machine ms j) (CrashesAt k (blocks_left j))) (machine_crash ms k blocks_left j) (by_crashing g k (blocks_left j) (machine ms j))
@@ -118,11 +129,12 @@ module _ (c : Shape) (w : World) (ms : Moves) (tied : Tied c w ms) where
                 at_crash (λ i disk. Stands disk j g ((machine behind j).cell g i)) (crash_stands j g slot below)
                 (λ i off. stands_same (w.disk i) j g ((machine ms j).cell g i) ((machine behind j).cell g i) (block_by ((machine ms j).cell g i) ((machine behind j).cell g i) (cell_there j g i off)) (tied.stands j g i slot below))
                 d;
-            hosts = λ g. host_kept c w (with_disks w crash_disks) ms behind g (same_then g) (ap (λ (l : ℕ → List (List ℕ)). l g) (learned_more ms crash_move)) (keeps_then g) (w.host g) (tied.hosts g);
+            hosts = λ g. host_kept c w (with_disks w crash_disks) ms behind g (same_then g) (ap (λ (l : ℕ → List (List ℕ)). l g) (learned_more ms crash_move)) (keeps_then g) (marking_then g) (w.host g) (tied.hosts g);
           };
           inputs = λ j v input. absurd (elim input [ inl puts ↦ puts | inr rest ↦ rest ]);
           host = λ g of. absurd (cc);
           carries = tt;
+          marks = λ slot host d slot_below below. marks_by w slot host (w.disk d) (crash_disks d) (outcomes_then (place_of (VoteOf slot host)) d);
         }
 
   -- A DISK IS LOST
@@ -140,6 +152,13 @@ module _ (c : Shape) (w : World) (ms : Moves) (tied : Tied c w ms) where
         (at_lost (λ i disk. Spares (place_of (VoteOf (length m.learned) g)) (w.disk i) disk) (λ i. spares_lost (place_of (VoteOf (length m.learned) g)) (w.disk i)) (λ i. spares_same (place_of (VoteOf (length m.learned) g)) (w.disk i)) d)
         (block_same ((machine ms (length m.learned)).cell g d)) known
 
+    lost_spares : (place d : ℕ) → Spares place (w.disk d) (lost_disks d)
+    lost_spares place d = at_lost (λ i disk. Spares place (w.disk i) disk) (λ i. spares_lost place (w.disk i)) (λ i. spares_same place (w.disk i)) d
+
+    lost_marking : (g : ℕ) → KeepsMarking c w (with_disks w lost_disks) g
+    lost_marking g s a d is_host slot_below below known =
+        mark_spared c.slots s a (w.disk d) (lost_disks d) (tied.images d) slot_below (subst (λ (j : ℕ). j < HOSTS) (sym is_host) below) (lost_spares (place_of (VoteOf s.slot s.host)) d) known
+
     lost_tied : Tied c (next_world c w (Lost k)) ms
     lost_tied =
         record {
@@ -147,7 +166,7 @@ module _ (c : Shape) (w : World) (ms : Moves) (tied : Tied c w ms) where
           images = at_lost (λ d disk. IsImage c.slots disk) (λ d. record { whole = (tied.images d).whole; long = (tied.images d).long }) tied.images;
           stands = λ j g d slot below.
               at_lost (λ i disk. Stands disk j g ((machine ms j).cell g i)) (λ i. stands_lost (w.disk i) j g ((machine ms j).cell g i) (tied.stands j g i slot below)) (λ i. tied.stands j g i slot below) d;
-          hosts = λ g. host_kept c w (with_disks w lost_disks) ms ms g (λ j. same_host g (machine ms j)) refl (lost_keeps g) (w.host g) (tied.hosts g);
+          hosts = λ g. host_kept c w (with_disks w lost_disks) ms ms g (λ j. same_host g (machine ms j)) refl (lost_keeps g) (lost_marking g) (w.host g) (tied.hosts g);
         }
 
     pub lost_goes : Goes c w (Lost k) ms
@@ -158,4 +177,5 @@ module _ (c : Shape) (w : World) (ms : Moves) (tied : Tied c w ms) where
           inputs = λ j v input. absurd input;
           host = λ g of. absurd (cc);
           carries = tt;
+          marks = λ slot host d slot_below below. marks_by w slot host (w.disk d) (lost_disks d) (lost_spares (place_of (VoteOf slot host)) d).outcomes;
         }

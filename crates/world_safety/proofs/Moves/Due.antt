@@ -23,7 +23,8 @@ use Rattle.attempt.proofs.Visitors.{IsWaiting, waiting_is}
 use Rattle.beats.specs.Answers as beat_answers
 use Rattle.beats.specs.Status as beat
 use Rattle.slot_log.specs.Shape.{Shape}
-use Rattle.host.specs.Host.{Doing, Memory, Host, Stopped, Running, setup_of, beat_of, next_beat, next_doing, next_of}
+use Rattle.host.specs.Host.{Doing, Memory, Host, Stopped, Running, setup_of, beat_of, Marking, marking_of, next_marking, next_beside, next_doing, next_of}
+use Rattle.marks.specs.Status as mark
 use Rattle.world.specs.Entry.{Called, disk_step}
 use Rattle.world.specs.World.{World}
 use Rattle.world.proofs.Histories.{step_fits}
@@ -54,16 +55,30 @@ pub record IsBeatCall (c : Shape) (h k : ℕ) (call : Call) (host : Host) : Type
   pub beats : memory.beats.heard ≡ Some heard
   pub due : beat.next_call (beat_of c h) (beat_answers.on heard) ≡ Some (k, call)
 
-pub busy : (c : Shape) (h k : ℕ) (call : Call) (host : Host) → next_of c h host ≡ Some (k, call) → Attempts host ⊎ IsBeatCall c h k call host
+-- or neither, but marks a slot, and this call is next of the marking
+pub record IsMarkCall (c : Shape) (h k : ℕ) (call : Call) (host : Host) : Type 0 where
+  pub memory : Memory
+  pub running : host ≡ Running memory
+  pub rests : memory.doing ≡ None
+  pub beats : memory.beats.heard ≡ None
+  pub marking : Marking
+  pub marks : memory.marking ≡ Some marking
+  pub due : mark.next_call (marking_of c h memory marking.slot) (on marking.heard) ≡ Some (k, call)
+
+pub busy : (c : Shape) (h k : ℕ) (call : Call) (host : Host) → next_of c h host ≡ Some (k, call) → Attempts host ⊎ (IsBeatCall c h k call host ⊎ IsMarkCall c h k call host)
 busy c h k call Stopped next = absurd (cc)
 busy c h k call (Running m) next = go m.doing refl next
   where
-    beats_by : (o : Option (List beat_answers.Answered)) → m.doing ≡ None → m.beats.heard ≡ o → next_beat c h o ≡ Some (k, call) → IsBeatCall c h k call (Running m)
-    beats_by None none heard due = absurd (cc)
-    beats_by (Some heard) none beats due = record { memory = m; running = refl; rests = none; heard = heard; beats = beats; due = due }
+    marks_by : (o : Option Marking) → m.doing ≡ None → m.beats.heard ≡ None → m.marking ≡ o → next_marking c h m o ≡ Some (k, call) → IsMarkCall c h k call (Running m)
+    marks_by None none calm marks due = absurd (cc)
+    marks_by (Some t) none calm marks due = record { memory = m; running = refl; rests = none; beats = calm; marking = t; marks = marks; due = due }
 
-    go : (o : Option Doing) → m.doing ≡ o → next_doing c h m o ≡ Some (k, call) → Attempts (Running m) ⊎ IsBeatCall c h k call (Running m)
-    go None does due = inr (beats_by m.beats.heard does refl due)
+    beside : (o : Option (List beat_answers.Answered)) → m.doing ≡ None → m.beats.heard ≡ o → next_beside c h m o ≡ Some (k, call) → IsBeatCall c h k call (Running m) ⊎ IsMarkCall c h k call (Running m)
+    beside None none beats due = inr (marks_by m.marking none beats refl due)
+    beside (Some heard) none beats due = inl (record { memory = m; running = refl; rests = none; heard = heard; beats = beats; due = due })
+
+    go : (o : Option Doing) → m.doing ≡ o → next_doing c h m o ≡ Some (k, call) → Attempts (Running m) ⊎ (IsBeatCall c h k call (Running m) ⊎ IsMarkCall c h k call (Running m))
+    go None does due = inr (beside m.beats.heard does refl due)
     go (Some t) does due = inl (record { memory = m; doing = t; running = refl; does = does })
 
 -- A device call of a host that tries a slot is its next, and with the answer the disk makes a step.

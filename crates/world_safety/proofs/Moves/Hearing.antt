@@ -26,11 +26,12 @@ use Rattle.attempt_safety.proofs.Following.{leads}
 use Rattle.attempt_safety.proofs.Slotting.{events_append, moves_on, events_here, learned_same}
 use Rattle.world_safety.specs.Goes.{Carries}
 use Rattle.world_safety.specs.Knows.{Knows}
+use Rattle.world_safety.specs.Marks.{KeepsMarks}
 use Rattle.world_safety.specs.Tied.{Moves, machine, TiedBut}
 use Rattle.attempt.specs.Votes.{TellsVotes}
 use Rattle.world_safety.proofs.Moves.Due.{IsCall, Due, due_of}
 use Rattle.world_safety.proofs.Moves.Settling.{Ready, ready}
-use Rattle.world_safety.proofs.Moves.Changing.{Changes, but_then, known_then}
+use Rattle.world_safety.proofs.Moves.Changing.{Changes, but_then, known_then, marks_then}
 use Rattle.world_safety.proofs.Moves.Machines.{machine_runs, input_append, input_in, slot_in}
 use Rattle.world_safety.proofs.Moves.OneBlock.{with_disks}
 use Rattle.attempt.proofs.Votes.{votes_more}
@@ -51,6 +52,7 @@ pub record IsAnswerHeard (c : Shape) (w w' : World) (ms : Moves) (h : ℕ) (m : 
   pub votes : (d : ℕ) → TellsVotes (on heard d)
   pub inputs : (j : ℕ) (v : List ℕ) → IsInput (events_of_slot j early) v → IsPutIn (setup_of c h m t.operation) heard j v
   pub carries : Carries (machine (ms ++ early) (length m.learned)) (setup_of c h m t.operation) (on heard)
+  pub marks : KeepsMarks c w w'
 
 module _ (c : Shape) (w : World) (ms : Moves) (h k : ℕ) (call : Call) (answer : Answer) (left : List ℕ) (m : Memory) (t : Doing) (now : IsCall c w ms h k call answer left m t) (known : Due c w ms h k call answer left m t now) where
   open now use {tied, step}
@@ -139,6 +141,7 @@ module _ (c : Shape) (w : World) (ms : Moves) (h k : ℕ) (call : Call) (answer 
             proposed = λ v proposes. proposed_by s (events_of_slot slot ms1) t.heard x v lead proposes;
             chosen = λ v chooses. chosen_by s (events_of_slot slot ms1) t.heard x v lead chooses;
           }));
+          marks = marks_then c w ms h k call answer left m t now known r lead.events changes;
         }
 
 -- each answer is a few events of the attempt

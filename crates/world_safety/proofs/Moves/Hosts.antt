@@ -5,7 +5,7 @@ use Rattle.std.proofs.lemmas.Bool.{cases_eq, ltb-true, ltb-false}
 use Rattle.std.proofs.lemmas.List.{length-map, map-append}
 use Rattle.torn_block.specs.declared.layout.TheConstants.{HOSTS}
 use Rattle.paxos_block.specs.Places.{IsImage}
-use Rattle.attempt.specs.Answers.{Answers, on}
+use Rattle.attempt.specs.Answers.{Heard, Answers, on}
 use Rattle.attempt.specs.Calls.{Kind, Attaching}
 use Rattle.attempt.proofs.Lists.{by_eq}
 use Rattle.lock_command.specs.declared.command.Command.{Command}
@@ -13,11 +13,12 @@ use Rattle.lock_command.specs.Command.{spelling}
 use Rattle.slot_log.specs.Shape.{Shape}
 use Rattle.host.specs.declared.answer.HostAnswer.{HostAnswer}
 use Rattle.host.specs.declared.answer.HostAnswer.TheVariants.{Recovered}
-use Rattle.host.specs.Host.{Operation, Doing, Memory, Host, Stopped, Running, input_of, setup_of, says, begins, full_answer, goes_on}
+use Rattle.marks.specs.Status as mark
+use Rattle.host.specs.Host.{Marking, marking_of, Operation, Submitting, Recovering, Looking, Doing, Memory, Host, Stopped, Running, input_of, setup_of, says, begins, full_answer, spent_answer, goes_on}
 use Rattle.world.specs.World.{World}
 use Rattle.agreement.specs.Event.{Event, after, state_after}
 use Rattle.agreement.specs.Event.Event.{Starts, Stops}
-use Rattle.agreement.specs.Chosen.{IsInput, IsCommitted, IsEmpty}
+use Rattle.agreement.specs.Chosen.{IsInput, IsChosenBy, IsEmpty}
 use Rattle.agreement.specs.Log.{moved, IsHistory, slots_after, events_of_slot}
 use Rattle.agreement.specs.Log.Move.{At, Learn, Restart}
 use Rattle.agreement.proofs.Puts.{put_same, put_other}
@@ -30,6 +31,7 @@ use Rattle.attempt_safety.proofs.Leaving.{follows_same, by_stopping, by_starting
 use Rattle.attempt_safety.proofs.Slotting.{events_here, learned_same}
 use Rattle.world_safety.specs.Goes.{Has}
 use Rattle.world_safety.specs.Knows.{Knows, KnowsFor}
+use Rattle.world_safety.specs.Marking.{KnowsMark, IsMarkingIf}
 use Rattle.world_safety.specs.Next.{with_host}
 use Rattle.world_safety.specs.Tied.{Moves, machine, IsTrying, IsDoing, IsRunning, HostAt, TiedBut, Tied}
 use Rattle.attempt.specs.Votes.{IsLong}
@@ -51,9 +53,24 @@ KeepsKnown c w w' ms ms' g =
     → Knows (w.disk d) (setup_of c g m operation) f d ((machine ms (length m.learned)).cell g d)
     → Knows (w'.disk d) (setup_of c g m operation) f d ((machine ms' (length m.learned)).cell g d)
 
-module _ (c : Shape) (w w' : World) (ms ms' : Moves) (g : ℕ) (same : SameHosts ms ms' g) (learned : (slots_after ms').learned g ≡ (slots_after ms).learned g) (keeps : KeepsKnown c w w' ms ms' g) where
+-- and what its marking knows
+abbrev pub KeepsMarking : Shape → World → World → ℕ → Type 0
+KeepsMarking c w w' g = (s : mark.Setup) (a : List Heard) (d : ℕ) → s.host ≡ g → s.slot < c.slots → g < HOSTS → KnowsMark (w.disk d) s a → KnowsMark (w'.disk d) s a
+
+pub marking_kept : (c : Shape) (w w' : World) (g : ℕ) → KeepsMarking c w w' g → (m : Memory) → g < HOSTS → (o : Option Marking) → IsMarkingIf c w g m o → IsMarkingIf c w' g m o
+marking_kept c w w' g keeps m below None is = tt
+marking_kept c w w' g keeps m below (Some t) is =
+    record { learned = is.learned; fits = is.fits; knows = λ d. keeps (marking_of c g m t.slot) (on t.heard d) d refl is.fits below (is.knows d); votes = is.votes }
+
+-- without a ballot no operation has recovered
+pub spent_recovers : (operation : Operation) (learned n : ℕ) → spent_answer operation learned ≡ Recovered n → ⊥
+spent_recovers (Submitting command) learned n is = absurd (cc)
+spent_recovers Recovering learned n is = absurd (cc)
+spent_recovers Looking learned n is = absurd (cc)
+
+module _ (c : Shape) (w w' : World) (ms ms' : Moves) (g : ℕ) (same : SameHosts ms ms' g) (learned : (slots_after ms').learned g ≡ (slots_after ms).learned g) (keeps : KeepsKnown c w w' ms ms' g) (marking : KeepsMarking c w w' g) where
   doing_kept : (m : Memory) → g < HOSTS → (o : Option Doing) → IsDoing c w ms g m o → IsDoing c w' ms' g m o
-  doing_kept m below None is = tt
+  doing_kept m below None is = marking_kept c w w' g marking m below m.marking is
   doing_kept m below (Some t) is =
       record {
         fits = is.fits;
@@ -61,6 +78,7 @@ module _ (c : Shape) (w w' : World) (ms ms' : Moves) (g : ℕ) (same : SameHosts
         knows = λ d. keeps m t.operation (on t.heard) d is.fits below (is.knows d);
         votes = is.votes;
         input = is.input;
+        alone = is.alone;
       }
 
   pub host_kept : (host : Host) → HostAt c w ms g host → HostAt c w' ms' g host
@@ -86,7 +104,7 @@ but_moves c w ms ms' h is history blocks hosts learned =
       history = history;
       images = is.images;
       stands = λ slot g d slot_below below. stands_same (w.disk d) slot g ((machine ms slot).cell g d) ((machine ms' slot).cell g d) (blocks slot g d) (is.stands slot g d slot_below below);
-      others = λ g off. host_kept c w w ms ms' g (hosts g off) (learned g off) (keeps_known c w ms ms' is.images blocks g) (w.host g) (is.others g off);
+      others = λ g off. host_kept c w w ms ms' g (hosts g off) (learned g off) (keeps_known c w ms ms' is.images blocks g) (λ s a d host fits below known. known) (w.host g) (is.others g off);
     }
 
 pub same_host : (g : ℕ) (m : Machine) → IsSameHost g m m
@@ -121,9 +139,9 @@ module _ (c : Shape) (w : World) (ms : Moves) (h n : ℕ) where
 first_kind : (kind : Kind) (P : Kind → Type 0) → Some Attaching ≡ Some kind → P Attaching → P kind
 first_kind kind P is p = let same : Attaching ≡ kind = cc in subst P same p
 
-pub begins_trying : (c : Shape) (w : World) (ms : Moves) (h : ℕ) (m : Memory) (operation : Operation) (tries : ℕ) → length m.learned < c.slots → IsLong (input_of operation)
+pub begins_trying : (c : Shape) (w : World) (ms : Moves) (h : ℕ) (m : Memory) (operation : Operation) (tries : ℕ) → length m.learned < c.slots → IsLong (input_of operation) → m.marking ≡ None
     → IsTrying c w (ms ++ At (length m.learned) (Starts h) ∷ []) h (begins m operation tries) (record { operation = operation; tries = tries; heard = [] })
-begins_trying c w ms h m operation tries fits long =
+begins_trying c w ms h m operation tries fits long alone =
     let s = setup_of c h m operation in
     record {
       fits = fits;
@@ -131,6 +149,7 @@ begins_trying c w ms h m operation tries fits long =
       knows = λ d. record { boot = omega arith; next = λ current kind is. first_kind kind (λ k. KnowsFor k (w.disk d) s (on []) d ((machine (ms ++ At (length m.learned) (Starts h) ∷ []) (length m.learned)).cell h d)) is tt };
       votes = λ d. votes_none;
       input = long;
+      alone = alone;
     }
 
 -- WHAT A HOST'S MOVES ARE
@@ -150,16 +169,20 @@ pub record Late (c : Shape) (w : World) (ms : Moves) (h : ℕ) (trying : Option 
   pub begun : (t : Doing) → m.doing ≡ Some t → (trying ≡ Some (length m.learned)) ⊎ Has late (At (length m.learned) (Starts h))
   pub empty : (n : ℕ) → m.said ≡ Some (Recovered n) → (c.slots ≤ length m.learned) ⊎ FoundEmpty c (ms ++ late) h trying (length m.learned)
 
-module _ (c : Shape) (w : World) (ms : Moves) (h : ℕ) (m : Memory) (tied : TiedBut c w ms h) (below : h < HOSTS) (learned : (slots_after ms).learned h ≡ map spelling m.learned) (trying : Option ℕ) where
+module _ (c : Shape) (w : World) (ms : Moves) (h : ℕ) (m : Memory) (tied : TiedBut c w ms h) (below : h < HOSTS) (learned : (slots_after ms).learned h ≡ map spelling m.learned) (alone : m.marking ≡ None) (trying : Option ℕ) where
+  -- it marks nothing
+  rests_then : (said : HostAnswer) (floor : ℕ) → IsMarkingIf c w h (record { learned = m.learned; floor = floor; doing = None; said = Some said; beats = m.beats; marking = m.marking }) m.marking
+  rests_then said floor = subst (IsMarkingIf c w h (record { learned = m.learned; floor = floor; doing = None; said = Some said; beats = m.beats; marking = m.marking })) (sym alone) tt
+
   -- it says something, and is idle
   pub says_late : (said : HostAnswer) (floor : ℕ) → ((n : ℕ) → said ≡ Recovered n → (c.slots ≤ length m.learned) ⊎ FoundEmpty c ms h trying (length m.learned))
-      → Late c w ms h trying (record { learned = m.learned; floor = floor; doing = None; said = Some said; beats = m.beats })
+      → Late c w ms h trying (record { learned = m.learned; floor = floor; doing = None; said = Some said; beats = m.beats; marking = m.marking })
   says_late said floor empty =
       let none = sym (append-nil ms) in
       record {
         late = [];
         tied = subst (λ (l : Moves). TiedBut c w l h) none tied;
-        running = subst (λ (l : Moves). IsRunning c w l h (record { learned = m.learned; floor = floor; doing = None; said = Some said; beats = m.beats })) none (record { below = below; learned = learned; doing = tt });
+        running = subst (λ (l : Moves). IsRunning c w l h (record { learned = m.learned; floor = floor; doing = None; said = Some said; beats = m.beats; marking = m.marking })) none (record { below = below; learned = learned; doing = rests_then said floor });
         quiet = λ k v input. input;
         begun = λ t is. absurd (cc);
         empty = λ n is. subst (λ (l : Moves). (c.slots ≤ length m.learned) ⊎ FoundEmpty c l h trying (length m.learned)) none (empty n (let same : said ≡ Recovered n = cc in same));
@@ -181,7 +204,7 @@ module _ (c : Shape) (w : World) (ms : Moves) (h : ℕ) (m : Memory) (tied : Tie
         running = record {
           below = below;
           learned = ap (λ (l : ℕ → List (List ℕ)). l h) (learned_same (length m.learned) ms (Starts h ∷ [])) ∙ learned;
-          doing = begins_trying c w ms h m operation tries fits long;
+          doing = begins_trying c w ms h m operation tries fits long alone;
         };
         quiet = no_input (length m.learned);
         begun = λ t is. inr ([], [], refl);
@@ -199,7 +222,7 @@ module _ (c : Shape) (w : World) (ms : Moves) (h : ℕ) (m : Memory) (tied : Tie
 -- A VALUE IS LEARNED
 
 module _ (c : Shape) (w : World) (ms : Moves) (h : ℕ) (m : Memory) (tied : TiedBut c w ms h) (learned : (slots_after ms).learned h ≡ map spelling m.learned) (ballot : ℕ) (value : List ℕ) (command : Command) (spelled : value ≡ spelling command)
-    (committed : IsCommitted c.disks (machine ms (length m.learned)) h ballot value) where
+    (chosen : IsChosenBy c.disks (machine ms (length m.learned)) ballot value) where
   abbrev pub taught : Moves
   taught = ms ++ Learn h (length m.learned) ballot value ∷ []
 
@@ -212,7 +235,7 @@ module _ (c : Shape) (w : World) (ms : Moves) (h : ℕ) (m : Memory) (tied : Tie
   pub but_learns : TiedBut c w taught h
   but_learns =
       but_moves c w ms taught h tied
-      (history_more c.disks ms (Learn h (length m.learned) ballot value) tied.history (behind, subst (λ (n : Machine). IsCommitted c.disks n h ballot value) (sym (machine_is ms (length m.learned))) committed))
+      (history_more c.disks ms (Learn h (length m.learned) ballot value) tied.history (behind, subst (λ (n : Machine). IsChosenBy c.disks n ballot value) (sym (machine_is ms (length m.learned))) chosen))
       (λ k g d. blocks_by g d (machine ms k) (machine taught k) (machine ms k) (machine_learn ms h (length m.learned) ballot value k) (block_same ((machine ms k).cell g d)))
       (λ g off k. host_by g (machine ms k) (machine taught k) (machine ms k) (machine_learn ms h (length m.learned) ballot value k) (same_host g (machine ms k)))
       (λ g off. ap (λ (l : ℕ → List (List ℕ)). l g) learned_now ∙ put_other (slots_after ms).learned h _ g off)
@@ -248,7 +271,7 @@ tied_but c w ms h is = record { history = is.history; images = is.images; stands
 
 -- a host stands as well where only another has changed
 pub in_with : (c : Shape) (w : World) (ms : Moves) (h g : ℕ) (becomes : ℕ → Host) (host : Host) → HostAt c w ms g host → HostAt c (with_host w h becomes) ms g host
-in_with c w ms h g becomes host at = host_kept c w (with_host w h becomes) ms ms g (λ k. same_host g (machine ms k)) refl (λ m operation f d fits below known. known) host at
+in_with c w ms h g becomes host at = host_kept c w (with_host w h becomes) ms ms g (λ k. same_host g (machine ms k)) refl (λ m operation f d fits below known. known) (λ s a d host fits below known. known) host at
 
 -- the one host has come to where it stands
 pub tied_with : (c : Shape) (w : World) (ms : Moves) (h : ℕ) (becomes : ℕ → Host) → TiedBut c w ms h → HostAt c w ms h (becomes h) → Tied c (with_host w h becomes) ms

@@ -1,12 +1,19 @@
 -- What the moves of an entry tell of its host, and that what is chosen stays so.
-use Rattle.std.proofs.Common.{ℕ, ◌≤◌, ◌≡◌, ◌==◌, ◌⊎◌, inl, inr, true, Option, Some, List, ◌∷◌, ◌++◌, length, append_assoc, sym, subst, ap, ◌∙◌}
-use Rattle.std.proofs.lemmas.Bool.{eqb-true}
+use Rattle.std.proofs.Common.{ℕ, ◌≤◌, ◌≡◌, ◌==◌, ◌⊎◌, inl, inr, Bool, true, false, not, cond, is_some, Option, Some, None, List, ◌∷◌, ◌++◌, length, append_assoc, refl, sym, subst, ap, ◌∙◌}
+use Rattle.std.specs.Prelude.{IsTrue}
+use Rattle.std.proofs.lemmas.Bool.{eqb-true, and_parts}
+use Rattle.disk.specs.Disk.{DiskState}
+use Rattle.torn_block.specs.Block.{value_of}
+use Rattle.paxos_block.specs.Places.{VoteOf, place_of}
+use Rattle.paxos_block.specs.Row.{says_of}
+use Rattle.paxos_block.proofs.Outcomes.{Outcomes}
 use Rattle.attempt.specs.Answers.{Answers}
 use Rattle.attempt.specs.Proposal.{ballot}
 use Rattle.attempt.specs.Setup.{Setup}
 use Rattle.slot_log.specs.Shape.{Shape}
-use Rattle.host.specs.Host.{Doing, Memory, Host, Stopped, Running}
-use Rattle.world.specs.Entry.{Filled, host_step}
+use Rattle.beats.specs.Answers as beat_answers
+use Rattle.host.specs.Host.{Doing, Marking, Memory, Host, Stopped, Running, rests, is_idle_in, is_idle}
+use Rattle.world.specs.Entry.{Filled, is_on, disk_step, host_step}
 use Rattle.world.specs.World.{World}
 use Rattle.agreement.specs.Event.{Event, IsRun, state_after}
 use Rattle.agreement.specs.Event.Event.{Starts}
@@ -16,7 +23,8 @@ use Rattle.agreement.specs.Log.Move.{At}
 use Rattle.agreement.proofs.Growing.{proposed_stays, chosen_stays}
 use Rattle.agreement.proofs.Runs.{places}
 use Rattle.world_safety.specs.Goes.{Has, IsTryingAt, HostGoes, Carries}
-use Rattle.world_safety.specs.Next.{with_host}
+use Rattle.world_safety.specs.Marks.{AllSay, MaySayOn, HasLearned, KeepsMarks}
+use Rattle.world_safety.specs.Next.{next_world, with_host}
 use Rattle.world_safety.specs.Tied.{Moves, machine, IsRunning, HostAt, Tied}
 use Rattle.world_safety.proofs.Moves.Hosts.{Late, tied_with}
 use Rattle.attempt_safety.proofs.Slotting.{events_append}
@@ -98,3 +106,41 @@ stopped_goes c w e ms more h is =
 module _ (c : Shape) (w : World) (ms : Moves) (tied : Tied c w ms) where
   pub running_at : (h : ℕ) (m : Memory) → w.host h ≡ Running m → IsRunning c w ms h m
   running_at h m is = subst (HostAt c w ms h) is (tied.hosts h)
+
+-- AN IDLE HOST
+
+pub record IsIdle (m : Memory) : Type 0 where
+  pub tries : m.doing ≡ None
+  pub beats : m.beats.heard ≡ None
+  pub marks : m.marking ≡ None
+
+rests_none : (o : Option (List beat_answers.Answered)) → rests o ≡ true → o ≡ None
+rests_none None is = refl
+rests_none (Some heard) is = absurd (cc)
+
+none_some : (o : Option Marking) → not (is_some o) ≡ true → o ≡ None
+none_some None is = refl
+none_some (Some t) is = absurd (cc)
+
+pub idle_is : (m : Memory) → IsTrue (is_idle m) → IsIdle m
+idle_is m idle = go m.doing refl idle
+  where
+    go : (o : Option Doing) → m.doing ≡ o → IsTrue (is_idle_in m o) → IsIdle m
+    go None does idle =
+        let parts = and_parts (rests m.beats.heard) (not (is_some m.marking)) idle in
+        record { tries = does; beats = rests_none m.beats.heard parts.0; marks = none_some m.marking parts.1 }
+    go (Some t) does idle = absurd (cc)
+
+-- MARKS
+
+-- an entry on no disk leaves all blocks
+pub marks_stay : (c : Shape) (w : World) (e : Filled) → ((d : ℕ) → is_on d e ≡ false) → KeepsMarks c w (next_world c w e)
+marks_stay c w e off slot host d slot_below below =
+    subst (λ (b : Bool). AllSay (λ says. says.mark ≡ true → MaySayOn (place_of (VoteOf slot host)) (w.disk d) says ⊎ HasLearned w host slot says) (place_of (VoteOf slot host)) (cond b (disk_step (w.disk d) e) (w.disk d)))
+    (sym (off d))
+    (λ bytes left marked. inl (bytes, left, refl))
+
+-- and so does one that leaves a block no other outcome
+pub marks_by : (w : World) (slot host : ℕ) (disk new : DiskState) → Outcomes disk (place_of (VoteOf slot host)) new
+    → AllSay (λ says. says.mark ≡ true → MaySayOn (place_of (VoteOf slot host)) disk says ⊎ HasLearned w host slot says) (place_of (VoteOf slot host)) new
+marks_by w slot host disk new o bytes left marked = let b = o bytes left in inl (b.0, b.1, ap (λ (block : List ℕ). says_of (value_of block)) (sym b.2))

@@ -16,6 +16,7 @@ use Rattle.world_safety.specs.Blocks.{Stands}
 use Rattle.world_safety.specs.Tied.{Moves, machine, TiedBut}
 use Rattle.world_safety.proofs.Moves.Hosts.{SameHosts, host_kept, same_host, host_by, blocks_by}
 use Rattle.world_safety.proofs.Blocks.Keeping.{Spares, knows_spared}
+use Rattle.world_safety.proofs.Blocks.Marked.{mark_spared}
 use Rattle.world_safety.proofs.Blocks.Standing.{stands_by, stands_same}
 
 -- the disks have changed, and no host
@@ -80,5 +81,8 @@ module _ (c : Shape) (w : World) (disks : ℕ → DiskState) (ms ms' : Moves) (s
             (λ m operation f d fits below known. (let other : IsOther slot h k (length m.learned) g d = λ a b e. off b in
             knows_spared c.slots (setup_of c g m operation) f d (w.disk d) (disks d) ((machine ms (length m.learned)).cell g d) ((machine ms' (length m.learned)).cell g d) (is.images d) fits below
             (spares (length m.learned) g d fits below other) (blocks (length m.learned) g d other) known))
+            (λ s a d is_host fits below known. (let other : IsOther slot h k s.slot g d = λ a b e. off b in
+            mark_spared c.slots s a (w.disk d) (disks d) (is.images d) fits (subst (λ (j : ℕ). j < HOSTS) (sym is_host) below)
+            (subst (λ (j : ℕ). Spares (place_of (VoteOf s.slot j)) (w.disk d) (disks d)) (sym is_host) (spares s.slot g d fits below other)) known))
             (w.host g) (is.others g off);
       }

@@ -40,7 +40,7 @@ use Rattle.world_safety.proofs.Blocks.Keeping.{spares_same, knows_spared}
 use Rattle.world_safety.proofs.Moves.Machines.{machine_is, machine_here, machine_there, history_more}
 use Rattle.world_safety.proofs.Moves.OneBlock.{other_blocks, other_hosts, but_one}
 use Rattle.world_safety.proofs.Blocks.Settled.{told_or_not, allows_none, current, is_next_read, allows_row}
-use Rattle.world_safety.proofs.Blocks.Standing.{stands_resting, cell_reads}
+use Rattle.world_safety.proofs.Blocks.Standing.{stands_resting}
 
 -- puts nothing in
 abbrev pub IsQuiet : Moves → Type 0
@@ -131,7 +131,7 @@ module _ (c : Shape) (w : World) (ms : Moves) (h k : ℕ) (call : Call) (answer 
     rests_now = (trying.knows k).next (current s f k (w.disk k) new answer is.kind waiting.part.good is.kind_is is.fits step_by row tells run.below) Reading is_read
 
     reads_it : IsReading ((machine ms slot).cell h k) (said value)
-    reads_it = cell_reads (w.disk k) slot h ((machine ms slot).cell h k) own_stands value (own_stands.holds (w.disk k).bytes (may_leave_now (w.disk k)))
+    reads_it = own_stands.reads (w.disk k).bytes (may_leave_now (w.disk k))
 
     history_now : IsHistory c.disks settled
     history_now = history_more c.disks ms (At slot settling) tied.history (subst (λ (n : Machine). IsReading (n.cell h k) (said value)) (sym (machine_is ms slot)) reads_it, tt)
@@ -149,7 +149,7 @@ module _ (c : Shape) (w : World) (ms : Moves) (h k : ℕ) (call : Call) (answer 
         (other_hosts slot h k ms settled others_now settled_there)
         (other_blocks slot h k ms settled others_now settled_there)
         (λ j g d j_below g_below other. spares_same (place_of (VoteOf j g)) (w.disk d))
-        (λ slot_below host_below. stands_resting (w.disk k) slot h ((machine ms slot).cell h k) ((machine settled slot).cell h k) own_stands rests_now confirmed_now writing_now)
+        (λ slot_below host_below. stands_resting (w.disk k) slot h ((machine ms slot).cell h k) ((machine settled slot).cell h k) own_stands rests_now confirmed_now)
 
     own_known : Knows (w.disk k) s f k ((machine settled slot).cell h k)
     own_known =
@@ -176,6 +176,7 @@ module _ (c : Shape) (w : World) (ms : Moves) (h k : ℕ) (call : Call) (answer 
           knows = known_now;
           votes = trying.votes;
           input = trying.input;
+          alone = trying.alone;
         }
 
     ready_row : Ready c w ms h k m t (heard_as answer)

@@ -22,8 +22,9 @@ use Rattle.attempt_safety.specs.Leads.{LeavesOthers, OwnBlock}
 use Rattle.attempt_safety.specs.Slots.{in_slot}
 use Rattle.attempt_safety.proofs.Answering as attempt
 use Rattle.attempt_safety.proofs.Slotting.{events_append, moves_by}
+use Rattle.world_safety.specs.Marks.{KeepsMarks}
 use Rattle.world_safety.specs.Tied.{Moves, machine, TiedBut}
-use Rattle.world_safety.proofs.Moves.Changing.{Changes, but_then}
+use Rattle.world_safety.proofs.Moves.Changing.{Changes, but_then, marks_then}
 use Rattle.world_safety.proofs.Moves.Due.{IsCall, Due, due_of}
 use Rattle.world_safety.proofs.Moves.Machines.{machine_runs, machine_here, input_append, input_in}
 use Rattle.world_safety.proofs.Moves.OneBlock.{with_disks}
@@ -34,6 +35,7 @@ pub record IsTornTo (c : Shape) (w w' : World) (ms : Moves) (h : ℕ) : Type 0 w
   pub early : Moves
   pub tied : TiedBut c w' (ms ++ early) h
   pub quiet : IsQuiet early
+  pub marks : KeepsMarks c w w'
 
 -- the answer tells no row
 abbrev pub IsUntold : Answer → Type 0
@@ -99,6 +101,7 @@ module _ (c : Shape) (w : World) (ms : Moves) (h k : ℕ) (call : Call) (answer 
         early = early;
         tied = subst (λ (l : Moves). TiedBut c (with_disks w disks) l h) (append_assoc ms r.pre (in_slot slot one.events)) (but_then c w ms h k call answer left m t now known r one.events changes);
         quiet = quiet;
+        marks = marks_then c w ms h k call answer left m t now known r one.events changes;
       }
 
 -- where a call tells no row, its own event alone may be made

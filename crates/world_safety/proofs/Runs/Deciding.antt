@@ -6,13 +6,13 @@ use Rattle.disk.specs.Disk.{Call, Answer}
 use Rattle.attempt.specs.Answers.{Answered, Answers, on, heard_as}
 use Rattle.attempt.specs.Calls.{Opening, One}
 use Rattle.attempt.specs.Chosen.{accepts, Chooses}
-use Rattle.attempt.specs.Proposal.{ballot, proposal, others_mbal}
+use Rattle.attempt.specs.Proposal.{ballot, proposal, decided, others_mbal}
 use Rattle.attempt.specs.Setup.{Setup}
 use Rattle.attempt.specs.Standing.{HasBallot, HasProposal}
 use Rattle.attempt.specs.Visits.{visited, are_enough}
 use Rattle.slot_log.specs.Shape.{Shape}
 use Rattle.host.specs.Host.{Doing, Memory, Host, Stopped, Running, setup_of}
-use Rattle.world.specs.Entry.{Filled, Start, Stop, Submit, Recover, Beat, Called, Torn, Crashed, Lost}
+use Rattle.world.specs.Entry.{Filled, Start, Stop, Submit, Recover, Look, Beat, Mark, Called, Torn, Crashed, Lost}
 use Rattle.world.specs.Chosen.{at, IsChosenAt}
 
 -- either so, or not
@@ -40,13 +40,17 @@ module _ (s : Setup) (f : Answers) where
   by_phase_one taken (Some d) waits = inr (λ k. absurd (let over = k.1.proposes.over in cc))
   by_phase_one taken None over = by_outrun taken over (nat_lt (ballot s f) (others_mbal s One f)) refl
 
-  by_ballot : visited s Opening f ≡ None → (b : Bool) → nat_lt LAST_BALLOT (ballot s f) ≡ b → Told (ChoosesSome s f)
-  by_ballot over true spent = inr (λ k. true≢false (sym spent ∙ k.1.proposes.taken.fits))
-  by_ballot over false fits = by_phase_one (record { over = over; fits = fits }) (visited s One f) refl
+  by_ballot : visited s Opening f ≡ None → decided s f ≡ None → (b : Bool) → nat_lt LAST_BALLOT (ballot s f) ≡ b → Told (ChoosesSome s f)
+  by_ballot over none true spent = inr (λ k. true≢false (sym spent ∙ k.1.proposes.taken.fits))
+  by_ballot over none false fits = by_phase_one (record { over = over; undecided = none; fits = fits }) (visited s One f) refl
+
+  by_marks : visited s Opening f ≡ None → (o : Option (List ℕ)) → decided s f ≡ o → Told (ChoosesSome s f)
+  by_marks over None none = by_ballot over none (nat_lt LAST_BALLOT (ballot s f)) refl
+  by_marks over (Some value) told = inr (λ k. absurd (let none = k.1.proposes.taken.undecided in cc))
 
   by_opening : (o : Option ℕ) → visited s Opening f ≡ o → Told (ChoosesSome s f)
   by_opening (Some d) waits = inr (λ k. absurd (let over = k.1.proposes.taken.over in cc))
-  by_opening None over = by_ballot over (nat_lt LAST_BALLOT (ballot s f)) refl
+  by_opening None over = by_marks over (decided s f) refl
 
   pub chooses_or_not : Told (ChoosesSome s f)
   chooses_or_not = by_opening (visited s Opening f) refl
@@ -134,7 +138,9 @@ module _ (c : Shape) (log : List Filled) (i : ℕ) where
   entry_tells (Stop h) is = not_called (Stop h) is (λ g k call answer left same. absurd (cc))
   entry_tells (Submit h command tries) is = not_called (Submit h command tries) is (λ g k call answer left same. absurd (cc))
   entry_tells (Recover h tries) is = not_called (Recover h tries) is (λ g k call answer left same. absurd (cc))
+  entry_tells (Look h) is = not_called (Look h) is (λ g k call answer left same. absurd (cc))
   entry_tells (Beat h) is = not_called (Beat h) is (λ g k call answer left same. absurd (cc))
+  entry_tells (Mark h slot) is = not_called (Mark h slot) is (λ g k call answer left same. absurd (cc))
   entry_tells (Torn h k call left) is = not_called (Torn h k call left) is (λ g k call answer left same. absurd (cc))
   entry_tells (Crashed k left) is = not_called (Crashed k left) is (λ g k call answer left same. absurd (cc))
   entry_tells (Lost k) is = not_called (Lost k) is (λ g k call answer left same. absurd (cc))

@@ -3,7 +3,11 @@ use Rattle.std.specs.Prelude.{nat_lt, nat_le, max, slice_get, ◌-◌, cond, if�
 use Rattle.std.proofs.Common.{ℕ, suc, ◌≡◌, inl, inr, Bool, true, false, Option, Some, None, List, [], ◌∷◌, ◌++◌, length, refl, sym, subst, ap, ◌∙◌, arith}
 use Rattle.std.proofs.lemmas.Bool.{eqb-true}
 use Rattle.disk.specs.Disk.{Call, Answer}
-use Rattle.attempt.specs.Answers.{Answered, on, heard_as}
+use Rattle.paxos_block.specs.Row.{SeenBlock}
+use Rattle.attempt.specs.Answers as answers
+use Rattle.attempt.specs.Answers.{Heard, Answered, Answers, on, heard_as}
+use Rattle.attempt.proofs.More.{on_more, by_disk}
+use Rattle.marks.specs.Status as mark
 use Rattle.attempt.specs.Status as attempt
 use Rattle.attempt.specs.Status.{Status, Due, Ended, End, status, taken}
 use Rattle.lock_command.specs.declared.command.Command.{Command}
@@ -12,18 +16,21 @@ use Rattle.lock_command.specs.Reading.{decoded}
 use Rattle.slot_log.specs.Shape.{Shape}
 use Rattle.slot_log.specs.declared.outcome.Refusal.TheVariants as refusal
 use Rattle.host.specs.declared.answer.HostAnswer.{HostAnswer}
-use Rattle.host.specs.declared.answer.HostAnswer.TheVariants.{Ack, Recovered, Beaten, Refused}
-use Rattle.host.specs.Host.{Operation, Submitting, Recovering, Doing, Memory, Host, Stopped, Running, setup_of, says, does, begins, full_answer, goes_on, with_floor, learns, reply_after, is_submitted, after_learning, takes, tries_again, ended, by_status, with_heard, hears_from, hears_beat, beat_by, beat_of, with_beats, suggested, Beats}
+use Rattle.host.specs.declared.answer.HostAnswer.TheVariants.{Ack, Recovered, Beaten, Marked, Refused}
+use Rattle.host.specs.Host.{Operation, Submitting, Recovering, Looking, Doing, Memory, Host, Stopped, Running, setup_of, says, does, begins, full_answer, spent_answer, goes_on, with_floor, learns, reply_after, is_submitted, after_learning, takes, tries_again, ended, by_status, with_heard, hears_from, hears_beat, beat_by, beat_of, with_beats, suggested, Beats, Marking, hears_beside, hears_marking, marking_by, marking_with, marking_of, with_marking}
 use Rattle.beats.specs.Answers as beat_answers
 use Rattle.beats.specs.Status as beat
 use Rattle.host.proofs.Hosts.{decoded_spelled}
-use Rattle.world.specs.Entry.{Filled, Start, Stop, Submit, Recover, Beat, Called, Torn, Crashed, Lost, is_of, started, beats, host_step}
-use Rattle.world.specs.World.{ReadsBack, MayFollow, IsRun}
+use Rattle.world.specs.Entry.{Filled, Start, Stop, Submit, Recover, Look, Beat, Mark, Called, Torn, Crashed, Lost, is_of, started, beats, marks, host_step}
+use Rattle.world.specs.World.{World, ReadsBack, MayFollow, IsRun}
+use Rattle.world.proofs.Runs.{each}
 use Rattle.world.specs.Chosen.{at, Hears}
 use Rattle.world.proofs.Histories.{committed}
 use Rattle.agreement.proofs.Slots.{pushed}
-use Rattle.world_safety.specs.Tracks.{IsChosenBefore, AreChosen, IsSubmittedBy, IsBegun, IsTrue, IsTrueOf}
-use Rattle.world_safety.proofs.Runs.Places.{by_place}
+use Rattle.world_safety.specs.Tracks.{IsChosenBefore, AreChosen, IsSubmittedBy, IsBegun, Counts, IsTrue, IsTrueOf}
+use Rattle.world_safety.specs.Marks.{ShowsTrueMarks, TellsTrueMarks}
+use Rattle.world_safety.proofs.Runs.Places.{at_next, at_end}
+use Rattle.world_safety.proofs.Runs.Showing.{mark_more, tells_none, tells_more, decided_known}
 
 -- a value that spells a command reads as it
 pub reads_back : (value : List ℕ) (command : Command) → decoded value ≡ Some command → ReadsBack command
@@ -32,7 +39,7 @@ reads_back value command is = ap decoded (sym (decoded_spelled value command is)
 module _ (c : Shape) (log : List Filled) where
   -- IT STAYS TRUE
 
-  later_chosen : (i k : ℕ) (value : List ℕ) → IsChosenBefore c log i k value → IsChosenBefore c log (suc i) k value
+  pub later_chosen : (i k : ℕ) (value : List ℕ) → IsChosenBefore c log i k value → IsChosenBefore c log (suc i) k value
   later_chosen i k value is = record { place = is.place; before = (let b = is.before in omega arith); is = is.is }
 
   later_learned : (i : ℕ) (learned : List Command) → AreChosen c log i learned → AreChosen c log (suc i) learned
@@ -43,38 +50,51 @@ module _ (c : Shape) (log : List Filled) where
       let by = is command same in
       record { place = by.place; tries = by.tries; before = (let b = by.before in omega arith); entry = by.entry; reads = by.reads }
 
-  later : (i h : ℕ) (host : Host) → IsTrueOf c log i h host → IsTrueOf c log (suc i) h host
+  later_told : (i slot : ℕ) (a : List Heard) → TellsTrueMarks (IsChosenBefore c log i slot) a → TellsTrueMarks (IsChosenBefore c log (suc i) slot) a
+  later_told i slot a is n row at = mark_more (IsChosenBefore c log i slot) (IsChosenBefore c log (suc i) slot) (later_chosen i slot) row (is n row at)
+
+  pub later : (i h : ℕ) (host : Host) → IsTrueOf c log i h host → IsTrueOf c log (suc i) h host
   later i h Stopped is = tt
-  later i h (Running m) is = record { learned = later_learned i m.learned is.learned; begun = λ t does. later_begun i h t.operation (is.begun t does); recovered = is.recovered }
+  later i h (Running m) is = record { learned = later_learned i m.learned is.learned; begun = λ t does. later_begun i h t.operation (is.begun t does); counts = is.counts; told = λ t does d. later_told i (length m.learned) (on t.heard d) (is.told t does d) }
 
   -- WHAT A HOST COMES TO
 
   module _ (i h : ℕ) where
-    says_true : (m : Memory) (floor : ℕ) (said : HostAnswer) → AreChosen c log i m.learned → ((n : ℕ) → said ≡ Recovered n → n ≡ length m.learned) → IsTrue c log i h (record { learned = m.learned; floor = floor; doing = None; said = Some said; beats = m.beats })
-    says_true m floor said are recovered = record { learned = are; begun = λ t is. absurd (cc); recovered = λ n is. recovered n (let same : said ≡ Recovered n = cc in same) }
+    says_true : (m : Memory) (floor : ℕ) (said : HostAnswer) → AreChosen c log i m.learned → Counts (Some said) (length m.learned) → IsTrue c log i h (record { learned = m.learned; floor = floor; doing = None; said = Some said; beats = m.beats; marking = m.marking })
+    says_true m floor said are counts = record { learned = are; begun = λ t is. absurd (cc); counts = counts; told = λ t is. absurd (cc) }
 
-    does_true : (m : Memory) (t : Doing) → AreChosen c log i m.learned → IsBegun log i h t.operation → IsTrue c log i h (does m t)
-    does_true m t are begun =
+    does_true : (m : Memory) (t : Doing) → AreChosen c log i m.learned → IsBegun log i h t.operation → ((d : ℕ) → TellsTrueMarks (IsChosenBefore c log i (length m.learned)) (on t.heard d)) → IsTrue c log i h (does m t)
+    does_true m t are begun told =
         record {
           learned = are;
           begun = λ other is. (let same : t ≡ other = cc in subst (λ (q : Doing). IsBegun log i h q.operation) same begun);
-          recovered = λ n is. absurd (cc);
+          counts = tt;
+          told = λ other is. (let same : t ≡ other = cc in subst (λ (q : Doing). (d : ℕ) → TellsTrueMarks (IsChosenBefore c log i (length m.learned)) (on q.heard d)) same told);
         }
 
-    full_true : (m : Memory) (operation : Operation) (n : ℕ) → full_answer operation (length m.learned) ≡ Recovered n → n ≡ length m.learned
-    full_true m (Submitting command) n is = absurd (cc)
-    full_true m Recovering n is = let same : length m.learned ≡ n = cc in sym same
+    none_told : (slot : ℕ) (d : ℕ) → TellsTrueMarks (IsChosenBefore c log i slot) (on [] d)
+    none_told slot d = tells_none (IsChosenBefore c log i slot)
+
+    full_true : (m : Memory) (operation : Operation) → Counts (Some (full_answer operation (length m.learned))) (length m.learned)
+    full_true m (Submitting command) = tt
+    full_true m Recovering = refl
+    full_true m Looking = refl
+
+    spent_true : (m : Memory) (operation : Operation) → Counts (Some (spent_answer operation (length m.learned))) (length m.learned)
+    spent_true m (Submitting command) = tt
+    spent_true m Recovering = tt
+    spent_true m Looking = refl
 
     goes_on_true : (m : Memory) (operation : Operation) (tries : ℕ) → AreChosen c log i m.learned → IsBegun log i h operation → IsTrue c log i h (goes_on c m operation tries)
     goes_on_true m operation tries are begun = go (nat_lt (length m.learned) c.slots)
       where
         go : (b : Bool) → IsTrue c log i h (if b then begins m operation tries else says m (full_answer operation (length m.learned)))
-        go true = does_true m (record { operation = operation; tries = tries; heard = [] }) are begun
+        go true = does_true m (record { operation = operation; tries = tries; heard = [] }) are begun (none_told (length m.learned))
         go false = says_true m m.floor (full_answer operation (length m.learned)) are (full_true m operation)
 
     module _ (m : Memory) (t : Doing) (are : AreChosen c log i m.learned) (begun : IsBegun log i h t.operation) where
       learned_true : (command : Command) → AreChosen c log i (m.learned ++ command ∷ []) → (own : Bool) → IsTrue c log i h (after_learning c m t command own)
-      learned_true command all true = says_true (learns m command) 0 (Ack (length m.learned) (reply_after m.learned command)) all (λ n is. absurd (cc))
+      learned_true command all true = says_true (learns m command) 0 (Ack (length m.learned) (reply_after m.learned command)) all tt
       learned_true command all false = goes_on_true (learns m command) t.operation t.tries all begun
 
       one_more : (command : Command) → ReadsBack command → IsChosenBefore c log i (length m.learned) (spelling command) → AreChosen c log i (m.learned ++ command ∷ [])
@@ -84,7 +104,7 @@ module _ (c : Shape) (log : List Filled) where
       ]
 
       takes_true : (b : ℕ) (value : List ℕ) → IsChosenBefore c log i (length m.learned) value → (o : Option Command) → decoded value ≡ o → IsTrue c log i h (takes c m t b value o)
-      takes_true b value chosen None reads = says_true m (max m.floor b) (Refused refusal.NotACommand) are (λ n is. absurd (cc))
+      takes_true b value chosen None reads = says_true m (max m.floor b) (Refused refusal.NotACommand) are tt
       takes_true b value chosen (Some command) reads =
           learned_true command (one_more command (reads_back value command reads) (subst (IsChosenBefore c log i (length m.learned)) (decoded_spelled value command reads) chosen)) (is_submitted t.operation value)
 
@@ -92,20 +112,28 @@ module _ (c : Shape) (log : List Filled) where
       tries_true b mbal = go (nat_le t.tries 1)
         where
           go : (last : Bool) → IsTrue c log i h (if last then says (with_floor (with_floor m b) mbal) (Refused refusal.Outrun) else begins (with_floor (with_floor m b) mbal) t.operation (t.tries - 1))
-          go true = says_true m (max (max m.floor b) mbal) (Refused refusal.Outrun) are (λ n is. absurd (cc))
-          go false = does_true (with_floor (with_floor m b) mbal) (record { operation = t.operation; tries = t.tries - 1; heard = [] }) are begun
+          go true = says_true m (max (max m.floor b) mbal) (Refused refusal.Outrun) are tt
+          go false = does_true (with_floor (with_floor m b) mbal) (record { operation = t.operation; tries = t.tries - 1; heard = [] }) are begun (none_told (length m.learned))
 
-      status_true : (b : ℕ) (st : Status) → ((value : List ℕ) → st ≡ Ended (attempt.Committed value) → IsChosenBefore c log i (length m.learned) value) → IsTrue c log i h (by_status c m t b st)
-      status_true b (Due p d) chosen = does_true m t are begun
-      status_true b (Ended (attempt.Committed value)) chosen = takes_true b value (chosen value refl) (decoded value) refl
-      status_true b (Ended attempt.Empty) chosen = says_true m (max m.floor b) (Recovered (length m.learned)) are (λ n is. (let same : length m.learned ≡ n = cc in sym same))
-      status_true b (Ended (attempt.Outrun mbal)) chosen = tries_true b mbal
-      status_true b (Ended attempt.NoMajority) chosen = says_true m (max m.floor b) (Refused refusal.NoMajority) are (λ n is. absurd (cc))
-      status_true b (Ended attempt.BallotsSpent) chosen = says_true m (max m.floor b) (Refused refusal.BallotsSpent) are (λ n is. absurd (cc))
+      status_true : (b : ℕ) (st : Status) → ((d : ℕ) → TellsTrueMarks (IsChosenBefore c log i (length m.learned)) (on t.heard d)) → ((value : List ℕ) → st ≡ Ended (attempt.Committed value) → IsChosenBefore c log i (length m.learned) value)
+          → ((value : List ℕ) → st ≡ Ended (attempt.Decided value) → IsChosenBefore c log i (length m.learned) value) → IsTrue c log i h (by_status c m t b st)
+      status_true b (Due p d) told chosen decided = does_true m t are begun told
+      status_true b (Ended (attempt.Committed value)) told chosen decided = takes_true b value (chosen value refl) (decoded value) refl
+      status_true b (Ended (attempt.Decided value)) told chosen decided = takes_true b value (decided value refl) (decoded value) refl
+      status_true b (Ended attempt.Empty) told chosen decided = says_true m (max m.floor b) (Recovered (length m.learned)) are refl
+      status_true b (Ended (attempt.Outrun mbal)) told chosen decided = tries_true b mbal
+      status_true b (Ended attempt.NoMajority) told chosen decided = says_true m (max m.floor b) (Refused refusal.NoMajority) are tt
+      status_true b (Ended attempt.BallotsSpent) told chosen decided = says_true m (max m.floor b) (spent_answer t.operation (length m.learned)) are (spent_true m t.operation)
 
   -- WITH EACH ENTRY
 
-  module _ (run : IsRun c log) (i : ℕ) (h : ℕ) where
+  -- each row that the host is told with the entry shows true marks
+  abbrev pub ShowsTrue : ℕ → ℕ → Type 0
+  ShowsTrue i h =
+      (k : ℕ) (call : Call) (answer : Answer) (left : List ℕ) → slice_get log i ≡ Some (Called h k call answer left) → (m : Memory) (t : Doing) → (at c log i).host h ≡ Running m → m.doing ≡ Some t
+      → (row : List SeenBlock) → heard_as answer ≡ answers.Told (Some row) → ShowsTrueMarks (IsChosenBefore c log i (length m.learned)) row
+
+  module _ (run : IsRun c log) (i : ℕ) (h : ℕ) (shows : ShowsTrue i h) where
     -- what an attempt commits with an answer is chosen then
     commits : (k : ℕ) (call : Call) (answer : Answer) (left : List ℕ) → slice_get log i ≡ Some (Called h k call answer left) → (m : Memory) (t : Doing) → (at c log i).host h ≡ Running m → m.doing ≡ Some t → (value : List ℕ)
         → status (setup_of c h m t.operation) (on (t.heard ++ record { disk = k; heard = heard_as answer } ∷ [])) ≡ Ended (attempt.Committed value) → IsChosenBefore c log (suc i) (length m.learned) value
@@ -129,29 +157,66 @@ module _ (c : Shape) (log : List Filled) where
         record { place = i; before = omega arith; is = committed c log i s (t.heard ++ x ∷ []) value run hears ended }
 
     -- a beat tells nothing of the log
-    beaten_true : (m : Memory) (bs : Beats) (said : Option HostAnswer) → IsTrue c log (suc i) h m → ((n : ℕ) → said ≡ Some (Recovered n) → ⊥) → IsTrue c log (suc i) h (with_beats m bs said)
-    beaten_true m bs said known none = record { learned = known.learned; begun = λ t is. absurd (cc); recovered = λ n is. absurd (none n is) }
+    beaten_true : (m : Memory) (bs : Beats) (said : Option HostAnswer) → IsTrue c log (suc i) h m → Counts said (length m.learned) → IsTrue c log (suc i) h (with_beats m bs said)
+    beaten_true m bs said known counts = record { learned = known.learned; begun = λ t is. absurd (cc); counts = counts; told = λ t is. absurd (cc) }
 
     beat_by_true : (m : Memory) → IsTrue c log (suc i) h m → (heard : List beat_answers.Answered) (st : beat.Status) → IsTrue c log (suc i) h (beat_by h m heard st)
-    beat_by_true m known heard (beat.Due disk) = beaten_true m (record { readings = m.beats.readings; heard = Some heard }) None known (λ n is. absurd (cc))
-    beat_by_true m known heard (beat.Ended (beat.Beaten readings)) = beaten_true m (record { readings = Some readings; heard = None }) (Some (Beaten (suggested h m.beats.readings readings))) known (λ n is. absurd (cc))
-    beat_by_true m known heard (beat.Ended beat.NoMajority) = beaten_true m (record { readings = m.beats.readings; heard = None }) (Some (Refused refusal.NoMajority)) known (λ n is. absurd (cc))
+    beat_by_true m known heard (beat.Due disk) = beaten_true m (record { readings = m.beats.readings; heard = Some heard }) None known tt
+    beat_by_true m known heard (beat.Ended (beat.Beaten readings)) = beaten_true m (record { readings = Some readings; heard = None }) (Some (Beaten (suggested h m.beats.readings readings))) known tt
+    beat_by_true m known heard (beat.Ended beat.NoMajority) = beaten_true m (record { readings = m.beats.readings; heard = None }) (Some (Refused refusal.NoMajority)) known tt
 
     beat_true : (m : Memory) → IsTrue c log (suc i) h m → (o : Option (List beat_answers.Answered)) (x : beat_answers.Answered) → IsTrue c log (suc i) h (hears_beat c h m o x)
     beat_true m known None x = known
     beat_true m known (Some heard) x = beat_by_true m known (heard ++ x ∷ []) (beat.status (beat_of c h) (beat_answers.on (heard ++ x ∷ [])))
 
+    -- nor does a marking
+    marked_true : (m : Memory) (marking : Option Marking) (said : Option HostAnswer) → IsTrue c log (suc i) h m → Counts said (length m.learned) → IsTrue c log (suc i) h (with_marking m marking said)
+    marked_true m marking said known counts = record { learned = known.learned; begun = λ t is. absurd (cc); counts = counts; told = λ t is. absurd (cc) }
+
+    marking_by_true : (m : Memory) → IsTrue c log (suc i) h m → (t : Marking) (st : mark.Status) → IsTrue c log (suc i) h (marking_by m t st)
+    marking_by_true m known t (mark.Due disk) = marked_true m (Some t) None known tt
+    marking_by_true m known t (mark.Ended (mark.Marked count)) = marked_true m None (Some (Marked count)) known tt
+    marking_by_true m known t (mark.Ended mark.NoMajority) = marked_true m None (Some (Refused refusal.NoMajority)) known tt
+
+    marking_true : (m : Memory) → IsTrue c log (suc i) h m → (o : Option Marking) (x : Answered) → IsTrue c log (suc i) h (hears_marking c h m o x)
+    marking_true m known None x = known
+    marking_true m known (Some t) x = marking_by_true m known (marking_with t x) (mark.status (marking_of c h m t.slot) (on (marking_with t x).heard))
+
+    beside_true : (m : Memory) → IsTrue c log (suc i) h m → (o : Option (List beat_answers.Answered)) (k : ℕ) (answer : Answer) → IsTrue c log (suc i) h (hears_beside c h m o k answer)
+    beside_true m known None k answer = marking_true m known m.marking (record { disk = k; heard = heard_as answer })
+    beside_true m known (Some heard) k answer = beat_true m known (Some heard) (record { disk = k; heard = beat_answers.heard_as answer })
+
+    starts_marking_true : (slot : ℕ) (host : Host) → IsTrueOf c log (suc i) h host → IsTrueOf c log (suc i) h (marks host slot)
+    starts_marking_true slot Stopped known = tt
+    starts_marking_true slot (Running m) known = by (nat_lt slot (length m.learned))
+      where
+        by : (b : Bool) → IsTrue c log (suc i) h (if b then with_marking m (Some (record { slot = slot; heard = [] })) None else with_marking m m.marking (Some (Refused refusal.NotLearned)))
+        by true = marked_true m (Some (record { slot = slot; heard = [] })) None known tt
+        by false = marked_true m m.marking (Some (Refused refusal.NotLearned)) known tt
+
     starts_beat_true : (host : Host) → IsTrueOf c log (suc i) h host → IsTrueOf c log (suc i) h (beats host)
     starts_beat_true Stopped known = tt
-    starts_beat_true (Running m) known = beaten_true m (record { readings = m.beats.readings; heard = Some [] }) None known (λ n is. absurd (cc))
+    starts_beat_true (Running m) known = beaten_true m (record { readings = m.beats.readings; heard = Some [] }) None known tt
+
+    -- what its attempt was told
+    told_then : (k : ℕ) (call : Call) (answer : Answer) (left : List ℕ) → slice_get log i ≡ Some (Called h k call answer left) → (m : Memory) (t : Doing) → (at c log i).host h ≡ Running m → m.doing ≡ Some t → IsTrue c log (suc i) h m
+        → (d : ℕ) → TellsTrueMarks (IsChosenBefore c log (suc i) (length m.learned)) (on (t.heard ++ record { disk = k; heard = heard_as answer } ∷ []) d)
+    told_then k call answer left is m t running does known =
+        let K = IsChosenBefore c log (suc i) (length m.learned) in
+        subst (λ (f : Answers). (d : ℕ) → TellsTrueMarks K (f d)) (sym (on_more t.heard (record { disk = k; heard = heard_as answer })))
+        (by_disk (on t.heard) k (heard_as answer) (λ d a. TellsTrueMarks K a)
+        (tells_more K (on t.heard k) (heard_as answer) (known.told t does k)
+        (λ row tells. mark_more (IsChosenBefore c log i (length m.learned)) K (later_chosen i (length m.learned)) row (shows k call answer left is m t running does row tells)))
+        (λ d off. known.told t does d))
 
     hears_true : (k : ℕ) (call : Call) (answer : Answer) (left : List ℕ) → slice_get log i ≡ Some (Called h k call answer left) → (m : Memory) → (at c log i).host h ≡ Running m → (o : Option Doing) → m.doing ≡ o → IsTrue c log (suc i) h m
         → IsTrue c log (suc i) h (hears_from c h m o k answer)
-    hears_true k call answer left is m running None does known = beat_true m known m.beats.heard (record { disk = k; heard = beat_answers.heard_as answer })
+    hears_true k call answer left is m running None does known = beside_true m known m.beats.heard k answer
     hears_true k call answer left is m running (Some t) does known =
         let s = setup_of c h m t.operation in
         let x : Answered = record { disk = k; heard = heard_as answer } in
-        status_true (suc i) h m (with_heard t x) known.learned (known.begun t does) (taken s (on (t.heard ++ x ∷ []))) (status s (on (t.heard ++ x ∷ []))) (commits k call answer left is m t running does)
+        status_true (suc i) h m (with_heard t x) known.learned (known.begun t does) (taken s (on (t.heard ++ x ∷ []))) (status s (on (t.heard ++ x ∷ []))) (told_then k call answer left is m t running does known) (commits k call answer left is m t running does)
+        (λ value ended. decided_known (IsChosenBefore c log (suc i) (length m.learned)) s (on (t.heard ++ x ∷ [])) value (told_then k call answer left is m t running does known) ended)
 
     called_true : (k : ℕ) (call : Call) (answer : Answer) (left : List ℕ) → slice_get log i ≡ Some (Called h k call answer left) → (host : Host) → (at c log i).host h ≡ host → IsTrueOf c log (suc i) h host
         → IsTrueOf c log (suc i) h (host_step c h host (Called h k call answer left))
@@ -164,7 +229,7 @@ module _ (c : Shape) (log : List Filled) where
     operated_true e operation tries goes stays begun (Running m) known = subst (IsTrueOf c log (suc i) h) (sym (goes m)) (goes_on_true (suc i) h m operation tries known.learned begun)
 
     started_true : (host : Host) → IsTrueOf c log (suc i) h host → IsTrueOf c log (suc i) h (started host)
-    started_true Stopped known = record { learned = λ k command is. absurd (cc); begun = λ t is. absurd (cc); recovered = λ n is. absurd (cc) }
+    started_true Stopped known = record { learned = λ k command is. absurd (cc); begun = λ t is. absurd (cc); counts = tt; told = λ t is. absurd (cc) }
     started_true (Running m) known = known
 
     step_true : (e : Filled) → slice_get log i ≡ Some e → MayFollow c (at c log i) e → is_of h e ≡ true → IsTrueOf c log (suc i) h ((at c log i).host h) → IsTrueOf c log (suc i) h (host_step c h ((at c log i).host h) e)
@@ -177,26 +242,31 @@ module _ (c : Shape) (log : List Filled) where
         ((at c log i).host h) known
     step_true (Recover g tries) is may of known =
         operated_true (Recover g tries) Recovering tries (λ m. refl) refl (λ found same. absurd (cc)) ((at c log i).host h) known
+    step_true (Look g) is may of known = operated_true (Look g) Looking 1 (λ m. refl) refl (λ found same. absurd (cc)) ((at c log i).host h) known
     step_true (Beat g) is may of known = starts_beat_true ((at c log i).host h) known
+    step_true (Mark g slot) is may of known = starts_marking_true slot ((at c log i).host h) known
     step_true (Called g k call answer left) is may of known =
         called_true k call answer left (is ∙ ap (λ (j : ℕ). Some (Called j k call answer left)) (eqb-true g h of)) ((at c log i).host h) refl known
     step_true (Torn g k call left) is may of known = tt
     step_true (Crashed k left) is may of known = absurd (cc)
     step_true (Lost k) is may of known = absurd (cc)
 
-  -- at each place each host knows what is true
-  pub all_true : IsRun c log → (i h : ℕ) → IsTrueOf c log i h ((at c log i).host h)
-  all_true run i h =
-      by_place c log run (λ j w. IsTrueOf c log j h (w.host h)) tt
-      (λ j e is may before.
-      (let known = later j h ((at c log j).host h) before in
-      by_own h e (λ host. IsTrueOf c log (suc j) h host) ((at c log j).host h) (λ of. step_true run j h e is may of known) known))
-      (λ j ended before. later j h ((at c log j).host h) before)
-      i
+  -- what each host knows is true, and stays so
+  pub true_next : IsRun c log → (i h : ℕ) → ShowsTrue i h → IsTrueOf c log i h ((at c log i).host h) → IsTrueOf c log (suc i) h ((at c log (suc i)).host h)
+  true_next run i h shows before = by (slice_get log i) refl
     where
-      by_own : (h : ℕ) (e : Filled) (P : Host → Type 0) (old : Host) → (is_of h e ≡ true → P (host_step c h old e)) → P old → P (cond (is_of h e) (host_step c h old e) old)
-      by_own h e P old own other = go (is_of h e) refl
+      by_own : (e : Filled) (P : Host → Type 0) (old : Host) → (is_of h e ≡ true → P (host_step c h old e)) → P old → P (cond (is_of h e) (host_step c h old e) old)
+      by_own e P old own other = go (is_of h e) refl
         where
           go : (b : Bool) → is_of h e ≡ b → P (cond b (host_step c h old e) old)
           go true of = own of
           go false off = other
+
+      known : IsTrueOf c log (suc i) h ((at c log i).host h)
+      known = later i h ((at c log i).host h) before
+
+      by : (o : Option Filled) → slice_get log i ≡ o → IsTrueOf c log (suc i) h ((at c log (suc i)).host h)
+      by None is = subst (λ (w : World). IsTrueOf c log (suc i) h (w.host h)) (sym (at_end c log i is)) known
+      by (Some e) is =
+          subst (λ (w : World). IsTrueOf c log (suc i) h (w.host h)) (sym (at_next c log i e is))
+          (by_own e (λ host. IsTrueOf c log (suc i) h host) ((at c log i).host h) (λ of. step_true run i h shows e is (each c log i e run is) of known) known)

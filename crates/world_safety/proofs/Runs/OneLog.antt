@@ -14,7 +14,7 @@ use Rattle.agreement.proofs.Slots.{value_below, pushed}
 use Rattle.world_safety.specs.Log.{IsLogBefore}
 use Rattle.world_safety.specs.Tracks.{IsChosenBefore, IsTrue, IsTrueOf}
 use Rattle.world_safety.proofs.Runs.Deciding.{chooses_at}
-use Rattle.world_safety.proofs.Runs.Knowing.{all_true}
+use Rattle.world_safety.proofs.Runs.Tracks.{all_true}
 use Rattle.world_safety.proofs.Runs.Tracks.{one_value}
 
 get_front : {A : Type 0} (l : List A) (x : A) (k : ℕ) (y : A) → slice_get l k ≡ Some y → slice_get (l ++ x ∷ []) k ≡ Some y

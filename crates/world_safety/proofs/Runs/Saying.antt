@@ -14,13 +14,15 @@ use Rattle.beats.specs.Status as beat
 use Rattle.slot_log.specs.Shape.{Shape}
 use Rattle.slot_log.specs.declared.outcome.Refusal.TheVariants as refusal
 use Rattle.host.specs.declared.answer.HostAnswer.{HostAnswer}
-use Rattle.host.specs.declared.answer.HostAnswer.TheVariants.{Ack, Recovered, Beaten, Refused}
-use Rattle.host.specs.Host.{Operation, Submitting, Recovering, Doing, Memory, Host, Stopped, Running, setup_of, says, begins, full_answer, goes_on, with_floor, learns, is_submitted, after_learning, takes, tries_again, by_status, with_heard, goes_by, hears_from, hears_beat, beat_by, beat_of, is_stopped, next_of, said_of}
-use Rattle.world.specs.Entry.{Filled, Start, Stop, Submit, Recover, Beat, Called, Torn, Crashed, Lost, is_of, started, beats, begins_on, host_step}
+use Rattle.host.specs.declared.answer.HostAnswer.TheVariants.{Ack, Recovered, Looked, Beaten, Marked, Refused}
+use Rattle.host.specs.Host.{Operation, Submitting, Recovering, Looking, Doing, Memory, Host, Stopped, Running, setup_of, says, begins, full_answer, spent_answer, goes_on, with_floor, learns, is_submitted, after_learning, takes, tries_again, by_status, with_heard, goes_by, hears_from, hears_beside, beat_by, beat_of, is_stopped, next_of, said_of, Marking, hears_marking, marking_by, marking_with, marking_of, with_marking}
+use Rattle.marks.specs.Status as mark
+use Rattle.world.specs.Entry.{Filled, Start, Stop, Submit, Recover, Look, Beat, Mark, Called, Torn, Crashed, Lost, is_of, started, beats, marks, begins_on, host_step}
 use Rattle.world.specs.World.{MayFollow, IsRun}
 use Rattle.world.specs.Chosen.{at, Hears, SaysAt}
 use Rattle.world.proofs.Runs.{each}
-use Rattle.world_safety.proofs.Moves.Due.{Attempts, IsBeatCall, busy}
+use Rattle.world_safety.proofs.Moves.Hosts.{spent_recovers}
+use Rattle.world_safety.proofs.Moves.Due.{Attempts, IsBeatCall, IsMarkCall, busy}
 use Rattle.world_safety.proofs.Runs.Places.{host_next}
 
 -- WHAT A STATUS MAKES A HOST SAY
@@ -38,11 +40,19 @@ went_on c m operation tries said = go (nat_lt (length m.learned) c.slots) refl
 pub full_recovers : (operation : Operation) (learned n : ℕ) → full_answer operation learned ≡ Recovered n → (operation ≡ Recovering) × (learned ≡ n)
 full_recovers (Submitting command) learned n is = absurd (cc)
 full_recovers Recovering learned n is = (refl, cc)
+full_recovers Looking learned n is = absurd (cc)
 
 -- and it acknowledges nothing
 pub full_acks : (operation : Operation) (learned slot : ℕ) (reply : Reply) → full_answer operation learned ≡ Ack slot reply → ⊥
 full_acks (Submitting command) learned slot reply is = absurd (cc)
 full_acks Recovering learned slot reply is = absurd (cc)
+full_acks Looking learned slot reply is = absurd (cc)
+
+-- nor does one without a ballot
+pub spent_acks : (operation : Operation) (learned slot : ℕ) (reply : Reply) → spent_answer operation learned ≡ Ack slot reply → ⊥
+spent_acks (Submitting command) learned slot reply is = absurd (cc)
+spent_acks Recovering learned slot reply is = absurd (cc)
+spent_acks Looking learned slot reply is = absurd (cc)
 
 module _ (c : Shape) (m : Memory) (t : Doing) (b : ℕ) where
   -- an outrun attempt brings neither
@@ -53,9 +63,13 @@ module _ (c : Shape) (m : Memory) (t : Doing) (b : ℕ) where
       go true is = let same : Refused refusal.Outrun ≡ said = cc in sym same
       go false is = absurd (cc)
 
+  -- a value was committed, or told by a marked block
+  abbrev pub Gives : Status → List ℕ → Type 0
+  Gives st value = (st ≡ Ended (attempt.Committed value)) ⊎ (st ≡ Ended (attempt.Decided value))
+
   -- a recovery that answers found its slot empty, or learned the last slot
   pub record IsOver (st : Status) (n : ℕ) : Type 0 where
-    pub ended : (st ≡ Ended attempt.Empty) ⊎ ((value : List ℕ) × (st ≡ Ended (attempt.Committed value)) × (t.operation ≡ Recovering))
+    pub ended : (st ≡ Ended attempt.Empty) ⊎ ((value : List ℕ) × Gives st value × (t.operation ≡ Recovering))
 
   learned_recovers : (n : ℕ) (command : Command) (own : Bool) → (after_learning c m t command own).said ≡ Some (Recovered n) → t.operation ≡ Recovering
   learned_recovers n command true is = absurd (cc)
@@ -67,13 +81,14 @@ module _ (c : Shape) (m : Memory) (t : Doing) (b : ℕ) where
 
   pub status_recovers : (st : Status) (n : ℕ) → (by_status c m t b st).said ≡ Some (Recovered n) → IsOver st n
   status_recovers (Due p d) n is = absurd (cc)
-  status_recovers (Ended (attempt.Committed value)) n is = record { ended = inr (value, refl, taken_recovers n value (decoded value) is) }
+  status_recovers (Ended (attempt.Committed value)) n is = record { ended = inr (value, inl refl, taken_recovers n value (decoded value) is) }
+  status_recovers (Ended (attempt.Decided value)) n is = record { ended = inr (value, inr refl, taken_recovers n value (decoded value) is) }
   status_recovers (Ended attempt.Empty) n is = record { ended = inl refl }
   status_recovers (Ended (attempt.Outrun mbal)) n is = absurd (let no = again (with_floor (with_floor m b) mbal) (Recovered n) is in cc)
   status_recovers (Ended attempt.NoMajority) n is = absurd (cc)
-  status_recovers (Ended attempt.BallotsSpent) n is = absurd (cc)
+  status_recovers (Ended attempt.BallotsSpent) n is = absurd (let same : spent_answer t.operation (length m.learned) ≡ Recovered n = cc in spent_recovers t.operation (length m.learned) n same)
 
-  -- an acknowledgement comes with a committed value, for the slot that was tried
+  -- an acknowledgement comes with a committed or decided value, for the slot that was tried
   learned_acks : (slot : ℕ) (reply : Reply) (command : Command) (own : Bool) → (after_learning c m t command own).said ≡ Some (Ack slot reply) → length m.learned ≡ slot
   learned_acks slot reply command true is = cc
   learned_acks slot reply command false is = absurd (full_acks t.operation (length (m.learned ++ command ∷ [])) slot reply (went_on c (learns m command) t.operation t.tries (Ack slot reply) is).0)
@@ -82,13 +97,14 @@ module _ (c : Shape) (m : Memory) (t : Doing) (b : ℕ) where
   taken_acks slot reply value None is = absurd (cc)
   taken_acks slot reply value (Some command) is = learned_acks slot reply command (is_submitted t.operation value) is
 
-  pub status_commits : (st : Status) (slot : ℕ) (reply : Reply) → (by_status c m t b st).said ≡ Some (Ack slot reply) → (value : List ℕ) × (st ≡ Ended (attempt.Committed value)) × (length m.learned ≡ slot)
-  status_commits (Due p d) slot reply is = absurd (cc)
-  status_commits (Ended (attempt.Committed value)) slot reply is = (value, refl, taken_acks slot reply value (decoded value) is)
-  status_commits (Ended attempt.Empty) slot reply is = absurd (cc)
-  status_commits (Ended (attempt.Outrun mbal)) slot reply is = absurd (let no = again (with_floor (with_floor m b) mbal) (Ack slot reply) is in cc)
-  status_commits (Ended attempt.NoMajority) slot reply is = absurd (cc)
-  status_commits (Ended attempt.BallotsSpent) slot reply is = absurd (cc)
+  pub status_gives : (st : Status) (slot : ℕ) (reply : Reply) → (by_status c m t b st).said ≡ Some (Ack slot reply) → (value : List ℕ) × Gives st value × (length m.learned ≡ slot)
+  status_gives (Due p d) slot reply is = absurd (cc)
+  status_gives (Ended (attempt.Committed value)) slot reply is = (value, inl refl, taken_acks slot reply value (decoded value) is)
+  status_gives (Ended (attempt.Decided value)) slot reply is = (value, inr refl, taken_acks slot reply value (decoded value) is)
+  status_gives (Ended attempt.Empty) slot reply is = absurd (cc)
+  status_gives (Ended (attempt.Outrun mbal)) slot reply is = absurd (let no = again (with_floor (with_floor m b) mbal) (Ack slot reply) is in cc)
+  status_gives (Ended attempt.NoMajority) slot reply is = absurd (cc)
+  status_gives (Ended attempt.BallotsSpent) slot reply is = absurd (let same : spent_answer t.operation (length m.learned) ≡ Ack slot reply = cc in spent_acks t.operation (length m.learned) slot reply same)
 
 -- WHAT A BEAT MAKES A HOST SAY
 
@@ -96,25 +112,64 @@ module _ (c : Shape) (m : Memory) (t : Doing) (b : ℕ) where
 abbrev pub IsOfLog : HostAnswer → Type 0
 IsOfLog (Ack slot reply) = Unit {0}
 IsOfLog (Recovered n) = Unit {0}
+IsOfLog (Looked n) = Unit {0}
 IsOfLog (Beaten host) = ⊥
+IsOfLog (Marked count) = ⊥
 IsOfLog (Refused refusal) = ⊥
 
 -- a beat says neither
 beat_says : (h : ℕ) (m : Memory) (heard : List beat_answers.Answered) (st : beat.Status) (said : HostAnswer) → IsOfLog said → (beat_by h m heard st).said ≡ Some said → ⊥
 beat_says h m heard (beat.Due disk) said of is = absurd (cc)
 beat_says h m heard (beat.Ended (beat.Beaten readings)) (Beaten host) of is = of
+beat_says h m heard (beat.Ended (beat.Beaten readings)) (Marked count) of is = of
 beat_says h m heard (beat.Ended (beat.Beaten readings)) (Refused refusal) of is = of
 beat_says h m heard (beat.Ended (beat.Beaten readings)) (Ack slot reply) of is = absurd (cc)
 beat_says h m heard (beat.Ended (beat.Beaten readings)) (Recovered n) of is = absurd (cc)
+beat_says h m heard (beat.Ended (beat.Beaten readings)) (Looked n) of is = absurd (cc)
 beat_says h m heard (beat.Ended beat.NoMajority) (Beaten host) of is = of
+beat_says h m heard (beat.Ended beat.NoMajority) (Marked count) of is = of
 beat_says h m heard (beat.Ended beat.NoMajority) (Refused refusal) of is = of
 beat_says h m heard (beat.Ended beat.NoMajority) (Ack slot reply) of is = absurd (cc)
 beat_says h m heard (beat.Ended beat.NoMajority) (Recovered n) of is = absurd (cc)
+beat_says h m heard (beat.Ended beat.NoMajority) (Looked n) of is = absurd (cc)
 
 -- nor does a host with which one begins
 begins_beat_says : (old : Host) (said : HostAnswer) → said_of (beats old) ≡ Some said → ⊥
 begins_beat_says Stopped said is = absurd (cc)
 begins_beat_says (Running m) said is = absurd (cc)
+
+-- nor does a marking
+marking_says : (m : Memory) (t : Marking) (st : mark.Status) (said : HostAnswer) → IsOfLog said → (marking_by m t st).said ≡ Some said → ⊥
+marking_says m t (mark.Due disk) said of is = absurd (cc)
+marking_says m t (mark.Ended (mark.Marked count)) (Beaten host) of is = of
+marking_says m t (mark.Ended (mark.Marked count)) (Marked other) of is = of
+marking_says m t (mark.Ended (mark.Marked count)) (Refused refusal) of is = of
+marking_says m t (mark.Ended (mark.Marked count)) (Ack slot reply) of is = absurd (cc)
+marking_says m t (mark.Ended (mark.Marked count)) (Recovered n) of is = absurd (cc)
+marking_says m t (mark.Ended (mark.Marked count)) (Looked n) of is = absurd (cc)
+marking_says m t (mark.Ended mark.NoMajority) (Beaten host) of is = of
+marking_says m t (mark.Ended mark.NoMajority) (Marked count) of is = of
+marking_says m t (mark.Ended mark.NoMajority) (Refused refusal) of is = of
+marking_says m t (mark.Ended mark.NoMajority) (Ack slot reply) of is = absurd (cc)
+marking_says m t (mark.Ended mark.NoMajority) (Recovered n) of is = absurd (cc)
+marking_says m t (mark.Ended mark.NoMajority) (Looked n) of is = absurd (cc)
+
+-- nor does a host that begins one, or is refused
+refused_says : (said : HostAnswer) → IsOfLog said → Refused refusal.NotLearned ≡ said → ⊥
+refused_says (Ack slot reply) of is = absurd (cc)
+refused_says (Recovered n) of is = absurd (cc)
+refused_says (Looked n) of is = absurd (cc)
+refused_says (Beaten host) of is = of
+refused_says (Marked count) of is = of
+refused_says (Refused refusal) of is = of
+
+begins_marking_says : (slot : ℕ) (old : Host) (said : HostAnswer) → IsOfLog said → said_of (marks old slot) ≡ Some said → ⊥
+begins_marking_says slot Stopped said of is = absurd (cc)
+begins_marking_says slot (Running m) said of is = by (nat_lt slot (length m.learned)) is
+  where
+    by : (b : Bool) → said_of (Running (if b then with_marking m (Some (record { slot = slot; heard = [] })) None else with_marking m m.marking (Some (Refused refusal.NotLearned)))) ≡ Some said → ⊥
+    by true is = absurd (cc)
+    by false is = refused_says said of (let same : Refused refusal.NotLearned ≡ said = cc in same)
 
 -- AT AN ENTRY
 
@@ -122,6 +177,7 @@ begins_beat_says (Running m) said is = absurd (cc)
 abbrev pub beginning_of : ℕ → Operation → ℕ → Filled
 beginning_of h (Submitting command) tries = Submit h command tries
 beginning_of h Recovering tries = Recover h tries
+beginning_of h Looking tries = Look h
 
 -- an operation begins, and says this at once, as all slots were learned
 pub record AtItsBeginning (c : Shape) (log : List Filled) (i h : ℕ) (said : HostAnswer) : Type 0 where
@@ -219,8 +275,21 @@ module _ (c : Shape) (log : List Filled) (i h : ℕ) (said : HostAnswer) where
       let st = beat.status (beat_of c h) (beat_answers.on heard) in
       let goes : host_step c h ((at c log i).host h) (CalledBy k call answer left) ≡ Running (beat_by h m heard st) =
       ap (λ (host : Host). host_step c h host (CalledBy k call answer left)) who.running ∙ ap (λ (o : Option Doing). Running (hears_from c h m o k answer)) who.rests
-      ∙ ap (λ (o : Option (List beat_answers.Answered)). Running (hears_beat c h m o x)) who.beats in
+      ∙ ap (λ (o : Option (List beat_answers.Answered)). Running (hears_beside c h m o k answer)) who.beats in
       beat_says h m heard st said of (ap said_of (sym goes) ∙ is)
+
+  -- or a marking
+  marked : (k : ℕ) (call : Call) (answer : Answer) (left : List ℕ) → IsMarkCall c h k call ((at c log i).host h) → IsOfLog said → said_of (host_step c h ((at c log i).host h) (CalledBy k call answer left)) ≡ Some said → ⊥
+  marked k call answer left who of is =
+      let m = who.memory in
+      let t : Marking = who.marking in
+      let x : Answered = record { disk = k; heard = heard_as answer } in
+      let st = mark.status (marking_of c h m t.slot) (on (marking_with t x).heard) in
+      let goes : host_step c h ((at c log i).host h) (CalledBy k call answer left) ≡ Running (marking_by m (marking_with t x) st) =
+      ap (λ (host : Host). host_step c h host (CalledBy k call answer left)) who.running ∙ ap (λ (o : Option Doing). Running (hears_from c h m o k answer)) who.rests
+      ∙ ap (λ (o : Option (List beat_answers.Answered)). Running (hears_beside c h m o k answer)) who.beats
+      ∙ ap (λ (o : Option Marking). Running (hears_marking c h m o x)) who.marks in
+      marking_says m (marking_with t x) st said of (ap said_of (sym goes) ∙ is)
 
   whence_by : IsOfLog said → (e : Filled) → slice_get log i ≡ Some e → MayFollow c (at c log i) e → is_of h e ≡ true → (at c log (i + 1)).host h ≡ host_step c h ((at c log i).host h) e → said_of (host_step c h ((at c log i).host h) e) ≡ Some said → Whence
   whence_by log_says (Start g) entry may of now is = begun ((at c log i).host h) (subst (λ (j : ℕ). IsTrue (is_stopped ((at c log i).host j))) (eqb-true g h of) may.1) is
@@ -229,12 +298,16 @@ module _ (c : Shape) (log : List Filled) (i h : ℕ) (said : HostAnswer) where
       operated ((at c log i).host h) (Submitting command) tries (by_host (Submit g command tries) (Submit h command tries) entry (ap (λ (j : ℕ). Submit j command tries) (eqb-true g h of))) is
   whence_by log_says (Recover g tries) entry may of now is =
       operated ((at c log i).host h) Recovering tries (by_host (Recover g tries) (Recover h tries) entry (ap (λ (j : ℕ). Recover j tries) (eqb-true g h of))) is
+  whence_by log_says (Look g) entry may of now is =
+      operated ((at c log i).host h) Looking 1 (by_host (Look g) (Look h) entry (ap (λ (j : ℕ). Look j) (eqb-true g h of))) is
   whence_by log_says (Beat g) entry may of now is = absurd (begins_beat_says ((at c log i).host h) said is)
+  whence_by log_says (Mark g slot) entry may of now is = absurd (begins_marking_says slot ((at c log i).host h) said log_says is)
   whence_by log_says (Called g k call answer left) entry may of now is =
       let own = by_host (Called g k call answer left) (CalledBy k call answer left) entry (ap (λ (j : ℕ). Called j k call answer left) (eqb-true g h of)) in
       elim (busy c h k call ((at c log i).host h) (subst (λ (j : ℕ). next_of c j ((at c log i).host j) ≡ Some (k, call)) (eqb-true g h of) may.0)) [
         | inl who ↦ attempted k call answer left own who now is
-        | inr who ↦ absurd (beaten k call answer left who log_says is)
+        | inr (inl who) ↦ absurd (beaten k call answer left who log_says is)
+        | inr (inr who) ↦ absurd (marked k call answer left who log_says is)
       ]
   whence_by log_says (Torn g k call left) entry may of now is = absurd (cc)
   whence_by log_says (Crashed k left) entry may of now is = absurd (cc)

@@ -1,16 +1,20 @@
 -- The machines at each place of a run, and what is chosen there.
 use Rattle.std.specs.Prelude.{slice_get, ◌-◌}
-use Rattle.std.proofs.Common.{ℕ, zero, suc, ◌+◌, ◌<◌, ◌≤◌, ◌≡◌, inl, inr, Option, Some, None, List, [], ◌∷◌, ◌++◌, append-nil, append_assoc, refl, sym, subst, ap, ◌∙◌, arith}
+use Rattle.std.proofs.Common.{ℕ, zero, suc, ◌+◌, ◌<◌, ◌≤◌, ◌≡◌, inl, inr, Option, Some, None, List, [], ◌∷◌, ◌++◌, length, append-nil, append_assoc, refl, sym, subst, ap, ◌∙◌, arith}
 use Rattle.disk.proofs.StepLemmas.{shape_fresh}
 use Rattle.paxos_block.specs.Places.{image_length}
-use Rattle.attempt.specs.Answers.{Answered, on, heard_as}
+use Rattle.attempt.specs.Answers.{Answered, Answers, on, heard_as}
+use Rattle.attempt.proofs.More.{on_more, by_disk}
+use Rattle.std.proofs.lemmas.Bool.{cases_eq}
 use Rattle.attempt.specs.Proposal.{ballot}
 use Rattle.attempt.specs.Setup.{Setup}
 use Rattle.lock_command.specs.declared.command.Command.{Command}
 use Rattle.lock_command.specs.Command.{spelling}
 use Rattle.slot_log.specs.Shape.{Shape}
-use Rattle.host.specs.Host.{Operation, Submitting, Recovering, input_of, setup_of}
-use Rattle.world.specs.Entry.{Filled}
+use Rattle.disk.specs.Disk.{Call, Answer}
+use Rattle.attempt.specs.Status.{Ended, Decided, status}
+use Rattle.host.specs.Host.{Doing, Memory, Running, Operation, Submitting, Recovering, Looking, input_of, setup_of}
+use Rattle.world.specs.Entry.{Filled, Called}
 use Rattle.world.specs.World.{World, IsRun}
 use Rattle.world.specs.Chosen.{at, Hears, IsChosenAt, IsSubmittedBefore}
 use Rattle.world.proofs.Runs.{each}
@@ -20,16 +24,18 @@ use Rattle.agreement.specs.Log.{IsHistory, events_of_slot}
 use Rattle.agreement.proofs.Agreeing.{one_chosen}
 use Rattle.agreement.proofs.Inputs.{only_inputs}
 use Rattle.agreement.proofs.Runs.{holds_reached}
-use Rattle.world_safety.specs.Goes.{IsInputAt, Carries, Goes}
+use Rattle.world_safety.specs.Goes.{IsInputAt, Carries, DecidesChosen, Goes}
 use Rattle.world_safety.specs.Tied.{Moves, machine, Tied}
-use Rattle.world_safety.specs.Tracks.{IsTrue, IsTrueOf}
+use Rattle.world_safety.specs.Tracks.{IsChosenBefore, IsTrue, IsTrueOf}
 use Rattle.world_safety.proofs.Moves.Entries.{goes}
 use Rattle.world_safety.proofs.Moves.Moving.{proposed_by_later, chosen_by_later, chosen_later}
-use Rattle.world_safety.proofs.Runs.Knowing.{all_true}
+use Rattle.world_safety.specs.Marks.{AllMarksTrue, TellsTrueMarks, KeepsMarks}
+use Rattle.world_safety.proofs.Runs.Knowing.{later_chosen, ShowsTrue, true_next}
+use Rattle.world_safety.proofs.Runs.Showing.{tells_more, decided_known, marks_kept, row_true}
 use Rattle.attempt_safety.proofs.Slotting.{events_append}
 use Rattle.world_safety.proofs.Moves.Machines.{machine_runs, input_append}
 use Rattle.world_safety.proofs.Runs.Places.{at_next, at_end}
-use Rattle.world_safety.proofs.Blocks.Standing.{stands_fresh}
+use Rattle.world_safety.proofs.Blocks.Standing.{stands_fresh, fresh_unmarked}
 
 -- at first
 tied_first : (c : Shape) → Tied c (at c [] zero) []
@@ -53,39 +59,132 @@ pub later_more : (early late : Moves) (more : Moves) → Later early late → La
 later_more early late more is = record { more = is.more ++ more; is = ap (λ (l : Moves). l ++ more) is.is ∙ append_assoc early is.more more }
 
 module _ (c : Shape) (log : List Filled) (run : IsRun c log) where
+  -- What is so before entry i: the machines have come to where hosts and disks stand; what hosts know is true, and so is each mark; and what was
+  -- chosen is chosen in the machines.
+  pub record Sound (i : ℕ) (ms : Moves) : Type 0 where
+    pub tied : Tied c (at c log i) ms
+    pub hosts : (h : ℕ) → IsTrueOf c log i h ((at c log i).host h)
+    pub marks : AllMarksTrue c (at c log i) (IsChosenBefore c log i)
+    pub chosen : (slot : ℕ) (v : List ℕ) → IsChosenBefore c log i slot v → IsChosen c.disks (machine ms slot) v
+
+  module _ (i : ℕ) (ms : Moves) (sound : Sound i ms) where
+    knows_true : (h : ℕ) (m : Memory) → (at c log i).host h ≡ Running m → IsTrue c log i h m
+    knows_true h m running = subst (IsTrueOf c log i h) running (sound.hosts h)
+
+    -- each row that is told shows true marks
+    shows_by : (h : ℕ) → ShowsTrue c log i h
+    shows_by h k call answer left is m t running does row tells =
+        let may = each c log i (Called h k call answer left) run is in
+        row_true c (at c log i) ms (IsChosenBefore c log i) sound.marks h k call answer left m t (record { tied = sound.tied; running = running; does = does; next = may.0; step = may.1 }) row tells
+
+    -- so what an attempt takes as decided was chosen before
+    decided_by : (h k : ℕ) (call : Call) (answer : Answer) (left : List ℕ) → slice_get log i ≡ Some (Called h k call answer left) → (m : Memory) (t : Doing) (v : List ℕ) → (at c log i).host h ≡ Running m → m.doing ≡ Some t
+        → status (setup_of c h m t.operation) (on (t.heard ++ record { disk = k; heard = heard_as answer } ∷ [])) ≡ Ended (Decided v) → IsChosenBefore c log i (length m.learned) v
+    decided_by h k call answer left is m t v running does ended =
+        let K = IsChosenBefore c log i (length m.learned) in
+        let x : Answered = record { disk = k; heard = heard_as answer } in
+        let known = knows_true h m running in
+        let tells : (d : ℕ) → TellsTrueMarks K (on (t.heard ++ x ∷ []) d) =
+        subst (λ (f : Answers). (d : ℕ) → TellsTrueMarks K (f d)) (sym (on_more t.heard x))
+        (by_disk (on t.heard) k (heard_as answer) (λ d a. TellsTrueMarks K a)
+        (tells_more K (on t.heard k) (heard_as answer) (known.told t does k) (λ row told. shows_by h k call answer left is m t running does row told))
+        (λ d off. known.told t does d)) in
+        decided_known K (setup_of c h m t.operation) (on (t.heard ++ x ∷ [])) v tells ended
+
+    decides_by : (e : Filled) → slice_get log i ≡ Some e → DecidesChosen c (at c log i) ms e
+    decides_by (Called h k call answer left) is = λ m t v running does ended. sound.chosen (length m.learned) v (decided_by h k call answer left is m t v running does ended)
+    decides_by other is = tt
+
   -- one place further
   record Further (i : ℕ) (ms : Moves) : Type 0 where
     pub more : Moves
     pub tied : Tied c (at c log (suc i)) (ms ++ more)
     pub goes_by : (e : Filled) → slice_get log i ≡ Some e → (g : Goes c (at c log i) e ms) × (g.more ≡ more)
+    pub keeps : KeepsMarks c (at c log i) (at c log (suc i))
 
-  further_by : (i : ℕ) (ms : Moves) → Tied c (at c log i) ms → (o : Option Filled) → slice_get log i ≡ o → Further i ms
-  further_by i ms tied None is =
+  further_by : (i : ℕ) (ms : Moves) → Sound i ms → (o : Option Filled) → slice_get log i ≡ o → Further i ms
+  further_by i ms sound None is =
       record {
         more = [];
-        tied = subst (λ (w : World). Tied c w (ms ++ [])) (sym (at_end c log i is)) (subst (λ (l : Moves). Tied c (at c log i) l) (sym (append-nil ms)) tied);
+        tied = subst (λ (w : World). Tied c w (ms ++ [])) (sym (at_end c log i is)) (subst (λ (l : Moves). Tied c (at c log i) l) (sym (append-nil ms)) sound.tied);
         goes_by = λ e found. absurd (let both : None ≡ Some e = sym is ∙ found in cc);
+        keeps = subst (λ (w : World). KeepsMarks c (at c log i) w) (sym (at_end c log i is)) (λ slot host d slot_below below bytes left marked. inl (bytes, left, refl));
       }
-  further_by i ms tied (Some e) is =
-      let g = goes c (at c log i) ms tied e (each c log i e run is) in
+  further_by i ms sound (Some e) is =
+      let g = goes c (at c log i) ms sound.tied e (each c log i e run is) (decides_by i ms sound e is) in
       record {
         more = g.more;
         tied = subst (λ (w : World). Tied c w (ms ++ g.more)) (sym (at_next c log i e is)) g.tied;
         goes_by = λ other found. (let both : Some e ≡ Some other = sym is ∙ found in let same : e ≡ other = cc in
             subst (λ (x : Filled). (y : Goes c (at c log i) x ms) × (y.more ≡ g.more)) same (g, refl));
+        keeps = subst (λ (w : World). KeepsMarks c (at c log i) w) (sym (at_next c log i e is)) g.marks;
+      }
+
+  -- what is chosen with the entry is chosen in the machine
+  chosen_by_entry : (i : ℕ) (ms : Moves) (next : Further i ms) (slot : ℕ) (v : List ℕ) → IsChosenAt c log i slot v → IsChosen c.disks (machine (ms ++ next.more) slot) v
+  chosen_by_entry i ms next slot v is =
+      let hears = is.hears in
+      let by = next.goes_by _ hears.entry in
+      let own = setup_of c hears.host hears.memory hears.doing.operation in
+      let all : List Answered = hears.doing.heard ++ record { disk = hears.disk; heard = heard_as hears.answer } ∷ [] in
+      let here : Carries (machine (ms ++ next.more) own.slot) own (on all) =
+      subst (λ (l : Moves). Carries (machine (ms ++ l) own.slot) own (on all)) by.1 (by.0.carries hears.memory hears.doing hears.running hears.does) in
+      let there : Carries (machine (ms ++ next.more) is.setup.slot) is.setup (on is.heard) =
+      subst (λ (xs : List Answered). Carries (machine (ms ++ next.more) is.setup.slot) is.setup (on xs)) (sym hears.is_heard)
+      (subst (λ (t : Setup). Carries (machine (ms ++ next.more) t.slot) t (on all)) (sym hears.is_setup) here) in
+      let disks : is.setup.disks ≡ c.disks = ap (λ (t : Setup). t.disks) hears.is_setup in (
+        ballot is.setup (on is.heard),
+        subst (λ (k : ℕ). IsChosenBy c.disks (machine (ms ++ next.more) k) (ballot is.setup (on is.heard)) v) is.on_slot
+            (subst (λ (n : ℕ). IsChosenBy n (machine (ms ++ next.more) is.setup.slot) (ballot is.setup (on is.heard)) v) disks (there.chosen v is.chooses)),
+      )
+
+  sound_next : (i : ℕ) (ms : Moves) → Sound i ms → (next : Further i ms) → Sound (suc i) (ms ++ next.more)
+  sound_next i ms sound next =
+      record {
+        tied = next.tied;
+        hosts = λ h. true_next c log run i h (shows_by i ms sound h) (sound.hosts h);
+        marks = λ slot host d slot_below below bytes left marked.
+            (let b = marks_kept c (at c log i) (at c log (suc i)) (IsChosenBefore c log i) next.keeps (λ h m k command running at. ((knows_true i ms sound h m running).learned k command at).1) sound.marks slot host d slot_below below bytes left marked in
+            (b.0, b.1, later_chosen c log i slot b.0 b.2));
+        chosen = λ slot v is. elim (cases_eq is.place i) [
+          | inl same ↦ chosen_by_entry i ms next slot v (subst (λ (j : ℕ). IsChosenAt c log j slot v) same is.is)
+          | inr less ↦ chosen_later c.disks ms next.more slot v next.tied.history (sound.chosen slot v (record { place = is.place; before = (let b = is.before in omega arith); is = is.is }))
+        ];
+      }
+
+  sound_first : Sound zero []
+  sound_first =
+      record {
+        tied = tied_first c;
+        hosts = λ h. tt;
+        marks = λ slot host d slot_below below bytes left marked. absurd (fresh_unmarked (image_length c.slots) slot host bytes left marked);
+        chosen = λ slot v is. absurd (let b = is.before in omega arith);
       }
 
   -- the moves before each place
-  track : (i : ℕ) → (ms : Moves) × Tied c (at c log i) ms
-  track zero = ([], tied_first c)
-  track (suc i) = let before = track i in let next = further_by i before.0 before.1 (slice_get log i) refl in (before.0 ++ next.more, next.tied)
+  track : (i : ℕ) → (ms : Moves) × Sound i ms
+  track zero = ([], sound_first)
+  track (suc i) = let before = track i in let next = further_by i before.0 before.1 (slice_get log i) refl in (before.0 ++ next.more, sound_next i before.0 before.1 next)
 
   pub moves_at : ℕ → Moves
   moves_at i = (track i).0
 
   pub tied_at : (i : ℕ) → Tied c (at c log i) (moves_at i)
   unfolding moves_at
-  tied_at i = (track i).1
+  tied_at i = (track i).1.tied
+
+  -- at each place each host knows what is true
+  pub all_true : (i h : ℕ) → IsTrueOf c log i h ((at c log i).host h)
+  all_true i h = (track i).1.hosts h
+
+  -- what an attempt takes as decided was chosen before
+  pub decided_at : (i h k : ℕ) (call : Call) (answer : Answer) (left : List ℕ) → slice_get log i ≡ Some (Called h k call answer left) → (m : Memory) (t : Doing) (v : List ℕ) → (at c log i).host h ≡ Running m → m.doing ≡ Some t
+      → status (setup_of c h m t.operation) (on (t.heard ++ record { disk = k; heard = heard_as answer } ∷ [])) ≡ Ended (Decided v) → IsChosenBefore c log i (length m.learned) v
+  decided_at i h k call answer left is m t v running does ended = decided_by i (track i).0 (track i).1 h k call answer left is m t v running does ended
+
+  -- and each marked block has an input that was chosen before for its slot
+  pub all_marks_true : (i : ℕ) → AllMarksTrue c (at c log i) (IsChosenBefore c log i)
+  all_marks_true i = (track i).1.marks
 
   -- an entry is the moves between its place and the next
   pub record Step (i : ℕ) (e : Filled) : Type 0 where
@@ -174,12 +273,13 @@ module _ (c : Shape) (log : List Filled) (run : IsRun c log) where
   input_is : (operation : Operation) (v : List ℕ) → input_of operation ≡ Some v → (command : Command) × (operation ≡ Submitting command) × (v ≡ spelling command)
   input_is (Submitting command) v is = (command, refl, (let same : spelling command ≡ v = cc in sym same))
   input_is Recovering v is = absurd (cc)
+  input_is Looking v is = absurd (cc)
 
   -- what a host puts in was submitted
   put_before : (i j : ℕ) (e : Filled) (v : List ℕ) → IsInputAt c (at c log i) j e v → IsSubmittedBefore log i v
   put_before i j e v put =
       let by = input_is put.doing.operation v put.input in
-      let known : IsTrue c log i put.host put.memory = subst (IsTrueOf c log i put.host) put.running (all_true c log run i put.host) in
+      let known : IsTrue c log i put.host put.memory = subst (IsTrueOf c log i put.host) put.running (all_true i put.host) in
       let submitted = known.begun put.doing put.does by.0 by.1 in
       record { place = submitted.place; host = put.host; command = by.0; tries = submitted.tries; before = submitted.before; entry = submitted.entry; spelled = by.2 }
 

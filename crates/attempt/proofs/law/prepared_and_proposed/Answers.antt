@@ -1,8 +1,10 @@
+use Rattle.std.proofs.Common.{arith}
 use Rattle.attempt.specs.Answers.{on}
-use Rattle.attempt.specs.Status.{Ended, Empty}
-use Rattle.attempt.proofs.Statuses.{HasNone, told_by}
+use Rattle.attempt.specs.Status.{Ended, Decided, Empty}
+use Rattle.attempt.proofs.Statuses.{HasNone, HasDecided, told_by}
 use Rattle.attempt.proofs.Proposals as proposals
 use Rattle.attempt.proofs.Preparing as preparing
+use Rattle.attempt.proofs.Deciding as marks
 use Rattle.attempt.proofs.law.prepared_and_proposed.Goals as goal
 
 pub returns-clause-prepared : goal.returns-clause-prepared
@@ -27,3 +29,8 @@ returns-clause-none c = λ s heard host votes ended.
 
 pub returns-clause-accepted : goal.returns-clause-accepted
 returns-clause-accepted c = λ s heard value is ended. preparing.accepted s heard is value ended
+
+pub returns-clause-decided : goal.returns-clause-decided
+returns-clause-decided c = λ s heard value ended.
+    let told : HasDecided s value (on heard) = told_by s (on heard) (Ended (Decided value)) ended in
+    marks.mark_seen s (on heard) value s.disks (omega arith) told.decided_is

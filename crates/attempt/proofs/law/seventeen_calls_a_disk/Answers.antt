@@ -14,5 +14,8 @@ returns-clause-committed c = λ s heard value is well ended. ends.committed s he
 pub returns-clause-empty : goal.returns-clause-empty
 returns-clause-empty c = ends.empty
 
+pub returns-clause-decided : goal.returns-clause-decided
+returns-clause-decided c = λ s heard value is well ended. ends.decides s heard is value well ended
+
 pub returns-clause-majority : goal.returns-clause-majority
 returns-clause-majority c = λ s heard some is well ended. ends.majority s heard is (ends.most_well s (on heard) some well) ended

@@ -3,7 +3,7 @@
 /// The name of a script, its text, and what is printed.
 pub type Row = (&'static str, &'static str, &'static str);
 
-pub const ROWS: [Row; 19] = [
+pub const ROWS: [Row; 22] = [
     (
         "recovery_of_blank_disks",
         "cluster 3 4\nstart 0\nrecover 0 1\nstep 0 30\n",
@@ -82,6 +82,23 @@ pub const ROWS: [Row; 19] = [
         "cluster 1 4\nstart 0\nstart 1\nsubmit 0 1 enqueue 1 1 1 EX db\nstep 0 17\n\
         submit 1 1 enqueue 1 1 1 EX db\nstep 1 34\nshow 1\n",
         "19 h0 ack 0 Granted\n54 h1 ack 1 Granted\ndb\n  granted 1 1 0 EX\n",
+    ),
+    (
+        "recovery_by_marks",
+        "cluster 3 4\nstart 0\nsubmit 0 1 enqueue 1 1 1 EX db\nstep 0 51\nmark 0 0\nstep 0 27\nstart 1\n\
+        recover 1 1\nstep 1 39\n",
+        "52 h0 ack 0 Granted\n80 h0 marked 3\n121 h1 recovered 1\n",
+    ),
+    (
+        "torn_mark",
+        "cluster 1 2\nstart 0\nsubmit 0 1 enqueue 1 1 1 EX db\nstep 0 17\nmark 0 0\nstep 0 5\ntear 0 00\n\
+        start 1\nrecover 1 1\nstep 1 27\nshow 1\n",
+        "18 h0 ack 0 Granted\n54 h1 recovered 1\ndb\n  granted 1 1 0 EX\n",
+    ),
+    (
+        "slot_that_is_not_learned",
+        "cluster 1 2\nstart 0\nmark 0 1\n",
+        "1 h0 refused 30 NotLearned\n",
     ),
     (
         "log_of_one_slot",

@@ -1,4 +1,4 @@
-use Rattle.std.proofs.Common.{◌≡◌, ◌≤◌, ◌<◌, ℕ, length, arith, sym, ◌∙◌, subst, refl}
+use Rattle.std.proofs.Common.{◌≡◌, ◌≤◌, ◌<◌, length, arith, sym, ◌∙◌, subst, refl}
 use Rattle.std.proofs.lemmas.Option.{slice_get-get_or}
 use Rattle.std.proofs.lemmas.List.{length-set}
 use Rattle.disk.specs.Disk as device
@@ -37,8 +37,9 @@ loop-made-preserved g c = record {
         busy = λ s h m leads. sym (c.idle.ensures.known s h m leads) ∙ c.if-idle.false;
         fits = λ s h m leads. answers_due _ (call_of_need c.call-need.result) (due_call c.loop-made.host) x (c.call-need.ensures.next s h m leads) c.call-need.ensures.due refl c.answer_of-heard.ensures.fits;
         leads = attempt_hears c.args.host.now c.loop-made.host c.hear.new.self _ c.args.host.now.learner.shape c.loop-made.invariant.driven (due_call c.loop-made.host).0 c.answer_of-heard.result
-            (λ s h m leads. sym (c.idle.ensures.known s h m leads) ∙ c.if-idle.false) c.hear.ensures.leads;
+            c.hear.ensures.leads;
         alone = λ s h m leads. c.hear.ensures.alone s h m leads;
+        nine = λ s h m leads. c.hear.ensures.marked_nine s h m leads;
       })
       c.loop-made.invariant.driven;
   as_many = length-set c.loop-made.disks c.from.result _ ∙ c.loop-made.invariant.as_many;

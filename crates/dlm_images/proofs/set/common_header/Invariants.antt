@@ -1,6 +1,3 @@
-use Rattle.std.proofs.Common.{◌≡◌, ◌<◌, ℕ, Option, Some, None}
-use Rattle.paxos_block.specs.declared.header.Header.{Header}
-use Rattle.dlm_images.specs.Sets.{Found, IsFirst, AreOfSetBelow, AreRefusedBelow}
 use Rattle.dlm_images.proofs.Sets.{IsFoundBelow}
 use Rattle.dlm_images.proofs.set.common_header.Given as goal
 

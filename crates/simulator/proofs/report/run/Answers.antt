@@ -1,4 +1,4 @@
-use Rattle.std.proofs.Common.{◌≤◌, ◌+◌, ◌++◌, ◌∷◌, [], List, Option, Some, take, ap, ◌∙◌, sym, subst, arith}
+use Rattle.std.proofs.Common.{◌+◌, ◌++◌, ◌∷◌, [], List, Option, Some, take, ap, ◌∙◌, sym, subst, arith}
 use Rattle.world.specs.Entry.{Filled}
 use Rattle.world.specs.Happens.{run}
 use Rattle.simulator.specs.declared.answer.Answer.{Answer}

@@ -8,4 +8,4 @@ returns-clause-not_yet c = λ value is. true≢false (sym is.majority)
 
 pub returns-clause-chosen : goal.returns-clause-chosen
 unfolding heard_after
-returns-clause-chosen c = record { proposes = record { taken = record { over = refl; fits = refl }; over = refl; not_outrun = refl; is = refl }; majority = refl }
+returns-clause-chosen c = record { proposes = record { taken = record { over = refl; undecided = refl; fits = refl }; over = refl; not_outrun = refl; is = refl }; majority = refl }

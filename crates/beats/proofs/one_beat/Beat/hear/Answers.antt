@@ -11,8 +11,10 @@ use Rattle.beats.specs.History.{IsAnswerTo}
 use Rattle.beats.specs.declared.notes.Notes.{Notes}
 use Rattle.beats.specs.Kept.{LeadsTo, Follows, answer_of, call_due}
 use Rattle.beats.proofs.Answering.{call_is}
-use Rattle.beats.proofs.Histories.{bound, fits_too, history_more}
-use Rattle.beats.proofs.More.{on_more}
+use Rattle.attempt.proofs.Hearing.{history_more}
+use Rattle.attempt.proofs.More.{on_more}
+use Rattle.beats.specs.Status.{next_call}
+use Rattle.beats.proofs.Histories.{bound, fits_too}
 use Rattle.beats.proofs.one_beat.Beat.hear.Goals as goal
 
 -- an answer of the kind that a call may get is so for a beat too
@@ -33,7 +35,7 @@ returns-clause-leads c s answers leads =
     let answered : IsAnswerTo (Some (call_due n)) x = (refl, fits_it (call_due n).1 c.args.heard.now fits) in
     subst (λ (m : Notes). LeadsTo s (answers ++ answer_of m c.args.heard.now ∷ []) c.hear.new.self) c.self.view_is
     (record {
-      history = history_more s answers x before.history (subst (λ (o : Option (ℕ × device.Call)). IsAnswerTo o x) (sym next) answered);
+      history = history_more (next_call s) answers x before.history (subst (λ (o : Option (ℕ × device.Call)). IsAnswerTo o x) (sym next) answered);
       follows = subst (λ (g : Answers). Follows s g c.hear.new.self) (sym (on_more answers x)) (c.hear.ensures.follows s (on answers) before.follows);
     })
 

@@ -1,12 +1,12 @@
 use Rattle.std.proofs.Common.{rules, ◌≡◌, ℕ, Some, subst, inr}
 use Rattle.lock_table.specs.declared.reply.Reply.{Reply}
-use Rattle.host.specs.declared.answer.HostAnswer.TheVariants.{Ack, Recovered}
+use Rattle.host.specs.declared.answer.HostAnswer.TheVariants.{Ack, Recovered, Marked}
 use Rattle.host.specs.Host.{said_of}
 use Rattle.world.specs.Entry.{Beat}
 use Rattle.cluster_tie.specs.Parts.{Own}
 use Rattle.cluster.specs.Operations.{Beating, Fails, Stops}
 use Rattle.cluster.specs.Seat.{host_in}
-use Rattle.cluster.proofs.Operating.{beating_by, goes_on_so, refused, beats_unacknowledged, beats_unrecovered}
+use Rattle.cluster.proofs.Operating.{beating_by, goes_on_so, refused, beats_unacknowledged, beats_unrecovered, beats_unmarked}
 use Rattle.cluster.proofs.cluster.Cluster.beat.Goals as goal
 
 pub go_on-requires : goal.go_on-requires
@@ -30,4 +30,5 @@ unreachable-requires g c =
     let carried = goes_on_so shape Beating c.beat.new.seat c.go_on.new.seat (beating_by g.N.Named.shape c.args.seat.now c.beat.new.seat _ c.requires c.in_ok-beat.ensures.seat) c.in_ok-go_on.ensures.steps in
     let never : (slot : ℕ) (reply : Reply) → said_of (host_in shape c.go_on.new.seat) ≡ Some (Ack slot reply) → ⊥ = beats_unacknowledged shape c.go_on.new.seat carried in
     let none : (n : ℕ) → said_of (host_in shape c.go_on.new.seat) ≡ Some (Recovered n) → ⊥ = beats_unrecovered shape c.go_on.new.seat carried in
-    search (rules, never, none)
+    let unmarked : (count : ℕ) → said_of (host_in shape c.go_on.new.seat) ≡ Some (Marked count) → ⊥ = beats_unmarked shape c.go_on.new.seat carried in
+    search (rules, never, none, unmarked)

@@ -1,12 +1,12 @@
 use Rattle.std.proofs.Common.{rules, ◌≡◌, ℕ, Some, subst, inr}
 use Rattle.lock_table.specs.declared.reply.Reply.{Reply}
-use Rattle.host.specs.declared.answer.HostAnswer.TheVariants.{Ack, Beaten}
+use Rattle.host.specs.declared.answer.HostAnswer.TheVariants.{Ack, Beaten, Marked}
 use Rattle.host.specs.Host.{Recovering, said_of}
 use Rattle.world.specs.Entry.{Recover}
 use Rattle.cluster_tie.specs.Parts.{Own}
 use Rattle.cluster.specs.Operations.{Fails, Stops, Attempting}
 use Rattle.cluster.specs.Seat.{host_in}
-use Rattle.cluster.proofs.Operating.{recovering_by, goes_on_so, refused, only_recovers, recovers_unbeaten}
+use Rattle.cluster.proofs.Operating.{recovering_by, goes_on_so, refused, only_recovers, recovers_unbeaten, recovers_unmarked}
 use Rattle.cluster.proofs.cluster.Cluster.recover.Goals as goal
 
 pub go_on-requires : goal.go_on-requires
@@ -30,4 +30,5 @@ unreachable-requires g c =
     let carried = goes_on_so shape (Attempting Recovering) c.recover.new.seat c.go_on.new.seat (recovering_by g.N.Named.shape c.args.tries c.args.seat.now c.recover.new.seat _ c.requires.idle c.in_ok-recover.ensures.seat) c.in_ok-go_on.ensures.steps in
     let never : (slot : ℕ) (reply : Reply) → said_of (host_in shape c.go_on.new.seat) ≡ Some (Ack slot reply) → ⊥ = only_recovers shape c.go_on.new.seat carried in
     let unbeaten : (host : ℕ) → said_of (host_in shape c.go_on.new.seat) ≡ Some (Beaten host) → ⊥ = recovers_unbeaten shape c.go_on.new.seat carried in
-    search (rules, never, unbeaten)
+    let unmarked : (count : ℕ) → said_of (host_in shape c.go_on.new.seat) ≡ Some (Marked count) → ⊥ = recovers_unmarked shape c.go_on.new.seat carried in
+    search (rules, never, unbeaten, unmarked)

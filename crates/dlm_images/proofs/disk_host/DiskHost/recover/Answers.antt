@@ -1,7 +1,7 @@
 use Rattle.std.proofs.Common.{◌≡◌, ◌≤◌, ◌++◌, ℕ, List, Some, length, take, drop, slice_get, arith, sym, ◌∙◌, subst, ap}
 use Rattle.paxos_block.specs.Places.{image_length}
 use Rattle.slot_log.specs.Shape.{Shape}
-use Rattle.host.specs.Host.{Operation, Recovering}
+use Rattle.host.specs.Host.{Recovering}
 use Rattle.host.specs.Kept.{Kept}
 use Rattle.dlm_images.specs.Operations.{IsSmall, HasOperated}
 use Rattle.dlm_images.proofs.Driving.{known_begun, begun_shape, known_operated, operated, operated_ends, written_back}
@@ -32,7 +32,7 @@ drive-requires-clause-large g c =
 
 pub recovered-requires : goal.recovered-requires
 recovered-requires g c =
-    operated_ends Recovering c.args.tries c.self.inside.core c.drive.new.host tt c.self.invariant.known
+    operated_ends Recovering c.args.tries c.self.inside.core c.drive.new.host tt c.self.invariant.known c.self.invariant.idle
     (operated Recovering c.args.tries c.self.inside.core c.recover.new.self c.drive.new.host c.recover.ensures c.drive.ensures.heard c.drive.ensures.ended)
 
 pub invariant_of-self : goal.invariant_of-self

@@ -1,7 +1,7 @@
 use Rattle.std.proofs.Common.{◌≡◌, ◌≤◌, ◌++◌, ℕ, List, Some, length, take, drop, slice_get, arith, sym, ◌∙◌, subst, ap}
 use Rattle.paxos_block.specs.Places.{image_length}
 use Rattle.slot_log.specs.Shape.{Shape}
-use Rattle.host.specs.Host.{Operation, Submitting}
+use Rattle.host.specs.Host.{Submitting}
 use Rattle.host.specs.Kept.{Kept}
 use Rattle.dlm_images.specs.Operations.{IsSmall, HasOperated}
 use Rattle.dlm_images.proofs.Driving.{known_begun, begun_shape, known_operated, operated, operated_ends, written_back}
@@ -33,7 +33,7 @@ drive-requires-clause-large g c =
 
 pub acknowledged-requires : goal.acknowledged-requires
 acknowledged-requires g c =
-    operated_ends (Submitting c.args.command) c.args.tries c.self.inside.core c.drive.new.host (reads_back c.args.command c.encode-spelled.ensures.fits) c.self.invariant.known
+    operated_ends (Submitting c.args.command) c.args.tries c.self.inside.core c.drive.new.host (reads_back c.args.command c.encode-spelled.ensures.fits) c.self.invariant.known c.self.invariant.idle
     (operated (Submitting c.args.command) c.args.tries c.self.inside.core c.submit.new.self c.drive.new.host c.submit.ensures c.drive.ensures.heard c.drive.ensures.ended)
 
 pub invariant_of-self : goal.invariant_of-self

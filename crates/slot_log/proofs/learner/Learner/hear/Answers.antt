@@ -21,7 +21,7 @@ returns-in-Some-take-clause-leads c c' h m leads =
     let doing = task_is c' h m k task leads' (sym c.take.ensures.value ∙ c.in-Some-take.is) in
     let t = doing.0 in
     let heard = c.hear.ensures.leads (setup_of c' h m t.operation) t.heard doing.2.heard in
-    let no_value : IsOver e = over e c.in_default-end.not-Committed in
+    let no_value : IsOver e = over e c.in_default-end.not-Committed c.in_default-end.not-Decided in
     let ends = c.in-Some.ensures.end (setup_of c' h m t.operation) (t.heard ++ x ∷ []) heard in
     let took = c.ballot-ballot.ensures (setup_of c' h m t.operation) (t.heard ++ x ∷ []) heard in
     let is = c.count_ballot.ensures in
@@ -63,6 +63,14 @@ returns-in-Committed-clause-alone c c' h m leads =
     record { bound = c.hear.ensures.bound; alone = c.hear.ensures.alone } in
     alone c' h m k c.args.self.now (heard_of c.args.heard.now) c.self.view_is leads said
 
+pub returns-in-Decided-clause-alone : goal.returns-in-Decided-clause-alone
+returns-in-Decided-clause-alone c c' h m leads =
+    let s = c.self.inside in
+    let k : Kept = record { host = s.host; shape = s.config; learned = s.learned.items; floor = s.floor; task = s.task; attempt = s.attempt; said = s.said } in
+    let said : Says s.attempt (record { disk = s.attempt.disk; heard = heard_of c.args.heard.now }) =
+    record { bound = c.hear.ensures.bound; alone = c.hear.ensures.alone } in
+    alone c' h m k c.args.self.now (heard_of c.args.heard.now) c.self.view_is leads said
+
 pub returns-in_default-clause-leads : goal.returns-in_default-clause-leads
 returns-in_default-clause-leads c c' h m leads =
     let s = c.self.inside in
@@ -84,3 +92,14 @@ returns-in-Committed-clause-leads c c' h m leads =
     let By : Kept → Type 0 = λ v. LeadsTo c' h (hears c' h m m.doing (record { disk = v.attempt.disk; heard = x.heard })) (record { host = s.host; shape = s.config; learned = s.learned.items; floor = s.floor; task = s.task; attempt = c.hear.new.self; said = None }) in
     subst By c.self.view_is
     (waits_on c' h m k c.hear.new.self x (Some (end.Committed c.in-Committed.field-0)) (subst Known (sym c.self.view_is) leads) (ap is_idle c.self.view_is ∙ c.requires.busy) goes)
+
+pub returns-in-Decided-clause-leads : goal.returns-in-Decided-clause-leads
+returns-in-Decided-clause-leads c c' h m leads =
+    let s = c.self.inside in
+    let k : Kept = record { host = s.host; shape = s.config; learned = s.learned.items; floor = s.floor; task = s.task; attempt = s.attempt; said = s.said } in
+    let x : Answered = record { disk = s.attempt.disk; heard = heard_of c.args.heard.now } in
+    let Known : Kept → Type 0 = λ v. LeadsTo c' h m v in
+    let goes : Goes s.attempt c.hear.new.self x (Some (end.Decided c.in-Decided.field-0)) = record { leads = c.hear.ensures.leads; end_is = λ s' answers known. sym (ap (λ (e : End). end_in (Some e)) c.in-Decided.is) ∙ c.in-Some.ensures.end s' answers known; on = tt } in
+    let By : Kept → Type 0 = λ v. LeadsTo c' h (hears c' h m m.doing (record { disk = v.attempt.disk; heard = x.heard })) (record { host = s.host; shape = s.config; learned = s.learned.items; floor = s.floor; task = s.task; attempt = c.hear.new.self; said = None }) in
+    subst By c.self.view_is
+    (waits_on c' h m k c.hear.new.self x (Some (end.Decided c.in-Decided.field-0)) (subst Known (sym c.self.view_is) leads) (ap is_idle c.self.view_is ∙ c.requires.busy) goes)

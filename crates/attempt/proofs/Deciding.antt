@@ -1,0 +1,58 @@
+-- What is decided is the input of a marked block in a row of the opening.
+use Rattle.std.specs.Prelude.{if◌then◌else◌}
+use Rattle.std.proofs.Common.{ℕ, zero, suc, ◌<◌, ◌≤◌, ◌≡◌, ◌⊎◌, inl, inr, Bool, true, false, Option, Some, None, List, refl, ap, ◌∙◌, arith}
+use Rattle.torn_block.specs.declared.layout.TheConstants.{HOSTS}
+use Rattle.paxos_block.specs.declared.block.PBlock.{PBlock}
+use Rattle.paxos_block.specs.Row.{SeenBlock}
+use Rattle.paxos_block.specs.Votes.{says_in, marked, marked_below}
+use Rattle.attempt.specs.Calls.{Opening}
+use Rattle.attempt.specs.Answers.{Answers, row_in}
+use Rattle.attempt.specs.Setup.{Setup}
+use Rattle.attempt.specs.Proposal.{or_else, decided_in, decided_below}
+use Rattle.attempt.specs.Prepared.{IsMarkSeen}
+
+-- of two the first that there is
+one_of : (first second : Option (List ℕ)) (value : List ℕ) → or_else first second ≡ Some value → (first ≡ Some value) ⊎ (second ≡ Some value)
+one_of None second value is = inr is
+one_of (Some before) second value is = inl is
+
+-- a block's marked input
+record IsMarked (says : PBlock) (value : List ℕ) : Type 0 where
+  mark : says.mark ≡ true
+  inp : says.inp ≡ Some value
+
+marked_by : (says : PBlock) (value : List ℕ) (b : Bool) → says.mark ≡ b → (if b then says.inp else None) ≡ Some value → IsMarked says value
+marked_by says value true is some = record { mark = is; inp = some }
+marked_by says value false is some = absurd (cc)
+
+is_marked : (says : PBlock) (value : List ℕ) → marked says ≡ Some value → IsMarked says value
+is_marked says value some = marked_by says value says.mark refl some
+
+-- a host whose block in a row is marked
+record HasMark (row : List SeenBlock) (value : List ℕ) : Type 0 where
+  host : ℕ
+  below : host < HOSTS
+  is : IsMarked (says_in row host) value
+
+mark_in : (row : List SeenBlock) (n : ℕ) (value : List ℕ) → n ≤ HOSTS → marked_below row n ≡ Some value → HasMark row value
+mark_in row zero value l some = absurd (cc)
+mark_in row (suc n) value l some =
+    elim (one_of (marked_below row n) (marked (says_in row n)) value some) [
+      | inl before ↦ mark_in row n value (omega arith) before
+      | inr here ↦ record { host = n; below = omega arith; is = is_marked (says_in row n) value here }
+    ]
+
+module _ (s : Setup) (f : Answers) (value : List ℕ) where
+  mark_on : (d : ℕ) → d < s.disks → (o : Option (List SeenBlock)) → row_in Opening (f d) ≡ o → decided_in o ≡ Some value → IsMarkSeen s f value
+  mark_on d l None read some = absurd (cc)
+  mark_on d l (Some row) read some =
+      let has = mark_in row HOSTS value (omega arith) some in
+      record { disk = d; row = row; host = has.host; inside = l; read = read; below = has.below; mark = has.is.mark; inp = has.is.inp }
+
+  pub mark_seen : (n : ℕ) → n ≤ s.disks → decided_below s f n ≡ Some value → IsMarkSeen s f value
+  mark_seen zero l some = absurd (cc)
+  mark_seen (suc n) l some =
+      elim (one_of (decided_below s f n) (decided_in (row_in Opening (f n))) value some) [
+        | inl before ↦ mark_seen n (omega arith) before
+        | inr here ↦ mark_on n (omega arith) (row_in Opening (f n)) refl here
+      ]

@@ -1,0 +1,16 @@
+-- What an attempt does that has no ballot to take.
+use Rattle.std.specs.Prelude.{ℕ}
+use Rattle.disk.specs.Disk as device
+use Rattle.attempt.specs.Status.{End, Committed, Decided, Empty, Outrun, NoMajority, BallotsSpent}
+
+-- the call changes no byte of its disk
+abbrev pub OnlyReads : device.Call → Type 0
+OnlyReads (device.Write boot at from) = ⊥
+OnlyReads other = Unit {0}
+
+-- a marked block told what was chosen, or none did, or too few disks are left
+abbrev pub EndsTheOpening : End → Type 0
+EndsTheOpening (Decided value) = Unit {0}
+EndsTheOpening NoMajority = Unit {0}
+EndsTheOpening BallotsSpent = Unit {0}
+EndsTheOpening other = ⊥

@@ -1,0 +1,13 @@
+use Rattle.std.proofs.Common.{List, Option, None, refl, sym, subst}
+use Rattle.paxos_block.specs.Row.{SeenBlock}
+use Rattle.attempt.specs.Answers.{Told, more}
+use Rattle.phases.proofs.Answering.{reads_as}
+use Rattle.marks.specs.Kept.{Follows}
+use Rattle.marks.proofs.notes.Notes.hear_row.Goals as goal
+
+pub returns-in-Ok-clause-follows : goal.returns-in-Ok-clause-follows
+returns-in-Ok-clause-follows c f is = c.take_row.ensures.follows f c.args.bytes.now (reads_as c.args.bytes.now c.read.new.self c.in-Ok.ensures.said) is
+
+pub returns-in-Err-clause-follows : goal.returns-in-Err-clause-follows
+returns-in-Err-clause-follows c f is =
+    subst (λ (o : Option (List SeenBlock)). Follows (more f c.args.self.now.disk (Told o)) c.drop_disk.new.self) (sym (c.in-Err.ensures.unsaid.0 refl)) (c.drop_disk.ensures.follows f (Told None) is refl)

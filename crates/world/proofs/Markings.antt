@@ -1,0 +1,187 @@
+-- In a run each host's marking has heard a history, and has a call to make.
+use Rattle.std.specs.Prelude.{◌&&◌, not, is_some, nat_lt, if◌then◌else◌}
+use Rattle.std.proofs.Common.{ℕ, ◌*◌, ◌<◌, ◌≤◌, ◌≡◌, Bool, true, false, Option, Some, None, List, [], ◌∷◌, ◌++◌, length, refl, sym, subst, ap, ◌∙◌, inl, inr}
+use Rattle.std.proofs.lemmas.Bool.{eqb-true, cases_Bool, and_parts}
+use Rattle.disk.specs.Disk.{Call, Answer}
+use Rattle.attempt.specs.Answers.{Answered, on, heard_as}
+use Rattle.attempt.specs.History.{Fits, IsAnswerTo}
+use Rattle.beats.specs.Answers as beat_answers
+use Rattle.beats.specs.Status as beat
+use Rattle.marks.specs.History.{IsHistory}
+use Rattle.marks.specs.Status.{Setup, Status, Due, Ended, Marked, NoMajority, status, next_call}
+use Rattle.marks.proofs.Histories as histories
+use Rattle.marks.proofs.Histories.{starts}
+use Rattle.attempt.proofs.Hearing.{history_more}
+use Rattle.slot_log.specs.Shape.{Shape}
+use Rattle.slot_log.specs.declared.outcome.Refusal.TheVariants as refusal
+use Rattle.host.specs.declared.answer.HostAnswer.TheVariants.{Refused}
+use Rattle.host.specs.Host.{Operation, Submitting, Recovering, Looking, Doing, Marking, Memory, Host, Stopped, Running, goes_on, hears, hears_from, hears_beside, hears_beat, hears_marking, marking_by, marking_with, marking_of, with_marking, with_beats, starts_marking, beat_by, beat_of, rests, is_idle_in, idles, next_beside, next_marking, next_doing, next_of}
+use Rattle.host.proofs.Hosts.{marking-goes_on, marking_heard}
+use Rattle.world.specs.Entry.{Filled, Start, Stop, Submit, Recover, Look, Beat, Mark, Called, Torn, Crashed, Lost, is_of, host_step, started, beats, marks, begins_on}
+use Rattle.world.specs.World.{World, world, MayFollow, IsRun}
+use Rattle.world.proofs.Histories.{step_fits}
+use Rattle.world.proofs.Projections.{host_here, host_there}
+use Rattle.world.proofs.Runs.{by_run}
+
+-- a marking under way has heard a history, and has a call to make, while no attempt is under way
+record IsUnderWay (s : Setup) (heard : List Answered) (doing : Option Doing) : Type 0 where
+  pub alone : doing ≡ None
+  pub history : IsHistory s heard
+  pub due : 1 ≤ s.disks → (d : ℕ) × (status s (on heard) ≡ Due d)
+
+module _ (c : Shape) (h : ℕ) where
+  -- so is that of a busy host
+  abbrev IsMarking : Memory → Option Marking → Type 0
+  IsMarking m None = Unit {0}
+  IsMarking m (Some t) = IsUnderWay (marking_of c h m t.slot) t.heard m.doing
+
+  abbrev IsHeard : Host → Type 0
+  IsHeard Stopped = Unit {0}
+  IsHeard (Running m) = IsMarking m m.marking
+
+  -- where none is under way
+  none_so : (m : Memory) → m.marking ≡ None → IsHeard (Running m)
+  none_so m none = subst (IsMarking m) (sym none) tt
+
+  idle_none_by : (o : Option Marking) → not (is_some o) ≡ true → o ≡ None
+  idle_none_by None is = refl
+  idle_none_by (Some t) is = absurd (cc)
+
+  idle_none : (m : Memory) (o : Option Doing) → is_idle_in m o ≡ true → m.marking ≡ None
+  idle_none m None is = idle_none_by m.marking (and_parts (rests m.beats.heard) (not (is_some m.marking)) is).1
+  idle_none m (Some t) is = absurd (cc)
+
+  -- so it is where another operation begins
+  operated : (old : Host) (operation : Operation) (tries : ℕ) → idles old ≡ true → IsHeard (begins_on c old operation tries)
+  operated Stopped operation tries idle = tt
+  operated (Running m) operation tries idle = none_so (goes_on c m operation tries) (marking-goes_on c m operation tries ∙ idle_none m m.doing idle)
+
+  beaten : (old : Host) → idles old ≡ true → IsHeard (beats old)
+  beaten Stopped idle = tt
+  beaten (Running m) idle = subst (λ (o : Option Marking). IsMarking (with_beats m (record { readings = m.beats.readings; heard = Some [] }) None) o) (sym (idle_none m m.doing idle)) tt
+
+  -- and where a marking begins
+  begun : (old : Host) (slot : ℕ) → idles old ≡ true → IsHeard (marks old slot)
+  begun Stopped slot idle = tt
+  begun (Running m) slot idle = go (nat_lt slot (length m.learned))
+    where
+      go : (b : Bool) → IsHeard (Running (if b then with_marking m (Some (record { slot = slot; heard = [] })) None else with_marking m m.marking (Some (Refused refusal.NotLearned))))
+      go true = record { alone = refl; history = tt; due = λ some. (0, starts (marking_of c h m slot) some) }
+      go false = subst (λ (o : Option Marking). IsMarking (with_marking m m.marking (Some (Refused refusal.NotLearned))) o) (sym (idle_none m m.doing idle)) tt
+
+  -- and behind an answer to the call that was due
+  goes : (m : Memory) (t : Marking) (st : Status) → status (marking_of c h m t.slot) (on t.heard) ≡ st → IsHistory (marking_of c h m t.slot) t.heard → IsHeard (Running (marking_by m t st))
+  goes m t (Due d) now is = record { alone = refl; history = is; due = λ some. (d, now) }
+  goes m t (Ended (Marked count)) now is = tt
+  goes m t (Ended NoMajority) now is = tt
+
+  marking_more : (m : Memory) (o : Option Marking) → m.marking ≡ o → (k : ℕ) (call : Call) (answer : Answer) → next_marking c h m o ≡ Some (k, call) → Fits call (heard_as answer) → IsMarking m o
+      → IsHeard (Running (hears_marking c h m o (record { disk = k; heard = heard_as answer })))
+  marking_more m None none k call answer next fits is = absurd (cc)
+  marking_more m (Some t) same k call answer next fits is =
+      let x : Answered = record { disk = k; heard = heard_as answer } in
+      let s = marking_of c h m t.slot in
+      goes m (marking_with t x) (status s (on (marking_with t x).heard)) refl
+      (history_more (next_call s) t.heard x is.history (subst (λ (o : Option (ℕ × Call)). IsAnswerTo o x) (sym next) (refl, fits)))
+
+  -- a beat leaves it as it was
+  beat_stays : (m : Memory) (heard : List beat_answers.Answered) (st : beat.Status) (o : Option Marking) → m.marking ≡ o → m.doing ≡ None → IsMarking m o → IsHeard (Running (beat_by h m heard st))
+  beat_stays m heard st None same none is = by_none st
+    where
+      by_none : (st : beat.Status) → IsHeard (Running (beat_by h m heard st))
+      by_none (beat.Due disk) = none_so (beat_by h m heard (beat.Due disk)) same
+      by_none (beat.Ended (beat.Beaten readings)) = none_so (beat_by h m heard (beat.Ended (beat.Beaten readings))) same
+      by_none (beat.Ended beat.NoMajority) = none_so (beat_by h m heard (beat.Ended beat.NoMajority)) same
+  beat_stays m heard st (Some t) same none is = by_some st
+    where
+      some_so : (n : Memory) → n.marking ≡ m.marking → n.doing ≡ None → marking_of c h n t.slot ≡ marking_of c h m t.slot → IsHeard (Running n)
+      some_so n marking doing setup = subst (IsMarking n) (sym (marking ∙ same)) (record {
+        alone = doing;
+        history = subst (λ (s : Setup). IsHistory s t.heard) (sym setup) is.history;
+        due = λ some. subst (λ (s : Setup). (d : ℕ) × (status s (on t.heard) ≡ Due d)) (sym setup) (is.due some);
+      })
+
+      by_some : (st : beat.Status) → IsHeard (Running (beat_by h m heard st))
+      by_some (beat.Due disk) = some_so (beat_by h m heard (beat.Due disk)) refl refl refl
+      by_some (beat.Ended (beat.Beaten readings)) = some_so (beat_by h m heard (beat.Ended (beat.Beaten readings))) refl refl refl
+      by_some (beat.Ended beat.NoMajority) = some_so (beat_by h m heard (beat.Ended beat.NoMajority)) refl refl refl
+
+  beside : (m : Memory) (o : Option (List beat_answers.Answered)) → m.doing ≡ None → (k : ℕ) (call : Call) (answer : Answer) → next_beside c h m o ≡ Some (k, call) → Fits call (heard_as answer) → IsMarking m m.marking → IsHeard (Running (hears_beside c h m o k answer))
+  beside m None none k call answer next fits is = marking_more m m.marking refl k call answer next fits is
+  beside m (Some heard) none k call answer next fits is =
+      let x : beat_answers.Answered = record { disk = k; heard = beat_answers.heard_as answer } in
+      beat_stays m (heard ++ x ∷ []) (beat.status (beat_of c h) (beat_answers.on (heard ++ x ∷ []))) m.marking refl none is
+
+  -- an attempt is under way alone
+  no_marking_beside : (m : Memory) (t : Doing) → m.doing ≡ Some t → (o : Option Marking) → IsMarking m o → o ≡ None
+  no_marking_beside m t does None is = refl
+  no_marking_beside m t does (Some marking) is = (let both : Some t ≡ None = sym does ∙ is.alone in absurd (cc))
+
+  heard_from : (m : Memory) (o : Option Doing) → m.doing ≡ o → (k : ℕ) (call : Call) (answer : Answer) → next_doing c h m o ≡ Some (k, call) → Fits call (heard_as answer) → IsMarking m m.marking → IsHeard (Running (hears_from c h m o k answer))
+  heard_from m None none k call answer next fits is = beside m m.beats.heard none k call answer next fits is
+  heard_from m (Some t) does k call answer next fits is =
+      none_so (hears c h m (Some t) (record { disk = k; heard = heard_as answer })) (marking_heard c h m (Some t) _ ∙ no_marking_beside m t does m.marking is)
+
+  heard_on : (old : Host) (k : ℕ) (call : Call) (answer : Answer) → next_of c h old ≡ Some (k, call) → Fits call (heard_as answer) → IsHeard old → (left : List ℕ) → IsHeard (host_step c h old (Called h k call answer left))
+  heard_on Stopped k call answer next fits is left = tt
+  heard_on (Running m) k call answer next fits is left = heard_from m m.doing refl k call answer next fits is
+
+  start_heard : (old : Host) → IsHeard old → IsHeard (started old)
+  start_heard Stopped is = tt
+  start_heard (Running m) is = is
+
+  idle_here : (w : World) (g : ℕ) → (g ≡ h) → idles (w.host g) ≡ true → idles (w.host h) ≡ true
+  idle_here w g same idle = subst (λ (i : ℕ). idles (w.host i) ≡ true) same idle
+
+  -- an entry of the host keeps it so
+  step_heard : (w : World) (e : Filled) → is_of h e ≡ true → MayFollow c w e → IsHeard (w.host h) → IsHeard (host_step c h (w.host h) e)
+  step_heard w (Start g) of m is = start_heard (w.host h) is
+  step_heard w (Stop g) of m is = tt
+  step_heard w (Submit g command tries) of m is = operated (w.host h) (Submitting command) tries (idle_here w g (eqb-true g h of) m.0)
+  step_heard w (Recover g tries) of m is = operated (w.host h) Recovering tries (idle_here w g (eqb-true g h of) m.0)
+  step_heard w (Look g) of m is = operated (w.host h) Looking 1 (idle_here w g (eqb-true g h of) m)
+  step_heard w (Beat g) of m is = beaten (w.host h) (idle_here w g (eqb-true g h of) m)
+  step_heard w (Mark g slot) of m is = begun (w.host h) slot (idle_here w g (eqb-true g h of) m.0)
+  step_heard w (Called g k call answer left) of m is =
+      let next : next_of c h (w.host h) ≡ Some (k, call) = subst (λ (i : ℕ). next_of c i (w.host i) ≡ Some (k, call)) (eqb-true g h of) m.0 in
+      heard_on (w.host h) k call answer next (step_fits (w.disk k) _ call answer m.1) is left
+  step_heard w (Torn g k call left) of m is = tt
+  step_heard w (Crashed k left) of m is = absurd (cc)
+  step_heard w (Lost k) of m is = absurd (cc)
+
+-- every marking of a run has heard a history
+run_heard : (c : Shape) (log : List Filled) → IsRun c log → (h : ℕ) → IsHeard c h ((world c log).host h)
+run_heard c log run =
+    by_run c (λ (l : List Filled). (h : ℕ) → IsHeard c h ((world c l).host h)) (λ h. tt)
+    (λ l e may is h. elim (cases_Bool (is_of h e)) [
+      | inl of ↦ subst (IsHeard c h) (sym (host_here c l e h of)) (step_heard c h (world c l) e of may (is h))
+      | inr off ↦ subst (IsHeard c h) (sym (host_there c l e h off)) (is h)
+    ])
+    log run
+
+module _ (c : Shape) (log : List Filled) (h : ℕ) (m : Memory) (t : Marking) where
+  under_way : IsRun c log → (world c log).host h ≡ Running m → m.marking ≡ Some t → IsUnderWay (marking_of c h m t.slot) t.heard m.doing
+  under_way run running marking = subst (IsMarking c h m) marking (subst (IsHeard c h) running (run_heard c log run h))
+
+  pub history : IsRun c log → (world c log).host h ≡ Running m → m.marking ≡ Some t → IsHistory (marking_of c h m t.slot) t.heard
+  history run running marking = (under_way run running marking).history
+
+  -- no attempt is under way beside it
+  pub alone : IsRun c log → (world c log).host h ≡ Running m → m.marking ≡ Some t → m.doing ≡ None
+  alone run running marking = (under_way run running marking).alone
+
+  -- fewer than nine answers a disk
+  pub nine : 1 ≤ c.disks → IsRun c log → (world c log).host h ≡ Running m → m.marking ≡ Some t → length t.heard < 9 * c.disks
+  nine some run running marking =
+      let is = under_way run running marking in
+      let due = is.due some in
+      histories.going (marking_of c h m t.slot) t.heard due.0 is.history due.1
+
+  -- a call of the marking is due
+  pub marking_call : 1 ≤ c.disks → IsRun c log → (world c log).host h ≡ Running m → m.marking ≡ Some t → (k : ℕ) × (call : Call) × (k < c.disks) × (next_marking c h m (Some t) ≡ Some (k, call))
+  marking_call some run running marking =
+      let s = marking_of c h m t.slot in
+      let due = (under_way run running marking).due some in
+      let is = histories.due_is s (on t.heard) due.0 due.1 in
+      let next = histories.has_call s (on t.heard) due.0 due.1 in
+      (due.0, next.0, is.below, next.1)

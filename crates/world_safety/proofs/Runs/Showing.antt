@@ -1,0 +1,69 @@
+-- What marked blocks tell: true marks on the disks are true marks in the rows that are read, and in what an attempt takes as decided.
+use Rattle.std.specs.Prelude.{slice_get, pred}
+use Rattle.std.proofs.Common.{ℕ, ◌≡◌, inl, inr, Some, None, List, [], ◌∷◌, ◌++◌, length, sym, subst, ap, ◌∙◌, arith}
+use Rattle.std.proofs.lemmas.Bool.{cases_lt, cases_eq}
+use Rattle.disk.specs.Disk.{Call, Answer}
+use Rattle.disk.proofs.CrashLemmas.{may_leave_now}
+use Rattle.paxos_block.specs.Row.{SeenBlock}
+use Rattle.attempt.specs.Answers as answers
+use Rattle.attempt.specs.Answers.{Heard, Told, Answers, on, heard_as}
+use Rattle.attempt.specs.Calls.{Opening, goal}
+use Rattle.attempt.specs.Prepared.{IsMarkSeen}
+use Rattle.attempt.specs.Setup.{Setup}
+use Rattle.attempt.specs.Status.{Ended, Decided, status}
+use Rattle.attempt.proofs.Deciding.{mark_seen}
+use Rattle.attempt.proofs.Lists.{length_more, get_front, get_last, get_none}
+use Rattle.attempt.proofs.Statuses.{HasDecided, told_by}
+use Rattle.attempt.proofs.Votes.{told_is}
+use Rattle.slot_log.specs.Shape.{Shape}
+use Rattle.host.specs.Host.{Doing, Memory, setup_of}
+use Rattle.world.specs.Entry.{Called, disk_step}
+use Rattle.world.specs.World.{World}
+use Rattle.world_safety.specs.Marks.{IsMarkTrue, AllMarksTrue, ShowsTrueMarks, TellsTrueMarks, AllLearnedKnown, KeepsMarks}
+use Rattle.world_safety.specs.Tied.{Moves}
+use Rattle.world_safety.proofs.Blocks.Settled.{seen_is}
+use Rattle.world_safety.proofs.Moves.Due.{IsCall, due_of}
+
+-- what is true of more is true
+pub mark_more : (K L : List ℕ → Type 0) → ((v : List ℕ) → K v → L v) → (row : List SeenBlock) → ShowsTrueMarks K row → ShowsTrueMarks L row
+mark_more K L more row shows g below marked = let b = shows g below marked in (b.0, b.1, more b.0 b.2)
+
+pub tells_none : (K : List ℕ → Type 0) → TellsTrueMarks K []
+tells_none K n row is = absurd (cc)
+
+-- one answer more
+pub tells_more : (K : List ℕ → Type 0) (a : List Heard) (x : Heard) → TellsTrueMarks K a → ((row : List SeenBlock) → x ≡ Told (Some row) → ShowsTrueMarks K row) → TellsTrueMarks K (a ++ x ∷ [])
+tells_more K a x before last n row is = elim (cases_lt n (length a)) [
+  | inl old ↦ before n row (sym (get_front a x n old) ∙ is)
+  | inr new ↦
+      elim (cases_eq n (length a)) [
+        | inl end ↦ last row (let both : Some x ≡ Some (Told (Some row)) = sym (get_last a x n end) ∙ is in cc)
+        | inr over ↦ absurd (let none : slice_get (a ++ x ∷ []) n ≡ None = get_none (a ++ x ∷ []) n (omega (arith, length_more a x, new, over)) in cc)
+      ]
+]
+
+-- what a marked block tells at the opening's end is known
+pub decided_known : (K : List ℕ → Type 0) (s : Setup) (f : Answers) (value : List ℕ) → ((d : ℕ) → TellsTrueMarks K (f d)) → status s f ≡ Ended (Decided value) → K value
+decided_known K s f value tells ended =
+    let has : HasDecided s value f = told_by s f (Ended (Decided value)) ended in
+    let seen : IsMarkSeen s f value = mark_seen s f value s.disks (omega arith) has.decided_is in
+    let known = tells seen.disk (pred (goal Opening)) seen.row (told_is (slice_get (f seen.disk) (pred (goal Opening))) seen.row seen.read) seen.host seen.below seen.mark in
+    let both : Some known.0 ≡ Some value = sym known.1 ∙ seen.inp in
+    let same : known.0 ≡ value = cc in
+    subst K same known.2
+
+-- true marks stay true
+pub marks_kept : (c : Shape) (w w' : World) (Known : ℕ → List ℕ → Type 0) → KeepsMarks c w w' → AllLearnedKnown w Known → AllMarksTrue c w Known → AllMarksTrue c w' Known
+marks_kept c w w' Known keeps learned all slot host d slot_below below bytes left marked = elim (keeps slot host d slot_below below bytes left marked) [
+  | inl before ↦ subst (IsMarkTrue (Known slot)) before.2 (all slot host d slot_below below before.0 before.1) marked
+  | inr has ↦ (_, has.inp, learned host has.memory slot has.command has.running has.learned)
+]
+
+-- a row that is told shows true marks
+pub row_true : (c : Shape) (w : World) (ms : Moves) (Known : ℕ → List ℕ → Type 0) → AllMarksTrue c w Known → (h k : ℕ) (call : Call) (answer : Answer) (left : List ℕ) (m : Memory) (t : Doing) → IsCall c w ms h k call answer left m t
+    → (row : List SeenBlock) → heard_as answer ≡ answers.Told (Some row) → ShowsTrueMarks (Known (length m.learned)) row
+row_true c w ms Known all h k call answer left m t now row tells g below =
+    let known = due_of c w ms h k call answer left m t now in
+    let s = setup_of c h m t.operation in
+    let seen = seen_is s (on t.heard) k (w.disk k) (disk_step (w.disk k) (Called h k call answer left)) answer known.is.kind known.waiting.part.good known.is.kind_is known.is.fits known.step_by row tells known.run.below g below in
+    subst (IsMarkTrue (Known (length m.learned))) (ap (λ (b : SeenBlock). b.says) (sym seen)) (all (length m.learned) g k known.trying.fits below (w.disk k).bytes (may_leave_now (w.disk k)))
