@@ -1,6 +1,6 @@
 #!/usr/bin/env bash
 # Faults of files: a full disk, an image that can only be read, one that is cut off, also while a command is submitted, one of
-# zeros and one of another cluster. Each is told by the right refusal, and nothing is lost on the others.
+# zeros and one of another cluster, marks that are missing or damaged. Each is told by the right refusal, and nothing is lost on the others.
 set -uo pipefail
 
 tests=$(dirname -- "$(readlink -f -- "${BASH_SOURCE[0]}")")
@@ -55,6 +55,11 @@ as_nobody() {
     fi
 }
 
+# poke DISK PLACE BYTE: puts a byte, three octal digits, into an image.
+poke() {
+    printf '%b' "\\0$3" | dd of="$work/d/disk$1.img" bs=1 seek="$2" conv=notrunc status=none
+}
+
 held=$'recovered 1\ndb\n  granted 1 1 0 EX'
 
 # A full disk: what was made stays, and the folder is not formatted.
@@ -100,6 +105,22 @@ cp -- "$work/other/disk1.img" "$work/d/disk1.img"
 expect "another cluster's" 1 "dlm: 25 WrongHeader disk1" "$program" table "$work/d" 2
 cp -- "$work/kept" "$work/d/disk1.img"
 expect "its own again" 0 "$held" "$program" table "$work/d" 2
+
+# Host 0's block of slot 0 without its mark, as the gate of the marked copy is closed: on one image, on two, on all.
+fresh
+poke 0 2048 000
+expect "a mark on two images" 0 "$held" "$program" table "$work/d" 3
+poke 1 2048 000
+expect "a mark on one image" 0 "$held" "$program" table "$work/d" 4
+poke 2 2048 000
+expect "no mark" 0 "$held" "$program" table "$work/d" 5
+
+# A mark of 2 damages its row: that disk does not count for the slot.
+fresh
+poke 0 2051 002
+expect "one damaged mark" 0 "$held" "$program" table "$work/d" 3
+poke 1 2051 002
+expect "two damaged marks" 1 "dlm: 7 NoMajority" "$program" table "$work/d" 3
 
 # Cut off under way: what is acknowledged stands on the two others.
 for turn in 1 2 3 4 5 6 7 8 9 10; do

@@ -1,0 +1,11 @@
+# A look learns a slot from its mark, with three calls, and ends at the next slot, with three more. The lock table goes by what was learned.
+cluster 1 2
+start 0
+submit 0 1 enqueue 1 1 1 EX db
+step 0 17
+mark 0 0
+step 0 9
+start 1
+look 1
+step 1 6
+show 1
