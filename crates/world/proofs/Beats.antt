@@ -14,7 +14,7 @@ use Rattle.beats.proofs.Histories as histories
 use Rattle.attempt.proofs.Hearing.{history_more}
 use Rattle.beats.proofs.Histories.{fits_too, starts}
 use Rattle.slot_log.specs.Shape.{Shape}
-use Rattle.host.specs.Host.{Operation, Submitting, Recovering, Looking, Doing, Memory, Host, Stopped, Running, Marking, hears_from, hears_beside, hears_beat, hears_marking, marking_by, marking_with, marking_of, with_marking, starts_marking, beat_by, beat_of, is_idle, is_idle_in, next_beside, next_marking, next_doing, next_of}
+use Rattle.host.specs.Host.{Operation, Submitting, Recovering, Looking, Doing, Memory, Host, Stopped, Running, Marking, hears_from, hears_beside, hears_marking, marking_by, marking_with, marking_of, with_marking, beat_by, beat_of, is_idle, is_idle_in, next_beside, next_marking, next_doing, next_of}
 use Rattle.host.proofs.Hosts.{beats-goes_on, beats_heard}
 use Rattle.world.specs.Entry.{Filled, Start, Stop, Submit, Recover, Look, Beat, Mark, Called, Torn, Crashed, Lost, is_of, host_step, started, beats, marks, begins_on}
 use Rattle.world.specs.World.{World, world, MayFollow, IsRun}

@@ -1,19 +1,18 @@
 -- A host that looks only reads, and says how much it has learned.
 use Rattle.std.specs.Prelude.{nat_lt, if◌then◌else◌}
-use Rattle.std.proofs.Common.{ℕ, ◌*◌, ◌≤◌, ◌≡◌, Bool, true, false, Option, Some, None, List, [], ◌∷◌, ◌++◌, length, refl, sym, subst, ap, ◌∙◌, arith}
+use Rattle.std.proofs.Common.{ℕ, ◌*◌, ◌≤◌, ◌≡◌, Bool, true, false, Option, Some, None, List, length, refl, sym, subst, ap, ◌∙◌, arith}
 use Rattle.std.proofs.lemmas.Bool.{eqb-true}
 use Rattle.disk.specs.declared.fault.DiskFault.TheVariants.{Reset, Failed, Gone}
 use Rattle.disk.specs.Disk.{DiskState, Call, Attach, Read, Write, Sync, Answer, Booted, Told, Done, Fault}
 use Rattle.paxos_block.specs.declared.ballot.TheConstants.{LAST_BALLOT}
 use Rattle.attempt.specs.Answers.{Answered, on, heard_as}
 use Rattle.attempt.specs.Looking.{OnlyReads, EndsTheOpening}
-use Rattle.attempt.specs.Setup.{Setup}
 use Rattle.attempt.specs.Status.{Status, Due, Ended, End, Committed, Decided, Empty, Outrun, NoMajority, BallotsSpent, status, taken}
 use Rattle.attempt.proofs.Looking as looking
 use Rattle.lock_command.specs.declared.command.Command.{Command}
 use Rattle.lock_command.specs.Reading.{decoded}
 use Rattle.slot_log.specs.Shape.{Shape}
-use Rattle.host.specs.Host.{Operation, Looking, Doing, Memory, Host, Running, floor_for, setup_of, says, begins, full_answer, spent_answer, goes_on, is_submitted, after_learning, learns, takes, by_status, with_heard, hears_from, next_doing, next_of}
+use Rattle.host.specs.Host.{Operation, Looking, Doing, Memory, Running, floor_for, setup_of, says, begins, full_answer, spent_answer, goes_on, is_submitted, after_learning, learns, takes, by_status, with_heard, hears_from, next_doing, next_of}
 use Rattle.world.specs.Entry.{Filled, Start, Stop, Submit, Recover, Look, Beat, Mark, Called, Torn, Crashed, Lost, is_of, called_by, disk_step}
 use Rattle.world.specs.Looks.{SaysLooking}
 use Rattle.world.specs.World.{World, world, MayFollow, IsRun}

@@ -1,6 +1,6 @@
 -- In a run each host's marking has heard a history, and has a call to make.
-use Rattle.std.specs.Prelude.{◌&&◌, not, is_some, nat_lt, if◌then◌else◌}
-use Rattle.std.proofs.Common.{ℕ, ◌*◌, ◌<◌, ◌≤◌, ◌≡◌, Bool, true, false, Option, Some, None, List, [], ◌∷◌, ◌++◌, length, refl, sym, subst, ap, ◌∙◌, inl, inr}
+use Rattle.std.specs.Prelude.{not, is_some, nat_lt, if◌then◌else◌}
+use Rattle.std.proofs.Common.{ℕ, ◌*◌, ◌<◌, ◌≤◌, ◌≡◌, Bool, true, false, Option, Some, None, List, [], ◌∷◌, ◌++◌, length, refl, sym, subst, ◌∙◌, inl, inr}
 use Rattle.std.proofs.lemmas.Bool.{eqb-true, cases_Bool, and_parts}
 use Rattle.disk.specs.Disk.{Call, Answer}
 use Rattle.attempt.specs.Answers.{Answered, on, heard_as}
@@ -15,7 +15,7 @@ use Rattle.attempt.proofs.Hearing.{history_more}
 use Rattle.slot_log.specs.Shape.{Shape}
 use Rattle.slot_log.specs.declared.outcome.Refusal.TheVariants as refusal
 use Rattle.host.specs.declared.answer.HostAnswer.TheVariants.{Refused}
-use Rattle.host.specs.Host.{Operation, Submitting, Recovering, Looking, Doing, Marking, Memory, Host, Stopped, Running, goes_on, hears, hears_from, hears_beside, hears_beat, hears_marking, marking_by, marking_with, marking_of, with_marking, with_beats, starts_marking, beat_by, beat_of, rests, is_idle_in, idles, next_beside, next_marking, next_doing, next_of}
+use Rattle.host.specs.Host.{Operation, Submitting, Recovering, Looking, Doing, Marking, Memory, Host, Stopped, Running, goes_on, hears, hears_from, hears_beside, hears_marking, marking_by, marking_with, marking_of, with_marking, with_beats, beat_by, beat_of, rests, is_idle_in, idles, next_beside, next_marking, next_doing, next_of}
 use Rattle.host.proofs.Hosts.{marking-goes_on, marking_heard}
 use Rattle.world.specs.Entry.{Filled, Start, Stop, Submit, Recover, Look, Beat, Mark, Called, Torn, Crashed, Lost, is_of, host_step, started, beats, marks, begins_on}
 use Rattle.world.specs.World.{World, world, MayFollow, IsRun}

@@ -67,6 +67,7 @@ module _ (c : Shape) (log : List Filled) (run : IsRun c log) (i h : ℕ) where
 
     -- and of what its host was submitting, where that is the value
     told_own : (slot : ℕ) → s.slot ≡ slot → (value : List ℕ) → status s (on (heard_at c log i h said call)) ≡ Ended (Decided value) → (command : Command) → call.doing.operation ≡ Submitting command → value ≡ spelling command → IsToldOwnAt c log i h slot
+    unfolding told_at
     told_own slot here value ended command submitting own = record { told = told_at slot here value ended; command = command; submitting = submitting; own = own }
 
   -- ACKNOWLEDGEMENTS

@@ -1,11 +1,10 @@
 -- Marked blocks tell what was chosen before.
-use Rattle.std.proofs.Common.{ℕ, ◌≡◌, List, [], ◌∷◌, ◌++◌, length, sym, subst, ap, ◌∙◌}
+use Rattle.std.proofs.Common.{◌≡◌, List, [], ◌∷◌, ◌++◌, sym, subst}
 use Rattle.attempt.specs.Answers.{Answered, on, heard_as}
 use Rattle.attempt.specs.Setup.{Setup}
 use Rattle.attempt.specs.Status.{Ended, Decided, status}
 use Rattle.slot_log.specs.Shape.{Shape}
 use Rattle.host.specs.Host.{setup_of}
-use Rattle.world.specs.Chosen.{Hears}
 use Rattle.world.specs.Entry.{Filled}
 use Rattle.world.specs.World.{IsRun}
 use Rattle.world_safety.specs.Claims.{MarksChosen, DecidesChosenBefore}
