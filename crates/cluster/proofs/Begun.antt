@@ -111,7 +111,7 @@ pub starts : (c : Shape) (log : List Filled) (h : ℕ) → IsRun c log → [] �
 starts c log h run none is_host =
     runs.more c log (Start h) run (is_host, ap is_stopped (host_is c log (own_of h []) none))
 
-is_itself : (n : ℕ) → (n == n) ≡ true
+pub is_itself : (n : ℕ) → (n == n) ≡ true
 is_itself n = grind (arith, nat_tests)
 
 -- and by a restart

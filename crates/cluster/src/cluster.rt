@@ -1,4 +1,4 @@
-ghost use Rattle.std.specs.Prelude.{◌≡◌, ◌⊎◌, ◌≤◌, ◌<◌, false, All, IsTrue, IfOk, IfErr, OnOk, Some, None, vec_len, map, replicate};
+ghost use Rattle.std.specs.Prelude.{◌≡◌, ◌⊎◌, ◌≤◌, ◌<◌, false, [], All, IsTrue, IfOk, IfErr, OnOk, Some, None, vec_len, map, replicate};
 ghost use Rattle.disk.specs.Simulated.{fresh_disk};
 ghost use Rattle.paxos_block.specs.Places.{image_length};
 ghost use Rattle.host.specs.Host.{idles};
@@ -7,7 +7,7 @@ ghost use Rattle.torn_block.specs.declared.layout.TheConstants.{HOSTS};
 ghost use Rattle.cluster_tie.specs.Parts.{AreFresh};
 ghost use Rattle.cluster.specs.Book.{image_on};
 ghost use Rattle.cluster.specs.Cluster.{IsStep, Ends};
-ghost use Rattle.cluster.specs.Journal.{AreWaiting};
+ghost use Rattle.cluster.specs.Journal.{KeepsTokens};
 ghost use Rattle.cluster.specs.Operations.{IsStarted};
 ghost use Rattle.cluster.specs.Seat.{host_in};
 
@@ -172,7 +172,7 @@ fn waiting<N: Named>(
     hosts: Vec<HostTie<N>>,
 ) -> Result<Vec<Option<HostTie<N>>>, NoMemory>
     requires { AreFresh HOSTS hosts.items }
-    ensures { IfOk result (λ v. AreWaiting v.items) }
+    ensures { IfOk result (λ v. KeepsTokens v.items []) }
 {
     somes(alloc, hosts)
 }
