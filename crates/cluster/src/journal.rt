@@ -138,6 +138,7 @@ impl<'a, N: Named> Journal<'a, N> {
         ensures appended { OnOk result (self.new ≡ record self.old { log = self.old.log ++ Start host ∷ [] }) }
         ensures err { OnErr result (self.new ≡ self.old) }
         ensures taken { result ≡ Err HostFault.SeatTaken ↔ of_host host self.old.log ≢ [] }
+        ensures full { result ≡ Err HostFault.JournalFull ↔ (of_host host self.old.log ≡ []) × (MOST ≤ length self.old.log + self.old.promised) }
         ensures causes { IfErr result (λ fault. (fault ≡ HostFault.SeatTaken) ⊎ (fault ≡ HostFault.JournalFull) ⊎ (fault ≡ HostFault.NoMemory)) }
     {
         if !self.waits(host.get().into()) {
@@ -156,6 +157,7 @@ impl<'a, N: Named> Journal<'a, N> {
         ensures ok { IfOk result (λ s. s ≡ own_of host ((length self.old.log, E.entry) ∷ [])) }
         ensures appended { OnOk result (self.new ≡ record self.old { log = self.old.log ++ E.entry ∷ [] }) }
         ensures err { OnErr result (self.new ≡ self.old) }
+        ensures full { result ≡ Err HostFault.JournalFull ↔ MOST ≤ length self.old.log + self.old.promised }
         ensures causes { IfErr result (λ fault. (fault ≡ HostFault.JournalFull) ⊎ (fault ≡ HostFault.NoMemory)) }
     {
         has_room(&mut self.entries, self.promised)?;
