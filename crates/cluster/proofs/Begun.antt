@@ -13,7 +13,7 @@ use Rattle.host.specs.Host.{Host, Running, fresh, Operation, Memory, Doing, goes
 use Rattle.host.specs.Kept.{Kept, LeadsTo}
 use Rattle.slot_log.specs.declared.outcome.Refusal.TheVariants as refusal
 use Rattle.host.specs.declared.answer.HostAnswer.TheVariants.{Refused}
-use Rattle.world.specs.Entry.{Filled, Start, Stop, Submit, Recover, Beat, Mark, host_step, is_of}
+use Rattle.world.specs.Entry.{Filled, Start, Stop, Submit, Recover, Look, Beat, Mark, host_step, is_of}
 use Rattle.world.specs.World.{IsRun}
 use Rattle.world.proofs.Runs as runs
 use Rattle.world.proofs.Projections.{host_here}
@@ -148,6 +148,9 @@ pub recovers : (c : Shape) (log : List Filled) (seat : Own) (tries : ℕ) → Is
 recovers c log seat tries run of_seat idle tried =
     runs.more c log (Recover seat.number tries) run (ap idles (host_is c log seat of_seat) ∙ idle, omega (arith, tried))
 
+pub looks : (c : Shape) (log : List Filled) (seat : Own) → IsRun c log → seat.entries ≡ of_host seat.number log → idles (host_in c seat) ≡ true → IsRun c (log ++ Look seat.number ∷ [])
+looks c log seat run of_seat idle = runs.more c log (Look seat.number) run (ap idles (host_is c log seat of_seat) ∙ idle)
+
 pub beats : (c : Shape) (log : List Filled) (seat : Own) → IsRun c log → seat.entries ≡ of_host seat.number log → idles (host_in c seat) ≡ true → IsRun c (log ++ Beat seat.number ∷ [])
 beats c log seat run of_seat idle = runs.more c log (Beat seat.number) run (ap idles (host_is c log seat of_seat) ∙ idle)
 
@@ -159,7 +162,7 @@ pub starts : (c : Shape) (log : List Filled) (h : ℕ) → IsRun c log → [] �
 starts c log h run none is_host =
     runs.more c log (Start h) run (is_host, ap is_stopped (host_is c log (own_of h []) none))
 
-is_itself : (n : ℕ) → (n == n) ≡ true
+pub is_itself : (n : ℕ) → (n == n) ≡ true
 is_itself n = grind (arith, nat_tests)
 
 -- and by a restart

@@ -15,8 +15,8 @@ use Rattle.slot_log.specs.Shape.{Shape}
 use Rattle.slot_log.specs.declared.outcome.Refusal.{Refusal}
 use Rattle.slot_log.specs.declared.outcome.Refusal.TheVariants as refusal
 use Rattle.host.specs.declared.answer.HostAnswer.{HostAnswer}
-use Rattle.host.specs.declared.answer.HostAnswer.TheVariants.{Ack, Recovered, Beaten, Marked, Refused}
-use Rattle.host.specs.Host.{Operation, Submitting, Recovering, Doing, Memory, setup_of, says, begins, full_answer, goes_on, is_submitted, after_learning, learns, takes, with_floor, ended, by_status, with_heard, hears_from, hears_beside, hears_beat, beat_by, beat_of, Marking, hears_marking, marking_by, marking_with, marking_of, rests, is_idle_in, reply_after}
+use Rattle.host.specs.declared.answer.HostAnswer.TheVariants.{Ack, Recovered, Looked, Beaten, Marked, Refused}
+use Rattle.host.specs.Host.{Operation, Submitting, Recovering, Looking, Doing, Memory, setup_of, says, begins, full_answer, spent_answer, goes_on, is_submitted, after_learning, learns, takes, with_floor, ended, by_status, with_heard, hears_from, hears_beside, hears_beat, beat_by, beat_of, Marking, hears_marking, marking_by, marking_with, marking_of, rests, is_idle_in, reply_after}
 use Rattle.cluster.specs.Receipts.{receipt_for, receipt_by, receipts_said}
 use Rattle.cluster.specs.Seat.{IsKeptFor, IsSilentInMarking, IsSilentInBeat, IsDoing}
 
@@ -24,6 +24,7 @@ use Rattle.cluster.specs.Seat.{IsKeptFor, IsSilentInMarking, IsSilentInBeat, IsD
 one_for : (h place : ℕ) (operation : Operation) (slot : ℕ) (reply : Reply) → length (receipt_for h place operation slot reply) ≤ 1
 one_for h place (Submitting command) slot reply = omega arith
 one_for h place Recovering slot reply = omega arith
+one_for h place Looking slot reply = omega arith
 
 -- neither a beat nor a marking is under way
 abbrev Rests : Memory → Type 0
@@ -44,6 +45,12 @@ module _ (c : Shape) (h place : ℕ) (sub : Option Command) (t : Doing) (kept : 
   full : (m : Memory) → Rests m → (operation : Operation) → n ≤ length m.learned → So (says m (full_answer operation (length m.learned)))
   full m rest (Submitting command) more = (quiet (says m (full_answer (Submitting command) (length m.learned))) rest, omega (arith, more))
   full m rest Recovering more = (quiet (says m (full_answer Recovering (length m.learned))) rest, omega (arith, more))
+  full m rest Looking more = (quiet (says m (full_answer Looking (length m.learned))) rest, omega (arith, more))
+
+  spent : (m : Memory) → Rests m → (operation : Operation) → n ≤ length m.learned → So (says m (spent_answer operation (length m.learned)))
+  spent m rest (Submitting command) more = (quiet (says m (spent_answer (Submitting command) (length m.learned))) rest, omega (arith, more))
+  spent m rest Recovering more = (quiet (says m (spent_answer Recovering (length m.learned))) rest, omega (arith, more))
+  spent m rest Looking more = (quiet (says m (spent_answer Looking (length m.learned))) rest, omega (arith, more))
 
   going_if : (m : Memory) → Rests m → (tries : ℕ) (b : Bool) → nat_lt (length m.learned) c.slots ≡ b → n ≤ length m.learned → So (if b then begins m t.operation tries else says m (full_answer t.operation (length m.learned)))
   going_if m rest tries true is more = begun m rest tries more (ltb-true (length m.learned) c.slots is)
@@ -78,7 +85,7 @@ module _ (c : Shape) (h place : ℕ) (sub : Option Command) (t : Doing) (kept : 
   over m rest ballot Empty more less = (quiet (says (with_floor m ballot) (Recovered (length m.learned))) rest, omega (arith, more))
   over m rest ballot (Outrun mbal) more less = tried (with_floor (with_floor m ballot) mbal) rest t.tries (nat_le t.tries 1) more less
   over m rest ballot NoMajority more less = refused (with_floor m ballot) rest refusal.NoMajority more
-  over m rest ballot BallotsSpent more less = refused (with_floor m ballot) rest refusal.BallotsSpent more
+  over m rest ballot BallotsSpent more less = spent (with_floor m ballot) rest t.operation more
 
   goes : (m : Memory) → Rests m → (ballot : ℕ) (st : Status) → n ≤ length m.learned → length m.learned < c.slots → So (by_status c m t ballot st)
   goes m rest ballot (Due phase disk) more less = ((less, kept, refl, rest.0, rest.1), omega (arith, more))
@@ -93,6 +100,10 @@ none_said h place (Some command) = refl
 none_recovered : (h place : ℕ) (sub : Option Command) (n : ℕ) → receipts_said h place sub (Some (Recovered n)) ≡ []
 none_recovered h place None n = refl
 none_recovered h place (Some command) n = refl
+
+none_looked : (h place : ℕ) (sub : Option Command) (n : ℕ) → receipts_said h place sub (Some (Looked n)) ≡ []
+none_looked h place None n = refl
+none_looked h place (Some command) n = refl
 
 none_refused : (h place : ℕ) (sub : Option Command) (r : Refusal) → receipts_said h place sub (Some (Refused r)) ≡ []
 none_refused h place None r = refl
@@ -166,12 +177,14 @@ hears_counts c h place sub m (Some t) k answer busy is =
 said_for : (h place : ℕ) (operation : Operation) (sub : Option Command) (slot : ℕ) (reply : Reply) → IsKeptFor operation sub → receipts_said h place sub (Some (Ack slot reply)) ≡ receipt_for h place operation slot reply
 said_for h place (Submitting command) sub slot reply is = ap (λ (o : Option Command). receipts_said h place o (Some (Ack slot reply))) is
 said_for h place Recovering sub slot reply is = ap (λ (o : Option Command). receipts_said h place o (Some (Ack slot reply))) is
+said_for h place Looking sub slot reply is = ap (λ (o : Option Command). receipts_said h place o (Some (Ack slot reply))) is
 
 -- what the seat writes is what is acknowledged
 said_by : (h place : ℕ) (sub : Option Command) (t : Doing) (said : Option HostAnswer) → IsKeptFor t.operation sub → receipts_said h place sub said ≡ receipt_by h place (Some t) said
 said_by h place sub t None is = none_said h place sub
 said_by h place sub t (Some (Ack slot reply)) is = said_for h place t.operation sub slot reply is
 said_by h place sub t (Some (Recovered n)) is = none_recovered h place sub n
+said_by h place sub t (Some (Looked n)) is = none_looked h place sub n
 said_by h place sub t (Some (Beaten host)) is = none_beaten h place sub host
 said_by h place sub t (Some (Marked count)) is = none_marked h place sub count
 said_by h place sub t (Some (Refused r)) is = none_refused h place sub r

@@ -5,8 +5,6 @@ use Rattle.disk.specs.Cut.{cut, HasFirst, IsInFirst}
 use Rattle.disk.specs.Steps.{WritesOn}
 use Rattle.disk.proofs.CutLemmas.{cut_steps, first_stay, first_of_fresh}
 use Rattle.paxos_block.specs.Places.{image_length}
-use Rattle.phases.specs.declared.need.DeviceCall as code_call
-use Rattle.phases.specs.declared.need.DeviceCall.TheVariants as call
 use Rattle.slot_log.specs.Shape.{Shape}
 use Rattle.world.specs.World.{opening_disk}
 use Rattle.std.proofs.lemmas.List.{length-take-le}

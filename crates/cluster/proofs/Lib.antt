@@ -9,3 +9,4 @@ pub mod Parts
 pub mod Ranges
 pub mod Recording
 pub mod Running
+pub mod ShortRecord

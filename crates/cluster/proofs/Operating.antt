@@ -15,9 +15,9 @@ use Rattle.slot_log.specs.declared.outcome.Refusal.{Refusal}
 use Rattle.slot_log.specs.declared.outcome.Refusal.TheVariants as refusal
 use Rattle.disk.specs.Disk.{Call}
 use Rattle.host.specs.declared.answer.HostAnswer.{HostAnswer}
-use Rattle.host.specs.declared.answer.HostAnswer.TheVariants.{Ack, Recovered, Beaten, Marked, Refused}
-use Rattle.host.specs.Host.{Operation, Submitting, Recovering, Doing, Marking, Memory, Host, Stopped, Running, setup_of, says, begins, does, full_answer, goes_on, is_submitted, after_learning, learns, takes, tries_again, with_floor, by_status, with_heard, hears, hears_from, hears_beside, hears_beat, beat_by, beat_of, starts_beat, hears_marking, marking_by, marking_with, marking_of, with_marking, starts_marking, rests, is_idle, is_idle_in, idles, said_of, learned_of, next_of, next_doing, next_beside, next_marking, reply_after}
-use Rattle.world.specs.Entry.{Filled, Submit, Recover, Beat, Mark, Called, host_step}
+use Rattle.host.specs.declared.answer.HostAnswer.TheVariants.{Ack, Recovered, Looked, Beaten, Marked, Refused}
+use Rattle.host.specs.Host.{Operation, Submitting, Recovering, Looking, Doing, Marking, Memory, Host, Stopped, Running, setup_of, says, begins, does, full_answer, spent_answer, goes_on, is_submitted, after_learning, learns, takes, tries_again, with_floor, by_status, with_heard, hears, hears_from, hears_beside, hears_beat, beat_by, beat_of, starts_beat, hears_marking, marking_by, marking_with, marking_of, with_marking, starts_marking, rests, is_idle, is_idle_in, idles, said_of, learned_of, next_of, next_doing, next_beside, next_marking, reply_after}
+use Rattle.world.specs.Entry.{Filled, Submit, Recover, Look, Beat, Mark, Called, host_step}
 use Rattle.world_safety.proofs.Claims.Begun.{empty_recovers}
 use Rattle.cluster_tie.specs.Parts.{Placed, Own, own_of, adds}
 use Rattle.cluster.specs.declared.fault.HostFault.{HostFault}
@@ -37,21 +37,31 @@ use Rattle.cluster.proofs.Goes.{more}
 refuses : (o : Operation) (learned : List Command) (r : Refusal) → IsAnswer (Attempting o) learned (Some (Refused r))
 refuses (Submitting command) learned r = tt
 refuses Recovering learned r = tt
+refuses Looking learned r = tt
 
 -- with all slots learned each is answered
 full_answers : (o : Operation) (learned : List Command) → IsAnswer (Attempting o) learned (Some (full_answer o (length learned)))
 full_answers (Submitting command) learned = tt
 full_answers Recovering learned = refl
+full_answers Looking learned = refl
+
+-- and once an attempt has no ballot
+spent_answers : (o : Operation) (learned : List Command) → IsAnswer (Attempting o) learned (Some (spent_answer o (length learned)))
+spent_answers (Submitting command) learned = tt
+spent_answers Recovering learned = tt
+spent_answers Looking learned = refl
 
 -- only a submission is acknowledged
 acks : (o : Operation) (value : List ℕ) (learned : List Command) (slot : ℕ) (reply : Reply) → is_submitted o value ≡ true → IsAnswer (Attempting o) learned (Some (Ack slot reply))
 acks (Submitting command) value learned slot reply is = tt
 acks Recovering value learned slot reply is = absurd (cc is)
+acks Looking value learned slot reply is = absurd (cc is)
 
 -- only a recovery recovers
 recovers : (o : Operation) (learned : List Command) → o ≡ Recovering → IsAnswer (Attempting o) learned (Some (Recovered (length learned)))
 recovers (Submitting command) learned is = absurd (cc is)
 recovers Recovering learned is = refl
+recovers Looking learned is = absurd (cc is)
 
 abbrev So : Task → Memory → Type 0
 So task m = IsCarried task m m.doing
@@ -101,7 +111,7 @@ module _ (c : Shape) (t : Doing) where
   status_so m rest ballot (Ended Empty) only = over its (says (with_floor m ballot) (Recovered (length m.learned))) rest (recovers t.operation m.learned (only refl))
   status_so m rest ballot (Ended (Outrun mbal)) only = tried_so (with_floor (with_floor m ballot) mbal) rest
   status_so m rest ballot (Ended NoMajority) only = refused_so (with_floor m ballot) rest refusal.NoMajority
-  status_so m rest ballot (Ended BallotsSpent) only = refused_so (with_floor m ballot) rest refusal.BallotsSpent
+  status_so m rest ballot (Ended BallotsSpent) only = over its (says (with_floor m ballot) (spent_answer t.operation (length m.learned))) rest (spent_answers t.operation m.learned)
 
 -- an answer of a disk leaves it so
 heard_so : (c : Shape) (h : ℕ) (m : Memory) → Rests m → (t : Doing) (x : Answered) → So (Attempting t.operation) (hears c h m (Some t) x)
@@ -132,10 +142,12 @@ acked_by c own at before t (Submitting command) (Some (Ack slot reply)) new is s
     let R : ℕ → Receipt = λ h. record { host = h; command = command; slot = slot; reply = reply; place = at } in
     (at, (before, all ∙ ap (λ (l : List Receipt). before ++ l) one ∙ ap (λ (h : ℕ). before ++ R h ∷ []) (sym same)))
 acked_by c own at before t (Submitting command) (Some (Recovered n)) new is same all = tt
+acked_by c own at before t (Submitting command) (Some (Looked n)) new is same all = tt
 acked_by c own at before t (Submitting command) (Some (Beaten host)) new is same all = tt
 acked_by c own at before t (Submitting command) (Some (Marked count)) new is same all = tt
 acked_by c own at before t (Submitting command) (Some (Refused r)) new is same all = tt
 acked_by c own at before t Recovering said new is same all = tt
+acked_by c own at before t Looking said new is same all = tt
 
 -- ONE STEP MORE
 
@@ -257,10 +269,12 @@ begun c o tries own at e step (Running m) is idle =
     none_by : (p : Operation) (learned : ℕ) (new : Own) → HasReceipt c new (Attempting p) (Some (full_answer p learned))
     none_by (Submitting command) learned new = tt
     none_by Recovering learned new = tt
+    none_by Looking learned new = tt
 
     none_yet : (p : Operation) (new : Own) → HasReceipt c new (Attempting p) None
     none_yet (Submitting command) new = tt
     none_yet Recovering new = tt
+    none_yet Looking new = tt
 
     none : (b : Bool) → HasReceipt c (adds own at e) (Attempting o) (if b then begins m o tries else says m (full_answer o (length m.learned))).said
     none true = none_yet o (adds own at e)
@@ -271,6 +285,9 @@ submitted c command tries own at idle = begun c (Submitting command) tries own a
 
 pub recovering : (c : Shape) (tries : ℕ) (own : Own) (at : ℕ) → idles (host_in c own) ≡ true → Carries c (Attempting Recovering) (adds own at (Recover own.number tries))
 recovering c tries own at idle = begun c Recovering tries own at (Recover own.number tries) (λ m. refl) (host_in c own) refl idle
+
+pub looking : (c : Shape) (own : Own) (at : ℕ) → idles (host_in c own) ≡ true → Carries c (Attempting Looking) (adds own at (Look own.number))
+looking c own at idle = begun c Looking 1 own at (Look own.number) (λ m. refl) (host_in c own) refl idle
 
 -- or a beat does
 beating : (c : Shape) (own : Own) (at : ℕ) (host : Host) → host_in c own ≡ host → idles host ≡ true → Carries c Beating (adds own at (Beat own.number))
@@ -298,6 +315,9 @@ submitted_by c command tries own new at idle is = subst (Carries c (Attempting (
 
 pub recovering_by : (c : Shape) (tries : ℕ) (own new : Own) (at : ℕ) → idles (host_in c own) ≡ true → new ≡ adds own at (Recover own.number tries) → Carries c (Attempting Recovering) new
 recovering_by c tries own new at idle is = subst (Carries c (Attempting Recovering)) (sym is) (recovering c tries own at idle)
+
+pub looking_by : (c : Shape) (own new : Own) (at : ℕ) → idles (host_in c own) ≡ true → new ≡ adds own at (Look own.number) → Carries c (Attempting Looking) new
+looking_by c own new at idle is = subst (Carries c (Attempting Looking)) (sym is) (looking c own at idle)
 
 pub beating_by : (c : Shape) (own new : Own) (at : ℕ) → idles (host_in c own) ≡ true → new ≡ adds own at (Beat own.number) → Carries c Beating new
 beating_by c own new at idle is = subst (Carries c Beating) (sym is) (beating c own at (host_in c own) refl idle)
@@ -343,7 +363,7 @@ answered c task own carries idle = subst (λ (s : Host). IsAnswer task (learned_
 pub answered_by : (c : Shape) (task : Task) (own : Own) → Carries c task own → (said : HostAnswer) → said_of (host_in c own) ≡ Some said → IsAnswer task (learned_of (host_in c own)) (Some said)
 answered_by c task own carries said is = subst (λ (s : Option HostAnswer). IsAnswer task (learned_of (host_in c own)) s) is (answered c task own carries (said_idle c task own carries said is))
 
--- a submission neither recovers nor beats
+-- a submission does nothing else
 pub only_acks : (c : Shape) (command : Command) (own : Own) → Carries c (Attempting (Submitting command)) own → (n : ℕ) → said_of (host_in c own) ≡ Some (Recovered n) → ⊥
 only_acks c command own carries n is = answered_by c (Attempting (Submitting command)) own carries (Recovered n) is
 
@@ -353,7 +373,10 @@ acks_unbeaten c command own carries host is = answered_by c (Attempting (Submitt
 pub acks_unmarked : (c : Shape) (command : Command) (own : Own) → Carries c (Attempting (Submitting command)) own → (count : ℕ) → said_of (host_in c own) ≡ Some (Marked count) → ⊥
 acks_unmarked c command own carries count is = answered_by c (Attempting (Submitting command)) own carries (Marked count) is
 
--- a recovery acknowledges nothing and does not beat
+pub acks_unlooked : (c : Shape) (command : Command) (own : Own) → Carries c (Attempting (Submitting command)) own → (n : ℕ) → said_of (host_in c own) ≡ Some (Looked n) → ⊥
+acks_unlooked c command own carries n is = answered_by c (Attempting (Submitting command)) own carries (Looked n) is
+
+-- nor does a recovery
 pub only_recovers : (c : Shape) (own : Own) → Carries c (Attempting Recovering) own → (slot : ℕ) (reply : Reply) → said_of (host_in c own) ≡ Some (Ack slot reply) → ⊥
 only_recovers c own carries slot reply is = answered_by c (Attempting Recovering) own carries (Ack slot reply) is
 
@@ -363,7 +386,23 @@ recovers_unbeaten c own carries host is = answered_by c (Attempting Recovering) 
 pub recovers_unmarked : (c : Shape) (own : Own) → Carries c (Attempting Recovering) own → (count : ℕ) → said_of (host_in c own) ≡ Some (Marked count) → ⊥
 recovers_unmarked c own carries count is = answered_by c (Attempting Recovering) own carries (Marked count) is
 
--- and a beat neither acknowledges nor recovers
+pub recovers_unlooked : (c : Shape) (own : Own) → Carries c (Attempting Recovering) own → (n : ℕ) → said_of (host_in c own) ≡ Some (Looked n) → ⊥
+recovers_unlooked c own carries n is = answered_by c (Attempting Recovering) own carries (Looked n) is
+
+-- nor a look
+pub looks_unacknowledged : (c : Shape) (own : Own) → Carries c (Attempting Looking) own → (slot : ℕ) (reply : Reply) → said_of (host_in c own) ≡ Some (Ack slot reply) → ⊥
+looks_unacknowledged c own carries slot reply is = answered_by c (Attempting Looking) own carries (Ack slot reply) is
+
+pub looks_unrecovered : (c : Shape) (own : Own) → Carries c (Attempting Looking) own → (n : ℕ) → said_of (host_in c own) ≡ Some (Recovered n) → ⊥
+looks_unrecovered c own carries n is = answered_by c (Attempting Looking) own carries (Recovered n) is
+
+pub looks_unbeaten : (c : Shape) (own : Own) → Carries c (Attempting Looking) own → (host : ℕ) → said_of (host_in c own) ≡ Some (Beaten host) → ⊥
+looks_unbeaten c own carries host is = answered_by c (Attempting Looking) own carries (Beaten host) is
+
+pub looks_unmarked : (c : Shape) (own : Own) → Carries c (Attempting Looking) own → (count : ℕ) → said_of (host_in c own) ≡ Some (Marked count) → ⊥
+looks_unmarked c own carries count is = answered_by c (Attempting Looking) own carries (Marked count) is
+
+-- nor a beat
 pub beats_unacknowledged : (c : Shape) (own : Own) → Carries c Beating own → (slot : ℕ) (reply : Reply) → said_of (host_in c own) ≡ Some (Ack slot reply) → ⊥
 beats_unacknowledged c own carries slot reply is = answered_by c Beating own carries (Ack slot reply) is
 
@@ -373,12 +412,18 @@ beats_unrecovered c own carries n is = answered_by c Beating own carries (Recove
 pub beats_unmarked : (c : Shape) (own : Own) → Carries c Beating own → (count : ℕ) → said_of (host_in c own) ≡ Some (Marked count) → ⊥
 beats_unmarked c own carries count is = answered_by c Beating own carries (Marked count) is
 
--- and a marking does none of these
+pub beats_unlooked : (c : Shape) (own : Own) → Carries c Beating own → (n : ℕ) → said_of (host_in c own) ≡ Some (Looked n) → ⊥
+beats_unlooked c own carries n is = answered_by c Beating own carries (Looked n) is
+
+-- nor a marking
 pub marks_unacknowledged : (c : Shape) (own : Own) → Carries c MarkingSlot own → (slot : ℕ) (reply : Reply) → said_of (host_in c own) ≡ Some (Ack slot reply) → ⊥
 marks_unacknowledged c own carries slot reply is = answered_by c MarkingSlot own carries (Ack slot reply) is
 
 pub marks_unrecovered : (c : Shape) (own : Own) → Carries c MarkingSlot own → (n : ℕ) → said_of (host_in c own) ≡ Some (Recovered n) → ⊥
 marks_unrecovered c own carries n is = answered_by c MarkingSlot own carries (Recovered n) is
+
+pub marks_unlooked : (c : Shape) (own : Own) → Carries c MarkingSlot own → (n : ℕ) → said_of (host_in c own) ≡ Some (Looked n) → ⊥
+marks_unlooked c own carries n is = answered_by c MarkingSlot own carries (Looked n) is
 
 pub marks_unbeaten : (c : Shape) (own : Own) → Carries c MarkingSlot own → (host : ℕ) → said_of (host_in c own) ≡ Some (Beaten host) → ⊥
 marks_unbeaten c own carries host is = answered_by c MarkingSlot own carries (Beaten host) is
@@ -396,6 +441,7 @@ acked_for c command own carries slot reply is =
 pub acked : (c : Shape) (task : Task) (own : Own) → Carries c task own → (slot : ℕ) (reply : Reply) → said_of (host_in c own) ≡ Some (Ack slot reply) → IsAcked c own slot reply
 acked c (Attempting (Submitting command)) own carries slot reply is = let r = acked_for c command own carries slot reply is in record { command = command; place = r.0; last = r.1 }
 acked c (Attempting Recovering) own carries slot reply is = absurd (only_recovers c own carries slot reply is)
+acked c (Attempting Looking) own carries slot reply is = absurd (looks_unacknowledged c own carries slot reply is)
 acked c Beating own carries slot reply is = absurd (beats_unacknowledged c own carries slot reply is)
 acked c MarkingSlot own carries slot reply is = absurd (marks_unacknowledged c own carries slot reply is)
 
@@ -424,6 +470,7 @@ refused c o fault.SeatsMissing old new carries goes is = absurd is
 no_receipt : (c : Shape) (own : Own) (task : Task) → HasReceipt c own task None
 no_receipt c own (Attempting (Submitting command)) = tt
 no_receipt c own (Attempting Recovering) = tt
+no_receipt c own (Attempting Looking) = tt
 no_receipt c own Beating = tt
 no_receipt c own MarkingSlot = tt
 

@@ -1,15 +1,18 @@
 -- A disk and a host of the world are what their own entries make of them, so a run goes on by their next call.
-use Rattle.std.proofs.Common.{◌≡◌, ◌<◌, ◌^◌, ℕ, true, false, List, [], ◌∷◌, ◌++◌, sym, ap, subst, ◌∙◌}
+use Rattle.std.proofs.Common.{◌≡◌, ◌<◌, ◌≤◌, ◌^◌, ℕ, Bool, true, false, cond, List, [], ◌∷◌, ◌++◌, length, refl, sym, ap, subst, ◌∙◌, arith, append_assoc, append-nil}
+use Rattle.std.proofs.lemmas.Bool.{eqb-true}
 use Rattle.disk.specs.Disk.{DiskState, Answer, Step, Crashes}
 use Rattle.disk.specs.Steps.{WritesOn}
+use Rattle.torn_block.specs.declared.layout.TheConstants.{HOSTS}
 use Rattle.slot_log.specs.Shape.{Shape}
-use Rattle.host.specs.Host.{Stopped, next_of}
-use Rattle.world.specs.Entry.{Filled, Called, Crashed, Lost, disk_after, host_after}
+use Rattle.host.specs.Host.{Stopped, is_stopped, idles, next_of}
+use Rattle.world.specs.Entry.{Filled, Start, Stop, Submit, Recover, Look, Beat, Mark, Called, Torn, Crashed, Lost, is_of, disk_after, host_after}
 use Rattle.world.specs.Entry as entry
-use Rattle.world.specs.World.{world, opening_disk, IsRun}
+use Rattle.world.specs.World.{world, opening_disk, MayFollow, IsRunFrom, IsRun}
 use Rattle.world.proofs.Runs as runs
-use Rattle.cluster_tie.specs.Parts.{Placed, Own, on_disk, of_host, entries}
+use Rattle.cluster_tie.specs.Parts.{Placed, Own, own_of, on_disk, of_host, entries}
 use Rattle.cluster_tie.proofs.Places.{without}
+use Rattle.cluster_tie.proofs.Steps.{part_grows}
 use Rattle.cluster.specs.Seat.{host_in, due_in, IsDueOn}
 use Rattle.cluster.specs.Book.{disk_in}
 use Rattle.cluster.specs.Commit.{left_by}
@@ -58,3 +61,38 @@ crashes c log book left new run of_book is_disk there low step is =
 pub loses : (c : Shape) (log : List Filled) (book : Own) → IsRun c log → book.entries ≡ on_disk book.number log → book.number < c.disks → (disk_in c book).gone ≡ false → IsRun c (log ++ Lost book.number ∷ [])
 loses c log book run of_book is_disk there =
     runs.more c log (Lost book.number) run (is_disk, ap (λ (d : DiskState). d.gone) (disk_is c log book of_book) ∙ there)
+
+-- HOSTS THAT THERE ARE NOT
+
+module _ (c : Shape) (h : ℕ) (above : HOSTS ≤ h) (before : List Filled) (none : of_host h before ≡ []) where
+  stopped : (g : ℕ) → g ≡ h → (world c before).host g ≡ Stopped
+  stopped g same = ap (world c before).host same ∙ host_is c before (own_of h []) (sym none)
+
+  not_its : (e : Filled) → MayFollow c (world c before) e → is_of h e ≡ true → ⊥
+  not_its (Start g) may is = let same : g ≡ h = eqb-true g h is in omega (arith, may.0, same, above)
+  not_its (Stop g) may is = let no : false ≡ true = sym may ∙ ap is_stopped (stopped g (eqb-true g h is)) in cc no
+  not_its (Submit g command tries) may is = let no : true ≡ false = sym may.0 ∙ ap idles (stopped g (eqb-true g h is)) in cc no
+  not_its (Recover g tries) may is = let no : true ≡ false = sym may.0 ∙ ap idles (stopped g (eqb-true g h is)) in cc no
+  not_its (Look g) may is = let no : true ≡ false = sym may ∙ ap idles (stopped g (eqb-true g h is)) in cc no
+  not_its (Beat g) may is = let no : true ≡ false = sym may ∙ ap idles (stopped g (eqb-true g h is)) in cc no
+  not_its (Mark g slot) may is = let no : true ≡ false = sym may.0 ∙ ap idles (stopped g (eqb-true g h is)) in cc no
+  not_its (Called g k call answer left) may is = let no = sym may.0 ∙ ap (next_of c g) (stopped g (eqb-true g h is)) in cc no
+  not_its (Torn g k call left) may is = let no = sym may.0 ∙ ap (next_of c g) (stopped g (eqb-true g h is)) in cc no
+  not_its (Crashed k left) may is = cc is
+  not_its (Lost k) may is = cc is
+
+  none_next : (e : Filled) → MayFollow c (world c before) e → of_host h (before ++ e ∷ []) ≡ []
+  none_next e may = part_grows false h before e ∙ (λ i. none i ++ cond (off (is_of h e) refl i) ((length before, e) ∷ []) [])
+    where
+      off : (b : Bool) → is_of h e ≡ b → is_of h e ≡ false
+      off true is = absurd (not_its e may is)
+      off false is = is
+
+none_from : (c : Shape) (h : ℕ) → HOSTS ≤ h → (before log : List Filled) → of_host h before ≡ [] → IsRunFrom c before log → of_host h (before ++ log) ≡ []
+none_from c h above before [] none run = ap (of_host h) (append-nil before) ∙ none
+none_from c h above before (e ∷ es) none run =
+    ap (of_host h) (sym (append_assoc before (e ∷ []) es)) ∙ none_from c h above (before ++ e ∷ []) es (none_next c h above before none e run.0) run.1
+
+-- a host of no such number has no entry in a run
+pub none_above : (c : Shape) (log : List Filled) (h : ℕ) → HOSTS ≤ h → IsRun c log → of_host h log ≡ []
+none_above c log h above run = none_from c h above [] log refl run

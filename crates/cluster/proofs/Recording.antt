@@ -1,13 +1,16 @@
 -- What is left of a cluster goes by one log.
-use Rattle.std.proofs.Common.{◌≡◌, ◌+◌, ◌≤◌, ◌<◌, ℕ, zero, suc, Bool, true, false, cond, List, [], ◌∷◌, ◌++◌, length, take, slice_get, get_or, Option, Some, None, refl, sym, ap, subst, ◌∙◌, arith, append-nil}
+use Rattle.std.proofs.Common.{◌≡◌, ◌≢◌, ◌+◌, ◌≤◌, ◌<◌, ℕ, zero, suc, Bool, true, false, cond, List, [], ◌∷◌, ◌++◌, length, take, slice_get, get_or, Option, Some, None, refl, sym, ap, subst, ◌∙◌, arith, append-nil}
+use Rattle.std.specs.Prelude.{nat_lt}
+use Rattle.std.proofs.lemmas.Bool.{ltb-true, ltb-false}
 use Rattle.std.proofs.lemmas.List.{length-take}
 use Rattle.std.proofs.lemmas.Option.{slice_get-get_or}
+use Rattle.torn_block.specs.declared.layout.TheConstants.{HOSTS}
 use Rattle.lock_command.specs.declared.command.Command.{Command}
 use Rattle.lock_table.specs.declared.reply.Reply.{Reply}
 use Rattle.slot_log.specs.Shape.{Shape}
 use Rattle.host.specs.declared.answer.HostAnswer.{HostAnswer}
-use Rattle.host.specs.declared.answer.HostAnswer.TheVariants.{Ack, Recovered, Beaten, Marked, Refused}
-use Rattle.host.specs.Host.{Operation, Submitting, Recovering, Doing, Memory, Host, Stopped, Running, said_of, learned_of}
+use Rattle.host.specs.declared.answer.HostAnswer.TheVariants.{Ack, Recovered, Looked, Beaten, Marked, Refused}
+use Rattle.host.specs.Host.{Operation, Submitting, Recovering, Looking, Doing, Memory, Host, Stopped, Running, said_of, learned_of}
 use Rattle.world.specs.Entry.{Filled, Start, is_of, host_step}
 use Rattle.world.specs.World.{world, IsRun}
 use Rattle.world.specs.Plain.{plains}
@@ -19,10 +22,10 @@ use Rattle.cluster_tie.specs.Parts.{Own, own_of, of_host}
 use Rattle.cluster_tie.proofs.Steps.{part_grows}
 use Rattle.cluster.specs.declared.receipt.Receipt.{Receipt}
 use Rattle.cluster.specs.Receipts.{still, receipt_for, receipt_by, receipts_at, receipts_of, doing_of}
-use Rattle.cluster.specs.Record.{ArePartsOf, IsReceipt, HasReceipts, GoesBy, IsRecord}
+use Rattle.cluster.specs.Record.{HasSeat, AreCovered, ArePartsOf, IsReceipt, HasReceipts, GoesBy, IsRecord}
 use Rattle.cluster.specs.Seat.{host_in}
 use Rattle.cluster.proofs.Adding.{receipts_adds}
-use Rattle.cluster.proofs.Parts.{host_is}
+use Rattle.cluster.proofs.Parts.{host_is, none_above}
 
 take_next : (l : List Filled) (i : ℕ) (x : Filled) → slice_get l i ≡ Some x → take (suc i) l ≡ take i l ++ x ∷ []
 take_next [] i x is = absurd (cc)
@@ -65,11 +68,13 @@ module _ (c : Shape) (log : List Filled) (h : ℕ) where
       tt,
     )
     for_operation slot reply says Recovering same = tt
+    for_operation slot reply says Looking same = tt
 
     for_saying : (said : Option HostAnswer) → said_of ((at c log (i + 1)).host h) ≡ said → HaveAll (receipt_by h i (Some t) said)
     for_saying None says = tt
     for_saying (Some (Ack slot reply)) says = for_operation slot reply says t.operation refl
     for_saying (Some (Recovered n)) says = tt
+    for_saying (Some (Looked n)) says = tt
     for_saying (Some (Beaten host)) says = tt
     for_saying (Some (Marked count)) says = tt
     for_saying (Some (Refused r)) says = tt
@@ -135,12 +140,21 @@ module _ (c : Shape) (log : List Filled) (own : Own) (part : own.entries ≡ of_
 
 -- WHAT IS LEFT
 
-pub recorded : (c : Shape) (log : List Filled) (kept : List Entry) (seats : List Own) → kept ≡ plains log → IsRun c log → ArePartsOf log seats → HasOneLog c log → IsRecord c kept seats
-recorded c log kept seats is run parts one =
+-- each host with an entry has a seat where those do whose numbers there are
+pub covered : (c : Shape) (log : List Filled) (seats : List Own) → IsRun c log → ((h : ℕ) → h < HOSTS → of_host h log ≢ [] → HasSeat seats h) → AreCovered log seats
+covered c log seats run has h some = go (nat_lt h HOSTS) refl
+  where
+    go : (b : Bool) → nat_lt h HOSTS ≡ b → HasSeat seats h
+    go true below = has h (ltb-true h HOSTS below) some
+    go false above = absurd (some (none_above c log h (ltb-false h HOSTS above) run))
+
+pub recorded : (c : Shape) (log : List Filled) (kept : List Entry) (seats : List Own) → kept ≡ plains log → IsRun c log → AreCovered log seats → ArePartsOf log seats → HasOneLog c log → IsRecord c kept seats
+recorded c log kept seats is run covers parts one =
     record {
       log = log;
       kept_is = is;
       run = run;
+      covers = covers;
       parts = parts;
       hosts = λ i d less. sym (host_is c log (get_or seats i d) (parts i d less));
       receipts = λ i d less. has_receipts c log (get_or seats i d) (parts i d less);

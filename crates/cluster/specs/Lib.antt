@@ -7,3 +7,4 @@ pub mod Operations
 pub mod Journal
 pub mod Opening
 pub mod Record
+pub mod Examples

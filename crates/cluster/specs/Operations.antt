@@ -5,7 +5,7 @@ use Rattle.lock_command.specs.declared.command.Command.{Command}
 use Rattle.slot_log.specs.Shape.{Shape}
 use Rattle.host.specs.declared.answer.HostAnswer.{HostAnswer}
 use Rattle.host.specs.declared.answer.HostAnswer.TheVariants as said
-use Rattle.host.specs.Host.{Operation, Submitting, Recovering, Doing, Marking, Memory, Running, idles, said_of, learned_of}
+use Rattle.host.specs.Host.{Operation, Submitting, Recovering, Looking, Doing, Marking, Memory, Running, idles, said_of, learned_of}
 use Rattle.world.specs.Entry.{Filled, Start, Stop}
 use Rattle.cluster_tie.specs.Parts.{Own, own_of, adds}
 use Rattle.cluster.specs.Cluster.{GoesOn}
@@ -14,7 +14,7 @@ use Rattle.cluster.specs.Seat.{host_in}
 use Rattle.cluster.specs.declared.fault.HostFault.{HostFault}
 use Rattle.cluster.specs.declared.fault.HostFault.TheVariants.{Refused, NoMemory, JournalFull, SeatTaken, SeatsMissing, OpenCall}
 use Rattle.cluster.specs.declared.operate.Resumed.{Resumed}
-use Rattle.cluster.specs.declared.operate.Resumed.TheVariants.{Submitted, Recovered, Beaten, Marked}
+use Rattle.cluster.specs.declared.operate.Resumed.TheVariants.{Submitted, Recovered, Looked, Beaten, Marked}
 use Rattle.cluster.specs.declared.receipt.Receipt.{Receipt}
 
 -- ANSWERS
@@ -23,13 +23,15 @@ use Rattle.cluster.specs.declared.receipt.Receipt.{Receipt}
 abbrev pub IsLast : Receipt → List Receipt → Type 0
 IsLast receipt all = (before : List Receipt) × (all ≡ before ++ receipt ∷ [])
 
--- The host is idle, and what it said last is this answer: an acknowledgement with the last receipt of the list, how many commands it has learned,
--- which host a beat suggests, or on how many disks its block of a slot is marked.
+-- The host is idle, and what it said last is this answer: an acknowledgement with the last receipt of the list, how many commands it has learned
+-- after a recovery or a look, which host a beat suggests, or on how many disks its block of a slot is marked.
 abbrev pub HasAnswered : Shape → Resumed → Own → Type 0
 HasAnswered c (Submitted receipt) own =
     (idles (host_in c own) ≡ true) × (said_of (host_in c own) ≡ Some (said.Ack receipt.slot receipt.reply)) × IsLast receipt (receipts_of c own)
 HasAnswered c (Recovered n) own =
     (idles (host_in c own) ≡ true) × (said_of (host_in c own) ≡ Some (said.Recovered n)) × (n ≡ length (learned_of (host_in c own)))
+HasAnswered c (Looked n) own =
+    (idles (host_in c own) ≡ true) × (said_of (host_in c own) ≡ Some (said.Looked n)) × (n ≡ length (learned_of (host_in c own)))
 HasAnswered c (Beaten host) own = (idles (host_in c own) ≡ true) × (said_of (host_in c own) ≡ Some (said.Beaten host))
 HasAnswered c (Marked count) own = (idles (host_in c own) ≡ true) × (said_of (host_in c own) ≡ Some (said.Marked count))
 
@@ -84,6 +86,7 @@ abbrev pub IsAnswer : Task → List Command → Option HostAnswer → Type 0
 IsAnswer task learned None = ⊥
 IsAnswer (Attempting (Submitting command)) learned (Some (said.Ack slot reply)) = Unit {0}
 IsAnswer (Attempting Recovering) learned (Some (said.Recovered n)) = n ≡ length learned
+IsAnswer (Attempting Looking) learned (Some (said.Looked n)) = n ≡ length learned
 IsAnswer Beating learned (Some (said.Beaten host)) = Unit {0}
 IsAnswer MarkingSlot learned (Some (said.Marked count)) = Unit {0}
 IsAnswer task learned (Some (said.Refused refusal)) = Unit {0}

@@ -1,5 +1,5 @@
 -- What is left of a cluster.
-use Rattle.std.specs.Prelude.{◌≡◌, ◌<◌, ℕ, List, length, take, slice_get, slice_index_or, Some}
+use Rattle.std.specs.Prelude.{◌≡◌, ◌≢◌, ◌<◌, ℕ, List, [], Any, length, take, slice_get, slice_index_or, Some}
 use Rattle.lock_command.specs.declared.command.Command.{Command}
 use Rattle.slot_log.specs.Shape.{Shape}
 use Rattle.host.specs.Host.{learned_of, reply_after}
@@ -23,6 +23,22 @@ abbrev pub ArePartsOf : List Filled → List Own → Type 0
 ArePartsOf log seats =
     (i : ℕ) (d : Own) → i < length seats → (slice_index_or seats i d).entries ≡ of_host (slice_index_or seats i d).number log
 
+-- the host has a seat among these
+abbrev pub HasSeat : List Own → ℕ → Type 0
+HasSeat seats h = Any (λ (own : Own). own.number ≡ h) seats
+
+-- each host with an entry has one
+abbrev pub AreCovered : List Filled → List Own → Type 0
+AreCovered log seats = (h : ℕ) → of_host h log ≢ [] → HasSeat seats h
+
+-- some host with an entry has none
+abbrev pub LacksSeat : List Filled → List Own → Type 0
+LacksSeat log seats = (h : ℕ) × (of_host h log ≢ []) × (¬ HasSeat seats h)
+
+-- these are not all seats of some run
+abbrev pub AreNotAll : Shape → List Own → Type 0
+AreNotAll c seats = (log : List Filled) × IsRun c log × ArePartsOf log seats × LacksSeat log seats
+
 -- A receipt is the acknowledgement of its host that stands in the log at its place.
 pub record IsReceipt (c : Shape) (log : List Filled) (h : ℕ) (r : Receipt) : Type 0 where
   pub host : r.host ≡ h
@@ -44,7 +60,9 @@ pub record IsRecord (c : Shape) (kept : List Entry) (seats : List Own) : Type 0 
   pub kept_is : kept ≡ plains log
   -- they are a run of the world,
   pub run : IsRun c log
-  -- each seat's list is its host's entries, in order; so its prefix and its table are those of its host after the run,
+  -- each host with an entry has a seat,
+  pub covers : AreCovered log seats
+  -- and each seat's list is its host's entries, in order; so its prefix and its table are those of its host after the run,
   pub parts : ArePartsOf log seats
   pub hosts : OfEach (λ own. host_in c own ≡ (world c log).host own.number) seats
   -- each receipt stands at its place,

@@ -4,7 +4,7 @@ use Rattle.disk.specs.Disk.{Call, Attach}
 use Rattle.beats.specs.Answers.{Answered}
 use Rattle.lock_command.specs.declared.command.Command.{Command}
 use Rattle.slot_log.specs.Shape.{Shape}
-use Rattle.host.specs.Host.{Host, Stopped, Running, Memory, Operation, Submitting, Recovering, Doing, Marking, next_of}
+use Rattle.host.specs.Host.{Host, Stopped, Running, Memory, Operation, Submitting, Recovering, Looking, Doing, Marking, next_of}
 use Rattle.host.specs.Kept.{Kept, LeadsTo}
 use Rattle.world.specs.Entry.{host_after}
 use Rattle.cluster_tie.specs.Parts.{Own, entries}
@@ -29,6 +29,7 @@ IsDueOn c own k = next_of c own.number (host_in c own) ≡ Some (k, (due_in c ow
 abbrev pub IsKeptFor : Operation → Option Command → Type 0
 IsKeptFor (Submitting command) submitting = submitting ≡ Some command
 IsKeptFor Recovering submitting = submitting ≡ None
+IsKeptFor Looking submitting = submitting ≡ None
 
 -- nothing is told while a marking is under way
 abbrev pub IsSilentInMarking : Memory → Option Marking → Type 0

@@ -1,8 +1,9 @@
-ghost use Rattle.std.specs.Prelude.{◌≡◌, ◌<◌, ◌≤◌, ◌+◌, ◌++◌, ◌∷◌, [], true, OnOk, OnErr, IfErr, ◌⊎◌, length};
+ghost use Rattle.std.specs.Prelude.{◌≡◌, ◌↔◌, ◌<◌, ◌≤◌, ◌+◌, ◌++◌, ◌∷◌, [], true, Err, OnOk, OnErr, IfErr, ◌⊎◌, length};
 ghost use Rattle.host.specs.Host.{idles};
-ghost use Rattle.world.specs.Entry.{Submit, Recover, Beat, Mark};
+ghost use Rattle.world.specs.Entry.{Submit, Recover, Look, Beat, Mark};
 ghost use Rattle.cluster_tie.specs.Parts.{adds};
 ghost use Rattle.cluster.specs.Seat.{host_in};
+ghost use Rattle.cluster.specs.declared.journal.TheConstants.{MOST};
 
 use crate::fault::HostFault;
 use crate::journal::{Journal, has_room};
@@ -27,6 +28,7 @@ impl<'a, N: Named> Journal<'a, N> {
         ensures seat { OnOk result (seat.new ≡ adds seat.old (length self.old.log) (Submit seat.old.number command tries)) }
         ensures journal { OnOk result (self.new ≡ record self.old { log = self.old.log ++ Submit seat.old.number command tries ∷ [] }) }
         ensures unchanged { OnErr result ((seat.new ≡ seat.old) × (self.new ≡ self.old)) }
+        ensures full { result ≡ Err HostFault.JournalFull ↔ MOST ≤ length self.old.log + self.old.promised }
         ensures causes { IfErr result (λ fault. (fault ≡ HostFault.JournalFull) ⊎ (fault ≡ HostFault.NoMemory)) }
     {
         self.submit_as::<Brand>(seat, command, tries)
@@ -45,6 +47,7 @@ impl<'a, N: Named> Journal<'a, N> {
         ensures seat { OnOk result (seat.new ≡ adds seat.old (length self.old.log) E.entry) }
         ensures journal { OnOk result (self.new ≡ record self.old { log = self.old.log ++ E.entry ∷ [] }) }
         ensures unchanged { OnErr result ((seat.new ≡ seat.old) × (self.new ≡ self.old)) }
+        ensures full { result ≡ Err HostFault.JournalFull ↔ MOST ≤ length self.old.log + self.old.promised }
         ensures causes { IfErr result (λ fault. (fault ≡ HostFault.JournalFull) ⊎ (fault ≡ HostFault.NoMemory)) }
     {
         has_room(&mut self.entries, self.promised)?;
@@ -71,6 +74,7 @@ impl<'a, N: Named> Journal<'a, N> {
         ensures seat { OnOk result (seat.new ≡ adds seat.old (length self.old.log) (Recover seat.old.number tries)) }
         ensures journal { OnOk result (self.new ≡ record self.old { log = self.old.log ++ Recover seat.old.number tries ∷ [] }) }
         ensures unchanged { OnErr result ((seat.new ≡ seat.old) × (self.new ≡ self.old)) }
+        ensures full { result ≡ Err HostFault.JournalFull ↔ MOST ≤ length self.old.log + self.old.promised }
         ensures causes { IfErr result (λ fault. (fault ≡ HostFault.JournalFull) ⊎ (fault ≡ HostFault.NoMemory)) }
     {
         self.recover_as::<Brand>(seat, tries)
@@ -83,6 +87,7 @@ impl<'a, N: Named> Journal<'a, N> {
         ensures seat { OnOk result (seat.new ≡ adds seat.old (length self.old.log) E.entry) }
         ensures journal { OnOk result (self.new ≡ record self.old { log = self.old.log ++ E.entry ∷ [] }) }
         ensures unchanged { OnErr result ((seat.new ≡ seat.old) × (self.new ≡ self.old)) }
+        ensures full { result ≡ Err HostFault.JournalFull ↔ MOST ≤ length self.old.log + self.old.promised }
         ensures causes { IfErr result (λ fault. (fault ≡ HostFault.JournalFull) ⊎ (fault ≡ HostFault.NoMemory)) }
     {
         has_room(&mut self.entries, self.promised)?;
@@ -96,12 +101,45 @@ impl<'a, N: Named> Journal<'a, N> {
 }
 
 impl<'a, N: Named> Journal<'a, N> {
+    // The host begins to learn what marks tell.
+    pub(crate) fn look(&mut self, seat: &mut HostSeat<N>) -> Result<(), HostFault>
+        requires idle { idles (host_in N.shape seat.old) ≡ true }
+        ensures seat { OnOk result (seat.new ≡ adds seat.old (length self.old.log) (Look seat.old.number)) }
+        ensures journal { OnOk result (self.new ≡ record self.old { log = self.old.log ++ Look seat.old.number ∷ [] }) }
+        ensures unchanged { OnErr result ((seat.new ≡ seat.old) × (self.new ≡ self.old)) }
+        ensures full { result ≡ Err HostFault.JournalFull ↔ MOST ≤ length self.old.log + self.old.promised }
+        ensures causes { IfErr result (λ fault. (fault ≡ HostFault.JournalFull) ⊎ (fault ≡ HostFault.NoMemory)) }
+    {
+        self.look_as::<Brand>(seat)
+    }
+
+    fn look_as<E: Told>(&mut self, seat: &mut HostSeat<N>) -> Result<(), HostFault>
+        requires told { E.entry ≡ Look seat.old.number }
+        requires idle { idles (host_in N.shape seat.old) ≡ true }
+        ensures seat { OnOk result (seat.new ≡ adds seat.old (length self.old.log) E.entry) }
+        ensures journal { OnOk result (self.new ≡ record self.old { log = self.old.log ++ E.entry ∷ [] }) }
+        ensures unchanged { OnErr result ((seat.new ≡ seat.old) × (self.new ≡ self.old)) }
+        ensures full { result ≡ Err HostFault.JournalFull ↔ MOST ≤ length self.old.log + self.old.promised }
+        ensures causes { IfErr result (λ fault. (fault ≡ HostFault.JournalFull) ⊎ (fault ≡ HostFault.NoMemory)) }
+    {
+        has_room(&mut self.entries, self.promised)?;
+        let host = seat.core.host();
+        self.ties.append_host::<E>(&mut self.tie, &mut seat.tie);
+        self.entries.push_reserved(Entry::Look(host));
+        seat.core.look();
+        seat.submitting = None;
+        Ok(())
+    }
+}
+
+impl<'a, N: Named> Journal<'a, N> {
     // The host begins a beat.
     pub(crate) fn beat(&mut self, seat: &mut HostSeat<N>) -> Result<(), HostFault>
         requires { idles (host_in N.shape seat.old) ≡ true }
         ensures seat { OnOk result (seat.new ≡ adds seat.old (length self.old.log) (Beat seat.old.number)) }
         ensures journal { OnOk result (self.new ≡ record self.old { log = self.old.log ++ Beat seat.old.number ∷ [] }) }
         ensures unchanged { OnErr result ((seat.new ≡ seat.old) × (self.new ≡ self.old)) }
+        ensures full { result ≡ Err HostFault.JournalFull ↔ MOST ≤ length self.old.log + self.old.promised }
         ensures causes { IfErr result (λ fault. (fault ≡ HostFault.JournalFull) ⊎ (fault ≡ HostFault.NoMemory)) }
     {
         self.beat_as::<Brand>(seat)
@@ -113,6 +151,7 @@ impl<'a, N: Named> Journal<'a, N> {
         ensures seat { OnOk result (seat.new ≡ adds seat.old (length self.old.log) E.entry) }
         ensures journal { OnOk result (self.new ≡ record self.old { log = self.old.log ++ E.entry ∷ [] }) }
         ensures unchanged { OnErr result ((seat.new ≡ seat.old) × (self.new ≡ self.old)) }
+        ensures full { result ≡ Err HostFault.JournalFull ↔ MOST ≤ length self.old.log + self.old.promised }
         ensures causes { IfErr result (λ fault. (fault ≡ HostFault.JournalFull) ⊎ (fault ≡ HostFault.NoMemory)) }
     {
         has_room(&mut self.entries, self.promised)?;
@@ -132,6 +171,7 @@ impl<'a, N: Named> Journal<'a, N> {
         ensures seat { OnOk result (seat.new ≡ adds seat.old (length self.old.log) (Mark seat.old.number slot)) }
         ensures journal { OnOk result (self.new ≡ record self.old { log = self.old.log ++ Mark seat.old.number slot ∷ [] }) }
         ensures unchanged { OnErr result ((seat.new ≡ seat.old) × (self.new ≡ self.old)) }
+        ensures full { result ≡ Err HostFault.JournalFull ↔ MOST ≤ length self.old.log + self.old.promised }
         ensures causes { IfErr result (λ fault. (fault ≡ HostFault.JournalFull) ⊎ (fault ≡ HostFault.NoMemory)) }
     {
         self.mark_as::<Brand>(seat, slot)
@@ -144,6 +184,7 @@ impl<'a, N: Named> Journal<'a, N> {
         ensures seat { OnOk result (seat.new ≡ adds seat.old (length self.old.log) E.entry) }
         ensures journal { OnOk result (self.new ≡ record self.old { log = self.old.log ++ E.entry ∷ [] }) }
         ensures unchanged { OnErr result ((seat.new ≡ seat.old) × (self.new ≡ self.old)) }
+        ensures full { result ≡ Err HostFault.JournalFull ↔ MOST ≤ length self.old.log + self.old.promised }
         ensures causes { IfErr result (λ fault. (fault ≡ HostFault.JournalFull) ⊎ (fault ≡ HostFault.NoMemory)) }
     {
         has_room(&mut self.entries, self.promised)?;

@@ -1,4 +1,4 @@
-ghost use Rattle.std.specs.Prelude.{◌≡◌, ◌⊎◌, ◌≤◌, ◌<◌, false, All, IsTrue, IfOk, IfErr, OnOk, Some, None, vec_len, map, replicate};
+ghost use Rattle.std.specs.Prelude.{◌≡◌, ◌⊎◌, ◌≤◌, ◌<◌, false, [], All, IsTrue, IfOk, IfErr, OnOk, Some, None, vec_len, map, replicate};
 ghost use Rattle.disk.specs.Simulated.{fresh_disk};
 ghost use Rattle.paxos_block.specs.Places.{image_length};
 ghost use Rattle.host.specs.Host.{idles};
@@ -7,7 +7,7 @@ ghost use Rattle.torn_block.specs.declared.layout.TheConstants.{HOSTS};
 ghost use Rattle.cluster_tie.specs.Parts.{AreFresh};
 ghost use Rattle.cluster.specs.Book.{image_on};
 ghost use Rattle.cluster.specs.Cluster.{IsStep, Ends};
-ghost use Rattle.cluster.specs.Journal.{AreWaiting};
+ghost use Rattle.cluster.specs.Journal.{KeepsTokens};
 ghost use Rattle.cluster.specs.Operations.{IsStarted};
 ghost use Rattle.cluster.specs.Seat.{host_in};
 
@@ -30,8 +30,10 @@ use std::sync::{Mutex, Wait};
 pub struct Cluster<'a, N: Named, D: Disk> {
     pub(crate) books: Vec<Mutex<DiskBook<N, D>>>,
     pub(crate) journal: Mutex<Journal<'a, N>>,
+    pub(crate) slots: u16,
     ghost as_many: { vec_len books ≡ N.shape.disks },
     ghost few: { N.shape.disks < 256 },
+    ghost long: { slots ≡ N.shape.slots },
 }
 
 impl<'a, N: Named, D: Disk + Drop> Cluster<'a, N, D> {
@@ -61,10 +63,12 @@ impl<'a, N: Named, D: Disk + Drop> Cluster<'a, N, D> {
         let (book, pool) = promises.open::<N>();
         let books = books_of(alloc, disks, marks)?;
         let hosts = waiting(alloc, hosts)?;
+        let slots = config.slots();
         let journal = Journal::new(alloc, config, ties, journal, book, pool, hosts);
         Ok(Cluster {
             books,
             journal: Mutex::new(journal),
+            slots,
         })
     }
 
@@ -73,6 +77,13 @@ impl<'a, N: Named, D: Disk + Drop> Cluster<'a, N, D> {
         ensures { result ≡ N.shape.disks }
     {
         self.books.len() as u8
+    }
+
+    /// How many slots the log has.
+    pub fn slots(&self) -> u16
+        ensures { result ≡ N.shape.slots }
+    {
+        self.slots
     }
 
     /// Starts a host.
@@ -172,7 +183,7 @@ fn waiting<N: Named>(
     hosts: Vec<HostTie<N>>,
 ) -> Result<Vec<Option<HostTie<N>>>, NoMemory>
     requires { AreFresh HOSTS hosts.items }
-    ensures { IfOk result (λ v. AreWaiting v.items) }
+    ensures { IfOk result (λ v. KeepsTokens v.items []) }
 {
     somes(alloc, hosts)
 }

@@ -13,10 +13,10 @@ pub enum HostFault {
     /// A million entries are kept or promised.
     #[error("the journal is full")]
     JournalFull,
-    /// There is no such host, or it was handed out already.
+    /// The host was handed out already.
     #[error("the seat is taken")]
     SeatTaken,
-    /// Fewer seats are given back than were handed out.
+    /// The seat of a host that was started is not given back.
     #[error("seats are missing")]
     SeatsMissing,
     /// A disk's book was found with a call open, or with another number.

@@ -1,8 +1,9 @@
-ghost use Rattle.std.specs.Prelude.{◌≡◌, IfOk, IfErr};
+ghost use Rattle.std.specs.Prelude.{◌≡◌, ◌≢◌, ◌↔◌, ◌<◌, [], ℕ, true, false, Err, IsTrue, IfOk, IfErr};
+ghost use Rattle.torn_block.specs.declared.layout.TheConstants.{HOSTS};
 ghost use Rattle.world.specs.Plain.{plains};
 ghost use Rattle.world.specs.World.{IsRun};
 ghost use Rattle.cluster_tie.specs.Parts.{of_host};
-ghost use Rattle.cluster.specs.Record.{ArePartsOf, IsRecord};
+ghost use Rattle.cluster.specs.Record.{ArePartsOf, HasSeat, LacksSeat, AreNotAll, IsRecord};
 
 use crate::cluster::Cluster;
 use crate::fault::HostFault;
@@ -10,6 +11,7 @@ use crate::journal::Journal;
 use crate::named::Named;
 use crate::seat::HostSeat;
 use disk::Disk;
+use torn_block::HOSTS;
 use world::Entry;
 use world_safety::one_log_and_nothing_lost;
 
@@ -21,27 +23,59 @@ pub struct Record<N: Named> {
 }
 
 impl<'a, N: Named, D: Disk + Drop> Cluster<'a, N, D> {
-    /// The journal, and the seats, whose lists are its parts.
-    pub fn finish(self, mut seats: Vec<HostSeat<N>>) -> Result<Record<N>, HostFault>
+    /// The journal, and the seats, whose lists are its parts. Refused where a host was started whose seat is not among these.
+    pub fn finish(self, seats: Vec<HostSeat<N>>) -> Result<Record<N>, HostFault>
         ensures same { IfOk result (λ r. r.seats.items ≡ seats.items) }
         ensures record { IfOk result (λ r. IsRecord N.shape r.entries.items r.seats.items) }
         ensures cause { IfErr result (λ fault. fault ≡ HostFault.SeatsMissing) }
+        // As far as can be said of what a lock guards: never where all hosts have a seat here.
+        ensures missing { IfErr result (λ _. AreNotAll N.shape seats.items) }
     {
-        let Cluster { books: _, journal } = self;
-        let mut journal = journal.into_inner();
-        if seats.len() < journal.handed {
-            return Err(HostFault::SeatsMissing);
-        }
-        meet_all(&mut journal, seats.as_mut_slice());
-        one_log_and_nothing_lost();
-        Ok(Record {
-            entries: journal.into_entries(),
-            seats,
-        })
+        let Cluster {
+            books: _,
+            journal,
+            slots: _,
+        } = self;
+        journal.into_inner().finish(seats)
     }
 }
 
 impl<'a, N: Named> Journal<'a, N> {
+    // What is left, once nobody needs the journal any more.
+    fn finish(self, seats: Vec<HostSeat<N>>) -> Result<Record<N>, HostFault>
+        ensures same { IfOk result (λ r. r.seats.items ≡ seats.items) }
+        ensures record { IfOk result (λ r. IsRecord N.shape r.entries.items r.seats.items) }
+        ensures cause { IfErr result (λ fault. fault ≡ HostFault.SeatsMissing) }
+        ensures missing { result ≡ Err HostFault.SeatsMissing ↔ LacksSeat self.entry.log seats.items }
+        ensures run { IsRun N.shape self.entry.log }
+        ensures parts { ArePartsOf self.entry.log seats.items }
+    {
+        let mut journal = self;
+        let mut seats = seats;
+        meet_all(&mut journal, seats.as_mut_slice());
+        let covered = journal.is_covered(seats.as_slice());
+        let entries = journal.into_entries();
+        if !covered {
+            return Err(HostFault::SeatsMissing);
+        }
+        one_log_and_nothing_lost();
+        Ok(Record { entries, seats })
+    }
+
+    // Whether each host that has started has a seat among these.
+    fn is_covered(&mut self, seats: &[HostSeat<N>]) -> bool
+        ensures same { self.new ≡ self.old }
+        ensures covered { result ≡ true → (h : ℕ) → h < HOSTS → of_host h self.old.log ≢ [] → HasSeat seats.now h }
+        ensures lacking { result ≡ false → LacksSeat self.old.log seats.now }
+    {
+        for host in 0..HOSTS {
+            if !self.waits(host) && !has_seat(seats, host) {
+                return false;
+            }
+        }
+        true
+    }
+
     // The entries, once nobody needs the journal any more.
     fn into_entries(self) -> Vec<Entry>
         ensures entries { result.items ≡ plains self.entry.log }
@@ -56,10 +90,18 @@ impl<'a, N: Named> Journal<'a, N> {
             promises: _,
             pool: _,
             hosts: _,
-            handed: _,
         } = self;
         entries
     }
+}
+
+// Whether the host has a seat among these.
+fn has_seat<N: Named>(seats: &[HostSeat<N>], host: usize) -> bool
+    ensures { IsTrue result ↔ HasSeat seats.now host }
+{
+    seats
+        .iter()
+        .any(|seat| usize::from(seat.host().get()) == host)
 }
 
 fn meet<N: Named>(journal: &mut Journal<'_, N>, seat: &mut HostSeat<N>)

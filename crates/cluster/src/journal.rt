@@ -1,11 +1,12 @@
-ghost use Rattle.std.specs.Prelude.{◌≡◌, ◌⊎◌, ◌+◌, ◌-◌, ◌<◌, ◌≤◌, ◌↔◌, ◌++◌, ◌∷◌, [], Some, None, Err, IfOk, IfErr, IfSome, OnOk, OnErr, length, vec_len, vec_capacity};
+ghost use Rattle.std.specs.Prelude.{◌≡◌, ◌≢◌, ◌⊎◌, ◌+◌, ◌-◌, ◌<◌, ◌≤◌, ◌↔◌, ◌++◌, ◌∷◌, [], true, false, Some, None, Err, IsTrue, IfOk, IfErr, IfSome, IfNone, OnOk, OnErr, length, slice_get, slice_set, vec_len, vec_capacity};
+ghost use Rattle.torn_block.specs.declared.layout.TheConstants.{HOSTS};
 ghost use Rattle.host.specs.Host.{fresh};
 ghost use Rattle.host.specs.Kept.{LeadsTo};
 ghost use Rattle.world.specs.Entry.{Start};
 ghost use Rattle.world.specs.Plain.{plains};
 ghost use Rattle.world.specs.World.{IsRun};
-ghost use Rattle.cluster_tie.specs.Parts.{own_of};
-ghost use Rattle.cluster.specs.Journal.{AreWaiting};
+ghost use Rattle.cluster_tie.specs.Parts.{own_of, of_host};
+ghost use Rattle.cluster.specs.Journal.{AreWaiting, KeepsTokens};
 
 use crate::fault::HostFault;
 use crate::named::Named;
@@ -41,14 +42,13 @@ pub struct Journal<'a, N: Named> {
     pub(crate) promises: Book<N>,
     pub(crate) pool: Share<N>,
     pub(crate) hosts: Vec<Option<HostTie<N>>>,
-    pub(crate) handed: usize,
 }
 
 impl<'a, N: Named> Model for Journal<'a, N> {
     ghost use Rattle.std.specs.Prelude.{◌≡◌, ◌+◌, ◌≤◌, ◌<◌, vec_len, vec_capacity};
     ghost use Rattle.world.specs.Plain.{plains};
     ghost use Rattle.world.specs.World.{IsRun};
-    ghost use Rattle.cluster.specs.Journal.{JournalState, AreWaiting};
+    ghost use Rattle.cluster.specs.Journal.{JournalState, KeepsTokens};
     ghost use Rattle.cluster.specs.declared.journal.TheConstants.{MOST};
 
     ghost Value = { JournalState };
@@ -65,7 +65,7 @@ impl<'a, N: Named> Model for Journal<'a, N> {
       parts : j.pool.parts + j.promised ≡ N.all;
       enough : MOST < N.all;
       empty : j.pool.amount ≡ 0;
-      waiting : AreWaiting j.hosts.items;
+      tokens : KeepsTokens j.hosts.items j.tie;
     } };
 }
 
@@ -81,7 +81,7 @@ impl<'a, N: Named> Journal<'a, N> {
     ) -> Journal<'a, N>
         requires config { config ≡ N.shape }
         requires tie { tie ≡ [] }
-        requires hosts { AreWaiting hosts.items }
+        requires hosts { KeepsTokens hosts.items [] }
         requires promises { (promises.total ≡ 0) × (pool.parts ≡ N.all) × (MOST < N.all) × (pool.amount ≡ 0) }
         ensures { result ≡ record { log = []; promised = 0 } }
     {
@@ -94,7 +94,6 @@ impl<'a, N: Named> Journal<'a, N> {
             promises,
             pool,
             hosts,
-            handed: 0,
         }
     }
 
@@ -138,8 +137,13 @@ impl<'a, N: Named> Journal<'a, N> {
         ensures ok { IfOk result (λ s. s ≡ own_of host ((length self.old.log, Start host) ∷ [])) }
         ensures appended { OnOk result (self.new ≡ record self.old { log = self.old.log ++ Start host ∷ [] }) }
         ensures err { OnErr result (self.new ≡ self.old) }
+        ensures taken { result ≡ Err HostFault.SeatTaken ↔ of_host host self.old.log ≢ [] }
+        ensures full { result ≡ Err HostFault.JournalFull ↔ (of_host host self.old.log ≡ []) × (MOST ≤ length self.old.log + self.old.promised) }
         ensures causes { IfErr result (λ fault. (fault ≡ HostFault.SeatTaken) ⊎ (fault ≡ HostFault.JournalFull) ⊎ (fault ≡ HostFault.NoMemory)) }
     {
+        if !self.waits(host.get().into()) {
+            return Err(HostFault::SeatTaken);
+        }
         self.seat_as::<Brand>(alloc, host)
     }
 
@@ -148,29 +152,36 @@ impl<'a, N: Named> Journal<'a, N> {
         alloc: Global,
         host: HostNumber,
     ) -> Result<HostSeat<N>, HostFault>
-        requires { E.entry ≡ Start host }
+        requires told { E.entry ≡ Start host }
+        requires waits { of_host host self.old.log ≡ [] }
         ensures ok { IfOk result (λ s. s ≡ own_of host ((length self.old.log, E.entry) ∷ [])) }
         ensures appended { OnOk result (self.new ≡ record self.old { log = self.old.log ++ E.entry ∷ [] }) }
         ensures err { OnErr result (self.new ≡ self.old) }
-        ensures causes { IfErr result (λ fault. (fault ≡ HostFault.SeatTaken) ⊎ (fault ≡ HostFault.JournalFull) ⊎ (fault ≡ HostFault.NoMemory)) }
+        ensures full { result ≡ Err HostFault.JournalFull ↔ MOST ≤ length self.old.log + self.old.promised }
+        ensures causes { IfErr result (λ fault. (fault ≡ HostFault.JournalFull) ⊎ (fault ≡ HostFault.NoMemory)) }
     {
-        if !waits(&self.hosts, host.get().into()) {
-            return Err(HostFault::SeatTaken);
-        }
         has_room(&mut self.entries, self.promised)?;
         let (core, acks) = start(alloc, host, self.config)?;
         let Some(mut tie) = taken(&mut self.hosts, host.get().into()) else {
-            return Err(HostFault::SeatTaken);
+            unreachable!()
         };
         self.ties.append_host::<E>(&mut self.tie, &mut tie);
         self.entries.push_reserved(Entry::Start(host));
-        self.handed = self.handed.saturating_add(1);
         Ok(HostSeat {
             core,
             submitting: None,
             acks,
             tie,
         })
+    }
+
+    // Whether the token of this host waits, so that the host has no entry.
+    pub(crate) fn waits(&mut self, host: usize) -> bool
+        requires { host < HOSTS }
+        ensures same { self.new ≡ self.old }
+        ensures waits { IsTrue result ↔ of_host host self.old.log ≡ [] }
+    {
+        meets(self.ties, &mut self.tie, &mut self.hosts, host)
     }
 }
 
@@ -193,9 +204,26 @@ pub(crate) fn start(
     Ok((core, acks))
 }
 
-// Whether the token of this host waits.
-fn waits<N: Naming>(hosts: &Vec<Option<HostTie<N>>>, host: usize) -> bool {
-    host < hosts.len() && hosts[host].is_some()
+// Whether the token of this host waits. It then meets the journal.
+fn meets<N: Naming>(
+    ties: &Ties<N>,
+    journal: &mut JournalTie<N>,
+    hosts: &mut Vec<Option<HostTie<N>>>,
+    host: usize,
+) -> bool
+    requires host { host < vec_len hosts.old }
+    requires waiting { AreWaiting hosts.old.items }
+    ensures same { (journal.new ≡ journal.old) × (hosts.new.items ≡ hosts.old.items) }
+    ensures waits { result ≡ true → of_host host journal.old ≡ [] }
+    ensures gone { result ≡ false → slice_get hosts.old.items host ≡ Some None }
+{
+    match &mut hosts[host] {
+        Some(token) => {
+            ties.meet_host(journal, token);
+            true
+        }
+        None => false,
+    }
 }
 
 // Room for one entry more than those that are promised.
@@ -218,17 +246,12 @@ pub(crate) fn has_room(entries: &mut Vec<Entry>, promised: usize) -> Result<(), 
 }
 
 // The token that waits for this host.
-#[tactic(auto, using(crate::proofs::Journals::rest_wait))]
-pub(crate) fn taken<N: Naming>(
-    hosts: &mut Vec<Option<HostTie<N>>>,
-    host: usize,
-) -> Option<HostTie<N>>
-    requires { AreWaiting hosts.old.items }
-    ensures rest { AreWaiting hosts.new.items }
+fn taken<N: Naming>(hosts: &mut Vec<Option<HostTie<N>>>, host: usize) -> Option<HostTie<N>>
+    requires host { host < vec_len hosts.old }
+    requires waiting { AreWaiting hosts.old.items }
+    ensures rest { hosts.new.items ≡ slice_set hosts.old.items host None }
     ensures token { IfSome result (λ t. t ≡ own_of host []) }
+    ensures none { IfNone result (slice_get hosts.old.items host ≡ Some None) }
 {
-    if host >= hosts.len() {
-        return None;
-    }
     hosts[host].take()
 }

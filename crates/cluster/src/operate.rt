@@ -1,6 +1,6 @@
 ghost use Rattle.std.specs.Prelude.{◌≡◌, ◌⊎◌, ◌<◌, ◌≤◌, ◌+◌, true, false, length, IfOk, IfErr, OnOk, OnErr};
 ghost use Rattle.host.specs.Host.{idles};
-ghost use Rattle.world.specs.Entry.{Submit, Recover, Beat, Mark};
+ghost use Rattle.world.specs.Entry.{Submit, Recover, Look, Beat, Mark};
 ghost use Rattle.cluster.specs.Cluster.{GoesOn};
 ghost use Rattle.cluster.specs.Operations.{HasAnswered, CarriesOne, Fails, IsRefusedBy, Operates, Restarts, Stops};
 ghost use Rattle.cluster.specs.Seat.{host_in};
@@ -17,12 +17,13 @@ use lock_command::Command;
 use std::alloc::Global;
 use std::sync::Wait;
 
-/// What an operation gave: a receipt, how many commands were recovered, the host that a beat suggests, or on how many disks the
-/// host's block of a slot is marked.
+/// What an operation gave: a receipt, how many commands were recovered, how many are learned after a look, the host that a beat
+/// suggests, or on how many disks the host's block of a slot is marked.
 #[derive(Clone, Copy, Debug)]
 pub enum Resumed {
     Submitted(Receipt),
     Recovered(u16),
+    Looked(u16),
     Beaten(u8),
     Marked(u8),
 }
@@ -49,7 +50,8 @@ impl<'a, N: Named, D: Disk + Drop> Cluster<'a, N, D> {
         self.go_on(rt, seat, gate)?;
         match outcome(seat)? {
             Resumed::Submitted(receipt) => Ok(receipt),
-            Resumed::Recovered(_) | Resumed::Beaten(_) | Resumed::Marked(_) => unreachable!(),
+            Resumed::Recovered(_) | Resumed::Looked(_) | Resumed::Beaten(_) | Resumed::Marked(_) =>
+                unreachable!(),
         }
     }
 
@@ -71,7 +73,32 @@ impl<'a, N: Named, D: Disk + Drop> Cluster<'a, N, D> {
         self.go_on(rt, seat, gate)?;
         match outcome(seat)? {
             Resumed::Recovered(length) => Ok(length),
-            Resumed::Submitted(_) | Resumed::Beaten(_) | Resumed::Marked(_) => unreachable!(),
+            Resumed::Submitted(_) | Resumed::Looked(_) | Resumed::Beaten(_) | Resumed::Marked(_) =>
+                unreachable!(),
+        }
+    }
+
+    /// Learns the commands that marks tell, up to the first slot of which none does, and tells how many commands the host has
+    /// learned. It writes nothing and outruns no host. What was acknowledged and is not marked, it does not find.
+    pub fn look<G: Gate>(
+        &self,
+        rt: &impl Wait,
+        seat: &mut HostSeat<N>,
+        gate: &mut G,
+    ) -> Result<u16, HostFault>
+        requires { idles (host_in N.shape seat.old) ≡ true }
+        ensures steps { OnOk result (Operates N.shape (Look seat.old.number) seat.old seat.new) }
+        ensures answer { IfOk result (λ n. HasAnswered N.shape (Resumed.Looked n) seat.new) }
+        ensures err { IfErr result (λ fault. Fails N.shape (Look seat.old.number) fault seat.old seat.new) }
+    {
+        self.journal.lock(rt).look(seat)?;
+        self.go_on(rt, seat, gate)?;
+        match outcome(seat)? {
+            Resumed::Looked(length) => Ok(length),
+            Resumed::Submitted(_)
+            | Resumed::Recovered(_)
+            | Resumed::Beaten(_)
+            | Resumed::Marked(_) => unreachable!(),
         }
     }
 
@@ -92,7 +119,10 @@ impl<'a, N: Named, D: Disk + Drop> Cluster<'a, N, D> {
         self.go_on(rt, seat, gate)?;
         match outcome(seat)? {
             Resumed::Beaten(host) => Ok(host),
-            Resumed::Submitted(_) | Resumed::Recovered(_) | Resumed::Marked(_) => unreachable!(),
+            Resumed::Submitted(_)
+            | Resumed::Recovered(_)
+            | Resumed::Looked(_)
+            | Resumed::Marked(_) => unreachable!(),
         }
     }
 
@@ -115,7 +145,10 @@ impl<'a, N: Named, D: Disk + Drop> Cluster<'a, N, D> {
         self.go_on(rt, seat, gate)?;
         match outcome(seat)? {
             Resumed::Marked(count) => Ok(count),
-            Resumed::Submitted(_) | Resumed::Recovered(_) | Resumed::Beaten(_) => unreachable!(),
+            Resumed::Submitted(_)
+            | Resumed::Recovered(_)
+            | Resumed::Looked(_)
+            | Resumed::Beaten(_) => unreachable!(),
         }
     }
 
@@ -188,6 +221,7 @@ fn outcome<N: Named>(seat: &HostSeat<N>) -> Result<Resumed, HostFault>
             None => unreachable!(),
         },
         Some(HostAnswer::Recovered { length }) => Ok(Resumed::Recovered(length)),
+        Some(HostAnswer::Looked { length }) => Ok(Resumed::Looked(length)),
         Some(HostAnswer::Beaten { host }) => Ok(Resumed::Beaten(host)),
         Some(HostAnswer::Marked { count }) => Ok(Resumed::Marked(count)),
         Some(HostAnswer::Refused(refusal)) => Err(HostFault::Refused(refusal)),

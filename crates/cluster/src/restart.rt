@@ -1,4 +1,4 @@
-ghost use Rattle.std.specs.Prelude.{◌≡◌, ◌⊎◌, ◌≤◌, ◌+◌, ◌++◌, ◌∷◌, [], OnOk, OnErr, IfErr, length, vec_len, vec_capacity};
+ghost use Rattle.std.specs.Prelude.{◌≡◌, ◌↔◌, ◌⊎◌, ◌<◌, ◌≤◌, ◌+◌, ◌++◌, ◌∷◌, [], Err, OnOk, OnErr, IfErr, length, vec_len, vec_capacity};
 ghost use Rattle.world.specs.Entry.{Start, Stop};
 ghost use Rattle.cluster_tie.specs.Parts.{adds};
 ghost use Rattle.cluster.specs.declared.journal.TheConstants.{MOST};
@@ -18,6 +18,7 @@ impl<'a, N: Named> Journal<'a, N> {
         ensures seat { OnOk result (seat.new ≡ adds (adds seat.old (length self.old.log) (Stop seat.old.number)) (length self.old.log + 1) (Start seat.old.number)) }
         ensures journal { OnOk result (self.new ≡ record self.old { log = (self.old.log ++ Stop seat.old.number ∷ []) ++ Start seat.old.number ∷ [] }) }
         ensures unchanged { OnErr result ((seat.new ≡ seat.old) × (self.new ≡ self.old)) }
+        ensures full { result ≡ Err HostFault.JournalFull ↔ MOST < length self.old.log + self.old.promised + 2 }
         ensures causes { IfErr result (λ fault. (fault ≡ HostFault.JournalFull) ⊎ (fault ≡ HostFault.NoMemory)) }
     {
         self.restart_as::<Brand, Brand>(alloc, seat)
@@ -33,6 +34,7 @@ impl<'a, N: Named> Journal<'a, N> {
         ensures seat { OnOk result (seat.new ≡ adds (adds seat.old (length self.old.log) S.entry) (length self.old.log + 1) T.entry) }
         ensures journal { OnOk result (self.new ≡ record self.old { log = (self.old.log ++ S.entry ∷ []) ++ T.entry ∷ [] }) }
         ensures unchanged { OnErr result ((seat.new ≡ seat.old) × (self.new ≡ self.old)) }
+        ensures full { result ≡ Err HostFault.JournalFull ↔ MOST < length self.old.log + self.old.promised + 2 }
         ensures causes { IfErr result (λ fault. (fault ≡ HostFault.JournalFull) ⊎ (fault ≡ HostFault.NoMemory)) }
     {
         has_room_for_two(&mut self.entries, self.promised)?;
@@ -58,6 +60,7 @@ fn has_room_for_two(entries: &mut Vec<Entry>, promised: usize) -> Result<(), Hos
     ensures items { entries.new.items ≡ entries.old.items }
     ensures kept { vec_len entries.new + promised ≤ vec_capacity entries.new }
     ensures ok { OnOk result ((vec_len entries.new + promised + 2 ≤ vec_capacity entries.new) × (vec_len entries.new + promised + 2 ≤ MOST)) }
+    ensures full { result ≡ Err HostFault.JournalFull ↔ MOST < vec_len entries.old + promised + 2 }
     ensures causes { IfErr result (λ fault. (fault ≡ HostFault.JournalFull) ⊎ (fault ≡ HostFault.NoMemory)) }
 {
     if MOST < entries.len() + promised + 2 {

@@ -1,3 +1,4 @@
 pub mod Lists
 pub mod Racing
 pub mod Races
+pub mod Following

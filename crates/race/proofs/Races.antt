@@ -1,15 +1,17 @@
 -- A cluster's record, and what its hosts told, make a race.
 use Rattle.std.specs.Prelude.{◌↔◌, IsTrue}
-use Rattle.std.proofs.Common.{◌≡◌, ◌<◌, ℕ, Bool, List, [], length, get_or, slice_get, take, Some, sym, ap, subst, ◌∙◌}
+use Rattle.std.proofs.Common.{◌≡◌, ◌<◌, ◌≤◌, ℕ, Bool, false, List, [], ◌∷◌, length, get_or, slice_get, take, Some, refl, sym, ap, subst, ◌∙◌, arith}
 use Rattle.lock_command.specs.declared.command.Command.{Command}
 use Rattle.lock_table.specs.declared.reply.Reply.{Reply}
 use Rattle.slot_log.specs.Shape.{Shape}
 use Rattle.host.specs.Host.{learned_of, reply_after}
-use Rattle.world.specs.Entry.{Filled}
+use Rattle.world.specs.Entry.{Filled, of_host}
 use Rattle.world.specs.World.{world}
 use Rattle.world.specs.Chosen.{IsAcknowledgedAt}
 use Rattle.world.specs.declared.entry.Entry.{Entry}
-use Rattle.cluster_tie.specs.Parts.{Own, own_of}
+use Rattle.cluster_tie.specs.Parts.{Placed, Own, own_of, entries}
+use Rattle.cluster_tie.specs.Parts.{of_host as part_of}
+use Rattle.cluster_tie.proofs.Places.{without}
 use Rattle.cluster.specs.declared.receipt.Receipt.{Receipt}
 use Rattle.cluster.specs.Receipts.{receipts_of}
 use Rattle.cluster.specs.Operations.{IsLast}
@@ -17,7 +19,7 @@ use Rattle.cluster.specs.Record.{IsReceipt, HasReceipts, GoesBy, IsRecord}
 use Rattle.cluster.specs.Seat.{host_in}
 use Rattle.race.specs.Agreement.{Agree, prefix_of, AllAgree}
 use Rattle.race.specs.Answers.{IsRefusedBy, IsTold, IsPlaced, IsAnswer}
-use Rattle.race.specs.Bids.{bid_of}
+use Rattle.race.specs.Bids.{bid_of, HasBid}
 use Rattle.race.specs.Race.{track, HostsAgree, IsRace, AreByHost, AreTold}
 use Rattle.race.specs.declared.answer.Answer.{Answer}
 use Rattle.race.specs.declared.answer.Answer.TheVariants.{Acknowledged, Refused}
@@ -25,14 +27,16 @@ use Rattle.race.proofs.Lists.{last_stands}
 
 module _ (c : Shape) (log : List Filled) (commands : List Command) where
   -- a receipt of a host's bid is placed
-  placed : (h slot : ℕ) (reply : Reply) (own : Own) → own.number ≡ h → HasReceipts c log own → GoesBy c commands own
-      → (r : Receipt) → IsLast r (receipts_of c own) → r.command ≡ bid_of own.number → r.slot ≡ slot → r.reply ≡ reply → IsPlaced c log commands h slot reply
-  placed h slot reply own number receipts goes r last bid at is =
+  placed : (h slot : ℕ) (reply : Reply) (own : Own) → own.number ≡ h → own.entries ≡ part_of own.number log → HasReceipts c log own → GoesBy c commands own
+      → (r : Receipt) → IsLast r (receipts_of c own) → r.command ≡ bid_of own.number → r.slot ≡ slot → r.reply ≡ reply → HasBid own.number (entries own.entries) → IsPlaced c log commands h slot reply
+  placed h slot reply own number part receipts goes r last bid at is bidden =
       let k : ℕ = length last.0 in
       let stands : slice_get (receipts_of c own) k ≡ Some r = subst (λ (l : List Receipt). slice_get l k ≡ Some r) (sym last.1) (last_stands last.0 r) in
       let command : r.command ≡ bid_of h = bid ∙ ap bid_of number in
       let it : IsReceipt c log own.number r = receipts k r stands in
+      let its : entries own.entries ≡ of_host own.number log = ap entries part ∙ without 0 false own.number log in
       record {
+        bid = subst (λ (n : ℕ). HasBid n (of_host n log)) number (subst (HasBid own.number) its bidden);
         place = r.place;
         acknowledged =
             subst (λ (n : ℕ). IsAcknowledgedAt c log r.place n slot (bid_of h) reply) number
@@ -44,10 +48,10 @@ module _ (c : Shape) (log : List Filled) (commands : List Command) where
       }
 
   -- what a seat tells is borne out
-  answered : (h : ℕ) (own : Own) (answer : Answer) → own.number ≡ h → host_in c own ≡ (world c log).host h → HasReceipts c log own → GoesBy c commands own
+  answered : (h : ℕ) (own : Own) (answer : Answer) → own.number ≡ h → own.entries ≡ part_of own.number log → host_in c own ≡ (world c log).host h → HasReceipts c log own → GoesBy c commands own
       → IsTold c own answer → IsAnswer c log commands h answer
-  answered h own (Acknowledged slot reply) number host receipts goes told = placed h slot reply own number receipts goes told.0 told.1 told.2 told.3 told.4
-  answered h own (Refused cause) number host receipts goes told = subst (IsRefusedBy cause) host told
+  answered h own (Acknowledged slot reply) number part host receipts goes told = placed h slot reply own number part receipts goes told.0 told.1 told.2 told.3 told.4 told.5
+  answered h own (Refused cause) number part host receipts goes told = subst (IsRefusedBy cause) host told
 
 agree_along : (a b x y : List Command) → a ≡ x → b ≡ y → Agree a b → Agree x y
 agree_along a b x y first second is = subst (λ (l : List Command). Agree l y) first (subst (Agree a) second is)
@@ -68,16 +72,28 @@ module _ (kept : List Entry) (seats : List Own) (left : IsRecord track kept seat
   agree_here : HostsAgree left.log (length seats) → AllAgree track seats
   agree_here all i d one j e other = agree_along _ _ _ _ (sym (prefix_is i d one)) (sym (prefix_is j e other)) (all i j one other)
 
+  -- a host of no seat has no entry
+  others : (h : ℕ) → length seats ≤ h → of_host h left.log ≡ []
+  others h above = sym (without 0 false h left.log) ∙ ap entries (go (part_of h left.log) refl)
+    where
+      go : (own : List Placed) → part_of h left.log ≡ own → part_of h left.log ≡ []
+      go [] is = is
+      go (x ∷ xs) is =
+          let seat = left.covers h (λ none. let no : [] ≡ x ∷ xs = sym none ∙ is in cc no) in
+          let number : seat.0 ≡ h = sym (by_host seat.0 seat.1 seat.2) ∙ ap (λ (o : Own). o.number) seat.3 ∙ seat.4 in
+          absurd (omega (arith, above, seat.2, number))
+
   pub is_race : (answers : List Answer) (agree : Bool) → AreTold track seats answers → (IsTrue agree ↔ AllAgree track seats) → IsRace (length seats) answers agree
   is_race answers agree told is = record {
     log = left.log;
     run = left.run;
+    alone = others;
     commands = left.commands;
     safe = left.safe;
     no_other = left.no_other;
     each = λ h d few.
         let own : Own = get_or seats h nobody in
-        answered track left.log left.commands h own (get_or answers h d) (by_host h nobody few) (host_is h nobody few) (left.receipts h nobody few) (left.seats_go h nobody few) (told h nobody d few);
+        answered track left.log left.commands h own (get_or answers h d) (by_host h nobody few) (left.parts h nobody few) (host_is h nobody few) (left.receipts h nobody few) (left.seats_go h nobody few) (told h nobody d few);
     agree_is = (λ yes. agree_there (is.0 yes), λ all. is.1 (agree_here all));
   }
 

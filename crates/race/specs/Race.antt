@@ -1,30 +1,30 @@
 -- A race of hosts, and what it leaves.
-use Rattle.std.specs.Prelude.{◌≡◌, ◌<◌, ◌↔◌, ℕ, Bool, IsTrue, List, length, slice_index_or}
+use Rattle.std.specs.Prelude.{◌≡◌, ◌<◌, ◌≤◌, ◌↔◌, ℕ, Bool, IsTrue, List, [], length, slice_index_or}
 use Rattle.lock_command.specs.declared.command.Command.{Command}
 use Rattle.slot_log.specs.Shape.{Shape}
 use Rattle.host.specs.Host.{learned_of}
-use Rattle.world.specs.Entry.{Filled}
+use Rattle.world.specs.Entry.{Filled, of_host}
 use Rattle.world.specs.World.{world, IsRun}
 use Rattle.world.specs.Headline.{IsSafe, HasNoSecondLog}
 use Rattle.cluster_tie.specs.Parts.{Own}
 use Rattle.race.specs.Agreement.{Agree}
 use Rattle.race.specs.Answers.{IsAnswer, IsTold}
 use Rattle.race.specs.declared.answer.Answer.{Answer}
-use Rattle.race.specs.declared.race.TheConstants.{DISKS, SLOTS}
 
 -- three disks, 64 slots
 abbrev pub track : Shape
-track = record { disks = DISKS; slots = SLOTS }
+track = record { disks = 3; slots = 64 }
 
 -- of any two of so many hosts, one's prefix begins the other's
 abbrev pub HostsAgree : List Filled → ℕ → Type 0
 HostsAgree log hosts =
     (i j : ℕ) → i < hosts → j < hosts → Agree (learned_of ((world track log).host i)) (learned_of ((world track log).host j))
 
--- What so many hosts left: one run, with one log,
+-- What so many hosts left: one run, in which no other host took part, with one log,
 pub record IsRace (hosts : ℕ) (answers : List Answer) (agree : Bool) : Type 0 where
   pub log : List Filled
   pub run : IsRun track log
+  pub alone : (h : ℕ) → hosts ≤ h → of_host h log ≡ []
   pub commands : List Command
   pub safe : IsSafe track log commands
   pub no_other : HasNoSecondLog track log

@@ -3,6 +3,7 @@
 
 mod answer;
 mod bid;
+mod laws;
 mod outcome;
 mod prefixes;
 mod race;
@@ -11,4 +12,5 @@ mod seats;
 
 pub use answer::Answer;
 pub use cluster::HostFault;
+pub use laws::{bids_are_spelled, races_agree};
 pub use race::{Race, run_race};

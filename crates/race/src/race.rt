@@ -1,4 +1,4 @@
-ghost use Rattle.std.specs.Prelude.{◌≡◌, ◌≤◌, ◌+◌, ◌<◌, ℕ, true, All, IfOk, length, slice_index_or, vec_len};
+ghost use Rattle.std.specs.Prelude.{◌≡◌, ◌⊎◌, ◌≤◌, ◌+◌, ◌<◌, ℕ, true, All, IfOk, IfErr, length, slice_index_or, vec_len};
 ghost use Rattle.lock_command.specs.declared.number.TheConstants.{HOSTS};
 ghost use Rattle.host.specs.Host.{idles};
 ghost use Rattle.cluster.specs.Opening.{IsNamed};
@@ -51,6 +51,7 @@ pub fn run_race<R: Threads + Wait + AllocGlobal + Sync>(
 ) -> Result<Race, HostFault>
     ensures hosts { IfOk result (λ race. vec_len race.answers ≡ last + 1) }
     ensures race { IfOk result (λ race. IsRace (last + 1) race.answers.items race.agree) }
+    ensures causes { IfErr result (λ fault. (fault ≡ HostFault.NoMemory) ⊎ (fault ≡ HostFault.JournalFull) ⊎ (fault ≡ HostFault.SeatTaken) ⊎ (fault ≡ HostFault.SeatsMissing)) }
 {
     let Some(config) = Config::new(DISKS, SLOTS) else {
         unreachable!()
@@ -71,6 +72,7 @@ fn race_of<N: Named + Send + Sync, R: Threads + Wait + AllocGlobal + Sync>(
     requires hosts { hosts ≤ HOSTS }
     ensures hosts { IfOk result (λ race. vec_len race.answers ≡ hosts) }
     ensures race { IfOk result (λ race. IsRace hosts race.answers.items race.agree) }
+    ensures causes { IfErr result (λ fault. (fault ≡ HostFault.NoMemory) ⊎ (fault ≡ HostFault.JournalFull) ⊎ (fault ≡ HostFault.SeatTaken) ⊎ (fault ≡ HostFault.SeatsMissing)) }
 {
     let alloc = rt.alloc();
     let Ok((ties, foundation)) = opening.named::<N>(alloc) else {

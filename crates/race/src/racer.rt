@@ -1,10 +1,11 @@
 ghost use Rattle.std.specs.Prelude.{◌≡◌, ◌<◌, ℕ, true, IfOk, IfErr, OnOk, length, map, slice_index_or, vec_len};
 ghost use Rattle.host.specs.Host.{idles};
+ghost use Rattle.cluster_tie.specs.Parts.{entries};
 ghost use Rattle.cluster.specs.Operations.{IsLast};
 ghost use Rattle.cluster.specs.Receipts.{receipts_of};
 ghost use Rattle.cluster.specs.Seat.{host_in};
 ghost use Rattle.race.specs.Answers.{IsTold, IsRefusedBy};
-ghost use Rattle.race.specs.Bids.{bid_of};
+ghost use Rattle.race.specs.Bids.{bid_of, HasBeaten, HasBid};
 
 use crate::answer::Answer;
 use crate::bid::bid;
@@ -63,6 +64,7 @@ fn place_bid<N: Named, R: Wait>(
     ensures host { seat.new.number ≡ seat.old.number }
     ensures last { IfOk result (λ receipt. IsLast receipt (receipts_of N.shape seat.new)) }
     ensures bid { IfOk result (λ receipt. receipt.command ≡ bid_of seat.old.number) }
+    ensures bidden { OnOk result (HasBid seat.new.number (entries seat.new.entries)) }
     ensures refused { IfErr result (λ fault. IsRefusedBy fault (host_in N.shape seat.new)) }
 {
     beat_for_lead(rt, cluster, seat)?;
@@ -80,6 +82,7 @@ fn beat_for_lead<N: Named, R: Wait>(
     requires { idles (host_in N.shape seat.old) ≡ true }
     ensures host { seat.new.number ≡ seat.old.number }
     ensures idle { OnOk result (idles (host_in N.shape seat.new) ≡ true) }
+    ensures beaten { OnOk result (HasBeaten seat.new.number (entries seat.new.entries)) }
     ensures refused { IfErr result (λ fault. IsRefusedBy fault (host_in N.shape seat.new)) }
 {
     for _ in 0..BEATS {

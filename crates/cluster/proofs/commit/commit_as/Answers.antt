@@ -15,7 +15,7 @@ use Rattle.cluster.specs.Commit.{called_by, left_by}
 use Rattle.cluster.specs.Receipts.{receipts_said, receipts_of}
 use Rattle.cluster.specs.Seat.{due_in, due_or, IsRunning}
 use Rattle.cluster.proofs.Adding.{disk_adds}
-use Rattle.cluster.proofs.Journals.{plains_more, place_is}
+use Rattle.cluster.proofs.Journals.{plains_more, place_is, keeps_tokens}
 use Rattle.cluster.proofs.Parts.{calls}
 use Rattle.cluster.proofs.Ranges.{leaves}
 use Rattle.cluster.proofs.Running.{next_is, busy, runs_on, acknowledged, counted}
@@ -82,7 +82,7 @@ invariant_of-journal g c =
       parts = omega (arith, j.parts, c.merge.ensures.parts, t.parts, c.args.promise.backed, t.total, j.total);
       enough = j.enough;
       empty = omega (arith, c.merge.ensures.amount, j.empty, t.amount, c.args.promise.one);
-      waiting = j.waiting;
+      tokens = keeps_tokens _ _ _ _ c.append.ensures.journal j.tokens;
     }
 
 pub invariant_of-book : goal.invariant_of-book

@@ -15,7 +15,7 @@ use Rattle.cluster_tie.specs.Parts.{Own, adds}
 use Rattle.cluster.specs.Book.{BookState, disk_in, image_on, IsFollowedBy}
 use Rattle.cluster.specs.declared.touched.Outcome.{Outcome}
 use Rattle.cluster.proofs.Adding.{disk_adds}
-use Rattle.cluster.proofs.Journals.{plains_more}
+use Rattle.cluster.proofs.Journals.{plains_more, keeps_tokens}
 use Rattle.cluster.proofs.Parts.{crashes}
 use Rattle.cluster.proofs.harm.commit_crash_as.Goals as goal
 use Rattle.cluster.proofs.harm.commit_crash_as.Goals.{After-crash}
@@ -78,7 +78,7 @@ invariant_of-journal g c =
       parts = omega (arith, j.parts, c.merge.ensures.parts, t.parts, c.args.promise.backed, t.total, j.total);
       enough = j.enough;
       empty = omega (arith, c.merge.ensures.amount, j.empty, t.amount, c.args.promise.one);
-      waiting = j.waiting;
+      tokens = keeps_tokens _ _ _ _ c.append_disk.ensures.journal j.tokens;
     }
 
 pub invariant_of-book : goal.invariant_of-book

@@ -1,12 +1,12 @@
 use Rattle.std.proofs.Common.{rules, ◌≡◌, ℕ, Some, subst, inr}
 use Rattle.lock_table.specs.declared.reply.Reply.{Reply}
-use Rattle.host.specs.declared.answer.HostAnswer.TheVariants.{Ack, Recovered, Marked}
+use Rattle.host.specs.declared.answer.HostAnswer.TheVariants.{Ack, Recovered, Looked, Marked}
 use Rattle.host.specs.Host.{said_of}
 use Rattle.world.specs.Entry.{Beat}
 use Rattle.cluster_tie.specs.Parts.{Own}
 use Rattle.cluster.specs.Operations.{Beating, Fails, Stops}
 use Rattle.cluster.specs.Seat.{host_in}
-use Rattle.cluster.proofs.Operating.{beating_by, goes_on_so, refused, beats_unacknowledged, beats_unrecovered, beats_unmarked}
+use Rattle.cluster.proofs.Operating.{beating_by, goes_on_so, refused, beats_unacknowledged, beats_unrecovered, beats_unlooked, beats_unmarked}
 use Rattle.cluster.proofs.cluster.Cluster.beat.Goals as goal
 
 pub go_on-requires : goal.go_on-requires
@@ -31,4 +31,5 @@ unreachable-requires g c =
     let never : (slot : ℕ) (reply : Reply) → said_of (host_in shape c.go_on.new.seat) ≡ Some (Ack slot reply) → ⊥ = beats_unacknowledged shape c.go_on.new.seat carried in
     let none : (n : ℕ) → said_of (host_in shape c.go_on.new.seat) ≡ Some (Recovered n) → ⊥ = beats_unrecovered shape c.go_on.new.seat carried in
     let unmarked : (count : ℕ) → said_of (host_in shape c.go_on.new.seat) ≡ Some (Marked count) → ⊥ = beats_unmarked shape c.go_on.new.seat carried in
-    search (rules, never, none, unmarked)
+    let unlooked : (n : ℕ) → said_of (host_in shape c.go_on.new.seat) ≡ Some (Looked n) → ⊥ = beats_unlooked shape c.go_on.new.seat carried in
+    search (rules, never, none, unlooked, unmarked)

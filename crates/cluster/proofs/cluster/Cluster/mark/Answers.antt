@@ -1,12 +1,12 @@
 use Rattle.std.proofs.Common.{rules, ◌≡◌, ℕ, Some, subst, inr}
 use Rattle.lock_table.specs.declared.reply.Reply.{Reply}
-use Rattle.host.specs.declared.answer.HostAnswer.TheVariants.{Ack, Recovered, Beaten}
+use Rattle.host.specs.declared.answer.HostAnswer.TheVariants.{Ack, Recovered, Looked, Beaten}
 use Rattle.host.specs.Host.{said_of}
 use Rattle.world.specs.Entry.{Mark}
 use Rattle.cluster_tie.specs.Parts.{Own}
 use Rattle.cluster.specs.Operations.{MarkingSlot, Fails, Stops}
 use Rattle.cluster.specs.Seat.{host_in}
-use Rattle.cluster.proofs.Operating.{marking_slot_by, goes_on_so, refused, marks_unacknowledged, marks_unrecovered, marks_unbeaten}
+use Rattle.cluster.proofs.Operating.{marking_slot_by, goes_on_so, refused, marks_unacknowledged, marks_unrecovered, marks_unlooked, marks_unbeaten}
 use Rattle.cluster.proofs.cluster.Cluster.mark.Goals as goal
 
 pub go_on-requires : goal.go_on-requires
@@ -31,4 +31,5 @@ unreachable-requires g c =
     let never : (slot : ℕ) (reply : Reply) → said_of (host_in shape c.go_on.new.seat) ≡ Some (Ack slot reply) → ⊥ = marks_unacknowledged shape c.go_on.new.seat carried in
     let none : (n : ℕ) → said_of (host_in shape c.go_on.new.seat) ≡ Some (Recovered n) → ⊥ = marks_unrecovered shape c.go_on.new.seat carried in
     let unbeaten : (host : ℕ) → said_of (host_in shape c.go_on.new.seat) ≡ Some (Beaten host) → ⊥ = marks_unbeaten shape c.go_on.new.seat carried in
-    search (rules, never, none, unbeaten)
+    let unlooked : (n : ℕ) → said_of (host_in shape c.go_on.new.seat) ≡ Some (Looked n) → ⊥ = marks_unlooked shape c.go_on.new.seat carried in
+    search (rules, never, none, unlooked, unbeaten)

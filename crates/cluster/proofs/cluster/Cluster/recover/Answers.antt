@@ -1,12 +1,12 @@
 use Rattle.std.proofs.Common.{rules, ◌≡◌, ℕ, Some, subst, inr}
 use Rattle.lock_table.specs.declared.reply.Reply.{Reply}
-use Rattle.host.specs.declared.answer.HostAnswer.TheVariants.{Ack, Beaten, Marked}
+use Rattle.host.specs.declared.answer.HostAnswer.TheVariants.{Ack, Looked, Beaten, Marked}
 use Rattle.host.specs.Host.{Recovering, said_of}
 use Rattle.world.specs.Entry.{Recover}
 use Rattle.cluster_tie.specs.Parts.{Own}
 use Rattle.cluster.specs.Operations.{Fails, Stops, Attempting}
 use Rattle.cluster.specs.Seat.{host_in}
-use Rattle.cluster.proofs.Operating.{recovering_by, goes_on_so, refused, only_recovers, recovers_unbeaten, recovers_unmarked}
+use Rattle.cluster.proofs.Operating.{recovering_by, goes_on_so, refused, only_recovers, recovers_unlooked, recovers_unbeaten, recovers_unmarked}
 use Rattle.cluster.proofs.cluster.Cluster.recover.Goals as goal
 
 pub go_on-requires : goal.go_on-requires
@@ -31,4 +31,5 @@ unreachable-requires g c =
     let never : (slot : ℕ) (reply : Reply) → said_of (host_in shape c.go_on.new.seat) ≡ Some (Ack slot reply) → ⊥ = only_recovers shape c.go_on.new.seat carried in
     let unbeaten : (host : ℕ) → said_of (host_in shape c.go_on.new.seat) ≡ Some (Beaten host) → ⊥ = recovers_unbeaten shape c.go_on.new.seat carried in
     let unmarked : (count : ℕ) → said_of (host_in shape c.go_on.new.seat) ≡ Some (Marked count) → ⊥ = recovers_unmarked shape c.go_on.new.seat carried in
-    search (rules, never, unbeaten, unmarked)
+    let unlooked : (n : ℕ) → said_of (host_in shape c.go_on.new.seat) ≡ Some (Looked n) → ⊥ = recovers_unlooked shape c.go_on.new.seat carried in
+    search (rules, never, unlooked, unbeaten, unmarked)

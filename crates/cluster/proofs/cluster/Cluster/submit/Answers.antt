@@ -1,11 +1,11 @@
 use Rattle.std.proofs.Common.{rules, ◌≡◌, ℕ, Some, ap, subst, ◌∙◌, inr}
-use Rattle.host.specs.declared.answer.HostAnswer.TheVariants.{Recovered, Beaten, Marked}
+use Rattle.host.specs.declared.answer.HostAnswer.TheVariants.{Recovered, Looked, Beaten, Marked}
 use Rattle.host.specs.Host.{Submitting, said_of}
 use Rattle.world.specs.Entry.{Submit}
 use Rattle.cluster_tie.specs.Parts.{Own}
 use Rattle.cluster.specs.Operations.{Fails, Stops, Attempting}
 use Rattle.cluster.specs.Seat.{host_in}
-use Rattle.cluster.proofs.Operating.{submitted_by, goes_on_so, refused, only_acks, acks_unbeaten, acks_unmarked, is_its}
+use Rattle.cluster.proofs.Operating.{submitted_by, goes_on_so, refused, only_acks, acks_unlooked, acks_unbeaten, acks_unmarked, is_its}
 use Rattle.cluster.proofs.cluster.Cluster.submit.Goals as goal
 
 pub go_on-requires : goal.go_on-requires
@@ -30,7 +30,8 @@ unreachable-requires g c =
     let never : (n : ℕ) → said_of (host_in shape c.go_on.new.seat) ≡ Some (Recovered n) → ⊥ = only_acks shape c.args.command c.go_on.new.seat carried in
     let unbeaten : (host : ℕ) → said_of (host_in shape c.go_on.new.seat) ≡ Some (Beaten host) → ⊥ = acks_unbeaten shape c.args.command c.go_on.new.seat carried in
     let unmarked : (count : ℕ) → said_of (host_in shape c.go_on.new.seat) ≡ Some (Marked count) → ⊥ = acks_unmarked shape c.args.command c.go_on.new.seat carried in
-    search (rules, never, unbeaten, unmarked)
+    let unlooked : (n : ℕ) → said_of (host_in shape c.go_on.new.seat) ≡ Some (Looked n) → ⊥ = acks_unlooked shape c.args.command c.go_on.new.seat carried in
+    search (rules, never, unlooked, unbeaten, unmarked)
 
 pub returns-clause-command : goal.returns-clause-command
 returns-clause-command g c =

@@ -8,7 +8,7 @@ use Rattle.cluster_tie.specs.Parts.{Own, adds}
 use Rattle.cluster.specs.Receipts.{receipts_of}
 use Rattle.cluster.specs.Seat.{host_in, IsRunning}
 use Rattle.cluster.proofs.Begun.{begun, none_more, as_many, recovers}
-use Rattle.cluster.proofs.Journals.{plains_more}
+use Rattle.cluster.proofs.Journals.{plains_more, keeps_tokens}
 use Rattle.cluster.proofs.Running.{idles_is}
 use Rattle.cluster.proofs.journal.Journal.recover_as.Goals as goal
 
@@ -36,7 +36,7 @@ invariant_of-self-2 g c =
       parts = j.parts;
       enough = j.enough;
       empty = j.empty;
-      waiting = j.waiting;
+      tokens = keeps_tokens _ _ _ _ a.journal j.tokens;
     }
 
 pub invariant_of-seat : goal.invariant_of-seat

@@ -12,7 +12,7 @@ use Rattle.cluster.specs.Receipts.{receipts_of}
 use Rattle.cluster.specs.Seat.{host_in, IsRunning}
 use Rattle.cluster.specs.declared.receipt.Receipt.{Receipt}
 use Rattle.cluster.proofs.Begun.{restarts, restarted, none_restarted}
-use Rattle.cluster.proofs.Journals.{plains_more}
+use Rattle.cluster.proofs.Journals.{plains_more, keeps_tokens}
 use Rattle.cluster.proofs.journal.Journal.restart_as.Goals as goal
 
 pub invariant_of-self-2 : goal.invariant_of-self-2
@@ -45,7 +45,7 @@ invariant_of-self-2 g c =
       parts = j.parts;
       enough = j.enough;
       empty = j.empty;
-      waiting = j.waiting;
+      tokens = keeps_tokens _ _ _ _ b.journal (keeps_tokens _ _ _ _ a.journal j.tokens);
     }
 
 pub invariant_of-seat : goal.invariant_of-seat

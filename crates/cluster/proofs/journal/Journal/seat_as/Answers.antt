@@ -1,8 +1,8 @@
-use Rattle.std.proofs.Common.{◌≡◌, ◌++◌, ◌∷◌, [], ℕ, None, List, length, refl, sym, ap, subst, ◌∙◌, arith}
+use Rattle.std.proofs.Common.{◌≡◌, ◌++◌, ◌∷◌, [], ℕ, None, List, length, set, refl, sym, ap, subst, ◌∙◌, arith}
 use Rattle.slot_log.specs.Shape.{Shape}
 use Rattle.host.specs.Host.{fresh}
 use Rattle.host.specs.Kept.{LeadsTo}
-use Rattle.world.specs.Entry.{Filled, Start}
+use Rattle.world.specs.Entry.{Filled, Start, is_of}
 use Rattle.world.specs.Plain.{plain, plains}
 use Rattle.world.specs.World.{IsRun}
 use Rattle.world.specs.declared.entry.Entry.{Entry}
@@ -10,16 +10,19 @@ use Rattle.cluster_tie.specs.Parts.{Own, own_of, adds, of_host}
 use Rattle.cluster.specs.Receipts.{receipts_of}
 use Rattle.cluster.specs.Seat.{IsRunning}
 use Rattle.cluster.specs.declared.receipt.Receipt.{Receipt}
-use Rattle.cluster.proofs.Begun.{starts}
-use Rattle.cluster.proofs.Journals.{plains_more}
+use Rattle.cluster.proofs.Begun.{is_itself, starts}
+use Rattle.cluster.proofs.Journals.{plains_more, takes_token}
 use Rattle.cluster.proofs.journal.Journal.seat_as.Goals as goal
 
-module _ (g : _) (c : goal.After-self-1 g) where
+module _ (g : _) (c : goal.After-push_reserved g) where
+  number : c.into.result ≡ c.args.host
+  number = c.into.ensures ∙ c.get.ensures.value
+
   waits : c.in-Some.tie ≡ own_of c.args.host []
-  waits = c.in-Some.ensures.token ∙ ap (λ (n : ℕ). own_of n []) (c.into-2.ensures ∙ c.get-2.ensures.value)
+  waits = c.in-Some.ensures.token ∙ ap (λ (n : ℕ). own_of n []) number
 
   new_is : adds (own_of c.args.host []) (length c.self.inside.tie) (Start c.args.host) ≡ c.append_host.new.host
-  new_is = (λ i. adds (sym waits i) (length c.self.inside.tie) (sym c.requires i)) ∙ sym c.append_host.ensures.host
+  new_is = (λ i. adds (sym waits i) (length c.self.inside.tie) (sym c.requires.told i)) ∙ sym c.append_host.ensures.host
 
 pub invariant_of-result : goal.invariant_of-result
 invariant_of-result g c =
@@ -49,13 +52,13 @@ invariant_of-self-2 g c =
     let run = starts shape log c.args.host j.run part (omega (arith, c.get.ensures.value, c.get.ensures.range)) in
     record {
       config = j.config;
-      kept = p.items ∙ ap (λ (l : List Entry). l ++ plain e ∷ []) (c.has_room.ensures.items ∙ j.kept) ∙ sym (plains_more log e) ∙ ap (λ (x : Filled). plains (log ++ x ∷ [])) (sym c.requires) ∙ ap plains (sym a.journal);
-      run = subst (IsRun shape) (ap (λ (x : Filled). log ++ x ∷ []) (sym c.requires) ∙ sym a.journal) run;
+      kept = p.items ∙ ap (λ (l : List Entry). l ++ plain e ∷ []) (c.has_room.ensures.items ∙ j.kept) ∙ sym (plains_more log e) ∙ ap (λ (x : Filled). plains (log ++ x ∷ [])) (sym c.requires.told) ∙ ap plains (sym a.journal);
+      run = subst (IsRun shape) (ap (λ (x : Filled). log ++ x ∷ []) (sym c.requires.told) ∙ sym a.journal) run;
       room = omega (arith, p.len, p.capacity, ok.0);
       most = omega (arith, p.len, ok.1);
       total = j.total;
       parts = j.parts;
       enough = j.enough;
       empty = j.empty;
-      waiting = c.in-Some.ensures.rest;
+      tokens = takes_token _ _ c.args.host log _ g.E.Told.entry (c.in-Some.ensures.rest ∙ ap (λ (n : ℕ). set c.self.inside.hosts.items n None) (number g c)) a.journal (ap (is_of c.args.host) c.requires.told ∙ is_itself c.args.host) j.tokens;
     }
