@@ -401,10 +401,11 @@ reads_all : (c : Shape) (h : ℕ) (m : Memory) (xs : List Made) → m.beats.hear
 reads_all c h m [] rest unmarked looks due = tt
 reads_all c h m (x ∷ xs) rest unmarked looks due =
     let same : after_call c h m x ≡ hears_one c h m m.doing (answered x) = hears_own c h m m.doing x.disk x.answer rest in
-    let n = hears_one c h m m.doing (answered x) in
-    (next_reads c h m m.doing x.disk x.call rest unmarked refl looks due.0.next,
-    reads_all c h n xs (ap (λ (b : Beats). b.heard) (beats_one c h m m.doing (answered x) refl) ∙ rest) (unmarked_one c h m m.doing (answered x) unmarked)
-    (hears_of c h m Looking m.doing (answered x) tt unmarked refl looks) (subst (λ (k : Memory). AreDue c h k xs) same due.1))
+    let n = hears_one c h m m.doing (answered x) in (
+      next_reads c h m m.doing x.disk x.call rest unmarked refl looks due.0.next,
+      reads_all c h n xs (ap (λ (b : Beats). b.heard) (beats_one c h m m.doing (answered x) refl) ∙ rest) (unmarked_one c h m m.doing (answered x) unmarked)
+          (hears_of c h m Looking m.doing (answered x) tt unmarked refl looks) (subst (λ (k : Memory). AreDue c h k xs) same due.1),
+    )
 
 -- a look writes nothing
 pub looked_reads : {D : Type 0} (gives : D → device.Call → device.Answer → D → Type 0) (tries : ℕ) (old new : Standing D) → IsKnown old.core → is_idle old.core ≡ true → (done : HasOperated gives Looking tries old new) → AreReads done.made

@@ -10,7 +10,7 @@ ghost use Rattle.host.specs.Kept.{LeadsTo};
 
 use crate::disk_host::DiskHost;
 use crate::fault::FolderFault;
-use crate::image::{image_path, open_image};
+use crate::image::{Access, image_path, open_image};
 use crate::set::set_of;
 use disk::{Disk, FileDisk, ImageFault, NoMemory};
 use host::Config;
@@ -53,10 +53,36 @@ where
     ensures opened { IfOk result (λ folder. IsOpened folder.config folder.cluster folder.disks.items) }
     ensures fault { IfErr result MayRefuse }
 {
+    open_images(rt, folder, Access::ReadAndWrite)
+}
+
+/// Opens the images of a folder that can be read. Every write to one of them fails, so that a host over them can but look.
+pub fn open_folder_to_read<R: Files + AllocGlobal>(
+    rt: &R,
+    folder: &str,
+) -> Result<Folder<R::File>, FolderFault>
+where
+    R::File: FileExt + OpenFile + Drop,
+    ensures opened { IfOk result (λ folder. IsOpened folder.config folder.cluster folder.disks.items) }
+    ensures fault { IfErr result MayRefuse }
+{
+    open_images(rt, folder, Access::Read)
+}
+
+fn open_images<R: Files + AllocGlobal>(
+    rt: &R,
+    folder: &str,
+    access: Access,
+) -> Result<Folder<R::File>, FolderFault>
+where
+    R::File: FileExt + OpenFile + Drop,
+    ensures opened { IfOk result (λ folder. IsOpened folder.config folder.cluster folder.disks.items) }
+    ensures fault { IfErr result MayRefuse }
+{
     let mut found = [Err(ImageFault::Unreadable); DISKS as usize];
     let mut disks = Vec::with_capacity(rt.alloc(), usize::from(DISKS))?;
     for disk in 0..DISKS {
-        let (header, image) = look(rt, folder, disk)?;
+        let (header, image) = look_at(rt, folder, disk, access)?;
         found[usize::from(disk)] = header;
         disks.push_reserved(image);
     }
@@ -71,10 +97,11 @@ where
 }
 
 /// What is found of an image: its header and its disk, or why it is refused and a disk of which every call fails.
-fn look<R: Files + AllocGlobal>(
+fn look_at<R: Files + AllocGlobal>(
     rt: &R,
     folder: &str,
     disk: u8,
+    access: Access,
 ) -> Result<(Result<Header, ImageFault>, FileDisk<R::File>), FolderFault>
 where
     R::File: FileExt + OpenFile + Drop,
@@ -84,7 +111,7 @@ where
     ensures fault { IfErr result (λ fault. fault ≡ FolderFault.NoMemory) }
 {
     let path = image_path(rt.alloc(), folder, disk)?;
-    match open_image(rt, path.as_str(), disk) {
+    match open_image(rt, path.as_str(), disk, access) {
         Ok((header, image)) => Ok((Ok(header), image)),
         Err(fault) => Ok((Err(fault), FileDisk::missing(0))),
     }

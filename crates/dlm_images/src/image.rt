@@ -15,6 +15,13 @@ use std::path::{Path, PathBuf};
 use std::rt::Files;
 use torn_block::HEADER_LENGTH;
 
+/// What an image is opened for.
+#[derive(Clone, Copy)]
+pub enum Access {
+    ReadAndWrite,
+    Read,
+}
+
 /// The path of the image of this number.
 pub fn image_path(alloc: Global, folder: &str, disk: u8) -> Result<PathBuf, FolderFault>
     ensures path { IfOk result (λ path. path_buf_bytes path ≡ path_join folder.now (image_name disk)) }
@@ -29,6 +36,7 @@ pub fn open_image<R: Files>(
     files: &R,
     path: &str,
     disk: u8,
+    access: Access,
 ) -> Result<(Header, FileDisk<R::File>), ImageFault>
 where
     R::File: FileExt + OpenFile + Drop,
@@ -37,7 +45,10 @@ where
     ensures long { IfOk result (λ image. image.1.size ≡ image_length image.0.slots) }
     ensures used { IfOk result (λ image. image.1.used ≡ true) }
 {
-    let mut file = FileDisk::open(files, path)?;
+    let mut file = match access {
+        Access::ReadAndWrite => FileDisk::open(files, path)?,
+        Access::Read => FileDisk::open_to_read(files, path)?,
+    };
     let header = read_header(&mut file, disk)?;
     Ok((header, file))
 }

@@ -13,7 +13,7 @@ mod set;
 pub use disk_host::{Acknowledgement, DiskHost};
 pub use examples::first_operation_is_acknowledged;
 pub use fault::FolderFault;
-pub use folder::{Folder, open_folder};
+pub use folder::{Folder, open_folder, open_folder_to_read};
 pub use format::{format_folder, lay_out};
 pub use operation::drive;
 pub use set::{ImageSet, SetFault, set_of};

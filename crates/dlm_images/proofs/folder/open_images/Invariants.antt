@@ -4,7 +4,7 @@ use Rattle.disk.specs.FileStates.{FileState}
 use Rattle.paxos_block.specs.declared.header.Header.{Header}
 use Rattle.dlm_images.specs.Sets.{AreHeaders, Says}
 use Rattle.dlm_images.specs.Folders.{IsDiskOf}
-use Rattle.dlm_images.proofs.folder.open_folder.Given as goal
+use Rattle.dlm_images.proofs.folder.open_images.Given as goal
 
 abbrev pub invariant-loop-disk : goal.invariant-loop-disk
 invariant-loop-disk g l = record {

@@ -7,7 +7,7 @@ use Rattle.paxos_block.specs.Headers.{IsHeader}
 use Rattle.dlm_images.specs.Folders.{IsDiskOf, resized}
 use Rattle.dlm_images.proofs.Images.{placed_more, paired_more}
 use Rattle.dlm_images.proofs.Opening.{of_ok, small, refused, opened}
-use Rattle.dlm_images.proofs.folder.open_folder.Goals as goal
+use Rattle.dlm_images.proofs.folder.open_images.Goals as goal
 
 pub loop-disk-preserved : goal.loop-disk-preserved
 loop-disk-preserved g c = record {
