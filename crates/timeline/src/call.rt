@@ -50,6 +50,10 @@ pub enum Phase {
     Second,
     /// To tell that the host lives, and to read who else does.
     Beat,
+    /// To mark what is learned.
+    Mark,
+    /// To learn what is marked.
+    Look,
 }
 
 impl Phase {
@@ -73,6 +77,8 @@ impl Phase {
             Phase::First => "p",
             Phase::Second => "v",
             Phase::Beat => "t",
+            Phase::Mark => "m",
+            Phase::Look => "q",
         }
     }
 }

@@ -8,9 +8,9 @@ use std::io::Write;
 /// The number of an event stands below every tenth column.
 const NUMBERED: usize = 10;
 
-/// The colours: `o`, `p` and `v` are the phases, `t` is a beat, `x` is what goes wrong. Words stand on white.
+/// The colours: `o`, `p` and `v` are the phases, `t` is a beat, `m` a marking, `q` a look, `x` what goes wrong. Words stand on white.
 const STYLE: &str =
-    "<style>text{paint-order:stroke;stroke:#fff;stroke-width:2}.o{fill:#8a94a6;stroke:#8a94a6}.p{fill:#e08a1e;stroke:#e08a1e}.v{fill:#2f9e58;stroke:#2f9e58}.t{fill:#3b74c9;stroke:#3b74c9}.x{fill:#fff;stroke:#d11}.k{fill:#fff}.i{fill:#fff;stroke:none}.l{stroke:#bbb}.h{stroke:#444;stroke-width:2}.n{fill:#777}.f{fill:#d11}.j{fill:#d11;stroke:none}.b{font-weight:bold}</style>";
+    "<style>text{paint-order:stroke;stroke:#fff;stroke-width:2}.o{fill:#8a94a6;stroke:#8a94a6}.p{fill:#e08a1e;stroke:#e08a1e}.v{fill:#2f9e58;stroke:#2f9e58}.t{fill:#3b74c9;stroke:#3b74c9}.m{fill:#8e5bb5;stroke:#8e5bb5}.q{fill:#1f9aa5;stroke:#1f9aa5}.x{fill:#fff;stroke:#d11}.k{fill:#fff}.i{fill:#fff;stroke:none}.l{stroke:#bbb}.h{stroke:#444;stroke-width:2}.n{fill:#777}.f{fill:#d11}.j{fill:#d11;stroke:none}.b{font-weight:bold}</style>";
 
 /// Writes a picture of the moments, as an SVG document.
 pub fn draw<O: Write>(config: Config, moments: &[Moment], out: &mut O) -> io::Result<()> {
@@ -199,6 +199,7 @@ fn draw_answer<O: Write>(x: u64, y: u64, answer: &HostAnswer, out: &mut O) -> io
     match answer {
         HostAnswer::Ack { slot, reply } => write!(out, "ack {slot} {reply:?}")?,
         HostAnswer::Recovered { length } => write!(out, "recovered {length}")?,
+        HostAnswer::Looked { length } => write!(out, "looked {length}")?,
         HostAnswer::Beaten { host } => write!(out, "beaten {host}")?,
         HostAnswer::Marked { count } => write!(out, "marked {count}")?,
         HostAnswer::Refused(refusal) => write!(out, "{refusal:?}")?,
@@ -230,7 +231,9 @@ fn draw_legend<O: Write>(layout: &Layout, out: &mut O) -> io::Result<()> {
         (132, "p", "promise"),
         (212, "v", "vote"),
         (292, "t", "beat"),
-        (372, "x", "goes wrong"),
+        (372, "m", "mark"),
+        (452, "q", "look"),
+        (532, "x", "goes wrong"),
     ] {
         write!(out, "<path class=\"{class}\" d=\"M{x} {boxes}h7v12h-7z\"/>")?;
         writeln!(out, "<text x=\"{x}\" y=\"{words}\" dx=\"12\">{word}</text>")?;

@@ -10,6 +10,7 @@ pub enum Task {
     Status,
     Purge,
     Recover,
+    Look,
     Beat,
     Mark,
 }
@@ -37,6 +38,7 @@ impl Task {
             Task::Status => "status",
             Task::Purge => "purge",
             Task::Recover => "recover",
+            Task::Look => "look",
             Task::Beat => "beat",
             Task::Mark => "mark",
         }

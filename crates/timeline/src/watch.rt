@@ -21,14 +21,14 @@ struct Device {
     is_lost: bool,
 }
 
-/// Follows a cluster from outside: whether an event applies, and which call of an attempt, or of a beat, a step is.
+/// Follows a cluster from outside: whether an event applies, and which call of an attempt, of a beat or of a marking a step is.
 #[derive(Drop)]
 pub struct Watch {
     /// Of each host, one for each disk.
     visits: Vec<Visit>,
     devices: Vec<Device>,
-    /// Of each host, whether its last operation was a beat.
-    beats: [bool; HOSTS],
+    /// Of each host, what its last operation was begun for.
+    tasks: [Option<Task>; HOSTS],
 }
 
 impl Watch {
@@ -55,7 +55,7 @@ impl Watch {
         Ok(Watch {
             visits,
             devices,
-            beats: [false; HOSTS],
+            tasks: [None; HOSTS],
         })
     }
 
@@ -76,6 +76,7 @@ impl Watch {
                 Task::of(&command.action),
             ),
             Event::Recover { host, .. } => self.began(parts, *host, Task::Recover),
+            Event::Look(host) => self.began(parts, *host, Task::Look),
             Event::Beat(host) => self.began(parts, *host, Task::Beat),
             Event::Mark { host, .. } => self.began(parts, *host, Task::Mark),
             Event::Step(host) => self.called(parts, *host, Ending::Done),
@@ -91,7 +92,7 @@ impl Watch {
         if !parts.host(host.get())?.idle() {
             return None;
         }
-        self.beats[usize::from(host.get())] = task == Task::Beat;
+        self.tasks[usize::from(host.get())] = Some(task);
         Some(Happened::Began { host, task })
     }
 
@@ -113,10 +114,12 @@ impl Watch {
             return None;
         }
         let number = self.number(host, disk, kind);
-        let phase = if self.beats[usize::from(host.get())] {
-            Phase::Beat
-        } else {
-            Phase::of(number)
+        let task = self.tasks[usize::from(host.get())];
+        let phase = match task {
+            Some(Task::Beat) => Phase::Beat,
+            Some(Task::Mark) => Phase::Mark,
+            Some(Task::Look) => Phase::Look,
+            _ => Phase::of(number),
         };
         let call = Call {
             disk,

@@ -1,4 +1,4 @@
-//! What is drawn of two runs, by the numbers of their events.
+//! What is drawn of two runs, by the numbers of their events, and of a third by the colours of its calls.
 
 use super::*;
 use crate::call::Ending;
@@ -71,5 +71,23 @@ fn faults(rt: HostRuntime) -> Result<(), Fail> {
         (67, "refused"),
     ];
     assert_eq!(rt; found.as_slice(), wanted.as_slice());
+    Ok(())
+}
+
+// Host 0 marks the slot that it has learned, and host 1 looks.
+const MARKED: &[u8] =
+    b"cluster 1 2\nstart 0\nsubmit 0 1 enqueue 1 1 1 EX db\nstep 0 17\nmark 0 0\nstep 0 9\n\
+start 1\nlook 1\nstep 1 6\n";
+
+#[test]
+fn marking_and_look(rt: HostRuntime) -> Result<(), Fail> {
+    let script = read_script(rt.alloc(), MARKED)?;
+    let mut classes = String::new(rt.alloc());
+    for moment in &moments_of(rt.alloc(), &script)? {
+        if let Happened::Called { call, .. } = moment.happened {
+            classes.push_str(call.phase.class())?;
+        }
+    }
+    assert_eq!(rt; classes.as_str(), "ooopppppppvvvvvvvmmmmmmmmmqqqqqq");
     Ok(())
 }
