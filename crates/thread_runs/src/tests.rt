@@ -353,6 +353,72 @@ fn faults_read_back(rt: HostRuntime) -> Result<(), Fail> {
     Ok(())
 }
 
+// A seat that is taken, and lost again.
+fn lose_seat<N: Named>(
+    rt: &impl Wait,
+    alloc: Global,
+    cluster: &Cluster<'_, N, SimDisk>,
+    host: u8,
+) -> Option<HostNumber> {
+    let seat = seat_of(rt, alloc, cluster, host)?;
+    Some(seat.host())
+}
+
+// How another seat of a host is refused.
+fn seat_refused<N: Named>(
+    rt: &impl Wait,
+    alloc: Global,
+    cluster: &Cluster<'_, N, SimDisk>,
+    host: HostNumber,
+) -> Option<HostFault> {
+    cluster.seat(rt, alloc, host).err()
+}
+
+// How it is refused that this seat alone is given back.
+fn finish_refused<N: Named>(
+    alloc: Global,
+    cluster: Cluster<'_, N, SimDisk>,
+    seat: HostSeat<N>,
+) -> Option<HostFault> {
+    let mut seats = Vec::new(alloc);
+    seats.push(seat).ok()?;
+    cluster.finish(seats).err()
+}
+
+// A host is handed out once, and each that was is to be given back.
+fn miscounted<N: Named, R: Wait>(
+    rt: &R,
+    alloc: Global,
+    cluster: Cluster<'_, N, SimDisk>,
+) -> Option<(HostFault, HostFault)> {
+    let lost = lose_seat(rt, alloc, &cluster, 1)?;
+    let taken = seat_refused(rt, alloc, &cluster, lost)?;
+    let seat = seat_of(rt, alloc, &cluster, 0)?;
+    let missing = finish_refused(alloc, cluster, seat)?;
+    Some((taken, missing))
+}
+
+fn seats_counted<N: Named, R: Wait>(
+    rt: &R,
+    alloc: Global,
+    opening: Opening,
+) -> Option<(HostFault, HostFault)>
+    requires { IsNamed opening N.shape N.table N.name N.parts N.all }
+{
+    let (ties, foundation) = opening.named::<N>(alloc).ok()?;
+    let cluster = Cluster::simulated(alloc, &ties, foundation).ok()?;
+    miscounted(rt, alloc, cluster)
+}
+
+#[test]
+fn seats_are_counted(rt: HostRuntime) -> Result<(), Fail> {
+    let config = Config::new(1, 2).ok_or("a size")?;
+    let opening = Opening::new(rt.alloc(), config)?;
+    let told = seats_counted::<Brand, HostRuntime>(&rt, rt.alloc(), opening).ok_or("refusals")?;
+    assert_eq!(rt; told, (HostFault::SeatTaken, HostFault::SeatsMissing));
+    Ok(())
+}
+
 #[derive(Drop)]
 struct Beaten {
     suggested: Vec<u8>,
