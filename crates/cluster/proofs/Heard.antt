@@ -16,7 +16,7 @@ use Rattle.slot_log.specs.declared.outcome.Refusal.{Refusal}
 use Rattle.slot_log.specs.declared.outcome.Refusal.TheVariants as refusal
 use Rattle.host.specs.declared.answer.HostAnswer.{HostAnswer}
 use Rattle.host.specs.declared.answer.HostAnswer.TheVariants.{Ack, Recovered, Looked, Beaten, Marked, Refused}
-use Rattle.host.specs.Host.{Operation, Submitting, Recovering, Looking, Doing, Memory, setup_of, says, begins, full_answer, spent_answer, goes_on, is_submitted, after_learning, learns, takes, with_floor, ended, by_status, with_heard, hears_from, hears_beside, hears_beat, beat_by, beat_of, Marking, hears_marking, marking_by, marking_with, marking_of, rests, is_idle_in, reply_after}
+use Rattle.host.specs.Host.{Operation, Submitting, Recovering, Looking, Doing, Memory, setup_of, says, begins, full_answer, spent_answer, goes_on, is_submitted, after_learning, learns, takes, with_floor, ended, by_status, with_heard, hears_from, hears_beside, beat_by, beat_of, Marking, hears_marking, marking_by, marking_with, marking_of, rests, is_idle_in, reply_after}
 use Rattle.cluster.specs.Receipts.{receipt_for, receipt_by, receipts_said}
 use Rattle.cluster.specs.Seat.{IsKeptFor, IsSilentInMarking, IsSilentInBeat, IsDoing}
 

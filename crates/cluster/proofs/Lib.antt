@@ -5,6 +5,7 @@ pub mod Heard
 pub mod Imaged
 pub mod Journals
 pub mod Operating
+pub mod Looking
 pub mod Parts
 pub mod Ranges
 pub mod Recording

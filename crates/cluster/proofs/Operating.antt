@@ -1,6 +1,6 @@
 -- A task stays what it is, until its host answers it.
 use Rattle.std.specs.Prelude.{nat_lt, nat_le, ◌&&◌, not, is_some, if◌then◌else◌}
-use Rattle.std.proofs.Common.{◌≡◌, ◌-◌, ◌⊎◌, ℕ, Bool, true, false, List, [], ◌∷◌, ◌++◌, length, Option, Some, None, refl, sym, ap, subst, ◌∙◌, inl, inr, append_assoc}
+use Rattle.std.proofs.Common.{◌≡◌, ◌-◌, ℕ, Bool, true, false, List, [], ◌∷◌, ◌++◌, length, Option, Some, None, refl, sym, ap, subst, ◌∙◌, append_assoc}
 use Rattle.std.proofs.lemmas.List.{append-nil}
 use Rattle.attempt.specs.Answers.{Answered, on, heard_as}
 use Rattle.beats.specs.Answers as beat_answers
@@ -16,7 +16,7 @@ use Rattle.slot_log.specs.declared.outcome.Refusal.TheVariants as refusal
 use Rattle.disk.specs.Disk.{Call}
 use Rattle.host.specs.declared.answer.HostAnswer.{HostAnswer}
 use Rattle.host.specs.declared.answer.HostAnswer.TheVariants.{Ack, Recovered, Looked, Beaten, Marked, Refused}
-use Rattle.host.specs.Host.{Operation, Submitting, Recovering, Looking, Doing, Marking, Memory, Host, Stopped, Running, setup_of, says, begins, does, full_answer, spent_answer, goes_on, is_submitted, after_learning, learns, takes, tries_again, with_floor, by_status, with_heard, hears, hears_from, hears_beside, hears_beat, beat_by, beat_of, starts_beat, hears_marking, marking_by, marking_with, marking_of, with_marking, starts_marking, rests, is_idle, is_idle_in, idles, said_of, learned_of, next_of, next_doing, next_beside, next_marking, reply_after}
+use Rattle.host.specs.Host.{Operation, Submitting, Recovering, Looking, Doing, Marking, Memory, Host, Stopped, Running, setup_of, says, begins, does, full_answer, spent_answer, goes_on, is_submitted, after_learning, learns, takes, tries_again, with_floor, by_status, with_heard, hears, hears_from, hears_beside, beat_by, beat_of, starts_beat, hears_marking, marking_by, marking_with, marking_of, with_marking, starts_marking, rests, is_idle, is_idle_in, idles, said_of, learned_of, next_of, next_doing, next_beside, next_marking, reply_after}
 use Rattle.world.specs.Entry.{Filled, Submit, Recover, Look, Beat, Mark, Called, host_step}
 use Rattle.world_safety.proofs.Claims.Begun.{empty_recovers}
 use Rattle.cluster_tie.specs.Parts.{Placed, Own, own_of, adds}
@@ -152,12 +152,12 @@ acked_by c own at before t Looking said new is same all = tt
 -- ONE STEP MORE
 
 -- a call is due, so a task is under way
-data IsUnderWay (m : Memory) : Type 0 where
+pub data IsUnderWay (m : Memory) : Type 0 where
   Tries : (t : Doing) → m.doing ≡ Some t → IsUnderWay m
   Beats : (heard : List beat_answers.Answered) → m.doing ≡ None → m.beats.heard ≡ Some heard → IsUnderWay m
   Marks : (t : Marking) → m.doing ≡ None → m.beats.heard ≡ None → m.marking ≡ Some t → IsUnderWay m
 
-due_task : (c : Shape) (h : ℕ) (m : Memory) (due : ℕ × Call) → next_doing c h m m.doing ≡ Some due → IsUnderWay m
+pub due_task : (c : Shape) (h : ℕ) (m : Memory) (due : ℕ × Call) → next_doing c h m m.doing ≡ Some due → IsUnderWay m
 due_task c h m due is = go m.doing refl is
   where
     by_marking : (o : Option Marking) → m.doing ≡ None → m.beats.heard ≡ None → m.marking ≡ o → next_marking c h m o ≡ Some due → IsUnderWay m

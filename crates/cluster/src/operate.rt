@@ -2,6 +2,7 @@ ghost use Rattle.std.specs.Prelude.{◌≡◌, ◌⊎◌, ◌<◌, ◌≤◌, �
 ghost use Rattle.host.specs.Host.{idles};
 ghost use Rattle.world.specs.Entry.{Submit, Recover, Look, Beat, Mark};
 ghost use Rattle.cluster.specs.Cluster.{GoesOn};
+ghost use Rattle.cluster.specs.Looks.{WritesNothing};
 ghost use Rattle.cluster.specs.Operations.{HasAnswered, CarriesOne, Fails, IsRefusedBy, Operates, Restarts, Stops};
 ghost use Rattle.cluster.specs.Seat.{host_in};
 
@@ -90,6 +91,7 @@ impl<'a, N: Named, D: Disk + Drop> Cluster<'a, N, D> {
         ensures steps { OnOk result (Operates N.shape (Look seat.old.number) seat.old seat.new) }
         ensures answer { IfOk result (λ n. HasAnswered N.shape (Resumed.Looked n) seat.new) }
         ensures err { IfErr result (λ fault. Fails N.shape (Look seat.old.number) fault seat.old seat.new) }
+        ensures writes_nothing { WritesNothing seat.old seat.new }
     {
         self.journal.lock(rt).look(seat)?;
         self.go_on(rt, seat, gate)?;

@@ -7,6 +7,7 @@ use Rattle.cluster_tie.specs.Parts.{Own}
 use Rattle.cluster.specs.Operations.{Fails, Stops, Attempting}
 use Rattle.cluster.specs.Seat.{host_in}
 use Rattle.cluster.proofs.Operating.{looking_by, goes_on_so, refused, looks_unacknowledged, looks_unrecovered, looks_unbeaten, looks_unmarked}
+use Rattle.cluster.proofs.Looking.{looked, stopped, unbegun}
 use Rattle.cluster.proofs.cluster.Cluster.look.Goals as goal
 
 pub go_on-requires : goal.go_on-requires
@@ -33,3 +34,15 @@ unreachable-requires g c =
     let unbeaten : (host : ℕ) → said_of (host_in shape c.go_on.new.seat) ≡ Some (Beaten host) → ⊥ = looks_unbeaten shape c.go_on.new.seat carried in
     let unmarked : (count : ℕ) → said_of (host_in shape c.go_on.new.seat) ≡ Some (Marked count) → ⊥ = looks_unmarked shape c.go_on.new.seat carried in
     search (rules, never, none, unbeaten, unmarked)
+
+pub returns-clause-writes_nothing : goal.returns-clause-writes_nothing
+returns-clause-writes_nothing g c = looked g.N.Named.shape c.args.seat.now c.look.new.seat c.go_on.new.seat _ c.requires c.in_ok-look.ensures.seat c.in_ok-go_on.ensures.steps
+
+pub returns-in_err-length-clause-writes_nothing : goal.returns-in_err-length-clause-writes_nothing
+returns-in_err-length-clause-writes_nothing g c = looked g.N.Named.shape c.args.seat.now c.look.new.seat c.go_on.new.seat _ c.requires c.in_ok-look.ensures.seat c.in_ok-go_on.ensures.steps
+
+pub returns-in_err-go_on-clause-writes_nothing : goal.returns-in_err-go_on-clause-writes_nothing
+returns-in_err-go_on-clause-writes_nothing g c = stopped g.N.Named.shape _ c.args.seat.now c.look.new.seat c.go_on.new.seat _ c.requires c.in_ok-look.ensures.seat c.in_err-go_on.ensures.err
+
+pub returns-in_err-look-clause-writes_nothing : goal.returns-in_err-look-clause-writes_nothing
+returns-in_err-look-clause-writes_nothing g c = unbegun c.args.seat.now c.look.new.seat c.in_err-look.ensures.unchanged.0

@@ -1,0 +1,85 @@
+-- A look writes nothing.
+use Rattle.std.proofs.Common.{◌≡◌, ℕ, true, List, [], ◌∷◌, ◌++◌, Option, Some, None, sym, ap, subst, ◌∙◌, append_assoc}
+use Rattle.std.proofs.lemmas.List.{append-nil}
+use Rattle.attempt.specs.Looking.{OnlyReads}
+use Rattle.beats.specs.Answers as beat_answers
+use Rattle.slot_log.specs.Shape.{Shape}
+use Rattle.host.specs.Host.{Operation, Looking, Doing, Marking, Memory, idles, next_of, next_doing}
+use Rattle.world.specs.Entry.{Look, Called}
+use Rattle.world.proofs.Looks.{reads_only}
+use Rattle.cluster_tie.specs.Parts.{Placed, Own, adds}
+use Rattle.cluster.specs.declared.fault.HostFault.{HostFault}
+use Rattle.cluster.specs.declared.fault.HostFault.TheVariants as fault
+use Rattle.cluster.specs.Cluster.{IsStep, AreSteps, GoesOn}
+use Rattle.cluster.specs.Looks.{IsReading, AreReadings, WritesNothing}
+use Rattle.cluster.specs.Operations.{Stops, Attempting, IsCarriedInMarking, IsCarriedBeside, IsCarried, Carries}
+use Rattle.cluster.specs.Seat.{host_in, due_in}
+use Rattle.cluster.proofs.Operating.{IsUnderWay, Tries, Beats, Marks, due_task, steps_on, looking_by}
+
+-- the operation of a task
+its_operation : (o : Operation) → Attempting o ≡ Attempting Looking → o ≡ Looking
+its_operation o is = cc is
+
+-- the call that is due only reads
+reads_next : (c : Shape) (own new : Own) → Carries c (Attempting Looking) own → IsStep c own new → OnlyReads (due_in c own).1
+reads_next c own new carries step = go (due_task c own.number m (step.disk, (due_in c own).1) due)
+  where
+    m : Memory
+    m = carries.memory
+
+    due : next_doing c own.number m m.doing ≡ Some (step.disk, (due_in c own).1)
+    due = sym (ap (next_of c own.number) carries.is) ∙ step.due
+
+    beside : m.doing ≡ None → IsCarriedBeside (Attempting Looking) m m.beats.heard
+    beside none = subst (λ (d : Option Doing). IsCarried (Attempting Looking) m d) none carries.doing
+
+    go : IsUnderWay m → OnlyReads (due_in c own).1
+    go (Tries t does) =
+        let known = subst (λ (d : Option Doing). IsCarried (Attempting Looking) m d) does carries.doing in
+        reads_only c own.number step.disk m t (due_in c own).1 does (its_operation t.operation known.0) due
+    go (Beats heard none beats) =
+        let known = subst (λ (o : Option (List beat_answers.Answered)). IsCarriedBeside (Attempting Looking) m o) beats (beside none) in
+        absurd (cc known.0)
+    go (Marks t none rest marks) =
+        let in_marking = subst (λ (o : Option (List beat_answers.Answered)). IsCarriedBeside (Attempting Looking) m o) rest (beside none) in
+        let known = subst (λ (o : Option Marking). IsCarriedInMarking (Attempting Looking) m o) marks in_marking in
+        absurd (cc known.0)
+
+same_last : (xs : List Placed) (x y : Placed) → xs ++ x ∷ [] ≡ xs ++ y ∷ [] → x ≡ y
+same_last [] x y is = cc is
+same_last (z ∷ xs) x y is = let rest : xs ++ x ∷ [] ≡ xs ++ y ∷ [] = cc is in same_last xs x y rest
+
+-- so each step only reads
+all_read : (c : Shape) (own : Own) (xs : List Placed) → Carries c (Attempting Looking) own → AreSteps c own xs → AreReadings xs
+all_read c own [] carries steps = tt
+all_read c own (x ∷ xs) carries steps = (reading steps.0, all_read c (adds own x.0 x.1) xs (steps_on c (Attempting Looking) own (adds own x.0 x.1) carries steps.0) steps.1)
+  where
+    reading : IsStep c own (adds own x.0 x.1) → IsReading x.1
+    reading step =
+        let call : Placed = (step.place, Called own.number step.disk (due_in c own).1 step.answer step.left) in
+        let same : (x.0, x.1) ≡ call = same_last own.entries (x.0, x.1) call (ap (λ (o : Own). o.entries) step.is) in
+        subst IsReading (sym (ap (λ (p : Placed). p.1) same)) (reads_next c own (adds own x.0 x.1) carries step)
+
+-- a look that has begun
+pub looked : (c : Shape) (old begun new : Own) (at : ℕ) → idles (host_in c old) ≡ true → begun ≡ adds old at (Look old.number) → GoesOn c begun new → WritesNothing old new
+looked c old begun new at idle is goes = record {
+  added = (at, Look old.number) ∷ goes.added;
+  is = ap (λ (o : Own). o.entries) goes.is ∙ ap (λ (o : Own). o.entries ++ goes.added) is ∙ append_assoc old.entries ((at, Look old.number) ∷ []) goes.added;
+  reads = (tt, all_read c begun goes.added (looking_by c old begun at idle is) goes.steps);
+}
+
+-- and one that has stopped
+pub stopped : (c : Shape) (f : HostFault) (old begun new : Own) (at : ℕ) → idles (host_in c old) ≡ true → begun ≡ adds old at (Look old.number) → Stops c f begun new → WritesNothing old new
+stopped c f old begun new at idle is stops = looked c old begun new at idle is (goes f stops)
+  where
+    goes : (g : HostFault) → Stops c g begun new → GoesOn c begun new
+    goes (fault.Refused r) s = s.0
+    goes fault.NoMemory s = s.0
+    goes fault.JournalFull s = s.0
+    goes fault.OpenCall s = s.0
+    goes fault.SeatTaken s = absurd s
+    goes fault.SeatsMissing s = absurd s
+
+-- and one that has not begun
+pub unbegun : (old new : Own) → new ≡ old → WritesNothing old new
+unbegun old new same = record { added = []; is = ap (λ (o : Own). o.entries) same ∙ sym (append-nil old.entries); reads = tt }
