@@ -10,7 +10,7 @@ use Rattle.lock_table.specs.declared.reply.Refusal.TheVariants.{LockInUse, NoSuc
 use Rattle.slot_log.specs.declared.outcome.Refusal as operation
 use Rattle.slot_log.specs.declared.outcome.Refusal.TheVariants.{Outrun, NoMajority, BallotsSpent, LogFull, NotACommand, NotLearned}
 use Rattle.host.specs.declared.answer.HostAnswer.{HostAnswer}
-use Rattle.host.specs.declared.answer.HostAnswer.TheVariants.{Ack, Recovered, Beaten, Marked, Refused as Ended}
+use Rattle.host.specs.declared.answer.HostAnswer.TheVariants.{Ack, Recovered, Looked, Beaten, Marked, Refused as Ended}
 use Rattle.inspect.specs.Text.{mode_name}
 use Rattle.cluster.specs.declared.fault.HostFault.{HostFault}
 use Rattle.cluster.specs.declared.fault.HostFault.TheVariants as fault
@@ -69,6 +69,7 @@ refusal_text NotLearned = codes "30 NotLearned"
 abbrev pub answer_text : HostAnswer → List ℕ
 answer_text (Ack slot reply) = codes "ack " ++ decimal slot ++ codes " " ++ reply_text reply
 answer_text (Recovered length) = codes "recovered " ++ decimal length
+answer_text (Looked length) = codes "looked " ++ decimal length
 answer_text (Beaten host) = codes "beaten " ++ decimal host
 answer_text (Marked count) = codes "marked " ++ decimal count
 answer_text (Ended refusal) = codes "refused " ++ refusal_text refusal

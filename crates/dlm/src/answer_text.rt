@@ -25,6 +25,7 @@ impl fmt::Display for AnswerText {
                 write!(f, "ack {slot} {reply}")
             }
             HostAnswer::Recovered { length } => write!(f, "recovered {length}"),
+            HostAnswer::Looked { length } => write!(f, "looked {length}"),
             HostAnswer::Beaten { host } => write!(f, "beaten {host}"),
             HostAnswer::Marked { count } => write!(f, "marked {count}"),
             HostAnswer::Refused(refusal) => {

@@ -26,7 +26,21 @@ fn answers_as_printed(rt: HostRuntime) -> Result<(), Fail> {
         let text = AnswerText(answer).to_string(rt.alloc())?;
         assert_eq!(rt; text.as_str(), want);
     }
-    let text = AnswerText(HostAnswer::Refused(host::Refusal::NoMajority)).to_string(rt.alloc())?;
-    assert_eq!(rt; text.as_str(), "refused 7 NoMajority");
+    let others = [
+        (HostAnswer::Looked { length: 4096 }, "looked 4096"),
+        (HostAnswer::Marked { count: 7 }, "marked 7"),
+        (
+            HostAnswer::Refused(host::Refusal::NoMajority),
+            "refused 7 NoMajority",
+        ),
+        (
+            HostAnswer::Refused(host::Refusal::NotLearned),
+            "refused 30 NotLearned",
+        ),
+    ];
+    for (answer, want) in others {
+        let text = AnswerText(answer).to_string(rt.alloc())?;
+        assert_eq!(rt; text.as_str(), want);
+    }
     Ok(())
 }

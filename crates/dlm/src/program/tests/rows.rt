@@ -3,7 +3,7 @@
 /// The name of a script, its text, and what is printed.
 pub type Row = (&'static str, &'static str, &'static str);
 
-pub const ROWS: [Row; 22] = [
+pub const ROWS: [Row; 24] = [
     (
         "recovery_of_blank_disks",
         "cluster 3 4\nstart 0\nrecover 0 1\nstep 0 30\n",
@@ -99,6 +99,17 @@ pub const ROWS: [Row; 22] = [
         "slot_that_is_not_learned",
         "cluster 1 2\nstart 0\nmark 0 1\n",
         "1 h0 refused 30 NotLearned\n",
+    ),
+    (
+        "look_behind_a_mark",
+        "cluster 1 2\nstart 0\nsubmit 0 1 enqueue 1 1 1 EX db\nstep 0 17\nmark 0 0\nstep 0 9\n\
+        start 1\nlook 1\nstep 1 6\nshow 1\n",
+        "18 h0 ack 0 Granted\n28 h0 marked 1\n36 h1 looked 1\ndb\n  granted 1 1 0 EX\n",
+    ),
+    (
+        "look_without_a_mark",
+        "cluster 1 2\nstart 0\nsubmit 0 1 enqueue 1 1 1 EX db\nstep 0 17\nstart 1\nlook 1\nstep 1 3\nshow 1\n",
+        "18 h0 ack 0 Granted\n23 h1 looked 0\nempty\n",
     ),
     (
         "log_of_one_slot",
