@@ -1,8 +1,8 @@
 ghost use Rattle.std.specs.Prelude.{◌≡◌, IfSome};
 
 use disk::{Disk, ImageFault};
-use dlm_images::{DiskHost, FolderFault, format_folder, open_folder};
-use host::Config;
+use dlm_images::{DiskHost, FolderFault, format_folder, open_folder, open_folder_to_read};
+use host::{Config, Refusal};
 use lock_command::{
     Action, ClientNumber, Command, HostNumber, LockName, LockNumber, RequestNumber,
 };
@@ -113,6 +113,62 @@ fn host_that_stays_open(rt: HostRuntime) -> Result<(), Fail> {
     let (learned, same) = learn_all(&rt, folder)?;
     assert_eq!(rt; learned, 3);
     assert_eq!(rt; same.as_slice(), want.as_slice());
+    fs::remove_dir_all(&rt, folder)?;
+    Ok(())
+}
+
+// What a submission through host 0 comes to, over the folder.
+fn submit_one(rt: &HostRuntime, folder: &str) -> Result<Option<(u16, Reply)>, Fail> {
+    let number = HostNumber::new(0).ok_or("a host")?;
+    let mut host = open_folder(rt, folder)?.host(rt.alloc(), number)?;
+    Ok(submitted(&mut host, 1, Mode::ConcurrentRead))
+}
+
+// On how many disks a host marks slot 0, before it has learned it and then.
+fn marked<D: Disk>(host: &mut DiskHost<D>) -> [Result<u8, Refusal>; 2] {
+    let early = host.mark(0);
+    let _learned = host.recover(8);
+    [early, host.mark(0)]
+}
+
+// The same of host 0, over the folder.
+fn mark_first(rt: &HostRuntime, folder: &str) -> Result<[Result<u8, Refusal>; 2], Fail> {
+    let number = HostNumber::new(0).ok_or("a host")?;
+    let mut host = open_folder(rt, folder)?.host(rt.alloc(), number)?;
+    Ok(marked(&mut host))
+}
+
+// How many commands host 1 learns that looks at the folder, which it only reads, and the locks that its table shows then.
+fn look_at(rt: &HostRuntime, folder: &str) -> Result<(u16, Vec<Line>), Fail> {
+    let number = HostNumber::new(1).ok_or("a host")?;
+    let mut host = open_folder_to_read(rt, folder)?.host(rt.alloc(), number)?;
+    let learned = host.look()?;
+    Ok((learned, shown(rt.alloc(), &host)?))
+}
+
+// A slot is marked once it is learned, on all three disks, since the host's own block holds its value there.
+#[test]
+fn slot_that_is_marked(rt: HostRuntime) -> Result<(), Fail> {
+    let folder = "dlm_images_marked";
+    make(&rt, folder)?;
+    assert_eq!(rt; submit_one(&rt, folder)?, Some((0, Reply::Granted)));
+    assert_eq!(rt; mark_first(&rt, folder)?, [Err(Refusal::NotLearned), Ok(3)]);
+    fs::remove_dir_all(&rt, folder)?;
+    Ok(())
+}
+
+// A look finds an acknowledged command once its slot is marked, and not before.
+#[test]
+fn look_behind_a_mark(rt: HostRuntime) -> Result<(), Fail> {
+    let folder = "dlm_images_looked";
+    let want = [(1, 1, 0, LockState::Granted(Mode::ConcurrentRead))];
+    make(&rt, folder)?;
+    assert_eq!(rt; submit_one(&rt, folder)?, Some((0, Reply::Granted)));
+    assert_eq!(rt; look_at(&rt, folder)?.0, 0);
+    assert_eq!(rt; mark_first(&rt, folder)?[1], Ok(3));
+    let (learned, locks) = look_at(&rt, folder)?;
+    assert_eq!(rt; learned, 1);
+    assert_eq!(rt; locks.as_slice(), want.as_slice());
     fs::remove_dir_all(&rt, folder)?;
     Ok(())
 }
