@@ -16,6 +16,11 @@ const TAKEN_OVER: &[u8] =
     b"cluster 3 2\nstart 0\nsubmit 0 1 enqueue 1 1 1 EX db\nfail 0 00\nstep 0 34\n\
 stop 0\ngone 2\nstart 1\nrecover 1 1\nstep 1 56\n";
 
+// A host marks what it has learned, and another one looks.
+const LOOKED: &[u8] =
+    b"cluster 1 2\nstart 0\nsubmit 0 1 enqueue 1 1 1 EX db\nstep 0 17\nmark 0 0\nstep 0 9\n\
+start 1\nlook 1\nstep 1 6\n";
+
 #[test]
 fn first_reply(rt: HostRuntime) -> Result<(), Fail> {
     let script = read_script(rt.alloc(), FIRST_REPLY)?;
@@ -68,6 +73,24 @@ fn taken_over(rt: HostRuntime) -> Result<(), Fail> {
 }
 
 #[test]
+fn looked(rt: HostRuntime) -> Result<(), Fail> {
+    let script = read_script(rt.alloc(), LOOKED)?;
+    let events = script.events.to_vec(rt.alloc())?;
+    let report = run(rt.alloc(), script.config, &events)?;
+    let answers = report.answers();
+    assert_eq!(rt; answers.len(), 3);
+    assert_eq!(rt; answers[1].place, 28);
+    assert_eq!(rt; answers[1].said, HostAnswer::Marked { count: 1 });
+    assert!(rt; answers[1].picture.is_none());
+    assert_eq!(rt; answers[2].place, 36);
+    assert_eq!(rt; answers[2].said, HostAnswer::Looked { length: 1 });
+    let picture = answers[2].picture.as_ref().ok_or("picture")?;
+    assert_eq!(rt; picture.locks().len(), 1);
+    assert_eq!(rt; picture.locks()[0].lock.get(), 1);
+    Ok(())
+}
+
+#[test]
 fn parts_say_the_same(rt: HostRuntime) -> Result<(), Fail> {
     let script = read_script(rt.alloc(), FIRST_REPLY)?;
     let mut parts = Parts::new(rt.alloc(), script.config)?;
@@ -102,10 +125,11 @@ fn laws_of_agreement(_rt: HostRuntime) {
 }
 
 #[test]
-fn laws_of_attempts_and_beats(_rt: HostRuntime) {
+fn laws_of_attempts_beats_and_markings(_rt: HostRuntime) {
     attempt::seventeen_calls_a_disk();
     attempt::prepared_and_proposed();
     attempt::alone_answered();
+    attempt::without_a_ballot();
     attempt_safety::attempt_begins();
     attempt_safety::answers_lead();
     attempt_safety::torn_writes_begin();
@@ -115,6 +139,7 @@ fn laws_of_attempts_and_beats(_rt: HostRuntime) {
     attempt_safety::attempts_agree();
     attempt_safety::answers_move();
     beats::nine_calls_a_disk();
+    marks::nine_calls_a_disk();
 }
 
 #[test]
@@ -128,6 +153,8 @@ fn laws_of_the_world(_rt: HostRuntime) {
     world::hosts_account_for_themselves();
     world::attempts_hear_histories();
     world::beats_hear_histories();
+    world::markings_hear_histories();
+    world::looks_only_read();
     world::safe_lists_have_one_log();
     world::first_submission_is_acknowledged();
     world::empty_log_is_recovered();
@@ -135,6 +162,7 @@ fn laws_of_the_world(_rt: HostRuntime) {
     world_safety::ballots_agree();
     world_safety::recoveries_miss_nothing();
     world_safety::majorities_answer();
+    world_safety::marks_are_true();
     world_served::alone_submissions_are_served();
     world_served::alone_attempts_are_served();
     world_served::seventeen_calls_are_taken();
