@@ -1,4 +1,4 @@
-# A look learns a slot from its mark, with three calls, and ends at the next slot, with three more. The lock table goes by what was learned.
+# A look learns a slot from its mark, with three calls, and ends at the next slot, with three more. The lock table shows what was learned.
 cluster 1 2
 start 0
 submit 0 1 enqueue 1 1 1 EX db
