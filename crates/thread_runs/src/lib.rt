@@ -3,6 +3,8 @@
 
 mod device_call;
 #[cfg(test)]
+mod looked;
+#[cfg(test)]
 mod pair_disk;
 mod replay;
 mod same;

@@ -90,6 +90,7 @@ impl Replay {
                 tries,
             } => self.submits(*host, command, *tries, place)?,
             Entry::Recover { host, tries } => self.recovers(*host, *tries),
+            Entry::Look(host) => self.looks(*host),
             Entry::Beat(host) => self.beats(*host),
             Entry::Mark { host, slot } => self.marks(*host, *slot),
             Entry::Called {
@@ -162,6 +163,18 @@ impl Replay {
         true
     }
 
+    fn looks(&mut self, host: HostNumber) -> bool {
+        let Some(replica) = self.host(host) else {
+            return false;
+        };
+        if !replica.core.idle() {
+            return false;
+        }
+        replica.core.look();
+        replica.submitting = None;
+        true
+    }
+
     fn beats(&mut self, host: HostNumber) -> bool {
         let Some(replica) = self.host(host) else {
             return false;
@@ -174,6 +187,9 @@ impl Replay {
     }
 
     fn marks(&mut self, host: HostNumber, slot: u16) -> bool {
+        if slot >= self.config.slots() {
+            return false;
+        }
         let Some(replica) = self.host(host) else {
             return false;
         };

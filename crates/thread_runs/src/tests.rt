@@ -2,6 +2,7 @@ ghost use Rattle.std.specs.Prelude.{◌≡◌, ◌≤◌, IfSome};
 ghost use Rattle.cluster.specs.Opening.{IsNamed};
 
 use crate::audit;
+use crate::looked::mark_once;
 use crate::pair_disk::{Flags, PairDisk, is_set, pair};
 use cluster::{
     Cluster, Config, Entry, Gate, HostFault, HostSeat, Named, OpenGate, Opening, Receipt, Refusal,
@@ -39,7 +40,7 @@ fn command(host: HostNumber, lock: u16, request: u64) -> Option<Command>
 }
 
 // A host that has just been started. Nothing is said of it, so that whoever asks for it has no list of entries to carry along.
-fn seat_of<N: Named, D: Disk + Drop>(
+pub(crate) fn seat_of<N: Named, D: Disk + Drop>(
     rt: &impl Wait,
     alloc: Global,
     cluster: &Cluster<'_, N, D>,
@@ -48,8 +49,23 @@ fn seat_of<N: Named, D: Disk + Drop>(
     cluster.seat(rt, alloc, HostNumber::new(host)?).ok()
 }
 
+// Whether what two hosts have left comes out the same when it is run again.
+pub(crate) fn comes_out_the_same<N: Named>(
+    alloc: Global,
+    config: Config,
+    cluster: Cluster<'_, N, SimDisk>,
+    one: HostSeat<N>,
+    other: HostSeat<N>,
+) -> Option<bool> {
+    let mut seats = Vec::new(alloc);
+    seats.push(one).ok()?;
+    seats.push(other).ok()?;
+    let record = cluster.finish(seats).ok()?;
+    audit(alloc, config, &record, &[0]).ok()
+}
+
 // Submits an enqueue of a lock, where the host is idle.
-fn submitted<N: Named, D: Disk + Drop, G: Gate>(
+pub(crate) fn submitted<N: Named, D: Disk + Drop, G: Gate>(
     rt: &impl Wait,
     cluster: &Cluster<'_, N, D>,
     seat: &mut HostSeat<N>,
@@ -463,11 +479,7 @@ fn beats_in_turn<N: Named, R: Wait>(rt: &R, alloc: Global, opening: Opening) -> 
     let mut one = seat_of(rt, alloc, &cluster, 3)?;
     let mut other = seat_of(rt, alloc, &cluster, 5)?;
     let suggested = suggested_in_turn(rt, alloc, &cluster, &mut other, &mut one)?;
-    let mut seats = Vec::new(alloc);
-    seats.push(one).ok()?;
-    seats.push(other).ok()?;
-    let record = cluster.finish(seats).ok()?;
-    let same = audit(alloc, config, &record, &[0]).ok()?;
+    let same = comes_out_the_same(alloc, config, cluster, one, other)?;
     Some(Beaten { suggested, same })
 }
 
@@ -489,7 +501,7 @@ struct Crowd {
     harm: usize,
 }
 
-// A host submits so many commands, beats now and then, and starts anew and recovers after a few.
+// A host submits so many commands, marks some slots, beats now and then, and starts anew, looks and recovers after a few.
 fn works<N: Named, R: Wait + Clock>(
     rt: &R,
     alloc: Global,
@@ -510,7 +522,7 @@ fn works<N: Named, R: Wait + Clock>(
     Some(seat)
 }
 
-// Submits the command of this round. Whoever is outrun lets the others go on for a while.
+// Submits the command of this round, and marks its slot in every third. Whoever is outrun lets the others go on for a while.
 fn take_turn<N: Named, R: Wait + Clock>(
     rt: &R,
     cluster: &Cluster<'_, N, SimDisk>,
@@ -523,12 +535,26 @@ fn take_turn<N: Named, R: Wait + Clock>(
     }
     let pause = u64::from(seat.host().get()) * 2 + 1;
     match cluster.submit(rt, seat, &mut OpenGate, command, 4) {
+        Ok(receipt) if round % 3 == 0 => mark_if_idle(rt, cluster, seat, receipt.slot),
         Ok(_) => Some(()),
         Err(HostFault::Refused(_)) => {
             thread::sleep(rt, Duration::from_millis(pause));
             Some(())
         }
         Err(_) => None,
+    }
+}
+
+// Marks a slot, refused or not.
+fn mark_if_idle<N: Named>(
+    rt: &impl Wait,
+    cluster: &Cluster<'_, N, SimDisk>,
+    seat: &mut HostSeat<N>,
+    slot: u16,
+) -> Option<()> {
+    match mark_once(rt, cluster, seat, slot) {
+        Ok(Some(_)) | Err(HostFault::Refused(_)) => Some(()),
+        Ok(None) | Err(_) => None,
     }
 }
 
@@ -547,7 +573,7 @@ fn beat_if_idle<N: Named>(
     }
 }
 
-// Stops and starts, and recovers, refused or not.
+// Stops and starts, looks, and recovers, refused or not.
 fn start_anew<N: Named>(
     rt: &impl Wait,
     alloc: Global,
@@ -555,7 +581,23 @@ fn start_anew<N: Named>(
     seat: &mut HostSeat<N>,
 ) -> Option<()> {
     cluster.restart(rt, alloc, seat).ok()?;
+    look_if_idle(rt, cluster, seat)?;
     recover_if_idle(rt, cluster, seat)
+}
+
+// Looks, refused or not.
+fn look_if_idle<N: Named>(
+    rt: &impl Wait,
+    cluster: &Cluster<'_, N, SimDisk>,
+    seat: &mut HostSeat<N>,
+) -> Option<()> {
+    if !seat.idle() {
+        return None;
+    }
+    match cluster.look(rt, seat, &mut OpenGate) {
+        Ok(_) | Err(HostFault::Refused(_)) => Some(()),
+        Err(_) => None,
+    }
 }
 
 // Recovers, refused or not.
