@@ -26,6 +26,7 @@ fn keeps_what_is_written(rt: HostRuntime) -> Result<(), Fail> {
     again.read(boot, 4, &mut back)?;
     assert_eq!(rt; back, *b"efg");
     let mut seen = FileDisk::open_to_read(&rt, PATH)?;
+    assert_eq!(rt; seen.size(), 8);
     seen.sync(boot)?;
     seen.read(boot, 0, &mut back)?;
     assert_eq!(rt; back, *b"abc");
