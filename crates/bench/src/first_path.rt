@@ -9,7 +9,7 @@ use disk::SimDisk;
 use lock_command::{Action, ClientNumber, Command, HostNumber, LockNumber, RequestNumber};
 use lock_modes::Mode;
 use lock_table::Reply;
-use std::alloc::AllocGlobal;
+use std::alloc::{AllocGlobal, Global};
 use std::marker::Brand;
 use std::sync::Wait;
 use std::time::{Clock, Instant};
@@ -52,14 +52,34 @@ fn submissions<N: Named, R: Wait + Clock + AllocGlobal>(
     requires { IsNamed opening N.shape N.table N.name N.parts N.all }
 {
     let alloc = rt.alloc();
+    let (ties, foundation) = opening.named::<N>(alloc)?;
+    let cluster = Cluster::simulated(alloc, &ties, foundation)?;
+    time_host(rt, alloc, &cluster, count)
+}
+
+// Starts host 0, and gives the nanoseconds of its submissions.
+fn time_host<N: Named, R: Wait + Clock>(
+    rt: &R,
+    alloc: Global,
+    cluster: &Cluster<'_, N, SimDisk>,
+    count: u32,
+) -> Result<u64, Failure> {
     let Some(host) = HostNumber::new(0) else {
         return Err(Failure::Wrong);
     };
-    let (ties, foundation) = opening.named::<N>(alloc)?;
-    let cluster = Cluster::simulated(alloc, &ties, foundation)?;
     let mut seat = cluster.seat(rt, alloc, host)?;
+    time_each(rt, cluster, &mut seat, count)
+}
+
+// The nanoseconds of so many submissions. The seat is lent, so that no way out has to drop it.
+fn time_each<N: Named, R: Wait + Clock>(
+    rt: &R,
+    cluster: &Cluster<'_, N, SimDisk>,
+    seat: &mut HostSeat<N>,
+    count: u32,
+) -> Result<u64, Failure> {
     let start = Instant::now(rt)?;
-    submit_each(rt, &cluster, &mut seat, count)?;
+    submit_each(rt, cluster, seat, count)?;
     let spent = start.elapsed(rt)?;
     Ok(u64::try_from(spent.as_nanos()).unwrap_or(u64::MAX))
 }
