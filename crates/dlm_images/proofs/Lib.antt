@@ -1,3 +1,4 @@
+pub mod Damage
 pub mod Driving
 pub mod Ending
 pub mod Images

@@ -1,0 +1,12 @@
+use Rattle.std.proofs.Common.{ap, ◌∙◌}
+use Rattle.heartbeat.specs.Damage as areas
+use Rattle.dlm_images.proofs.Damage.{read_keeps, read_tells}
+use Rattle.dlm_images.proofs.check.damage_of_area.Goals as goal
+
+pub returns-clause-unchanged : goal.returns-clause-unchanged
+returns-clause-unchanged g c = λ tells.
+    read_keeps (g.D.Disk.state c.args.device.now) (g.D.Disk.state c.read.new.self) c.args.boot.number 1024 1024 c.read.result c.read.new.into (c.read.ensures.step tells)
+
+pub returns-clause-damaged : goal.returns-clause-damaged
+returns-clause-damaged g c = λ tells.
+    c.damaged_beats.ensures.exact ∙ ap areas.damaged_in (read_tells (g.D.Disk.state c.args.device.now) (g.D.Disk.state c.read.new.self) c.args.boot.number 1024 1024 c.in_ok-read.field-0 c.read.new.into (c.in_ok-read.ensures.step tells))
