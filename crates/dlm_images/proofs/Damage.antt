@@ -1,6 +1,6 @@
 -- Reading a disk changes nothing, and lines are printed one after another.
 use Rattle.std.proofs.Common.{◌≡◌, ◌+◌, ◌∙◌, ℕ, zero, suc, Bool, true, false, List, [], ◌∷◌, ◌++◌, Option, Result, Ok, Err, get_or, slice_range, arith, sym, ap, subst, refl, IsTrue, add-zero}
-use Rattle.std.specs.Prelude.{if◌then◌else◌}
+use Rattle.std.specs.Prelude.{◌⊎◌, ◌↔◌, ◌||◌, if◌then◌else◌}
 use Rattle.std.specs.List.{flat_map, range_with_len}
 use Rattle.std.proofs.lemmas.List.{flat_map_more}
 use Rattle.std.specs.Io.KnownBytes.{Appends}
@@ -10,7 +10,10 @@ use Rattle.disk.specs.declared.fault.DiskFault.TheVariants.{Reset, Failed, Gone}
 use Rattle.disk.specs.Disk.{DiskState, Answer, Read, Attach, Step, Device, Told, read_answer, attach_answer}
 use Rattle.disk.specs.declared.boot.Boot.{Boot}
 use Rattle.dlm_images.specs.declared.check.Blocks.{Blocks}
-use Rattle.dlm_images.specs.Damage.{line_of, line_if, row_text, rows_text}
+use Rattle.paxos_block.specs.Places.{row_of}
+use Rattle.paxos_block.specs.Row.{IsDamagedRow}
+use Rattle.dlm_images.specs.Damage.{line_of, line_if, row_text, rows_text, IsDamagedBelow}
+use Rattle.dlm_images.proofs.Found.{none_below, below_more}
 
 -- a read leaves the disk as it was
 pub read_keeps : {T : Type 0} (old new : DiskState) (boot at len : ℕ) (r : Result T DiskFault) (into : List ℕ) → Step old (Read boot at len) (read_answer r into) new → new ≡ old
@@ -64,21 +67,23 @@ no_line b disk blocks damaged host is = subst (Appends b b) (ap (λ (t : Bool). 
 
 -- SLOT BY SLOT
 
--- Before a slot: the device is the one that it was; where it tells its bytes they are as they were, and what has been printed is the text of
--- the slots before.
-pub record Looked (known now : Device) (before after : Option (List ℕ)) (disk slot : ℕ) (old new : DiskState) : Type 0 where
+-- Before a slot: the device is the one that it was; where it tells its bytes they are as they were, what has been printed is the text of
+-- the slots before, and it is known whether one of these is damaged, or something was before.
+pub record Looked (known now : Device) (before after : Option (List ℕ)) (disk slot : ℕ) (first any : Bool) (old new : DiskState) : Type 0 where
   pub device : now ≡ known
   pub same : IsTrue known.tells → new ≡ old
   pub text : IsTrue known.tells → Appends before after (rows_text disk slot old.bytes)
+  pub found : IsTrue known.tells → IsTrue any ↔ (IsTrue first ⊎ IsDamagedBelow slot old.bytes)
 
-pub none_looked : (device : Device) (before : Option (List ℕ)) (disk : ℕ) (old : DiskState) → Looked device device before before disk 0 old old
-none_looked device before disk old = record { device = refl; same = λ t. refl; text = λ t. Appends-nil before }
+pub none_looked : (device : Device) (before : Option (List ℕ)) (disk : ℕ) (any : Bool) (old : DiskState) → Looked device device before before disk 0 any any old old
+none_looked device before disk any old = record { device = refl; same = λ t. refl; text = λ t. Appends-nil before; found = λ t. none_below any old.bytes }
 
 -- one slot more
-pub one_slot_more : (device middle now : Device) (a b c : Option (List ℕ)) (disk slot : ℕ) (old new newer : DiskState)
-    → Looked device middle a b disk slot old new → now ≡ middle → (IsTrue middle.tells → newer ≡ new) → (IsTrue middle.tells → Appends b c (row_text disk new.bytes slot))
-    → Looked device now a c disk (slot + 1) old newer
-one_slot_more device middle now a b c disk slot old new newer so_far is same lined =
+pub one_slot_more : (device middle now : Device) (a b c : Option (List ℕ)) (disk slot : ℕ) (first any row_any : Bool) (old new newer : DiskState)
+    → Looked device middle a b disk slot first any old new → now ≡ middle → (IsTrue middle.tells → newer ≡ new) → (IsTrue middle.tells → Appends b c (row_text disk new.bytes slot))
+    → (IsTrue middle.tells → IsTrue row_any ↔ IsDamagedRow (row_of slot new.bytes))
+    → Looked device now a c disk (slot + 1) first (any || row_any) old newer
+one_slot_more device middle now a b c disk slot first any row_any old new newer so_far is same lined found =
     let tells : IsTrue device.tells → IsTrue middle.tells = λ t. subst (λ (d : Device). IsTrue d.tells) (sym so_far.device) t in
     record {
       device = is ∙ so_far.device;
@@ -87,4 +92,8 @@ one_slot_more device middle now a b c disk slot old new newer so_far is same lin
           λ t.
           one_text_more (row_text disk old.bytes) a b c slot (so_far.text t)
           (subst (λ (d : DiskState). Appends b c (row_text disk d.bytes slot)) (so_far.same t) (lined (tells t)));
+      found =
+          λ t.
+          below_more old.bytes slot any row_any (so_far.found t)
+          (subst (λ (d : DiskState). IsTrue row_any ↔ IsDamagedRow (row_of slot d.bytes)) (so_far.same t) (found (tells t)));
     }

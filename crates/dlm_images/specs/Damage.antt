@@ -1,17 +1,27 @@
--- The text of an image's damage: a line for each damaged block.
-use Rattle.std.specs.Prelude.{◌≡◌, ◌≤◌, ℕ, Bool, false, List, [], ◌∷◌, ◌++◌, codes, decimal, slice_get, slice_index_or, Some, if◌then◌else◌}
+-- When an image is damaged, and the text of its damage: a line for each damaged block.
+use Rattle.std.specs.Prelude.{◌≡◌, ◌⊎◌, ◌≤◌, ◌<◌, ℕ, Bool, false, List, [], ◌∷◌, ◌++◌, codes, decimal, slice_get, slice_index_or, Some, if◌then◌else◌}
 use Rattle.std.specs.List.{flat_map, range_with_len}
 use Rattle.disk.specs.Disk.{Device}
 use Rattle.torn_block.specs.declared.layout.TheConstants.{HOSTS}
 use Rattle.paxos_block.specs.Places.{area_of, row_of, image_length}
 use Rattle.paxos_block.specs.Damage as rows
 use Rattle.heartbeat.specs.Damage as areas
+use Rattle.paxos_block.specs.Row.{IsDamagedRow}
+use Rattle.heartbeat.specs.Beat.{IsDamagedArea}
 use Rattle.dlm_images.specs.declared.check.Blocks.{Blocks}
 use Rattle.dlm_images.specs.declared.check.Blocks.TheVariants.{Heartbeat, Slot}
 
 -- each disk has room for an image of so many slots
 abbrev pub AreLarge : {D : Type 0} → (D → Device) → ℕ → List D → Type 0
 AreLarge {D} device slots disks = (k : ℕ) (d : D) → slice_get disks k ≡ Some d → image_length slots ≤ (device d).size
+
+-- the row of some slot below this one is damaged
+abbrev pub IsDamagedBelow : ℕ → List ℕ → Type 0
+IsDamagedBelow slots bytes = (slot : ℕ) × (slot < slots) × IsDamagedRow (row_of slot bytes)
+
+-- an image is damaged where its heartbeat area is, or the row of a slot
+abbrev pub IsDamagedImage : ℕ → List ℕ → Type 0
+IsDamagedImage slots bytes = IsDamagedArea (area_of bytes) ⊎ IsDamagedBelow slots bytes
 
 -- the line of a damaged block
 abbrev pub line_of : ℕ → Blocks → ℕ → List ℕ

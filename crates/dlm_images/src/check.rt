@@ -1,10 +1,13 @@
-ghost use Rattle.std.specs.Prelude.{◌≡◌, ◌+◌, ◌≤◌, IsTrue, IfOk, OnOk, length};
+ghost use Rattle.std.specs.Prelude.{◌≡◌, ◌⊎◌, ◌+◌, ◌≤◌, ◌↔◌, true, IsTrue, Contains, IfOk, OnOk, length};
+ghost use Rattle.std.specs.List.{list_any};
 ghost use Rattle.std.specs.Io.KnownBytes.{Appends};
 ghost use Rattle.torn_block.specs.declared.layout.TheConstants.{DISKS};
 ghost use Rattle.paxos_block.specs.Places.{area_of, row_of, image_length};
+ghost use Rattle.paxos_block.specs.Row.{IsDamagedRow};
 ghost use Rattle.paxos_block.specs.Damage as rows;
+ghost use Rattle.heartbeat.specs.Beat.{IsDamagedArea};
 ghost use Rattle.heartbeat.specs.Damage as areas;
-ghost use Rattle.dlm_images.specs.Damage.{AreLarge, line_of, lines_of, image_text, area_text, row_text, rows_text};
+ghost use Rattle.dlm_images.specs.Damage.{AreLarge, IsDamagedImage, IsDamagedBelow, line_of, lines_of, image_text, area_text, row_text, rows_text};
 
 use crate::folder::Folder;
 use disk::{Boot, Disk, DiskFault, ImageFault};
@@ -83,32 +86,37 @@ fn check_disk<D: Disk, O: Write>(
     requires { image_length slots ≤ (D.device device.old).size }
     ensures { D.device device.new ≡ D.device device.old }
 {
-    match print_damage(device, disk, slots, out) {
-        Ok(true) => Ok(Some(Finding::Damaged)),
-        Ok(false) => Ok(None),
-        Err(CheckFault::Device(_)) => Ok(Some(print_fault(disk, ImageFault::Unreadable, out)?)),
-        Err(CheckFault::Output(error)) => Err(error),
-    }
+    let mut any = false;
+    let unread = match print_damage(device, disk, slots, out, &mut any) {
+        Ok(()) => None,
+        Err(CheckFault::Device(_)) => Some(print_fault(disk, ImageFault::Unreadable, out)?),
+        Err(CheckFault::Output(error)) => return Err(error),
+    };
+    Ok(if any { Some(Finding::Damaged) } else { unread })
 }
 
-/// Prints a line for each damaged block of an image, first for the heartbeats by host, then for each slot by host, and tells
-/// whether there is one.
+/// Prints a line for each damaged block of an image, first for the heartbeats by host, then for each slot by host. With the first
+/// one `any` becomes true, also where the image cannot be read to its end.
 pub fn print_damage<D: Disk, O: Write>(
     device: &mut D,
     disk: u8,
     slots: u32,
     out: &mut O,
-) -> Result<bool, CheckFault>
+    any: &mut bool,
+) -> Result<(), CheckFault>
     requires { image_length slots ≤ (D.device device.old).size }
     ensures device { D.device device.new ≡ D.device device.old }
     ensures unchanged { IsTrue (D.device device.old).tells → D.state device.new ≡ D.state device.old }
     ensures text { OnOk result (IsTrue (D.device device.old).tells →
         Appends (O.contents out.old) (O.contents out.new) (image_text disk slots (D.state device.old).bytes)) }
+    ensures found { OnOk result (IsTrue (D.device device.old).tells →
+        IsTrue any.new ↔ (IsTrue any.old ⊎ IsDamagedImage slots (D.state device.old).bytes)) }
 {
     let boot = device.attach()?;
     let beats = print_area(device, boot, disk, out)?;
-    let blocks = print_rows(device, boot, disk, slots, out)?;
-    Ok(beats | blocks)
+    *any |= beats;
+    print_rows(device, boot, disk, slots, out, any)?;
+    Ok(())
 }
 
 /// Prints a line for each damaged heartbeat block.
@@ -123,30 +131,36 @@ fn print_area<D: Disk, O: Write>(
     ensures unchanged { IsTrue (D.device device.old).tells → D.state device.new ≡ D.state device.old }
     ensures text { OnOk result (IsTrue (D.device device.old).tells →
         Appends (O.contents out.old) (O.contents out.new) (area_text disk (D.state device.old).bytes)) }
+    ensures found { IfOk result (λ found. IsTrue (D.device device.old).tells →
+        IsTrue found ↔ IsDamagedArea (area_of (D.state device.old).bytes)) }
 {
     let damaged = damage_of_area(device, boot)?;
-    Ok(print_lines(disk, Blocks::Heartbeat, &damaged, out)?)
+    print_lines(disk, Blocks::Heartbeat, &damaged, out)?;
+    Ok(has_damage(&damaged))
 }
 
-/// Prints a line for each damaged block of the slots.
+/// Prints a line for each damaged block of the slots. With the first one `any` becomes true.
 fn print_rows<D: Disk, O: Write>(
     device: &mut D,
     boot: Boot,
     disk: u8,
     slots: u32,
     out: &mut O,
-) -> Result<bool, CheckFault>
+    any: &mut bool,
+) -> Result<(), CheckFault>
     requires { image_length slots ≤ (D.device device.old).size }
     ensures device { D.device device.new ≡ D.device device.old }
     ensures unchanged { IsTrue (D.device device.old).tells → D.state device.new ≡ D.state device.old }
     ensures text { OnOk result (IsTrue (D.device device.old).tells →
         Appends (O.contents out.old) (O.contents out.new) (rows_text disk slots (D.state device.old).bytes)) }
+    ensures found { OnOk result (IsTrue (D.device device.old).tells →
+        IsTrue any.new ↔ (IsTrue any.old ⊎ IsDamagedBelow slots (D.state device.old).bytes)) }
 {
-    let mut any = false;
     for slot in 0..slots {
-        any = print_row(device, boot, disk, slot, out)? || any;
+        let damaged = print_row(device, boot, disk, slot, out)?;
+        *any |= damaged;
     }
-    Ok(any)
+    Ok(())
 }
 
 /// Prints a line for each damaged block of a slot.
@@ -162,9 +176,12 @@ fn print_row<D: Disk, O: Write>(
     ensures unchanged { IsTrue (D.device device.old).tells → D.state device.new ≡ D.state device.old }
     ensures text { OnOk result (IsTrue (D.device device.old).tells →
         Appends (O.contents out.old) (O.contents out.new) (row_text disk (D.state device.old).bytes slot)) }
+    ensures found { IfOk result (λ found. IsTrue (D.device device.old).tells →
+        IsTrue found ↔ IsDamagedRow (row_of slot (D.state device.old).bytes)) }
 {
     let damaged = damage_of_row(device, boot, slot)?;
-    Ok(print_lines(disk, Blocks::Slot(slot), &damaged, out)?)
+    print_lines(disk, Blocks::Slot(slot), &damaged, out)?;
+    Ok(has_damage(&damaged))
 }
 
 /// Which heartbeat blocks of an image are damaged.
@@ -174,6 +191,8 @@ fn damage_of_area<D: Disk>(device: &mut D, boot: Boot) -> Result<[bool; HOSTS], 
     ensures unchanged { IsTrue (D.device device.old).tells → D.state device.new ≡ D.state device.old }
     ensures damaged { IfOk result (λ damaged. IsTrue (D.device device.old).tells →
         damaged ≡ areas.damaged_in (area_of (D.state device.old).bytes)) }
+    ensures some { IfOk result (λ damaged. IsTrue (D.device device.old).tells →
+        Contains damaged true ↔ IsDamagedArea (area_of (D.state device.old).bytes)) }
 {
     let mut area = [0; ROW_LENGTH];
     device.read(boot, AREA_PLACE, &mut area)?;
@@ -187,30 +206,37 @@ fn damage_of_row<D: Disk>(device: &mut D, boot: Boot, slot: u32) -> Result<[bool
     ensures unchanged { IsTrue (D.device device.old).tells → D.state device.new ≡ D.state device.old }
     ensures damaged { IfOk result (λ damaged. IsTrue (D.device device.old).tells →
         damaged ≡ rows.damaged_in (row_of slot (D.state device.old).bytes)) }
+    ensures some { IfOk result (λ damaged. IsTrue (D.device device.old).tells →
+        Contains damaged true ↔ IsDamagedRow (row_of slot (D.state device.old).bytes)) }
 {
     let mut row = [0; ROW_LENGTH];
     device.read(boot, row_place(slot), &mut row)?;
     Ok(damaged_hosts(&row))
 }
 
-/// Prints a line for each of these blocks that is damaged, by its host, and tells whether one is.
+/// Whether one of these blocks is damaged.
+fn has_damage(damaged: &[bool; HOSTS]) -> bool
+    ensures { result ≡ list_any (λ is. is) damaged.now }
+{
+    damaged.iter().any(|&is| is)
+}
+
+/// Prints a line for each of these blocks that is damaged, by its host.
 fn print_lines<O: Write>(
     disk: u8,
     blocks: Blocks,
     damaged: &[bool; HOSTS],
     out: &mut O,
-) -> io::Result<bool>
-    ensures text { OnOk result (
+) -> io::Result<()>
+    ensures { OnOk result (
         Appends (O.contents out.old) (O.contents out.new) (lines_of disk blocks damaged.now)) }
 {
-    let mut any = false;
     for host in 0..HOSTS {
         if damaged[host] {
             print_line(disk, blocks, host, out)?;
-            any = true;
         }
     }
-    Ok(any)
+    Ok(())
 }
 
 fn print_line<O: Write>(disk: u8, blocks: Blocks, host: usize, out: &mut O) -> io::Result<()>
