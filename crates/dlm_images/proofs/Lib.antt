@@ -1,5 +1,7 @@
+pub mod Damage
 pub mod Driving
 pub mod Ending
+pub mod Found
 pub mod Images
 pub mod Opening
 pub mod Sets

@@ -83,8 +83,8 @@ get-take (suc n) (y ∷ ys) (suc k) x is = get-take n ys k x is
 -- the folder's disks are in use where their images were found right
 pub opened : (found : Found) → AreImages found → (config : Shape) (cluster : ℕ) → HasNumbers found config cluster → (size : ℕ) → size ≡ image_length config.slots → (all : List FileState)
     → ((k : ℕ) (d : FileState) (image : Result Header ImageFault) → slice_get all k ≡ Some d → slice_get found k ≡ Some image → IsDiskOf image d)
-    → (n : ℕ) (disks : List FileState) → disks ≡ map (resized size) (take n all) → IsOpened config cluster disks
-opened found images config cluster numbers size long all pairs n disks is = record { found = found; images = images; numbers = numbers; used = used }
+    → (n : ℕ) (disks : List FileState) → disks ≡ map (resized size) (take n all) → IsOpened found config cluster disks
+opened found images config cluster numbers size long all pairs n disks is = record { images = images; numbers = numbers; used = used }
   where
     by_image : (k : ℕ) (d e : FileState) (image : Result Header ImageFault) → resized size e ≡ d → slice_get found k ≡ Some image → IsDiskOf image e → d.used ≡ is_ok image
     by_image k d e (Ok header) is there right =

@@ -41,8 +41,7 @@ abbrev pub resized : ℕ → FileState → FileState
 resized size disk = if disk.size == size then disk else missing size
 
 -- An open folder has the numbers of the set that was found, and of the set's images those in use whose header was right.
-pub record IsOpened (config : Shape) (cluster : ℕ) (disks : List FileState) : Type 0 where
-  pub found : Found
+pub record IsOpened (found : Found) (config : Shape) (cluster : ℕ) (disks : List FileState) : Type 0 where
   pub images : AreImages found
   pub numbers : HasNumbers found config cluster
   pub used : (k : ℕ) (disk : FileState) (image : Result Header ImageFault) → slice_get disks k ≡ Some disk → slice_get found k ≡ Some image →

@@ -1,3 +1,4 @@
+pub mod Damage
 pub mod Examples
 pub mod Folders
 pub mod Layout

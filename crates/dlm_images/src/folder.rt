@@ -22,12 +22,14 @@ use std::os::unix::fs::FileExt;
 use std::rt::Files;
 use torn_block::DISKS;
 
-/// The disks of a set of images, by number, and what their headers say.
+/// The disks of a set of images, by number, what their headers say, and what was found of each image that there may be.
 #[derive(Drop)]
 pub struct Folder<F> {
     pub config: Config,
     pub cluster: u64,
     pub disks: Vec<FileDisk<F>>,
+    /// By number: the right header, or why the image is a disk of which every call fails.
+    pub found: [Result<Header, ImageFault>; DISKS as usize],
     ghost small: { IsSmall config },
     ghost as_many: { length disks.items ≡ config.disks },
     ghost long: { (k : ℕ) (d : FileState) → slice_get disks.items k ≡ Some d → d.size ≡ image_length config.slots },
@@ -50,7 +52,8 @@ pub fn open_folder<R: Files + AllocGlobal>(
 ) -> Result<Folder<R::File>, FolderFault>
 where
     R::File: FileExt + OpenFile + Drop,
-    ensures opened { IfOk result (λ folder. IsOpened folder.config folder.cluster folder.disks.items) }
+    ensures opened { IfOk result (λ folder.
+        IsOpened folder.found folder.config folder.cluster folder.disks.items) }
     ensures fault { IfErr result MayRefuse }
 {
     open_images(rt, folder, Access::ReadAndWrite)
@@ -63,7 +66,8 @@ pub fn open_folder_to_read<R: Files + AllocGlobal>(
 ) -> Result<Folder<R::File>, FolderFault>
 where
     R::File: FileExt + OpenFile + Drop,
-    ensures opened { IfOk result (λ folder. IsOpened folder.config folder.cluster folder.disks.items) }
+    ensures opened { IfOk result (λ folder.
+        IsOpened folder.found folder.config folder.cluster folder.disks.items) }
     ensures fault { IfErr result MayRefuse }
 {
     open_images(rt, folder, Access::Read)
@@ -76,7 +80,8 @@ fn open_images<R: Files + AllocGlobal>(
 ) -> Result<Folder<R::File>, FolderFault>
 where
     R::File: FileExt + OpenFile + Drop,
-    ensures opened { IfOk result (λ folder. IsOpened folder.config folder.cluster folder.disks.items) }
+    ensures opened { IfOk result (λ folder.
+        IsOpened folder.found folder.config folder.cluster folder.disks.items) }
     ensures fault { IfErr result MayRefuse }
 {
     let mut found = [Err(ImageFault::Unreadable); DISKS as usize];
@@ -93,6 +98,7 @@ where
         config: set.config,
         cluster: set.cluster,
         disks,
+        found,
     })
 }
 

@@ -1,6 +1,7 @@
 //! Folders of image files: how one is made and opened, and a host that works over its disks.
 #![tactic(auto)]
 
+mod check;
 mod disk_host;
 mod examples;
 mod fault;
@@ -10,6 +11,7 @@ mod image;
 mod operation;
 mod set;
 
+pub use check::{Blocks, CheckFault, Finding, check_folder, print_damage};
 pub use disk_host::{Acknowledgement, DiskHost};
 pub use examples::first_operation_is_acknowledged;
 pub use fault::FolderFault;

@@ -1,3 +1,4 @@
 pub mod AreaLemmas
 pub mod BeatLaws
+pub mod DamageLemmas
 pub mod Hosts

@@ -1,2 +1,3 @@
 pub mod Beat
+pub mod Damage
 pub mod Suggesting

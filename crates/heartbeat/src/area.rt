@@ -1,8 +1,9 @@
-ghost use Rattle.std.specs.Prelude.{◌≡◌, ◌<◌, ◌↔◌, length, IfOk, OnOk, OnErr, IsErr, Some, None};
+ghost use Rattle.std.specs.Prelude.{◌≡◌, ◌<◌, ◌↔◌, true, length, Contains, IfOk, OnOk, OnErr, IsErr, Some, None};
 ghost use Rattle.torn_block.specs.Damage;
 ghost use Rattle.torn_block.specs.Damage.{IsSoundBlock, IsDamagedBlock};
 ghost use Rattle.heartbeat.specs.Beat;
 ghost use Rattle.heartbeat.specs.Beat.{IsBeat, beat_body, counter_of, AreCounters, IsDamagedArea, all_zero, area_said, counters_in};
+ghost use Rattle.heartbeat.specs.Damage.{AreDamagedBeats, damaged_in};
 
 use thiserror::Error;
 use torn_block::{
@@ -48,6 +49,30 @@ pub fn decode_area(bytes: &[u8; ROW_LENGTH]) -> Result<[u64; HOSTS], Damaged>
         counters[host] = counter_in(&bytes[place..place + BLOCK_LENGTH])?;
     }
     Ok(counters)
+}
+
+/// Which blocks of these bytes of an area are damaged, by the hosts' numbers. `decode_area` finds the area damaged exactly
+/// where one of them is.
+pub fn damaged_beats(bytes: &[u8; ROW_LENGTH]) -> [bool; HOSTS]
+    ensures each { AreDamagedBeats bytes.now result }
+    ensures area { Contains result true ↔ IsDamagedArea bytes.now }
+    ensures exact { result ≡ damaged_in bytes.now }
+{
+    let mut damaged = [false; HOSTS];
+    for host in 0..HOSTS {
+        let place = BLOCK_LENGTH * host;
+        damaged[host] = is_damaged_block(&bytes[place..place + BLOCK_LENGTH]);
+    }
+    damaged
+}
+
+// Whether these bytes of a host's block are damaged.
+fn is_damaged_block(bytes: &[u8]) -> bool
+    requires { length bytes.now ≡ BLOCK_LENGTH }
+    ensures { result ≡ Beat.is_damaged_block bytes.now }
+{
+    let (first, second) = bytes.split_at(COPY_LENGTH);
+    is_damaged(first, second)
 }
 
 fn counter_in(bytes: &[u8]) -> Result<u64, Damaged>

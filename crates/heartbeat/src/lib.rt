@@ -4,7 +4,7 @@
 mod area;
 mod suggestion;
 
-pub use area::{Damaged, decode_area, encode_beat};
+pub use area::{Damaged, damaged_beats, decode_area, encode_beat};
 pub use suggestion::{Reading, suggest};
 
 #[cfg(test)]

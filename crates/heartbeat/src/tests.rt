@@ -15,6 +15,10 @@ fn one_beat(rt: HostRuntime) {
     assert_eq!(rt; decode_area(&area), Ok([0, 5, 0, 0, 0, 0, 0, 0]));
     area[208] = 1;
     assert_eq!(rt; decode_area(&area), Err(Damaged));
+    assert_eq!(rt;
+        damaged_beats(&area),
+        [false, true, false, false, false, false, false, false]
+    );
     area[192] = 0;
     assert_eq!(rt; decode_area(&area), Ok([0; 8]));
 }

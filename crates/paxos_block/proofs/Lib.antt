@@ -1,3 +1,4 @@
+pub mod DamageLemmas
 pub mod HeaderLemmas
 pub mod Outcomes
 pub mod PlaceLemmas

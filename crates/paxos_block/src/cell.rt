@@ -76,6 +76,15 @@ fn claim_in(body: &Body) -> PBlock
     claim(heading, vote)
 }
 
+// Whether these bytes of a host's block are damaged.
+pub(crate) fn is_damaged_block(host: u8, bytes: &[u8]) -> bool
+    requires { length bytes.now ≡ BLOCK_LENGTH }
+    ensures { result ≡ rows.is_damaged_block host bytes.now }
+{
+    let (first, second) = bytes.split_at(COPY_LENGTH);
+    is_damaged(host, first, second)
+}
+
 fn is_damaged(host: u8, first: &[u8], second: &[u8]) -> bool
     requires first { length first.now ≡ COPY_LENGTH }
     requires second { length second.now ≡ COPY_LENGTH }

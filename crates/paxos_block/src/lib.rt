@@ -18,4 +18,4 @@ pub use damaged::Damaged;
 pub use header::{Header, decode_header, encode_header, is_header};
 pub use law::{ballots_and_majorities, blocks_apart, blocks_say, rows_say, writes_stay_sound};
 pub use place::{AREA_PLACE, beat_place, block_place, image_length, row_place};
-pub use row::{Row, decode_row};
+pub use row::{Row, damaged_hosts, decode_row};

@@ -1,11 +1,12 @@
-ghost use Rattle.std.specs.Prelude.{◌≡◌, ◌↔◌, ◌<◌, List, None, IfOk, OnOk, IsErr};
+ghost use Rattle.std.specs.Prelude.{◌≡◌, ◌↔◌, ◌<◌, List, true, None, Contains, IfOk, OnOk, IsErr};
 ghost use Rattle.std.specs.Option.{IsSomeAnd};
 ghost use Rattle.torn_block.specs.declared.layout.TheConstants.{HOSTS};
+ghost use Rattle.paxos_block.specs.Damage.{AreDamagedBlocks, damaged_in};
 ghost use Rattle.paxos_block.specs.Row.{IsRow, IsDamagedRow, SeenBlock, row_said, seen_at, IsSeenAs, AreSeenAs};
 ghost use Rattle.paxos_block.specs.Votes.{top_of, others_top_of, latest_in, marked_in};
 
 use crate::block::{PBlock, Value};
-use crate::cell::{Cell, is_blank};
+use crate::cell::{Cell, is_blank, is_damaged_block};
 use crate::damaged::Damaged;
 use torn_block::{BLOCK_LENGTH, HOSTS, ROW_LENGTH};
 
@@ -116,6 +117,21 @@ pub fn decode_row(bytes: &[u8; ROW_LENGTH]) -> Result<Row, Damaged>
     let mut row = Row::BLANK;
     row.read(bytes)?;
     Ok(row)
+}
+
+/// Which blocks of these bytes of a row are damaged, by the hosts' numbers. `decode_row` finds the row damaged exactly where
+/// one of them is.
+pub fn damaged_hosts(bytes: &[u8; ROW_LENGTH]) -> [bool; HOSTS]
+    ensures each { AreDamagedBlocks bytes.now result }
+    ensures row { Contains result true ↔ IsDamagedRow bytes.now }
+    ensures exact { result ≡ damaged_in bytes.now }
+{
+    let mut damaged = [false; HOSTS];
+    for host in 0..HOSTS {
+        let place = BLOCK_LENGTH * host;
+        damaged[host] = is_damaged_block(host as u8, &bytes[place..place + BLOCK_LENGTH]);
+    }
+    damaged
 }
 
 #[cfg(test)]

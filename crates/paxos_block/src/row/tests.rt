@@ -83,6 +83,17 @@ fn two_copies_with_one_sequence_number(rt: HostRuntime) {
     assert!(rt; decode_row(&row_with(&PROMISE, &vote)).is_ok());
 }
 
+// What host 0 says, in the last host's block.
+#[test]
+fn damage_of_the_last_host(rt: HostRuntime) {
+    let mut row = [0; ROW_LENGTH];
+    row[ROW_LENGTH - COPY_LENGTH..].copy_from_slice(&VOTE);
+    assert_eq!(rt;
+        damaged_hosts(&row),
+        [false, false, false, false, false, false, false, true]
+    );
+}
+
 // Offset 1 to 3, 2 to 2, 4 to 1, and 23 to 2, a ballot of host 1.
 #[test]
 fn four_damaged_copies(rt: HostRuntime) {
@@ -96,6 +107,10 @@ fn four_damaged_copies(rt: HostRuntime) {
             Err(Damaged)
         );
         assert_eq!(rt; decode_row(&row_with(&PROMISE, &vote)), Err(Damaged));
+        assert_eq!(rt;
+            damaged_hosts(&row_with(&PROMISE, &vote)),
+            [true, false, false, false, false, false, false, false]
+        );
         promise[0] = 0;
         assert!(rt; decode_row(&row_with(&promise, &VOTE)).is_ok());
     }

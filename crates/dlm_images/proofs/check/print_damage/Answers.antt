@@ -1,0 +1,49 @@
+use Rattle.std.proofs.Common.{◌∙◌, subst, sym, IsTrue}
+use Rattle.std.specs.Io.KnownBytes.{Appends}
+use Rattle.std.proofs.KnownBytes.{Appends-trans}
+use Rattle.disk.specs.Disk.{DiskState, Device}
+use Rattle.std.specs.Prelude.{◌↔◌, ◌⊎◌, ◌||◌}
+use Rattle.paxos_block.specs.Places.{area_of}
+use Rattle.heartbeat.specs.Beat.{IsDamagedArea}
+use Rattle.dlm_images.specs.Damage.{area_text, rows_text, IsDamagedBelow}
+use Rattle.dlm_images.proofs.Found.{image_is}
+use Rattle.dlm_images.proofs.Damage.{attach_keeps}
+use Rattle.dlm_images.proofs.check.print_damage.Goals as goal
+
+pub returns-in_err-print_rows-clause-unchanged : goal.returns-in_err-print_rows-clause-unchanged
+returns-in_err-print_rows-clause-unchanged g c = λ t0.
+    let t1 = subst (λ (d : Device). IsTrue d.tells) (sym c.attach.ensures.device) t0 in
+    let t2 = subst (λ (d : Device). IsTrue d.tells) (sym c.print_area.ensures.device) t1 in
+    c.print_rows.ensures.unchanged t2 ∙ c.print_area.ensures.unchanged t1
+    ∙ attach_keeps (g.D.Disk.state c.args.device.now) (g.D.Disk.state c.attach.new.self) c.attach.result (c.attach.ensures.step t0)
+
+pub returns-clause-unchanged : goal.returns-clause-unchanged
+returns-clause-unchanged g c = λ t0.
+    let t1 = subst (λ (d : Device). IsTrue d.tells) (sym c.attach.ensures.device) t0 in
+    let t2 = subst (λ (d : Device). IsTrue d.tells) (sym c.print_area.ensures.device) t1 in
+    c.print_rows.ensures.unchanged t2 ∙ c.print_area.ensures.unchanged t1
+    ∙ attach_keeps (g.D.Disk.state c.args.device.now) (g.D.Disk.state c.attach.new.self) c.attach.result (c.attach.ensures.step t0)
+
+pub returns-clause-text : goal.returns-clause-text
+returns-clause-text g c = λ t0.
+    let t1 = subst (λ (d : Device). IsTrue d.tells) (sym c.attach.ensures.device) t0 in
+    let t2 = subst (λ (d : Device). IsTrue d.tells) (sym c.print_area.ensures.device) t1 in
+    let old = g.D.Disk.state c.args.device.now in
+    let same = attach_keeps old (g.D.Disk.state c.attach.new.self) c.attach.result (c.attach.ensures.step t0) in
+    let a = g.O.Write.contents c.args.out.now in
+    let b = g.O.Write.contents c.print_area.new.out in
+    let e = g.O.Write.contents c.print_rows.new.out in
+    Appends-trans a b e (area_text c.args.disk old.bytes) (rows_text c.args.disk c.args.slots old.bytes)
+    (subst (λ (d : DiskState). Appends a b (area_text c.args.disk d.bytes)) same (c.in_ok-beats.ensures.text t1))
+    (subst (λ (d : DiskState). Appends b e (rows_text c.args.disk c.args.slots d.bytes)) (c.print_area.ensures.unchanged t1 ∙ same) (c.in_ok-print_rows.ensures.text t2))
+
+pub returns-clause-found : goal.returns-clause-found
+returns-clause-found g c = λ t0.
+    let t1 = subst (λ (d : Device). IsTrue d.tells) (sym c.attach.ensures.device) t0 in
+    let t2 = subst (λ (d : Device). IsTrue d.tells) (sym c.print_area.ensures.device) t1 in
+    let old = g.D.Disk.state c.args.device.now in
+    let same = attach_keeps old (g.D.Disk.state c.attach.new.self) c.attach.result (c.attach.ensures.step t0) in
+    image_is c.args.any.now c.in_ok-beats.beats c.print_rows.new.any
+    (subst (λ (d : DiskState). IsTrue c.in_ok-beats.beats ↔ IsDamagedArea (area_of d.bytes)) same (c.in_ok-beats.ensures.found t1))
+    (subst (λ (d : DiskState). IsTrue c.print_rows.new.any ↔ (IsTrue (c.args.any.now || c.in_ok-beats.beats) ⊎ IsDamagedBelow c.args.slots d.bytes))
+    (c.print_area.ensures.unchanged t1 ∙ same) (c.in_ok-print_rows.ensures.found t2))

@@ -1,0 +1,260 @@
+ghost use Rattle.std.specs.Prelude.{◌≡◌, ◌⊎◌, ◌+◌, ◌≤◌, ◌↔◌, true, IsTrue, Contains, IfOk, OnOk, length};
+ghost use Rattle.std.specs.List.{list_any};
+ghost use Rattle.std.specs.Io.KnownBytes.{Appends};
+ghost use Rattle.torn_block.specs.declared.layout.TheConstants.{DISKS};
+ghost use Rattle.paxos_block.specs.Places.{area_of, row_of, image_length};
+ghost use Rattle.paxos_block.specs.Row.{IsDamagedRow};
+ghost use Rattle.paxos_block.specs.Damage as rows;
+ghost use Rattle.heartbeat.specs.Beat.{IsDamagedArea};
+ghost use Rattle.heartbeat.specs.Damage as areas;
+ghost use Rattle.dlm_images.specs.Damage.{AreLarge, IsDamagedImage, IsDamagedBelow, line_of, lines_of, image_text, area_text, row_text, rows_text};
+
+use crate::folder::Folder;
+use disk::{Boot, Disk, DiskFault, ImageFault};
+use heartbeat::damaged_beats;
+use paxos_block::{AREA_PLACE, Header, damaged_hosts, row_place};
+use std::fs::OpenFile;
+use std::io;
+use std::io::Write;
+use std::os::unix::fs::FileExt;
+use thiserror::Error;
+use torn_block::{DISKS, HOSTS, ROW_LENGTH};
+
+/// What is wrong with an image.
+#[derive(Clone, Copy, Debug, PartialEq, Eq)]
+pub enum Finding {
+    /// It is missing or refused, or could not be read to its end.
+    Image { disk: u8, fault: ImageFault },
+    /// A block of it is damaged.
+    Damaged,
+}
+
+/// Where the blocks of all hosts stand side by side.
+#[derive(Clone, Copy, Debug, PartialEq, Eq)]
+pub enum Blocks {
+    Heartbeat,
+    Slot(u32),
+}
+
+/// Why an image was not looked at to its end.
+#[derive(Debug, Drop, Error)]
+pub enum CheckFault {
+    #[error("the image cannot be read")]
+    Device(#[from] DiskFault),
+    #[error("output failed")]
+    Output(#[from] io::Error),
+}
+
+/// Prints what is wrong with the images of a folder, and tells what it found first. It writes to no image.
+pub fn check_folder<F: FileExt + OpenFile + Drop, O: Write>(
+    folder: Folder<F>,
+    out: &mut O,
+) -> io::Result<Option<Finding>> {
+    let slots = u32::from(folder.config.slots());
+    let mut disks = folder.disks;
+    check_disks(&mut disks, &folder.found, slots, out)
+}
+
+/// Prints, disk by disk, why it is not used, or a line for each damaged block of it, and tells what was found first. Where a disk
+/// cannot be read to its end, a line says so behind those that were printed of it.
+fn check_disks<D: Disk, O: Write>(
+    disks: &mut [D],
+    found: &[Result<Header, ImageFault>; DISKS as usize],
+    slots: u32,
+    out: &mut O,
+) -> io::Result<Option<Finding>>
+    requires few { length disks.old ≤ DISKS }
+    requires large { AreLarge D.device slots disks.old }
+{
+    let mut first = None;
+    for disk in 0..disks.len() {
+        let finding = match found[disk] {
+            Ok(_) => check_disk(&mut disks[disk], disk as u8, slots, out)?,
+            Err(fault) => Some(print_fault(disk as u8, fault, out)?),
+        };
+        first = first.or(finding);
+    }
+    Ok(first)
+}
+
+fn check_disk<D: Disk, O: Write>(
+    device: &mut D,
+    disk: u8,
+    slots: u32,
+    out: &mut O,
+) -> io::Result<Option<Finding>>
+    requires { image_length slots ≤ (D.device device.old).size }
+    ensures { D.device device.new ≡ D.device device.old }
+{
+    let mut any = false;
+    let unread = match print_damage(device, disk, slots, out, &mut any) {
+        Ok(()) => None,
+        Err(CheckFault::Device(_)) => Some(print_fault(disk, ImageFault::Unreadable, out)?),
+        Err(CheckFault::Output(error)) => return Err(error),
+    };
+    Ok(if any { Some(Finding::Damaged) } else { unread })
+}
+
+/// Prints a line for each damaged block of an image, first for the heartbeats by host, then for each slot by host. With the first
+/// one `any` becomes true, also where the image cannot be read to its end.
+pub fn print_damage<D: Disk, O: Write>(
+    device: &mut D,
+    disk: u8,
+    slots: u32,
+    out: &mut O,
+    any: &mut bool,
+) -> Result<(), CheckFault>
+    requires { image_length slots ≤ (D.device device.old).size }
+    ensures device { D.device device.new ≡ D.device device.old }
+    ensures unchanged { IsTrue (D.device device.old).tells → D.state device.new ≡ D.state device.old }
+    ensures text { OnOk result (IsTrue (D.device device.old).tells →
+        Appends (O.contents out.old) (O.contents out.new) (image_text disk slots (D.state device.old).bytes)) }
+    ensures found { OnOk result (IsTrue (D.device device.old).tells →
+        IsTrue any.new ↔ (IsTrue any.old ⊎ IsDamagedImage slots (D.state device.old).bytes)) }
+{
+    let boot = device.attach()?;
+    let beats = print_area(device, boot, disk, out)?;
+    *any |= beats;
+    print_rows(device, boot, disk, slots, out, any)?;
+    Ok(())
+}
+
+/// Prints a line for each damaged heartbeat block.
+fn print_area<D: Disk, O: Write>(
+    device: &mut D,
+    boot: Boot,
+    disk: u8,
+    out: &mut O,
+) -> Result<bool, CheckFault>
+    requires { image_length 0 ≤ (D.device device.old).size }
+    ensures device { D.device device.new ≡ D.device device.old }
+    ensures unchanged { IsTrue (D.device device.old).tells → D.state device.new ≡ D.state device.old }
+    ensures text { OnOk result (IsTrue (D.device device.old).tells →
+        Appends (O.contents out.old) (O.contents out.new) (area_text disk (D.state device.old).bytes)) }
+    ensures found { IfOk result (λ found. IsTrue (D.device device.old).tells →
+        IsTrue found ↔ IsDamagedArea (area_of (D.state device.old).bytes)) }
+{
+    let damaged = damage_of_area(device, boot)?;
+    print_lines(disk, Blocks::Heartbeat, &damaged, out)?;
+    Ok(has_damage(&damaged))
+}
+
+/// Prints a line for each damaged block of the slots. With the first one `any` becomes true.
+fn print_rows<D: Disk, O: Write>(
+    device: &mut D,
+    boot: Boot,
+    disk: u8,
+    slots: u32,
+    out: &mut O,
+    any: &mut bool,
+) -> Result<(), CheckFault>
+    requires { image_length slots ≤ (D.device device.old).size }
+    ensures device { D.device device.new ≡ D.device device.old }
+    ensures unchanged { IsTrue (D.device device.old).tells → D.state device.new ≡ D.state device.old }
+    ensures text { OnOk result (IsTrue (D.device device.old).tells →
+        Appends (O.contents out.old) (O.contents out.new) (rows_text disk slots (D.state device.old).bytes)) }
+    ensures found { OnOk result (IsTrue (D.device device.old).tells →
+        IsTrue any.new ↔ (IsTrue any.old ⊎ IsDamagedBelow slots (D.state device.old).bytes)) }
+{
+    for slot in 0..slots {
+        let damaged = print_row(device, boot, disk, slot, out)?;
+        *any |= damaged;
+    }
+    Ok(())
+}
+
+/// Prints a line for each damaged block of a slot.
+fn print_row<D: Disk, O: Write>(
+    device: &mut D,
+    boot: Boot,
+    disk: u8,
+    slot: u32,
+    out: &mut O,
+) -> Result<bool, CheckFault>
+    requires { image_length (slot + 1) ≤ (D.device device.old).size }
+    ensures device { D.device device.new ≡ D.device device.old }
+    ensures unchanged { IsTrue (D.device device.old).tells → D.state device.new ≡ D.state device.old }
+    ensures text { OnOk result (IsTrue (D.device device.old).tells →
+        Appends (O.contents out.old) (O.contents out.new) (row_text disk (D.state device.old).bytes slot)) }
+    ensures found { IfOk result (λ found. IsTrue (D.device device.old).tells →
+        IsTrue found ↔ IsDamagedRow (row_of slot (D.state device.old).bytes)) }
+{
+    let damaged = damage_of_row(device, boot, slot)?;
+    print_lines(disk, Blocks::Slot(slot), &damaged, out)?;
+    Ok(has_damage(&damaged))
+}
+
+/// Which heartbeat blocks of an image are damaged.
+fn damage_of_area<D: Disk>(device: &mut D, boot: Boot) -> Result<[bool; HOSTS], DiskFault>
+    requires { image_length 0 ≤ (D.device device.old).size }
+    ensures device { D.device device.new ≡ D.device device.old }
+    ensures unchanged { IsTrue (D.device device.old).tells → D.state device.new ≡ D.state device.old }
+    ensures damaged { IfOk result (λ damaged. IsTrue (D.device device.old).tells →
+        damaged ≡ areas.damaged_in (area_of (D.state device.old).bytes)) }
+    ensures some { IfOk result (λ damaged. IsTrue (D.device device.old).tells →
+        Contains damaged true ↔ IsDamagedArea (area_of (D.state device.old).bytes)) }
+{
+    let mut area = [0; ROW_LENGTH];
+    device.read(boot, AREA_PLACE, &mut area)?;
+    Ok(damaged_beats(&area))
+}
+
+/// Which blocks of a slot are damaged in an image.
+fn damage_of_row<D: Disk>(device: &mut D, boot: Boot, slot: u32) -> Result<[bool; HOSTS], DiskFault>
+    requires { image_length (slot + 1) ≤ (D.device device.old).size }
+    ensures device { D.device device.new ≡ D.device device.old }
+    ensures unchanged { IsTrue (D.device device.old).tells → D.state device.new ≡ D.state device.old }
+    ensures damaged { IfOk result (λ damaged. IsTrue (D.device device.old).tells →
+        damaged ≡ rows.damaged_in (row_of slot (D.state device.old).bytes)) }
+    ensures some { IfOk result (λ damaged. IsTrue (D.device device.old).tells →
+        Contains damaged true ↔ IsDamagedRow (row_of slot (D.state device.old).bytes)) }
+{
+    let mut row = [0; ROW_LENGTH];
+    device.read(boot, row_place(slot), &mut row)?;
+    Ok(damaged_hosts(&row))
+}
+
+/// Whether one of these blocks is damaged.
+fn has_damage(damaged: &[bool; HOSTS]) -> bool
+    ensures { result ≡ list_any (λ is. is) damaged.now }
+{
+    damaged.iter().any(|&is| is)
+}
+
+/// Prints a line for each of these blocks that is damaged, by its host.
+fn print_lines<O: Write>(
+    disk: u8,
+    blocks: Blocks,
+    damaged: &[bool; HOSTS],
+    out: &mut O,
+) -> io::Result<()>
+    ensures { OnOk result (
+        Appends (O.contents out.old) (O.contents out.new) (lines_of disk blocks damaged.now)) }
+{
+    for host in 0..HOSTS {
+        if damaged[host] {
+            print_line(disk, blocks, host, out)?;
+        }
+    }
+    Ok(())
+}
+
+fn print_line<O: Write>(disk: u8, blocks: Blocks, host: usize, out: &mut O) -> io::Result<()>
+    ensures { OnOk result (Appends (O.contents out.old) (O.contents out.new) (line_of disk blocks host)) }
+{
+    match blocks {
+        Blocks::Heartbeat => writeln!(out, "disk{disk} heartbeat host {host} damaged"),
+        Blocks::Slot(slot) => writeln!(out, "disk{disk} slot {slot} host {host} damaged"),
+    }
+}
+
+/// Prints why an image is not used.
+fn print_fault<O: Write>(disk: u8, fault: ImageFault, out: &mut O) -> io::Result<Finding> {
+    let name = match fault {
+        ImageFault::NotFormatted => "24 NotFormatted",
+        ImageFault::WrongHeader => "25 WrongHeader",
+        ImageFault::Unreadable => "26 Unreadable",
+    };
+    writeln!(out, "disk{disk} {name}")?;
+    Ok(Finding::Image { disk, fault })
+}
