@@ -11,6 +11,7 @@ use Rattle.world.specs.Entry.{Filled}
 use Rattle.world.specs.Headline.{IsPrefix, prefix_at}
 use Rattle.dlm_images.specs.Operations.{IsAcknowledged}
 use Rattle.at_once.specs.AtOnce.{IsRunOf}
+use Rattle.at_once.proofs.Recovered.{holds}
 use Rattle.at_once.specs.Joined.{HasCome, DeedsAreJoined}
 
 module _ {A : Type 0} where
@@ -49,4 +50,8 @@ module _ (c : Shape) (log : List Filled) (of : IsRunOf c log) where
       )
 
 pub deeds_are_joined : DeedsAreJoined
-deeds_are_joined c log of = record { learned = learned c log of; acknowledged = acknowledged c log of }
+deeds_are_joined c log of = record {
+  learned = learned c log of;
+  acknowledged = acknowledged c log of;
+  holds = λ i j g h n other kept come r. holds c log of i j h n kept r g other (kept_is c log of i g other come);
+}

@@ -5,4 +5,5 @@ pub mod InTurn
 pub mod Joined
 pub mod Lying
 pub mod Parting
+pub mod Recovered
 pub mod Serving
