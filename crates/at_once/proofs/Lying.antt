@@ -1,0 +1,210 @@
+-- In a run each call that is due reads and writes behind the header, and before the end of the last slot.
+use Rattle.std.specs.Prelude.{take, slice_get}
+use Rattle.std.specs.Option.{option_map}
+use Rattle.std.proofs.Common.{ℕ, ◌+◌, ◌<◌, ◌≤◌, ◌≡◌, ◌==◌, false, true≢false, Option, Some, None, List, [], ◌∷◌, length, refl, sym, subst, ap, ◌∙◌, inl, inr, arith}
+use Rattle.std.proofs.lemmas.Bool.{cases_Bool, eqb-true, eq-eqb}
+use Rattle.disk.specs.declared.fault.DiskFault.TheVariants.{Reset, Failed, Gone}
+use Rattle.disk.specs.Disk.{DiskState, Call, Attach, Read, Write, Sync, Answer, Fault, Step, IsUnder}
+use Rattle.torn_block.specs.declared.layout.TheConstants.{HOSTS, ROW_LENGTH, HEADER_LENGTH}
+use Rattle.torn_block.specs.declared.write_steps.WriteCall.TheVariants.{CloseGate, SyncClosed, PutBody, SyncBody, OpenGate, SyncOpened}
+use Rattle.paxos_block.specs.Places.{BeatOf, VoteOf, row_place, image_length, IsWithin}
+use Rattle.paxos_block.specs.Row.{SeenBlock}
+use Rattle.attempt.specs.Calls.{Kind, Attaching, Syncing, Reading, Putting, Opening}
+use Rattle.attempt.specs.Answers.{Heard, Answers, on, row_in, seen_block}
+use Rattle.attempt.specs.NextCall.{call_by, with_disk}
+use Rattle.attempt.specs.Setup.{Setup}
+use Rattle.attempt.specs.Votes.{IsLong, TellsVotes}
+use Rattle.attempt.proofs.Votes.{row_told as votes_told, fills}
+use Rattle.attempt.proofs.Replies.{next_is}
+use Rattle.beats.specs.Answers as beat_answers
+use Rattle.beats.specs.Status as beat
+use Rattle.marks.specs.Status as mark
+use Rattle.slot_log.specs.Shape.{Shape}
+use Rattle.host.specs.Host.{Doing, Host, next_of, next_doing, setup_of, marking_of, beat_of}
+use Rattle.world.specs.Entry.{Filled, called_by}
+use Rattle.world.specs.World.{World, world, IsRun}
+use Rattle.world_safety.specs.Marking.{IsMarkingSlot, IsMarkingIf}
+use Rattle.world_safety.specs.Tied.{Moves, IsDoing, Tied}
+use Rattle.world_safety.proofs.Moves.Beating.{beat_within}
+use Rattle.world_safety.proofs.Moves.Due.{Attempts, IsBeatCall, IsMarkCall, busy, due_of}
+use Rattle.world_safety.proofs.Moves.Marking.{mark_due, mark_within}
+use Rattle.world_safety.proofs.Moves.Moving.{running_at}
+use Rattle.world_safety.proofs.Runs.Tracks.{moves_at, tied_at}
+use Rattle.at_once.proofs.Headless.{Lies}
+
+-- SOME ANSWER
+
+-- every call may be answered somehow
+record SomeStep (old : DiskState) (call : Call) : Type 0 where
+  answer : Answer
+  left : List ℕ
+  step : Step old call answer (called_by old call answer left)
+
+fails : (old : DiskState) (call : Call) → old.gone ≡ false → IsUnder call old.boot → SomeStep old call
+fails old Attach there under = record { answer = Fault Failed; left = []; step = (there, under, refl) }
+fails old (Read boot at len) there under = record { answer = Fault Failed; left = []; step = (there, under, refl) }
+fails old (Write boot at from) there under = record { answer = Fault Failed; left = from; step = (there, under, record { left = from; as_many = refl; leaves = refl }) }
+fails old (Sync boot) there under = record { answer = Fault Failed; left = []; step = (there, under, refl) }
+
+refused : (old : DiskState) (call : Call) → old.gone ≡ false → (IsUnder call old.boot → ⊥) → SomeStep old call
+refused old call there not_under = record { answer = Fault Reset; left = []; step = (there, not_under, refl) }
+
+by_boot : (old : DiskState) (call : Call) (boot : ℕ) → old.gone ≡ false → (boot ≡ old.boot → IsUnder call old.boot) → (IsUnder call old.boot → boot ≡ old.boot) → SomeStep old call
+by_boot old call boot there to back = elim (cases_Bool (boot == old.boot)) [
+  | inl same ↦ fails old call there (to (eqb-true boot old.boot same))
+  | inr other ↦ refused old call there (λ under. true≢false (sym (eq-eqb boot old.boot (back under)) ∙ other))
+]
+
+present : (old : DiskState) (call : Call) → old.gone ≡ false → SomeStep old call
+present old Attach there = fails old Attach there tt
+present old (Read boot at len) there = by_boot old (Read boot at len) boot there (λ e. e) (λ e. e)
+present old (Write boot at from) there = by_boot old (Write boot at from) boot there (λ e. e) (λ e. e)
+present old (Sync boot) there = by_boot old (Sync boot) boot there (λ e. e) (λ e. e)
+
+some_step : (old : DiskState) (call : Call) → SomeStep old call
+some_step old call = elim (cases_Bool old.gone) [
+  | inl gone ↦ record { answer = Fault Gone; left = []; step = (gone, refl) }
+  | inr there ↦ present old call there
+]
+
+-- PLACES
+
+-- what is read is
+ReadLies : ℕ → Call → Type 0
+ReadLies slots Attach = Unit {0}
+ReadLies slots (Read boot at len) = Lies slots (Read boot at len)
+ReadLies slots (Write boot at from) = Unit {0}
+ReadLies slots (Sync boot) = Unit {0}
+
+vote_lies : (slots slot host : ℕ) (call : Call) → slot < slots → host < HOSTS → IsWithin (VoteOf slot host) call → ReadLies slots call → Lies slots call
+unfolding ReadLies
+vote_lies slots slot host Attach fits below within reads = tt
+vote_lies slots slot host (Read boot at len) fits below within reads = reads
+vote_lies slots slot host (Write boot at from) fits below within reads = (let low = within.0 in omega (arith, low), let high = within.1 in omega (arith, high, fits, below))
+vote_lies slots slot host (Sync boot) fits below within reads = tt
+
+beat_lies : (slots host : ℕ) (call : Call) → host < HOSTS → IsWithin (BeatOf host) call → ReadLies slots call → Lies slots call
+unfolding ReadLies
+beat_lies slots host Attach below within reads = tt
+beat_lies slots host (Read boot at len) below within reads = reads
+beat_lies slots host (Write boot at from) below within reads = (let low = within.0 in omega (arith, low), let high = within.1 in omega (arith, high, below))
+beat_lies slots host (Sync boot) below within reads = tt
+
+row_lies : (slots slot : ℕ) → slot < slots → (HEADER_LENGTH ≤ row_place slot) × (row_place slot + ROW_LENGTH ≤ image_length slots)
+row_lies slots slot fits = (omega arith, omega (arith, fits))
+
+-- what an attempt reads
+attempt_reads : (slots : ℕ) (s : Setup) (d : ℕ) (f : Answers) (kind : Kind) → s.slot < slots → ReadLies slots (call_by s d f kind)
+unfolding ReadLies
+attempt_reads slots s d f Attaching fits = tt
+attempt_reads slots s d f Syncing fits = tt
+attempt_reads slots s d f Reading fits = row_lies slots s.slot fits
+attempt_reads slots s d f (Putting p CloseGate) fits = tt
+attempt_reads slots s d f (Putting p SyncClosed) fits = tt
+attempt_reads slots s d f (Putting p PutBody) fits = tt
+attempt_reads slots s d f (Putting p SyncBody) fits = tt
+attempt_reads slots s d f (Putting p OpenGate) fits = tt
+attempt_reads slots s d f (Putting p SyncOpened) fits = tt
+
+-- a marking
+mark_reads : (slots : ℕ) (s : mark.Setup) (a : List Heard) (kind : Kind) → s.slot < slots → ReadLies slots (mark.call_by s a kind)
+unfolding ReadLies
+mark_reads slots s a Attaching fits = tt
+mark_reads slots s a Syncing fits = tt
+mark_reads slots s a Reading fits = row_lies slots s.slot fits
+mark_reads slots s a (Putting p CloseGate) fits = tt
+mark_reads slots s a (Putting p SyncClosed) fits = tt
+mark_reads slots s a (Putting p PutBody) fits = tt
+mark_reads slots s a (Putting p SyncBody) fits = tt
+mark_reads slots s a (Putting p OpenGate) fits = tt
+mark_reads slots s a (Putting p SyncOpened) fits = tt
+
+-- and a beat
+module _ (slots : ℕ) (s : beat.Setup) where
+  kind_reads : (a : List beat_answers.Heard) (kind : beat.Kind) → ReadLies slots (beat.call_by s a kind)
+  unfolding ReadLies
+  kind_reads a beat.Attaching = tt
+  kind_reads a beat.Syncing = tt
+  kind_reads a beat.Reading = (omega arith, omega arith)
+  kind_reads a (beat.Putting CloseGate) = tt
+  kind_reads a (beat.Putting SyncClosed) = tt
+  kind_reads a (beat.Putting PutBody) = tt
+  kind_reads a (beat.Putting SyncBody) = tt
+  kind_reads a (beat.Putting OpenGate) = tt
+  kind_reads a (beat.Putting SyncOpened) = tt
+
+  call_reads : (a : List beat_answers.Heard) (o : Option beat.Kind) (d k : ℕ) (call : Call) → with_disk d (option_map (beat.call_by s a) o) ≡ Some (k, call) → ReadLies slots call
+  call_reads a None d k call is = absurd (cc)
+  call_reads a (Some kind) d k call is =
+      let pair : (d, beat.call_by s a kind) ≡ (k, call) = cc in
+      subst (ReadLies slots) (ap (λ (q : ℕ × Call). q.1) pair) (kind_reads a kind)
+
+  status_reads : (f : beat_answers.Answers) (st : beat.Status) (k : ℕ) (call : Call) → beat.next_in s f st ≡ Some (k, call) → ReadLies slots call
+  status_reads f (beat.Due d) k call is = call_reads (f d) (slice_get beat.nine (length (f d))) d k call is
+  status_reads f (beat.Ended end) k call is = absurd (cc)
+
+-- THE CALL THAT IS DUE
+
+own_long : (s : mark.Setup) (a : List Heard) → s.host < HOSTS → TellsVotes a → IsLong (mark.own_block s a).says.inp
+own_long s a below votes = by (row_in Opening a) refl
+  where
+    by : (o : Option (List SeenBlock)) → row_in Opening a ≡ o → IsLong (seen_block o s.host).says.inp
+    by None is = tt
+    by (Some row) is = (votes_told Opening a row votes is s.host below).long
+
+whole : {A : Type 0} (l : List A) → take (length l) l ≡ l
+whole [] = refl
+whole {A} (x ∷ l) = ap (λ (r : List A). x ∷ r) (whole l)
+
+module _ (c : Shape) (log : List Filled) (run : IsRun c log) (h k : ℕ) (call : Call) (next : next_of c h ((world c log).host h) ≡ Some (k, call)) where
+  abbrev w : World
+  w = world c log
+
+  abbrev ms : Moves
+  ms = moves_at c log run (length log)
+
+  tied : Tied c w ms
+  tied = subst (λ (l : List Filled). Tied c (world c l) ms) (whole log) (tied_at c log run (length log))
+
+  by_attempt : Attempts (w.host h) → Lies c.slots call
+  by_attempt a =
+      let some = some_step (w.disk k) call in
+      let m = a.memory in
+      let s = setup_of c h m a.doing.operation in
+      let f = on a.doing.heard in
+      let d = due_of c w ms h k call some.answer some.left m a.doing (record { tied = tied; running = a.running; does = a.does; next = next; step = some.step }) in
+      let due : next_doing c h m (Some a.doing) ≡ Some (k, call) =
+      subst (λ (o : Option Doing). next_doing c h m o ≡ Some (k, call)) a.does (subst (λ (host : Host). next_of c h host ≡ Some (k, call)) a.running next) in
+      let both : Some (k, call_by s k f d.is.kind) ≡ Some (k, call) = sym (next_is s f d.is.phase k d.is.kind d.is.due d.is.kind_is) ∙ due in
+      let pair : (k, call_by s k f d.is.kind) ≡ (k, call) = cc in
+      subst (Lies c.slots) (ap (λ (q : ℕ × Call). q.1) pair)
+      (vote_lies c.slots (length m.learned) h (call_by s k f d.is.kind) d.trying.fits d.run.below d.inside (attempt_reads c.slots s k f d.is.kind d.trying.fits))
+
+  by_beat : IsBeatCall c h k call (w.host h) → Lies c.slots call
+  by_beat b =
+      let running = running_at c w ms tied h b.memory b.running in
+      beat_lies c.slots h call running.below (beat_within (beat_of c h) (beat_answers.on b.heard) k call b.due)
+      (status_reads c.slots (beat_of c h) (beat_answers.on b.heard) (beat.status (beat_of c h) (beat_answers.on b.heard)) k call b.due)
+
+  by_mark : IsMarkCall c h k call (w.host h) → Lies c.slots call
+  by_mark b =
+      let m = b.memory in
+      let t = b.marking in
+      let running = running_at c w ms tied h m b.running in
+      let marks : IsMarkingIf c w h m m.marking = subst (IsDoing c w ms h m) b.rests running.doing in
+      let marking : IsMarkingSlot c w h m t = subst (IsMarkingIf c w h m) b.marks marks in
+      let s = marking_of c h m t.slot in
+      let a = on t.heard k in
+      let due = mark_due s (on t.heard) k call b.due in
+      let within = mark_within s a (fills (mark.with_mark (mark.own_block s a).says) (own_long s a running.below (marking.votes k))) due.kind in
+      subst (Lies c.slots) (sym due.call_is)
+      (vote_lies c.slots t.slot h (mark.call_by s a due.kind) marking.fits running.below within (mark_reads c.slots s a due.kind marking.fits))
+
+  pub lies : Lies c.slots call
+  lies = elim (busy c h k call (w.host h) next) [
+    | inl a ↦ by_attempt a
+    | inr others ↦ elim others [
+      | inl b ↦ by_beat b
+      | inr b ↦ by_mark b
+    ]
+  ]

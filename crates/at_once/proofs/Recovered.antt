@@ -1,0 +1,131 @@
+-- A recovery of a host misses nothing that any host had learned when it began.
+use Rattle.std.specs.Prelude.{map, slice_get}
+use Rattle.std.proofs.Common.{ℕ, zero, suc, ◌+◌, ◌<◌, ◌≤◌, ◌≡◌, Some, List, [], ◌∷◌, length, true, refl, sym, subst, ap, ◌∙◌, arith}
+use Rattle.disk.specs.Disk.{Call, Answer}
+use Rattle.lock_command.specs.declared.command.Command.{Command}
+use Rattle.lock_command.specs.Command.{spelling}
+use Rattle.slot_log.specs.Shape.{Shape}
+use Rattle.host.specs.declared.answer.HostAnswer.TheVariants.{Recovered}
+use Rattle.host.specs.Host.{said_of}
+use Rattle.host.specs.Kept.{Kept}
+use Rattle.world.specs.Entry.{Filled, Start, Stop, Submit, Recover, Look, Beat, Mark, Called, Torn, Crashed, Lost, is_of}
+use Rattle.world.specs.Chosen.{at, SaysAt, IsCallOf, IsRecovery}
+use Rattle.world.specs.Headline.{prefix_at}
+use Rattle.world_safety.specs.Tracks.{AreChosen}
+use Rattle.world_safety.proofs.Claims.Recovering.{misses_nothing}
+use Rattle.world_safety.proofs.Claims.Safety.{learned_true}
+use Rattle.world_safety.proofs.Runs.Tracks.{all_true}
+use Rattle.at_once.specs.AtOnce.{bare, IsRunOf}
+use Rattle.at_once.specs.Joined.{HasRecovered}
+
+-- PLACES
+
+record Maps {A B : Type 0} (f : A → B) (xs : List A) (k : ℕ) (y : B) : Type 0 where
+  item : A
+  here : slice_get xs k ≡ Some item
+  is : f item ≡ y
+
+module _ {A B : Type 0} (f : A → B) where
+  at_map : (xs : List A) (k : ℕ) (x : A) → slice_get xs k ≡ Some x → slice_get (map f xs) k ≡ Some (f x)
+  at_map [] k x is = absurd (cc)
+  at_map (y ∷ xs) zero x is = let same : y ≡ x = cc in ap (λ (a : A). Some (f a)) same
+  at_map (y ∷ xs) (suc k) x is = at_map xs k x is
+
+  of_map : (xs : List A) (k : ℕ) (y : B) → slice_get (map f xs) k ≡ Some y → Maps f xs k y
+  of_map [] k y is = absurd (cc)
+  of_map (x ∷ xs) zero y is = record { item = x; here = refl; is = let same : f x ≡ y = cc in same }
+  of_map (x ∷ xs) (suc k) y is = let rest = of_map xs k y is in record { item = rest.item; here = rest.here; is = rest.is }
+
+record HasItem {A : Type 0} (l : List A) (k : ℕ) : Type 0 where
+  item : A
+  is : slice_get l k ≡ Some item
+
+last_item : {A : Type 0} (x : A) (xs : List A) → HasItem (x ∷ xs) (length xs)
+last_item x [] = record { item = x; is = refl }
+last_item x (y ∷ xs) = let rest = last_item y xs in record { item = rest.item; is = rest.is }
+
+all_below : {A : Type 0} (l : List A) (n : ℕ) → ((k : ℕ) (x : A) → slice_get l k ≡ Some x → k < n) → length l ≤ n
+all_below [] n below = omega arith
+all_below (x ∷ xs) n below = let last = last_item x xs in omega (arith, below (length xs) last.item last.is)
+
+-- WITHOUT THE BYTES LEFT
+
+bare_of : (h : ℕ) (x : Filled) → is_of h (bare x) ≡ is_of h x
+bare_of h (Start g) = refl
+bare_of h (Stop g) = refl
+bare_of h (Submit g command tries) = refl
+bare_of h (Recover g tries) = refl
+bare_of h (Look g) = refl
+bare_of h (Beat g) = refl
+bare_of h (Mark g slot) = refl
+bare_of h (Called g k call answer left) = refl
+bare_of h (Torn g k call left) = refl
+bare_of h (Crashed k left) = refl
+bare_of h (Lost k) = refl
+
+bare_recover : (x : Filled) (h tries : ℕ) → bare x ≡ Recover h tries → x ≡ Recover h tries
+bare_recover (Start g) h tries is = absurd (cc)
+bare_recover (Stop g) h tries is = absurd (cc)
+bare_recover (Submit g command more) h tries is = absurd (cc)
+bare_recover (Recover g more) h tries is = is
+bare_recover (Look g) h tries is = absurd (cc)
+bare_recover (Beat g) h tries is = absurd (cc)
+bare_recover (Mark g slot) h tries is = absurd (cc)
+bare_recover (Called g k call answer left) h tries is = absurd (cc)
+bare_recover (Torn g k call left) h tries is = absurd (cc)
+bare_recover (Crashed k left) h tries is = absurd (cc)
+bare_recover (Lost k) h tries is = absurd (cc)
+
+bare_called : (x : Filled) (h d : ℕ) (call : Call) (answer : Answer) → bare x ≡ Called h d call answer [] → IsCallOf h x
+bare_called (Start g) h d call answer is = absurd (cc)
+bare_called (Stop g) h d call answer is = absurd (cc)
+bare_called (Submit g command more) h d call answer is = absurd (cc)
+bare_called (Recover g more) h d call answer is = absurd (cc)
+bare_called (Look g) h d call answer is = absurd (cc)
+bare_called (Beat g) h d call answer is = absurd (cc)
+bare_called (Mark g slot) h d call answer is = absurd (cc)
+bare_called (Called g k made told left) h d call answer is =
+    let same : g ≡ h = cc in
+    record { disk = k; call = made; answer = told; left = left; is = ap (λ (n : ℕ). Called n k made told left) same }
+bare_called (Torn g k made left) h d call answer is = absurd (cc)
+bare_called (Crashed k left) h d call answer is = absurd (cc)
+bare_called (Lost k) h d call answer is = absurd (cc)
+
+module _ (c : Shape) (log : List Filled) (of : IsRunOf c log) where
+  -- what stands in the run where this stands in the list
+  in_run : (k : ℕ) (e : Filled) → slice_get log k ≡ Some e → Maps bare of.run k (bare e)
+  in_run k e is = of_map bare of.run k (bare e) (ap (λ (l : List Filled). slice_get l k) of.same ∙ at_map bare log k e is)
+
+  in_log : (k : ℕ) (x : Filled) → slice_get of.run k ≡ Some x → Maps bare log k (bare x)
+  in_log k x is = of_map bare log k (bare x) (ap (λ (l : List Filled). slice_get l k) (sym of.same) ∙ at_map bare of.run k x is)
+
+  module _ (i j h n : ℕ) (kept : Kept) (r : HasRecovered c log i j h n kept) where
+    begins : slice_get of.run i ≡ Some (Recover h r.tries)
+    begins =
+        let first = in_run i (Recover h r.tries) r.begins in
+        first.here ∙ ap (λ (e : Filled). Some e) (bare_recover first.item h r.tries first.is)
+
+    calls : (k : ℕ) (x : Filled) → i < k → k ≤ j → slice_get of.run k ≡ Some x → is_of h x ≡ true → IsCallOf h x
+    calls k x after before here own =
+        let there = in_log k x here in
+        let call = r.calls k there.item after before there.here (sym (bare_of h there.item) ∙ ap (is_of h) there.is ∙ bare_of h x ∙ own) in
+        bare_called x h call.disk call.call call.answer (sym there.is ∙ ap bare call.is)
+
+    says : SaysAt c of.run j h (Recovered n)
+    says =
+        let there = in_run j r.entry r.last in
+        record {
+          entry = there.item;
+          is = there.here;
+          of_host = sym (bare_of h there.item) ∙ ap (is_of h) there.is ∙ bare_of h r.entry ∙ r.own;
+          says = ap said_of (of.hosts (j + 1) h ∙ r.come.knows) ∙ sym r.come.leads.said ∙ r.said;
+        }
+
+    recovery : IsRecovery c of.run i j h n
+    recovery = record { tries = r.tries; begins = begins; order = r.order; calls = calls; says = says }
+
+    pub holds : (g : ℕ) (other : Kept) → prefix_at c of.run i g ≡ other.prefix → length other.prefix ≤ n
+    holds g other same =
+        let chosen : AreChosen c of.run i (prefix_at c of.run i g) = learned_true c of.run of.is i ((at c of.run i).host g) g (all_true c of.run of.is i g) in
+        subst (λ (l : List Command). length l ≤ n) same
+        (all_below (prefix_at c of.run i g) n (λ k command found. let known = chosen k command found in misses_nothing c of.run of.is i j h n known.1.place k (spelling command) recovery known.1.before known.1.is))

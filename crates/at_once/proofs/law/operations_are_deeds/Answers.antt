@@ -1,0 +1,11 @@
+use Rattle.at_once.proofs.Deeds.{marks, operates, starts}
+use Rattle.at_once.proofs.law.operations_are_deeds.Goals as goal
+
+pub returns-clause-starts : goal.returns-clause-starts
+returns-clause-starts g c = starts
+
+pub returns-clause-operates : goal.returns-clause-operates
+returns-clause-operates g c = operates g.D.Disk.gives
+
+pub returns-clause-marks : goal.returns-clause-marks
+returns-clause-marks g c = marks g.D.Disk.gives

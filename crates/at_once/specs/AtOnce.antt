@@ -1,0 +1,85 @@
+-- Hosts over the same images, each of whose device calls is made at once: what each host does, what each image makes of what is done to
+-- it, and one order of it all. The bytes that an entry says a fault left are overlooked here.
+use Rattle.std.specs.Prelude.{◌≡◌, ◌<◌, ◌^◌, ℕ, false, IsTrue, List, [], ◌∷◌, map, take, Some}
+use Rattle.disk.specs.Disk.{DiskState, Step, Crashes, lost}
+use Rattle.torn_block.specs.declared.layout.TheConstants.{HOSTS}
+use Rattle.slot_log.specs.Shape.{Shape}
+use Rattle.host.specs.Host.{Host, Stopped, next_of, is_stopped, idles}
+use Rattle.world.specs.Entry.{Filled, Start, Stop, Submit, Recover, Look, Beat, Mark, Called, Torn, Crashed, Lost, on_disk, of_host, host_step, host_after}
+use Rattle.world.specs.World.{ReadsBack, Tears, opening_disk, IsRun}
+use Rattle.world.specs.Chosen.{at}
+use Rattle.world.specs.Headline.{HasOneLog}
+use Rattle.at_once.specs.Images.{HoldsNothing}
+
+-- WHAT A HOST DOES
+
+-- by what it knows alone, host h may do this
+abbrev pub MayDo : Shape → ℕ → Host → Filled → Type 0
+MayDo c h host (Start g) = (h < HOSTS) × IsTrue (is_stopped host)
+MayDo c h host (Stop g) = is_stopped host ≡ false
+MayDo c h host (Submit g command tries) = IsTrue (idles host) × ReadsBack command × (command.host ≡ h) × (0 < tries)
+MayDo c h host (Recover g tries) = IsTrue (idles host) × (0 < tries)
+MayDo c h host (Look g) = IsTrue (idles host)
+MayDo c h host (Beat g) = IsTrue (idles host)
+MayDo c h host (Mark g slot) = IsTrue (idles host) × (slot < c.slots)
+MayDo c h host (Called g k call answer left) = next_of c h host ≡ Some (k, call)
+MayDo c h host (Torn g k call left) = next_of c h host ≡ Some (k, call)
+MayDo c h host (Crashed k left) = ⊥
+MayDo c h host (Lost k) = ⊥
+
+-- one after the other
+abbrev pub Does : Shape → ℕ → Host → List Filled → Type 0
+Does c h host [] = Unit {0}
+Does c h host (e ∷ es) = MayDo c h host e × Does c h (host_step c h host e) es
+
+-- WHAT AN IMAGE MAKES OF IT
+
+-- disk k may go from old to new by this: a call that is answered so, a write within which the host stopped, a crash, or a loss
+abbrev pub Goes : Shape → ℕ → DiskState → Filled → DiskState → Type 0
+Goes c k old (Start h) new = ⊥
+Goes c k old (Stop h) new = ⊥
+Goes c k old (Submit h command tries) new = ⊥
+Goes c k old (Recover h tries) new = ⊥
+Goes c k old (Look h) new = ⊥
+Goes c k old (Beat h) new = ⊥
+Goes c k old (Mark h slot) new = ⊥
+Goes c k old (Called h d call answer left) new = Step old call answer new
+Goes c k old (Torn h d call left) new = Tears call old new
+Goes c k old (Crashed d left) new = (k < c.disks) × (old.gone ≡ false) × (old.boot < 2 ^ 62) × Crashes old new
+Goes c k old (Lost d) new = (k < c.disks) × (old.gone ≡ false) × (new ≡ lost old)
+
+-- one after the other, with some disk behind each
+abbrev pub Serves : Shape → ℕ → DiskState → List Filled → Type 0
+Serves c k old [] = Unit {0}
+Serves c k old (e ∷ es) = (new : DiskState) × Goes c k old e new × Serves c k new es
+
+-- AT ONCE
+
+-- In this order, each host did by itself what it may, and each image by itself served what was done to it. At first none held a block.
+pub record IsAtOnce (c : Shape) (images : ℕ → DiskState) (log : List Filled) : Type 0 where
+  pub hosts : (h : ℕ) → Does c h Stopped (of_host h log)
+  pub blank : (k : ℕ) → HoldsNothing c.slots (images k)
+  pub disks : (k : ℕ) → Serves c k (images k) (on_disk k log)
+
+-- without the bytes that a fault left
+abbrev pub bare : Filled → Filled
+bare (Called h k call answer left) = Called h k call answer []
+bare (Torn h k call left) = Torn h k call []
+bare (Crashed k left) = Crashed k []
+bare other = other
+
+-- With some bytes in the place of those that faults left it is a run of the world, at each place of which each host is what its own
+-- deeds before that make of it; and the run has one log, by which all goes that they acknowledge and recover.
+pub record IsRunOf (c : Shape) (log : List Filled) : Type 0 where
+  pub run : List Filled
+  pub same : map bare run ≡ map bare log
+  pub is : IsRun c run
+  pub hosts : (i h : ℕ) → (at c run i).host h ≡ host_after c h Stopped (of_host h (take i log))
+  pub one : HasOneLog c run
+
+abbrev pub AtOnceMakesARun : Type 0
+AtOnceMakesARun = (c : Shape) (images : ℕ → DiskState) (log : List Filled) → IsAtOnce c images log → IsRunOf c log
+
+-- nor is any run left out
+abbrev pub RunsAreAtOnce : Type 0
+RunsAreAtOnce = (c : Shape) (log : List Filled) → IsRun c log → IsAtOnce c (λ k. opening_disk c) log

@@ -1,0 +1,56 @@
+-- Operations and markings with the device calls that they made, as deeds of their host.
+use Rattle.std.specs.Prelude.{◌≡◌, ◌<◌, ℕ, true, List, [], ◌∷◌, ◌++◌, map, IsTrue}
+use Rattle.disk.specs.Disk.{Call, Answer}
+use Rattle.torn_block.specs.declared.layout.TheConstants.{HOSTS}
+use Rattle.slot_log.specs.Shape.{Shape}
+use Rattle.host.specs.Host.{Operation, Submitting, Recovering, Looking, Memory, Stopped, Running, fresh, is_idle, is_stopped}
+use Rattle.host.specs.Kept.{Kept, LeadsTo}
+use Rattle.world.specs.Entry.{Filled, Start, Submit, Recover, Look, Mark, Called, host_after}
+use Rattle.world.specs.World.{ReadsBack}
+use Rattle.dlm_images.specs.Operations.{Made, Standing, HasOperated, HasMarked}
+use Rattle.at_once.specs.AtOnce.{Does}
+
+-- DEEDS
+
+-- calls that host h made
+abbrev pub calls : ℕ → List Made → List Filled
+calls h made = map (λ x. Called h x.disk x.call x.answer []) made
+
+-- the entry with which an operation begins
+abbrev pub beginning : ℕ → Operation → ℕ → Filled
+beginning h (Submitting command) tries = Submit h command tries
+beginning h Recovering tries = Recover h tries
+beginning h Looking tries = Look h
+
+-- host h may begin it: it submits a command of its own, whose spelling reads as it; and a look has one try
+abbrev pub MayBegin : ℕ → Operation → ℕ → Type 0
+MayBegin h (Submitting command) tries = ReadsBack command × (command.host ≡ h) × (0 < tries)
+MayBegin h Recovering tries = 0 < tries
+MayBegin h Looking tries = tries ≡ 1
+
+-- WHAT A HOST HAS DONE
+
+-- These deeds of host h are what it may do, one after another; after them it is idle, and keeps what it then knows.
+pub record HasDone (c : Shape) (h : ℕ) (kept : Kept) (es : List Filled) : Type 0 where
+  pub does : Does c h Stopped es
+  pub memory : Memory
+  pub knows : host_after c h Stopped es ≡ Running memory
+  pub idle : is_idle memory ≡ true
+  pub leads : LeadsTo c h memory kept
+
+-- a stopped host has started, whatever it had done before
+abbrev pub Starts : Type 0
+Starts = (c : Shape) (h : ℕ) (kept : Kept) (es : List Filled) → h < HOSTS → Does c h Stopped es → IsTrue (is_stopped (host_after c h Stopped es)) →
+    LeadsTo c h fresh kept → HasDone c h kept (es ++ Start h ∷ [])
+
+-- an operation has ended, and its calls were made
+abbrev pub Operates : {D : Type 0} → (D → Call → Answer → D → Type 0) → Type 0
+Operates {D = D} gives = (c : Shape) (h : ℕ) (es : List Filled) (operation : Operation) (tries : ℕ) (old new : Standing D) →
+    HasDone c h old.core es → MayBegin h operation tries → (done : HasOperated gives operation tries old new) →
+    HasDone c h new.core (es ++ beginning h operation tries ∷ calls h done.made)
+
+-- a slot was marked, and its calls were made
+abbrev pub Marks : {D : Type 0} → (D → Call → Answer → D → Type 0) → Type 0
+Marks {D = D} gives = (c : Shape) (h : ℕ) (es : List Filled) (slot : ℕ) (old new : Standing D) →
+    HasDone c h old.core es → slot < c.slots → (done : HasMarked gives slot old new) →
+    HasDone c h new.core (es ++ Mark h slot ∷ calls h done.made)

@@ -1,0 +1,45 @@
+-- One log of what several hosts keep, each of which has done its own part of what was done at once.
+use Rattle.std.specs.Prelude.{◌≡◌, ◌+◌, ◌<◌, ◌≤◌, ℕ, true, List, length, take, slice_get, Some}
+use Rattle.lock_command.specs.declared.command.Command.{Command}
+use Rattle.lock_table.specs.declared.reply.Reply.{Reply}
+use Rattle.slot_log.specs.Shape.{Shape}
+use Rattle.host.specs.Host.{reply_after}
+use Rattle.host.specs.Kept.{Kept}
+use Rattle.host.specs.declared.answer.HostAnswer.TheVariants.{Recovered}
+use Rattle.world.specs.Entry.{Filled, Recover, of_host, is_of}
+use Rattle.world.specs.Chosen.{IsCallOf}
+use Rattle.world.specs.Headline.{IsPrefix}
+use Rattle.dlm_images.specs.Operations.{IsAcknowledged}
+use Rattle.at_once.specs.AtOnce.{IsRunOf}
+use Rattle.at_once.specs.Deeds.{HasDone}
+
+-- by place i of the list the host has come to keep this
+abbrev pub HasCome : Shape → List Filled → ℕ → ℕ → Kept → Type 0
+HasCome c log i h kept = HasDone c h kept (of_host h (take i log))
+
+-- A recovery of the host begins at entry i and ends with entry j, all of whose own entries in between are device calls. It says that it has
+-- learned n commands, and keeps this then.
+pub record HasRecovered (c : Shape) (log : List Filled) (i j h n : ℕ) (kept : Kept) : Type 0 where
+  pub tries : ℕ
+  pub begins : slice_get log i ≡ Some (Recover h tries)
+  pub order : i ≤ j
+  pub calls : (k : ℕ) (e : Filled) → i < k → k ≤ j → slice_get log k ≡ Some e → is_of h e ≡ true → IsCallOf h e
+  pub entry : Filled
+  pub last : slice_get log j ≡ Some entry
+  pub own : is_of h entry ≡ true
+  pub come : HasCome c log (j + 1) h kept
+  pub said : kept.said ≡ Some (Recovered n)
+
+-- Whatever hosts keep, at any place, goes by these commands.
+pub record IsJoined (c : Shape) (log : List Filled) (commands : List Command) : Type 0 where
+  -- what a host has learned begins them
+  pub learned : (i h : ℕ) (kept : Kept) → HasCome c log i h kept → IsPrefix kept.prefix commands
+  -- a command that was acknowledged stands at its slot, and its reply is the lock table's after the commands before it
+  pub acknowledged : (i h : ℕ) (kept : Kept) (command : Command) (slot : ℕ) (reply : Reply) → HasCome c log i h kept →
+      IsAcknowledged command slot reply kept.prefix → (slice_get commands slot ≡ Some command) × (reply ≡ reply_after (take slot commands) command)
+  -- a recovery has learned no fewer than any host had when it began
+  pub holds : (i j g h n : ℕ) (other kept : Kept) → HasCome c log i g other → HasRecovered c log i j h n kept → length other.prefix ≤ n
+
+-- So it is with the one log of what is done at once.
+abbrev pub DeedsAreJoined : Type 0
+DeedsAreJoined = (c : Shape) (log : List Filled) (of : IsRunOf c log) → IsJoined c log of.one.commands

@@ -1,0 +1,6 @@
+pub mod AtOnce
+pub mod Deeds
+pub mod Disks
+pub mod Images
+pub mod InTurn
+pub mod Joined

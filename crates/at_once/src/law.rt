@@ -1,0 +1,46 @@
+// What hosts over the same images make, each of whose device calls is made at once.
+ghost use Rattle.at_once.specs.AtOnce.{AtOnceMakesARun, RunsAreAtOnce};
+ghost use Rattle.at_once.specs.Deeds.{Marks, Operates, Starts};
+ghost use Rattle.at_once.specs.Disks.{EachGave, GivingServes, SimulatedSteps};
+ghost use Rattle.at_once.specs.Images.{LaidOutHoldsNothing};
+ghost use Rattle.at_once.specs.InTurn.{TurnsAgree};
+ghost use Rattle.at_once.specs.Joined.{DeedsAreJoined};
+
+use disk::Disk;
+
+/// Where each host does by itself what it may, and each image by itself serves what is done to it, all of it in one order is a run of
+/// the world. So it has one log, and what hosts acknowledge and recover goes by that.
+///
+/// An image has a header, and may be longer than its slots need.
+pub fn calls_made_at_once_make_a_run()
+    ensures makes { AtOnceMakesARun }
+    // And no run is left out.
+    ensures all { RunsAreAtOnce }
+    // An image that was laid out holds nothing at first.
+    ensures blank { LaidOutHoldsNothing }
+{}
+
+/// What a host does by its operations and markings over disks is what it may do; and what it keeps is what it then knows.
+pub fn operations_are_deeds<D: Disk>()
+    ensures starts { Starts }
+    ensures operates { Operates D.gives }
+    ensures marks { Marks D.gives }
+{}
+
+/// Each disk of a host by itself gave the answers to the calls on it. Where it made a step of the disk model with each, it has served
+/// them.
+pub fn disks_serve_alone<D: Disk>()
+    ensures each { EachGave D.gives }
+    ensures serves { GivingServes D.gives D.state }
+    ensures simulated { SimulatedSteps }
+{}
+
+/// What hosts have learned and acknowledged, each by its own operations, goes by the one log of what they did at once.
+pub fn deeds_join_one_log()
+    ensures { DeedsAreJoined }
+{}
+
+/// All of that, of two hosts that work in turn over the same simulated disks: no two commands are acknowledged at one slot.
+pub fn hosts_in_turn_agree()
+    ensures { TurnsAgree }
+{}
