@@ -97,6 +97,12 @@ fi
 tried "refused memory, built" "$cc" "${common[@]}" -Wl,--wrap=malloc,--wrap=calloc,--wrap=realloc "$here/tests/refused_memory.c" "$archive" -o "$work/refused_memory"
 tried "refused memory" "$work/refused_memory" "$(folder)"
 
+# A host stops before its mark.
+kit=$(dirname -- "$(dirname -- "$(readlink -f -- "$(command -v rt)")")")/c
+below=("$top/crates/dlm_c/out/libdlm_c.a" "$kit/libos_c.a" "$kit/liblibc_c.a")
+tried "unmarked, built" "$cc" "${common[@]}" -Wl,--wrap=dlm_c_mark "$here/tests/unmarked.c" "$here/src/midgegalena.c" "${below[@]}" -o "$work/unmarked"
+tried "unmarked" "$work/unmarked" "$(folder)"
+
 # The examples.
 tried "failover, built" "$cc" "${common[@]}" "$top/examples/c/failover.c" "${shared[@]}" -o "$work/failover"
 prints "failover" "$top/examples/c/failover.out" "$work/failover" "$(folder)"
@@ -148,9 +154,8 @@ if have valgrind; then
     tried "refused memory under valgrind" valgrind -q --leak-check=full --errors-for-leak-kinds=all --error-exitcode=9 "$work/refused_memory" "$(folder)"
 fi
 if echo 'int main(void) { return 0; }' | "$cc" -x c -fsanitize=address,undefined - -o "$work/sanitizer" 2> /dev/null; then
-    kit=$(dirname -- "$(dirname -- "$(readlink -f -- "$(command -v rt)")")")/c
     tried "sanitized, built" "$cc" "${common[@]}" -fsanitize=address,undefined -fno-sanitize-recover=all "$here/tests/calls.c" "$here/src/midgegalena.c" \
-        "$top/crates/dlm_c/out/libdlm_c.a" "$kit/libos_c.a" "$kit/liblibc_c.a" -o "$work/sanitized"
+        "${below[@]}" -o "$work/sanitized"
     tried "sanitized" "$work/sanitized" "$(folder)" "$(folder)"
 else
     left+=(sanitizers)

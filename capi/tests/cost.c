@@ -1,6 +1,6 @@
 /*
  * What the library costs beside the system calls that its host makes: looks that find nothing new, and commands with their marks, each timed
- * against the same reads, writes and syncs on files of the same size. Prints microseconds and ratios.
+ * against the same locks of the folder, and reads, writes and syncs of files of the same size. Prints the medians, in microseconds, and their ratios.
  *
  *   cost FOLDER ROUNDS      an empty folder, on a file system in memory or on a disk; at most 4000 rounds
  */
@@ -10,10 +10,13 @@
 #include <stdio.h>
 #include <stdlib.h>
 #include <string.h>
+#include <sys/file.h>
 #include <time.h>
 #include <unistd.h>
 
-enum { DISKS = 3, SLOTS = 4096, ROW = 1024, BLOCK = 63, IMAGE = 2048 + ROW * SLOTS };
+enum { DISKS = 3, SLOTS = 4096, ROW = 1024, BLOCK = 63, IMAGE = 2048 + ROW * SLOTS, MOST_ROUNDS = 4000 };
+
+static double by_library[MOST_ROUNDS], by_system[MOST_ROUNDS];
 
 static double now(void) {
     struct timespec at;
@@ -42,18 +45,31 @@ static void raw(const int *files, off_t at, int syncs, int writes, int reads) {
         }
 }
 
-static void tell(const char *what, double library, double system, long rounds) {
-    printf("%s: %.1f us, its system calls alone %.1f us, ratio %.2f\n", what, library / (double)rounds, system / (double)rounds, library / system);
+static int rising(const void *a, const void *b) {
+    double x = *(const double *)a, y = *(const double *)b;
+    return (x > y) - (x < y);
+}
+
+static double median(double *times, long rounds) {
+    qsort(times, (size_t)rounds, sizeof *times, rising);
+    return times[rounds / 2];
+}
+
+static void tell(const char *what, long rounds) {
+    double library = median(by_library, rounds), system = median(by_system, rounds);
+    printf("%s: %.1f us, its system calls alone %.1f us, ratio %.2f\n", what, library, system, library / system);
 }
 
 int main(int argc, char **argv) {
     struct mg_host *host;
-    int files[DISKS];
+    int files[DISKS], folder;
     char path[4096];
-    double start, library, system;
+    double start;
     long rounds;
-    if (argc != 3 || (rounds = atol(argv[2])) < 1 || rounds > 4000)
+    if (argc != 3 || (rounds = atol(argv[2])) < 1 || rounds > MOST_ROUNDS)
         return 2;
+    folder = open(argv[1], O_RDONLY);
+    must(folder >= 0);
     for (int disk = 0; disk < DISKS; disk++) {
         static const char zeros[ROW];
         snprintf(path, sizeof path, "%s/raw%d", argv[1], disk);
@@ -66,30 +82,33 @@ int main(int argc, char **argv) {
     if (mg_format(argv[1], DISKS, SLOTS, 7, NULL) != MG_OK || mg_open(argv[1], 0, &host, NULL) != MG_OK)
         return 1;
 
-    /* An attempt: 7 syncs, 4 writes and 3 reads a disk. A mark: 4, 3 and 1. */
-    start = now();
-    for (long i = 0; i < rounds; i++)
+    /* The two in turn, so that what else the machine does comes upon both. An attempt: 7 syncs, 4 writes and 3 reads a disk. A mark: 4, 3 and 1. */
+    for (long i = 0; i < rounds; i++) {
+        start = now();
         if (mg_status(host, 1, (uint64_t)i + 1, 1, NULL) != MG_NO_SUCH_LOCK)
             return 1;
-    library = now() - start;
-    start = now();
-    for (long i = 0; i < rounds; i++) {
+        by_library[i] = now() - start;
+        start = now();
+        must(flock(folder, LOCK_EX) == 0);
         raw(files, 2048 + ROW * i, 7, 4, 3);
         raw(files, 2048 + ROW * i, 4, 3, 1);
+        must(flock(folder, LOCK_UN) == 0);
+        by_system[i] = now() - start;
     }
-    system = now() - start;
-    tell("a command with its mark", library, system, rounds);
+    tell("a command with its mark", rounds);
 
-    start = now();
-    for (long i = 0; i < rounds; i++)
+    for (long i = 0; i < rounds; i++) {
+        start = now();
         if (mg_refresh(host, MG_LOOK, NULL) != MG_OK)
             return 1;
-    library = now() - start;
-    start = now();
-    for (long i = 0; i < rounds; i++)
+        by_library[i] = now() - start;
+        start = now();
+        must(flock(folder, LOCK_SH) == 0);
         raw(files, 2048 + ROW * rounds, 1, 0, 1);
-    system = now() - start;
-    tell("a look without news", library, system, rounds);
+        must(flock(folder, LOCK_UN) == 0);
+        by_system[i] = now() - start;
+    }
+    tell("a look without news", rounds);
     mg_close(host);
     return 0;
 }
