@@ -1,0 +1,3 @@
+mod NoneBelow
+mod Shown
+mod Values

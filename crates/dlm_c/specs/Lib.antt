@@ -1,0 +1,5 @@
+pub mod Held
+pub mod Numbers
+pub mod Requests
+pub mod Served
+pub mod Views
