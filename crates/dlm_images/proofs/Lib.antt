@@ -1,3 +1,4 @@
+pub mod Counting
 pub mod Driving
 pub mod Ending
 pub mod Images
