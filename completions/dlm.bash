@@ -6,20 +6,20 @@ _dlm() {
 
     COMPREPLY=()
     case $COMP_CWORD:$task in
-        1:*) words="run format submit table race" ;;
+        1:*) words="run format submit table mark race" ;;
         2:run)
             compopt -o filenames
             mapfile -t COMPREPLY < <(compgen -f -- "$word")
             return
             ;;
-        2:format | 2:submit | 2:table)
+        2:format | 2:submit | 2:table | 2:mark)
             compopt -o filenames
             mapfile -t COMPREPLY < <(compgen -d -- "$word")
             return
             ;;
         2:race) words="1 2 3 4 5 6 7 8" ;;
         3:format) words="1 2 3 4 5 6 7" ;;
-        3:submit | 3:table) words="0 1 2 3 4 5 6 7" ;;
+        3:submit | 3:table | 3:mark) words="0 1 2 3 4 5 6 7" ;;
         4:submit) words="enqueue convert release cancel status purge" ;;
         *:submit)
             case $COMP_CWORD:$command in

@@ -1,5 +1,6 @@
-//! The system calls of `dlm submit` and of a replay over image files, in plain code that decides nothing:
-//! `images submit DIR` and `images replay DIR SLOTS` make the calls, `images fill DIR SLOTS` puts commands into the first slots.
+//! The system calls of `dlm submit` and of `dlm table` over image files, in plain code that decides nothing:
+//! `images submit DIR` and `images table DIR SLOTS` make the calls, `images fill DIR SLOTS` puts commands into the first slots.
+//! With a last word `marked` the commands are marked, or read as such.
 
 use std::fs::{File, OpenOptions};
 use std::os::unix::fs::FileExt;
@@ -38,21 +39,48 @@ fn write_block(disk: &File, place: u64, copy: &[u8; 64], row: &mut [u8; ROW], ro
     disk.read_exact_at(row, row_at).unwrap();
 }
 
-/// An attempt of host 0 on a slot where its blocks are blank.
-fn attempt(disks: &[File], slot: u64, command: &[u8; 32], row: &mut [u8; ROW]) {
-    let row_at = 2048 + 1024 * slot;
+/// Where the row of a slot begins.
+fn row_of(slot: u64) -> u64 {
+    2048 + 1024 * slot
+}
+
+/// The opening of an attempt, in which the row is read.
+fn open_row(disks: &[File], slot: u64, row: &mut [u8; ROW]) {
     for disk in disks {
         disk.sync_data().unwrap();
-        disk.read_exact_at(row, row_at).unwrap();
+        disk.read_exact_at(row, row_of(slot)).unwrap();
     }
-    for (phase, place) in [(1u8, row_at), (2, row_at + 64)] {
+}
+
+/// An attempt of host 0 on a slot where its blocks are blank, of one phase, as on a slot with no command, or of two.
+fn attempt(disks: &[File], slot: u64, phases: u8, command: &[u8; 32], row: &mut [u8; ROW]) {
+    open_row(disks, slot, row);
+    for phase in 1..=phases {
         let copy = copy_of(phase, command);
         for disk in disks {
-            write_block(disk, place, &copy, row, row_at);
+            let place = row_of(slot) + 64 * u64::from(phase - 1);
+            write_block(disk, place, &copy, row, row_of(slot));
         }
     }
 }
 
+/// The marking of a slot whose block was written twice: its first copy is written again, from a gate that is open.
+fn mark(disks: &[File], slot: u64, command: &[u8; 32], row: &mut [u8; ROW]) {
+    let copy = marked(command);
+    let place = row_of(slot);
+    for disk in disks {
+        disk.sync_data().unwrap();
+        disk.read_exact_at(row, place).unwrap();
+        disk.write_all_at(&[0], place).unwrap();
+        disk.sync_data().unwrap();
+        disk.write_all_at(&copy[1..], place + 1).unwrap();
+        disk.sync_data().unwrap();
+        disk.write_all_at(&copy[..1], place).unwrap();
+        disk.sync_data().unwrap();
+    }
+}
+
+/// A copy as the first phase leaves it, or the second.
 fn copy_of(phase: u8, command: &[u8; 32]) -> [u8; 64] {
     let mut copy = [0; 64];
     copy[0] = 0xa5;
@@ -67,6 +95,14 @@ fn copy_of(phase: u8, command: &[u8; 32]) -> [u8; 64] {
     copy
 }
 
+/// A copy as a marking leaves it.
+fn marked(command: &[u8; 32]) -> [u8; 64] {
+    let mut copy = copy_of(2, command);
+    copy[3] = 1;
+    copy[15] = 3;
+    copy
+}
+
 /// Client 1's next request: the status of lock 1.
 fn command(slot: u64) -> [u8; 32] {
     let mut command = [0; 32];
@@ -75,32 +111,44 @@ fn command(slot: u64) -> [u8; 32] {
     command
 }
 
+/// Puts commands into the first slots of an image, as attempts leave them there, or markings.
+fn fill(file: &File, slots: u64, with_marks: bool) {
+    for slot in 0..slots {
+        let command = command(slot);
+        let first = if with_marks { marked(&command) } else { copy_of(1, &command) };
+        file.write_all_at(&first, row_of(slot)).unwrap();
+        file.write_all_at(&copy_of(2, &command), row_of(slot) + 64).unwrap();
+    }
+}
+
 fn main() {
     let words: Vec<String> = std::env::args().skip(1).collect();
     let dir = words[1].as_str();
     let slots: u64 = words.get(2).map_or(1, |word| word.parse().unwrap());
+    let with_marks = words.get(3).is_some_and(|word| word == "marked");
     let mut row = [0; ROW];
     match words[0].as_str() {
         "fill" => {
             for disk in 0..3 {
-                let file = open(dir, disk);
-                for slot in 0..slots {
-                    for phase in [1, 2] {
-                        let place = 2048 + 1024 * slot + 64 * u64::from(phase - 1);
-                        file.write_all_at(&copy_of(phase, &command(slot)), place).unwrap();
-                    }
-                }
+                fill(&open(dir, disk), slots, with_marks);
             }
         }
         "submit" => {
-            attempt(&open_all(dir), 0, &command(0), &mut row);
+            let disks = open_all(dir);
+            attempt(&disks, 0, 2, &command(0), &mut row);
             println!("ack 0 12 NoSuchLock");
+            mark(&disks, 0, &command(0), &mut row);
         }
         _ => {
             let disks = open_all(dir);
             for slot in 0..slots {
-                attempt(&disks, slot, &command(slot), &mut row);
+                if with_marks {
+                    open_row(&disks, slot, &mut row);
+                } else {
+                    attempt(&disks, slot, 2, &command(slot), &mut row);
+                }
             }
+            attempt(&disks, slots, 1, &[0; 32], &mut row);
             println!("recovered {slots}");
         }
     }

@@ -4,7 +4,7 @@ use crate::failure::Failure;
 use crate::fault::Fault;
 use crate::reply_text::ReplyText;
 use disk::FileDisk;
-use dlm_images::{Acknowledgement, DiskHost, format_folder, open_folder};
+use dlm_images::{Acknowledgement, DiskHost, MarkedLog, format_folder, open_folder};
 use host::Config;
 use inspect::queues;
 use lock_command::{Command, HostNumber};
@@ -76,6 +76,26 @@ where
     }
 }
 
+/// Learns the log from the images of a folder, marks each slot that no mark told, and prints how much the log is, and how many
+/// slots got their mark now.
+pub fn mark<R: Files + AllocGlobal, O: Write>(
+    rt: &R,
+    folder: &str,
+    host: HostNumber,
+    out: &mut O,
+) -> Result<(), Failure>
+where
+    R::File: FileExt + OpenFile + Drop,
+{
+    let mut host = host_over(rt, folder, host)?;
+    // What marks tell need not be marked again. Where the look is refused, the recovery tells why.
+    let _ = host.look();
+    match host.recover_and_mark(TRIES) {
+        Ok(log) => print_marked(log, out),
+        Err(refusal) => Err(Failure::from(Fault::from(refusal))),
+    }
+}
+
 /// A host over the disks of a folder, which has learned nothing yet.
 fn host_over<R: Files + AllocGlobal>(
     rt: &R,
@@ -94,6 +114,15 @@ fn print_ack<O: Write>(done: Acknowledgement, out: &mut O) -> Result<(), Failure
     let slot = done.slot;
     let reply = ReplyText(done.reply);
     writeln!(out, "ack {slot} {reply}")?;
+    out.flush()?;
+    Ok(())
+}
+
+fn print_marked<O: Write>(log: MarkedLog, out: &mut O) -> Result<(), Failure> {
+    let length = log.length;
+    let marked = log.marked;
+    writeln!(out, "recovered {length}")?;
+    writeln!(out, "marked {marked} slots")?;
     out.flush()?;
     Ok(())
 }

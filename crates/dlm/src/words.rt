@@ -32,6 +32,11 @@ pub enum Task<'a> {
         folder: &'a str,
         host: HostNumber,
     },
+    /// Mark the slots of the log that no mark tells, through this host, over the images of this folder.
+    Mark {
+        folder: &'a str,
+        host: HostNumber,
+    },
     /// Race the hosts up to this one.
     Race {
         last: HostNumber,
@@ -84,6 +89,7 @@ pub fn task_of<'a>(alloc: Global, words: &'a [&'a str]) -> Result<Task<'a>, Word
         Some(("format", format)) => format_task(format),
         Some(("submit", submit)) => submit_task(alloc, submit),
         Some(("table", table)) => table_task(table),
+        Some(("mark", mark)) => mark_task(mark),
         Some(("race", race)) => race_task(race),
         _ => Err(WordsFault::Usage),
     }
@@ -108,6 +114,7 @@ fn program<'a>(alloc: Global) -> Result<clap::Command<'a>, AllocError> {
         .subcommand(format_command(alloc)?)?
         .subcommand(submit_command(alloc)?)?
         .subcommand(table_command(alloc)?)?
+        .subcommand(mark_command(alloc)?)?
         .subcommand(race_command(alloc)?)
 }
 
@@ -149,6 +156,13 @@ fn table_command<'a>(alloc: Global) -> Result<clap::Command<'a>, AllocError> {
         .arg(word(alloc, "host"))
 }
 
+fn mark_command<'a>(alloc: Global) -> Result<clap::Command<'a>, AllocError> {
+    clap::Command::new(alloc, "mark")
+        .disable_help_flag(true)
+        .arg(word(alloc, "folder"))?
+        .arg(word(alloc, "host"))
+}
+
 fn race_command<'a>(alloc: Global) -> Result<clap::Command<'a>, AllocError> {
     clap::Command::new(alloc, "race")
         .disable_help_flag(true)
@@ -184,6 +198,12 @@ fn table_task<'a>(table: &ArgMatches<'a>) -> Result<Task<'a>, WordsFault> {
     let folder = given(table, "folder")?;
     let host = host_of(given(table, "host")?)?;
     Ok(Task::Table { folder, host })
+}
+
+fn mark_task<'a>(mark: &ArgMatches<'a>) -> Result<Task<'a>, WordsFault> {
+    let folder = given(mark, "folder")?;
+    let host = host_of(given(mark, "host")?)?;
+    Ok(Task::Mark { folder, host })
 }
 
 fn race_task<'a>(race: &ArgMatches<'a>) -> Result<Task<'a>, WordsFault> {

@@ -307,12 +307,12 @@ pub idle_memory : (c : Shape) (h : ℕ) (m : Memory) (k : Kept) → LeadsTo c h 
 idle_memory c h m k leads idle = none_doing m m.doing (sym (idle_is c h m k leads) ∙ idle)
 
 -- and no beat
-idle_rests : (c : Shape) (h : ℕ) (m : Memory) (k : Kept) → LeadsTo c h m k → is_idle k ≡ true → m.beats.heard ≡ None
+pub idle_rests : (c : Shape) (h : ℕ) (m : Memory) (k : Kept) → LeadsTo c h m k → is_idle k ≡ true → m.beats.heard ≡ None
 idle_rests c h m k leads idle =
     none_beating m.beats.heard m.marking (subst (λ (o : Option Doing). is_idle_in m o ≡ true) (idle_memory c h m k leads idle) (sym (idle_is c h m k leads) ∙ idle))
 
 -- and no marking
-idle_unmarked : (c : Shape) (h : ℕ) (m : Memory) (k : Kept) → LeadsTo c h m k → is_idle k ≡ true → m.marking ≡ None
+pub idle_unmarked : (c : Shape) (h : ℕ) (m : Memory) (k : Kept) → LeadsTo c h m k → is_idle k ≡ true → m.marking ≡ None
 idle_unmarked c h m k leads idle =
     none_marking m.beats.heard m.marking (subst (λ (o : Option Doing). is_idle_in m o ≡ true) (idle_memory c h m k leads idle) (sym (idle_is c h m k leads) ∙ idle))
 

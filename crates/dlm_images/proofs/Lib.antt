@@ -1,3 +1,4 @@
+pub mod Counting
 pub mod Damage
 pub mod Driving
 pub mod Ending

@@ -1,4 +1,4 @@
-ghost use Rattle.std.specs.Prelude.{◌≡◌, ◌≤◌, ℕ, Some, IfOk, IfErr, length, slice_get};
+ghost use Rattle.std.specs.Prelude.{◌≡◌, ◌≤◌, ◌+◌, ◌-◌, ◌*◌, ℕ, Some, IfOk, IfErr, length, slice_get};
 ghost use Rattle.paxos_block.specs.Places.{image_length};
 ghost use Rattle.lock_command.specs.Command.{spelling};
 ghost use Rattle.lock_command.specs.Reading.{decoded};
@@ -47,6 +47,7 @@ impl<D: Disk> Model for DiskHost<D> {
       idle : is_idle h.core ≡ true;
       small : IsSmall h.core.learner.shape;
       as_many : length h.disks.items ≡ h.core.learner.shape.disks;
+      room : length h.core.prefix ≤ h.core.learner.shape.slots;
       large : (k : ℕ) (d : D) → slice_get h.disks.items k ≡ Some d → image_length h.core.learner.shape.slots ≤ (D.device d).size;
     } };
 }
@@ -84,6 +85,13 @@ impl<D: Disk> DiskHost<D> {
         self.core.prefix()
     }
 
+    /// How many commands are learned.
+    pub fn learned(&self) -> u16
+        ensures { result ≡ length self.now.core.prefix }
+    {
+        self.core.prefix().len() as u16
+    }
+
     /// The lock table after these commands.
     pub fn table(&self) -> &Table
         ensures { IsPictureOf result.now (table_after self.now.core.prefix) }
@@ -113,6 +121,7 @@ impl<D: Disk> DiskHost<D> {
     pub fn mark(&mut self, slot: u16) -> Result<u8, Refusal>
         ensures marked { HasMarked D.gives slot self.old self.new }
         ensures kept { self.new.core.prefix ≡ self.old.core.prefix }
+        ensures calls { (done : HasMarked D.gives slot self.old self.new) → length done.made ≤ 9 * length self.old.disks }
         ensures counted { IfOk result (λ count. self.new.core.said ≡ Some (HostAnswer.Marked count)) }
         ensures refused { IfErr result (λ refusal. self.new.core.said ≡ Some (HostAnswer.Refused refusal)) }
     {
@@ -126,6 +135,10 @@ impl<D: Disk> DiskHost<D> {
     pub fn recover(&mut self, tries: u8) -> Result<u16, Refusal>
         requires { 1 ≤ tries }
         ensures operated { HasOperated D.gives Recovering tries self.old self.new }
+        ensures keeps { length self.old.core.prefix ≤ length self.new.core.prefix }
+        ensures calls { let learned = length self.new.core.prefix - length self.old.core.prefix in
+            (done : HasOperated D.gives Recovering tries self.old self.new) →
+            length done.made ≤ 17 * length self.old.disks * (learned + tries) }
         ensures learned { IfOk result (λ count. count ≡ length self.new.core.prefix) }
         ensures refused { IfErr result (λ refusal. self.new.core.said ≡ Some (HostAnswer.Refused refusal)) }
     {

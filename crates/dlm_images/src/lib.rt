@@ -9,6 +9,7 @@ mod folder;
 mod format;
 mod image;
 mod operation;
+mod recover_and_mark;
 mod set;
 
 pub use check::{Blocks, CheckFault, Finding, check_folder, print_damage};
@@ -18,4 +19,5 @@ pub use fault::FolderFault;
 pub use folder::{Folder, open_folder, open_folder_to_read};
 pub use format::{format_folder, lay_out};
 pub use operation::drive;
+pub use recover_and_mark::MarkedLog;
 pub use set::{ImageSet, SetFault, set_of};

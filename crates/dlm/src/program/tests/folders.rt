@@ -298,6 +298,51 @@ fn headers_that_disagree(rt: HostRuntime) -> Result<(), Fail> {
     Ok(())
 }
 
+/// The mark of host 0's block of slot 0 is taken away on each disk, as if its process had died before it.
+const UNMARKED: [Step; 3] = [
+    Byte("dlm_folder_f/disk0.img", 2051, 0),
+    Byte("dlm_folder_f/disk1.img", 2051, 0),
+    Byte("dlm_folder_f/disk2.img", 2051, 0),
+];
+
+#[test]
+fn slots_that_have_no_mark(rt: HostRuntime) -> Result<(), Fail> {
+    new_folder(&rt, "dlm_folder_f")?;
+    let steps = [
+        Gives(
+            "format dlm_folder_f 3 16 7",
+            0,
+            "formatted 3 disks, 16 slots\n",
+        ),
+        Gives("mark dlm_folder_f 1", 0, "recovered 0\nmarked 0 slots\n"),
+        Gives(
+            "submit dlm_folder_f 0 enqueue 1 1 1 EX db",
+            0,
+            "ack 0 Granted\n",
+        ),
+        Gives(
+            "submit dlm_folder_f 0 release 1 2 1",
+            0,
+            "ack 1 Released\n",
+        ),
+        Gives("mark dlm_folder_f 1", 0, "recovered 2\nmarked 0 slots\n"),
+    ];
+    follow(&rt, &steps)?;
+    follow(&rt, &UNMARKED)?;
+    // Slot 0 alone has lost its mark; slot 1 after it is recovered as well, and is not told by a mark of host 1.
+    let marked = [
+        Gives("mark dlm_folder_f 1", 0, "recovered 2\nmarked 1 slots\n"),
+        Gives("mark dlm_folder_f 2", 0, "recovered 2\nmarked 0 slots\n"),
+        Gives("table dlm_folder_f 3", 0, "recovered 2\nempty\n"),
+        Remove("dlm_folder_f/disk0.img"),
+        Remove("dlm_folder_f/disk1.img"),
+        Gives("mark dlm_folder_f 2", 1, "dlm: 7 NoMajority\n"),
+    ];
+    follow(&rt, &marked)?;
+    fs::remove_dir_all(&rt, "dlm_folder_f")?;
+    Ok(())
+}
+
 #[test]
 fn words_that_are_no_task_of_a_folder(rt: HostRuntime) -> Result<(), Fail> {
     let steps = [
@@ -309,6 +354,7 @@ fn words_that_are_no_task_of_a_folder(rt: HostRuntime) -> Result<(), Fail> {
         Gives("format d 03 16 7", 2, "dlm: usage\n"),
         Gives("table d 8", 2, "dlm: usage\n"),
         Gives("table d 0 0", 2, "dlm: usage\n"),
+        Gives("mark d 8", 2, "dlm: usage\n"),
         Gives("submit d 8 release 1 1 1", 2, "dlm: usage\n"),
         Gives("submit no/such 0", 2, "dlm: bad command\n"),
         Gives("submit no/such 0 release 1 1", 2, "dlm: bad command\n"),

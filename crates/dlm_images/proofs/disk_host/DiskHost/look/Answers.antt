@@ -3,6 +3,7 @@ use Rattle.paxos_block.specs.Places.{image_length}
 use Rattle.slot_log.specs.Shape.{Shape}
 use Rattle.host.specs.Host.{Looking}
 use Rattle.dlm_images.specs.Operations.{IsSmall, Standing, HasOperated, AreReads}
+use Rattle.dlm_images.proofs.Counting.{bounded}
 use Rattle.dlm_images.proofs.Driving.{known_begun, begun_shape, known_operated, operated, operated_ends, looked_reads, written_back}
 use Rattle.dlm_images.proofs.disk_host.DiskHost.look.Goals as goal
 
@@ -47,6 +48,9 @@ invariant_of-self g c =
       small = subst IsSmall (sym same) c.self.invariant.small;
       as_many =
           ap length kept ∙ c.drive.auto.disks ∙ ap length c.deref_mut.ensures.value ∙ c.self.invariant.as_many ∙ ap (λ (s : Shape). s.disks) (sym same);
+      room =
+          subst (λ (s : Shape). length c.drive.new.host.prefix ≤ s.slots) (sym same)
+          (bounded g.D.Disk.gives Looking 1 (record { core = c.self.inside.core; disks = c.deref_mut.result.now }) (record { core = c.drive.new.host; disks = c.drive.new.disks }) (omega arith) c.self.invariant.known c.self.invariant.idle c.self.invariant.room done).room;
       large =
           subst (λ (ds : List g.row.D.Denot). (k : ℕ) (d : g.row.D.Denot) → slice_get ds k ≡ Some d → image_length c.drive.new.host.learner.shape.slots ≤ (g.D.Disk.device d).size) (sym kept)
           (subst (λ (s : Shape). (k : ℕ) (d : g.row.D.Denot) → slice_get c.drive.new.disks k ≡ Some d → image_length s.slots ≤ (g.D.Disk.device d).size) (sym c.drive.ensures.shape)

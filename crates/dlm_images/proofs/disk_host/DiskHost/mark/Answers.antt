@@ -1,7 +1,8 @@
-use Rattle.std.proofs.Common.{◌≡◌, ◌≤◌, ◌++◌, ℕ, List, Some, length, take, drop, slice_get, arith, sym, ◌∙◌, subst, ap}
+use Rattle.std.proofs.Common.{◌≡◌, ◌≤◌, ◌*◌, ◌++◌, ℕ, List, Some, length, take, drop, slice_get, arith, sym, ◌∙◌, subst, ap}
 use Rattle.paxos_block.specs.Places.{image_length}
 use Rattle.slot_log.specs.Shape.{Shape}
 use Rattle.dlm_images.specs.Operations.{IsSmall, Standing, HasMarked}
+use Rattle.dlm_images.proofs.Counting.{marked_calls}
 use Rattle.dlm_images.proofs.Driving.{known_marking, marking_shape, known_marked, marked, marked_prefix, marked_ends, written_back}
 use Rattle.dlm_images.proofs.disk_host.DiskHost.mark.Goals as goal
 
@@ -46,6 +47,9 @@ invariant_of-self g c =
       small = subst IsSmall (sym same) c.self.invariant.small;
       as_many =
           ap length kept ∙ c.drive.auto.disks ∙ ap length c.deref_mut.ensures.value ∙ c.self.invariant.as_many ∙ ap (λ (s : Shape). s.disks) (sym same);
+      room =
+          let learned : length c.drive.new.host.prefix ≡ length c.self.inside.core.prefix = ap length (marked_prefix g.D.Disk.gives c.args.slot (record { core = c.self.inside.core; disks = c.deref_mut.result.now }) (record { core = c.drive.new.host; disks = c.drive.new.disks }) c.self.invariant.known done) in
+          subst (λ (s : Shape). length c.drive.new.host.prefix ≤ s.slots) (sym same) (omega (arith, learned, c.self.invariant.room));
       large =
           subst (λ (ds : List g.row.D.Denot). (k : ℕ) (d : g.row.D.Denot) → slice_get ds k ≡ Some d → image_length c.drive.new.host.learner.shape.slots ≤ (g.D.Disk.device d).size) (sym kept)
           (subst (λ (s : Shape). (k : ℕ) (d : g.row.D.Denot) → slice_get c.drive.new.disks k ≡ Some d → image_length s.slots ≤ (g.D.Disk.device d).size) (sym c.drive.ensures.shape)
@@ -67,3 +71,9 @@ returns-clause-kept g c =
     marked_prefix g.D.Disk.gives c.args.slot (record { core = c.self.inside.core; disks = c.deref_mut.result.now }) (record { core = c.drive.new.host; disks = c.drive.new.disks }) c.self.invariant.known
     (marked g.D.Disk.gives c.args.slot (record { core = c.self.inside.core; disks = c.deref_mut.result.now }) c.mark.new.self c.self.invariant.known c.mark.ensures (record { core = c.drive.new.host; disks = c.drive.new.disks }) c.drive.ensures.heard c.drive.ensures.ended)
     ∙ ap (λ (s : Standing g.row.D.Denot). s.core.prefix) c.self.view_is
+
+pub returns-clause-calls : goal.returns-clause-calls
+returns-clause-calls g c =
+    let new : Standing g.row.D.Denot = record { core = c.drive.new.host; disks = take c.self.inside.disks.len (c.drive.new.disks ++ drop (length c.drive.new.disks) c.self.inside.disks.items) } in
+    subst (λ (s : Standing g.row.D.Denot). (done : HasMarked g.D.Disk.gives c.args.slot s new) → length done.made ≤ 9 * length s.disks) c.self.view_is
+    (λ done. marked_calls g.D.Disk.gives c.args.slot _ new c.self.invariant.known c.self.invariant.idle c.self.invariant.as_many done)

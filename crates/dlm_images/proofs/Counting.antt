@@ -1,0 +1,386 @@
+-- How many calls an operation and a marking make, and that what was learned stays and has room.
+use Rattle.std.specs.Prelude.{is_some}
+use Rattle.std.proofs.Common.{◌≡◌, ◌<◌, ◌≤◌, ◌+◌, ◌-◌, ◌*◌, ℕ, zero, suc, Bool, true, false, List, [], ◌∷◌, ◌++◌, length, nat_lt, nat_le, Option, Some, None, refl, sym, ◌∙◌, ap, subst, arith, if◌then◌else◌, slice_get, slice_set}
+use Rattle.std.proofs.Math.Nat.{mul-add, mul_assoc, mul_comm}
+use Rattle.std.proofs.lemmas.Bool.{ltb-true, leb-false}
+use Rattle.std.proofs.lemmas.List.{length-append, length-set}
+use Rattle.attempt.specs.Answers.{Answered, on, heard_as}
+use Rattle.beats.specs.Answers.{Answered as Beaten}
+use Rattle.attempt.specs.History.{Fits, IsAnswerTo, IsHistory}
+use Rattle.attempt.specs.Setup.{Setup}
+use Rattle.attempt.specs.NextCall.{next_call}
+use Rattle.attempt.specs.Status as attempt
+use Rattle.attempt.specs.Status.{Status, Due, Ended, status, taken}
+use Rattle.attempt.proofs.Ends as ends
+use Rattle.attempt.proofs.Hearing.{history_more}
+use Rattle.disk.specs.Disk as device
+use Rattle.lock_command.specs.declared.command.Command.{Command}
+use Rattle.lock_command.specs.Reading.{decoded}
+use Rattle.marks.specs.History as marking
+use Rattle.marks.specs.Status as mark
+use Rattle.marks.proofs.Histories as markings
+use Rattle.slot_log.specs.Shape.{Shape}
+use Rattle.slot_log.specs.declared.outcome.Refusal.TheVariants as refusal
+use Rattle.host.specs.declared.answer.HostAnswer.TheVariants.{Refused}
+use Rattle.host.specs.Host.{Operation, Recovering, Doing, Memory, Beats, Marking, hears, hears_from, hears_beside, hears_marking, marking_by, marking_with, marking_of, with_marking, starts_marking, goes_on, begins, by_status, takes, after_learning, is_submitted, learns, says, full_answer, with_heard, with_floor, tries_again, setup_of, next_doing, next_in, next_beside, next_marking}
+use Rattle.host.specs.Kept.{Kept, LeadsTo, is_idle}
+use Rattle.host.proofs.Hosts.{beats_heard, beats-goes_on, learned-goes_on, marking_heard, marking-goes_on}
+use Rattle.dlm_images.specs.Operations.{IsKnown, Made, GaveOne, Gave, after_call, after_made, IsDue, AreDue, Standing, HasOperated, HasMarked}
+use Rattle.dlm_images.specs.Marking.{HasMarkedFrom, RecoversAndMarks, calls_of, leaves_a_mark}
+use Rattle.dlm_images.proofs.Driving.{answered, idle_memory, idle_rests, idle_unmarked}
+
+-- A call that is due is one of an attempt or a marking: where none is under way, none is made.
+none_due : (c : Shape) (h : ℕ) (m : Memory) → m.doing ≡ None → m.beats.heard ≡ None → m.marking ≡ None → next_in c h m ≡ None
+none_due c h m doing rest unmarked = ap (next_doing c h m) doing ∙ ap (next_beside c h m) rest ∙ ap (next_marking c h m) unmarked
+
+none_made : (c : Shape) (h : ℕ) (m : Memory) (xs : List Made) → m.doing ≡ None → m.beats.heard ≡ None → m.marking ≡ None → AreDue c h m xs → xs ≡ []
+none_made c h m [] doing rest unmarked due = refl
+none_made c h m (x ∷ xs) doing rest unmarked due = absurd (let next : None ≡ Some (x.disk, x.call) = sym (none_due c h m doing rest unmarked) ∙ due.0.next in cc)
+
+-- AN OPERATION
+
+-- how many calls it may still make without learning a slot, where an attempt makes so many
+abbrev budget : ℕ → Option Doing → ℕ
+budget most None = 0
+budget most (Some t) = most * t.tries - length t.heard
+
+-- a host that had learned so much, and had so many calls to make, has made one of them, or has learned one slot more
+record Spends (most slots had learned : ℕ) (m : Memory) : Type 0 where
+  few : budget most m.doing + 1 + most * learned ≤ had + most * length m.learned
+  grows : learned ≤ length m.learned
+  room : length m.learned ≤ slots
+
+-- an attempt's answers are a history of it; it has a try, and its slot is one of the log's
+record IsAttempt (c : Shape) (h : ℕ) (m : Memory) (t : Doing) : Type 0 where
+  history : IsHistory (setup_of c h m t.operation) t.heard
+  tries : 1 ≤ t.tries
+  slot : length m.learned < c.slots
+
+abbrev IsGoingIn : Shape → ℕ → Memory → Option Doing → Type 0
+IsGoingIn c h m None = Unit {0}
+IsGoingIn c h m (Some t) = IsAttempt c h m t
+
+by_test : (P : Memory → Type 0) (b : Bool) (m n : Memory) → (b ≡ true → P m) → (b ≡ false → P n) → P (if b then m else n)
+by_test P true m n p q = p refl
+by_test P false m n p q = q refl
+
+-- WHAT AN ANSWER COSTS
+
+module _ (most slots had : ℕ) where
+  goes_on_spends : (c : Shape) (m : Memory) (o : Operation) (tries learned : ℕ) → length m.learned ≡ learned + 1 → learned < slots → most * tries + 1 ≤ had + most → 1 ≤ had + most → Spends most slots had learned (goes_on c m o tries)
+  goes_on_spends c m o tries learned one slot room some =
+      let longer : most * length m.learned ≡ most * learned + most = ap (λ (n : ℕ). most * n) one ∙ omega arith in
+      by_test (Spends most slots had learned) (nat_lt (length m.learned) c.slots) (begins m o tries) (says m (full_answer o (length m.learned)))
+      (λ is. record { few = omega (arith, longer, room); grows = omega (arith, one); room = omega (arith, one, slot) })
+      (λ is. record { few = omega (arith, longer, some); grows = omega (arith, one); room = omega (arith, one, slot) })
+
+  learning_spends : (c : Shape) (m : Memory) (t : Doing) (command : Command) (b : Bool) → length m.learned < slots → most * t.tries + 1 ≤ had + most → 1 ≤ had + most → Spends most slots had (length m.learned) (after_learning c m t command b)
+  learning_spends c m t command true slot room some =
+      let one : length (m.learned ++ command ∷ []) ≡ length m.learned + 1 = length-append m.learned (command ∷ []) in
+      let longer : most * length (m.learned ++ command ∷ []) ≡ most * length m.learned + most = ap (λ (n : ℕ). most * n) one ∙ omega arith in
+      record { few = omega (arith, longer, some); grows = omega (arith, one); room = omega (arith, one, slot) }
+  learning_spends c m t command false slot room some =
+      goes_on_spends c (learns m command) t.operation t.tries (length m.learned) (length-append m.learned (command ∷ [])) slot room some
+
+  takes_spends : (c : Shape) (m : Memory) (t : Doing) (ballot : ℕ) (value : List ℕ) (o : Option Command) → length m.learned < slots → most * t.tries + 1 ≤ had + most → 1 ≤ had → Spends most slots had (length m.learned) (takes c m t ballot value o)
+  takes_spends c m t ballot value None slot room some = record { few = omega (arith, some); grows = omega arith; room = omega (arith, slot) }
+  takes_spends c m t ballot value (Some command) slot room some = learning_spends c m t command (is_submitted t.operation value) slot room (omega (arith, some))
+
+  tries_spends : (m : Memory) (o : Operation) (tries : ℕ) → length m.learned < slots → 1 ≤ tries → most * tries + 1 ≤ had + most → 1 ≤ had → Spends most slots had (length m.learned) (tries_again m o tries)
+  tries_spends m o zero slot more room some = absurd (omega (arith, more))
+  tries_spends m o (suc tries) slot more room some =
+      let one_less : suc tries - 1 ≡ tries = omega arith in
+      let same : most * (suc tries - 1) ≡ most * tries = ap (λ (k : ℕ). most * k) one_less in
+      let less : most * (suc tries - 1) + most ≡ most * suc tries = omega (arith, same) in
+      by_test (Spends most slots had (length m.learned)) (nat_le (suc tries) 1) (says m (Refused refusal.Outrun)) (begins m o (suc tries - 1))
+      (λ is. record { few = omega (arith, some); grows = omega arith; room = omega (arith, slot) })
+      (λ is. record { few = omega (arith, less, room); grows = omega arith; room = omega (arith, slot) })
+
+  status_spends : (c : Shape) (m : Memory) (t : Doing) (ballot : ℕ) (s : Status) → length m.learned < slots → 1 ≤ t.tries → most * t.tries - length t.heard + 1 ≤ had → most * t.tries + 1 ≤ had + most → 1 ≤ had
+      → Spends most slots had (length m.learned) (by_status c m t ballot s)
+  status_spends c m t ballot (Due p d) slot tries due room some = record { few = omega (arith, due); grows = omega arith; room = omega (arith, slot) }
+  status_spends c m t ballot (Ended (attempt.Committed value)) slot tries due room some = takes_spends c m t ballot value (decoded value) slot room some
+  status_spends c m t ballot (Ended (attempt.Decided value)) slot tries due room some = takes_spends c m t ballot value (decoded value) slot room some
+  status_spends c m t ballot (Ended attempt.Empty) slot tries due room some = record { few = omega (arith, some); grows = omega arith; room = omega (arith, slot) }
+  status_spends c m t ballot (Ended (attempt.Outrun mbal)) slot tries due room some =
+      tries_spends (with_floor (with_floor m ballot) mbal) t.operation t.tries slot tries room some
+  status_spends c m t ballot (Ended attempt.NoMajority) slot tries due room some = record { few = omega (arith, some); grows = omega arith; room = omega (arith, slot) }
+  status_spends c m t ballot (Ended attempt.BallotsSpent) slot tries due room some = record { few = omega (arith, some); grows = omega arith; room = omega (arith, slot) }
+
+-- one try has so many calls at least
+one_try : (most tries : ℕ) → 1 ≤ tries → most ≤ most * tries
+one_try most zero more = absurd (omega (arith, more))
+one_try most (suc tries) more = omega arith
+
+answer_spends : (most : ℕ) (c : Shape) (h : ℕ) (m : Memory) (t : Doing) (x : Answered) → length m.learned < c.slots → 1 ≤ t.tries → length (t.heard ++ x ∷ []) ≤ most
+    → Spends most c.slots (most * t.tries - length t.heard) (length m.learned) (hears c h m (Some t) x)
+answer_spends most c h m t x slot tries few =
+    let one : length (t.heard ++ x ∷ []) ≡ length t.heard + 1 = length-append t.heard (x ∷ []) in
+    let enough : most ≤ most * t.tries = one_try most t.tries tries in
+    let had = most * t.tries - length t.heard in
+    status_spends most c.slots had c m (with_heard t x) _ _ slot tries
+    (omega (arith, one, few, enough)) (omega (arith, one, few, enough)) (omega (arith, one, few, enough))
+
+-- WHAT AN ANSWER LEAVES UNDER WAY
+
+module _ (c : Shape) (h : ℕ) where
+  abbrev IsGoing : Memory → Type 0
+  IsGoing m = IsGoingIn c h m m.doing
+
+  begun : (m : Memory) (o : Operation) (tries : ℕ) → 1 ≤ tries → IsGoing (goes_on c m o tries)
+  begun m o tries more =
+      by_test IsGoing (nat_lt (length m.learned) c.slots) (begins m o tries) (says m (full_answer o (length m.learned)))
+      (λ is. record { history = tt; tries = more; slot = ltb-true (length m.learned) c.slots is })
+      (λ is. tt)
+
+  tried : (m : Memory) (o : Operation) (tries : ℕ) → length m.learned < c.slots → IsGoing (tries_again m o tries)
+  tried m o tries slot =
+      by_test IsGoing (nat_le tries 1) (says m (Refused refusal.Outrun)) (begins m o (tries - 1))
+      (λ is. tt)
+      (λ is. record { history = tt; tries = (let more : 1 < tries = leb-false tries 1 is in omega (arith, more)); slot = slot })
+
+  learned : (m : Memory) (t : Doing) (command : Command) (b : Bool) → 1 ≤ t.tries → IsGoing (after_learning c m t command b)
+  learned m t command true more = tt
+  learned m t command false more = begun (learns m command) t.operation t.tries more
+
+  took : (m : Memory) (t : Doing) (ballot : ℕ) (value : List ℕ) (o : Option Command) → 1 ≤ t.tries → IsGoing (takes c m t ballot value o)
+  took m t ballot value None more = tt
+  took m t ballot value (Some command) more = learned m t command (is_submitted t.operation value) more
+
+  goes : (m : Memory) (t : Doing) (ballot : ℕ) (s : Status) → IsAttempt c h m t → IsGoing (by_status c m t ballot s)
+  goes m t ballot (Due p d) is = record { history = is.history; tries = is.tries; slot = is.slot }
+  goes m t ballot (Ended (attempt.Committed value)) is = took m t ballot value (decoded value) is.tries
+  goes m t ballot (Ended (attempt.Decided value)) is = took m t ballot value (decoded value) is.tries
+  goes m t ballot (Ended attempt.Empty) is = tt
+  goes m t ballot (Ended (attempt.Outrun mbal)) is = tried (with_floor (with_floor m ballot) mbal) t.operation t.tries is.slot
+  goes m t ballot (Ended attempt.NoMajority) is = tt
+  goes m t ballot (Ended attempt.BallotsSpent) is = tt
+
+  longer : (m : Memory) (t : Doing) (x : Answered) → IsAttempt c h m t → IsAnswerTo (next_call (setup_of c h m t.operation) (on t.heard)) x → IsHistory (setup_of c h m t.operation) (t.heard ++ x ∷ [])
+  longer m t x is answers = history_more (next_call (setup_of c h m t.operation)) t.heard x is.history answers
+
+  goes_further : (m : Memory) (t : Doing) (x : Answered) → IsAttempt c h m t → IsAnswerTo (next_call (setup_of c h m t.operation) (on t.heard)) x → IsGoing (hears c h m (Some t) x)
+  goes_further m t x is answers = goes m (with_heard t x) _ _ (record { history = longer m t x is answers; tries = is.tries; slot = is.slot })
+
+  -- the answer to a call that was due
+  answers_it : (m : Memory) (t : Doing) (x : Made) → m.doing ≡ Some t → IsDue c h m x → IsAnswerTo (next_call (setup_of c h m t.operation) (on t.heard)) (answered x)
+  answers_it m t x is due =
+      let next : next_call (setup_of c h m t.operation) (on t.heard) ≡ Some (x.disk, x.call) = sym (ap (next_doing c h m) is) ∙ due.next in
+      subst (λ (o : Option (ℕ × device.Call)). IsAnswerTo o (answered x)) (sym next) (refl, due.fits)
+
+  -- ALL ITS CALLS
+
+  -- so many calls were made, and the host has come to this
+  record Costs (m : Memory) (calls : ℕ) (n : Memory) : Type 0 where
+    few : calls + (17 * c.disks) * length m.learned ≤ budget (17 * c.disks) m.doing + (17 * c.disks) * length n.learned
+    grows : length m.learned ≤ length n.learned
+    room : length n.learned ≤ c.slots
+
+  further : (most a b d e f calls : ℕ) → b + 1 + d ≤ a + e → calls + e ≤ b + f → suc calls + d ≤ a + f
+  further most a b d e f calls one rest = omega (arith, one, rest)
+
+  costs : (m : Memory) (xs : List Made) → m.beats.heard ≡ None → m.marking ≡ None → length m.learned ≤ c.slots → IsGoing m → AreDue c h m xs → Costs m (length xs) (after_made c h m xs)
+  costs m [] rest unmarked room going due = record { few = omega arith; grows = omega arith; room = room }
+  costs m (x ∷ xs) rest unmarked room going due =
+      by_doing m.doing refl going
+      (λ n heard marked left more later. costs n xs heard marked left more later)
+    where
+      by_doing : (o : Option Doing) → m.doing ≡ o → IsGoingIn c h m o
+          → ((n : Memory) → n.beats.heard ≡ None → n.marking ≡ None → length n.learned ≤ c.slots → IsGoing n → AreDue c h n xs → Costs n (length xs) (after_made c h n xs))
+          → Costs m (suc (length xs)) (after_made c h (after_call c h m x) xs)
+      by_doing None is going later =
+          absurd (let next : None ≡ Some (x.disk, x.call) = sym (none_due c h m is rest unmarked) ∙ due.0.next in cc)
+      by_doing (Some t) is going later =
+          let n = hears c h m (Some t) (answered x) in
+          let same : after_call c h m x ≡ n = ap (λ (o : Option Doing). hears_from c h m o x.disk x.answer) is in
+          let answers = answers_it m t x is due.0 in
+          let spends : Spends (17 * c.disks) c.slots (17 * c.disks * t.tries - length t.heard) (length m.learned) n =
+          answer_spends (17 * c.disks) c h m t (answered x) going.slot going.tries (ends.bound (setup_of c h m t.operation) (t.heard ++ answered x ∷ []) (longer m t (answered x) going answers)) in
+          let ahead : Costs n (length xs) (after_made c h n xs) =
+          later n (ap (λ (b : Beats). b.heard) (beats_heard c h m (Some t) (answered x)) ∙ rest) (marking_heard c h m (Some t) (answered x) ∙ unmarked) spends.room
+          (goes_further m t (answered x) going answers) (subst (λ (k : Memory). AreDue c h k xs) same due.1) in
+          subst (λ (k : Memory). Costs m (suc (length xs)) (after_made c h k xs)) (sym same) (record {
+            few =
+                subst (λ (o : Option Doing). suc (length xs) + (17 * c.disks) * length m.learned ≤ budget (17 * c.disks) o + (17 * c.disks) * length (after_made c h n xs).learned) (sym is)
+                (further (17 * c.disks) (17 * c.disks * t.tries - length t.heard) (budget (17 * c.disks) n.doing) ((17 * c.disks) * length m.learned) ((17 * c.disks) * length n.learned) ((17 * c.disks) * length (after_made c h n xs).learned) (length xs) spends.few ahead.few);
+            grows = omega (arith, spends.grows, ahead.grows);
+            room = ahead.room;
+          })
+
+-- what is left of the calls that most of them may be
+spread : (most a b tries calls : ℕ) → a ≤ b → calls + most * a ≤ most * tries + most * b → calls ≤ most * (b - a + tries)
+spread most a b tries calls le cost =
+    let split : b ≡ a + (b - a) = omega (arith, le) in
+    let whole : most * b ≡ most * a + most * (b - a) = ap (λ (n : ℕ). most * n) split ∙ mul-add most a (b - a) in
+    let parts : most * (b - a + tries) ≡ most * (b - a) + most * tries = mul-add most (b - a) tries in
+    omega (arith, whole, parts, cost)
+
+-- an operation made at most seventeen calls a disk for each slot that it learned, and for each try; what was learned has room
+pub record IsBounded {D : Type 0} (tries : ℕ) (old new : Standing D) (calls : ℕ) : Type 0 where
+  pub few : calls ≤ 17 * old.core.learner.shape.disks * (length new.core.prefix - length old.core.prefix + tries)
+  pub grows : length old.core.prefix ≤ length new.core.prefix
+  pub room : length new.core.prefix ≤ old.core.learner.shape.slots
+
+at_most_tries : (c : Shape) (m : Memory) (o : Operation) (most tries : ℕ) → budget most (goes_on c m o tries).doing ≤ most * tries
+at_most_tries c m o most tries =
+    by_test (λ (n : Memory). budget most n.doing ≤ most * tries) (nat_lt (length m.learned) c.slots) (begins m o tries) (says m (full_answer o (length m.learned)))
+    (λ is. omega arith) (λ is. omega arith)
+
+pub bounded : {D : Type 0} (gives : D → device.Call → device.Answer → D → Type 0) (o : Operation) (tries : ℕ) (old new : Standing D) → 1 ≤ tries → IsKnown old.core → is_idle old.core ≡ true → length old.core.prefix ≤ old.core.learner.shape.slots
+    → (done : HasOperated gives o tries old new) → IsBounded tries old new (length done.made)
+bounded gives o tries old new more known idle room done =
+    let c = known.shape in
+    let h = known.host in
+    let m = known.memory in
+    let begun_so = goes_on c m o tries in
+    let n = after_made c h begun_so done.made in
+    let leads : LeadsTo c h n new.core = done.leads c h m known.leads in
+    let disks : old.core.learner.shape.disks ≡ c.disks = ap (λ (s : Shape). s.disks) known.leads.learner.shape in
+    let slots : old.core.learner.shape.slots ≡ c.slots = ap (λ (s : Shape). s.slots) known.leads.learner.shape in
+    let before : length old.core.prefix ≡ length m.learned = ap length known.leads.prefix in
+    let after : length new.core.prefix ≡ length n.learned = ap length leads.prefix in
+    let still : length begun_so.learned ≡ length m.learned = ap length (learned-goes_on c m o tries) in
+    let cost : Costs c h begun_so (length done.made) n =
+    costs c h begun_so done.made
+    (ap (λ (b : Beats). b.heard) (beats-goes_on c m o tries) ∙ known.rests)
+    (marking-goes_on c m o tries ∙ idle_unmarked c h m old.core known.leads idle)
+    (omega (arith, still, before, slots, room)) (begun c h m o tries more) (done.due c h m known.leads) in
+    let most = 17 * c.disks in
+    let tried = at_most_tries c m o most tries in
+    let spent : most * length begun_so.learned ≡ most * length m.learned = ap (λ (k : ℕ). most * k) still in
+    let few : length done.made ≤ most * (length n.learned - length m.learned + tries) =
+    spread most (length m.learned) (length n.learned) tries (length done.made) (omega (arith, cost.grows, still)) (omega (arith, cost.few, tried, spent)) in record {
+      few = subst (λ (k : ℕ). length done.made ≤ 17 * k * (length new.core.prefix - length old.core.prefix + tries)) (sym disks)
+          (subst (λ (k : ℕ). length done.made ≤ most * (k - length old.core.prefix + tries)) (sym after)
+          (subst (λ (k : ℕ). length done.made ≤ most * (length n.learned - k + tries)) (sym before) few));
+      grows = omega (arith, cost.grows, still, before, after);
+      room = omega (arith, cost.room, after, slots);
+    }
+
+-- of a host that has as many disks
+pub operated_calls : {D : Type 0} (gives : D → device.Call → device.Answer → D → Type 0) (o : Operation) (tries : ℕ) (old new : Standing D) → 1 ≤ tries → IsKnown old.core → is_idle old.core ≡ true → length old.core.prefix ≤ old.core.learner.shape.slots
+    → length old.disks ≡ old.core.learner.shape.disks → (done : HasOperated gives o tries old new) → length done.made ≤ 17 * length old.disks * (length new.core.prefix - length old.core.prefix + tries)
+operated_calls gives o tries old new more known idle room as_many done =
+    subst (λ (k : ℕ). length done.made ≤ 17 * k * (length new.core.prefix - length old.core.prefix + tries)) (sym as_many) (bounded gives o tries old new more known idle room done).few
+
+-- A MARKING
+
+module _ (c : Shape) (h : ℕ) where
+  -- one that has ended makes no more
+  by_mark : (m : Memory) (u : Marking) (xs : List Made) → m.beats.heard ≡ None → (st : mark.Status) → length u.heard ≤ 9 * c.disks → AreDue c h (marking_by m u st) xs
+      → (AreDue c h (with_marking m (Some u) None) xs → length u.heard + length xs ≤ 9 * c.disks) → length u.heard + length xs ≤ 9 * c.disks
+  by_mark m u xs rest (mark.Due d) bound due later = later due
+  by_mark m u xs rest (mark.Ended (mark.Marked count)) bound due later =
+      let none : length xs ≡ 0 = ap length (none_made c h (marking_by m u (mark.Ended (mark.Marked count))) xs refl rest refl due) in omega (arith, none, bound)
+  by_mark m u xs rest (mark.Ended mark.NoMajority) bound due later =
+      let none : length xs ≡ 0 = ap length (none_made c h (marking_by m u (mark.Ended mark.NoMajority)) xs refl rest refl due) in omega (arith, none, bound)
+
+  -- it makes at most nine a disk
+  marking_costs : (m : Memory) (t : Marking) (xs : List Made) → m.doing ≡ None → m.beats.heard ≡ None → m.marking ≡ Some t → marking.IsHistory (marking_of c h m t.slot) t.heard → AreDue c h m xs → length t.heard + length xs ≤ 9 * c.disks
+  marking_costs m t [] doing rest marks history due = omega (arith, markings.bound (marking_of c h m t.slot) t.heard history)
+  marking_costs m t (x ∷ xs) doing rest marks history due =
+      let u = marking_with t (answered x) in
+      let s = marking_of c h m t.slot in
+      let next : mark.next_call s (on t.heard) ≡ Some (x.disk, x.call) =
+      sym (ap (next_doing c h m) doing ∙ ap (next_beside c h m) rest ∙ ap (next_marking c h m) marks) ∙ due.0.next in
+      let answers : IsAnswerTo (mark.next_call s (on t.heard)) (answered x) =
+      subst (λ (o : Option (ℕ × device.Call)). IsAnswerTo o (answered x)) (sym next) (refl, due.0.fits) in
+      let more : marking.IsHistory s u.heard = history_more (mark.next_call s) t.heard (answered x) history answers in
+      let same : after_call c h m x ≡ marking_by m u (mark.status s (on u.heard)) =
+      ap (λ (o : Option Doing). hears_from c h m o x.disk x.answer) doing ∙ ap (λ (o : Option (List Beaten)). hears_beside c h m o x.disk x.answer) rest ∙ ap (λ (o : Option Marking). hears_marking c h m o (answered x)) marks in
+      let one : length u.heard ≡ length t.heard + 1 = length-append t.heard (answered x ∷ []) in
+      let all : length u.heard + length xs ≤ 9 * c.disks =
+      by_mark m u xs rest (mark.status s (on u.heard)) (markings.bound s u.heard more) (subst (λ (k : Memory). AreDue c h k xs) same due.1)
+      (λ later. marking_costs (with_marking m (Some u) None) u xs refl rest refl more later) in
+      omega (arith, one, all)
+
+  marked_within : (m : Memory) (slot : ℕ) (xs : List Made) → m.beats.heard ≡ None → m.marking ≡ None → AreDue c h (starts_marking m slot) xs → length xs ≤ 9 * c.disks
+  marked_within m slot xs rest unmarked due = by_begun (nat_lt slot (length m.learned)) due
+    where
+      by_begun : (b : Bool) → AreDue c h (if b then with_marking m (Some (record { slot = slot; heard = [] })) None else with_marking m m.marking (Some (Refused refusal.NotLearned))) xs → length xs ≤ 9 * c.disks
+      by_begun true due =
+          let all = marking_costs (with_marking m (Some (record { slot = slot; heard = [] })) None) (record { slot = slot; heard = [] }) xs refl rest refl tt due in omega (arith, all)
+      by_begun false due =
+          let none : length xs ≡ 0 = ap length (none_made c h (with_marking m m.marking (Some (Refused refusal.NotLearned))) xs refl rest unmarked due) in omega (arith, none)
+
+pub marked_calls : {D : Type 0} (gives : D → device.Call → device.Answer → D → Type 0) (slot : ℕ) (old new : Standing D) → IsKnown old.core → is_idle old.core ≡ true → length old.disks ≡ old.core.learner.shape.disks → (done : HasMarked gives slot old new) → length done.made ≤ 9 * length old.disks
+marked_calls gives slot old new known idle as_many done =
+    let c = known.shape in
+    let h = known.host in
+    let m = known.memory in
+    let disks : old.core.learner.shape.disks ≡ c.disks = ap (λ (s : Shape). s.disks) known.leads.learner.shape in
+    let few = marked_within c h m slot done.made known.rests (idle_unmarked c h m old.core known.leads idle) (done.due c h m known.leads) in
+    omega (arith, few, disks, as_many)
+
+-- DISKS
+
+-- a disk that is called is still one of as many
+pub as_many : {D : Type 0} (gives : D → device.Call → device.Answer → D → Type 0) (old new : List D) (xs : List Made) → Gave gives old xs new → length new ≡ length old
+as_many gives old new [] gave = ap length gave
+as_many gives old new (x ∷ xs) gave =
+    as_many gives gave.0 new xs gave.2 ∙ ap length (gave.1).others ∙ length-set old x.disk (gave.1).after
+
+one_slot_more : (most n a b : ℕ) → a ≤ most * n → b ≤ most → a + b ≤ most * suc n
+one_slot_more most n a b le few = omega (arith, le, few)
+
+-- one slot more is marked
+pub marked_more : {D : Type 0} (gives : D → device.Call → device.Answer → D → Type 0) (from n marked total : ℕ) (old now new : Standing D) → length now.disks ≡ length old.disks → HasMarkedFrom gives from n marked old now
+    → (done : HasMarked gives (from + n) now new) → new.core.prefix ≡ now.core.prefix → length done.made ≤ 9 * length now.disks → total ≡ marked + (if leaves_a_mark new.core.said then 1 else 0) → HasMarkedFrom gives from (suc n) total old new
+marked_more gives from n marked total old now new disks before done kept few is =
+    let nine : 9 * length now.disks ≡ 9 * length old.disks = ap (λ (k : ℕ). 9 * k) disks in
+    let calls : calls_of gives from n old now before.marks ≤ 9 * length old.disks * n = before.calls in record {
+      marks = (now, before.marks, done);
+      counted = is ∙ ap (λ (k : ℕ). k + (if leaves_a_mark new.core.said then 1 else 0)) before.counted;
+      kept = kept ∙ before.kept;
+      calls = one_slot_more (9 * length old.disks) n (calls_of gives from n old now before.marks) (length done.made) calls (omega (arith, few, nine));
+    }
+
+-- of the calls of a recovery and of its markings
+pub all_calls : (disks slots tries a b : ℕ) → a ≤ 17 * disks * (slots + tries) → b ≤ 9 * disks * slots → a + b ≤ disks * (26 * slots + 17 * tries)
+all_calls disks slots tries a b first then_b =
+    let once : 17 * disks * (slots + tries) ≡ 17 * (disks * slots) + 17 * (disks * tries) = mul_assoc 17 disks (slots + tries) ∙ ap (λ (k : ℕ). 17 * k) (mul-add disks slots tries) ∙ mul-add 17 (disks * slots) (disks * tries) in
+    let later : 9 * disks * slots ≡ 9 * (disks * slots) = mul_assoc 9 disks slots in
+    let slots_so : disks * (26 * slots) ≡ 26 * (disks * slots) = sym (mul_assoc disks 26 slots) ∙ ap (λ (k : ℕ). k * slots) (mul_comm disks 26) ∙ mul_assoc 26 disks slots in
+    let tries_so : disks * (17 * tries) ≡ 17 * (disks * tries) = sym (mul_assoc disks 17 tries) ∙ ap (λ (k : ℕ). k * tries) (mul_comm disks 17) ∙ mul_assoc 17 disks tries in
+    let whole : disks * (26 * slots + 17 * tries) ≡ disks * (26 * slots) + disks * (17 * tries) = mul-add disks (26 * slots) (17 * tries) in
+    omega (arith, first, then_b, once, later, slots_so, tries_so, whole)
+
+-- SLOT AFTER SLOT
+
+pub marked_none : {D : Type 0} (gives : D → device.Call → device.Answer → D → Type 0) (from n : ℕ) (s : Standing D) → n ≡ 0 → HasMarkedFrom gives from n 0 s s
+marked_none gives from n s is =
+    subst (λ (k : ℕ). HasMarkedFrom gives from k 0 s s) (sym is) (record { marks = refl; counted = refl; kept = refl; calls = omega arith })
+
+pub marked_further : {D : Type 0} (gives : D → device.Call → device.Answer → D → Type 0) (from slot marked total : ℕ) (old now new : Standing D) → from ≤ slot → length now.disks ≡ length old.disks → HasMarkedFrom gives from (slot - from) marked old now
+    → HasMarked gives slot now new → new.core.prefix ≡ now.core.prefix → ((done : HasMarked gives slot now new) → length done.made ≤ 9 * length now.disks) → total ≡ marked + (if leaves_a_mark new.core.said then 1 else 0)
+    → HasMarkedFrom gives from (slot + 1 - from) total old new
+marked_further gives from slot marked total old now new le disks before done kept few is =
+    let at : slot ≡ from + (slot - from) = omega (arith, le) in
+    let next : suc (slot - from) ≡ slot + 1 - from = omega (arith, le) in
+    let moved : HasMarked gives (from + (slot - from)) now new = subst (λ (k : ℕ). HasMarked gives k now new) at done in
+    let bound : (d : HasMarked gives (from + (slot - from)) now new) → length d.made ≤ 9 * length now.disks =
+    subst (λ (k : ℕ). (d : HasMarked gives k now new) → length d.made ≤ 9 * length now.disks) at few in
+    subst (λ (k : ℕ). HasMarkedFrom gives from k total old new) next
+    (marked_more gives from (slot - from) marked total old now new disks before moved kept (bound moved) is)
+
+-- a recovery, and then its markings
+pub recovered_and_marked : {D : Type 0} (gives : D → device.Call → device.Answer → D → Type 0) (tries marked first end : ℕ) (old between new : Standing D) → first ≡ length old.core.prefix → end ≡ length between.core.prefix → length old.core.prefix ≤ length between.core.prefix
+    → (recovers : HasOperated gives Recovering tries old between) → length recovers.made ≤ 17 * length old.disks * (length between.core.prefix - length old.core.prefix + tries) → HasMarkedFrom gives first (end - first) marked between new → (done : RecoversAndMarks gives tries marked old new) × (done.recovered ≡ between)
+recovered_and_marked gives tries marked first end old between new from to le recovers few marks =
+    let slots = length between.core.prefix - length old.core.prefix in
+    let disks : length between.disks ≡ length old.disks = as_many gives old.disks between.disks recovers.made recovers.gave in
+    let marked_so : HasMarkedFrom gives (length old.core.prefix) slots marked between new =
+    subst (λ (k : ℕ). HasMarkedFrom gives (length old.core.prefix) (k - length old.core.prefix) marked between new) to
+    (subst (λ (k : ℕ). HasMarkedFrom gives k (end - k) marked between new) from marks) in
+    let nine : calls_of gives (length old.core.prefix) slots between new marked_so.marks ≤ 9 * length old.disks * slots =
+    subst (λ (k : ℕ). calls_of gives (length old.core.prefix) slots between new marked_so.marks ≤ 9 * k * slots) disks marked_so.calls in (
+      record {
+        recovered = between;
+        recovers = recovers;
+        slots = slots;
+        learned = omega (arith, le);
+        marks = marked_so;
+        calls = all_calls (length old.disks) slots tries (length recovers.made) (calls_of gives (length old.core.prefix) slots between new marked_so.marks) few nine;
+      },
+      refl,
+    )
