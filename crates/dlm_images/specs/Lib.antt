@@ -4,3 +4,4 @@ pub mod Layout
 pub mod Operations
 pub mod SetFaults
 pub mod Sets
+pub mod Tries

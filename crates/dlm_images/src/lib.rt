@@ -6,8 +6,10 @@ mod examples;
 mod fault;
 mod folder;
 mod format;
+mod host_lock;
 mod image;
 mod operation;
+mod patience;
 mod set;
 
 pub use disk_host::{Acknowledgement, DiskHost};
@@ -15,5 +17,7 @@ pub use examples::first_operation_is_acknowledged;
 pub use fault::FolderFault;
 pub use folder::{Folder, open_folder, open_folder_to_read};
 pub use format::{format_folder, lay_out};
+pub use host_lock::{LockFault, TryLock, lock_host, lock_path};
 pub use operation::drive;
+pub use patience::submit_patiently;
 pub use set::{ImageSet, SetFault, set_of};
