@@ -22,10 +22,18 @@ fn open_all(dir: &str) -> Vec<File> {
             continue;
         };
         assert!(file.metadata().unwrap().len() >= HEADER as u64);
-        file.read_exact_at(&mut header, 0).unwrap();
+        read_twice(&file, &mut header, 0);
         disks.push(file);
     }
     disks
+}
+
+/// Two reads that tell the same bytes.
+fn read_twice(file: &File, into: &mut [u8], at: u64) {
+    let mut again = [0; ROW];
+    file.read_exact_at(into, at).unwrap();
+    file.read_exact_at(&mut again[..into.len()], at).unwrap();
+    assert!(into[..] == again[..into.len()]);
 }
 
 /// A block's six calls, of which the first puts no byte, and the read behind them.
@@ -35,7 +43,7 @@ fn write_block(disk: &File, place: u64, copy: &[u8; 64], row: &mut [u8; ROW], ro
     disk.sync_data().unwrap();
     disk.write_all_at(&copy[..1], place).unwrap();
     disk.sync_data().unwrap();
-    disk.read_exact_at(row, row_at).unwrap();
+    read_twice(disk, row, row_at);
 }
 
 /// An attempt of host 0 on a slot where its blocks are blank.
@@ -43,7 +51,7 @@ fn attempt(disks: &[File], slot: u64, command: &[u8; 32], row: &mut [u8; ROW]) {
     let row_at = 2048 + 1024 * slot;
     for disk in disks {
         disk.sync_data().unwrap();
-        disk.read_exact_at(row, row_at).unwrap();
+        read_twice(disk, row, row_at);
     }
     for (phase, place) in [(1u8, row_at), (2, row_at + 64)] {
         let copy = copy_of(phase, command);
