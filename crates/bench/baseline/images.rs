@@ -23,10 +23,18 @@ fn open_all(dir: &str) -> Vec<File> {
             continue;
         };
         assert!(file.metadata().unwrap().len() >= HEADER as u64);
-        file.read_exact_at(&mut header, 0).unwrap();
+        read_twice(&file, &mut header, 0);
         disks.push(file);
     }
     disks
+}
+
+/// Two reads that tell the same bytes.
+fn read_twice(file: &File, into: &mut [u8], at: u64) {
+    let mut again = [0; ROW];
+    file.read_exact_at(into, at).unwrap();
+    file.read_exact_at(&mut again[..into.len()], at).unwrap();
+    assert!(into[..] == again[..into.len()]);
 }
 
 /// A block's six calls, of which the first puts no byte, and the read behind them.
@@ -36,7 +44,7 @@ fn write_block(disk: &File, place: u64, copy: &[u8; 64], row: &mut [u8; ROW], ro
     disk.sync_data().unwrap();
     disk.write_all_at(&copy[..1], place).unwrap();
     disk.sync_data().unwrap();
-    disk.read_exact_at(row, row_at).unwrap();
+    read_twice(disk, row, row_at);
 }
 
 /// Where the row of a slot begins.
@@ -48,7 +56,7 @@ fn row_of(slot: u64) -> u64 {
 fn open_row(disks: &[File], slot: u64, row: &mut [u8; ROW]) {
     for disk in disks {
         disk.sync_data().unwrap();
-        disk.read_exact_at(row, row_of(slot)).unwrap();
+        read_twice(disk, row, row_of(slot));
     }
 }
 

@@ -1,19 +1,26 @@
-ghost use Rattle.std.specs.Prelude.{◌≡◌, ◌≢◌, ◌+◌, ◌-◌, ◌^◌, true, false, Some, None, min, IfOk, IfErr};
+ghost use Rattle.std.specs.Prelude.{◌≡◌, ◌≢◌, ◌+◌, ◌-◌, ◌≤◌, ◌^◌, true, false, Some, None, min, length, IfOk, IfErr};
 ghost use Rattle.std.specs.Fs.{metadata_len};
 ghost use Rattle.disk.specs.declared.fault.ImageFault.TheVariants.{Unreadable};
 
 use crate::{Boot, Disk, DiskFault, ImageFault};
 use std::fs::{File, OpenFile, OpenOptions};
 use std::io;
+use std::io::{Seek, SeekFrom};
 use std::marker::Model;
-use std::os::unix::fs::FileExt;
+use std::os::unix::fs::{FileExt, FileTypeExt};
 use std::rt::Files;
 
 /// The boot number of every file.
 const BOOT: Boot = Boot { number: 1 };
 
-/// A disk that is a file, or none: then every call fails. No call takes memory, and none but `open` and `make` looks at
-/// how long the file is.
+/// How many bytes are read twice at a time: a row of blocks, or a header.
+const PART: usize = 1024;
+
+/// How often such a part is read, at most.
+const MOST_READS: usize = 9;
+
+/// A disk that is a file or a block device, or none: then every call fails. No call takes memory, and none but those that open
+/// it or make it looks at how long it is.
 #[derive(Drop)]
 pub struct FileDisk<F> {
     file: Option<F>,
@@ -31,7 +38,7 @@ impl<F> Model for FileDisk<F> {
 }
 
 impl<F: FileExt + OpenFile + Drop> FileDisk<F> {
-    /// The file at this path, which is there and can be read and written.
+    /// The file or block device at this path, which is there and can be read and written.
     pub fn open<R: Files<File = F>>(files: &R, path: &str) -> Result<FileDisk<F>, ImageFault>
         ensures used { IfOk result (λ d. (d.used ≡ true) × (d.failures ≡ 0)) }
         ensures fault { IfErr result (λ fault. fault ≡ Unreadable) }
@@ -46,7 +53,7 @@ impl<F: FileExt + OpenFile + Drop> FileDisk<F> {
         }
     }
 
-    /// The file at this path, which is there and can be read. Every write to it fails.
+    /// The file or block device at this path, which is there and can be read. Every write to it fails.
     pub fn open_to_read<R: Files<File = F>>(
         files: &R,
         path: &str,
@@ -94,6 +101,22 @@ impl<F: FileExt + OpenFile + Drop> FileDisk<F> {
         }
     }
 
+    /// Whether it is a block device, which may be longer than what is kept on it.
+    pub fn is_block_device(&self) -> bool {
+        match &self.file {
+            Some(file) => is_block_device(file),
+            None => false,
+        }
+    }
+
+    /// Leaves all but the first bytes out of use from now on. The file or device itself stays as long as it is.
+    pub fn cut(&mut self, size: u64)
+        requires { size ≤ self.old.size }
+        ensures { self.new ≡ record self.old { size = size } }
+    {
+        self.size = size;
+    }
+
     // Counts a failure.
     fn fail(&mut self) -> DiskFault
         ensures fault { result ≡ DiskFault.Failed }
@@ -108,8 +131,8 @@ fn open_file<R: Files>(files: &R, path: &str) -> io::Result<(R::File, u64)>
 where
     R::File: OpenFile,
 {
-    let file = OpenOptions::new().read(true).write(true).open(files, path)?;
-    let size = file.metadata()?.len();
+    let mut file = OpenOptions::new().read(true).write(true).open(files, path)?;
+    let size = length_of(&mut file)?;
     Ok((file, size))
 }
 
@@ -117,9 +140,59 @@ fn open_file_to_read<R: Files>(files: &R, path: &str) -> io::Result<(R::File, u6
 where
     R::File: OpenFile,
 {
-    let file = OpenOptions::new().read(true).open(files, path)?;
-    let size = file.metadata()?.len();
+    let mut file = OpenOptions::new().read(true).open(files, path)?;
+    let size = length_of(&mut file)?;
     Ok((file, size))
+}
+
+/// The length in bytes. A block device tells it by its end alone.
+fn length_of<F: OpenFile + Seek>(file: &mut F) -> io::Result<u64> {
+    if is_block_device(file) {
+        return file.seek(SeekFrom::End(0));
+    }
+    Ok(file.metadata()?.len())
+}
+
+fn is_block_device<F: OpenFile>(file: &F) -> bool {
+    match file.metadata() {
+        Ok(metadata) => metadata.file_type().is_block_device(),
+        Err(_) => false,
+    }
+}
+
+/// Reads each part until two reads in a row tell the same bytes, and tells whether they did.
+///
+/// A read that another process's write overlaps may tell some bytes from before that write and some from after it. What two
+/// reads tell alike stood there between them.
+fn read_settled<F: FileExt>(file: &F, into: &mut [u8], at: u64) -> bool {
+    let mut place = at;
+    for part in into.chunks_mut(PART) {
+        if !read_twice(file, part, place) {
+            return false;
+        }
+        place = place.saturating_add(PART as u64);
+    }
+    true
+}
+
+fn read_twice<F: FileExt>(file: &F, into: &mut [u8], at: u64) -> bool
+    requires { length into.old ≤ PART }
+{
+    let long = into.len();
+    let mut again = [0; PART];
+    if file.read_exact_at(into, at).is_err() {
+        return false;
+    }
+    for _ in 1..MOST_READS {
+        if file.read_exact_at(&mut again[..long], at).is_err() {
+            return false;
+        }
+        if into[..] == again[..long] {
+            return true;
+        }
+        into.copy_from_slice(&again[..long]);
+    }
+    false
 }
 
 impl<F: FileExt + OpenFile + Drop> Disk for FileDisk<F> {
@@ -154,7 +227,7 @@ impl<F: FileExt + OpenFile + Drop> Disk for FileDisk<F> {
             return Err(DiskFault::Reset);
         }
         let told = match &self.file {
-            Some(file) => file.read_exact_at(into, at).is_ok(),
+            Some(file) => read_settled(file, into, at),
             None => false,
         };
         if told { Ok(()) } else { Err(self.fail()) }

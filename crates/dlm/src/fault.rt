@@ -1,7 +1,7 @@
 use crate::answer_text::RefusalText;
 use cluster::HostFault;
 use disk::ImageFault;
-use dlm_images::FolderFault;
+use dlm_images::{FolderFault, LockFault};
 use host::Refusal;
 use simulator::ScriptFault;
 use std::io;
@@ -40,6 +40,12 @@ pub enum Fault {
     AlreadyThere,
     #[error("35 OpenCall")]
     OpenCall,
+    /// The number of a host that somebody else works under.
+    #[error("36 HostInUse host{0}")]
+    HostInUse(u8),
+    /// The number of a host that could not be locked.
+    #[error("37 NoLock host{0}")]
+    NoLock(u8),
 }
 
 impl Fault {
@@ -77,6 +83,16 @@ impl From<FolderFault> for Fault {
                 ImageFault::WrongHeader => Fault::WrongHeader(disk),
                 ImageFault::Unreadable => Fault::UnreadableImage(disk),
             },
+        }
+    }
+}
+
+impl From<LockFault> for Fault {
+    fn from(fault: LockFault) -> Self {
+        match fault {
+            LockFault::NoMemory => Fault::NoMemory,
+            LockFault::InUse(host) => Fault::HostInUse(host),
+            LockFault::NoLock(host) => Fault::NoLock(host),
         }
     }
 }

@@ -4,7 +4,10 @@ use crate::failure::Failure;
 use crate::fault::Fault;
 use crate::reply_text::ReplyText;
 use disk::FileDisk;
-use dlm_images::{Acknowledgement, DiskHost, MarkedLog, format_folder, open_folder};
+use dlm_images::{
+    Acknowledgement, DiskHost, MarkedLog, TryLock, format_folder, lock_host, open_folder,
+    submit_patiently,
+};
 use host::Config;
 use inspect::queues;
 use lock_command::{Command, HostNumber};
@@ -13,7 +16,9 @@ use std::alloc::Global;
 use std::fs::OpenFile;
 use std::io::Write;
 use std::os::unix::fs::FileExt;
+use std::random::RandomSource;
 use std::rt::Files;
+use std::time::Clock;
 
 /// How often an operation may be outrun.
 const TRIES: u8 = 8;
@@ -38,17 +43,17 @@ where
 }
 
 /// Submits a command over the images of a folder, and prints where it stands and what the lock table replied.
-pub fn submit<R: Files + AllocGlobal, O: Write>(
+pub fn submit<R: Files + Clock + RandomSource + AllocGlobal, O: Write>(
     rt: &R,
     folder: &str,
     command: Command,
     out: &mut O,
 ) -> Result<(), Failure>
 where
-    R::File: FileExt + OpenFile + Drop,
+    R::File: FileExt + OpenFile + TryLock + Drop,
 {
-    let mut host = host_over(rt, folder, command.host)?;
-    match host.submit(command, TRIES) {
+    let (mut host, _lock) = host_over(rt, folder, command.host)?;
+    match submit_patiently(rt, &mut host, command, TRIES) {
         Ok(done) => {
             print_ack(done, out)?;
             // The command stands in the log whether or not that comes to its end.
@@ -67,9 +72,9 @@ pub fn table<R: Files + AllocGlobal, O: Write>(
     out: &mut O,
 ) -> Result<(), Failure>
 where
-    R::File: FileExt + OpenFile + Drop,
+    R::File: FileExt + OpenFile + TryLock + Drop,
 {
-    let mut host = host_over(rt, folder, host)?;
+    let (mut host, _lock) = host_over(rt, folder, host)?;
     match host.recover(TRIES) {
         Ok(length) => print_table(rt.alloc(), length, host.table(), out),
         Err(refusal) => Err(Failure::from(Fault::from(refusal))),
@@ -85,9 +90,9 @@ pub fn mark<R: Files + AllocGlobal, O: Write>(
     out: &mut O,
 ) -> Result<(), Failure>
 where
-    R::File: FileExt + OpenFile + Drop,
+    R::File: FileExt + OpenFile + TryLock + Drop,
 {
-    let mut host = host_over(rt, folder, host)?;
+    let (mut host, _lock) = host_over(rt, folder, host)?;
     // What marks tell need not be marked again. Where the look is refused, the recovery tells why.
     let _ = host.look();
     match host.recover_and_mark(TRIES) {
@@ -96,18 +101,21 @@ where
     }
 }
 
-/// A host over the disks of a folder, which has learned nothing yet.
+/// A host over the disks of a folder, which has learned nothing yet, and the file that keeps its number locked.
 fn host_over<R: Files + AllocGlobal>(
     rt: &R,
     folder: &str,
     host: HostNumber,
-) -> Result<DiskHost<FileDisk<R::File>>, Fault>
+) -> Result<(DiskHost<FileDisk<R::File>>, R::File), Fault>
 where
-    R::File: FileExt + OpenFile + Drop,
-    ensures { IfOk result (λ started. started.core.learner.host ≡ host) }
+    R::File: FileExt + OpenFile + TryLock + Drop,
+    ensures host { IfOk result (λ over. over.0.core.learner.host ≡ host) }
+    ensures locked { IfOk result (λ over. R.File.locked over.1) }
 {
-    let folder = open_folder(rt, folder)?;
-    folder.host(rt.alloc(), host).map_err(Fault::from)
+    let images = open_folder(rt, folder)?;
+    let lock = lock_host(rt, folder, host)?;
+    let over = images.host(rt.alloc(), host)?;
+    Ok((over, lock))
 }
 
 fn print_ack<O: Write>(done: Acknowledgement, out: &mut O) -> Result<(), Failure> {

@@ -13,15 +13,18 @@ mod reply_text;
 mod run;
 mod words;
 
+use dlm_images::TryLock;
 use program::{decline, run_words};
 use std::env;
 use std::fs::OpenFile;
 use std::io::{BufWriter, Write};
 use std::os::unix::fs::FileExt;
 use std::process::ExitCode;
+use std::random::RandomSource;
 use std::rt::Files;
 use std::sync::Wait;
 use std::thread::Threads;
+use std::time::Clock;
 use words::WordsFault;
 
 fn main(rt: HostRuntime) -> ExitCode {
@@ -43,14 +46,13 @@ fn arguments_of(rt: &HostRuntime) -> Result<Vec<String>, WordsFault> {
 }
 
 /// Runs the program on its words and streams.
-fn run_arguments<R: Files + Input + AllocGlobal + Threads + Wait + Sync, O: Write + Drop, E: Write>(
-    rt: &R,
-    arguments: &[String],
-    out: O,
-    err: &mut E,
-) -> Result<u8, WordsFault>
+fn run_arguments<
+    R: Files + Input + Clock + RandomSource + AllocGlobal + Threads + Wait + Sync,
+    O: Write + Drop,
+    E: Write,
+>(rt: &R, arguments: &[String], out: O, err: &mut E) -> Result<u8, WordsFault>
 where
-    R::File: FileExt + OpenFile + Drop,
+    R::File: FileExt + OpenFile + TryLock + Drop,
 {
     let alloc = rt.alloc();
     let words: Vec<&str> = arguments.iter().map(|word| word.as_str()).collect(alloc)?;

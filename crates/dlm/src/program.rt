@@ -6,28 +6,30 @@ use crate::fault::Fault;
 use crate::run::run_script;
 use crate::words::{Task, WordsFault, task_of};
 use crate::{images, racing};
+use dlm_images::TryLock;
 use simulator::read_script;
 use std::alloc::Global;
 use std::fs::OpenFile;
 use std::io::{Read, Write};
 use std::os::unix::fs::FileExt;
+use std::random::RandomSource;
 use std::rt::Files;
 use std::sync::Wait;
 use std::thread::Threads;
+use std::time::Clock;
 use std::{fs, io};
 
 #[cfg(test)]
 mod tests;
 
 /// Does what the words ask for, prints on `out` and a refusal on `err`, and returns the status.
-pub fn run_words<R: Files + Input + AllocGlobal + Threads + Wait + Sync, O: Write, E: Write>(
-    rt: &R,
-    words: &[&str],
-    out: &mut O,
-    err: &mut E,
-) -> u8
+pub fn run_words<
+    R: Files + Input + Clock + RandomSource + AllocGlobal + Threads + Wait + Sync,
+    O: Write,
+    E: Write,
+>(rt: &R, words: &[&str], out: &mut O, err: &mut E) -> u8
 where
-    R::File: FileExt + OpenFile + Drop,
+    R::File: FileExt + OpenFile + TryLock + Drop,
     ensures status { result ≤ 2 }
     ensures quiet { result ≡ 0 → err.new ≡ err.old }
     ensures usage { result ≡ 2 → Keeps (O.contents out.old) (O.contents out.new) }
@@ -38,13 +40,12 @@ where
     }
 }
 
-fn carry_out<R: Files + Input + AllocGlobal + Threads + Wait + Sync, O: Write>(
-    rt: &R,
-    task: &Task<'_>,
-    out: &mut O,
-) -> Result<(), Failure>
+fn carry_out<
+    R: Files + Input + Clock + RandomSource + AllocGlobal + Threads + Wait + Sync,
+    O: Write,
+>(rt: &R, task: &Task<'_>, out: &mut O) -> Result<(), Failure>
 where
-    R::File: FileExt + OpenFile + Drop,
+    R::File: FileExt + OpenFile + TryLock + Drop,
 {
     match *task {
         Task::Run { script } => run_file(rt, script, out),

@@ -7,3 +7,4 @@ pub mod Images
 pub mod Opening
 pub mod Sets
 pub mod ShortRuns
+pub mod Trying

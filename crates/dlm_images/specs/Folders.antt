@@ -1,11 +1,11 @@
 -- The images of a folder: their names, how one is read, and the disks that a folder has once it is open.
-use Rattle.std.specs.Prelude.{◌≡◌, ◌==◌, ◌++◌, ℕ, true, false, List, codes, decimal, slice_get, Some, Result, Ok, Err, is_ok, if◌then◌else◌}
+use Rattle.std.specs.Prelude.{◌≡◌, ◌==◌, ◌++◌, ℕ, true, false, List, codes, decimal, min, slice_get, Some, Result, Ok, Err, is_ok, if◌then◌else◌}
 use Rattle.disk.specs.declared.fault.ImageFault.{ImageFault}
 use Rattle.disk.specs.Disk.{Call, Attach, Read, Answer, Booted, Told}
-use Rattle.disk.specs.FileStates.{FileState}
+use Rattle.disk.specs.FileStates.{FileState, FileGives}
 use Rattle.torn_block.specs.declared.layout.TheConstants.{HEADER_LENGTH}
 use Rattle.paxos_block.specs.declared.header.Header.{Header}
-use Rattle.paxos_block.specs.Headers.{IsRight}
+use Rattle.paxos_block.specs.Headers.{IsRight, header_in}
 use Rattle.paxos_block.specs.Places.{image_length}
 use Rattle.slot_log.specs.Shape.{Shape}
 use Rattle.dlm_images.specs.Sets.{Found, AreImages, HasNumbers}
@@ -15,6 +15,24 @@ use Rattle.dlm_images.specs.Sets.{Found, AreImages, HasNumbers}
 -- the name of the image of this number
 abbrev pub image_name : ℕ → List ℕ
 image_name disk = codes "disk" ++ decimal disk ++ codes ".img"
+
+-- the name of the file by which this host's number is locked
+abbrev pub lock_name : ℕ → List ℕ
+lock_name host = codes "host" ++ decimal host ++ codes ".lock"
+
+-- the device was attached to, and told these first bytes
+pub record HasToldFirst {D : Type 0} (gives : D → Call → Answer → D → Type 0) (old : D) (bytes : List ℕ) (new : D) : Type 0 where
+  pub boot : ℕ
+  pub attached : D
+  pub boots : gives old Attach (Booted boot) attached
+  pub tells : gives attached (Read boot 0 HEADER_LENGTH) (Told bytes) new
+
+-- The device told its first bytes. It is used on as far as the image goes of which they tell, or to its end.
+pub record IsCutAsTold (old new : FileState) : Type 0 where
+  pub bytes : List ℕ
+  pub read : FileState
+  pub told : HasToldFirst FileGives old bytes read
+  pub size : new ≡ record read { size = min (image_length (header_in bytes).slots) read.size }
 
 -- The device told its first bytes, and as those of the image of this number and size they are right: they say this header.
 pub record ReadsHeader {D : Type 0} (gives : D → Call → Answer → D → Type 0) (old : D) (disk size : ℕ) (header : Header) (new : D) : Type 0 where

@@ -6,3 +6,4 @@ pub mod Marking
 pub mod Operations
 pub mod SetFaults
 pub mod Sets
+pub mod Tries

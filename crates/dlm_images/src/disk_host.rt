@@ -104,6 +104,7 @@ impl<D: Disk> DiskHost<D> {
         requires host { command.host ≡ self.old.core.learner.host }
         requires tries { 1 ≤ tries }
         ensures operated { HasOperated D.gives (Submitting command) tries self.old self.new }
+        ensures same { self.new.core.learner.host ≡ self.old.core.learner.host }
         // Its bytes are read as this command, by every host that learns it.
         ensures readable { decoded (spelling command) ≡ Some command }
         ensures acknowledged { IfOk result (λ done. IsAcknowledged command done.slot done.reply self.new.core.prefix) }

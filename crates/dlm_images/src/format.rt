@@ -1,14 +1,15 @@
-ghost use Rattle.std.specs.Prelude.{◌≡◌, ◌≤◌, ◌<◌, OnOk};
+ghost use Rattle.std.specs.Prelude.{◌≡◌, ◌≤◌, ◌<◌, OnOk, IfOk};
 ghost use Rattle.paxos_block.specs.Places.{image_length};
 ghost use Rattle.dlm_images.specs.Layout.{IsLaidOut, WritesZeros, header_of};
 
 use crate::fault::FolderFault;
-use crate::image::image_path;
+use crate::image::{first_bytes, image_path};
 use disk::{Boot, Disk, DiskFault, FileDisk, ImageFault};
 use host::Config;
-use paxos_block::{Header, encode_header};
-use std::fs::OpenFile;
-use std::os::unix::fs::FileExt;
+use paxos_block::{Header, encode_header, is_formatted};
+use std::fs::{File, OpenFile};
+use std::io;
+use std::os::unix::fs::{FileExt, FileTypeExt};
 use std::path::PathBuf;
 use std::rt::Files;
 use torn_block::OPEN_GATE;
@@ -16,8 +17,8 @@ use torn_block::OPEN_GATE;
 /// How many zeros are written at once.
 const CHUNK: usize = 4096;
 
-/// Makes the images of a set in a folder. Where one is there already nothing is made; after another fault what was made
-/// stays.
+/// Makes the images of a set in a folder, of files that are not there yet and of block devices that are, by links that somebody
+/// put there. Where a file is there already, or a device that is formatted, nothing is made; after another fault what was made stays.
 pub fn format_folder<R: Files + AllocGlobal>(
     rt: &R,
     folder: &str,
@@ -30,22 +31,57 @@ where
     let disks = config.disks();
     for disk in 0..disks {
         let path = image_path(rt.alloc(), folder, disk)?;
-        if rt.symlink_metadata(path.as_str()).is_ok() {
+        let taken = is_taken(rt, path.as_str(), config.image_length()).map_err(
+            |fault| FolderFault::Image { disk, fault },
+        )?;
+        if taken {
             return Err(FolderFault::AlreadyThere);
         }
     }
     for disk in 0..disks {
         let path = image_path(rt.alloc(), folder, disk)?;
-        make_image(rt, path.as_str(), config, cluster, disk).map_err(|fault| FolderFault::Image {
-            disk,
-            fault,
-        })?;
+        make_image(rt, folder, path.as_str(), config, cluster, disk).map_err(
+            |fault| FolderFault::Image { disk, fault },
+        )?;
     }
     Ok(())
 }
 
+/// Whether something is there that is not to be written over: all but a block device that is not formatted.
+fn is_taken<R: Files>(files: &R, path: &str, size: u64) -> Result<bool, ImageFault>
+where
+    R::File: FileExt + OpenFile + Drop,
+{
+    if files.symlink_metadata(path).is_err() {
+        return Ok(false);
+    }
+    match files.metadata(path) {
+        Ok(metadata) if metadata.file_type().is_block_device() => {
+            let mut device = open_device(files, path, size)?;
+            let bytes = first_bytes(&mut device)?;
+            Ok(is_formatted(&bytes))
+        }
+        _ => Ok(true),
+    }
+}
+
+/// The block device at this path, where it has room for an image of this size.
+fn open_device<R: Files>(files: &R, path: &str, size: u64) -> Result<FileDisk<R::File>, ImageFault>
+where
+    R::File: FileExt + OpenFile + Drop,
+    ensures room { IfOk result (λ device. size ≤ device.size) }
+{
+    let device = FileDisk::open(files, path)?;
+    if device.is_block_device() && size <= device.size() {
+        Ok(device)
+    } else {
+        Err(ImageFault::Unreadable)
+    }
+}
+
 fn make_image<R: Files>(
     files: &R,
+    folder: &str,
     path: &str,
     config: Config,
     cluster: u64,
@@ -55,11 +91,24 @@ where
     R::File: FileExt + OpenFile + Drop,
     requires { disk < config.disks }
 {
-    let mut device = FileDisk::make(files, path, config.image_length())?;
-    match lay_out(&mut device, config, cluster, disk) {
-        Ok(()) => Ok(()),
-        Err(_) => Err(ImageFault::Unreadable),
+    let size = config.image_length();
+    let mut device = if files.symlink_metadata(path).is_ok() {
+        open_device(files, path, size)?
+    } else {
+        FileDisk::make(files, path, size)?
+    };
+    if lay_out(&mut device, config, cluster, disk).is_err() || sync_folder(files, folder).is_err() {
+        return Err(ImageFault::Unreadable);
     }
+    Ok(())
+}
+
+/// Makes sure of the names in a folder: a file whose name is lost is lost with all that it held.
+fn sync_folder<R: Files>(files: &R, folder: &str) -> io::Result<()>
+where
+    R::File: OpenFile,
+{
+    File::open(files, folder)?.sync_all()
 }
 
 /// Writes an image of a set with no blocks, that of this disk. Its gate is opened last, once all else is synced. Where a call fails no

@@ -1,13 +1,13 @@
-ghost use Rattle.std.specs.Prelude.{◌≡◌, true, IfOk, IfErr};
+ghost use Rattle.std.specs.Prelude.{◌≡◌, ◌≤◌, true, IfOk, IfErr, OnOk};
 ghost use Rattle.std.specs.Path.{path_buf_bytes, path_join};
 ghost use Rattle.paxos_block.specs.Places.{image_length};
 ghost use Rattle.paxos_block.specs.Headers.{IsHeader};
 ghost use Rattle.dlm_images.specs.declared.fault.FolderFault.TheVariants.{NoMemory};
-ghost use Rattle.dlm_images.specs.Folders.{image_name, ReadsHeader};
+ghost use Rattle.dlm_images.specs.Folders.{image_name, HasToldFirst, IsCutAsTold, ReadsHeader};
 
 use crate::fault::FolderFault;
 use disk::{Disk, DiskFault, FileDisk, ImageFault};
-use paxos_block::{Header, decode_header};
+use paxos_block::{Header, decode_header, told_length};
 use std::alloc::Global;
 use std::fs::OpenFile;
 use std::os::unix::fs::FileExt;
@@ -31,7 +31,7 @@ pub fn image_path(alloc: Global, folder: &str, disk: u8) -> Result<PathBuf, Fold
     Ok(Path::new(folder).join(alloc, name.as_str())?)
 }
 
-/// Opens the file at this path as the image of this disk.
+/// Opens the file or block device at this path as the image of this disk. A device may be longer than its image.
 pub fn open_image<R: Files>(
     files: &R,
     path: &str,
@@ -49,8 +49,20 @@ where
         Access::ReadAndWrite => FileDisk::open(files, path)?,
         Access::Read => FileDisk::open_to_read(files, path)?,
     };
+    if file.is_block_device() {
+        cut_as_told(&mut file)?;
+    }
     let header = read_header(&mut file, disk)?;
     Ok((header, file))
+}
+
+/// Leaves what a device has behind its image out of use, where its first bytes tell of an image that it has room for.
+fn cut_as_told<F: FileExt + OpenFile + Drop>(device: &mut FileDisk<F>) -> Result<(), ImageFault>
+    ensures cut { OnOk result (HEADER_LENGTH ≤ device.old.size → IsCutAsTold device.old device.new) }
+{
+    let bytes = first_bytes(device)?;
+    device.cut(told_length(&bytes).min(device.size()));
+    Ok(())
 }
 
 /// The header of a device, where it is that of the image of this number.
@@ -62,13 +74,22 @@ fn read_header<D: Disk>(device: &mut D, disk: u8) -> Result<Header, ImageFault>
     ensures device { D.device device.new ≡ D.device device.old }
 {
     let long = device.size();
+    let bytes = first_bytes(device)?;
+    decode_header(disk, long, &bytes)
+}
+
+/// The first bytes of a device; of one that is shorter, zeros behind those that it has.
+pub fn first_bytes<D: Disk>(device: &mut D) -> Result<[u8; HEADER_LENGTH], ImageFault>
+    ensures told { IfOk result (λ bytes. HEADER_LENGTH ≤ (D.device device.old).size → HasToldFirst D.gives device.old bytes device.new) }
+    ensures device { D.device device.new ≡ D.device device.old }
+{
     let mut bytes = [0; HEADER_LENGTH];
-    let there = long.min(HEADER_LENGTH as u64) as usize;
+    let there = device.size().min(HEADER_LENGTH as u64) as usize;
     let boot = device.attach().map_err(unreadable)?;
     device
         .read(boot, 0, &mut bytes[..there])
         .map_err(unreadable)?;
-    decode_header(disk, long, &bytes)
+    Ok(bytes)
 }
 
 fn unreadable(_: DiskFault) -> ImageFault {

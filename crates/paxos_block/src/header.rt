@@ -1,5 +1,6 @@
 ghost use Rattle.std.specs.Prelude.{◌≡◌, ◌≢◌, ◌⊎◌, ◌≤◌, ◌<◌, ◌↔◌, IsTrue, length, IfOk, Err, Ok};
 ghost use Rattle.paxos_block.specs.Headers;
+ghost use Rattle.paxos_block.specs.Places;
 ghost use Rattle.paxos_block.specs.Headers.{IsHeader, IsFormatted, IsRight, HasNoHeader, header_saying, header_in};
 
 use crate::number::{
@@ -72,6 +73,20 @@ pub fn decode_header(disk: u8, long: u64, bytes: &[u8; HEADER_LENGTH]) -> Result
         return Err(ImageFault::WrongHeader);
     }
     Ok(header_in(bytes))
+}
+
+/// How long an image is by its first bytes, whether they are right or not.
+pub fn told_length(bytes: &[u8; HEADER_LENGTH]) -> u64
+    ensures { result ≡ Places.image_length (header_in bytes.now).slots }
+{
+    image_length(header_in(bytes).slots)
+}
+
+/// Whether an image with these first bytes was formatted to the end: its gate is open.
+pub fn is_formatted(bytes: &[u8; HEADER_LENGTH]) -> bool
+    ensures { IsTrue result ↔ IsFormatted bytes.now }
+{
+    bytes[GATE_AT] == OPEN_GATE
 }
 
 fn is_right(disk: u8, long: u64, bytes: &[u8]) -> bool

@@ -1,4 +1,5 @@
 use super::*;
+use std::cell::Cell;
 use std::fs;
 use std::test::Fail;
 
@@ -34,4 +35,43 @@ fn keeps_what_is_written(rt: HostRuntime) -> Result<(), Fail> {
     drop((disk, again, seen));
     fs::remove_dir_all(&rt, FOLDER)?;
     Ok(())
+}
+
+// A file whose bytes all change between two reads of it, so many times.
+#[derive(Drop)]
+struct Changing {
+    changes: u8,
+    reads: Cell<u8>,
+}
+
+impl FileExt for Changing {
+    fn read_at(&self, buf: &mut [u8], _offset: u64) -> io::Result<usize> {
+        let before = self.reads.get();
+        self.reads.set(before.wrapping_add(1));
+        buf.fill(before.min(self.changes));
+        Ok(buf.len())
+    }
+
+    fn write_at(&self, buf: &[u8], _offset: u64) -> io::Result<usize> {
+        Ok(buf.len())
+    }
+}
+
+#[test]
+fn reads_until_two_agree(rt: HostRuntime) {
+    // How often it changes, whether the read succeeds, and by how many reads of the file.
+    for (changes, succeeds, reads) in [(0, true, 2), (3, true, 5), (7, true, 9), (8, false, 9)] {
+        let file = Changing {
+            changes,
+            reads: Cell::new(0),
+        };
+        let mut row = [0xFF; PART];
+        assert_eq!(rt;
+            read_settled(&file, &mut row, 0),
+            succeeds,
+            "after {changes} changes"
+        );
+        assert_eq!(rt; file.reads.get(), reads, "reads at {changes} changes");
+        assert_eq!(rt; row, [changes; PART]);
+    }
 }

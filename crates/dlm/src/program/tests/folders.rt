@@ -1,6 +1,8 @@
 //! Folders of images: what the program prints over them, their bytes, and each check of an image.
 
 use super::*;
+use dlm_images::lock_host;
+use lock_command::HostNumber;
 use std::process::Abort;
 use std::test::Fail;
 
@@ -30,12 +32,12 @@ fn new_folder<R: Files + AllocGlobal>(rt: &R, name: &str) -> Result<(), Fail> {
 }
 
 /// Takes the steps in turn.
-fn follow<R: Files + Input + AllocGlobal + Threads + Wait + Sync + Abort>(
+fn follow<R: Files + Input + Clock + RandomSource + AllocGlobal + Threads + Wait + Sync + Abort>(
     rt: &R,
     steps: &[Step],
 ) -> Result<(), Fail>
 where
-    R::File: FileExt + OpenFile + Drop,
+    R::File: FileExt + OpenFile + TryLock + Drop,
 {
     for step in steps {
         take(rt, *step)?;
@@ -43,12 +45,12 @@ where
     Ok(())
 }
 
-fn take<R: Files + Input + AllocGlobal + Threads + Wait + Sync + Abort>(
+fn take<R: Files + Input + Clock + RandomSource + AllocGlobal + Threads + Wait + Sync + Abort>(
     rt: &R,
     step: Step,
 ) -> Result<(), Fail>
 where
-    R::File: FileExt + OpenFile + Drop,
+    R::File: FileExt + OpenFile + TryLock + Drop,
 {
     match step {
         Gives(text, status, told) => gives(rt, text, status, told),
@@ -66,14 +68,14 @@ where
     }
 }
 
-fn gives<R: Files + Input + AllocGlobal + Threads + Wait + Sync + Abort>(
+fn gives<R: Files + Input + Clock + RandomSource + AllocGlobal + Threads + Wait + Sync + Abort>(
     rt: &R,
     text: &str,
     status: u8,
     told: &str,
 ) -> Result<(), Fail>
 where
-    R::File: FileExt + OpenFile + Drop,
+    R::File: FileExt + OpenFile + TryLock + Drop,
 {
     let words: Vec<&str> = text.split(' ').collect(rt.alloc())?;
     let mut out = Vec::new(rt.alloc());
@@ -339,6 +341,46 @@ fn slots_that_have_no_mark(rt: HostRuntime) -> Result<(), Fail> {
         Gives("mark dlm_folder_f 2", 1, "dlm: 7 NoMajority\n"),
     ];
     follow(&rt, &marked)?;
+    fs::remove_dir_all(&rt, "dlm_folder_f")?;
+    Ok(())
+}
+
+#[test]
+fn one_process_a_host_number(rt: HostRuntime) -> Result<(), Fail> {
+    new_folder(&rt, "dlm_folder_f")?;
+    let host = HostNumber::new(3).ok_or("no host")?;
+    let format = Gives(
+        "format dlm_folder_f 1 4 7",
+        0,
+        "formatted 1 disks, 4 slots\n",
+    );
+    follow(&rt, &[format])?;
+    let lock = lock_host(&rt, "dlm_folder_f", host)?;
+    let in_use = [
+        Gives("table dlm_folder_f 3", 1, "dlm: 36 HostInUse host3\n"),
+        Gives(
+            "submit dlm_folder_f 3 enqueue 1 1 1 EX db",
+            1,
+            "dlm: 36 HostInUse host3\n",
+        ),
+        Gives(
+            "submit dlm_folder_f 2 enqueue 1 1 1 EX db",
+            0,
+            "ack 0 Granted\n",
+        ),
+    ];
+    follow(&rt, &in_use)?;
+    drop(lock);
+    rt.symlink("no/such/folder", "dlm_folder_f/host4.lock")?;
+    let table = "recovered 1\ndb\n  granted 1 1 2 EX\n";
+    let free = [
+        Gives("table dlm_folder_f 3", 0, table),
+        Gives("table dlm_folder_f 4", 1, "dlm: 37 NoLock host4\n"),
+        // What is wrong with the images is told first.
+        Remove("dlm_folder_f/disk0.img"),
+        Gives("table dlm_folder_f 4", 1, "dlm: 26 Unreadable disk0\n"),
+    ];
+    follow(&rt, &free)?;
     fs::remove_dir_all(&rt, "dlm_folder_f")?;
     Ok(())
 }

@@ -6,6 +6,7 @@ use Rattle.dlm_images.specs.Operations.{IsSmall, Standing, HasOperated}
 use Rattle.dlm_images.proofs.Counting.{bounded}
 use Rattle.dlm_images.proofs.Driving.{known_begun, begun_shape, known_operated, operated, operated_ends, written_back}
 use Rattle.dlm_images.proofs.Ending.{reads_back}
+use Rattle.dlm_images.proofs.Trying.{same_host}
 use Rattle.dlm_images.proofs.disk_host.DiskHost.submit.Goals as goal
 
 pub drive-requires-clause-known : goal.drive-requires-clause-known
@@ -70,3 +71,11 @@ returns-clause-operated g c =
 
 pub returns-clause-readable : goal.returns-clause-readable
 returns-clause-readable g c = reads_back c.args.command c.encode-spelled.ensures.fits
+
+pub returns-clause-same : goal.returns-clause-same
+returns-clause-same g c =
+    let old : Standing g.row.D.Denot = record { core = c.self.inside.core; disks = c.deref_mut.result.now } in
+    let new : Standing g.row.D.Denot = record { core = c.drive.new.host; disks = c.drive.new.disks } in
+    subst (λ (s : Standing g.row.D.Denot). c.drive.new.host.learner.host ≡ s.core.learner.host) c.self.view_is
+    (same_host g.D.Disk.gives (Submitting c.args.command) c.args.tries old new c.self.invariant.known
+    (operated g.D.Disk.gives (Submitting c.args.command) c.args.tries old c.submit.new.self new c.submit.ensures c.drive.ensures.heard c.drive.ensures.ended))

@@ -1,0 +1,14 @@
+use Rattle.std.proofs.Common.{rules, ◌≡◌, sym, ◌∙◌}
+use Rattle.dlm_images.specs.Tries.{none, more}
+use Rattle.dlm_images.proofs.patience.submit_patiently.Goals as goal
+
+pub loop-outrun-init : goal.loop-outrun-init
+loop-outrun-init g c = record { lost = none c.args.host.now; same = c.requires.host }
+
+pub loop-outrun-preserved : goal.loop-outrun-preserved
+loop-outrun-preserved g c = record {
+  lost =
+      more c.loop-outrun.outrun c.args.host.now c.loop-outrun.host c.submit_once-ended.new.host c.loop-outrun.invariant.lost c.submit_once-ended.ensures.operated
+      (search rules);
+  same = c.loop-outrun.invariant.same ∙ sym c.submit_once-ended.ensures.same;
+}

@@ -1,0 +1,64 @@
+ghost use Rattle.std.specs.Prelude.{◌≡◌, ◌≤◌, Some, IfOk, IfErr};
+ghost use Rattle.host.specs.Host.{Submitting};
+ghost use Rattle.dlm_images.specs.Operations.{HasOperated, IsAcknowledged};
+ghost use Rattle.dlm_images.specs.Tries.{HasTried};
+
+use crate::disk_host::{Acknowledgement, DiskHost};
+use disk::Disk;
+use host::{HostAnswer, Refusal};
+use lock_command::Command;
+use std::random::RandomSource;
+use std::thread;
+use std::time::{Clock, Duration};
+
+/// The longest wait after the first try, in milliseconds. After each further one it is twice as long.
+const FIRST_WAIT: u64 = 16;
+
+/// Submits as `DiskHost::submit` does, and waits where it was outrun, before it tries again: for a random time, up to one that doubles
+/// from try to try. So hosts that submit at once stop outrunning one another. A host that is not outrun never waits.
+pub fn submit_patiently<R: Clock + RandomSource, D: Disk>(
+    rt: &R,
+    host: &mut DiskHost<D>,
+    command: Command,
+    tries: u8,
+) -> Result<Acknowledgement, Refusal>
+    requires host { command.host ≡ host.old.core.learner.host }
+    requires tries { 1 ≤ tries }
+    ensures tried { HasTried D.gives command tries host.old host.new }
+    ensures acknowledged { IfOk result (λ done. IsAcknowledged command done.slot done.reply host.new.core.prefix) }
+    ensures refused { IfErr result (λ refusal. host.new.core.said ≡ Some (HostAnswer.Refused refusal)) }
+{
+    let command = &command;
+    for outrun in 0..tries - 1 {
+        let ended = submit_once(host, command);
+        let Err(Refusal::Outrun) = ended else {
+            return ended;
+        };
+        pause(rt, outrun);
+    }
+    submit_once(host, command)
+}
+
+/// A submission that ends where it is outrun.
+fn submit_once<D: Disk>(
+    host: &mut DiskHost<D>,
+    command: &Command,
+) -> Result<Acknowledgement, Refusal>
+    requires { command.now.host ≡ host.old.core.learner.host }
+    ensures operated { HasOperated D.gives (Submitting command.now) 1 host.old host.new }
+    ensures same { host.new.core.learner.host ≡ host.old.core.learner.host }
+    ensures acknowledged { IfOk result (λ done. IsAcknowledged command.now done.slot done.reply host.new.core.prefix) }
+    ensures refused { IfErr result (λ refusal. host.new.core.said ≡ Some (HostAnswer.Refused refusal)) }
+{
+    host.submit(*command, 1)
+}
+
+/// Waits for a random time, which grows with the tries that were outrun before. Where the system has no random numbers it waits as
+/// long as it ever does after so many.
+fn pause<R: Clock + RandomSource>(rt: &R, outrun: u8) {
+    let longest = (FIRST_WAIT << u32::from(outrun.min(7))) * 1_000;
+    let mut bytes = [0xFF; 4];
+    let _ = rt.fill_bytes(&mut bytes);
+    let part = u64::from(u32::from_le_bytes(bytes));
+    thread::sleep(rt, Duration::from_micros((longest * part) >> 32));
+}

@@ -1,0 +1,353 @@
+#!/usr/bin/env python3
+"""Losses of power: `dlm submit` runs over images in memory, with tests/shim/calls.c before the C library, which writes down each
+write, each sync and each printed line, in the order in which they took effect. From that record the images are built as a loss
+of power may leave them, at every place of it: what was synced stands, and of each write that no sync followed any bytes may be
+there: the old ones, the new ones, a part of them, a mixture, zeros, ones or nonsense. Each such state is looked at: an acknowledged
+command has to be what every majority of the disks says of its slot, by its greatest vote, and no open copy may be broken (read
+without the program); of some states `dlm table` is asked too, over the disks of a majority. The walk then goes on from one of the
+states, so that losses come upon losses.
+
+    power_loss.py [--steps N] [--hosts N] [--disks N] [--slots N] [--states N] [--tables N] [--seed N] [--program PATH]
+                  [--forget WHAT] [--format]
+
+In each step so many hosts submit at once (none given: one to four), some of which end in the midst. `--format` begins with losses
+within `dlm format`. `--forget body` does not count the syncs after a write of a body, and likewise `closed`, `opened` and `opening`, by
+what was written before: so the test is seen to fail, but for `opening`. It needs `cc`, and does nothing without."""
+
+import argparse
+import collections
+import itertools
+import os
+import random
+import re
+import shutil
+import struct
+import subprocess
+import sys
+import tempfile
+
+import lock_log
+
+
+def records(path):
+    """What is written down: kind, image, process, place, bytes."""
+    found = []
+    if os.path.exists(path):
+        with open(path, "rb") as file:
+            data = file.read()
+        at = 0
+        while at < len(data):
+            kind, image = chr(data[at]), data[at + 1]
+            process, place, length = struct.unpack_from("<IQI", data, at + 2)
+            found.append((kind, image, process, place, data[at + 18:at + 18 + length]))
+            at += 18 + length
+    return found
+
+
+rows_seen = {}
+
+
+def said(row):
+    """The greatest vote of a row, and what is broken in it."""
+    found = rows_seen.get(row)
+    if found is None:
+        best, broken = (0, None), []
+        for host in range(8):
+            block = row[128 * host:128 * host + 128]
+            copies = lock_log.open_copies(block)
+            if len(copies) == 2 and copies[0][0] == copies[1][0]:
+                broken.append(f"host {host}: two copies of one number")
+            broken += [f"host {host}: {copy}" for copy in copies if not lock_log.is_sound(copy, host)]
+            copy = lock_log.current(block)
+            if copy and copy[1] and copy[3] > best[0]:
+                best = (copy[3], copy[4])
+        found = best, broken
+        if len(rows_seen) > 200000:
+            rows_seen.clear()
+        rows_seen[row] = found
+    return found
+
+
+class Walk:
+    def __init__(self, given, work, shim):
+        self.given, self.work, self.shim = given, work, shim
+        self.random = random.Random(given.seed)
+        self.folder = os.path.join(work, "folder")
+        self.counts = collections.Counter()
+        self.wrong = []
+        self.number = 0
+        self.fresh()
+
+    def fresh(self):
+        shutil.rmtree(self.folder, ignore_errors=True)
+        os.mkdir(self.folder)
+        self.run(["format", self.folder, str(self.given.disks), str(self.given.slots), "7"])
+        self.acks = {}
+        self.images = [self.bytes_of(disk) for disk in range(self.given.disks)]
+
+    def run(self, words):
+        return subprocess.run([self.given.program, *words], capture_output=True, text=True)
+
+    def bytes_of(self, disk):
+        with open(f"{self.folder}/disk{disk}.img", "rb") as file:
+            return bytearray(file.read())
+
+    def put(self, images, folder=None, only=None):
+        folder = folder or self.folder
+        for disk, data in enumerate(images):
+            if only is None or disk in only:
+                with open(f"{folder}/disk{disk}.img", "wb") as file:
+                    file.write(data)
+
+    def step(self):
+        """Some hosts submit at once; then power is lost somewhere in that."""
+        log = os.path.join(self.work, "log")
+        if os.path.exists(log):
+            os.remove(log)
+        started, full = {}, False
+        for batch in range(self.random.choice([1, 1, 2, 3])):
+            full |= self.at_once(log, started)
+        self.replay(records(log), started)
+        if full or len(self.acks) > self.given.slots * 2 // 3:
+            self.fresh()
+
+    def at_once(self, log, started):
+        """Some hosts submit at once, and some of their processes end in the midst. Tells whether the log is full."""
+        hosts = self.random.sample(range(8), self.given.hosts or self.random.choice([1, 1, 2, 3, 4]))
+        env = {**os.environ, "LD_PRELOAD": self.shim, "DLM_LOG": log, "DLM_STOP": self.random.choice(["0", "0", "5", "20"]),
+               "DLM_PAUSE": "30,200" if len(hosts) > 1 else "0,0"}
+        processes, full = [], False
+        for host in hosts:
+            self.number += 1
+            words = ["enqueue", str(host * 4 + self.random.randrange(4)), str(self.number), str(self.number % 60000 + 1), "NL", "db"]
+            process = subprocess.Popen([self.given.program, "submit", self.folder, str(host), *words],
+                                       stdout=subprocess.PIPE, stderr=subprocess.PIPE, text=True, env=env)
+            processes.append((process, words))
+            started[process.pid] = (host, words)
+        for process, words in processes:
+            out, err = process.communicate()
+            self.counts["processes"] += 1
+            if process.returncode == 0:
+                self.counts["acknowledged"] += 1
+            elif process.returncode == 137:
+                self.counts["ended in the midst"] += 1
+            elif re.fullmatch(r"dlm: (6 Outrun|7 NoMajority)\n", err):
+                self.counts[err[5:-1]] += 1
+            elif err == "dlm: 9 LogFull\n":
+                full = True
+            else:
+                self.wrong.append(f"{words}: {process.returncode} {out!r} {err!r}")
+        return full
+
+    def replay(self, found, started):
+        """Goes through the record, and at each place looks at states that a loss of power may leave."""
+        durable = [bytearray(image) for image in self.images]
+        pending = [[] for _ in durable]
+        acks, printed = dict(self.acks), collections.defaultdict(str)
+        last = {}
+        stop = self.random.randrange(len(found) + 1) if found else 0
+        chosen = None
+        for place in range(len(found) + 1):
+            states = self.states(durable, pending, self.given.states)
+            for state in states:
+                self.look(state, acks)
+            if self.random.randrange(max(1, len(found))) < self.given.tables:
+                self.ask(self.random.choice(states), acks)
+            if place == stop:
+                chosen = (self.random.choice(states), dict(acks))
+            if place == len(found):
+                break
+            kind, image, process, at, given = found[place]
+            if kind == "W" and given:
+                pending[image].append((at, given))
+                last[process, image] = given
+            elif kind == "S":
+                if not self.forgets(last.pop((process, image), b"")):
+                    for where, bytes_ in pending[image]:
+                        durable[image][where:where + len(bytes_)] = bytes_
+                    pending[image] = []
+            elif kind == "P":
+                printed[process] += given.decode()
+                ended = re.fullmatch(r"ack (\d+) (\w+)\n", printed[process])
+                if ended:
+                    slot, (host, words) = int(ended[1]), started[process]
+                    if slot in acks:
+                        self.wrong.append(f"slot {slot} acknowledged twice")
+                    acks[slot] = (host, words)
+        self.counts["losses"] += 1
+        self.images, self.acks = chosen
+        self.counts["acknowledged before a loss"] += len(self.acks)
+        self.put(self.images)
+        self.ask(self.images, self.acks)
+
+    def forgets(self, written):
+        """Whether a sync after this write is left out."""
+        if len(written) == 1:
+            name = "opened" if written == b"\xa5" else "closed"
+        else:
+            name = "body" if written else "opening"
+        return self.given.forget == name
+
+    def states(self, durable, pending, count):
+        """What a loss of power may leave: nothing of the writes that were not synced, all, and others."""
+        waiting = [(image, at, given) for image, writes in enumerate(pending) for at, given in writes]
+        ways = ["old", "new"] + [None] * count if waiting else ["old"]
+        found = []
+        for way in ways:
+            state = [bytearray(image) for image in durable]
+            for image, at, given in waiting:
+                how = way or self.random.choice(["old", "new", "front", "back", "mixed", "words", "zeros", "ones", "nonsense", "gate"])
+                old = bytes(state[image][at:at + len(given)])
+                state[image][at:at + len(given)] = self.left(how, old, given)
+            found.append(state)
+        self.counts["states"] += len(found)
+        return found
+
+    def left(self, how, old, new):
+        n = len(new)
+        cut = self.random.randrange(n + 1)
+        if how == "old":
+            return old
+        if how == "new":
+            return new
+        if how == "front":
+            return new[:cut] + old[cut:]
+        if how == "back":
+            return old[:cut] + new[cut:]
+        if how == "mixed":
+            return bytes(self.random.choice(pair) for pair in zip(old, new))
+        if how == "words":
+            picks = [self.random.randrange(2) for _ in range(n // 8 + 2)]
+            return bytes(pair[picks[(k + 1) // 8]] for k, pair in enumerate(zip(old, new)))
+        if how == "zeros":
+            return bytes(n)
+        if how == "ones":
+            return b"\xff" * n
+        if how == "gate":
+            return b"\xa5" * n
+        return self.random.randbytes(n)
+
+    def formats(self):
+        """Power is lost within `dlm format`: then the folder is refused, or has an empty log over a majority; once it was told that the
+        images are made, the log is empty. A file whose folder was not synced since it was made may be gone."""
+        log = os.path.join(self.work, "log")
+        if os.path.exists(log):
+            os.remove(log)
+        shutil.rmtree(self.folder)
+        os.mkdir(self.folder)
+        env = {**os.environ, "LD_PRELOAD": self.shim, "DLM_LOG": log}
+        subprocess.run([self.given.program, "format", self.folder, str(self.given.disks), "6", "7"], env=env, check=True, stdout=subprocess.DEVNULL)
+        disks = range(self.given.disks)
+        durable, pending, made, named, told = [bytearray() for _ in disks], [[] for _ in disks], set(), set(), ""
+        for kind, image, _, at, given in [*records(log), ("end", 0, 0, 0, b"")]:
+            for _ in range(self.given.states):
+                self.counts["states of a format"] += 1
+                there = [disk for disk in disks if disk in named or disk in made and self.random.random() < 0.7]
+                self.ask_for_nothing([self.unfinished(*pair) for pair in zip(durable, pending)], there, "formatted" in told)
+            if kind == "W":
+                made.add(image)
+                pending[image].append((at, given))
+            elif kind == "S":
+                for where, new in pending[image]:
+                    durable[image] += bytes(max(0, where + len(new) - len(durable[image])))
+                    durable[image][where:where + len(new)] = new
+                pending[image] = []
+            elif kind == "N":
+                named |= made
+            elif kind == "P":
+                told += given.decode()
+
+    def unfinished(self, durable, pending):
+        """What a loss of power may leave of an image in the making, which may also be shorter."""
+        left = bytearray(durable)
+        for where, new in pending:
+            left += bytes(max(0, where + len(new) - len(left)))
+            how = self.random.choice(["old", "new", "front", "back", "mixed", "zeros", "ones", "nonsense", "gate"])
+            left[where:where + len(new)] = self.left(how, bytes(left[where:where + len(new)]), new)
+        if len(left) > len(durable):
+            del left[self.random.randrange(len(durable), len(left) + 1):]
+        return left
+
+    def ask_for_nothing(self, state, there, told):
+        """`dlm table` shows an empty log, or refuses the folder, where it was not told that the images are made."""
+        apart = os.path.join(self.work, "apart")
+        shutil.rmtree(apart, ignore_errors=True)
+        os.mkdir(apart)
+        self.put(state, apart, there)
+        out = self.run(["table", apart, "0"])
+        is_empty = out.stdout == "recovered 0\nempty\n" and out.returncode == 0
+        is_refused = re.fullmatch(r"dlm: (7 NoMajority|2[456] \w+ disk\d)\n", out.stderr) and out.returncode == 1
+        if not (is_empty or is_refused and not told):
+            self.wrong.append(f"format: {out.returncode} {out.stdout!r} {out.stderr!r}, formatted: {told}")
+        self.counts["of them refused"] += bool(is_refused)
+
+    def look(self, state, acks):
+        """By every majority of the disks the greatest vote of an acknowledged slot is its command."""
+        votes = []
+        for disk, image in enumerate(state):
+            at, mine = 2048, []
+            for slot in range(self.given.slots):
+                best, broken = said(bytes(image[at:at + 1024]))
+                if broken:
+                    self.wrong.append(f"disk {disk} slot {slot}: {broken}")
+                mine.append(best)
+                at += 1024
+            votes.append(mine)
+        most = self.given.disks // 2 + 1
+        for slot, (host, words) in acks.items():
+            for some in itertools.combinations(range(self.given.disks), most):
+                ballot, command = max((votes[disk][slot] for disk in some), key=lambda v: v[0])
+                if command is None or lock_log.words_of(command) != (host, words):
+                    self.wrong.append(f"slot {slot} by the disks {some}: {command}, acknowledged for {host} {words}")
+
+    def ask(self, state, acks):
+        """`dlm table` over the disks of some majority has every acknowledged lock."""
+        apart = os.path.join(self.work, "apart")
+        shutil.rmtree(apart, ignore_errors=True)
+        os.mkdir(apart)
+        most = self.random.randrange(self.given.disks // 2 + 1, self.given.disks + 1)
+        self.put(state, apart, self.random.sample(range(self.given.disks), most))
+        told = self.run(["table", apart, str(self.random.randrange(8))])
+        self.counts["tables"] += 1
+        held = {line.split()[1] for line in told.stdout.splitlines() if line.startswith("  granted")}
+        missing = [words for host, words in acks.values() if words[3] not in held]
+        if told.returncode or missing:
+            self.wrong.append(f"table: status {told.returncode} {told.stderr!r}, missing {missing}")
+
+
+def main():
+    words = argparse.ArgumentParser()
+    words.add_argument("--steps", type=int, default=50)
+    words.add_argument("--hosts", type=int, default=0)
+    words.add_argument("--disks", type=int, default=3)
+    words.add_argument("--slots", type=int, default=24)
+    words.add_argument("--states", type=int, default=4)
+    words.add_argument("--tables", type=int, default=8)
+    words.add_argument("--seed", type=int, default=random.randrange(1 << 30))
+    words.add_argument("--format", action="store_true")
+    words.add_argument("--forget", choices=["", "opening", "closed", "body", "opened"], default="")
+    words.add_argument("--program", default=lock_log.PROGRAM)
+    given = words.parse_args()
+    lock_log.see_that_it_is_built(given.program)
+    where = "/dev/shm" if os.access("/dev/shm", os.W_OK) else None
+    with tempfile.TemporaryDirectory(dir=where) as work:
+        shim = lock_log.built_shim(work)
+        if not shim:
+            print("power_loss.py: no C compiler (cc), so no loss of power is tried")
+            return 0
+        walk = Walk(given, work, shim)
+        if given.format:
+            walk.formats()
+            walk.fresh()
+        steps = 0
+        while steps < given.steps and not walk.wrong:
+            walk.step()
+            steps += 1
+    for each in walk.wrong[:5]:
+        print("  " + each[:500])
+    counts = ", ".join(f"{count} {name}" for name, count in sorted(walk.counts.items()))
+    print(f"seed {given.seed}, {given.disks} disks, {steps} steps: {counts}; {len(walk.wrong)} wrong")
+    return 1 if walk.wrong else 0
+
+
+sys.exit(main())
