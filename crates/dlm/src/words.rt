@@ -104,18 +104,26 @@ fn has_lone_dash(words: &[&str]) -> bool {
 }
 
 fn program<'a>(alloc: Global) -> Result<clap::Command<'a>, AllocError> {
-    clap::Command::new(alloc, "dlm")
+    let program = clap::Command::new(alloc, "dlm")
         .no_binary_name(true)
         .disable_help_flag(true)
         .disable_help_subcommand(true)
         .disable_version_flag(true)
-        .subcommand_required(true)
-        .subcommand(run_command(alloc)?)?
-        .subcommand(format_command(alloc)?)?
-        .subcommand(submit_command(alloc)?)?
-        .subcommand(table_command(alloc)?)?
-        .subcommand(mark_command(alloc)?)?
-        .subcommand(race_command(alloc)?)
+        .subcommand_required(true);
+    let program = with(program, run_command(alloc))?;
+    let program = with(program, format_command(alloc))?;
+    let program = with(program, submit_command(alloc))?;
+    let program = with(program, table_command(alloc))?;
+    let program = with(program, mark_command(alloc))?;
+    with(program, race_command(alloc))
+}
+
+// The program with one subcommand more. Here alone a command is held where there is no memory for the next one.
+fn with<'a>(
+    program: clap::Command<'a>,
+    subcommand: Result<clap::Command<'a>, AllocError>,
+) -> Result<clap::Command<'a>, AllocError> {
+    program.subcommand(subcommand?)
 }
 
 /// A word that has to be given.

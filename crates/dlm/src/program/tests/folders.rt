@@ -322,11 +322,7 @@ fn slots_that_have_no_mark(rt: HostRuntime) -> Result<(), Fail> {
             0,
             "ack 0 Granted\n",
         ),
-        Gives(
-            "submit dlm_folder_f 0 release 1 2 1",
-            0,
-            "ack 1 Released\n",
-        ),
+        Gives("submit dlm_folder_f 0 release 1 2 1", 0, "ack 1 Released\n"),
         Gives("mark dlm_folder_f 1", 0, "recovered 2\nmarked 0 slots\n"),
     ];
     follow(&rt, &steps)?;
