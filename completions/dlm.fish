@@ -17,9 +17,10 @@ complete -c dlm -n 'test (count (commandline -opc)) -eq 1' -a run -d 'run a scri
 complete -c dlm -n 'test (count (commandline -opc)) -eq 1' -a format -d 'make a folder of images'
 complete -c dlm -n 'test (count (commandline -opc)) -eq 1' -a submit -d 'submit a command'
 complete -c dlm -n 'test (count (commandline -opc)) -eq 1' -a table -d 'show the lock table'
+complete -c dlm -n 'test (count (commandline -opc)) -eq 1' -a check -d 'look for damage in images'
 complete -c dlm -n 'test (count (commandline -opc)) -eq 1' -a race -d 'race host threads'
 complete -c dlm -n '__dlm_at 2 run' -F
-complete -c dlm -n '__dlm_at 2 format submit table' -a '(__fish_complete_directories)'
+complete -c dlm -n '__dlm_at 2 format submit table check' -a '(__fish_complete_directories)'
 complete -c dlm -n '__dlm_at 2 race' -a '(seq 1 8)' -d 'hosts'
 complete -c dlm -n '__dlm_at 3 format' -a '(seq 1 7)' -d 'disks'
 complete -c dlm -n '__dlm_at 3 submit table' -a '(seq 0 7)' -d 'host'

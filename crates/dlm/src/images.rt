@@ -4,7 +4,9 @@ use crate::failure::Failure;
 use crate::fault::Fault;
 use crate::reply_text::ReplyText;
 use disk::FileDisk;
-use dlm_images::{Acknowledgement, DiskHost, format_folder, open_folder};
+use dlm_images::{
+    Acknowledgement, DiskHost, check_folder, format_folder, open_folder, open_folder_to_read,
+};
 use host::Config;
 use inspect::queues;
 use lock_command::{Command, HostNumber};
@@ -73,6 +75,27 @@ where
     match host.recover(TRIES) {
         Ok(length) => print_table(rt.alloc(), length, host.table(), out),
         Err(refusal) => Err(Failure::from(Fault::from(refusal))),
+    }
+}
+
+/// Prints what is wrong with the images of a folder, which are only read. What is found first is then the refusal.
+pub fn check<R: Files + AllocGlobal, O: Write>(
+    rt: &R,
+    folder: &str,
+    out: &mut O,
+) -> Result<(), Failure>
+where
+    R::File: FileExt + OpenFile + Drop,
+{
+    let folder = open_folder_to_read(rt, folder).map_err(Fault::from)?;
+    let found = check_folder(folder, out)?;
+    if found.is_none() {
+        out.write_all(b"sound\n")?;
+    }
+    out.flush()?;
+    match found {
+        None => Ok(()),
+        Some(finding) => Err(Failure::from(Fault::from(finding))),
     }
 }
 

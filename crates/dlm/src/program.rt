@@ -55,6 +55,7 @@ where
         } => images::format(rt, folder, config, cluster, out),
         Task::Submit { folder, command } => images::submit(rt, folder, command, out),
         Task::Table { folder, host } => images::table(rt, folder, host, out),
+        Task::Check { folder } => images::check(rt, folder, out),
         Task::Race { last } => racing::race_hosts(rt, last, out),
     }
 }

@@ -32,6 +32,10 @@ pub enum Task<'a> {
         folder: &'a str,
         host: HostNumber,
     },
+    /// Look for damage in the images of this folder.
+    Check {
+        folder: &'a str,
+    },
     /// Race the hosts up to this one.
     Race {
         last: HostNumber,
@@ -84,6 +88,7 @@ pub fn task_of<'a>(alloc: Global, words: &'a [&'a str]) -> Result<Task<'a>, Word
         Some(("format", format)) => format_task(format),
         Some(("submit", submit)) => submit_task(alloc, submit),
         Some(("table", table)) => table_task(table),
+        Some(("check", check)) => check_task(check),
         Some(("race", race)) => race_task(race),
         _ => Err(WordsFault::Usage),
     }
@@ -108,6 +113,7 @@ fn program<'a>(alloc: Global) -> Result<clap::Command<'a>, AllocError> {
         .subcommand(format_command(alloc)?)?
         .subcommand(submit_command(alloc)?)?
         .subcommand(table_command(alloc)?)?
+        .subcommand(check_command(alloc)?)?
         .subcommand(race_command(alloc)?)
 }
 
@@ -149,6 +155,12 @@ fn table_command<'a>(alloc: Global) -> Result<clap::Command<'a>, AllocError> {
         .arg(word(alloc, "host"))
 }
 
+fn check_command<'a>(alloc: Global) -> Result<clap::Command<'a>, AllocError> {
+    clap::Command::new(alloc, "check")
+        .disable_help_flag(true)
+        .arg(word(alloc, "folder"))
+}
+
 fn race_command<'a>(alloc: Global) -> Result<clap::Command<'a>, AllocError> {
     clap::Command::new(alloc, "race")
         .disable_help_flag(true)
@@ -184,6 +196,12 @@ fn table_task<'a>(table: &ArgMatches<'a>) -> Result<Task<'a>, WordsFault> {
     let folder = given(table, "folder")?;
     let host = host_of(given(table, "host")?)?;
     Ok(Task::Table { folder, host })
+}
+
+fn check_task<'a>(check: &ArgMatches<'a>) -> Result<Task<'a>, WordsFault> {
+    Ok(Task::Check {
+        folder: given(check, "folder")?,
+    })
 }
 
 fn race_task<'a>(race: &ArgMatches<'a>) -> Result<Task<'a>, WordsFault> {
