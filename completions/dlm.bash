@@ -6,13 +6,13 @@ _dlm() {
 
     COMPREPLY=()
     case $COMP_CWORD:$task in
-        1:*) words="run format submit table mark race" ;;
+        1:*) words="run format submit table mark check race" ;;
         2:run)
             compopt -o filenames
             mapfile -t COMPREPLY < <(compgen -f -- "$word")
             return
             ;;
-        2:format | 2:submit | 2:table | 2:mark)
+        2:format | 2:submit | 2:table | 2:mark | 2:check)
             compopt -o filenames
             mapfile -t COMPREPLY < <(compgen -d -- "$word")
             return

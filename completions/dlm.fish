@@ -18,9 +18,10 @@ complete -c dlm -n 'test (count (commandline -opc)) -eq 1' -a format -d 'make a 
 complete -c dlm -n 'test (count (commandline -opc)) -eq 1' -a submit -d 'submit a command'
 complete -c dlm -n 'test (count (commandline -opc)) -eq 1' -a table -d 'show the lock table'
 complete -c dlm -n 'test (count (commandline -opc)) -eq 1' -a mark -d 'mark the slots that have no mark'
+complete -c dlm -n 'test (count (commandline -opc)) -eq 1' -a check -d 'look for damage in images'
 complete -c dlm -n 'test (count (commandline -opc)) -eq 1' -a race -d 'race host threads'
 complete -c dlm -n '__dlm_at 2 run' -F
-complete -c dlm -n '__dlm_at 2 format submit table mark' -a '(__fish_complete_directories)'
+complete -c dlm -n '__dlm_at 2 format submit table mark check' -a '(__fish_complete_directories)'
 complete -c dlm -n '__dlm_at 2 race' -a '(seq 1 8)' -d 'hosts'
 complete -c dlm -n '__dlm_at 3 format' -a '(seq 1 7)' -d 'disks'
 complete -c dlm -n '__dlm_at 3 submit table mark' -a '(seq 0 7)' -d 'host'

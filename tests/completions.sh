@@ -35,11 +35,12 @@ expect() {
     fi
 }
 
-expect 'dlm ' '<format> <mark> <race> <run> <submit> <table>'
+expect 'dlm ' '<check> <format> <mark> <race> <run> <submit> <table>'
 expect 'dlm f' '<format>'
 expect 'dlm race ' '<race> <1> <2> <3> <4> <5> <6> <7> <8>'
 expect 'dlm run o' '<run> <one.dlm>'
 expect 'dlm table ' '<table> <images> <more images>'
+expect 'dlm check im' '<check> <images>'
 expect 'dlm format im' '<format> <images>'
 expect 'dlm format images ' '<format> <images> <1> <2> <3> <4> <5> <6> <7>'
 expect 'dlm table images ' '<table> <images> <0> <1> <2> <3> <4> <5> <6> <7>'
@@ -66,7 +67,7 @@ asked() {
 }
 
 if command -v fish >/dev/null; then
-    asked 'dlm ' 'format mark race run submit table'
+    asked 'dlm ' 'check format mark race run submit table'
     asked 'dlm table ' 'images/ more images/'
     asked 'dlm submit images 0 ' 'cancel convert enqueue purge release status'
     asked 'dlm submit images 0 enqueue 1 1 1 ' 'CR CW EX NL PR PW'

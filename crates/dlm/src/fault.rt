@@ -1,7 +1,7 @@
 use crate::answer_text::RefusalText;
 use cluster::HostFault;
 use disk::ImageFault;
-use dlm_images::{FolderFault, LockFault};
+use dlm_images::{Finding, FolderFault, LockFault};
 use host::Refusal;
 use simulator::ScriptFault;
 use std::io;
@@ -10,6 +10,9 @@ use thiserror::Error;
 /// Why the program refuses its task, with the number and the name of the refusal.
 #[derive(Clone, Copy, Debug, PartialEq, Eq, Error)]
 pub enum Fault {
+    /// A block of an image is damaged.
+    #[error("5 Damaged")]
+    Damaged,
     /// An operation of a host was refused.
     #[error("{0}")]
     Operation(RefusalText),
@@ -49,6 +52,15 @@ pub enum Fault {
 }
 
 impl Fault {
+    /// Why the image of this number is not used.
+    fn of_image(disk: u8, fault: ImageFault) -> Self {
+        match fault {
+            ImageFault::NotFormatted => Fault::NotFormatted(disk),
+            ImageFault::WrongHeader => Fault::WrongHeader(disk),
+            ImageFault::Unreadable => Fault::UnreadableImage(disk),
+        }
+    }
+
     /// Why a source could not be read.
     pub fn of_reading(error: &io::Error) -> Self {
         match error.kind() {
@@ -78,11 +90,16 @@ impl From<FolderFault> for Fault {
         match fault {
             FolderFault::NoMemory => Fault::NoMemory,
             FolderFault::AlreadyThere => Fault::AlreadyThere,
-            FolderFault::Image { disk, fault } => match fault {
-                ImageFault::NotFormatted => Fault::NotFormatted(disk),
-                ImageFault::WrongHeader => Fault::WrongHeader(disk),
-                ImageFault::Unreadable => Fault::UnreadableImage(disk),
-            },
+            FolderFault::Image { disk, fault } => Fault::of_image(disk, fault),
+        }
+    }
+}
+
+impl From<Finding> for Fault {
+    fn from(finding: Finding) -> Self {
+        match finding {
+            Finding::Image { disk, fault } => Fault::of_image(disk, fault),
+            Finding::Damaged => Fault::Damaged,
         }
     }
 }

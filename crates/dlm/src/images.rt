@@ -5,8 +5,8 @@ use crate::fault::Fault;
 use crate::reply_text::ReplyText;
 use disk::FileDisk;
 use dlm_images::{
-    Acknowledgement, DiskHost, MarkedLog, TryLock, format_folder, lock_host, open_folder,
-    submit_patiently,
+    Acknowledgement, DiskHost, MarkedLog, TryLock, check_folder, format_folder, lock_host,
+    open_folder, open_folder_to_read, submit_patiently,
 };
 use host::Config;
 use inspect::queues;
@@ -98,6 +98,27 @@ where
     match host.recover_and_mark(TRIES) {
         Ok(log) => print_marked(log, out),
         Err(refusal) => Err(Failure::from(Fault::from(refusal))),
+    }
+}
+
+/// Prints what is wrong with the images of a folder, which are only read. What is found first is then the refusal.
+pub fn check<R: Files + AllocGlobal, O: Write>(
+    rt: &R,
+    folder: &str,
+    out: &mut O,
+) -> Result<(), Failure>
+where
+    R::File: FileExt + OpenFile + Drop,
+{
+    let folder = open_folder_to_read(rt, folder).map_err(Fault::from)?;
+    let found = check_folder(folder, out)?;
+    if found.is_none() {
+        out.write_all(b"sound\n")?;
+    }
+    out.flush()?;
+    match found {
+        None => Ok(()),
+        Some(finding) => Err(Failure::from(Fault::from(finding))),
     }
 }
 

@@ -57,6 +57,7 @@ where
         Task::Submit { folder, command } => images::submit(rt, folder, command, out),
         Task::Table { folder, host } => images::table(rt, folder, host, out),
         Task::Mark { folder, host } => images::mark(rt, folder, host, out),
+        Task::Check { folder } => images::check(rt, folder, out),
         Task::Race { last } => racing::race_hosts(rt, last, out),
     }
 }

@@ -37,6 +37,10 @@ pub enum Task<'a> {
         folder: &'a str,
         host: HostNumber,
     },
+    /// Look for damage in the images of this folder.
+    Check {
+        folder: &'a str,
+    },
     /// Race the hosts up to this one.
     Race {
         last: HostNumber,
@@ -90,6 +94,7 @@ pub fn task_of<'a>(alloc: Global, words: &'a [&'a str]) -> Result<Task<'a>, Word
         Some(("submit", submit)) => submit_task(alloc, submit),
         Some(("table", table)) => table_task(table),
         Some(("mark", mark)) => mark_task(mark),
+        Some(("check", check)) => check_task(check),
         Some(("race", race)) => race_task(race),
         _ => Err(WordsFault::Usage),
     }
@@ -115,6 +120,7 @@ fn program<'a>(alloc: Global) -> Result<clap::Command<'a>, AllocError> {
     let program = with(program, submit_command(alloc))?;
     let program = with(program, table_command(alloc))?;
     let program = with(program, mark_command(alloc))?;
+    let program = with(program, check_command(alloc))?;
     with(program, race_command(alloc))
 }
 
@@ -171,6 +177,12 @@ fn mark_command<'a>(alloc: Global) -> Result<clap::Command<'a>, AllocError> {
         .arg(word(alloc, "host"))
 }
 
+fn check_command<'a>(alloc: Global) -> Result<clap::Command<'a>, AllocError> {
+    clap::Command::new(alloc, "check")
+        .disable_help_flag(true)
+        .arg(word(alloc, "folder"))
+}
+
 fn race_command<'a>(alloc: Global) -> Result<clap::Command<'a>, AllocError> {
     clap::Command::new(alloc, "race")
         .disable_help_flag(true)
@@ -212,6 +224,12 @@ fn mark_task<'a>(mark: &ArgMatches<'a>) -> Result<Task<'a>, WordsFault> {
     let folder = given(mark, "folder")?;
     let host = host_of(given(mark, "host")?)?;
     Ok(Task::Mark { folder, host })
+}
+
+fn check_task<'a>(check: &ArgMatches<'a>) -> Result<Task<'a>, WordsFault> {
+    Ok(Task::Check {
+        folder: given(check, "folder")?,
+    })
 }
 
 fn race_task<'a>(race: &ArgMatches<'a>) -> Result<Task<'a>, WordsFault> {

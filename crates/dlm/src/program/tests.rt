@@ -21,6 +21,11 @@ fn scripts_that_run(rt: HostRuntime) {
 fn nothing_runs_where_a_line_is_bad(rt: HostRuntime) {
     let scripts = [
         ("", "dlm: 23 BadLine 1\n"),
+        (
+            "cluster 1 1\nstart 0\nstep 0 100000\nstep 0 100000\nstep 0 100000\nstep 0 100000\nstep 0 100000\n\
+             step 0 100000\nstep 0 100000\nstep 0 100000\nstep 0 100000\nstep 0 100000\n",
+            "dlm: 23 BadLine 12\n",
+        ),
         ("cluster 1 2\nstart 0\nstep 16 1\n", "dlm: 23 BadLine 3\n"),
         (
             "cluster 1 1\nshow 0\nstart 0\nsubmit 0 1 status 1 1 1\nstep 0 17\nstep 0 0",

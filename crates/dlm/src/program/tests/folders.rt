@@ -11,6 +11,8 @@ use std::test::Fail;
 enum Step {
     /// These words, parted by single spaces, give a status, and print (with status 0) or tell this.
     Gives(&'static str, u8, &'static str),
+    /// These words give status 1, print this, and tell that.
+    Finds(&'static str, &'static str, &'static str),
     /// The byte at this place of a file is this one.
     Byte(&'static str, usize, u8),
     /// A file has so many bytes; what is added is zero.
@@ -22,7 +24,7 @@ enum Step {
     Remove(&'static str),
 }
 
-use Step::{Byte, Copy, Gives, Length, Remove, Zeros};
+use Step::{Byte, Copy, Finds, Gives, Length, Remove, Zeros};
 
 /// A folder for one test, with nothing in it.
 fn new_folder<R: Files + AllocGlobal>(rt: &R, name: &str) -> Result<(), Fail> {
@@ -53,7 +55,11 @@ where
     R::File: FileExt + OpenFile + TryLock + Drop,
 {
     match step {
-        Gives(text, status, told) => gives(rt, text, status, told),
+        Gives(text, status, told) => {
+            let (printed, told) = if status == 0 { (told, "") } else { ("", told) };
+            ends(rt, text, status, printed, told)
+        }
+        Finds(text, printed, told) => ends(rt, text, 1, printed, told),
         Byte(path, at, byte) => put_byte(rt, path, at, byte),
         Length(path, length) => put_length(rt, path, length),
         Zeros(path, length) => put_zeros(rt, path, length),
@@ -68,10 +74,11 @@ where
     }
 }
 
-fn gives<R: Files + Input + Clock + RandomSource + AllocGlobal + Threads + Wait + Sync + Abort>(
+fn ends<R: Files + Input + Clock + RandomSource + AllocGlobal + Threads + Wait + Sync + Abort>(
     rt: &R,
     text: &str,
     status: u8,
+    printed: &str,
     told: &str,
 ) -> Result<(), Fail>
 where
@@ -81,7 +88,6 @@ where
     let mut out = Vec::new(rt.alloc());
     let mut err = Vec::new(rt.alloc());
     let end = run_words(rt, &words, &mut out, &mut err);
-    let (printed, told) = if status == 0 { (told, "") } else { ("", told) };
     assert_eq!(rt; out.as_slice(), printed.as_bytes(), "printed at {text}");
     assert_eq!(rt; err.as_slice(), told.as_bytes(), "told at {text}");
     assert_eq!(rt; end, status, "status at {text}");
@@ -393,6 +399,8 @@ fn words_that_are_no_task_of_a_folder(rt: HostRuntime) -> Result<(), Fail> {
         Gives("table d 8", 2, "dlm: usage\n"),
         Gives("table d 0 0", 2, "dlm: usage\n"),
         Gives("mark d 8", 2, "dlm: usage\n"),
+        Gives("check", 2, "dlm: usage\n"),
+        Gives("check d 0", 2, "dlm: usage\n"),
         Gives("submit d 8 release 1 1 1", 2, "dlm: usage\n"),
         Gives("submit no/such 0", 2, "dlm: bad command\n"),
         Gives("submit no/such 0 release 1 1", 2, "dlm: bad command\n"),
@@ -415,4 +423,116 @@ fn word_with_a_space(rt: HostRuntime) {
     assert_eq!(rt; status, 2);
     assert_eq!(rt; out.len(), 0);
     assert_eq!(rt; err.as_slice(), b"dlm: bad command\n".as_slice());
+}
+
+const D0: &str = "dlm_folder_f/disk0.img";
+
+const D1: &str = "dlm_folder_f/disk1.img";
+
+const D2: &str = "dlm_folder_f/disk2.img";
+
+/// Three images with one acknowledged command, and a copy of each.
+const MADE: [Step; 8] = [
+    Gives("check dlm_folder_f", 1, "dlm: 26 Unreadable disk0\n"),
+    Gives(
+        "format dlm_folder_f 3 16 7",
+        0,
+        "formatted 3 disks, 16 slots\n",
+    ),
+    Gives(
+        "submit dlm_folder_f 0 enqueue 1 1 1 EX db",
+        0,
+        "ack 0 Granted\n",
+    ),
+    Gives("check dlm_folder_f", 0, "sound\n"),
+    Copy(D0, "dlm_folder_f/whole0"),
+    Copy(D1, "dlm_folder_f/whole1"),
+    Copy(D2, "dlm_folder_f/whole2"),
+    // An image beyond the set is not looked at.
+    Zeros("dlm_folder_f/disk3.img", 18432),
+];
+
+const WHOLE: [Step; 4] = [
+    Copy("dlm_folder_f/whole0", D0),
+    Copy("dlm_folder_f/whole1", D1),
+    Copy("dlm_folder_f/whole2", D2),
+    Gives("check dlm_folder_f", 0, "sound\n"),
+];
+
+/// A ballot of host 1 in host 0's block, on one disk and then on two.
+const BALLOTS: [Step; 6] = [
+    Byte(D0, 2071, 2),
+    Finds(
+        "check dlm_folder_f",
+        "disk0 slot 0 host 0 damaged\n",
+        "dlm: 5 Damaged\n",
+    ),
+    Gives(
+        "table dlm_folder_f 1",
+        0,
+        "recovered 1\ndb\n  granted 1 1 0 EX\n",
+    ),
+    Byte(D1, 2071, 2),
+    Gives("table dlm_folder_f 1", 1, "dlm: 7 NoMajority\n"),
+    Finds(
+        "check dlm_folder_f",
+        "disk0 slot 0 host 0 damaged\ndisk1 slot 0 host 0 damaged\n",
+        "dlm: 5 Damaged\n",
+    ),
+];
+
+/// A value that is no command, on all disks: no block is damaged.
+const VALUES: [Step; 5] = [
+    Byte(D0, 2080, 7),
+    Byte(D1, 2080, 7),
+    Byte(D2, 2080, 7),
+    Gives("check dlm_folder_f", 0, "sound\n"),
+    Gives("table dlm_folder_f 1", 1, "dlm: 10 NotACommand\n"),
+];
+
+/// A header that disagrees.
+const HEADERS: [Step; 4] = [
+    Byte(D1, 3, 5),
+    Gives("check dlm_folder_f", 1, "dlm: 25 WrongHeader disk1\n"),
+    Gives("table dlm_folder_f 1", 1, "dlm: 25 WrongHeader disk1\n"),
+    Gives(
+        "submit dlm_folder_f 1 status 1 1 1",
+        1,
+        "dlm: 25 WrongHeader disk1\n",
+    ),
+];
+
+/// Images that are refused or missing, beside an opened heartbeat gate and damage of the last block; and without these two.
+const MANY: [Step; 7] = [
+    Byte(D0, 1664, 0xa5),
+    Byte(D0, 18304, 0xa5),
+    Zeros(D1, 18432),
+    Remove(D2),
+    Finds(
+        "check dlm_folder_f",
+        "disk0 heartbeat host 5 damaged\ndisk0 slot 15 host 7 damaged\n\
+         disk1 24 NotFormatted\ndisk2 26 Unreadable\n",
+        "dlm: 5 Damaged\n",
+    ),
+    Copy("dlm_folder_f/whole0", D0),
+    Finds(
+        "check dlm_folder_f",
+        "disk1 24 NotFormatted\ndisk2 26 Unreadable\n",
+        "dlm: 24 NotFormatted disk1\n",
+    ),
+];
+
+#[test]
+fn damaged_images(rt: HostRuntime) -> Result<(), Fail> {
+    new_folder(&rt, "dlm_folder_f")?;
+    follow(&rt, &MADE)?;
+    follow(&rt, &BALLOTS)?;
+    follow(&rt, &WHOLE)?;
+    follow(&rt, &VALUES)?;
+    follow(&rt, &WHOLE)?;
+    follow(&rt, &HEADERS)?;
+    follow(&rt, &WHOLE)?;
+    follow(&rt, &MANY)?;
+    fs::remove_dir_all(&rt, "dlm_folder_f")?;
+    Ok(())
 }
