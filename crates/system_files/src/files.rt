@@ -4,7 +4,7 @@ use std::fs::{Metadata, OpenOptions};
 use std::io::{Error, ErrorKind, Result};
 use std::rt::Files;
 
-/// The files of the system, for reading and writing at offsets: those that are there, and new ones. Nothing else is
+/// The files of the system, for reading, or reading and writing, at offsets: those that are there, and new ones. Nothing else is
 /// supported.
 #[derive(Clone, Copy, Drop)]
 pub struct SystemFiles {
@@ -30,22 +30,24 @@ impl Files for SystemFiles {
 
     fn open_file(&self, how: &OpenOptions, path: &str) -> Result<SystemFile> {
         how.check()?;
-        if !how.asks_read()
-            || !how.asks_write()
-            || how.asks_append()
-            || how.asks_truncate()
-            || how.asks_create()
-        {
+        if !how.asks_read() || how.asks_append() || how.asks_truncate() {
             return Err(unsupported());
         }
+        let access = if how.asks_write() {
+            libc::O_RDWR
+        } else {
+            libc::O_RDONLY
+        };
         let creation = if how.asks_create_new() {
             libc::O_CREAT | libc::O_EXCL
+        } else if how.asks_create() {
+            libc::O_CREAT
         } else {
             0
         };
         SystemFile::of_opened(os::open_with(
             path.as_bytes(),
-            libc::O_RDWR | libc::O_CLOEXEC | creation,
+            access | libc::O_CLOEXEC | creation,
             0o666,
         ))
     }

@@ -1,7 +1,8 @@
 ghost use Rattle.std.specs.Prelude.{pos, ◌≤ℤ◌};
 
+use dlm_images::TryLock;
 use os::FromRawFd;
-use std::fs::{Metadata, OpenFile};
+use std::fs::{Metadata, OpenFile, TryLockError};
 use std::io::{Error, ErrorKind, Read, Result, Seek, SeekFrom, Write};
 use std::os::fd::{AsRawFd, OwnedFd};
 use std::os::unix::fs::FileExt;
@@ -80,6 +81,25 @@ impl OpenFile for SystemFile {
             }
         }
         Err(last_error())
+    }
+}
+
+impl TryLock for SystemFile {
+    // The system alone knows who has a lock.
+    ghost locked = { λ file. Unit {0} };
+
+    fn try_lock(&self) -> core::result::Result<(), TryLockError> {
+        for _ in 0..MOST_TURNS {
+            if libc::flock(self.descriptor.as_raw_fd(), libc::LOCK_EX | libc::LOCK_NB) == 0 {
+                return Ok(());
+            }
+            match os::errno() {
+                libc::EAGAIN => return Err(TryLockError::WouldBlock),
+                libc::EINTR => {}
+                _ => return Err(TryLockError::Error(last_error())),
+            }
+        }
+        Err(TryLockError::Error(last_error()))
     }
 }
 
