@@ -1,19 +1,29 @@
 -- What is proved of every run, as a report needs it. No other file here cites why it is so.
-use Rattle.std.specs.Prelude.{map}
-use Rattle.std.proofs.Common.{ℕ, ◌<◌, ◌≤◌, ◌≡◌, true, List, arith}
+use Rattle.std.specs.Prelude.{map, slice_get}
+use Rattle.std.proofs.Common.{ℕ, zero, suc, ◌+◌, ◌<◌, ◌≤◌, ◌≡◌, Some, inl, inr, true, List, [], ◌∷◌, length, refl, arith}
+use Rattle.std.proofs.lemmas.Bool.{cases_lt}
 use Rattle.lock_command.specs.declared.command.Command.{Command}
 use Rattle.lock_command.specs.Command.{spelling}
 use Rattle.lock_table.specs.declared.reply.Reply.{Reply}
 use Rattle.slot_log.specs.Shape.{Shape}
+use Rattle.host.specs.declared.answer.HostAnswer.{HostAnswer}
 use Rattle.host.specs.declared.answer.HostAnswer.TheVariants.{Ack, Recovered}
-use Rattle.host.specs.Host.{idles}
+use Rattle.host.specs.Host.{idles, learned_of}
 use Rattle.world.specs.Entry.{Filled}
 use Rattle.world.specs.World.{IsRun}
 use Rattle.world.specs.Chosen.{at, IsLog, SaysAt}
 use Rattle.world.specs.Headline.{IsPrefix, prefix_at, IsSafe}
 use Rattle.world.proofs.Safe.{one_log}
+use Rattle.world_safety.specs.Tracks.{IsChosenBefore, Counts}
+use Rattle.world_safety.proofs.Runs.Tracks.{all_true}
 use Rattle.world_safety.proofs.Claims.Recovering.{idle_before, empty_shows}
-use Rattle.world_safety.proofs.Claims.Safety.{commands, is_safe, prefix, acked_chosen}
+use Rattle.world_safety.proofs.Claims.Safety.{commands, is_safe, prefix, acked_chosen, counts_all, learned_true}
+
+-- something stands at each place of a list
+value_below : {A : Type 0} (l : List A) (k : ℕ) → k < length l → (x : A) × (slice_get l k ≡ Some x)
+value_below [] k below = absurd (omega (arith, below))
+value_below (x ∷ l) zero below = (x, refl)
+value_below (x ∷ l) (suc k) below = value_below l k (omega (arith, below))
 
 module _ (c : Shape) (log : List Filled) (run : IsRun c log) where
   -- the log, and that all goes by it
@@ -37,3 +47,25 @@ module _ (c : Shape) (log : List Filled) (run : IsRun c log) where
       let early = chosen.1.before in
       empty_shows c log run i j host n chosen.1.place slot chosen.0
       (λ trying. absurd (idle_before c log run ((at c log i).host host) trying.memory trying.doing idle trying.running trying.does)) le says (omega arith) chosen.1.is
+
+  -- all that a host has learned was chosen by then
+  learned_chosen : (place host slot : ℕ) → slot < length (prefix_at c log place host) → (v : List ℕ) × IsChosenBefore c log place slot v
+  learned_chosen place host slot below =
+      let learned = prefix_at c log place host in
+      let found = value_below learned slot below in
+      (spelling found.0, (learned_true c log run place ((at c log place).host host) host (all_true c log run place host) slot found.0 found.1).1)
+
+  -- so a recovery that began later has learned as much
+  pub holds_learned : (i j host n place other : ℕ) → idles ((at c log i).host host) ≡ true → i ≤ j → SaysAt c log j host (Recovered n)
+      → place ≤ i → length (prefix_at c log place other) ≤ n
+  holds_learned i j host n place other idle le says before = elim (cases_lt n (length (prefix_at c log place other))) [
+    | inr not_less ↦ not_less
+    | inl shorter ↦ (let chosen = learned_chosen place other n shorter in
+        let earlier = chosen.1.before in
+        absurd (let below = empty_shows c log run i j host n chosen.1.place n chosen.0
+        (λ trying. absurd (idle_before c log run ((at c log i).host host) trying.memory trying.doing idle trying.running trying.does)) le says (omega arith) chosen.1.is in omega arith))
+  ]
+
+  -- whoever counts what it has learned counts all
+  pub counts : (i host : ℕ) (said : HostAnswer) → SaysAt c log i host said → Counts (Some said) (length (prefix_at c log (i + 1) host))
+  counts i host said says = counts_all c log run i host said says

@@ -19,10 +19,11 @@ use Rattle.world.specs.Chosen.{at, SaysAt, IsSubmittedBefore as IsSubmittedIn}
 use Rattle.world.specs.Headline.{IsPrefix, prefix_at, IsSafe}
 use Rattle.world.specs.Told.{prefix_before, IsSubmittedBefore, IsRecovered, ShowsTable, goes_by, MissesNothing}
 use Rattle.world.proofs.Runs.{run_is_run}
+use Rattle.world_safety.specs.Tracks.{Counts}
 use Rattle.simulator.specs.declared.answer.Answer.{Answer}
 use Rattle.simulator.specs.Answers.{line_of, IsPicturedBy, IsPictured, IsPicturedIn}
 use Rattle.simulator.specs.Kept.{IsHost}
-use Rattle.simulator.specs.OneLog.{IsChosenBy, IsOneLog, GoesBy, TellsOneLog, GoesByOneLog, BeginsTheLog}
+use Rattle.simulator.specs.OneLog.{IsChosenBy, IsOneLog, GoesBy, HoldsLearned, TellsOneLog, GoesByOneLog, BeginsTheLog}
 use Rattle.simulator.specs.Past.{Past, world_of, answers_of}
 use Rattle.simulator.proofs.Entries.{get_behind, of_event, before, begins_with, fewer, earlier, after, Told, told, says_at, left_at}
 use Rattle.simulator.proofs.Safety as safety
@@ -150,7 +151,7 @@ module _ (c : Shape) (events : List Event) where
 
   -- RECOVERIES
 
-  told_at : (x : Line) → Contains (answers c events) x → Told c events x.place x
+  pub told_at : (x : Line) → Contains (answers c events) x → Told c events x.place x
   told_at x is = told c events is.0 x (slice_get_read (answers c events) (length (answers c events)) is.0 x refl is.1 (sym is.2))
 
   pub misses_nothing : MissesNothing c events (answers c events)
@@ -168,6 +169,29 @@ module _ (c : Shape) (events : List Event) where
       (omega (arith, here, there, length-append (before c events y.place) (told_y.entry ∷ [])))
       (subst (SaysAt c all (length (before c events y.place)) y.host) y_says (says_at c events y.place y told_y))
 
+  -- what a host has learned before an event, in the words of the list
+  learned_before : (j h : ℕ) → prefix_at c (run c events) (length (before c events j)) h ≡ prefix_before c events j h
+  learned_before j h = ap (λ (w : World). learned_of (w.host h)) (world_at j)
+
+  pub holds_learned : HoldsLearned c events (answers c events)
+  holds_learned x i n j h in_x x_says since early =
+      let all = run c events in
+      let told_x = told_at x in_x in
+      subst (λ (l : List Command). length l ≤ n) (learned_before j h)
+      (safety.holds_learned c all (run_is_run c events)
+      (length (before c events i)) (length (before c events x.place)) x.host n (length (before c events j)) h
+      (ap (λ (w : World). idles (w.host x.host)) (world_at i) ∙ since.idle)
+      (fewer c events i x.place since.order)
+      (subst (SaysAt c all (length (before c events x.place)) x.host) x_says (says_at c events x.place x told_x))
+      (fewer c events j i early))
+
+  -- a line that counts what its host has learned by then counts all
+  pub counted : (x : Line) → Contains (answers c events) x → Counts (Some x.said) (length (prefix_before c events (x.place + 1) x.host))
+  counted x in_x =
+      let told_x = told_at x in_x in
+      subst (λ (w : World). Counts (Some x.said) (length (learned_of (w.host x.host)))) (sym (left_at c events x.place x told_x))
+      (safety.counts c (run c events) (run_is_run c events) (length (before c events x.place)) x.host x.said (says_at c events x.place x told_x))
+
 -- THE WHOLE REPORT
 
 pub tells : (c : Shape) (events : List Event) (report : List Answer) → map line_of report ≡ answers c events → All (IsPicturedIn c events) report → TellsOneLog c events report
@@ -180,6 +204,7 @@ tells c events report lines pictures =
           (ap (λ (l : List Line). slice_get l k) (sym lines) ∙ slice_get-map line_of report k ∙ ap (option_map line_of) (slice_get-get_or report k other within))
           (pictures k other within);
       recoveries = subst (MissesNothing c events) (sym lines) (misses_nothing c events);
+      learned = subst (HoldsLearned c events) (sym lines) (holds_learned c events);
     }
 
 -- SO FAR

@@ -1,6 +1,9 @@
 pub mod Answers
 pub mod Calls
 pub mod Events
+pub mod Judging
 pub mod Kept
 pub mod OneLog
 pub mod Past
+pub mod Replayed
+pub mod Sweeping

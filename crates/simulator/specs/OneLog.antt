@@ -1,12 +1,13 @@
 -- One log, in the words of a report: all that is answered goes by it, and no recovery misses what was acknowledged before it began.
-use Rattle.std.specs.Prelude.{◌≡◌, ◌⊎◌, ℕ, List, length, take, map, All, slice_get, Option, Some, IfSome}
+use Rattle.std.specs.Prelude.{◌≡◌, ◌≤◌, ◌⊎◌, ℕ, List, length, take, map, All, Contains, slice_get, Option, Some, IfSome}
 use Rattle.lock_command.specs.declared.command.Command.{Command}
 use Rattle.lock_command.specs.Command.{spelling}
 use Rattle.slot_log.specs.Shape.{Shape}
-use Rattle.world.specs.Happens.{Event, run}
+use Rattle.host.specs.declared.answer.HostAnswer.TheVariants.{Recovered}
+use Rattle.world.specs.Happens.{Event, Line, run}
 use Rattle.world.specs.Chosen.{IsChosenAt, IsLog}
 use Rattle.world.specs.Headline.{IsPrefix}
-use Rattle.world.specs.Told.{prefix_before, IsSubmittedBefore, goes_by, MissesNothing}
+use Rattle.world.specs.Told.{prefix_before, IsSubmittedBefore, goes_by, BeganSince, MissesNothing}
 use Rattle.simulator.specs.declared.answer.Answer.{Answer}
 use Rattle.simulator.specs.Answers.{line_of}
 use Rattle.simulator.specs.Past.{Past, answers_of}
@@ -39,12 +40,19 @@ pub record IsOneLog (c : Shape) (events : List Event) (log : List Command) : Typ
 abbrev pub GoesBy : Shape → List Event → List Command → Answer → Type 0
 GoesBy c events log a = goes_by c events log (line_of a) a.picture a.said
 
--- The report tells of one log: all its answers go by it, and no recovery misses anything.
+-- A recovery that began with event i, or later, has learned as much as any host had before event i.
+abbrev pub HoldsLearned : Shape → List Event → List Line → Type 0
+HoldsLearned c events lines =
+    (x : Line) (i n j h : ℕ) → Contains lines x → x.said ≡ Recovered n → BeganSince c events i x
+    → j ≤ i → length (prefix_before c events j h) ≤ n
+
+-- The report tells of one log: all its answers go by it, and no recovery misses anything, or has learned less than others before it.
 pub record TellsOneLog (c : Shape) (events : List Event) (report : List Answer) : Type 0 where
   pub log : List Command
   pub one : IsOneLog c events log
   pub answers : All (GoesBy c events log) report
   pub recoveries : MissesNothing c events (map line_of report)
+  pub learned : HoldsLearned c events (map line_of report)
 
 -- So far there is one log: what was answered with the last event goes by it, and no recovery has missed anything.
 pub record GoesByOneLog (p : Past) (answer : Option Answer) : Type 0 where

@@ -3,16 +3,24 @@
 
 mod answer;
 mod device_call;
+mod interrupting;
+mod judging;
 mod outcome;
 mod parts;
+mod replay;
 mod report;
 mod room;
 mod sim;
+mod sweeping;
+mod tally;
 
 pub use answer::Answer;
+pub use judging::judge;
 pub use lock_script::{
     Event, Given, MOST_EVENTS, Run, Script, ScriptFault, Show, View, read_script,
 };
 pub use parts::{Parts, Said};
 pub use report::{Report, run};
 pub use sim::Sim;
+pub use sweeping::sweep;
+pub use tally::Sweep;

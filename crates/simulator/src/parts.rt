@@ -1,4 +1,4 @@
-ghost use Rattle.std.specs.Prelude.{◌≡◌, ℕ, List, [], Some, None, slice_index_or, length, replicate, ◌<◌, IfOk, OnErr};
+ghost use Rattle.std.specs.Prelude.{◌≡◌, ℕ, List, [], Some, None, slice_index_or, length, replicate, ◌<◌, ◌&&◌, is_none, IfOk, OnErr};
 ghost use Rattle.disk.specs.Simulated.{fresh_disk};
 ghost use Rattle.paxos_block.specs.Places.{image_length};
 ghost use Rattle.std.specs.Option.{option_map};
@@ -6,6 +6,7 @@ ghost use Rattle.slot_log.specs.Shape.{Shape};
 ghost use Rattle.world.specs.Entry.{Filled};
 ghost use Rattle.world.specs.Happens.{Start, Stop, Submit, Recover, Look, Beat, Mark, Step, Tear, FailCall, DiskCrash, DiskGone};
 ghost use Rattle.simulator.specs.Events.{event_of};
+ghost use Rattle.simulator.specs.Sweeping.{TellsNext};
 ghost use Rattle.simulator.specs.Kept.{Kept, LeadsTo, Brings, calm, is_busy, is_free};
 
 use crate::device_call::{crash_disk, is_write, lose_disk, make, refusal_of, spoil};
@@ -71,6 +72,25 @@ impl Parts {
         } else {
             None
         }
+    }
+
+    /// The disk of a host's next device call, and whether the call is a write that may be torn; none where it makes none.
+    pub fn next_call(&mut self, host: HostNumber) -> Option<(u8, bool)>
+        ensures unchanged { self.new ≡ self.old }
+        ensures next { TellsNext host result self.old }
+    {
+        let at = usize::from(host.get());
+        if !is_busy(&self.hosts[at]) {
+            return None;
+        }
+        let Some(core) = &self.hosts[at] else {
+            unreachable!()
+        };
+        let need = core.call();
+        let disk = &mut self.disks[usize::from(need.disk)];
+        let refusal = refusal_of(disk, &need.call);
+        let tears = may_tear(is_write(&need.call), refusal);
+        Some((need.disk, tears))
     }
 
     /// Lets an event happen, and tells what its host then says.
@@ -312,6 +332,13 @@ fn is_free(slot: &Option<HostCore>) -> bool
         None => false,
         Some(core) => core.idle(),
     }
+}
+
+/// Whether a call that is a write, or is not, may be torn where this stands in its way.
+fn may_tear(is_write: bool, refusal: Option<DiskFault>) -> bool
+    ensures { result ≡ (is_write && is_none refusal) }
+{
+    is_write && refusal.is_none()
 }
 
 /// What a host says now.

@@ -32,6 +32,13 @@ impl Model for Report {
 }
 
 impl Report {
+    /// A report of answers that were kept elsewhere.
+    pub fn of(answers: Vec<Answer>) -> Report
+        ensures { result ≡ answers.items }
+    {
+        Report { answers }
+    }
+
     /// The answers, by rising place.
     pub fn answers(&self) -> &[Answer]
         ensures { result.now ≡ self.now }

@@ -1,0 +1,16 @@
+use Rattle.std.specs.Prelude.{map}
+use Rattle.std.specs.List.{range_with_len}
+use Rattle.std.proofs.Common.{ℕ, ◌≡◌, ◌+◌, List, [], ◌∷◌, ◌++◌, sym, ap, ◌∙◌, arith}
+use Rattle.std.proofs.lemmas.List.FromFn.{map-range_with_len_more}
+use Rattle.world.specs.Happens.{Event, Stop}
+use Rattle.simulator.proofs.Replaying.{goes_further}
+use Rattle.simulator.proofs.replay.Replay.stop_all.Goals as goal
+
+pub loop-number-preserved : goal.loop-number-preserved
+loop-number-preserved c =
+    let at = c.loop-number in
+    let start = c.args.self.now in
+    let one_more : map Stop (range_with_len 0 at.number) ++ Stop c.in-Some.host ∷ [] ≡ map Stop (range_with_len 0 (at.number + 1)) =
+    ap (λ (h : ℕ). map Stop (range_with_len 0 at.number) ++ Stop h ∷ []) c.in-Some.ensures.host.1 ∙ sym (map-range_with_len_more Stop 0 at.number at.number (omega arith)) in
+    goes_further start at.self c.happen.new.self (map Stop (range_with_len 0 at.number)) (Stop c.in-Some.host ∷ []) at.invariant c.in_ok-happen.ensures.happened
+    ∙ ap (λ (l : List Event). record start { events = start.events ++ l }) one_more

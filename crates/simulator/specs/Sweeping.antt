@@ -1,0 +1,106 @@
+-- The variants of a list of events: before each step that applies, each way in which the host or the disk may be interrupted there; and behind them two recoveries.
+use Rattle.std.specs.Prelude.{◌≡◌, ◌+◌, ◌-◌, ◌*◌, ◌&&◌, ℕ, zero, suc, Bool, true, false, List, [], ◌∷◌, ◌++◌, length, map, take, drop, replicate, slice_get, Option, Some, None, is_none, if◌then◌else◌}
+use Rattle.std.specs.List.{list_any, range_with_len}
+use Rattle.disk.specs.Disk.{Call}
+use Rattle.disk.specs.Simulated.{refusal_of}
+use Rattle.torn_block.specs.declared.layout.TheConstants.{HOSTS}
+use Rattle.slot_log.specs.Shape.{Shape}
+use Rattle.host.specs.declared.answer.HostAnswer.{HostAnswer}
+use Rattle.host.specs.declared.answer.HostAnswer.TheVariants.{Recovered}
+use Rattle.host.specs.Host.{next_of}
+use Rattle.world.specs.World.{World, world}
+use Rattle.world.specs.Happens.{Event, Start, Stop, Recover, Step, Tear, DiskCrash, Line, run, answers_from}
+use Rattle.world.specs.Entry.{Filled}
+use Rattle.simulator.specs.Calls.{is_write}
+use Rattle.simulator.specs.Kept.{Kept, LeadsTo}
+
+-- WHAT IS PUT BEFORE A STEP
+
+-- the call is a write that its disk would not refuse
+abbrev pub tears : World → ℕ × Call → Bool
+tears w next = is_write next.1 && is_none (refusal_of (w.disk next.0) next.1)
+
+-- the disk of a call, and whether the call may be torn
+abbrev pub told_call : World → Option (ℕ × Call) → Option (ℕ × Bool)
+told_call w None = None
+told_call w (Some next) = Some (next.0, tears w next)
+
+-- so it is told of what is kept of a world
+abbrev pub TellsNext : ℕ → Option (ℕ × Bool) → Kept → Type 0
+TellsNext h told k = (log : List Filled) → LeadsTo log k → told ≡ told_call (world k.shape log) (next_of k.shape h ((world k.shape log).host h))
+
+-- the write is torn, and leaves zeros, ones, or open gates
+abbrev pub torn_ways : ℕ → List Event
+torn_ways h = Tear h (0 ∷ []) ∷ Tear h (255 ∷ []) ∷ Tear h (165 ∷ []) ∷ []
+
+-- the host stops, or stops within the write, or the disk of the call crashes and leaves zeros or ones
+abbrev pub ways : ℕ → Option (ℕ × Bool) → List Event
+ways h None = []
+ways h (Some next) =
+    (Stop h ∷ (if next.1 then torn_ways h else [])) ++ DiskCrash next.0 (0 ∷ []) ∷ DiskCrash next.0 (255 ∷ []) ∷ []
+
+-- so where the event is a step that applies; before other events nothing is put
+abbrev pub changes : Shape → World → Event → List Event
+changes c w (Step h) = ways h (told_call w (next_of c h (w.host h)))
+changes c w other = []
+
+abbrev pub changes_before : Shape → World → Option Event → List Event
+changes_before c w None = []
+changes_before c w (Some event) = changes c w event
+
+abbrev pub changes_at : Shape → List Event → ℕ → List Event
+changes_at c events i = changes_before c (world c (run c (take i events))) (slice_get events i)
+
+-- WHAT FOLLOWS
+
+-- a stopped host starts, recovers with all the calls that it can need, and stops
+abbrev pub recovery : Shape → ℕ → List Event
+recovery c h = Start h ∷ Recover h 255 ∷ replicate (17 * c.disks * (c.slots + 1)) (Step h) ++ Stop h ∷ []
+
+-- all hosts are stopped
+abbrev pub stops : List Event
+stops = map Stop (range_with_len 0 HOSTS)
+
+-- then the first recovers, and then the last
+abbrev pub ending : Shape → List Event
+ending c = stops ++ recovery c 0 ++ recovery c (HOSTS - 1)
+
+-- THE VARIANTS
+
+-- an event is put before event i
+abbrev pub changed : List Event → ℕ → Event → List Event
+changed events i change = take i events ++ change ∷ drop i events
+
+-- those of event i, without their endings
+abbrev pub variants_at : Shape → List Event → ℕ → List (List Event)
+variants_at c events i = map (changed events i) (changes_at c events i)
+
+-- those of the first n events, and of all
+abbrev pub variants_below : Shape → List Event → ℕ → List (List Event)
+variants_below c events zero = []
+variants_below c events (suc n) = variants_below c events n ++ variants_at c events n
+
+abbrev pub variants : Shape → List Event → List (List Event)
+variants c events = variants_below c events (length events)
+
+-- HOW THEY END
+
+abbrev pub tells_recovery : HostAnswer → Bool
+tells_recovery (Recovered n) = true
+tells_recovery other = false
+
+abbrev pub is_recovery : Line → Bool
+is_recovery x = tells_recovery x.said
+
+-- behind these events a recovery of the host answers
+abbrev pub recovers : Shape → List Event → ℕ → Bool
+recovers c events h = list_any is_recovery (answers_from c (run c events) (length events) (recovery c h))
+
+abbrev pub one_if : Bool → ℕ
+one_if answers = if answers then 1 else 0
+
+-- how many of the two recoveries behind these events answer
+abbrev pub recovered_behind : Shape → List Event → ℕ
+recovered_behind c events =
+    let stopped = events ++ stops in
+    one_if (recovers c stopped 0) + one_if (recovers c (stopped ++ recovery c 0) (HOSTS - 1))
