@@ -16,6 +16,10 @@ pub enum Task<'a> {
     Run {
         script: &'a str,
     },
+    /// Run the variants of the script at this path.
+    Sweep {
+        script: &'a str,
+    },
     /// Make the images of a cluster in this folder.
     Format {
         folder: &'a str,
@@ -85,6 +89,7 @@ pub fn task_of<'a>(alloc: Global, words: &'a [&'a str]) -> Result<Task<'a>, Word
         Some(("submit", submit)) => submit_task(alloc, submit),
         Some(("table", table)) => table_task(table),
         Some(("race", race)) => race_task(race),
+        Some(("sweep", sweep)) => sweep_task(sweep),
         _ => Err(WordsFault::Usage),
     }
 }
@@ -108,7 +113,8 @@ fn program<'a>(alloc: Global) -> Result<clap::Command<'a>, AllocError> {
         .subcommand(format_command(alloc)?)?
         .subcommand(submit_command(alloc)?)?
         .subcommand(table_command(alloc)?)?
-        .subcommand(race_command(alloc)?)
+        .subcommand(race_command(alloc)?)?
+        .subcommand(sweep_command(alloc)?)
 }
 
 /// A word that has to be given.
@@ -155,6 +161,12 @@ fn race_command<'a>(alloc: Global) -> Result<clap::Command<'a>, AllocError> {
         .arg(word(alloc, "hosts"))
 }
 
+fn sweep_command<'a>(alloc: Global) -> Result<clap::Command<'a>, AllocError> {
+    clap::Command::new(alloc, "sweep")
+        .disable_help_flag(true)
+        .arg(word(alloc, "script"))
+}
+
 fn run_task<'a>(run: &ArgMatches<'a>) -> Result<Task<'a>, WordsFault> {
     Ok(Task::Run {
         script: given(run, "script")?,
@@ -189,6 +201,12 @@ fn table_task<'a>(table: &ArgMatches<'a>) -> Result<Task<'a>, WordsFault> {
 fn race_task<'a>(race: &ArgMatches<'a>) -> Result<Task<'a>, WordsFault> {
     let last = last_host_of(given(race, "hosts")?)?;
     Ok(Task::Race { last })
+}
+
+fn sweep_task<'a>(sweep: &ArgMatches<'a>) -> Result<Task<'a>, WordsFault> {
+    Ok(Task::Sweep {
+        script: given(sweep, "script")?,
+    })
 }
 
 /// The word that was given under this name.
