@@ -6,8 +6,8 @@ _dlm() {
 
     COMPREPLY=()
     case $COMP_CWORD:$task in
-        1:*) words="run format submit table mark check race" ;;
-        2:run)
+        1:*) words="run format submit table mark check race sweep" ;;
+        2:run | 2:sweep)
             compopt -o filenames
             mapfile -t COMPREPLY < <(compgen -f -- "$word")
             return

@@ -20,7 +20,8 @@ complete -c dlm -n 'test (count (commandline -opc)) -eq 1' -a table -d 'show the
 complete -c dlm -n 'test (count (commandline -opc)) -eq 1' -a mark -d 'mark the slots that have no mark'
 complete -c dlm -n 'test (count (commandline -opc)) -eq 1' -a check -d 'look for damage in images'
 complete -c dlm -n 'test (count (commandline -opc)) -eq 1' -a race -d 'race host threads'
-complete -c dlm -n '__dlm_at 2 run' -F
+complete -c dlm -n 'test (count (commandline -opc)) -eq 1' -a sweep -d 'run the variants of a script'
+complete -c dlm -n '__dlm_at 2 run sweep' -F
 complete -c dlm -n '__dlm_at 2 format submit table mark check' -a '(__fish_complete_directories)'
 complete -c dlm -n '__dlm_at 2 race' -a '(seq 1 8)' -d 'hosts'
 complete -c dlm -n '__dlm_at 3 format' -a '(seq 1 7)' -d 'disks'

@@ -1,6 +1,7 @@
 #!/usr/bin/env bash
-# check.sh [FOLDER..]: runs each script NAME.dlm at and below the folders (none: this one) by ./dlm run, and compares what is
-# printed with NAME.out, what is told on standard error with NAME.err (none: nothing) and the status with NAME.status (none: 0).
+# check.sh [FOLDER..]: runs each script NAME.dlm at and below the folders (none: this one) by ./dlm run, in a folder `sweep` by
+# ./dlm sweep, and compares what is printed with NAME.out, what is told on standard error with NAME.err (none: nothing) and the
+# status with NAME.status (none: 0).
 set -uo pipefail
 
 tests=$(dirname -- "$(readlink -f -- "${BASH_SOURCE[0]}")")
@@ -19,8 +20,9 @@ wanted() {
 
 # Runs the script, and tells what differs.
 check() {
-    local name=${1%.dlm}
-    "$dlm" run "$1" >"$work/out" 2>"$work/err" </dev/null
+    local name=${1%.dlm} word=run
+    [[ $1 != */sweep/* ]] || word=sweep
+    "$dlm" "$word" "$1" >"$work/out" 2>"$work/err" </dev/null
     echo $? >"$work/status"
     diff -u -- "$(wanted "$name.out" "$work/empty")" "$work/out" &&
         diff -u -- "$(wanted "$name.err" "$work/empty")" "$work/err" &&

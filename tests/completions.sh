@@ -35,10 +35,11 @@ expect() {
     fi
 }
 
-expect 'dlm ' '<check> <format> <mark> <race> <run> <submit> <table>'
+expect 'dlm ' '<check> <format> <mark> <race> <run> <submit> <sweep> <table>'
 expect 'dlm f' '<format>'
 expect 'dlm race ' '<race> <1> <2> <3> <4> <5> <6> <7> <8>'
 expect 'dlm run o' '<run> <one.dlm>'
+expect 'dlm sweep o' '<sweep> <one.dlm>'
 expect 'dlm table ' '<table> <images> <more images>'
 expect 'dlm check im' '<check> <images>'
 expect 'dlm format im' '<format> <images>'
@@ -67,7 +68,7 @@ asked() {
 }
 
 if command -v fish >/dev/null; then
-    asked 'dlm ' 'check format mark race run submit table'
+    asked 'dlm ' 'check format mark race run submit sweep table'
     asked 'dlm table ' 'images/ more images/'
     asked 'dlm submit images 0 ' 'cancel convert enqueue purge release status'
     asked 'dlm submit images 0 enqueue 1 1 1 ' 'CR CW EX NL PR PW'

@@ -41,6 +41,9 @@ pub enum Fault {
     SeatsMissing,
     #[error("29 AlreadyThere")]
     AlreadyThere,
+    /// The number of the first run of a sweep that went by no log, from 0.
+    #[error("31 WrongRun {0}")]
+    WrongRun(usize),
     #[error("35 OpenCall")]
     OpenCall,
     /// The number of a host that somebody else works under.

@@ -1,4 +1,4 @@
-//! The program: runs a script over simulated disks, works over the images of a folder, and races host threads.
+//! The program: runs a script over simulated disks, sweeps its variants, works over the images of a folder, and races host threads.
 #![tactic(auto)]
 
 mod answer_text;
@@ -11,6 +11,7 @@ mod program;
 mod racing;
 mod reply_text;
 mod run;
+mod sweeping;
 mod words;
 
 use dlm_images::TryLock;

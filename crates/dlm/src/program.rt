@@ -4,6 +4,7 @@ ghost use Rattle.std.specs.Io.KnownBytes.{Keeps};
 use crate::failure::Failure;
 use crate::fault::Fault;
 use crate::run::run_script;
+use crate::sweeping::print_sweep;
 use crate::words::{Task, WordsFault, task_of};
 use crate::{images, racing};
 use dlm_images::TryLock;
@@ -59,6 +60,7 @@ where
         Task::Mark { folder, host } => images::mark(rt, folder, host, out),
         Task::Check { folder } => images::check(rt, folder, out),
         Task::Race { last } => racing::race_hosts(rt, last, out),
+        Task::Sweep { script } => sweep_file(rt, script, out),
     }
 }
 
@@ -115,6 +117,21 @@ fn run_bytes<O: Write>(alloc: Global, bytes: &[u8], out: &mut O) -> Result<(), F
     let end = run_script(alloc, &script, out);
     out.flush()?;
     end
+}
+
+fn sweep_file<R: Files + Input + AllocGlobal, O: Write>(
+    rt: &R,
+    path: &str,
+    out: &mut O,
+) -> Result<(), Failure> {
+    let bytes = read_source(rt, path)?;
+    sweep_bytes(rt.alloc(), bytes.as_slice(), out)
+}
+
+/// Reads the whole script and runs its variants.
+fn sweep_bytes<O: Write>(alloc: Global, bytes: &[u8], out: &mut O) -> Result<(), Failure> {
+    let script = read_script(alloc, bytes).map_err(Fault::from)?;
+    print_sweep(alloc, &script, out)
 }
 
 /// The bytes of the file, or of the standard input.

@@ -16,6 +16,10 @@ pub enum Task<'a> {
     Run {
         script: &'a str,
     },
+    /// Run the variants of the script at this path.
+    Sweep {
+        script: &'a str,
+    },
     /// Make the images of a cluster in this folder.
     Format {
         folder: &'a str,
@@ -96,6 +100,7 @@ pub fn task_of<'a>(alloc: Global, words: &'a [&'a str]) -> Result<Task<'a>, Word
         Some(("mark", mark)) => mark_task(mark),
         Some(("check", check)) => check_task(check),
         Some(("race", race)) => race_task(race),
+        Some(("sweep", sweep)) => sweep_task(sweep),
         _ => Err(WordsFault::Usage),
     }
 }
@@ -121,7 +126,8 @@ fn program<'a>(alloc: Global) -> Result<clap::Command<'a>, AllocError> {
     let program = with(program, table_command(alloc))?;
     let program = with(program, mark_command(alloc))?;
     let program = with(program, check_command(alloc))?;
-    with(program, race_command(alloc))
+    let program = with(program, race_command(alloc))?;
+    with(program, sweep_command(alloc))
 }
 
 // The program with one subcommand more. Here alone a command is held where there is no memory for the next one.
@@ -189,6 +195,12 @@ fn race_command<'a>(alloc: Global) -> Result<clap::Command<'a>, AllocError> {
         .arg(word(alloc, "hosts"))
 }
 
+fn sweep_command<'a>(alloc: Global) -> Result<clap::Command<'a>, AllocError> {
+    clap::Command::new(alloc, "sweep")
+        .disable_help_flag(true)
+        .arg(word(alloc, "script"))
+}
+
 fn run_task<'a>(run: &ArgMatches<'a>) -> Result<Task<'a>, WordsFault> {
     Ok(Task::Run {
         script: given(run, "script")?,
@@ -235,6 +247,12 @@ fn check_task<'a>(check: &ArgMatches<'a>) -> Result<Task<'a>, WordsFault> {
 fn race_task<'a>(race: &ArgMatches<'a>) -> Result<Task<'a>, WordsFault> {
     let last = last_host_of(given(race, "hosts")?)?;
     Ok(Task::Race { last })
+}
+
+fn sweep_task<'a>(sweep: &ArgMatches<'a>) -> Result<Task<'a>, WordsFault> {
+    Ok(Task::Sweep {
+        script: given(sweep, "script")?,
+    })
 }
 
 /// The word that was given under this name.

@@ -5,6 +5,8 @@ use lock_command::{
 use lock_modes::Mode;
 use lock_table::{Picture, Reply, Table};
 use std::alloc::Global;
+use std::io;
+use std::io::Write;
 use std::test::Fail;
 
 /// Client `n` asks for its lock `n` through host `n - 1`, by its first request.
@@ -58,6 +60,56 @@ fn two_names_in_all_states(rt: HostRuntime) -> Result<(), Fail> {
     let text =
         b"d\n  granted 4 4 3 NL\ndb\n  granted 2 2 1 PR\n  converting 1 1 0 PR EX\n  waiting 3 3 2 EX\n";
     assert_eq!(rt; out.as_slice(), text.as_slice());
+    Ok(())
+}
+
+/// A writer that takes so many bytes more, and then fails.
+#[derive(Drop)]
+struct Short {
+    left: usize,
+    taken: Vec<u8>,
+}
+
+impl Write for Short {
+    fn write(&mut self, buf: &[u8]) -> io::Result<usize> {
+        if self.left == 0 {
+            return Err(io::Error::from(io::ErrorKind::StorageFull));
+        }
+        let count = buf.len().min(self.left);
+        self.taken.extend_from_slice(&buf[..count])?;
+        self.left -= count;
+        Ok(count)
+    }
+
+    fn flush(&mut self) -> io::Result<()> {
+        Ok(())
+    }
+}
+
+/// What such a writer was given of a text, and whether it was told to have failed.
+fn cut_text(alloc: Global, picture: &Picture, left: usize) -> (Vec<u8>, bool) {
+    let mut out = Short {
+        left,
+        taken: Vec::new(alloc),
+    };
+    let failed = queues(picture, &mut out).is_err();
+    (out.taken, failed)
+}
+
+#[test]
+fn writers_that_fail_at_each_byte(rt: HostRuntime) -> Result<(), Fail> {
+    let mut table = Table::new(rt.alloc())?;
+    two_names(&mut table)?;
+    let text = text_of(rt.alloc(), &table)?;
+    let picture = table.picture(rt.alloc())?;
+    for left in 0..text.len() {
+        let (taken, failed) = cut_text(rt.alloc(), &picture, left);
+        assert!(rt; failed, "after {left} bytes");
+        assert_eq!(rt; taken.as_slice(), &text[..left], "after {left} bytes");
+    }
+    let (taken, failed) = cut_text(rt.alloc(), &picture, text.len());
+    assert!(rt; !failed);
+    assert_eq!(rt; taken.as_slice(), text.as_slice());
     Ok(())
 }
 
