@@ -7,7 +7,8 @@
  * Threads: a handle is for one thread at a time. Several handles of one process may be used by several threads at once, each
  * with a host number of its own.
  *
- * Processes: one process at a time for a host number. What writes to a folder's images (mg_format, each command, a recovery)
+ * Processes: one handle at a time for a host number. mg_open locks the number, by hostH.lock in the folder, until mg_close or the
+ * end of the process; so does dlm for each of its commands. What writes to a folder's images (mg_format, each command, a recovery)
  * excludes all else that works on them, and what only reads them (mg_open, a look) what writes: by an advisory lock (flock) of
  * the folder, where all use this library on one machine, or over a file system that carries flock between machines. Elsewhere
  * see to it yourself.
@@ -80,7 +81,9 @@ enum mg_outcome {
     MG_NOT_FORMATTED = 24,
     MG_WRONG_HEADER = 25,
     MG_UNREADABLE = 26,
-    MG_ALREADY_THERE = 29
+    MG_ALREADY_THERE = 29,
+    MG_HOST_IN_USE = 36,
+    MG_NO_LOCK = 37
 };
 
 /* A sentence for any such number. It is never NULL, and is never to be freed. */

@@ -97,6 +97,8 @@ static const struct meaning MEANINGS[] = {
     {MG_WRONG_HEADER, "WrongHeader", "an image has a header that is not of this folder, or of another number"},
     {MG_UNREADABLE, "Unreadable", "an image cannot be opened, read, made or written"},
     {MG_ALREADY_THERE, "AlreadyThere", "one of the images that were to be made is there"},
+    {MG_HOST_IN_USE, "HostInUse", "another process or handle works under this host number"},
+    {MG_NO_LOCK, "NoLock", "the host number cannot be locked: no file for it in the folder, or no locks there"},
 };
 
 static const struct meaning *meaning_of(int status) {

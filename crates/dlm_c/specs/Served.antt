@@ -8,6 +8,7 @@ use Rattle.host.specs.Host.{Submitting, Recovering, Looking, fresh}
 use Rattle.host.specs.Kept.{Kept, LeadsTo}
 use Rattle.host.specs.declared.answer.HostAnswer.TheVariants.{Refused, Marked}
 use Rattle.dlm_images.specs.Folders.{IsOpened}
+use Rattle.dlm_images.specs.Sets.{Found}
 use Rattle.dlm_images.specs.Operations.{Standing, HasOperated, HasMarked, AreReads, IsAcknowledged}
 use Rattle.dlm_c.specs.declared.answer.Answer.{Answer}
 use Rattle.dlm_c.specs.declared.request.Request.{Request}
@@ -118,7 +119,8 @@ MarksIn slot old new count status = InHandle (λ h k. MarksSlot slot h k count s
 -- A host of this number, which has learned nothing, over the images of a folder.
 pub record IsFresh (number : ℕ) (new : Session) : Type 0 where
   pub learned_nothing : LeadsTo new.config number fresh new.host.core
-  pub images : IsOpened new.config new.cluster new.host.disks
+  pub found : Found
+  pub images : IsOpened found new.config new.cluster new.host.disks
 
 -- such a host is kept
 abbrev pub KeepsFresh : ℕ → Option Session → Type 0

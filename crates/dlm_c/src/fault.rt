@@ -2,7 +2,7 @@ ghost use Rattle.std.specs.Prelude.{◌≡◌, ◌≢◌};
 ghost use Rattle.dlm_c.specs.Numbers.{done, no_such_lock, operation_number, table_number};
 
 use disk::ImageFault;
-use dlm_images::FolderFault;
+use dlm_images::{FolderFault, LockFault};
 use host::Refusal;
 use std::alloc::AllocError;
 
@@ -25,6 +25,10 @@ pub enum Fault {
     AlreadyThere,
     /// The image of this number has this fault.
     Image { disk: u8, fault: ImageFault },
+    /// Another process works under the host's number, or another handle of this one.
+    HostInUse,
+    /// The host's number cannot be locked.
+    NoLock,
 }
 
 impl Fault {
@@ -44,6 +48,8 @@ impl Fault {
                 ImageFault::WrongHeader => 25,
                 ImageFault::Unreadable => 26,
             },
+            Fault::HostInUse => 36,
+            Fault::NoLock => 37,
         }
     }
 }
@@ -95,6 +101,16 @@ impl From<disk::NoMemory> for Fault {
 impl From<lock_table::NoMemory> for Fault {
     fn from(_: lock_table::NoMemory) -> Self {
         Fault::NoMemory
+    }
+}
+
+impl From<LockFault> for Fault {
+    fn from(fault: LockFault) -> Self {
+        match fault {
+            LockFault::NoMemory => Fault::NoMemory,
+            LockFault::InUse(_) => Fault::HostInUse,
+            LockFault::NoLock(_) => Fault::NoLock,
+        }
     }
 }
 

@@ -11,7 +11,7 @@ use crate::fault::{BAD_ARGUMENT, Fault, operation_number};
 use crate::request::{Request, host_of};
 use crate::view::{ClientView, HostView, LockView};
 use disk::FileDisk;
-use dlm_images::{DiskHost, format_folder, open_folder};
+use dlm_images::{DiskHost, format_folder, lock_host, open_folder};
 use host::Config;
 use inspect::queues;
 use lock_command::Command;
@@ -25,10 +25,12 @@ pub struct Session {
     pub host: DiskHost<FileDisk<SystemFile>>,
     pub config: Config,
     pub cluster: u64,
+    /// The file by which the host's number is locked. It is kept for that alone.
+    lock: SystemFile,
 }
 
 impl Session {
-    /// A host over the images of this folder. It has learned nothing yet.
+    /// A host over the images of this folder, whose number is locked from now on. It has learned nothing yet.
     pub fn open(alloc: Global, folder: &[u8], number: u32) -> Result<Session, Fault>
         ensures { IfOk result (IsFresh number) }
     {
@@ -36,14 +38,17 @@ impl Session {
         let Some(number) = host_of(number) else {
             return Err(Fault::BadArgument);
         };
-        let folder = open_folder(&SystemFiles { alloc }, folder)?;
-        let config = folder.config;
-        let cluster = folder.cluster;
-        let host = folder.host(alloc, number)?;
+        let files = SystemFiles { alloc };
+        let images = open_folder(&files, folder)?;
+        let lock = lock_host(&files, folder, number)?;
+        let config = images.config;
+        let cluster = images.cluster;
+        let host = images.host(alloc, number)?;
         Ok(Session {
             host,
             config,
             cluster,
+            lock,
         })
     }
 
