@@ -246,6 +246,9 @@ int main(int argc, char **argv) {
     IS(mg_open(argv[1], 0, &first, &disk), MG_OK);
     IS(disk, -1);
     IS(mg_open(argv[1], 1, &second, NULL), MG_OK);
+    struct mg_host *third;
+    IS(mg_open(argv[1], 1, &third, NULL), MG_HOST_IN_USE);
+    IS(third == NULL, 1);
     bad_commands(first);
     commands(first, second);
     mg_close(first);
