@@ -88,7 +88,7 @@ impl TryLock for SystemFile {
     // The system alone knows who has a lock.
     ghost locked = { λ file. Unit {0} };
 
-    fn try_lock(&self) -> core::result::Result<(), TryLockError> {
+    fn try_lock(&self) -> std::result::Result<(), TryLockError> {
         for _ in 0..MOST_TURNS {
             if libc::flock(self.descriptor.as_raw_fd(), libc::LOCK_EX | libc::LOCK_NB) == 0 {
                 return Ok(());
