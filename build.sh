@@ -1,4 +1,4 @@
-# To be sourced by `dlm`, `bench.sh` and `capi/build.sh`, which set `top` to the root: builds a program where it is missing, or where its code or contracts
+# To be sourced by `dlm` and `bench.sh`, which set `top` to the root: builds a program where it is missing, or where its code or contracts
 # changed since its last build began.
 
 # Sets `below` to the libraries of the repository that a crate stands on, lowest first: crates.txt names for each crate those that its own files cite.
@@ -33,13 +33,12 @@ find_sources() {
     done
 }
 
-# is_current CRATE [FILE]: whether what was built of the crate, the program or this file of its folder out, is newer than its sources.
 # A file that was deleted is noticed by the time of its folder.
 is_current() {
-    local sources newer built=$top/crates/$1/out/${2-$1}
-    [[ -e $built ]] || return 1
+    local sources newer
+    [[ -x $top/crates/$1/out/$1 ]] || return 1
     find_sources "$1"
-    newer=$(find "${sources[@]}" -newer "$built" -print -quit) && [[ -z $newer ]]
+    newer=$(find "${sources[@]}" -newer "$top/crates/$1/out/$1" -print -quit) && [[ -z $newer ]]
 }
 
 # Standard error may be closed.

@@ -1,8 +1,8 @@
 #!/usr/bin/env bash
-# The manual pages: no formatter that is installed has anything to say about them.
+# The manual page: no formatter that is installed has anything to say about it.
 set -uo pipefail
 
-top=$(dirname -- "$(dirname -- "$(readlink -f -- "${BASH_SOURCE[0]}")")")
+page=$(dirname -- "$(dirname -- "$(readlink -f -- "${BASH_SOURCE[0]}")")")/man/dlm.1
 failed=0
 tried=
 
@@ -17,16 +17,12 @@ quiet() {
     fi
 }
 
+# Another man than that of man-db knows no such words.
+if man --version >/dev/null 2>&1; then quiet man --warnings -l "$page"; fi
+quiet groff -ww -mdoc -Tutf8 -z "$page"
 # mandoc tells what it finds on standard output.
-lint() { mandoc -Tlint -Wwarning "$1" >&2; }
+lint() { mandoc -Tlint -Wwarning "$page" >&2; }
+if command -v mandoc >/dev/null; then quiet lint; fi
 
-for page in "$top"/man/dlm.1 "$top"/man/midgegalena.3; do
-    # Another man than that of man-db knows no such words.
-    if man --version >/dev/null 2>&1; then quiet man --warnings -l "$page"; fi
-    quiet groff -ww -mdoc -Tutf8 -z "$page"
-    if command -v mandoc >/dev/null; then quiet lint "$page"; fi
-done
-
-tried=$(printf '%s\n' $tried | sort -u | tr '\n' ' ')
-echo "man: ${tried:-no formatter }- $([[ $failed -eq 0 ]] && echo nothing to say || echo see above)"
+echo "man/dlm.1:${tried:- no formatter}, $([[ $failed -eq 0 ]] && echo nothing to say || echo see above)"
 exit "$failed"

@@ -1,3 +1,0 @@
-mod NoneBelow
-mod Shown
-mod Values
