@@ -1,8 +1,7 @@
 // Worked runs, through every call that may want memory.
 use host::HostAnswer;
-use lock_table::{Reply, Table};
-use simulator::{Answer, Event, Parts, Report, Sim, judge, read_script, run, sweep};
-use std::alloc::Global;
+use lock_table::Reply;
+use simulator::{Parts, Sim, read_script, run};
 use std::test::Fail;
 
 const FIRST_REPLY: &[u8] = b"cluster 1 4\nstart 0\nsubmit 0 1 enqueue 1 1 10 EX db\nstep 0 17\n";
@@ -21,10 +20,6 @@ stop 0\ngone 2\nstart 1\nrecover 1 1\nstep 1 56\n";
 const LOOKED: &[u8] =
     b"cluster 1 2\nstart 0\nsubmit 0 1 enqueue 1 1 1 EX db\nstep 0 17\nmark 0 0\nstep 0 9\n\
 start 1\nlook 1\nstep 1 6\n";
-
-// A call fails behind the last of a submission.
-const FAILED_LAST: &[u8] =
-    b"cluster 3 2\nstart 0\nsubmit 0 1 enqueue 1 1 1 EX db\nstep 0 51\nfail 0 a5\n";
 
 #[test]
 fn first_reply(rt: HostRuntime) -> Result<(), Fail> {
@@ -108,104 +103,6 @@ fn parts_say_the_same(rt: HostRuntime) -> Result<(), Fail> {
     }
     assert_eq!(rt; said.as_slice(), [(18, 0)].as_slice());
     Ok(())
-}
-
-// Seventeen stops, six writes torn in three ways, and seventeen calls before which the disk crashes in two.
-#[test]
-fn sweep_of_the_first_reply(rt: HostRuntime) -> Result<(), Fail> {
-    let script = read_script(rt.alloc(), FIRST_REPLY)?;
-    let swept = sweep(rt.alloc(), &script)?;
-    assert_eq!(rt; swept.runs, 69);
-    assert_eq!(rt; swept.recovered, 138);
-    assert_eq!(rt; swept.wrong, 0);
-    assert_eq!(rt; swept.first, None);
-    Ok(())
-}
-
-// The same acknowledgement over an empty log, with another reply, and at another slot; and a recovery that says one command more.
-#[test]
-fn judge_of_changed_reports(rt: HostRuntime) -> Result<(), Fail> {
-    let script = read_script(rt.alloc(), FIRST_REPLY)?;
-    let events = script.events.to_vec(rt.alloc())?;
-    let report = run(rt.alloc(), script.config, &events)?;
-    let Event::Submit { command, .. } = events[1] else {
-        return Err(Fail::from("a submission"));
-    };
-    let log = [command];
-    assert!(rt; judge(rt.alloc(), &report, &log)?);
-    assert!(rt; !judge(rt.alloc(), &report, &[])?);
-    for (slot, reply) in [(0, Reply::Queued), (1, Reply::Granted)] {
-        let mut answers = Vec::new(rt.alloc());
-        answers.push(Answer {
-            place: 18,
-            host: command.host,
-            said: HostAnswer::Ack { slot, reply },
-            picture: None,
-        })?;
-        assert!(rt; !judge(rt.alloc(), &Report::of(answers), &log)?);
-    }
-    Ok(())
-}
-
-#[test]
-fn judge_of_pictures(rt: HostRuntime) -> Result<(), Fail> {
-    let script = read_script(rt.alloc(), LOOKED)?;
-    let events = script.events.to_vec(rt.alloc())?;
-    let Event::Submit { command, .. } = events[1] else {
-        return Err(Fail::from("a submission"));
-    };
-    let report = run(rt.alloc(), script.config, &events)?;
-    assert!(rt; judge(rt.alloc(), &report, &[command])?);
-    assert!(rt; !judge(rt.alloc(), &report, &[])?);
-    for length in [0, 2] {
-        let mut answers = Vec::new(rt.alloc());
-        answers.push(Answer {
-            place: 36,
-            host: command.host,
-            said: HostAnswer::Recovered { length },
-            picture: Some(Table::new(rt.alloc())?.picture(rt.alloc())?),
-        })?;
-        assert!(rt; judge(rt.alloc(), &Report::of(answers), &[command, command])? == (length == 0));
-    }
-    Ok(())
-}
-
-// A submission over three disks makes 51 calls. Whichever of them fails, two disks are left.
-#[test]
-fn failing_calls(rt: HostRuntime) -> Result<(), Fail> {
-    let script = read_script(rt.alloc(), FAILED_LAST)?;
-    let events = script.events.to_vec(rt.alloc())?;
-    let granted = HostAnswer::Ack {
-        slot: 0,
-        reply: Reply::Granted,
-    };
-    for calls in 0..51 {
-        let mut sim = Sim::new(rt.alloc(), script.config)?;
-        let before = said(rt.alloc(), &mut sim, &events[..2 + calls])?;
-        let failing = said(rt.alloc(), &mut sim, &events[53..])?;
-        let behind = said(rt.alloc(), &mut sim, &events[2..53])?;
-        assert_eq!(rt; before, None, "after {calls} calls");
-        assert!(rt;
-            failing.is_none() || behind.is_none(),
-            "after {calls} calls"
-        );
-        assert_eq!(rt; failing.or(behind), Some(granted), "after {calls} calls");
-    }
-    Ok(())
-}
-
-// What is answered at these events, once at most.
-fn said(alloc: Global, sim: &mut Sim, events: &[Event]) -> Result<Option<HostAnswer>, Fail> {
-    let mut said = None;
-    for event in events {
-        if let Some(answer) = sim.event(alloc, event)? {
-            if said.is_some() {
-                return Err(Fail::from("two answers"));
-            }
-            said = Some(answer.said);
-        }
-    }
-    Ok(said)
 }
 
 // The laws of the crates below that have no tests of their own, each called once: their contracts
