@@ -308,82 +308,82 @@ fn headers_that_disagree(rt: HostRuntime) -> Result<(), Fail> {
 
 /// The mark of host 0's block of slot 0 is taken away on each disk, as if its process had died before it.
 const UNMARKED: [Step; 3] = [
-    Byte("dlm_folder_f/disk0.img", 2051, 0),
-    Byte("dlm_folder_f/disk1.img", 2051, 0),
-    Byte("dlm_folder_f/disk2.img", 2051, 0),
+    Byte("dlm_folder_g/disk0.img", 2051, 0),
+    Byte("dlm_folder_g/disk1.img", 2051, 0),
+    Byte("dlm_folder_g/disk2.img", 2051, 0),
 ];
 
 #[test]
 fn slots_that_have_no_mark(rt: HostRuntime) -> Result<(), Fail> {
-    new_folder(&rt, "dlm_folder_f")?;
+    new_folder(&rt, "dlm_folder_g")?;
     let steps = [
         Gives(
-            "format dlm_folder_f 3 16 7",
+            "format dlm_folder_g 3 16 7",
             0,
             "formatted 3 disks, 16 slots\n",
         ),
-        Gives("mark dlm_folder_f 1", 0, "recovered 0\nmarked 0 slots\n"),
+        Gives("mark dlm_folder_g 1", 0, "recovered 0\nmarked 0 slots\n"),
         Gives(
-            "submit dlm_folder_f 0 enqueue 1 1 1 EX db",
+            "submit dlm_folder_g 0 enqueue 1 1 1 EX db",
             0,
             "ack 0 Granted\n",
         ),
-        Gives("submit dlm_folder_f 0 release 1 2 1", 0, "ack 1 Released\n"),
-        Gives("mark dlm_folder_f 1", 0, "recovered 2\nmarked 0 slots\n"),
+        Gives("submit dlm_folder_g 0 release 1 2 1", 0, "ack 1 Released\n"),
+        Gives("mark dlm_folder_g 1", 0, "recovered 2\nmarked 0 slots\n"),
     ];
     follow(&rt, &steps)?;
     follow(&rt, &UNMARKED)?;
     // Slot 0 alone has lost its mark; slot 1 after it is recovered as well, and is not told by a mark of host 1.
     let marked = [
-        Gives("mark dlm_folder_f 1", 0, "recovered 2\nmarked 1 slots\n"),
-        Gives("mark dlm_folder_f 2", 0, "recovered 2\nmarked 0 slots\n"),
-        Gives("table dlm_folder_f 3", 0, "recovered 2\nempty\n"),
-        Remove("dlm_folder_f/disk0.img"),
-        Remove("dlm_folder_f/disk1.img"),
-        Gives("mark dlm_folder_f 2", 1, "dlm: 7 NoMajority\n"),
+        Gives("mark dlm_folder_g 1", 0, "recovered 2\nmarked 1 slots\n"),
+        Gives("mark dlm_folder_g 2", 0, "recovered 2\nmarked 0 slots\n"),
+        Gives("table dlm_folder_g 3", 0, "recovered 2\nempty\n"),
+        Remove("dlm_folder_g/disk0.img"),
+        Remove("dlm_folder_g/disk1.img"),
+        Gives("mark dlm_folder_g 2", 1, "dlm: 7 NoMajority\n"),
     ];
     follow(&rt, &marked)?;
-    fs::remove_dir_all(&rt, "dlm_folder_f")?;
+    fs::remove_dir_all(&rt, "dlm_folder_g")?;
     Ok(())
 }
 
 #[test]
 fn one_process_a_host_number(rt: HostRuntime) -> Result<(), Fail> {
-    new_folder(&rt, "dlm_folder_f")?;
+    new_folder(&rt, "dlm_folder_h")?;
     let host = HostNumber::new(3).ok_or("no host")?;
     let format = Gives(
-        "format dlm_folder_f 1 4 7",
+        "format dlm_folder_h 1 4 7",
         0,
         "formatted 1 disks, 4 slots\n",
     );
     follow(&rt, &[format])?;
-    let lock = lock_host(&rt, "dlm_folder_f", host)?;
+    let lock = lock_host(&rt, "dlm_folder_h", host)?;
     let in_use = [
-        Gives("table dlm_folder_f 3", 1, "dlm: 36 HostInUse host3\n"),
+        Gives("table dlm_folder_h 3", 1, "dlm: 36 HostInUse host3\n"),
         Gives(
-            "submit dlm_folder_f 3 enqueue 1 1 1 EX db",
+            "submit dlm_folder_h 3 enqueue 1 1 1 EX db",
             1,
             "dlm: 36 HostInUse host3\n",
         ),
         Gives(
-            "submit dlm_folder_f 2 enqueue 1 1 1 EX db",
+            "submit dlm_folder_h 2 enqueue 1 1 1 EX db",
             0,
             "ack 0 Granted\n",
         ),
     ];
     follow(&rt, &in_use)?;
     drop(lock);
-    rt.symlink("no/such/folder", "dlm_folder_f/host4.lock")?;
+    rt.symlink("no/such/folder", "dlm_folder_h/host4.lock")?;
     let table = "recovered 1\ndb\n  granted 1 1 2 EX\n";
     let free = [
-        Gives("table dlm_folder_f 3", 0, table),
-        Gives("table dlm_folder_f 4", 1, "dlm: 37 NoLock host4\n"),
+        Gives("table dlm_folder_h 3", 0, table),
+        Gives("table dlm_folder_h 4", 1, "dlm: 37 NoLock host4\n"),
         // What is wrong with the images is told first.
-        Remove("dlm_folder_f/disk0.img"),
-        Gives("table dlm_folder_f 4", 1, "dlm: 26 Unreadable disk0\n"),
+        Remove("dlm_folder_h/disk0.img"),
+        Gives("table dlm_folder_h 4", 1, "dlm: 26 Unreadable disk0\n"),
     ];
     follow(&rt, &free)?;
-    fs::remove_dir_all(&rt, "dlm_folder_f")?;
+    fs::remove_dir_all(&rt, "dlm_folder_h")?;
     Ok(())
 }
 
