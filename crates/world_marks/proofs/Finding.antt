@@ -1,0 +1,167 @@
+-- What is marked on more than half of the disks is found by each attempt that begins later, and so by each look.
+use Rattle.std.specs.Prelude.{IsTrue, ◌*◌, if◌then◌else◌}
+use Rattle.std.proofs.Common.{ℕ, zero, suc, ◌+◌, ◌<◌, ◌≤◌, ◌≡◌, inl, inr, Bool, true, false, cond, Option, Some, None, List, length, refl, sym, subst, ap, ◌∙◌, arith}
+use Rattle.std.proofs.lemmas.Bool.{cases_lt, ltb-true, both_ways}
+use Rattle.torn_block.specs.declared.layout.TheConstants.{HOSTS}
+use Rattle.paxos_block.specs.declared.block.PBlock.{PBlock}
+use Rattle.paxos_block.specs.Row.{SeenBlock}
+use Rattle.paxos_block.specs.Votes.{says_in, marked}
+use Rattle.attempt.specs.Answers.{Answered, Answers, on, heard_as, row_in}
+use Rattle.attempt.specs.Calls.{Opening}
+use Rattle.attempt.specs.History.{IsHistory}
+use Rattle.attempt.specs.Numbers.{count}
+use Rattle.attempt.specs.Proposal.{decided}
+use Rattle.attempt.specs.Setup.{Setup}
+use Rattle.attempt.specs.Status.{Ended, NoMajority, next_or, unless_decided, balloting, status, taken}
+use Rattle.attempt.specs.Visits.{visited, is_left, are_enough}
+use Rattle.attempt.proofs.Histories.{history_reached}
+use Rattle.attempt.proofs.Visitors.{left_is, left_over}
+use Rattle.slot_log.specs.Shape.{Shape}
+use Rattle.host.specs.declared.answer.HostAnswer.TheVariants as said
+use Rattle.host.specs.Host.{Memory, Host, Stopped, Running, setup_of, with_heard, idles}
+use Rattle.world.specs.Entry.{Filled, Look, Mark}
+use Rattle.world.specs.World.{World, IsRun}
+use Rattle.world.specs.Chosen.{at, Hears}
+use Rattle.world.proofs.Histories.{heard_then}
+use Rattle.world.proofs.Runs.{each}
+use Rattle.world_safety.specs.Claims.{HasHeardNothing}
+use Rattle.world_safety.proofs.Moves.Moving.{IsIdle, idle_is, running_at}
+use Rattle.world_safety.proofs.Runs.Saying.{heard_at, hears_at, whence}
+use Rattle.world_safety.proofs.Runs.Tracks.{moves_at, tied_at}
+use Rattle.world_marks.specs.Found.{IsMarkedOn, IsMarkedOnMany, IsMarkedBefore, FindsMark, AttemptsFind, HasLooked, LooksFind}
+use Rattle.world_marks.proofs.Counting.{counts_marked}
+use Rattle.world_marks.proofs.Keeping.{some_row, undecided_block}
+use Rattle.world_marks.proofs.Places.{stays_marked}
+use Rattle.world_marks.proofs.Saying.{full_looks, status_looks}
+use Rattle.world_marks.proofs.Showing.{IsMarkShown, Shown, shown_more, shown_at}
+use Rattle.world_marks.proofs.Steps.{tries_at}
+
+-- TWO MAJORITIES MEET
+
+record Shared (n : ℕ) (f g : ℕ → Bool) : Type 0 where
+  disk : ℕ
+  inside : disk < n
+  first : f disk ≡ true
+  second : g disk ≡ true
+
+overlap : (n : ℕ) (f g : ℕ → Bool) → n < count n f + count n g → Shared n f g
+overlap zero f g many = absurd (omega arith)
+overlap (suc n) f g many = go (f n) (g n) refl refl many (overlap n f g)
+  where
+    longer : Shared n f g → Shared (suc n) f g
+    longer is = record { disk = is.disk; inside = (let less = is.inside in omega arith); first = is.first; second = is.second }
+
+    go : (x y : Bool) → f n ≡ x → g n ≡ y → suc n < (count n f + cond x 1 0) + (count n g + cond y 1 0) → (n < count n f + count n g → Shared n f g) → Shared (suc n) f g
+    go true true here there many before = record { disk = n; inside = omega arith; first = here; second = there }
+    go true false here there many before = longer (before (omega arith))
+    go false true here there many before = longer (before (omega arith))
+    go false false here there many before = longer (before (omega arith))
+
+-- a marked input is one
+shown_marked : (says : PBlock) → IsMarkShown says → marked says ≡ None → ⊥
+shown_marked says is none = by says.mark is.mark none
+  where
+    by : (b : Bool) → b ≡ true → (if b then says.inp else None) ≡ None → ⊥
+    by true has none = (let known = is.inp in let both : Some is.value ≡ None = sym known ∙ none in absurd (cc))
+    by false has none = absurd (both_ways false refl has)
+
+-- AN ATTEMPT THAT IS SHOWN A MARK ON MORE THAN HALF OF THE DISKS
+
+module _ (s : Setup) (heard : List Answered) (is : IsHistory s heard) (g n : ℕ) (below : g < HOSTS) (those : ℕ → Bool) (many : count s.disks those ≡ n) (most : s.disks < 2 * n)
+    (shown : (d : ℕ) → d < s.disks → those d ≡ true → (row : List SeenBlock) → row_in Opening (on heard d) ≡ Some row → IsMarkShown (says_in row g)) where
+  abbrev f : Answers
+  f = on heard
+
+  -- behind its opening something is decided
+  not_undecided : are_enough s (is_left s Opening f) ≡ true → visited s Opening f ≡ None → decided s f ≡ None → ⊥
+  not_undecided enough over none =
+      let half = ltb-true s.disks (2 * count s.disks (is_left s Opening f)) enough in
+      let both = overlap s.disks those (is_left s Opening f) (omega (arith, many, most, half)) in
+      let d = both.disk in
+      let row = some_row (row_in Opening (f both.disk)) (((history_reached s heard is).disk both.disk).read Opening (left_is s Opening (visited s Opening f) f both.disk both.second).good (left_over s Opening f both.disk over both.inside both.second)) in
+      shown_marked (says_in row.0 g) (shown both.disk both.inside both.first row.0 row.1) (undecided_block s f none both.disk both.inside row.0 row.1 g below)
+
+  pub finds : FindsMark (status s f)
+  finds = by (are_enough s (is_left s Opening f)) refl (visited s Opening f) refl (decided s f) refl
+    where
+      by : (b : Bool) → are_enough s (is_left s Opening f) ≡ b → (o : Option ℕ) → visited s Opening f ≡ o → (v : Option (List ℕ)) → decided s f ≡ v
+          → FindsMark (if b then next_or Opening o (unless_decided v (balloting s f)) else Ended NoMajority)
+      by false short o at v is = tt
+      by true enough (Some d) at v is = tt
+      by true enough None at (Some value) is = tt
+      by true enough None at None is = absurd (not_undecided enough at is)
+
+module _ (c : Shape) (log : List Filled) (run : IsRun c log) where
+  -- what is marked before a place is a slot, marked by a host
+  slot_is : (i slot : ℕ) → IsMarkedBefore c log i slot → slot < c.slots
+  slot_is i slot marked = (each c log marked.from (Mark marked.host slot) run marked.marking.begins).1
+
+  idle_host : (w : World) (host : ℕ) (old : Host) → w.host host ≡ old → IsTrue (idles old) → (m : Memory) × (w.host host ≡ Running m) × (IsIdle m)
+  idle_host w host Stopped is idle = absurd (cc)
+  idle_host w host (Running m) is idle = (m, is, idle_is m idle)
+
+  marker_is : (i slot : ℕ) (marked : IsMarkedBefore c log i slot) → marked.host < HOSTS
+  marker_is i slot marked =
+      let w = at c log marked.from in
+      let idle = idle_host w marked.host (w.host marked.host) refl (each c log marked.from (Mark marked.host slot) run marked.marking.begins).0 in
+      (running_at c w (moves_at c log run marked.from) (tied_at c log run marked.from) marked.host idle.0 idle.1).below
+
+  attempt_finds : (i j : ℕ) (s : Setup) (heard : List Answered) (hears : Hears c log j s heard) → i ≤ j → IsMarkedBefore c log i s.slot → HasHeardNothing (at c log i) hears.host s.slot → FindsMark (status s (on heard))
+  attempt_finds i j s heard hears later marked nothing =
+      let m = hears.memory in
+      let t = hears.doing in
+      let h = hears.host in
+      let g = marked.host in
+      let below = marker_is i s.slot marked in
+      let slot_below = slot_is i s.slot marked in
+      let many : IsMarkedOnMany c (at c log (marked.to + 1)) s.slot g marked.n = counts_marked c log run marked.from marked.to g s.slot marked.n marked.marking in
+      let firm : (d : ℕ) → d < c.disks → many.those d ≡ true → IsMarkedOn (at c log i) s.slot g d =
+      λ d inside those. stays_marked c log run (marked.to + 1) i s.slot g d (let before = marked.before in omega arith) slot_below below (many.each d inside those) in
+      let on_slot : length m.learned ≡ s.slot = ap (λ (q : Setup). q.slot) (sym hears.is_setup) in
+      let disks : s.disks ≡ c.disks = ap (λ (q : Setup). q.disks) hears.is_setup in
+      let before = tries_at (Shown c log run i s.slot g slot_below below h) ((at c log j).host h) m t (shown_at c log run i s.slot g slot_below below h nothing j later) hears.running hears.does in
+      let behind = shown_more c log run i s.slot g slot_below below h j later m t hears.running hears.does hears.disk hears.call hears.answer hears.left hears.entry before in
+      finds s heard (heard_then c log j s heard run hears) g marked.n below many.those (ap (λ (q : ℕ). count q many.those) disks ∙ many.many) (let most = marked.most in omega (arith, most, disks))
+      (λ d inside those row read. behind on_slot d (firm d (omega (arith, inside, disks)) those) row (ap (λ (xs : List Answered). row_in Opening (on xs d)) (sym hears.is_heard) ∙ read))
+
+  -- LOOKS
+
+  module _ (i j host n k : ℕ) (look : HasLooked c log i j host n) (marked : (slot : ℕ) → slot ≤ k → IsMarkedBefore c log i slot) where
+    -- the host was idle where the look begins
+    nothing_yet : (slot : ℕ) → HasHeardNothing (at c log i) host slot
+    nothing_yet slot trying =
+        let w = at c log i in
+        let idle = idle_host w host (w.host host) refl (each c log i (Look host) run look.begins) in
+        let both : Running idle.0 ≡ Running trying.memory = sym idle.1 ∙ trying.running in
+        let same : idle.0 ≡ trying.memory = cc in
+        let none : None ≡ Some trying.doing = sym idle.2.tries ∙ ap (λ (m : Memory). m.doing) same ∙ trying.does in
+        absurd (cc)
+
+    -- it does not end behind a slot up to k that no mark tells
+    not_short : n ≤ k → ⊥
+    not_short short = elim (whence c log j host (said.Looked n) tt run look.says).is [
+      | inl first ↦
+          (let many = full_looks first.operation (length first.memory.learned) n first.says.0 in
+          let full = first.says.1 in
+          let fits = slot_is i k (marked k (omega arith)) in
+          omega (arith, many, full, fits, short))
+      | inr later ↦
+          (let call = later.0 in
+          let heard = heard_at c log j host (said.Looked n) call in
+          let s = setup_of c host call.memory call.doing.operation in
+          elim (status_looks c call.memory (with_heard call.doing (record { disk = call.disk; heard = heard_as call.answer })) (taken s (on heard)) (status s (on heard)) n later.1) [
+            | inl full ↦ (let fits = slot_is i k (marked k (omega arith)) in omega (arith, full, fits, short))
+            | inr spent ↦
+                (let found = attempt_finds i j s heard (hears_at c log j host (said.Looked n) call) look.order (subst (IsMarkedBefore c log i) (sym spent.1) (marked n short)) (nothing_yet s.slot) in
+                subst FindsMark spent.0 found)
+          ])
+    ]
+
+    look_finds : k < n
+    look_finds = elim (cases_lt k n) [ inl less ↦ less | inr over ↦ absurd (not_short over) ]
+
+pub attempts_find : (c : Shape) (log : List Filled) → IsRun c log → AttemptsFind c log
+attempts_find c log run i j s heard hears later marked nothing = attempt_finds c log run i j s heard hears later marked nothing
+
+pub looks_find : (c : Shape) (log : List Filled) → IsRun c log → LooksFind c log
+looks_find c log run i j host n k look marked = look_finds c log run i j host n k look marked

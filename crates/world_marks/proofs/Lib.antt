@@ -1,0 +1,10 @@
+pub mod Counting
+pub mod Entries
+pub mod Finding
+pub mod Keeping
+pub mod Marking
+pub mod Places
+pub mod Saying
+pub mod Showing
+pub mod Steps
+pub mod Unmarked

@@ -1,0 +1,8 @@
+use Rattle.world_marks.proofs.Finding.{attempts_find, looks_find}
+use Rattle.world_marks.proofs.law.marks_are_found.Goals as goal
+
+pub returns-clause-attempts : goal.returns-clause-attempts
+returns-clause-attempts c = attempts_find
+
+pub returns-clause-looks : goal.returns-clause-looks
+returns-clause-looks c = looks_find

@@ -1,0 +1,84 @@
+-- When a block stays marked, when a slot is marked on most disks, and what attempts and looks find of that.
+use Rattle.std.specs.Prelude.{◌≡◌, ◌*◌, ◌+◌, ◌<◌, ◌≤◌, ℕ, Bool, true, List, slice_get, Some}
+use Rattle.torn_block.specs.declared.layout.TheConstants.{HOSTS}
+use Rattle.paxos_block.specs.Places.{VoteOf, place_of}
+use Rattle.attempt.specs.Answers.{Answered, on}
+use Rattle.attempt.specs.Calls.{Opening, One, Two}
+use Rattle.attempt.specs.Numbers.{count}
+use Rattle.attempt.specs.Setup.{Setup}
+use Rattle.attempt.specs.Status.{Status, Due, Ended, Committed, Decided, Empty, Outrun, NoMajority, BallotsSpent, status}
+use Rattle.slot_log.specs.Shape.{Shape}
+use Rattle.host.specs.declared.answer.HostAnswer.TheVariants.{Looked, Marked}
+use Rattle.world.specs.Entry.{Filled, Look, Mark, is_of}
+use Rattle.world.specs.World.{World}
+use Rattle.world.specs.Chosen.{at, Hears, SaysAt, IsCallOf}
+use Rattle.world_safety.specs.Claims.{HasHeardNothing}
+use Rattle.world_safety.specs.Marks.{AllSay}
+
+-- MARKS LAST
+
+-- Whatever a crash now may make of the host's block of the slot on this disk, it is marked.
+abbrev pub IsMarkedOn : World → (slot host d : ℕ) → Type 0
+IsMarkedOn w slot host d = AllSay (λ says. says.mark ≡ true) (place_of (VoteOf slot host)) (w.disk d)
+
+-- Once it is so, it is so for good: behind each later entry, be it a crash, a loss, or a call of whatever host.
+abbrev pub StaysMarked : Shape → List Filled → Type 0
+StaysMarked c log = (i j slot host d : ℕ) → i ≤ j → slot < c.slots → host < HOSTS → IsMarkedOn (at c log i) slot host d → IsMarkedOn (at c log j) slot host d
+
+-- MARKINGS
+
+-- A marking of the slot begins at entry i and answers at entry j with this count; in between the host makes device calls alone.
+pub record IsMarking (c : Shape) (log : List Filled) (i j host slot n : ℕ) : Type 0 where
+  pub begins : slice_get log i ≡ Some (Mark host slot)
+  pub order : i ≤ j
+  pub calls : (k : ℕ) (e : Filled) → i < k → k ≤ j → slice_get log k ≡ Some e → is_of host e ≡ true → IsCallOf host e
+  pub says : SaysAt c log j host (Marked n)
+
+-- on so many disks the host's block of the slot is marked
+pub record IsMarkedOnMany (c : Shape) (w : World) (slot host n : ℕ) : Type 0 where
+  pub those : ℕ → Bool
+  pub many : count c.disks those ≡ n
+  pub each : (d : ℕ) → d < c.disks → those d ≡ true → IsMarkedOn w slot host d
+
+-- Behind a marking that answers, the host's block of the slot is marked on as many disks as it says.
+abbrev pub CountsMarked : Shape → List Filled → Type 0
+CountsMarked c log = (i j host slot n : ℕ) → IsMarking c log i j host slot n → IsMarkedOnMany c (at c log (j + 1)) slot host n
+
+-- before entry i some host has marked the slot, on more than half of the disks
+pub record IsMarkedBefore (c : Shape) (log : List Filled) (i slot : ℕ) : Type 0 where
+  pub from : ℕ
+  pub to : ℕ
+  pub host : ℕ
+  pub n : ℕ
+  pub marking : IsMarking c log from to host slot n
+  pub before : to < i
+  pub most : c.disks < 2 * n
+
+-- WHAT IS FOUND
+
+-- the attempt is in its opening, or is told what was decided, or lacks a majority
+abbrev pub FindsMark : Status → Type 0
+FindsMark (Due Opening d) = Unit {0}
+FindsMark (Due One d) = ⊥
+FindsMark (Due Two d) = ⊥
+FindsMark (Ended (Committed value)) = ⊥
+FindsMark (Ended (Decided value)) = Unit {0}
+FindsMark (Ended Empty) = ⊥
+FindsMark (Ended (Outrun mbal)) = ⊥
+FindsMark (Ended NoMajority) = Unit {0}
+FindsMark (Ended BallotsSpent) = ⊥
+
+-- So it is with each attempt, of whatever operation, that has heard nothing yet when its slot is marked on more than half of the disks.
+abbrev pub AttemptsFind : Shape → List Filled → Type 0
+AttemptsFind c log =
+    (i j : ℕ) (s : Setup) (heard : List Answered) (hears : Hears c log j s heard) → i ≤ j → IsMarkedBefore c log i s.slot → HasHeardNothing (at c log i) hears.host s.slot → FindsMark (status s (on heard))
+
+-- A look of the host begins at entry i, and at entry j this one, or a later one, answers that it has learned n commands.
+pub record HasLooked (c : Shape) (log : List Filled) (i j host n : ℕ) : Type 0 where
+  pub begins : slice_get log i ≡ Some (Look host)
+  pub order : i ≤ j
+  pub says : SaysAt c log j host (Looked n)
+
+-- A look that begins when each slot up to k is marked on more than half of the disks, and answers, has learned more than k commands.
+abbrev pub LooksFind : Shape → List Filled → Type 0
+LooksFind c log = (i j host n k : ℕ) → HasLooked c log i j host n → ((slot : ℕ) → slot ≤ k → IsMarkedBefore c log i slot) → k < n
