@@ -1,19 +1,24 @@
 -- Two hosts that work in turn do so at once, so what they acknowledge goes by one log.
-use Rattle.std.specs.Prelude.{slice_get, take, filter}
-use Rattle.std.proofs.Common.{ℕ, ◌≡◌, ◌≢◌, ◌==◌, Bool, true, false, true≢false, cond, Option, Some, None, List, [], ◌∷◌, ◌++◌, length, refl, sym, subst, ap, ◌∙◌, inl, inr, append-nil}
+use Rattle.std.specs.Prelude.{slice_get, take, filter, replicate, Result, Ok, Err, IfOk}
+use Rattle.std.proofs.Common.{ℕ, zero, suc, ◌≤◌, arith, ◌≡◌, ◌≢◌, ◌==◌, Bool, true, false, true≢false, cond, Option, Some, None, List, [], ◌∷◌, ◌++◌, length, refl, sym, subst, ap, ◌∙◌, inl, inr, append-nil}
 use Rattle.std.proofs.lemmas.Bool.{cases_Bool, eqb-true, eq-eqb}
+use Rattle.std.proofs.lemmas.List.{length-replicate}
 use Rattle.std.proofs.lemmas.List.Elements.{filter-append}
 use Rattle.disk.specs.Disk.{DiskState}
-use Rattle.disk.specs.Simulated.{SimState}
+use Rattle.disk.specs.Simulated.{SimState, fresh_disk}
+use Rattle.paxos_block.specs.Places.{image_length}
 use Rattle.slot_log.specs.Shape.{Shape}
+use Rattle.slot_log.specs.declared.outcome.Refusal.{Refusal}
 use Rattle.host.specs.Host.{Operation, Submitting, Recovering, Looking, Stopped}
+use Rattle.lock_command.specs.declared.command.Command.{Command}
 use Rattle.world.specs.Entry.{Filled, Start, Called, is_of, is_on, on_disk, of_host}
 use Rattle.world.specs.World.{opening_disk}
-use Rattle.dlm_images.specs.Operations.{Made, Gave, Standing}
+use Rattle.dlm_images.specs.declared.disk_host.Acknowledgement.{Acknowledgement}
+use Rattle.dlm_images.specs.Operations.{Made, Gave, Standing, IsAcknowledged}
 use Rattle.at_once.specs.AtOnce.{Does, Serves, IsAtOnce}
 use Rattle.at_once.specs.Deeds.{calls, beginning, HasDone}
 use Rattle.at_once.specs.Images.{HoldsNothing}
-use Rattle.at_once.specs.InTurn.{Gives, IsTurn, NoTwoAtOneSlot, TurnsAgree}
+use Rattle.at_once.specs.InTurn.{Gives, IsTurn, NoTwoAtOneSlot, TurnsAgree, HasSubmitted}
 use Rattle.at_once.specs.Joined.{HasCome}
 use Rattle.at_once.proofs.Deeds.{starts, operates}
 use Rattle.at_once.proofs.Filling.{at_once_makes_a_run}
@@ -198,3 +203,34 @@ module _ (c : Shape) (g h : ℕ) (first second : Operation) (tries more : ℕ) (
 
 pub turns_agree : TurnsAgree
 turns_agree c g h first second tries more disks left new differ blank a b = agree c g h first second tries more disks left new differ blank a b
+
+-- two submissions in turn
+pub submitted_apart : (c : Shape) (first second : Command) (tries : ℕ) (disks between left : List SimState) (done next : Result Acknowledgement Refusal) → first.host ≢ second.host →
+    ((k : ℕ) (d : SimState) → slice_get disks k ≡ Some d → HoldsNothing c.slots d.disk) → HasSubmitted c first tries disks done between → HasSubmitted c second tries between next left →
+    IfOk done (λ x. IfOk next (λ y. x.slot ≡ y.slot → first ≡ second))
+submitted_apart c first second tries disks between left (Err refusal) next differ blank a b = tt
+submitted_apart c first second tries disks between left (Ok x) (Err refusal) differ blank a b = tt
+submitted_apart c first second tries disks between left (Ok x) (Ok y) differ blank a b =
+    let turn = subst (λ (ds : List SimState). IsTurn c second.host (Submitting second) tries ds b.new) a.leaves b.turn in
+    λ same. turns_agree c first.host second.host (Submitting first) (Submitting second) tries tries disks a.new b.new differ blank a.turn turn first second x.slot x.reply y.reply a.acknowledged
+    (subst (λ (n : ℕ). IsAcknowledged second n y.reply b.new.core.prefix) (sym same) b.acknowledged)
+
+-- disks of zeros hold nothing, and are as large as an image
+module _ (c : Shape) where
+  abbrev zeros : SimState
+  zeros = record { disk = fresh_disk (image_length c.slots); failing = None; failures = 0 }
+
+  all_same : (n k : ℕ) (d : SimState) → slice_get (replicate n zeros) k ≡ Some d → d ≡ zeros
+  all_same zero k d is = absurd (cc)
+  all_same (suc n) zero d is = let same : zeros ≡ d = cc in sym same
+  all_same (suc n) (suc k) d is = all_same n k d is
+
+  pub zeros_blank : (n k : ℕ) (d : SimState) → slice_get (replicate n zeros) k ≡ Some d → HoldsNothing c.slots d.disk
+  zeros_blank n k d is = subst (λ (s : SimState). HoldsNothing c.slots s.disk) (sym (all_same n k d is)) (zeros_hold_nothing c.slots)
+
+  long : length (fresh_disk (image_length c.slots)).bytes ≡ image_length c.slots
+  unfolding fresh_disk
+  long = length-replicate (image_length c.slots) 0
+
+  pub zeros_large : (n k : ℕ) (d : SimState) → slice_get (replicate n zeros) k ≡ Some d → image_length c.slots ≤ length d.disk.bytes
+  zeros_large n k d is = subst (λ (s : SimState). image_length c.slots ≤ length s.disk.bytes) (sym (all_same n k d is)) (omega (arith, long))

@@ -1,7 +1,7 @@
 -- What hosts keep goes by the one log of the run.
 use Rattle.std.specs.Prelude.{take, drop, slice_get}
-use Rattle.std.proofs.Common.{ℕ, ◌≡◌, Some, List, [], ◌∷◌, ◌++◌, length, refl, sym, subst, ap, ◌∙◌, append_assoc}
-use Rattle.std.proofs.lemmas.List.{take-append-drop}
+use Rattle.std.proofs.Common.{ℕ, zero, suc, ◌+◌, ◌<◌, ◌≤◌, ◌≡◌, Some, List, [], ◌∷◌, ◌++◌, length, refl, sym, subst, ap, ◌∙◌, append_assoc, arith}
+use Rattle.std.proofs.lemmas.List.{take-append-drop, length-append}
 use Rattle.lock_command.specs.declared.command.Command.{Command}
 use Rattle.lock_table.specs.declared.reply.Reply.{Reply}
 use Rattle.slot_log.specs.Shape.{Shape}
@@ -11,8 +11,8 @@ use Rattle.world.specs.Entry.{Filled}
 use Rattle.world.specs.Headline.{IsPrefix, prefix_at}
 use Rattle.dlm_images.specs.Operations.{IsAcknowledged}
 use Rattle.at_once.specs.AtOnce.{IsRunOf}
-use Rattle.at_once.proofs.Recovered.{holds}
-use Rattle.at_once.specs.Joined.{HasCome, DeedsAreJoined}
+use Rattle.at_once.proofs.Recovered.{says, holds}
+use Rattle.at_once.specs.Joined.{HasCome, HasRecovered, DeedsAreJoined}
 
 module _ {A : Type 0} where
   next_of_some : (before : List A) (x : A) (rest : List A) → slice_get (before ++ x ∷ rest) (length before) ≡ Some x
@@ -22,6 +22,16 @@ module _ {A : Type 0} where
   those_before : (before : List A) (rest : List A) → take (length before) (before ++ rest) ≡ before
   those_before [] rest = refl
   those_before (y ∷ before) rest = ap (λ (l : List A). y ∷ l) (those_before before rest)
+
+  those_below : (l : List A) (n k : ℕ) → k < n → slice_get (take n l) k ≡ slice_get l k
+  those_below l zero k below = absurd (omega (arith, below))
+  those_below [] (suc n) k below = refl
+  those_below (x ∷ l) (suc n) zero below = refl
+  those_below (x ∷ l) (suc n) (suc k) below = those_below l n k (omega (arith, below))
+
+  -- the last of a list stands within it
+  last_within : (l before : List A) (x : A) → l ≡ before ++ x ∷ [] → length before < length l
+  last_within l before x is = let long : length l ≡ length before + 1 = ap length is ∙ length-append before (x ∷ []) in omega (arith, long)
 
   -- a list that begins with these and this one goes on after them
   goes_on : (short long before : List A) (x : A) → IsPrefix short long → short ≡ before ++ x ∷ [] → long ≡ before ++ x ∷ drop (length short) long
@@ -49,9 +59,26 @@ module _ (c : Shape) (log : List Filled) (of : IsRunOf c log) where
         ack.replied ∙ ap (λ (l : List Command). reply_after l command) (sym first),
       )
 
+  recovered : (i j h n : ℕ) (kept : Kept) → HasRecovered c log i j h n kept → (n ≤ length of.one.commands) × (kept.prefix ≡ take n of.one.commands)
+  recovered i j h n kept r =
+      let told = of.one.is_safe.recovered j h n (says c log of i j h n kept r) in
+      (told.0, sym (kept_is (j + 1) h kept r.come) ∙ told.1)
+
+  -- a recovery holds what had been learned by then
+  held : (k i j g h n : ℕ) (other kept : Kept) → k ≤ i → HasCome c log k g other → HasRecovered c log i j h n kept → length other.prefix ≤ n
+  held k i j g h n other kept by come r = holds c log of i j h n kept r k g other by (kept_is k g other come)
+
+  keeps : (k i j g h n : ℕ) (other kept : Kept) (command : Command) (slot : ℕ) (reply : Reply) → k ≤ i → HasCome c log k g other →
+      IsAcknowledged command slot reply other.prefix → HasRecovered c log i j h n kept → slice_get kept.prefix slot ≡ Some command
+  keeps k i j g h n other kept command slot reply by come ack r =
+      let below : slot < n = (let last = last_within other.prefix ack.before command ack.last in omega (arith, last, ack.at, held k i j g h n other kept by come r)) in
+      ap (λ (l : List Command). slice_get l slot) (recovered i j h n kept r).1 ∙ those_below of.one.commands n slot below ∙ (acknowledged k g other command slot reply come ack).0
+
 pub deeds_are_joined : DeedsAreJoined
 deeds_are_joined c log of = record {
   learned = learned c log of;
   acknowledged = acknowledged c log of;
-  holds = λ i j g h n other kept come r. holds c log of i j h n kept r g other (kept_is c log of i g other come);
+  recovered = recovered c log of;
+  holds = held c log of;
+  keeps = keeps c log of;
 }

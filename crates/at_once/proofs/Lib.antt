@@ -3,7 +3,11 @@ pub mod Filling
 pub mod Headless
 pub mod InTurn
 pub mod Joined
+pub mod Losses
 pub mod Lying
 pub mod Parting
 pub mod Recovered
+pub mod RenumberedBeside
+pub mod RenumberedHosts
+pub mod Renumbering
 pub mod Serving

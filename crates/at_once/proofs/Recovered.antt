@@ -111,7 +111,7 @@ module _ (c : Shape) (log : List Filled) (of : IsRunOf c log) where
         let call = r.calls k there.item after before there.here (sym (bare_of h there.item) ∙ ap (is_of h) there.is ∙ bare_of h x ∙ own) in
         bare_called x h call.disk call.call call.answer (sym there.is ∙ ap bare call.is)
 
-    says : SaysAt c of.run j h (Recovered n)
+    pub says : SaysAt c of.run j h (Recovered n)
     says =
         let there = in_run j r.entry r.last in
         record {
@@ -124,8 +124,11 @@ module _ (c : Shape) (log : List Filled) (of : IsRunOf c log) where
     recovery : IsRecovery c of.run i j h n
     recovery = record { tries = r.tries; begins = begins; order = r.order; calls = calls; says = says }
 
-    pub holds : (g : ℕ) (other : Kept) → prefix_at c of.run i g ≡ other.prefix → length other.prefix ≤ n
-    holds g other same =
-        let chosen : AreChosen c of.run i (prefix_at c of.run i g) = learned_true c of.run of.is i ((at c of.run i).host g) g (all_true c of.run of.is i g) in
+    pub holds : (k g : ℕ) (other : Kept) → k ≤ i → prefix_at c of.run k g ≡ other.prefix → length other.prefix ≤ n
+    holds k g other by same =
+        let chosen : AreChosen c of.run k (prefix_at c of.run k g) = learned_true c of.run of.is k ((at c of.run k).host g) g (all_true c of.run of.is k g) in
         subst (λ (l : List Command). length l ≤ n) same
-        (all_below (prefix_at c of.run i g) n (λ k command found. let known = chosen k command found in misses_nothing c of.run of.is i j h n known.1.place k (spelling command) recovery known.1.before known.1.is))
+        (all_below (prefix_at c of.run k g) n (λ m command found.
+        let known = chosen m command found in
+        let before : known.1.place < k = known.1.before in
+        misses_nothing c of.run of.is i j h n known.1.place m (spelling command) recovery (omega (arith, before, by)) known.1.is))

@@ -1,13 +1,15 @@
 -- Two hosts that work in turn over the same simulated disks.
-use Rattle.std.specs.Prelude.{◌≡◌, ◌≢◌, ◌<◌, ℕ, List, slice_get, Some}
+use Rattle.std.specs.Prelude.{◌≡◌, ◌≢◌, ◌<◌, ℕ, List, slice_get, Some, Result, IfOk}
 use Rattle.disk.specs.Disk.{Call, Answer}
 use Rattle.disk.specs.Simulated.{SimState, outcome}
 use Rattle.torn_block.specs.declared.layout.TheConstants.{HOSTS}
 use Rattle.lock_command.specs.declared.command.Command.{Command}
 use Rattle.lock_table.specs.declared.reply.Reply.{Reply}
 use Rattle.slot_log.specs.Shape.{Shape}
-use Rattle.host.specs.Host.{Operation, fresh}
+use Rattle.slot_log.specs.declared.outcome.Refusal.{Refusal}
+use Rattle.host.specs.Host.{Operation, Submitting, fresh}
 use Rattle.host.specs.Kept.{Kept, LeadsTo}
+use Rattle.dlm_images.specs.declared.disk_host.Acknowledgement.{Acknowledgement}
 use Rattle.dlm_images.specs.Operations.{Standing, HasOperated, IsAcknowledged}
 use Rattle.at_once.specs.Deeds.{MayBegin}
 use Rattle.at_once.specs.Images.{HoldsNothing}
@@ -34,3 +36,10 @@ abbrev pub TurnsAgree : Type 0
 TurnsAgree = (c : Shape) (g h : ℕ) (first second : Operation) (tries more : ℕ) (disks : List SimState) (left new : Standing SimState) → g ≢ h →
     ((k : ℕ) (d : SimState) → slice_get disks k ≡ Some d → HoldsNothing c.slots d.disk) →
     IsTurn c g first tries disks left → IsTurn c h second more left.disks new → NoTwoAtOneSlot left.core new.core
+
+-- The command's host started over these disks and submitted it, which ended so and left those.
+pub record HasSubmitted (c : Shape) (command : Command) (tries : ℕ) (disks : List SimState) (done : Result Acknowledgement Refusal) (left : List SimState) : Type 0 where
+  pub new : Standing SimState
+  pub turn : IsTurn c command.host (Submitting command) tries disks new
+  pub leaves : left ≡ new.disks
+  pub acknowledged : IfOk done (λ a. IsAcknowledged command a.slot a.reply new.core.prefix)

@@ -37,8 +37,13 @@ pub record IsJoined (c : Shape) (log : List Filled) (commands : List Command) : 
   -- a command that was acknowledged stands at its slot, and its reply is the lock table's after the commands before it
   pub acknowledged : (i h : ℕ) (kept : Kept) (command : Command) (slot : ℕ) (reply : Reply) → HasCome c log i h kept →
       IsAcknowledged command slot reply kept.prefix → (slice_get commands slot ≡ Some command) × (reply ≡ reply_after (take slot commands) command)
-  -- a recovery has learned no fewer than any host had when it began
-  pub holds : (i j g h n : ℕ) (other kept : Kept) → HasCome c log i g other → HasRecovered c log i j h n kept → length other.prefix ≤ n
+  -- a recovery has learned as many commands of the log as it says
+  pub recovered : (i j h n : ℕ) (kept : Kept) → HasRecovered c log i j h n kept → (n ≤ length commands) × (kept.prefix ≡ take n commands)
+  -- and no fewer than any host had learned before it began, also one that has stopped since;
+  pub holds : (k i j g h n : ℕ) (other kept : Kept) → k ≤ i → HasCome c log k g other → HasRecovered c log i j h n kept → length other.prefix ≤ n
+  -- so a command that was acknowledged before it began is among them, at its slot
+  pub keeps : (k i j g h n : ℕ) (other kept : Kept) (command : Command) (slot : ℕ) (reply : Reply) → k ≤ i → HasCome c log k g other →
+      IsAcknowledged command slot reply other.prefix → HasRecovered c log i j h n kept → slice_get kept.prefix slot ≡ Some command
 
 -- So it is with the one log of what is done at once.
 abbrev pub DeedsAreJoined : Type 0

@@ -4,3 +4,4 @@ pub mod Disks
 pub mod Images
 pub mod InTurn
 pub mod Joined
+pub mod Power

@@ -5,6 +5,7 @@ ghost use Rattle.at_once.specs.Disks.{EachGave, GivingServes, SimulatedSteps};
 ghost use Rattle.at_once.specs.Images.{LaidOutHoldsNothing};
 ghost use Rattle.at_once.specs.InTurn.{TurnsAgree};
 ghost use Rattle.at_once.specs.Joined.{DeedsAreJoined};
+ghost use Rattle.at_once.specs.Power.{LossesAreCrashes, LossesAreJoined};
 
 use disk::Disk;
 
@@ -38,6 +39,13 @@ pub fn disks_serve_alone<D: Disk>()
 /// What hosts have learned and acknowledged, each by its own operations, goes by the one log of what they did at once.
 pub fn deeds_join_one_log()
     ensures { DeedsAreJoined }
+{}
+
+/// So it goes over losses of power. Each stops all hosts, and keeps of each image what was synced; an image tells the same boot number
+/// after it as before.
+pub fn losses_of_power_are_crashes()
+    ensures crashes { LossesAreCrashes }
+    ensures joins { LossesAreJoined }
 {}
 
 /// All of that, of two hosts that work in turn over the same simulated disks: no two commands are acknowledged at one slot.

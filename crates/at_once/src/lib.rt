@@ -1,9 +1,11 @@
 //! Hosts over the same images, each of whose device calls is made at once: a run of the world.
 #![tactic(auto)]
 
+mod in_turn;
 mod law;
 
+pub use in_turn::{Turns, submit_in_turn};
 pub use law::{
     calls_made_at_once_make_a_run, deeds_join_one_log, disks_serve_alone, hosts_in_turn_agree,
-    operations_are_deeds,
+    losses_of_power_are_crashes, operations_are_deeds,
 };

@@ -1,0 +1,27 @@
+use Rattle.std.proofs.Common.{◌<◌, List, refl, subst, arith}
+use Rattle.disk.specs.Simulated.{SimState}
+use Rattle.torn_block.specs.declared.layout.TheConstants.{HOSTS}
+use Rattle.host.specs.Host.{Submitting}
+use Rattle.dlm_images.specs.Operations.{HasOperated}
+use Rattle.at_once.specs.InTurn.{Gives}
+use Rattle.at_once.proofs.in_turn.submit_alone.Goals as goal
+
+pub returns-clause-submitted : goal.returns-clause-submitted
+returns-clause-submitted c =
+    let old = c.in_ok-host.host.core in
+    let new = c.submit-done.new.self in
+    let below : c.args.command.host < HOSTS = omega (arith, c.get-number.ensures.value, c.get-number.ensures.range) in
+    record {
+      new = new;
+      turn = record {
+        below = below;
+        old = old;
+        leads = c.in_ok-host.ensures.fresh;
+        may = (c.submit-done.ensures.readable, refl, c.requires.tries);
+        did =
+            subst (λ (ds : List SimState). HasOperated Gives (Submitting c.args.command) c.args.tries (record { core = old; disks = ds }) new) c.in_ok-host.ensures.disks
+            c.submit-done.ensures.operated;
+      };
+      leaves = c.into_disks-disks.ensures.disks;
+      acknowledged = c.submit-done.ensures.acknowledged;
+    }

@@ -1,0 +1,8 @@
+use Rattle.at_once.proofs.Losses.{losses_are_crashes, losses_are_joined}
+use Rattle.at_once.proofs.law.losses_of_power_are_crashes.Goals as goal
+
+pub returns-clause-crashes : goal.returns-clause-crashes
+returns-clause-crashes c = losses_are_crashes
+
+pub returns-clause-joins : goal.returns-clause-joins
+returns-clause-joins c = losses_are_joined
