@@ -1,13 +1,11 @@
 -- How many calls an operation and a marking make, and that what was learned stays and has room.
-use Rattle.std.specs.Prelude.{is_some}
-use Rattle.std.proofs.Common.{◌≡◌, ◌<◌, ◌≤◌, ◌+◌, ◌-◌, ◌*◌, ℕ, zero, suc, Bool, true, false, List, [], ◌∷◌, ◌++◌, length, nat_lt, nat_le, Option, Some, None, refl, sym, ◌∙◌, ap, subst, arith, if◌then◌else◌, slice_get, slice_set}
+use Rattle.std.proofs.Common.{◌≡◌, ◌<◌, ◌≤◌, ◌+◌, ◌-◌, ◌*◌, ℕ, zero, suc, Bool, true, false, List, [], ◌∷◌, ◌++◌, length, nat_lt, nat_le, Option, Some, None, refl, sym, ◌∙◌, ap, subst, arith, if◌then◌else◌}
 use Rattle.std.proofs.Math.Nat.{mul-add, mul_assoc, mul_comm}
 use Rattle.std.proofs.lemmas.Bool.{ltb-true, leb-false}
 use Rattle.std.proofs.lemmas.List.{length-append, length-set}
-use Rattle.attempt.specs.Answers.{Answered, on, heard_as}
+use Rattle.attempt.specs.Answers.{Answered, on}
 use Rattle.beats.specs.Answers.{Answered as Beaten}
-use Rattle.attempt.specs.History.{Fits, IsAnswerTo, IsHistory}
-use Rattle.attempt.specs.Setup.{Setup}
+use Rattle.attempt.specs.History.{IsAnswerTo, IsHistory}
 use Rattle.attempt.specs.NextCall.{next_call}
 use Rattle.attempt.specs.Status as attempt
 use Rattle.attempt.specs.Status.{Status, Due, Ended, status, taken}
@@ -23,11 +21,11 @@ use Rattle.slot_log.specs.Shape.{Shape}
 use Rattle.slot_log.specs.declared.outcome.Refusal.TheVariants as refusal
 use Rattle.host.specs.declared.answer.HostAnswer.TheVariants.{Refused}
 use Rattle.host.specs.Host.{Operation, Recovering, Doing, Memory, Beats, Marking, hears, hears_from, hears_beside, hears_marking, marking_by, marking_with, marking_of, with_marking, starts_marking, goes_on, begins, by_status, takes, after_learning, is_submitted, learns, says, full_answer, with_heard, with_floor, tries_again, setup_of, next_doing, next_in, next_beside, next_marking}
-use Rattle.host.specs.Kept.{Kept, LeadsTo, is_idle}
+use Rattle.host.specs.Kept.{LeadsTo, is_idle}
 use Rattle.host.proofs.Hosts.{beats_heard, beats-goes_on, learned-goes_on, marking_heard, marking-goes_on}
-use Rattle.dlm_images.specs.Operations.{IsKnown, Made, GaveOne, Gave, after_call, after_made, IsDue, AreDue, Standing, HasOperated, HasMarked}
+use Rattle.dlm_images.specs.Operations.{IsKnown, Made, Gave, after_call, after_made, IsDue, AreDue, Standing, HasOperated, HasMarked}
 use Rattle.dlm_images.specs.Marking.{HasMarkedFrom, RecoversAndMarks, calls_of, leaves_a_mark}
-use Rattle.dlm_images.proofs.Driving.{answered, idle_memory, idle_rests, idle_unmarked}
+use Rattle.dlm_images.proofs.Driving.{answered, idle_unmarked}
 
 -- A call that is due is one of an attempt or a marking: where none is under way, none is made.
 none_due : (c : Shape) (h : ℕ) (m : Memory) → m.doing ≡ None → m.beats.heard ≡ None → m.marking ≡ None → next_in c h m ≡ None

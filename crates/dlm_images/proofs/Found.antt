@@ -70,3 +70,11 @@ image_is any beats now {A} {B} area rows = (
         | inr damage ↦ elim damage [ inl y ↦ rows.1 (inl (or_right any beats (area.1 y))) | inr z ↦ rows.1 (inr z) ]
       ]),
 )
+
+-- damage is told only where there is some
+pub image_cause : (any beats : Bool) {A B : Type 0} → (IsTrue beats ↔ A) → IsTrue (any || beats) ⊎ B → IsTrue any ⊎ (A ⊎ B)
+image_cause any beats area told =
+    elim told [
+      | inl sofar ↦ elim (or_cases any beats sofar) [ inl x ↦ inl x | inr y ↦ inr (inl (area.0 y)) ]
+      | inr damage ↦ inr (inr damage)
+    ]

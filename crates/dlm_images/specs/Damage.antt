@@ -1,15 +1,21 @@
--- When an image is damaged, and the text of its damage: a line for each damaged block.
-use Rattle.std.specs.Prelude.{◌≡◌, ◌⊎◌, ◌≤◌, ◌<◌, ℕ, Bool, false, List, [], ◌∷◌, ◌++◌, codes, decimal, slice_get, slice_index_or, Some, if◌then◌else◌}
+-- When an image is damaged, the text of its damage, a line for each damaged block, and what a check tells of the images of a folder.
+use Rattle.std.specs.Prelude.{◌≡◌, ◌⊎◌, ◌≤◌, ◌<◌, ℕ, Bool, false, IsTrue, List, [], ◌∷◌, ◌++◌, codes, decimal, slice_get, slice_index_or, Option, Some, None, Result, Ok, Err, if◌then◌else◌}
 use Rattle.std.specs.List.{flat_map, range_with_len}
-use Rattle.disk.specs.Disk.{Device}
+use Rattle.disk.specs.Disk.{Device, DiskState}
+use Rattle.disk.specs.declared.fault.ImageFault.{ImageFault}
+use Rattle.disk.specs.declared.fault.ImageFault.TheVariants.{Unreadable}
 use Rattle.torn_block.specs.declared.layout.TheConstants.{HOSTS}
 use Rattle.paxos_block.specs.Places.{area_of, row_of, image_length}
 use Rattle.paxos_block.specs.Damage as rows
+use Rattle.paxos_block.specs.declared.header.Header.{Header}
 use Rattle.heartbeat.specs.Damage as areas
 use Rattle.paxos_block.specs.Row.{IsDamagedRow}
 use Rattle.heartbeat.specs.Beat.{IsDamagedArea}
+use Rattle.dlm_images.specs.Sets.{Found}
 use Rattle.dlm_images.specs.declared.check.Blocks.{Blocks}
 use Rattle.dlm_images.specs.declared.check.Blocks.TheVariants.{Heartbeat, Slot}
+use Rattle.dlm_images.specs.declared.check.Finding.{Finding}
+use Rattle.dlm_images.specs.declared.check.Finding.TheVariants.{Image, Damaged}
 
 -- each disk has room for an image of so many slots
 abbrev pub AreLarge : {D : Type 0} → (D → Device) → ℕ → List D → Type 0
@@ -48,3 +54,33 @@ rows_text disk slots bytes = flat_map (row_text disk bytes) (range_with_len 0 sl
 -- the heartbeat blocks first, and then the blocks of each slot
 abbrev pub image_text : ℕ → ℕ → List ℕ → List ℕ
 image_text disk slots bytes = area_text disk bytes ++ rows_text disk slots bytes
+
+-- WHAT A CHECK TELLS
+
+-- Of an image that is used: nothing only where no block is damaged, damage only where one is, or that it could not be read. A disk that tells
+-- no bytes is held to the last alone.
+abbrev pub Shows : (disk : ℕ) → (tells damaged : Type 0) → Option Finding → Type 0
+Shows disk tells damaged None = tells → damaged → ⊥
+Shows disk tells damaged (Some Damaged) = tells → damaged
+Shows disk tells damaged (Some (Image number fault)) = (number ≡ disk) × (fault ≡ Unreadable)
+
+-- of any image: why it is refused, or what its blocks show
+abbrev pub TellsOf : Result Header ImageFault → (disk : ℕ) → (tells damaged : Type 0) → Option Finding → Type 0
+TellsOf (Err fault) disk tells damaged finding = finding ≡ Some (Image disk fault)
+TellsOf (Ok header) disk tells damaged finding = Shows disk tells damaged finding
+
+-- This is told of image k of a folder.
+abbrev pub IsTold : {D : Type 0} → (D → Device) → (D → DiskState) → ℕ → Found → List D → ℕ → Option Finding → Type 0
+IsTold {D} device state slots found disks k finding =
+    (disk : D) (image : Result Header ImageFault) → slice_get disks k ≡ Some disk → slice_get found k ≡ Some image →
+    TellsOf image k (IsTrue (device disk).tells) (IsDamagedImage slots (state disk).bytes) finding
+
+-- nothing is told of the first n images
+abbrev pub AreSound : {D : Type 0} → (D → Device) → (D → DiskState) → ℕ → Found → List D → ℕ → Type 0
+AreSound device state slots found disks n = (k : ℕ) → k < n → IsTold device state slots found disks k None
+
+-- Of the first n images nothing is told, or of one of them this, and nothing of those before it.
+abbrev pub IsToldFirst : {D : Type 0} → (D → Device) → (D → DiskState) → ℕ → Found → List D → ℕ → Option Finding → Type 0
+IsToldFirst device state slots found disks n None = AreSound device state slots found disks n
+IsToldFirst device state slots found disks n (Some finding) =
+    (k : ℕ) × (k < n) × AreSound device state slots found disks k × IsTold device state slots found disks k (Some finding)

@@ -1,14 +1,17 @@
 -- The images of a folder: their names, how one is read, and the disks that a folder has once it is open.
-use Rattle.std.specs.Prelude.{◌≡◌, ◌==◌, ◌++◌, ℕ, true, false, List, codes, decimal, min, slice_get, Some, Result, Ok, Err, is_ok, if◌then◌else◌}
+use Rattle.std.specs.Prelude.{◌≡◌, ◌==◌, ◌++◌, ◌<◌, ◌⊎◌, ℕ, true, false, List, codes, decimal, min, slice_get, Some, Result, Ok, Err, is_ok, if◌then◌else◌}
 use Rattle.disk.specs.declared.fault.ImageFault.{ImageFault}
+use Rattle.disk.specs.declared.fault.ImageFault.TheVariants.{NotFormatted, WrongHeader, Unreadable}
 use Rattle.disk.specs.Disk.{Call, Attach, Read, Answer, Booted, Told}
 use Rattle.disk.specs.FileStates.{FileState, FileGives}
 use Rattle.torn_block.specs.declared.layout.TheConstants.{HEADER_LENGTH}
 use Rattle.paxos_block.specs.declared.header.Header.{Header}
-use Rattle.paxos_block.specs.Headers.{IsRight, header_in}
+use Rattle.paxos_block.specs.Headers.{IsRight, IsFormatted, HasNoHeader, header_in}
 use Rattle.paxos_block.specs.Places.{image_length}
 use Rattle.slot_log.specs.Shape.{Shape}
 use Rattle.dlm_images.specs.Sets.{Found, AreImages, HasNumbers}
+use Rattle.dlm_images.specs.declared.host_lock.LockFault.{LockFault}
+use Rattle.dlm_images.specs.declared.host_lock.LockFault.TheVariants.{NoMemory, InUse, NoLock}
 
 -- ONE IMAGE
 
@@ -19,6 +22,12 @@ image_name disk = codes "disk" ++ decimal disk ++ codes ".img"
 -- the name of the file by which this host's number is locked
 abbrev pub lock_name : ℕ → List ℕ
 lock_name host = codes "host" ++ decimal host ++ codes ".lock"
+
+-- why this host's number was not locked: for want of memory, or as is told of this number
+abbrev pub IsLockFault : ℕ → LockFault → Type 0
+IsLockFault host NoMemory = Unit {0}
+IsLockFault host (InUse number) = number ≡ host
+IsLockFault host (NoLock number) = number ≡ host
 
 -- the device was attached to, and told these first bytes
 pub record HasToldFirst {D : Type 0} (gives : D → Call → Answer → D → Type 0) (old : D) (bytes : List ℕ) (new : D) : Type 0 where
@@ -42,6 +51,13 @@ pub record ReadsHeader {D : Type 0} (gives : D → Call → Answer → D → Typ
   pub boots : gives old Attach (Booted boot) attached
   pub tells : gives attached (Read boot 0 HEADER_LENGTH) (Told bytes) new
   pub right : IsRight disk size bytes header
+
+-- why it says none: its first bytes, which it told, have no open gate; or they are no header of that image, or fewer than a header has; or
+-- a call has failed
+abbrev pub ReadsNoHeader : {D : Type 0} → (D → Call → Answer → D → Type 0) → (old : D) → (disk size : ℕ) → (new : D) → ImageFault → Type 0
+ReadsNoHeader gives old disk size new NotFormatted = (bytes : List ℕ) × HasToldFirst gives old bytes new × ¬ IsFormatted bytes
+ReadsNoHeader gives old disk size new WrongHeader = (size < HEADER_LENGTH) ⊎ ((bytes : List ℕ) × HasToldFirst gives old bytes new × HasNoHeader disk size bytes)
+ReadsNoHeader gives old disk size new Unreadable = Unit {0}
 
 -- an image that is right is in use and as long as its header says; of one that is refused no call is carried out
 abbrev pub IsDiskOf : Result Header ImageFault → FileState → Type 0

@@ -1,5 +1,5 @@
 -- A recovery, and then a marking of each slot that it learned.
-use Rattle.std.specs.Prelude.{◌≡◌, ◌≤◌, ◌+◌, ◌*◌, ℕ, zero, suc, Bool, false, length, nat_lt, if◌then◌else◌, Option, Some, None}
+use Rattle.std.specs.Prelude.{◌≡◌, ◌≤◌, ◌+◌, ◌*◌, ℕ, zero, suc, Bool, false, length, nat_lt, if◌then◌else◌, Option, Some}
 use Rattle.disk.specs.Disk.{Call, Answer}
 use Rattle.host.specs.Host.{Recovering}
 use Rattle.host.specs.declared.answer.HostAnswer.{HostAnswer}

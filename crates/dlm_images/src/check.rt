@@ -1,4 +1,4 @@
-ghost use Rattle.std.specs.Prelude.{◌≡◌, ◌⊎◌, ◌+◌, ◌≤◌, ◌↔◌, true, IsTrue, Contains, IfOk, OnOk, length};
+ghost use Rattle.std.specs.Prelude.{◌≡◌, ◌≢◌, ◌⊎◌, ◌+◌, ◌≤◌, ◌<◌, ◌↔◌, ℕ, true, IsTrue, Contains, IfOk, OnOk, Some, None, Ok, Err, length, slice_get};
 ghost use Rattle.std.specs.List.{list_any};
 ghost use Rattle.std.specs.Io.KnownBytes.{Appends};
 ghost use Rattle.torn_block.specs.declared.layout.TheConstants.{DISKS};
@@ -7,7 +7,7 @@ ghost use Rattle.paxos_block.specs.Row.{IsDamagedRow};
 ghost use Rattle.paxos_block.specs.Damage as rows;
 ghost use Rattle.heartbeat.specs.Beat.{IsDamagedArea};
 ghost use Rattle.heartbeat.specs.Damage as areas;
-ghost use Rattle.dlm_images.specs.Damage.{AreLarge, IsDamagedImage, IsDamagedBelow, line_of, lines_of, image_text, area_text, row_text, rows_text};
+ghost use Rattle.dlm_images.specs.Damage.{AreLarge, IsDamagedImage, IsDamagedBelow, Shows, TellsOf, IsToldFirst, line_of, lines_of, image_text, area_text, row_text, rows_text};
 
 use crate::folder::Folder;
 use disk::{Boot, Disk, DiskFault, ImageFault};
@@ -49,7 +49,10 @@ pub enum CheckFault {
 pub fn check_folder<F: FileExt + OpenFile + Drop, O: Write>(
     folder: Folder<F>,
     out: &mut O,
-) -> io::Result<Option<Finding>> {
+) -> io::Result<Option<Finding>>
+    // Nothing is told only where no image of the set is refused.
+    ensures sound { result ≡ Ok None → (k : ℕ) (fault : ImageFault) → k < folder.config.disks → slice_get folder.found k ≢ Some (Err fault) }
+{
     let slots = u32::from(folder.config.slots());
     let mut disks = folder.disks;
     check_disks(&mut disks, &folder.found, slots, out)
@@ -65,16 +68,33 @@ fn check_disks<D: Disk, O: Write>(
 ) -> io::Result<Option<Finding>>
     requires few { length disks.old ≤ DISKS }
     requires large { AreLarge D.device slots disks.old }
+    ensures told { IfOk result (IsToldFirst D.device D.state slots found.now disks.old (length disks.old)) }
+    ensures sound { result ≡ Ok None → (k : ℕ) (fault : ImageFault) → k < length disks.old → slice_get found.now k ≢ Some (Err fault) }
 {
     let mut first = None;
     for disk in 0..disks.len() {
-        let finding = match found[disk] {
-            Ok(_) => check_disk(&mut disks[disk], disk as u8, slots, out)?,
-            Err(fault) => Some(print_fault(disk as u8, fault, out)?),
-        };
+        let finding = check_image(&mut disks[disk], &found[disk], disk as u8, slots, out)?;
         first = first.or(finding);
     }
     Ok(first)
+}
+
+/// Prints why an image is not used, or a line for each damaged block of it, and tells which of both.
+fn check_image<D: Disk, O: Write>(
+    device: &mut D,
+    found: &Result<Header, ImageFault>,
+    disk: u8,
+    slots: u32,
+    out: &mut O,
+) -> io::Result<Option<Finding>>
+    requires { image_length slots ≤ (D.device device.old).size }
+    ensures device { D.device device.new ≡ D.device device.old }
+    ensures told { IfOk result (TellsOf found.now disk (IsTrue (D.device device.old).tells) (IsDamagedImage slots (D.state device.old).bytes)) }
+{
+    match found {
+        Ok(_) => check_disk(device, disk, slots, out),
+        Err(fault) => Ok(Some(print_fault(disk, *fault, out)?)),
+    }
 }
 
 fn check_disk<D: Disk, O: Write>(
@@ -84,7 +104,8 @@ fn check_disk<D: Disk, O: Write>(
     out: &mut O,
 ) -> io::Result<Option<Finding>>
     requires { image_length slots ≤ (D.device device.old).size }
-    ensures { D.device device.new ≡ D.device device.old }
+    ensures device { D.device device.new ≡ D.device device.old }
+    ensures told { IfOk result (Shows disk (IsTrue (D.device device.old).tells) (IsDamagedImage slots (D.state device.old).bytes)) }
 {
     let mut any = false;
     let unread = match print_damage(device, disk, slots, out, &mut any) {
@@ -111,6 +132,8 @@ pub fn print_damage<D: Disk, O: Write>(
         Appends (O.contents out.old) (O.contents out.new) (image_text disk slots (D.state device.old).bytes)) }
     ensures found { OnOk result (IsTrue (D.device device.old).tells →
         IsTrue any.new ↔ (IsTrue any.old ⊎ IsDamagedImage slots (D.state device.old).bytes)) }
+    // Also where it is not read to its end.
+    ensures cause { IsTrue (D.device device.old).tells → IsTrue any.new → IsTrue any.old ⊎ IsDamagedImage slots (D.state device.old).bytes }
 {
     let boot = device.attach()?;
     let beats = print_area(device, boot, disk, out)?;
@@ -155,6 +178,7 @@ fn print_rows<D: Disk, O: Write>(
         Appends (O.contents out.old) (O.contents out.new) (rows_text disk slots (D.state device.old).bytes)) }
     ensures found { OnOk result (IsTrue (D.device device.old).tells →
         IsTrue any.new ↔ (IsTrue any.old ⊎ IsDamagedBelow slots (D.state device.old).bytes)) }
+    ensures cause { IsTrue (D.device device.old).tells → IsTrue any.new → IsTrue any.old ⊎ IsDamagedBelow slots (D.state device.old).bytes }
 {
     for slot in 0..slots {
         let damaged = print_row(device, boot, disk, slot, out)?;
@@ -249,7 +273,9 @@ fn print_line<O: Write>(disk: u8, blocks: Blocks, host: usize, out: &mut O) -> i
 }
 
 /// Prints why an image is not used.
-fn print_fault<O: Write>(disk: u8, fault: ImageFault, out: &mut O) -> io::Result<Finding> {
+fn print_fault<O: Write>(disk: u8, fault: ImageFault, out: &mut O) -> io::Result<Finding>
+    ensures { IfOk result (λ finding. finding ≡ Finding.Image disk fault) }
+{
     let name = match fault {
         ImageFault::NotFormatted => "24 NotFormatted",
         ImageFault::WrongHeader => "25 WrongHeader",

@@ -99,6 +99,16 @@ impl<D: Disk> DiskHost<D> {
         self.core.table()
     }
 
+    /// The disks that it worked over. The host is no more; another one can start over them.
+    pub fn into_disks(self) -> Vec<D>
+        ensures disks { result.items ≡ self.disks }
+        ensures as_many { length result.items ≡ self.core.learner.shape.disks }
+        ensures large { (k : ℕ) (d : D) → slice_get result.items k ≡ Some d →
+            image_length self.core.learner.shape.slots ≤ (D.device d).size }
+    {
+        self.disks
+    }
+
     /// Puts a command of this host into the log. Up to `tries` attempts may be outrun, the last of which ends the submission.
     pub fn submit(&mut self, command: Command, tries: u8) -> Result<Acknowledgement, Refusal>
         requires host { command.host ≡ self.old.core.learner.host }
@@ -108,6 +118,7 @@ impl<D: Disk> DiskHost<D> {
         // Its bytes are read as this command, by every host that learns it.
         ensures readable { decoded (spelling command) ≡ Some command }
         ensures acknowledged { IfOk result (λ done. IsAcknowledged command done.slot done.reply self.new.core.prefix) }
+        ensures told { IfOk result (λ done. self.new.core.said ≡ Some (HostAnswer.Ack done.slot done.reply)) }
         ensures refused { IfErr result (λ refusal. self.new.core.said ≡ Some (HostAnswer.Refused refusal)) }
     {
         // Called for its contract only: the command's numbers are in their ranges.
@@ -141,6 +152,7 @@ impl<D: Disk> DiskHost<D> {
             (done : HasOperated D.gives Recovering tries self.old self.new) →
             length done.made ≤ 17 * length self.old.disks * (learned + tries) }
         ensures learned { IfOk result (λ count. count ≡ length self.new.core.prefix) }
+        ensures told { IfOk result (λ count. self.new.core.said ≡ Some (HostAnswer.Recovered count)) }
         ensures refused { IfErr result (λ refusal. self.new.core.said ≡ Some (HostAnswer.Refused refusal)) }
     {
         self.core.recover(tries);
@@ -154,6 +166,7 @@ impl<D: Disk> DiskHost<D> {
         ensures operated { HasOperated D.gives Looking 1 self.old self.new }
         ensures reads { (done : HasOperated D.gives Looking 1 self.old self.new) → AreReads done.made }
         ensures learned { IfOk result (λ count. count ≡ length self.new.core.prefix) }
+        ensures told { IfOk result (λ count. self.new.core.said ≡ Some (HostAnswer.Looked count)) }
         ensures refused { IfErr result (λ refusal. self.new.core.said ≡ Some (HostAnswer.Refused refusal)) }
     {
         self.core.look();
@@ -166,6 +179,7 @@ impl<D: Disk> DiskHost<D> {
 fn acknowledged(core: &HostCore, command: &Command) -> Result<Acknowledgement, Refusal>
     requires { Ends (Submitting command.now) core.now.prefix core.now.said }
     ensures acknowledged { IfOk result (λ done. IsAcknowledged command.now done.slot done.reply core.now.prefix) }
+    ensures told { IfOk result (λ done. core.now.said ≡ Some (HostAnswer.Ack done.slot done.reply)) }
     ensures refused { IfErr result (λ refusal. core.now.said ≡ Some (HostAnswer.Refused refusal)) }
 {
     match core.answer() {
@@ -179,6 +193,7 @@ fn acknowledged(core: &HostCore, command: &Command) -> Result<Acknowledgement, R
 fn recovered(core: &HostCore) -> Result<u16, Refusal>
     requires { Ends Recovering core.now.prefix core.now.said }
     ensures learned { IfOk result (λ count. count ≡ length core.now.prefix) }
+    ensures told { IfOk result (λ count. core.now.said ≡ Some (HostAnswer.Recovered count)) }
     ensures refused { IfErr result (λ refusal. core.now.said ≡ Some (HostAnswer.Refused refusal)) }
 {
     match core.answer() {
@@ -192,6 +207,7 @@ fn recovered(core: &HostCore) -> Result<u16, Refusal>
 fn looked(core: &HostCore) -> Result<u16, Refusal>
     requires { Ends Looking core.now.prefix core.now.said }
     ensures learned { IfOk result (λ count. count ≡ length core.now.prefix) }
+    ensures told { IfOk result (λ count. core.now.said ≡ Some (HostAnswer.Looked count)) }
     ensures refused { IfErr result (λ refusal. core.now.said ≡ Some (HostAnswer.Refused refusal)) }
 {
     match core.answer() {

@@ -1,7 +1,7 @@
 ghost use Rattle.std.specs.Prelude.{◌≡◌, IfOk, IfErr};
 ghost use Rattle.std.specs.Path.{path_buf_bytes, path_join};
 ghost use Rattle.dlm_images.specs.declared.host_lock.LockFault.TheVariants.{NoMemory};
-ghost use Rattle.dlm_images.specs.Folders.{lock_name};
+ghost use Rattle.dlm_images.specs.Folders.{lock_name, IsLockFault};
 
 use lock_command::HostNumber;
 use std::alloc::{AllocError, Global};
@@ -64,6 +64,7 @@ pub fn lock_host<R: Files + AllocGlobal>(
 where
     R::File: TryLock,
     ensures locked { IfOk result R.File.locked }
+    ensures fault { IfErr result (IsLockFault host) }
 {
     let path = lock_path(rt.alloc(), folder, host)?;
     let file = open_lock_file(rt, path.as_str()).map_err(|_| LockFault::NoLock(host.get()))?;

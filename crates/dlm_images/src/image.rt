@@ -3,7 +3,7 @@ ghost use Rattle.std.specs.Path.{path_buf_bytes, path_join};
 ghost use Rattle.paxos_block.specs.Places.{image_length};
 ghost use Rattle.paxos_block.specs.Headers.{IsHeader};
 ghost use Rattle.dlm_images.specs.declared.fault.FolderFault.TheVariants.{NoMemory};
-ghost use Rattle.dlm_images.specs.Folders.{image_name, HasToldFirst, IsCutAsTold, ReadsHeader};
+ghost use Rattle.dlm_images.specs.Folders.{image_name, HasToldFirst, IsCutAsTold, ReadsHeader, ReadsNoHeader};
 
 use crate::fault::FolderFault;
 use disk::{Disk, DiskFault, FileDisk, ImageFault};
@@ -71,6 +71,7 @@ fn read_header<D: Disk>(device: &mut D, disk: u8) -> Result<Header, ImageFault>
     ensures number { IfOk result (λ header. header.disk ≡ disk) }
     ensures long { IfOk result (λ header. image_length header.slots ≡ (D.device device.old).size) }
     ensures told { IfOk result (λ header. ReadsHeader D.gives device.old disk (D.device device.old).size header device.new) }
+    ensures fault { IfErr result (ReadsNoHeader D.gives device.old disk (D.device device.old).size device.new) }
     ensures device { D.device device.new ≡ D.device device.old }
 {
     let long = device.size();
@@ -81,6 +82,7 @@ fn read_header<D: Disk>(device: &mut D, disk: u8) -> Result<Header, ImageFault>
 /// The first bytes of a device; of one that is shorter, zeros behind those that it has.
 pub fn first_bytes<D: Disk>(device: &mut D) -> Result<[u8; HEADER_LENGTH], ImageFault>
     ensures told { IfOk result (λ bytes. HEADER_LENGTH ≤ (D.device device.old).size → HasToldFirst D.gives device.old bytes device.new) }
+    ensures fault { IfErr result (λ fault. fault ≡ ImageFault.Unreadable) }
     ensures device { D.device device.new ≡ D.device device.old }
 {
     let mut bytes = [0; HEADER_LENGTH];
@@ -92,6 +94,8 @@ pub fn first_bytes<D: Disk>(device: &mut D) -> Result<[u8; HEADER_LENGTH], Image
     Ok(bytes)
 }
 
-fn unreadable(_: DiskFault) -> ImageFault {
+fn unreadable(_: DiskFault) -> ImageFault
+    ensures { result ≡ ImageFault.Unreadable }
+{
     ImageFault::Unreadable
 }

@@ -1,4 +1,4 @@
-ghost use Rattle.std.specs.Prelude.{◌≡◌, ◌≤◌, Some, IfOk, IfErr};
+ghost use Rattle.std.specs.Prelude.{◌≡◌, ◌≤◌, ◌+◌, Some, Err, IfOk, IfErr};
 ghost use Rattle.host.specs.Host.{Submitting};
 ghost use Rattle.dlm_images.specs.Operations.{HasOperated, IsAcknowledged};
 ghost use Rattle.dlm_images.specs.Tries.{HasTried};
@@ -25,7 +25,10 @@ pub fn submit_patiently<R: Clock + RandomSource, D: Disk>(
     requires host { command.host ≡ host.old.core.learner.host }
     requires tries { 1 ≤ tries }
     ensures tried { HasTried D.gives command tries host.old host.new }
+    // It gives up as outrun only once it has tried so often.
+    ensures outrun { result ≡ Err Refusal.Outrun → (done : HasTried D.gives command tries host.old host.new) × (done.outrun + 1 ≡ tries) }
     ensures acknowledged { IfOk result (λ done. IsAcknowledged command done.slot done.reply host.new.core.prefix) }
+    ensures told { IfOk result (λ done. host.new.core.said ≡ Some (HostAnswer.Ack done.slot done.reply)) }
     ensures refused { IfErr result (λ refusal. host.new.core.said ≡ Some (HostAnswer.Refused refusal)) }
 {
     let command = &command;
@@ -48,6 +51,7 @@ fn submit_once<D: Disk>(
     ensures operated { HasOperated D.gives (Submitting command.now) 1 host.old host.new }
     ensures same { host.new.core.learner.host ≡ host.old.core.learner.host }
     ensures acknowledged { IfOk result (λ done. IsAcknowledged command.now done.slot done.reply host.new.core.prefix) }
+    ensures told { IfOk result (λ done. host.new.core.said ≡ Some (HostAnswer.Ack done.slot done.reply)) }
     ensures refused { IfErr result (λ refusal. host.new.core.said ≡ Some (HostAnswer.Refused refusal)) }
 {
     host.submit(*command, 1)

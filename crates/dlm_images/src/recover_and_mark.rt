@@ -22,7 +22,8 @@ impl<D: Disk> DiskHost<D> {
     /// Look first: what marks tell already is then neither recovered nor marked again.
     pub fn recover_and_mark(&mut self, tries: u8) -> Result<MarkedLog, Refusal>
         requires { 1 ≤ tries }
-        ensures marked { IfOk result (λ log. RecoversAndMarks D.gives tries log.marked self.old self.new) }
+        ensures marked { IfOk result (λ log. (done : RecoversAndMarks D.gives tries log.marked self.old self.new) ×
+            (done.recovered.core.said ≡ Some (HostAnswer.Recovered log.length))) }
         ensures learned { IfOk result (λ log. log.length ≡ length self.new.core.prefix) }
         // What the recovery was refused with; what was learned before is marked.
         ensures refused { IfErr result (λ refusal. (marked : ℕ) × ((done : RecoversAndMarks D.gives tries marked self.old self.new) ×

@@ -6,7 +6,7 @@ use Rattle.std.specs.Prelude.{◌↔◌, ◌⊎◌, ◌||◌}
 use Rattle.paxos_block.specs.Places.{area_of}
 use Rattle.heartbeat.specs.Beat.{IsDamagedArea}
 use Rattle.dlm_images.specs.Damage.{area_text, rows_text, IsDamagedBelow}
-use Rattle.dlm_images.proofs.Found.{image_is}
+use Rattle.dlm_images.proofs.Found.{image_is, image_cause}
 use Rattle.dlm_images.proofs.Damage.{attach_keeps}
 use Rattle.dlm_images.proofs.check.print_damage.Goals as goal
 
@@ -47,3 +47,25 @@ returns-clause-found g c = λ t0.
     (subst (λ (d : DiskState). IsTrue c.in_ok-beats.beats ↔ IsDamagedArea (area_of d.bytes)) same (c.in_ok-beats.ensures.found t1))
     (subst (λ (d : DiskState). IsTrue c.print_rows.new.any ↔ (IsTrue (c.args.any.now || c.in_ok-beats.beats) ⊎ IsDamagedBelow c.args.slots d.bytes))
     (c.print_area.ensures.unchanged t1 ∙ same) (c.in_ok-print_rows.ensures.found t2))
+
+pub returns-in_err-print_rows-clause-cause : goal.returns-in_err-print_rows-clause-cause
+returns-in_err-print_rows-clause-cause g c = λ t0 any.
+    let t1 = subst (λ (d : Device). IsTrue d.tells) (sym c.attach.ensures.device) t0 in
+    let t2 = subst (λ (d : Device). IsTrue d.tells) (sym c.print_area.ensures.device) t1 in
+    let old = g.D.Disk.state c.args.device.now in
+    let same = attach_keeps old (g.D.Disk.state c.attach.new.self) c.attach.result (c.attach.ensures.step t0) in
+    image_cause c.args.any.now c.in_ok-beats.beats
+    (subst (λ (d : DiskState). IsTrue c.in_ok-beats.beats ↔ IsDamagedArea (area_of d.bytes)) same (c.in_ok-beats.ensures.found t1))
+    (subst (λ (d : DiskState). IsTrue (c.args.any.now || c.in_ok-beats.beats) ⊎ IsDamagedBelow c.args.slots d.bytes) (c.print_area.ensures.unchanged t1 ∙ same)
+    (c.print_rows.ensures.cause t2 any))
+
+pub returns-clause-cause : goal.returns-clause-cause
+returns-clause-cause g c = λ t0 any.
+    let t1 = subst (λ (d : Device). IsTrue d.tells) (sym c.attach.ensures.device) t0 in
+    let t2 = subst (λ (d : Device). IsTrue d.tells) (sym c.print_area.ensures.device) t1 in
+    let old = g.D.Disk.state c.args.device.now in
+    let same = attach_keeps old (g.D.Disk.state c.attach.new.self) c.attach.result (c.attach.ensures.step t0) in
+    image_cause c.args.any.now c.in_ok-beats.beats
+    (subst (λ (d : DiskState). IsTrue c.in_ok-beats.beats ↔ IsDamagedArea (area_of d.bytes)) same (c.in_ok-beats.ensures.found t1))
+    (subst (λ (d : DiskState). IsTrue (c.args.any.now || c.in_ok-beats.beats) ⊎ IsDamagedBelow c.args.slots d.bytes) (c.print_area.ensures.unchanged t1 ∙ same)
+    (c.print_rows.ensures.cause t2 any))

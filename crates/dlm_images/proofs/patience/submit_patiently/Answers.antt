@@ -1,4 +1,4 @@
-use Rattle.std.proofs.Common.{rules, ◌≡◌, sym, ◌∙◌}
+use Rattle.std.proofs.Common.{rules, sym, ◌∙◌, arith}
 use Rattle.dlm_images.specs.Tries.{none, more}
 use Rattle.dlm_images.proofs.patience.submit_patiently.Goals as goal
 
@@ -12,3 +12,15 @@ loop-outrun-preserved g c = record {
       (search rules);
   same = c.loop-outrun.invariant.same ∙ sym c.submit_once-ended.ensures.same;
 }
+
+pub returns-clause-outrun : goal.returns-clause-outrun
+returns-clause-outrun g c = λ is. (
+  record {
+    outrun = c.loop-outrun.outrun;
+    before = c.loop-outrun.host;
+    few = omega (arith, c.loop-outrun-test.false, c.loop-outrun.auto.outrun-end, c.requires.tries);
+    lost = c.loop-outrun.invariant.lost;
+    last = c.submit_once.ensures.operated;
+  },
+  omega (arith, c.loop-outrun-test.false, c.loop-outrun.auto.outrun-end, c.requires.tries),
+)

@@ -1,0 +1,86 @@
+-- Image after image is checked, and what is told first is kept.
+use Rattle.std.specs.Prelude.{IsTrue}
+use Rattle.std.specs.Option.{option_or}
+use Rattle.std.proofs.Common.{◌≡◌, ◌≤◌, ◌<◌, ◌+◌, ◌∙◌, ℕ, zero, suc, List, [], ◌∷◌, Option, Some, None, Result, Err, length, slice_get, slice_set, refl, sym, subst, arith, inl, inr}
+use Rattle.std.proofs.lemmas.Bool.{cases_lt}
+use Rattle.std.proofs.lemmas.List.{length-set}
+use Rattle.disk.specs.Disk.{Device, DiskState}
+use Rattle.disk.specs.declared.fault.ImageFault.{ImageFault}
+use Rattle.paxos_block.specs.Places.{image_length}
+use Rattle.paxos_block.specs.declared.header.Header.{Header}
+use Rattle.dlm_images.specs.Sets.{Found}
+use Rattle.dlm_images.specs.declared.check.Finding.{Finding}
+use Rattle.dlm_images.specs.declared.check.Finding.TheVariants.{Image}
+use Rattle.dlm_images.specs.Damage.{AreLarge, IsDamagedImage, TellsOf, IsTold, AreSound, IsToldFirst}
+use Rattle.dlm_images.proofs.Images.{Each}
+
+set_each : {X : Type 0} (P : X → Type 0) (xs : List X) (i : ℕ) (y : X) → P y → Each P xs → Each P (slice_set xs i y)
+set_each P [] i y py all k x is = absurd (cc)
+set_each P (z ∷ zs) zero y py all zero x is = let e : y ≡ x = cc in subst P e py
+set_each P (z ∷ zs) zero y py all (suc k) x is = all (suc k) x is
+set_each P (z ∷ zs) (suc i) y py all zero x is = all zero x is
+set_each P (z ∷ zs) (suc i) y py all (suc k) x is = set_each P zs i y py (λ n w e. all (suc n) w e) k x is
+
+-- those behind the one that is set stay
+set_before : {X : Type 0} (xs : List X) (i k : ℕ) (y : X) → i < k → slice_get (slice_set xs i y) k ≡ slice_get xs k
+set_before [] i k y lt = refl
+set_before (z ∷ zs) zero zero y lt = absurd (omega (arith, lt))
+set_before (z ∷ zs) zero (suc k) y lt = refl
+set_before (z ∷ zs) (suc i) zero y lt = absurd (omega (arith, lt))
+set_before (z ∷ zs) (suc i) (suc k) y lt = set_before zs i k y (omega (arith, lt))
+
+item_at : {X : Type 0} (xs : List X) (k : ℕ) → k < length xs → (x : X) × (slice_get xs k ≡ Some x)
+item_at [] k below = absurd (omega (arith, below))
+item_at (x ∷ xs) zero below = (x, refl)
+item_at (x ∷ xs) (suc k) below = item_at xs k (omega (arith, below))
+
+-- Before image n: there are as many disks, as large as they were; those from n on are as they were; and of the others this was told first.
+pub record Checked {D : Type 0} (device : D → Device) (state : D → DiskState) (slots : ℕ) (found : Found) (old now : List D) (n : ℕ) (first : Option Finding) : Type 0 where
+  pub as_many : length now ≡ length old
+  pub large : AreLarge device slots now
+  pub rest : (k : ℕ) → n ≤ k → slice_get now k ≡ slice_get old k
+  pub told : IsToldFirst device state slots found old n first
+
+module _ {D : Type 0} (device : D → Device) (state : D → DiskState) (slots : ℕ) (found : Found) (old : List D) where
+  pub none_checked : AreLarge device slots old → Checked device state slots found old old 0 None
+  none_checked large = record { as_many = refl; large = large; rest = λ k after. refl; told = λ k below. absurd (omega (arith, below)) }
+
+  sound_more : (n : ℕ) → AreSound device state slots found old n → IsTold device state slots found old n None → AreSound device state slots found old (n + 1)
+  sound_more n before here k below =
+      elim (cases_lt k n) [
+        | inl lt ↦ before k lt
+        | inr ge ↦ (let same : n ≡ k = omega (arith, below, ge) in subst (λ (j : ℕ). IsTold device state slots found old j None) same here)
+      ]
+
+  told_more : (n : ℕ) (first finding : Option Finding) → IsToldFirst device state slots found old n first → IsTold device state slots found old n finding → IsToldFirst device state slots found old (n + 1) (option_or first finding)
+  told_more n None None before here = sound_more n before here
+  told_more n None (Some finding) before here = (n, omega arith, before, here)
+  told_more n (Some first) finding before here = (before.0, (let below = before.1 in omega (arith, below)), before.2, before.3)
+
+  -- the next one is checked
+  pub one_checked : (now : List D) (n : ℕ) (x y : D) (image : Result Header ImageFault) (first finding : Option Finding)
+      → Checked device state slots found old now n first → slice_get now n ≡ Some x → slice_get found n ≡ Some image → device y ≡ device x
+      → TellsOf image n (IsTrue (device x).tells) (IsDamagedImage slots (state x).bytes) finding
+      → Checked device state slots found old (slice_set now n y) (n + 1) (option_or first finding)
+  one_checked now n x y image first finding so_far there imaged same told = record {
+    as_many = length-set now n y ∙ so_far.as_many;
+    large = set_each (λ (d : D). image_length slots ≤ (device d).size) now n y (subst (λ (d : Device). image_length slots ≤ d.size) (sym same) (so_far.large n x there)) so_far.large;
+    rest = λ k after. set_before now n k y (omega (arith, after)) ∙ so_far.rest k (omega (arith, after));
+    told =
+        told_more n first finding so_far.told
+        (λ disk other at found_at.
+        let disk_is : x ≡ disk = (let both : Some x ≡ Some disk = sym there ∙ so_far.rest n (omega arith) ∙ at in cc) in
+        let image_is : image ≡ other = (let both : Some image ≡ Some other = sym imaged ∙ found_at in cc) in
+        subst (λ (d : D). TellsOf other n (IsTrue (device d).tells) (IsDamagedImage slots (state d).bytes) finding) disk_is
+        (subst (λ (i : Result Header ImageFault). TellsOf i n (IsTrue (device x).tells) (IsDamagedImage slots (state x).bytes) finding) image_is told));
+  }
+
+-- where nothing is told of them, none is refused
+module _ {D : Type 0} (device : D → Device) (state : D → DiskState) (slots : ℕ) (found : Found) (disks : List D) where
+  pub none_refused : (n : ℕ) (first : Option Finding) → IsToldFirst device state slots found disks n first → first ≡ None → (k : ℕ) (fault : ImageFault) → k < n → k < length disks →
+      slice_get found k ≡ Some (Err fault) → ⊥
+  none_refused n (Some finding) told is k fault below there imaged = absurd (cc)
+  none_refused n None told is k fault below there imaged =
+      let disk = item_at disks k there in
+      let same : None ≡ Some (Image k fault) = told k below disk.0 (Err fault) disk.1 imaged in
+      cc

@@ -1,0 +1,23 @@
+use Rattle.std.proofs.Common.{◌≡◌, ◌<◌, ◌+◌, Option, None, length, slice_set, get_or, sym, subst, arith}
+use Rattle.std.proofs.lemmas.Option.{slice_get-get_or}
+use Rattle.dlm_images.specs.declared.check.Finding.{Finding}
+use Rattle.dlm_images.proofs.Checking.{Checked, one_checked, none_refused}
+use Rattle.dlm_images.proofs.check.check_disks.Goals as goal
+
+pub loop-disk-preserved : goal.loop-disk-preserved
+loop-disk-preserved g c =
+    let now = c.loop-disk.disks in
+    let n = c.loop-disk.disk in
+    let old = c.args.disks.now in
+    let found = c.args.found.now in
+    let within : n < length now = omega (arith, c.loop-disk-test.true, c.loop-disk.invariant.as_many) in
+    let is_there : n < length found = omega (arith, c.loop-disk-test.true, c.told-found, c.requires.few) in
+    subst (λ (first : Option Finding). Checked g.D.Disk.device g.D.Disk.state c.args.slots found old (slice_set now n c.check_image.new.device) (n + 1) first) (sym c.or-first.ensures)
+    (one_checked g.D.Disk.device g.D.Disk.state c.args.slots found old now n (get_or now n c.index-disks-disk.result) c.check_image.new.device (get_or found n _) c.loop-disk.first c.in_ok-finding.finding
+    c.loop-disk.invariant (slice_get-get_or now n c.index-disks-disk.result within) (slice_get-get_or found n _ is_there) c.check_image.ensures.device c.in_ok-finding.ensures.told)
+
+pub returns-clause-sound : goal.returns-clause-sound
+returns-clause-sound g c = λ is k fault below.
+    let none : c.loop-disk.first ≡ None = cc in
+    none_refused g.D.Disk.device g.D.Disk.state c.args.slots c.args.found.now c.args.disks.now c.loop-disk.disk c.loop-disk.first c.loop-disk.invariant.told none k fault
+    (omega (arith, below, c.loop-disk-test.false)) below
