@@ -8,6 +8,10 @@ mod folders;
 #[cfg(test)]
 mod host_core_runs;
 #[cfg(test)]
+mod in_turn;
+#[cfg(test)]
+mod judged;
+#[cfg(test)]
 mod laid_out;
 #[cfg(test)]
 mod raced;

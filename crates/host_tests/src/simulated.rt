@@ -1,7 +1,8 @@
 // Worked runs, through every call that may want memory.
 use host::HostAnswer;
 use lock_table::Reply;
-use simulator::{Parts, Sim, read_script, run};
+use simulator::{Parts, Report, Sim, read_script, run, sweep};
+use std::alloc::{AllocError, Global};
 use std::test::Fail;
 
 const FIRST_REPLY: &[u8] = b"cluster 1 4\nstart 0\nsubmit 0 1 enqueue 1 1 10 EX db\nstep 0 17\n";
@@ -20,6 +21,9 @@ stop 0\ngone 2\nstart 1\nrecover 1 1\nstep 1 56\n";
 const LOOKED: &[u8] =
     b"cluster 1 2\nstart 0\nsubmit 0 1 enqueue 1 1 1 EX db\nstep 0 17\nmark 0 0\nstep 0 9\n\
 start 1\nlook 1\nstep 1 6\n";
+
+// A submission over three disks, none of whose calls is made.
+const SUBMITTED: &str = "cluster 3 2\nstart 0\nsubmit 0 1 enqueue 1 1 1 EX db\n";
 
 #[test]
 fn first_reply(rt: HostRuntime) -> Result<(), Fail> {
@@ -103,6 +107,56 @@ fn parts_say_the_same(rt: HostRuntime) -> Result<(), Fail> {
     }
     assert_eq!(rt; said.as_slice(), [(18, 0)].as_slice());
     Ok(())
+}
+
+// Seventeen stops, six writes torn in three ways, and seventeen calls before which the disk crashes in two.
+#[test]
+fn sweep_of_the_first_reply(rt: HostRuntime) -> Result<(), Fail> {
+    let script = read_script(rt.alloc(), FIRST_REPLY)?;
+    let swept = sweep(rt.alloc(), &script)?;
+    assert_eq!(rt; (swept.runs, swept.recovered, swept.wrong), (69, 138, 0));
+    assert_eq!(rt; swept.first, None);
+    Ok(())
+}
+
+// A submission over three disks makes 51 calls. Whichever of them fails, two disks are left.
+#[test]
+fn failing_calls(rt: HostRuntime) -> Result<(), Fail> {
+    let granted = HostAnswer::Ack {
+        slot: 0,
+        reply: Reply::Granted,
+    };
+    for calls in 0..51 {
+        let said = said_with_a_failing_call(rt.alloc(), calls);
+        assert_eq!(rt; said, Some(granted), "after {calls} calls");
+    }
+    Ok(())
+}
+
+// What is answered to a submission over three disks of which a call fails after so many.
+fn said_with_a_failing_call(alloc: Global, calls: usize) -> Option<HostAnswer> {
+    let text = failing_after(alloc, calls).ok()?;
+    let script = read_script(alloc, text.as_bytes()).ok()?;
+    let events = script.events.to_vec(alloc).ok()?;
+    let report = run(alloc, script.config, &events).ok()?;
+    only_answer(&report)
+}
+
+fn failing_after(alloc: Global, calls: usize) -> Result<String, AllocError> {
+    let mut text = String::from_str(alloc, SUBMITTED)?;
+    for _ in 0..calls {
+        text.push_str("step 0\n")?;
+    }
+    text.push_str("fail 0 a5\nstep 0 51\n")?;
+    Ok(text)
+}
+
+// The one answer of a report.
+fn only_answer(report: &Report) -> Option<HostAnswer> {
+    match report.answers() {
+        [answer] => Some(answer.said),
+        _ => None,
+    }
 }
 
 // The laws of the crates below that have no tests of their own, each called once: their contracts

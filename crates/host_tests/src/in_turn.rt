@@ -1,0 +1,65 @@
+use at_once::{Turns, submit_in_turn};
+use dlm_images::Acknowledgement;
+use host::{Config, Refusal};
+use lock_command::{
+    Action, ClientNumber, Command, HostNumber, LockName, LockNumber, RequestNumber,
+};
+use lock_modes::Mode;
+use lock_table::Reply;
+use std::alloc::Global;
+use std::test::Fail;
+
+// A lock on a name, for a client alone.
+fn exclusive(lock: LockNumber, name: LockName) -> Action {
+    Action::Enqueue {
+        lock,
+        name,
+        mode: Mode::Exclusive,
+        no_queue: false,
+    }
+}
+
+// What the first requests of two clients get, each by a host of its own, over three disks with so many slots: a lock each on one name.
+fn in_turn(alloc: Global, slots: u16) -> Option<Turns> {
+    let config = Config::new(3, slots)?;
+    let zero = HostNumber::new(0)?;
+    let five = HostNumber::new(5)?;
+    let request = RequestNumber::new(1)?;
+    let lock = LockNumber::new(1)?;
+    let next = LockNumber::new(2)?;
+    let name = LockName::new(b"a")?;
+    let one = Command {
+        host: zero,
+        client: ClientNumber::new(1),
+        request,
+        action: exclusive(lock, name),
+    };
+    let other = Command {
+        host: five,
+        client: ClientNumber::new(2),
+        request,
+        action: exclusive(next, name),
+    };
+    submit_in_turn(alloc, config, one, other, 1).ok()
+}
+
+// Both are acknowledged, each at a slot of its own, and the second waits for the first; where the log has one slot the second is refused.
+#[test]
+fn two_hosts_in_turn(rt: HostRuntime) -> Result<(), Fail> {
+    let granted = Acknowledgement {
+        slot: 0,
+        reply: Reply::Granted,
+    };
+    let queued = Acknowledgement {
+        slot: 1,
+        reply: Reply::Queued,
+    };
+    for (slots, second) in [(1, Err(Refusal::LogFull)), (2, Ok(queued)), (8, Ok(queued))] {
+        let want = Turns {
+            first: Ok(granted),
+            second,
+        };
+        assert_eq!(rt; in_turn(rt.alloc(), slots), Some(want));
+    }
+    Ok(())
+}
