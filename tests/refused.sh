@@ -1,16 +1,21 @@
 #!/usr/bin/env bash
 # Refused memory: scripts are run under ever larger limits of the address space, each request for memory being a mapping of
 # its own, so that one request after another is the first that is refused. Each run prints a beginning of what is printed
-# with ample memory, to the end of a line, and tells `21 NoMemory`, until one prints all.
+# with ample memory, to the end of a line, and tells `21 NoMemory`, until one prints all. Then the operations of a cluster, by `bench refused`.
 set -uo pipefail
 
 tests=$(dirname -- "$(readlink -f -- "${BASH_SOURCE[0]}")")
-program=$tests/../crates/dlm/out/dlm
-"$tests/../dlm" run /dev/null >/dev/null 2>&1
-if [[ ! -x $program ]]; then
-    echo "dlm is not built"
+top=$(dirname -- "$tests")
+program=$top/crates/dlm/out/dlm
+bench=$top/crates/bench/out/bench
+source "$top/build.sh"
+"$top/dlm" run /dev/null >/dev/null 2>&1
+(ensure_built bench) >/dev/null
+if [[ ! -x $program || ! -x $bench ]]; then
+    echo "dlm or bench is not built"
     exit 1
 fi
+tunables=glibc.malloc.mmap_threshold=1:glibc.malloc.mmap_max=1000000:glibc.malloc.top_pad=0
 
 work=$(mktemp -d)
 trap 'rm -r -- "$work"' EXIT
@@ -24,7 +29,7 @@ refuse() {
     for ((limit = 2048; limit < 65536; limit += 4)); do
         {
             (
-                export GLIBC_TUNABLES=glibc.malloc.mmap_threshold=1:glibc.malloc.mmap_max=1000000:glibc.malloc.top_pad=0
+                export GLIBC_TUNABLES=$tunables
                 ulimit -v "$limit"
                 exec "$program" "$@" >"$work/out" 2>"$work/err"
             )
@@ -47,6 +52,23 @@ refuse() {
     echo "$name: refused under $refused limits"
 }
 
+# refuse_cluster: `bench refused` takes all the memory that a limit leaves, but for some pages, gives it back at the first refusal, and makes
+# the call again. It ends with status 1 where that comes to anything else than with ample memory. Each kind of call is to be refused somewhere.
+refuse_cluster() {
+    (
+        export GLIBC_TUNABLES=$tunables
+        ulimit -v 16384
+        exec "$bench" refused >"$work/out" 2>"$work/err"
+    )
+    local status=$?
+    if [[ $status -ne 0 || $(cut -d ' ' -f 1 "$work/out" | tr '\n' ' ') != "submissions calls marks restarts " ]] \
+        || grep -q ' 0$' "$work/out"; then
+        echo "cluster: status $status, told: $(<"$work/err")"
+        failed=$((failed + 1))
+    fi
+    echo "cluster: refused in $(tr '\n' ' ' <"$work/out")"
+}
+
 script() {
     local name=$1
     shift
@@ -65,4 +87,5 @@ for name in first_reply recoveries_in_turn repeated_request deadlock marked; do
     refuse "$name" run "$work/$name"
 done
 refuse "sweep of first_reply" sweep "$work/first_reply"
+refuse_cluster
 exit $((failed > 0))

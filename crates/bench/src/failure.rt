@@ -9,7 +9,7 @@ use torn_block::SequenceSpent;
 /// Why a benchmark did not come to its end.
 #[derive(Debug, Drop, Error)]
 pub enum Failure {
-    #[error("the only words are `times`, `threads` and `tables`")]
+    #[error("the only words are `times`, `threads`, `tables` and `refused`")]
     Usage,
     #[error("out of memory")]
     NoMemory,

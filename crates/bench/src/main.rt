@@ -2,6 +2,7 @@
 #![tactic(auto)]
 
 mod apply;
+mod ballast;
 mod benchmark;
 mod block_write;
 mod copies;
@@ -13,6 +14,7 @@ mod first_path;
 mod image;
 mod learn;
 mod overlap;
+mod refused;
 mod run;
 mod slow_disk;
 mod tables;
@@ -23,7 +25,7 @@ mod whole_attempt;
 mod words;
 
 use failure::Failure;
-use run::{print_threads, run_all};
+use run::{print_refusals, print_threads, run_all};
 use std::env;
 use std::process::ExitCode;
 use tables::print_tables;
@@ -33,6 +35,7 @@ fn main(rt: HostRuntime) -> ExitCode {
     let ended = match asked(&rt) {
         Ok(Task::Threads) => print_threads(&rt),
         Ok(Task::Tables) => print_tables(&rt),
+        Ok(Task::Refused) => print_refusals(&rt),
         Ok(task) => run_all(&rt, task),
         Err(failure) => Err(failure),
     };

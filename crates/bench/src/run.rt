@@ -9,6 +9,7 @@ use crate::failure::Failure;
 use crate::first_path::{best_first_path, first_path};
 use crate::learn::Learn;
 use crate::overlap::{Order, slow_recoveries};
+use crate::refused::refused;
 use crate::threads::work_done;
 use crate::timing::{Ratio, Timing};
 use crate::waits::Waits;
@@ -64,7 +65,7 @@ fn run_first_path<R: Print + Wait + Clock + AllocGlobal>(
             println!(rt; "first_path/second {rate}")?;
             Ok(Some(timing))
         }
-        Task::Threads | Task::Tables => Ok(None),
+        Task::Threads | Task::Tables | Task::Refused => Ok(None),
     }
 }
 
@@ -93,6 +94,16 @@ pub fn print_threads<R: Print + Threads + Wait + Clock + AllocGlobal + Sync>(
     Ok(())
 }
 
+/// Prints how often memory was refused to a host's operations, and where.
+pub fn print_refusals<R: Print + Wait + AllocGlobal>(rt: &R) -> Result<(), Failure> {
+    let refusals = refused(rt)?;
+    println!(rt; "submissions {}", refusals.submissions)?;
+    println!(rt; "calls {}", refusals.calls)?;
+    println!(rt; "marks {}", refusals.marks)?;
+    println!(rt; "restarts {}", refusals.restarts)?;
+    Ok(())
+}
+
 /// Runs a benchmark a few times, or measures it over so many.
 fn run_one<R: Print + Clock + AllocGlobal, B: Benchmark>(
     rt: &R,
@@ -111,7 +122,7 @@ fn run_one<R: Print + Clock + AllocGlobal, B: Benchmark>(
             println!(rt; "{name} {timing}")?;
             Ok(Some(timing))
         }
-        Task::Threads | Task::Tables => Ok(None),
+        Task::Threads | Task::Tables | Task::Refused => Ok(None),
     }
 }
 

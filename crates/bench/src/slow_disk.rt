@@ -78,7 +78,15 @@ fn slow_disk<R: Clock>(rt: &R, alloc: Global, config: Config) -> Result<SlowDisk
     ensures large { IfOk result (λ d. image_length config.slots ≤ length d.disk.disk.bytes) }
     ensures fresh { IfOk result (λ d. cut (image_length config.slots) d.disk.disk ≡ fresh_disk (image_length config.slots)) }
 {
-    larger_disks_serve();
-    let disk = SimDisk::new(alloc, config.image_length())?;
+    let disk = simulated(alloc, config)?;
     Ok(SlowDisk { disk, rt })
+}
+
+/// A disk of zeros, as long as an image.
+fn simulated(alloc: Global, config: Config) -> Result<SimDisk, NoMemory>
+    ensures large { IfOk result (λ d. image_length config.slots ≤ length d.disk.bytes) }
+    ensures fresh { IfOk result (λ d. cut (image_length config.slots) d.disk ≡ fresh_disk (image_length config.slots)) }
+{
+    larger_disks_serve();
+    SimDisk::new(alloc, config.image_length())
 }

@@ -11,6 +11,8 @@ pub enum Task {
     Threads,
     /// Tell what the commands of each kind take.
     Tables,
+    /// Tell how often memory was refused to operations of a host, each of which was made again.
+    Refused,
 }
 
 /// The task that the words name.
@@ -20,6 +22,7 @@ pub fn task_of(words: &[&str]) -> Result<Task, Failure> {
         ["times"] => Ok(Task::Measure),
         ["threads"] => Ok(Task::Threads),
         ["tables"] => Ok(Task::Tables),
+        ["refused"] => Ok(Task::Refused),
         _ => Err(Failure::Usage),
     }
 }

@@ -1,0 +1,319 @@
+ghost use Rattle.cluster.specs.Opening.{IsNamed};
+
+use crate::ballast::Ballast;
+use crate::failure::Failure;
+use crate::first_path::command_at;
+use cluster::{Cluster, Config, HostFault, HostSeat, Named, OpenGate, Opening, Receipt, Resumed};
+use disk::SimDisk;
+use lock_command::HostNumber;
+use lock_table::Reply;
+use std::alloc::{AllocGlobal, Global};
+use std::marker::Brand;
+use std::sync::Wait;
+
+/// How many disks there are.
+const DISKS: u8 = 3;
+
+/// The pages that a restart is left with, at most.
+const PAGES: usize = 256;
+
+/// When memory is held back: from a submission on, or from a restart on, which is left so many pages.
+#[derive(Clone, Copy, Debug)]
+enum Held {
+    FromSubmission,
+    FromRestart(usize),
+}
+
+/// A host recovers first or does not, restarts so often, submits, marks what was acknowledged, and restarts once more. So the journal grows in another place each time.
+#[derive(Clone, Copy, Debug)]
+struct Trial {
+    recovers: bool,
+    restarts: u8,
+    held: Held,
+}
+
+/// How often memory was refused, and where.
+#[derive(Clone, Copy, Debug)]
+pub struct Refusals {
+    /// Before the entry of a submission: the host was idle.
+    pub submissions: u32,
+    /// Before a device call of one: the host was busy.
+    pub calls: u32,
+    /// In a marking.
+    pub marks: u32,
+    /// In the last restart.
+    pub restarts: u32,
+}
+
+/// What a host's submission and its mark came to.
+#[derive(Clone, Copy, Debug)]
+struct Came {
+    receipt: Receipt,
+    marked: u8,
+}
+
+/// Goes through all trials. Wherever memory is refused it is given back, and the call is made again: it has to come to what it comes to where none is refused.
+pub fn refused<R: Wait + AllocGlobal>(rt: &R) -> Result<Refusals, Failure> {
+    let mut refusals = Refusals {
+        submissions: 0,
+        calls: 0,
+        marks: 0,
+        restarts: 0,
+    };
+    for restarts in 0..32 {
+        for recovers in [false, true] {
+            for held in [Held::FromSubmission, Held::FromRestart(0)] {
+                let trial = Trial {
+                    recovers,
+                    restarts,
+                    held,
+                };
+                try_once(rt, trial, &mut refusals)?;
+            }
+        }
+    }
+    for pages in 0..PAGES {
+        let trial = Trial {
+            recovers: false,
+            restarts: 0,
+            held: Held::FromRestart(pages),
+        };
+        try_once(rt, trial, &mut refusals)?;
+    }
+    Ok(refusals)
+}
+
+/// Goes through one trial, over a cluster of its own.
+fn try_once<R: Wait + AllocGlobal>(
+    rt: &R,
+    trial: Trial,
+    refusals: &mut Refusals,
+) -> Result<(), Failure> {
+    let Some(config) = Config::new(DISKS, 2) else {
+        return Err(Failure::Wrong);
+    };
+    let opening = Opening::new(rt.alloc(), config)?;
+    let (came, entries) = entries_of::<Brand, R>(rt, opening, trial, refusals)?;
+    // A start, 31 entries of a recovery of an empty log, and two of each restart.
+    let recovered = if trial.recovers { 31 } else { 0 };
+    let before = 1 + recovered + 2 * usize::from(trial.restarts);
+    let receipt = came.receipt;
+    if receipt.slot != 0
+        || receipt.reply != Reply::Granted
+        || receipt.place != before + 51
+        || came.marked != DISKS
+        || entries != before + 52 + 28 + 2
+    {
+        return Err(Failure::Wrong);
+    }
+    Ok(())
+}
+
+/// Makes a cluster, lets its host 0 go through a trial, and counts the entries of the journal.
+fn entries_of<N: Named, R: Wait + AllocGlobal>(
+    rt: &R,
+    opening: Opening,
+    trial: Trial,
+    refusals: &mut Refusals,
+) -> Result<(Came, usize), Failure>
+    requires { IsNamed opening N.shape N.table N.name N.parts N.all }
+{
+    let alloc = rt.alloc();
+    let Some(host) = HostNumber::new(0) else {
+        return Err(Failure::Wrong);
+    };
+    let (ties, foundation) = opening.named::<N>(alloc)?;
+    let cluster = Cluster::simulated(alloc, &ties, foundation)?;
+    let mut seat = cluster.seat(rt, alloc, host)?;
+    let came = go_through(rt, alloc, &cluster, &mut seat, trial, refusals);
+    let entries = finish(alloc, cluster, seat)?;
+    Ok((came?, entries))
+}
+
+/// How many entries a cluster has left, all of whose seats are this one.
+fn finish<N: Named>(
+    alloc: Global,
+    cluster: Cluster<'_, N, SimDisk>,
+    seat: HostSeat<N>,
+) -> Result<usize, Failure> {
+    let mut seats = Vec::new(alloc);
+    if seats.push(seat).is_err() {
+        return Err(Failure::NoMemory);
+    }
+    let record = cluster.finish(seats)?;
+    Ok(record.entries.len())
+}
+
+fn go_through<N: Named>(
+    rt: &impl Wait,
+    alloc: Global,
+    cluster: &Cluster<'_, N, SimDisk>,
+    seat: &mut HostSeat<N>,
+    trial: Trial,
+    refusals: &mut Refusals,
+) -> Result<Came, Failure> {
+    let mut ballast = Ballast::new(alloc);
+    operate(rt, alloc, cluster, seat, trial, &mut ballast, refusals)
+}
+
+fn operate<N: Named>(
+    rt: &impl Wait,
+    alloc: Global,
+    cluster: &Cluster<'_, N, SimDisk>,
+    seat: &mut HostSeat<N>,
+    trial: Trial,
+    ballast: &mut Ballast,
+    refusals: &mut Refusals,
+) -> Result<Came, Failure> {
+    if trial.recovers {
+        recover(rt, cluster, seat)?;
+    }
+    restart_often(rt, alloc, cluster, seat, trial.restarts)?;
+    if let Held::FromSubmission = trial.held {
+        ballast.take(alloc, 0)?;
+    }
+    let receipt = submit(rt, cluster, seat, ballast, refusals)?;
+    let marked = mark(rt, cluster, seat, receipt.slot, ballast, refusals)?;
+    if let Held::FromRestart(pages) = trial.held {
+        ballast.take(alloc, pages)?;
+    }
+    restart(rt, alloc, cluster, seat, ballast, refusals)?;
+    Ok(Came { receipt, marked })
+}
+
+fn recover<N: Named>(
+    rt: &impl Wait,
+    cluster: &Cluster<'_, N, SimDisk>,
+    seat: &mut HostSeat<N>,
+) -> Result<(), Failure> {
+    if !seat.idle() {
+        return Err(Failure::Wrong);
+    }
+    cluster.recover(rt, seat, &mut OpenGate, 1)?;
+    Ok(())
+}
+
+fn restart_often<N: Named>(
+    rt: &impl Wait,
+    alloc: Global,
+    cluster: &Cluster<'_, N, SimDisk>,
+    seat: &mut HostSeat<N>,
+    times: u8,
+) -> Result<(), Failure> {
+    for _ in 0..times {
+        cluster.restart(rt, alloc, seat)?;
+    }
+    Ok(())
+}
+
+/// Submits. Where memory is refused, that is done again, or gone on with.
+fn submit<N: Named>(
+    rt: &impl Wait,
+    cluster: &Cluster<'_, N, SimDisk>,
+    seat: &mut HostSeat<N>,
+    ballast: &mut Ballast,
+    refusals: &mut Refusals,
+) -> Result<Receipt, Failure> {
+    match submit_once(rt, cluster, seat) {
+        Err(Failure::Host(HostFault::NoMemory)) => {
+            ballast.let_go();
+            if seat.idle() {
+                refusals.submissions = refusals.submissions.saturating_add(1);
+                submit_once(rt, cluster, seat)
+            } else {
+                refusals.calls = refusals.calls.saturating_add(1);
+                match resume(rt, cluster, seat)? {
+                    Resumed::Submitted(receipt) => Ok(receipt),
+                    _ => Err(Failure::Wrong),
+                }
+            }
+        }
+        ended => ended,
+    }
+}
+
+fn submit_once<N: Named>(
+    rt: &impl Wait,
+    cluster: &Cluster<'_, N, SimDisk>,
+    seat: &mut HostSeat<N>,
+) -> Result<Receipt, Failure> {
+    let Some(command) = command_at(seat.host(), 0) else {
+        return Err(Failure::Wrong);
+    };
+    if !seat.idle() {
+        return Err(Failure::Wrong);
+    }
+    Ok(cluster.submit(rt, seat, &mut OpenGate, command, 1)?)
+}
+
+fn resume<N: Named>(
+    rt: &impl Wait,
+    cluster: &Cluster<'_, N, SimDisk>,
+    seat: &mut HostSeat<N>,
+) -> Result<Resumed, Failure> {
+    if seat.idle() {
+        return Err(Failure::Wrong);
+    }
+    Ok(cluster.resume(rt, seat, &mut OpenGate)?)
+}
+
+/// Marks a slot, as `submit` submits.
+fn mark<N: Named>(
+    rt: &impl Wait,
+    cluster: &Cluster<'_, N, SimDisk>,
+    seat: &mut HostSeat<N>,
+    slot: u16,
+    ballast: &mut Ballast,
+    refusals: &mut Refusals,
+) -> Result<u8, Failure> {
+    match mark_once(rt, cluster, seat, slot) {
+        Err(Failure::Host(HostFault::NoMemory)) => {
+            ballast.let_go();
+            refusals.marks = refusals.marks.saturating_add(1);
+            if seat.idle() {
+                mark_once(rt, cluster, seat, slot)
+            } else {
+                match resume(rt, cluster, seat)? {
+                    Resumed::Marked(count) => Ok(count),
+                    _ => Err(Failure::Wrong),
+                }
+            }
+        }
+        ended => ended,
+    }
+}
+
+fn mark_once<N: Named>(
+    rt: &impl Wait,
+    cluster: &Cluster<'_, N, SimDisk>,
+    seat: &mut HostSeat<N>,
+    slot: u16,
+) -> Result<u8, Failure> {
+    if !seat.idle() || slot >= cluster.slots() {
+        return Err(Failure::Wrong);
+    }
+    Ok(cluster.mark(rt, seat, &mut OpenGate, slot)?)
+}
+
+/// Restarts. Where memory is refused, the host runs still and knows what it knew.
+fn restart<N: Named>(
+    rt: &impl Wait,
+    alloc: Global,
+    cluster: &Cluster<'_, N, SimDisk>,
+    seat: &mut HostSeat<N>,
+    ballast: &mut Ballast,
+    refusals: &mut Refusals,
+) -> Result<(), Failure> {
+    if let Err(fault) = cluster.restart(rt, alloc, seat) {
+        ballast.let_go();
+        if fault != HostFault::NoMemory || seat.prefix().len() != 1 || seat.acks().len() != 1 {
+            return Err(Failure::Wrong);
+        }
+        refusals.restarts = refusals.restarts.saturating_add(1);
+        cluster.restart(rt, alloc, seat)?;
+    }
+    if !seat.prefix().is_empty() || !seat.acks().is_empty() {
+        return Err(Failure::Wrong);
+    }
+    Ok(())
+}
