@@ -5,9 +5,6 @@ use crate::reply_text::ReplyText;
 use host::{HostAnswer, Refusal};
 use std::fmt;
 
-#[cfg(test)]
-mod tests;
-
 /// What a host answered, as it is printed behind the host.
 #[derive(Clone, Copy)]
 pub struct AnswerText(pub HostAnswer);

@@ -20,9 +20,6 @@ use std::thread::Threads;
 use std::time::Clock;
 use std::{fs, io};
 
-#[cfg(test)]
-mod tests;
-
 /// Does what the words ask for, prints on `out` and a refusal on `err`, and returns the status.
 pub fn run_words<
     R: Files + Input + Clock + RandomSource + AllocGlobal + Threads + Wait + Sync,

@@ -1,0 +1,307 @@
+#!/usr/bin/env python3
+"""program.py: what `dlm` prints, what it tells on standard error, and its status: over folders of images that are formatted, damaged, half
+there or in use, for words that are no task, for races, and where its output takes nothing. The bytes of an image are compared too.
+
+What is expected was worked out from docs/FORMAT.md and docs/REFUSALS.md. It prints each difference, and how many there were; the status is
+1 where there was one. The program has to be built: `./dlm` does so.
+"""
+import fcntl
+import os
+import shutil
+import subprocess
+import sys
+import tempfile
+
+TOP = os.path.dirname(os.path.dirname(os.path.realpath(__file__)))
+PROGRAM = os.path.join(TOP, "crates/dlm/out/dlm")
+TESTS = []
+
+
+def test(function):
+    """Adds a test, which runs in an empty folder of its own."""
+    TESTS.append(function)
+    return function
+
+
+class Differs(Exception):
+    """What was wanted, and what came."""
+
+
+def wants(what, got, wanted):
+    if got != wanted:
+        raise Differs(f"{what}: {got!r}, wanted {wanted!r}")
+
+
+def run(words, **more):
+    return subprocess.run([PROGRAM, *words], stdin=subprocess.DEVNULL, stderr=subprocess.PIPE, check=False, text=True, **more)
+
+
+def ends(text, status, printed, told):
+    """Words, parted by single spaces, end with this status, print the one text and tell the other."""
+    ended = run(text.split(" "), stdout=subprocess.PIPE)
+    wants(f"`{text}`", (ended.returncode, ended.stdout, ended.stderr), (status, printed, told))
+
+
+def prints(text, printed):
+    ends(text, 0, printed, "")
+
+
+def refused(text, told):
+    ends(text, 1, "", told)
+
+
+def usage(text, told="dlm: usage\n"):
+    ends(text, 2, "", told)
+
+
+def put_byte(path, at, byte):
+    with open(path, "r+b") as file:
+        file.seek(at)
+        file.write(bytes([byte]))
+
+
+def put_zeros(path, length):
+    with open(path, "wb") as file:
+        file.write(bytes(length))
+
+
+def images(disks, slots):
+    prints(f"format . {disks} {slots} 7", f"formatted {disks} disks, {slots} slots\n")
+
+
+HELD = "recovered 1\ndb\n  granted 1 1 0 EX\n"
+
+
+@test
+def from_format_to_lost_disks():
+    refused("table . 0", "dlm: 26 Unreadable disk0\n")
+    images(3, 16)
+    refused("format . 3 16 7", "dlm: 29 AlreadyThere\n")
+    prints("submit . 0 enqueue 1 1 1 EX db", "ack 0 Granted\n")
+    prints("submit . 3 enqueue 2 1 2 EX db noqueue", "ack 1 16 NotQueued\n")
+    prints("table . 1", "recovered 2\ndb\n  granted 1 1 0 EX\n")
+    # The same words again are the command that is in the log. Through another host they are another one, and get the reply that is kept.
+    prints("submit . 0 enqueue 1 1 1 EX db", "ack 0 Granted\n")
+    prints("submit . 3 enqueue 1 1 1 EX db", "ack 2 Granted\n")
+    put_zeros("disk1.img", 18432)
+    prints("table . 2", "recovered 3\ndb\n  granted 1 1 0 EX\n")
+    os.remove("disk2.img")
+    refused("table . 2", "dlm: 7 NoMajority\n")
+    put_zeros("disk0.img", 18432)
+    refused("table . 2", "dlm: 24 NotFormatted disk0\n")
+
+
+# Copy 1 of host 0's block of slot 0, marked, and copy 2, once its first command is acknowledged.
+COMMAND = "0100010500020001" "0000000000000001" "0064620000000000" "0000000000000000"
+FIRST_BLOCK = bytes.fromhex(
+    "a501010100000000" "0000000000000003" "0000000000000001" "0000000000000001" + COMMAND +
+    "a501010000000000" "0000000000000002" "0000000000000001" "0000000000000001" + COMMAND)
+
+
+@test
+def bytes_of_an_image():
+    images(3, 16)
+    prints("submit . 0 enqueue 1 1 1 EX db", "ack 0 Granted\n")
+    with open("disk1.img", "rb") as file:
+        image = file.read()
+    header = bytes.fromhex("a5010103" "00000010" "0000000000000007")
+    wants("the image", image, header.ljust(2048, b"\0") + FIRST_BLOCK.ljust(18432 - 2048, b"\0"))
+
+
+# What is done to the only image, of four slots, before it is opened, by the checks in their order: where two faults meet, the one that is
+# looked for first is told.
+WRONG = [
+    lambda image: os.truncate(image, 0),
+    lambda image: put_zeros(image, 1023),
+    lambda image: os.truncate(image, 1023),
+    lambda image: put_byte(image, 1, 2),
+    lambda image: put_byte(image, 2, 1),
+    lambda image: put_byte(image, 3, 0),
+    lambda image: put_byte(image, 3, 8),
+    lambda image: put_byte(image, 4, 1),
+    lambda image: put_byte(image, 7, 0),
+    lambda image: put_byte(image, 7, 5),
+    lambda image: put_byte(image, 16, 1),
+    lambda image: put_byte(image, 1023, 1),
+    lambda image: os.truncate(image, 6145),
+]
+UNFORMATTED = [
+    lambda image: put_zeros(image, 1024),
+    lambda image: put_zeros(image, 6144),
+    lambda image: put_byte(image, 0, 0),
+    lambda image: put_byte(image, 0, 0xA4),
+]
+
+
+@test
+def checks_of_an_image():
+    images(1, 4)
+    shutil.copy("disk0.img", "whole")
+    for faults, told in (WRONG, "dlm: 25 WrongHeader disk0\n"), (UNFORMATTED, "dlm: 24 NotFormatted disk0\n"):
+        for damage in faults:
+            shutil.copy("whole", "disk0.img")
+            damage("disk0.img")
+            refused("table . 0", told)
+    shutil.copy("whole", "disk0.img")
+    put_byte("disk0.img", 15, 8)
+    put_zeros("disk6.img", 9)
+    shutil.copy("whole", "disk7.img")
+    prints("table . 0", "recovered 0\nempty\n")
+
+
+@test
+def headers_that_disagree():
+    images(3, 4)
+    os.mkdir("other")
+    prints("format other 4 5 8", "formatted 4 disks, 5 slots\n")
+    # A disk that the others do not know, another cluster number, and, without disk 0, the next header that is right.
+    shutil.copy("other/disk3.img", "disk3.img")
+    refused("table . 0", "dlm: 25 WrongHeader disk3\n")
+    put_byte("disk1.img", 15, 6)
+    refused("table . 0", "dlm: 25 WrongHeader disk1\n")
+    os.remove("disk0.img")
+    refused("table . 0", "dlm: 25 WrongHeader disk2\n")
+    put_byte("disk1.img", 15, 7)
+    os.remove("disk3.img")
+    prints("table . 0", "recovered 0\nempty\n")
+
+
+@test
+def slots_that_have_no_mark():
+    images(3, 16)
+    prints("mark . 1", "recovered 0\nmarked 0 slots\n")
+    prints("submit . 0 enqueue 1 1 1 EX db", "ack 0 Granted\n")
+    prints("submit . 0 release 1 2 1", "ack 1 Released\n")
+    prints("mark . 1", "recovered 2\nmarked 0 slots\n")
+    # The mark of host 0's block of slot 0 is taken away on each disk, as if its process had died before it. Slot 1 keeps its own.
+    for disk in range(3):
+        put_byte(f"disk{disk}.img", 2051, 0)
+    prints("mark . 1", "recovered 2\nmarked 1 slots\n")
+    prints("mark . 2", "recovered 2\nmarked 0 slots\n")
+    prints("table . 3", "recovered 2\nempty\n")
+    os.remove("disk0.img")
+    os.remove("disk1.img")
+    refused("mark . 2", "dlm: 7 NoMajority\n")
+
+
+@test
+def one_process_a_host_number():
+    images(1, 4)
+    with open("host3.lock", "w", encoding="ascii") as lock:
+        fcntl.flock(lock, fcntl.LOCK_EX)
+        refused("table . 3", "dlm: 36 HostInUse host3\n")
+        refused("submit . 3 enqueue 1 1 1 EX db", "dlm: 36 HostInUse host3\n")
+        prints("submit . 2 enqueue 1 1 1 EX db", "ack 0 Granted\n")
+    os.symlink("no/such/folder", "host4.lock")
+    prints("table . 3", "recovered 1\ndb\n  granted 1 1 2 EX\n")
+    refused("table . 4", "dlm: 37 NoLock host4\n")
+    # What is wrong with the images is told first.
+    os.remove("disk0.img")
+    refused("table . 4", "dlm: 26 Unreadable disk0\n")
+
+
+@test
+def words_that_are_no_task():
+    wants("no words", run([], stdout=subprocess.PIPE).returncode, 2)
+    for text in ("run", "run a b", "RUN a", "help", "-V", "run -h", "run -", "-- run a", "race", "race 0", "race 9", "race 01", "race 1 2"):
+        usage(text)
+    for text in ("format d 3 16", "format d 0 16 7", "format d 8 16 7", "format d 3 4097 7", "format d 3 16 18446744073709551616",
+                 "format d 03 16 7", "table d 8", "table d 0 0", "mark d 8", "check", "check d 0", "submit d 8 release 1 1 1"):
+        usage(text)
+    for text in ("submit no/such 0", "submit no/such 0 release 1 1", "submit no/such 0 release 1 1 1 "):
+        usage(text, "dlm: bad command\n")
+    ended = run(["submit", "no/such", "0", "release", "1", "1 1"], stdout=subprocess.PIPE)
+    wants("a word with a space", (ended.returncode, ended.stdout, ended.stderr), (2, "", "dlm: bad command\n"))
+    refused("submit no/such 0 release 1 1 1", "dlm: 26 Unreadable disk0\n")
+    refused("run no/such/script", "dlm: 26 Unreadable\n")
+
+
+def restore():
+    for disk in range(3):
+        shutil.copy(f"whole{disk}", f"disk{disk}.img")
+    prints("check .", "sound\n")
+
+
+@test
+def damaged_images():
+    refused("check .", "dlm: 26 Unreadable disk0\n")
+    images(3, 16)
+    prints("submit . 0 enqueue 1 1 1 EX db", "ack 0 Granted\n")
+    prints("check .", "sound\n")
+    for disk in range(3):
+        shutil.copy(f"disk{disk}.img", f"whole{disk}")
+    # An image beyond the set is not looked at.
+    put_zeros("disk3.img", 18432)
+
+    # A ballot of host 1 in host 0's block, on one disk and then on two.
+    put_byte("disk0.img", 2071, 2)
+    ends("check .", 1, "disk0 slot 0 host 0 damaged\n", "dlm: 5 Damaged\n")
+    prints("table . 1", HELD)
+    put_byte("disk1.img", 2071, 2)
+    refused("table . 1", "dlm: 7 NoMajority\n")
+    ends("check .", 1, "disk0 slot 0 host 0 damaged\ndisk1 slot 0 host 0 damaged\n", "dlm: 5 Damaged\n")
+
+    # A value that is no command, on all disks: no block is damaged.
+    restore()
+    for disk in range(3):
+        put_byte(f"disk{disk}.img", 2080, 7)
+    prints("check .", "sound\n")
+    refused("table . 1", "dlm: 10 NotACommand\n")
+
+    # A header that disagrees.
+    restore()
+    put_byte("disk1.img", 3, 5)
+    for text in ("check .", "table . 1", "submit . 1 status 1 1 1"):
+        refused(text, "dlm: 25 WrongHeader disk1\n")
+
+    # Images that are refused or missing, beside an opened heartbeat gate and damage of the last block; and without these two.
+    restore()
+    put_byte("disk0.img", 1664, 0xA5)
+    put_byte("disk0.img", 18304, 0xA5)
+    put_zeros("disk1.img", 18432)
+    os.remove("disk2.img")
+    missing = "disk1 24 NotFormatted\ndisk2 26 Unreadable\n"
+    ends("check .", 1, "disk0 heartbeat host 5 damaged\ndisk0 slot 15 host 7 damaged\n" + missing, "dlm: 5 Damaged\n")
+    shutil.copy("whole0", "disk0.img")
+    ends("check .", 1, missing, "dlm: 24 NotFormatted disk1\n")
+
+
+@test
+def races():
+    prints("race 1", "host 0 ack 0 Granted\nagree\n")
+    # Three lines by rising host, whoever was first, and that they agree.
+    ended = run(["race", "3"], stdout=subprocess.PIPE)
+    lines = ended.stdout.split("\n")
+    wants("race 3", (ended.returncode, ended.stderr, len(lines), lines[3:]), (0, "", 5, ["agree", ""]))
+    for host, line in enumerate(lines[:3]):
+        wants(f"the line of host {host}", line.startswith(f"host {host} ack "), True)
+
+
+@test
+def output_that_takes_nothing():
+    with open("script", "w", encoding="ascii") as file:
+        file.write("cluster 1 4\nstart 0\nsubmit 0 1 enqueue 1 1 10 EX db\nstep 0 17\n")
+    with open("/dev/full", "wb") as full:
+        ended = run(["run", "script"], stdout=full)
+    wants("a full device", (ended.returncode, ended.stderr), (1, ""))
+
+
+def main():
+    if not os.access(PROGRAM, os.X_OK):
+        print("program.py: dlm is not built")
+        return 1
+    wrong = 0
+    for function in TESTS:
+        with tempfile.TemporaryDirectory() as folder:
+            os.chdir(folder)
+            try:
+                function()
+            except Differs as difference:
+                print(f"{function.__name__}: {difference}")
+                wrong += 1
+            os.chdir(TOP)
+    print(f"program.py: {len(TESTS)} tests, {wrong} wrong")
+    return 1 if wrong else 0
+
+
+sys.exit(main())
