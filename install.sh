@@ -2,6 +2,7 @@
 # install.sh: puts program, manual page and completions in place, below PREFIX (none given: /usr/local), with DESTDIR in front of it
 # where one is given, as for a package. install.sh uninstall: takes them out. Both print the files.
 # In a checkout the program is built first, if it has to be. In an archive of release.sh it is there.
+# The library for C goes with it where it is built (capi/build.sh); else that is said on standard error.
 set -euo pipefail
 
 top=$(dirname -- "$(readlink -f -- "${BASH_SOURCE[0]}")")
@@ -35,6 +36,16 @@ build() {
     [[ ${PIPESTATUS[0]} -eq 1 ]]
 }
 
+# The library's files, in a checkout where they are there.
+library() {
+    [[ -x $top/capi/install.sh ]] || return 0
+    if [[ $1 == uninstall || -f $top/capi/out/libmidgegalena.a ]]; then
+        PREFIX=${PREFIX:-/usr/local} "$top/capi/install.sh" "$1"
+    else
+        echo "install.sh: without the library for C, which capi/build.sh builds" >&2
+    fi
+}
+
 case ${1-install} in
     install)
         if ! build; then
@@ -42,8 +53,12 @@ case ${1-install} in
             exit 1
         fi
         each put
+        library install
         ;;
-    uninstall) each take_out ;;
+    uninstall)
+        each take_out
+        library uninstall
+        ;;
     *)
         echo "usage: [PREFIX=..] [DESTDIR=..] install.sh [uninstall]" >&2
         exit 2

@@ -1,0 +1,151 @@
+#!/usr/bin/env bash
+# Builds the library, and tries it from C, C++, Python and Rust: the header alone, each call, each bad argument, each refused allocation, a host
+# that dies, several at once, and the same folder by the program dlm. Under valgrind, and with the sanitizers of gcc, where they are there.
+# Where there is no C compiler it says so, and ends well.
+set -euo pipefail
+here=$(cd -- "$(dirname -- "$(readlink -f -- "${BASH_SOURCE[0]}")")" && pwd)
+top=$(dirname -- "$here")
+if ! command -v cc > /dev/null; then
+    echo "capi/check.sh: there is no C compiler, so nothing was tried"
+    exit 0
+fi
+work=$(mktemp -d)
+trap 'rm -rf -- "$work"' EXIT
+export PREFIX=$work/usr
+"$here/install.sh" > "$work/installed.txt"
+export PKG_CONFIG_PATH=$PREFIX/lib/pkgconfig LD_LIBRARY_PATH=$PREFIX/lib
+strict="-Wall -Wextra -pedantic -Werror"
+flags="-I $PREFIX/include -L $PREFIX/lib -lmidgegalena"
+failed=0
+passed=0
+tried() { # NAME COMMAND..: passes where the command does
+    local name=$1
+    shift
+    if "$@" > "$work/out.txt" 2>&1; then
+        passed=$((passed + 1))
+    else
+        failed=$((failed + 1))
+        echo "failed: $name"
+        sed 's/^/    /' "$work/out.txt"
+    fi
+}
+left_out() { echo "left out: $1"; }
+folder() { rm -rf -- "$work/images" && mkdir -- "$work/images"; }
+
+# The header alone, in each language that it is for.
+echo '#include <midgegalena.h>' > "$work/alone.c"
+for standard in c99 c11 c17; do tried "header as $standard" cc -std=$standard $strict -I "$PREFIX/include" -fsyntax-only "$work/alone.c"; done
+if command -v c++ > /dev/null; then
+    cp -- "$work/alone.c" "$work/alone.cpp"
+    for standard in c++11 c++17; do tried "header as $standard" c++ -std=$standard $strict -I "$PREFIX/include" -fsyntax-only "$work/alone.cpp"; done
+fi
+if command -v pkg-config > /dev/null; then
+    tried "pkg-config" bash -c 'pkg-config --cflags --libs midgegalena | grep -q -- "-lmidgegalena"'
+fi
+
+# Each call: against the archive, against the shared library, and from C++.
+common="-D_DEFAULT_SOURCE $strict -g -I $PREFIX/include"
+tried "calls, archive" cc -std=c99 $common "$here/tests/calls.c" "$PREFIX/lib/libmidgegalena.a" -o "$work/calls"
+tried "calls, shared" cc -std=c99 $common "$here/tests/calls.c" $flags -o "$work/calls_shared"
+programs=(calls calls_shared)
+if command -v c++ > /dev/null; then
+    tried "calls, C++" c++ -x c++ -std=c++17 $common "$here/tests/calls.c" $flags -o "$work/calls_cpp"
+    programs+=(calls_cpp)
+fi
+for program in "${programs[@]}"; do folder; tried "$program" "$work/$program" "$work/images"; done
+
+# The folder is the program's, too; and a host that the library has is not the program's.
+dlm=$top/crates/dlm/out/dlm
+if [[ -x $dlm ]]; then
+    tried "dlm reads it" bash -c '"$1" table "$2" 3 | cmp - <(printf "recovered 16\nempty\n")' _ "$dlm" "$work/images"
+    tried "dlm check" bash -c '"$1" check "$2" | cmp - <(echo sound)' _ "$dlm" "$work/images"
+else
+    left_out "dlm on the same folder: it is not built"
+fi
+
+# Each allocation is refused in turn.
+tried "refused memory, built" cc -std=c99 $common -Wl,--wrap=malloc,--wrap=calloc,--wrap=realloc "$here/tests/refused_memory.c" "$PREFIX/lib/libmidgegalena.a" -o "$work/refused_memory"
+folder
+tried "refused memory" "$work/refused_memory" "$work/images"
+
+# Images that are missing, short, of another folder, or unformatted.
+tried "images, built" cc -std=c99 $common "$here/tests/images.c" $flags -o "$work/images_test"
+folder
+tried "images" "$work/images_test" "$work/images" "$dlm"
+
+# A host dies, and the other goes on.
+tried "failover, built" cc -std=c99 $common "$here/examples/c/failover.c" $flags -o "$work/failover"
+folder
+tried "failover" "$work/failover" "$work/images"
+cp -- "$work/out.txt" "$work/said.txt"
+tried "what failover says" diff "$work/said.txt" "$here/examples/c/failover.out"
+
+# From Python.
+if command -v python3 > /dev/null; then
+    folder
+    tried "python" env PYTHONDONTWRITEBYTECODE=1 python3 "$here/examples/python/turns.py" "$PREFIX/lib/libmidgegalena.so" "$work/images"
+    cp -- "$work/out.txt" "$work/said.txt"
+    tried "what python says" diff "$work/said.txt" "$here/examples/python/turns.out"
+else
+    left_out "Python: there is none"
+fi
+
+# From Rust.
+if command -v rustc > /dev/null && rustc --version > /dev/null 2>&1; then
+    tried "rust, built" rustc --edition 2024 -L "$PREFIX/lib" -l midgegalena "$here/examples/rust/guard.rs" -o "$work/guard"
+    folder
+    tried "rust" "$work/guard" "$work/images"
+    cp -- "$work/out.txt" "$work/said.txt"
+    tried "what rust says" diff "$work/said.txt" "$here/examples/rust/guard.out"
+else
+    left_out "Rust: there is no compiler"
+fi
+
+# Eight hosts at once count under one lock.
+tried "contend, built" cc -std=c99 $common "$here/tests/contend.c" $flags -o "$work/contend"
+folder
+tried "contend" "$work/contend" "$work/images" 8 "${CONTEND:-20}"
+
+# The numbers and names are those of the printed text.
+cat > "$work/names.c" << 'END'
+#include <midgegalena.h>
+#include <stdio.h>
+int main(void) {
+    for (int status = 1; status < 100; status++)
+        if (mg_name(status)[0])
+            printf("%d %s\n", status, mg_name(status));
+    return 0;
+}
+END
+tried "names, built" cc -std=c99 $common "$work/names.c" $flags -o "$work/names"
+"$work/names" > "$work/names.txt"
+sed -n 's/^| \([0-9]*\) | `\([A-Za-z]*\).*/\1 \2/p' "$top/docs/REFUSALS.md" | sort -nu > "$work/refusals.txt"
+tried "names are those of docs/REFUSALS.md" bash -c '! grep -vxFf "$2" "$1"' _ "$work/names.txt" "$work/refusals.txt"
+
+# Nothing but mg_* is exported, and the manual page names each call.
+tried "exports" bash -c '! nm -D --defined-only "$1" | grep -v " T mg_"' _ "$PREFIX/lib/libmidgegalena.so"
+tried "manual page" bash -c 'for call in $(nm -D --defined-only "$1" | sed -n "s/.* T //p"); do grep -q "^\.Fn $call\|^\.Fo $call" "$2" || { echo "$call"; exit 1; }; done' _ "$PREFIX/lib/libmidgegalena.so" "$top/man/midgegalena.3"
+
+# Memory.
+if command -v valgrind > /dev/null; then
+    for program in calls refused_memory; do
+        folder
+        tried "valgrind $program" valgrind -q --leak-check=full --errors-for-leak-kinds=all --error-exitcode=9 "$work/$program" "$work/images"
+    done
+else
+    left_out "valgrind: there is none"
+fi
+if echo 'int main(void) { return 0; }' | cc -x c -fsanitize=address,undefined - -o "$work/sanitizer" 2> "$work/out.txt" && command -v rt > /dev/null; then
+    kit=$(dirname -- "$(dirname -- "$(readlink -f -- "$(command -v rt)")")")/c
+    tried "sanitized, built" cc -std=c99 $common -fsanitize=address,undefined -fno-sanitize-recover=all "$here/tests/calls.c" "$here/src/midgegalena.c" \
+        "$top/crates/dlm_c/out/libdlm_c.a" "$kit/libos_c.a" "$kit/liblibc_c.a" -o "$work/sanitized"
+    folder
+    tried "sanitized" "$work/sanitized" "$work/images"
+else
+    left_out "gcc's sanitizers: they are not there"
+fi
+
+# What is put in place is taken out again.
+tried "uninstall" bash -c '"$1" uninstall && [[ -z $(find "$2" ! -type d) ]]' _ "$here/install.sh" "$PREFIX"
+echo "capi/check.sh: $passed passed, $failed failed"
+[[ $failed = 0 ]]

@@ -1,0 +1,141 @@
+"""Locks of a Midgegalena folder, by libmidgegalena.
+
+    with Cluster("images", host=0, client=1) as cluster:
+        with cluster.lock("db", EX, timeout=5.0):
+            ...
+"""
+import ctypes
+import os
+from contextlib import contextmanager
+from ctypes import POINTER, Structure, byref, c_char_p, c_int, c_int32, c_size_t, c_uint, c_uint32, c_uint64, c_void_p
+
+NL, CR, CW, PR, PW, EX = range(6)
+OK, OUTRUN, TIMED_OUT, NOT_QUEUED, NO_SUCH_LOCK = 0, 6, -2, 16, 12
+NO_QUEUE = 1
+GRANTED = 1
+
+
+class Answer(Structure):
+    _fields_ = [("slot", c_int32), ("reply", c_int32), ("purged", c_uint32), ("held", c_int32), ("wanted", c_int32)]
+
+
+class LockView(Structure):
+    _fields_ = [
+        ("lock", c_uint32), ("client", c_uint32), ("host", c_uint32), ("held", c_int32), ("wanted", c_int32),
+        ("name", ctypes.c_char * 16),
+    ]
+
+
+class ClientView(Structure):
+    _fields_ = [("request", c_uint64), ("client", c_uint32), ("reply", c_int32), ("refusal", c_int32), ("unused", c_int32)]
+
+
+def load(path=None):
+    """The library, with what its calls take and return."""
+    lib = ctypes.CDLL(path or os.environ.get("MIDGEGALENA", "libmidgegalena.so.0"))
+    lib.mg_name.restype = lib.mg_strerror.restype = c_char_p
+    lib.mg_format.argtypes = [c_char_p, c_uint, c_uint, c_uint64, POINTER(c_int)]
+    lib.mg_open.argtypes = [c_char_p, c_uint, POINTER(c_void_p), POINTER(c_int)]
+    lib.mg_close.argtypes, lib.mg_close.restype = [c_void_p], None
+    lib.mg_enqueue.argtypes = [c_void_p, c_uint, c_uint64, c_uint, c_int, c_char_p, c_uint, POINTER(Answer)]
+    lib.mg_release.argtypes = [c_void_p, c_uint, c_uint64, c_uint, POINTER(Answer)]
+    lib.mg_wait.argtypes = [c_void_p, c_uint, c_int, c_int, POINTER(c_int)]
+    lib.mg_refresh.argtypes = [c_void_p, POINTER(c_uint64)]
+    lib.mg_locks.argtypes = [c_void_p, POINTER(LockView), c_size_t, POINTER(c_size_t)]
+    lib.mg_clients.argtypes = [c_void_p, POINTER(ClientView), c_size_t, POINTER(c_size_t)]
+    lib.mg_text.argtypes = [c_void_p, c_char_p, c_size_t, POINTER(c_size_t)]
+    return lib
+
+
+class Refused(Exception):
+    """A call was refused; `status` is its number, as in docs/REFUSALS.md."""
+
+    def __init__(self, lib, status):
+        super().__init__(lib.mg_strerror(status).decode())
+        self.status = status
+
+
+class Cluster:
+    """One host of a folder, and one client of it. For one thread."""
+
+    def __init__(self, folder, host, client, library=None):
+        self.lib = load(library)
+        self.client = client
+        self.handle = c_void_p()
+        self._check(self.lib.mg_open(os.fsencode(folder), host, byref(self.handle), None))
+        # Go on above the client's last request number, and above its lock numbers.
+        self._until_done(lambda: self.lib.mg_refresh(self.handle, None))
+        self.request = next((known.request for known in self._clients() if known.client == client), 0)
+
+    def __enter__(self):
+        return self
+
+    def __exit__(self, *why):
+        self.close()
+
+    def close(self):
+        self.lib.mg_close(self.handle)
+        self.handle = c_void_p()
+
+    def _check(self, status):
+        if status != OK:
+            raise Refused(self.lib, status)
+
+    def _until_done(self, call):
+        """With the same request number, so that nothing is done twice."""
+        status = OUTRUN
+        while status == OUTRUN:
+            status = call()
+        self._check(status)
+
+    def _views(self, call, view, room):
+        views, count = (view * room)(), c_size_t()
+        self._check(call(self.handle, views, room, byref(count)))
+        return views[: min(count.value, room)]
+
+    def _clients(self):
+        return self._views(self.lib.mg_clients, ClientView, 32)
+
+    def locks(self):
+        return [(v.name.decode(), v.lock, v.client, v.held, v.wanted) for v in self._views(self.lib.mg_locks, LockView, 256)]
+
+    def _next_request(self):
+        self.request += 1
+        return self.request
+
+    def _free_number(self):
+        taken = {v.lock for v in self._views(self.lib.mg_locks, LockView, 256)}
+        # Each client has numbers of its own, so that no two of them choose the same one at once.
+        return next(n for n in range(1 + 200 * self.client, 201 + 200 * self.client) if n not in taken)
+
+    def _release(self, lock):
+        request = self._next_request()
+        try:
+            self._until_done(lambda: self.lib.mg_release(self.handle, self.client, request, lock, None))
+        except Refused as why:
+            if why.status != NO_SUCH_LOCK:
+                raise
+
+    @contextmanager
+    def lock(self, name, mode=EX, timeout=None):
+        """Holds a lock on a name. With a timeout, in seconds, it raises TimeoutError where it was not granted by then; a timeout
+        of 0 does not queue at all."""
+        lock, request, answer = self._free_number(), self._next_request(), Answer()
+        flags = NO_QUEUE if timeout == 0 else 0
+        try:
+            self._until_done(
+                lambda: self.lib.mg_enqueue(self.handle, self.client, request, lock, mode, name.encode(), flags, byref(answer))
+            )
+        except Refused as why:
+            if why.status == NOT_QUEUED:
+                raise TimeoutError(f"{name} is taken") from None
+            raise
+        try:
+            if answer.reply != GRANTED:
+                status = self.lib.mg_wait(self.handle, lock, 100, -1 if timeout is None else int(timeout * 1000), None)
+                if status == TIMED_OUT:
+                    raise TimeoutError(f"{name} is taken")
+                self._check(status)
+            yield lock
+        finally:
+            self._release(lock)

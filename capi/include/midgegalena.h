@@ -1,0 +1,240 @@
+/*
+ * midgegalena.h: a lock manager for hosts that share a folder of images and nothing else.
+ *
+ * A program links libmidgegalena.a or libmidgegalena.so (pkg-config midgegalena). Nothing is printed, no signal is caught, no
+ * thread is started, and no call ends the process: each returns a number, and so does each bad argument. docs/LIBRARY.md says
+ * what a caller has to see to.
+ *
+ * Threads: a handle is for one thread at a time. Several handles of one process may be used by several threads at once, each
+ * with a host number of its own.
+ *
+ * Processes: one handle at a time for a host number. mg_open locks the number by the file hostH.lock in the folder, as the
+ * program dlm does, and is refused with MG_HOST_IN_USE where somebody has it.
+ *
+ * A child of fork may use no handle of its parent, not even to close it. No call from a signal handler, nor, in a process with
+ * threads, from a child of fork before it has called exec.
+ */
+#ifndef MIDGEGALENA_H
+#define MIDGEGALENA_H
+
+#include <stddef.h>
+#include <stdint.h>
+
+#ifdef __cplusplus
+extern "C" {
+#endif
+
+/* The library's numbers: an increase of the first breaks programs, an increase of the second adds to what there is. */
+#define MG_VERSION_MAJOR 0
+#define MG_VERSION_MINOR 1
+
+/* "0.1", of the library that is linked. */
+const char *mg_version(void);
+
+/* ---- limits ---- */
+
+#define MG_HOSTS 8         /* numbered from 0 */
+#define MG_DISKS 7
+#define MG_SLOTS 4096      /* commands in the life of a folder */
+#define MG_LOCKS 256       /* at once */
+#define MG_CLIENTS 32      /* for ever */
+#define MG_NAME_LENGTH 15  /* bytes from 0x21 to 0x7E */
+#define MG_TEXT_SIZE 16384 /* a table's text is never longer */
+
+/* ---- what a call returns: 0, or one of these ----
+ *
+ * Those above 0 are the numbers of the printed texts, as docs/REFUSALS.md has them: with cause, and with what to do.
+ */
+enum mg_outcome {
+    MG_OK = 0,
+
+    /* of this library */
+    MG_BAD_ARGUMENT = -1, /* NULL, or a number or a name out of range. Nothing was done */
+    MG_TIMED_OUT = -2,    /* mg_wait: the lock still waits */
+    MG_BROKEN = -3,       /* the handle is in no state that it should be in. Close it. No cause is known */
+
+    /* The host refused the operation. The command is not acknowledged, and may be in the log all the same: ask again with the
+     * same request number */
+    MG_OUTRUN = 6,
+    MG_NO_MAJORITY = 7,
+    MG_BALLOTS_SPENT = 8,
+    MG_LOG_FULL = 9,
+    MG_NOT_A_COMMAND = 10,
+
+    /* The command is in the log, and the lock table refused it: nothing was changed */
+    MG_LOCK_IN_USE = 11,
+    MG_NO_SUCH_LOCK = 12,
+    MG_NOT_OWNER = 13,
+    MG_ALREADY_CONVERTING = 14,
+    MG_STILL_WAITING = 15,
+    MG_NOT_QUEUED = 16,
+    MG_TABLE_FULL = 17,
+    MG_STALE = 18,
+    MG_CLIENTS_FULL = 19,
+    MG_NOTHING_TO_CANCEL = 20,
+
+    /* of a folder, of a host number, and of memory */
+    MG_NO_MEMORY = 21,
+    MG_NOT_FORMATTED = 24,
+    MG_WRONG_HEADER = 25,
+    MG_UNREADABLE = 26,
+    MG_ALREADY_THERE = 29,
+    MG_HOST_IN_USE = 36,
+    MG_NO_LOCK = 37
+};
+
+/* A sentence for any such number. It is never NULL, and is never to be freed. */
+const char *mg_strerror(int status);
+
+/* The name of the printed text, as "NoMajority"; "" where there is none. */
+const char *mg_name(int status);
+
+/* ---- modes, as libdlm counts them ---- */
+
+enum mg_mode {
+    MG_NONE = -1, /* in what is told: no mode */
+    MG_NL = 0,    /* null */
+    MG_CR = 1,    /* concurrent read */
+    MG_CW = 2,    /* concurrent write */
+    MG_PR = 3,    /* protected read */
+    MG_PW = 4,    /* protected write */
+    MG_EX = 5     /* exclusive */
+};
+
+/* ---- flags ---- */
+
+#define MG_NO_QUEUE 1u /* mg_enqueue, mg_convert: refused, MG_NOT_QUEUED, in place of queued */
+
+/* ---- a host ---- */
+
+struct mg_host;
+
+/* Makes the images of a new folder, which is there and has none: 1 to 7 disks, 1 to 4,096 slots. Where `disk` is not NULL it
+ * becomes the image that is at fault, -1 where none is. */
+int mg_format(const char *folder, unsigned disks, unsigned slots, uint64_t cluster, int *disk);
+
+/* Opens a folder's images for the host of this number, 0 to 7, and locks the number. At MG_OK `*out` is a host that has
+ * learned nothing, and is to be closed; else it is NULL. */
+int mg_open(const char *folder, unsigned host, struct mg_host **out, int *disk);
+
+/* Lets a host and its number go. NULL is nothing. The host's locks stay: they are in the log. */
+void mg_close(struct mg_host *host);
+
+/* How often an operation may be outrun before it ends as MG_OUTRUN: 1 to 255, 8 at first. A command waits before each further
+ * try, for a random time that grows. */
+int mg_set_tries(struct mg_host *host, unsigned tries);
+
+/* ---- commands ----
+ *
+ * `client` is 0 to 255, and owns its locks. `request` is 1 to 2^62, and rises from one command of a client to its next: the
+ * same number again is answered as it was, and is not carried out twice; a lower one is MG_STALE. `lock` is 1 to 65,535, and
+ * is free for mg_enqueue. `answer` may be NULL.
+ *
+ * A command that is acknowledged is marked then, so that others learn it by mg_look. A mark that fails is not told.
+ */
+
+enum mg_reply {
+    MG_NO_REPLY = 0,
+    MG_GRANTED = 1,
+    MG_QUEUED = 2,
+    MG_RELEASED = 3,
+    MG_CANCELLED = 4,
+    MG_PURGED = 5,
+    MG_STATE = 6,
+    MG_REFUSED = 7
+};
+
+struct mg_answer {
+    int32_t slot;    /* where the command stands in the log, -1 where it was not acknowledged */
+    int32_t reply;   /* enum mg_reply */
+    uint32_t purged; /* MG_PURGED: how many locks were taken away */
+    int32_t held;    /* MG_STATE: the mode that the lock holds, and the one that it wants, MG_NONE for none */
+    int32_t wanted;
+};
+
+int mg_enqueue(struct mg_host *host, unsigned client, uint64_t request, unsigned lock, int mode, const char *name,
+               unsigned flags, struct mg_answer *answer);
+int mg_convert(struct mg_host *host, unsigned client, uint64_t request, unsigned lock, int mode, unsigned flags,
+               struct mg_answer *answer);
+int mg_release(struct mg_host *host, unsigned client, uint64_t request, unsigned lock, struct mg_answer *answer);
+int mg_cancel(struct mg_host *host, unsigned client, uint64_t request, unsigned lock, struct mg_answer *answer);
+int mg_status(struct mg_host *host, unsigned client, uint64_t request, unsigned lock, struct mg_answer *answer);
+
+/* Takes away all locks that came through a host. See first that it is stopped for good: nobody here does. */
+int mg_purge(struct mg_host *host, unsigned client, uint64_t request, unsigned purged, struct mg_answer *answer);
+
+/* ---- what others did ----
+ *
+ * A host knows what was in the log when its last operation ended. These learn more; they take no slot. `*learned`, where it is
+ * not NULL, becomes the number of commands that are learned.
+ */
+
+/* Learns all that was acknowledged before the call. It looks first, and then recovers: that writes to the images, and may
+ * outrun, or be outrun by, a command of another host. */
+int mg_refresh(struct mg_host *host, uint64_t *learned);
+
+/* Learns the commands that are marked, up to the first that is not. It reads and syncs, writes nothing and disturbs nobody. It
+ * claims nothing of what it has not learned: a command whose host died before it had marked it, and each after that one, may
+ * be acknowledged and stay unseen until somebody marks it (mg_mark). */
+int mg_look(struct mg_host *host, uint64_t *learned);
+
+/* Learns as mg_refresh does, and marks what it had to recover, so that looks pass it from then on. */
+int mg_mark(struct mg_host *host, uint64_t *learned);
+
+/* Looks until a lock waits and converts no longer. Between looks it sleeps, 1 millisecond at first, then twice as long each
+ * time, but never longer than `interval` milliseconds. It never recovers: see mg_look, and call mg_mark where a wait is long.
+ *
+ * MG_OK: the lock holds the mode `*granted`, where that is not NULL, and wants no other: it was granted, or a conversion was
+ * cancelled and left it what it held. MG_NO_SUCH_LOCK: it is gone: cancelled, released or purged. MG_TIMED_OUT after
+ * `timeout` milliseconds, below 0 for no end; the lock still waits. Another number ends it at once. */
+int mg_wait(struct mg_host *host, unsigned lock, int interval, int timeout, int *granted);
+
+/* ---- the table, as the host knows it: no device call ---- */
+
+struct mg_lock_view {
+    uint32_t lock;
+    uint32_t client;
+    uint32_t host;  /* through which it was enqueued */
+    int32_t held;   /* MG_NONE: it waits */
+    int32_t wanted; /* MG_NONE: it wants nothing more */
+    char name[16];  /* ends in a zero */
+};
+
+struct mg_client_view {
+    uint64_t request; /* its last */
+    uint32_t client;
+    int32_t reply;    /* to that, enum mg_reply */
+    int32_t refusal;  /* of MG_REFUSED: 11 to 20 */
+    int32_t unused;
+};
+
+struct mg_host_view {
+    uint64_t cluster;
+    uint64_t learned; /* commands of the log */
+    uint32_t host;
+    uint32_t disks;
+    uint32_t slots;
+    uint32_t unused;
+};
+
+int mg_host_facts(struct mg_host *host, struct mg_host_view *into);
+
+/* The lock of this number, or MG_NO_SUCH_LOCK. */
+int mg_lock(struct mg_host *host, unsigned lock, struct mg_lock_view *into);
+
+/* All locks, by name, and in a name granted, converting, waiting. Fills up to `room` of them; `*count` is how many there are.
+ * `into` may be NULL where `room` is 0. */
+int mg_locks(struct mg_host *host, struct mg_lock_view *into, size_t room, size_t *count);
+
+/* All clients that were ever heard, by number. */
+int mg_clients(struct mg_host *host, struct mg_client_view *into, size_t room, size_t *count);
+
+/* The text of `dlm table`, after its first line. Puts up to `size` - 1 bytes and a zero into `into`; `*length` is how long
+ * the text is. */
+int mg_text(struct mg_host *host, char *into, size_t size, size_t *length);
+
+#ifdef __cplusplus
+}
+#endif
+
+#endif

@@ -1,0 +1,833 @@
+/*
+ * What stands between a C program and the proved library (crates/dlm_c). It looks at each pointer before it hands it on; it
+ * opens the images, makes the device calls that the library names, and hands it what they were answered; it locks the host's
+ * number, and it waits. No proof covers this file. It judges no header, no block, no command and no lock.
+ */
+#ifndef _DEFAULT_SOURCE
+#define _DEFAULT_SOURCE
+#endif
+#ifndef _POSIX_C_SOURCE
+#define _POSIX_C_SOURCE 200809L
+#endif
+
+#include "midgegalena.h"
+
+#include <errno.h>
+#include <fcntl.h>
+#include <stdbool.h>
+#include <stdio.h>
+#include <stdlib.h>
+#include <string.h>
+#include <sys/file.h>
+#include <sys/random.h>
+#include <sys/stat.h>
+#include <time.h>
+#include <unistd.h>
+
+/* ---- crates/dlm_c/src ---- */
+
+enum { HEADER_LENGTH = 1024, ROW_LENGTH = 1024, COPY_LENGTH = 64 };
+
+/* Handle of handle.rt: all zeros keep no host. Nothing but the functions below reads or writes it. */
+struct handle {
+    bool is_open;
+    void *at;
+};
+
+/* Request of request.rt */
+struct request {
+    uint64_t request;
+    uint32_t client;
+    uint32_t action;
+    uint32_t lock;
+    uint32_t mode;
+    uint32_t no_queue;
+    uint32_t purged;
+};
+
+/* Image, Images and Opened of images.rt */
+struct image {
+    uint64_t size;
+    uint32_t is_read;
+    uint32_t is_device;
+    uint8_t bytes[HEADER_LENGTH];
+};
+
+struct images {
+    struct image all[MG_DISKS];
+};
+
+struct opened {
+    uint32_t used[MG_DISKS];
+    uint32_t disks;
+};
+
+/* HeaderBytes of header.rt */
+struct header {
+    uint64_t size;
+    uint8_t bytes[HEADER_LENGTH];
+};
+
+/* DueCall, Row and ToldAnswer of call.rt */
+struct due_call {
+    uint64_t boot;
+    uint64_t at;
+    uint64_t length;
+    uint32_t kind;
+    uint32_t disk;
+    uint8_t bytes[COPY_LENGTH];
+};
+
+struct row {
+    uint8_t bytes[ROW_LENGTH];
+};
+
+struct told_answer {
+    uint64_t boot;
+    uint32_t outcome;
+    uint32_t unused;
+};
+
+/* Answer of answer.rt */
+struct answer {
+    int32_t slot;
+    int32_t reply;
+    uint32_t purged;
+    int32_t held;
+    int32_t wanted;
+    uint32_t count;
+};
+
+/* The sizes of the structs there. That each field lies where it does there is tried by tests/calls.c. */
+typedef char sizes_are_as_there[sizeof(struct handle) == 16 && sizeof(struct request) == 32 && sizeof(struct image) == 1040 &&
+                                        sizeof(struct images) == 7280 && sizeof(struct opened) == 32 &&
+                                        sizeof(struct header) == 1032 && sizeof(struct due_call) == 96 &&
+                                        sizeof(struct row) == 1024 && sizeof(struct told_answer) == 16 &&
+                                        sizeof(struct answer) == 24 && sizeof(struct mg_lock_view) == 36 &&
+                                        sizeof(struct mg_client_view) == 24 && sizeof(struct mg_host_view) == 32
+                                    ? 1
+                                    : -1];
+
+enum { ENQUEUE = 1, CONVERT = 2, RELEASE = 3, CANCEL = 4, STATUS = 5, PURGE = 6 };
+enum { ATTACH = 1, SYNC = 2, READ = 3, WRITE = 4 };
+enum { DONE = 0, RESET = 1, FAILED = 2 };
+enum { NOTHING_DUE = -5 };
+
+int32_t dlm_c_header(uint32_t disks, uint32_t slots, uint64_t cluster, uint32_t disk, struct header *into);
+bool dlm_c_is_formatted(const struct header *header);
+int32_t dlm_c_open(const struct images *images, uint32_t number, struct handle *handle, struct opened *told, int32_t *disk);
+void dlm_c_close(struct handle *handle);
+int32_t dlm_c_submit(struct handle *handle, const struct request *request, const uint8_t *name, size_t length, uint32_t tries);
+int32_t dlm_c_recover(struct handle *handle, uint32_t tries);
+int32_t dlm_c_look(struct handle *handle);
+int32_t dlm_c_mark(struct handle *handle, uint32_t slot);
+int32_t dlm_c_call(struct handle *handle, struct due_call *call);
+int32_t dlm_c_hear(struct handle *handle, const struct told_answer *told, const struct row *row);
+int32_t dlm_c_answer(struct handle *handle, struct answer *answer);
+int32_t dlm_c_host(struct handle *handle, struct mg_host_view *into);
+int32_t dlm_c_lock(struct handle *handle, uint32_t lock, struct mg_lock_view *into);
+int32_t dlm_c_locks(struct handle *handle, struct mg_lock_view *into, size_t room, size_t *count);
+int32_t dlm_c_clients(struct handle *handle, struct mg_client_view *into, size_t room, size_t *count);
+int32_t dlm_c_text(struct handle *handle, uint8_t *into, size_t room, size_t *length);
+
+/* What it says below 0, but for a bad argument, is of calls that this file does not make. */
+static int status_of(int32_t told) { return told >= MG_BAD_ARGUMENT ? told : MG_BROKEN; }
+
+/* ---- texts ---- */
+
+struct meaning {
+    int status;
+    const char *name;
+    const char *sentence;
+};
+
+static const struct meaning MEANINGS[] = {
+    {MG_OK, "", "done"},
+    {MG_BAD_ARGUMENT, "", "an argument is NULL or out of range; nothing was done"},
+    {MG_TIMED_OUT, "", "the lock still waits"},
+    {MG_BROKEN, "", "the handle is in no state that it should be in; close it"},
+    {MG_OUTRUN, "Outrun", "another host's greater ballot was read at the last try; ask again, with the same request number"},
+    {MG_NO_MAJORITY, "NoMajority",
+     "no majority of the disks answers; bring them back, and ask again, with the same request number"},
+    {MG_BALLOTS_SPENT, "BallotsSpent", "the ballots of this host are spent; try through another host number"},
+    {MG_LOG_FULL, "LogFull", "all slots of the log are taken; move to a new folder"},
+    {MG_NOT_A_COMMAND, "NotACommand", "a committed value spells no command; somebody else wrote to the images"},
+    {MG_LOCK_IN_USE, "LockInUse", "the lock number is in the table"},
+    {MG_NO_SUCH_LOCK, "NoSuchLock", "the lock number is not in the table"},
+    {MG_NOT_OWNER, "NotOwner", "the lock is another client's"},
+    {MG_ALREADY_CONVERTING, "AlreadyConverting", "the lock converts already"},
+    {MG_STILL_WAITING, "StillWaiting", "the lock was not granted yet"},
+    {MG_NOT_QUEUED, "NotQueued", "the lock cannot be granted at once"},
+    {MG_TABLE_FULL, "TableFull", "the table has 256 locks"},
+    {MG_STALE, "Stale", "the request number is below the client's last"},
+    {MG_CLIENTS_FULL, "ClientsFull", "32 clients are known, and this is none of them"},
+    {MG_NOTHING_TO_CANCEL, "NothingToCancel", "the lock is granted"},
+    {MG_NO_MEMORY, "NoMemory", "out of memory"},
+    {MG_NOT_FORMATTED, "NotFormatted", "the folder has no image with a right header"},
+    {MG_WRONG_HEADER, "WrongHeader", "an image has a header that is not of this folder, or of another number"},
+    {MG_UNREADABLE, "Unreadable", "an image cannot be opened, read, made or written"},
+    {MG_ALREADY_THERE, "AlreadyThere", "one of the images that were to be made is there"},
+    {MG_HOST_IN_USE, "HostInUse", "somebody else works under this host number"},
+    {MG_NO_LOCK, "NoLock", "the host number cannot be locked, see errno"},
+};
+
+static const struct meaning *meaning_of(int status) {
+    for (size_t i = 0; i < sizeof MEANINGS / sizeof MEANINGS[0]; i++)
+        if (MEANINGS[i].status == status)
+            return &MEANINGS[i];
+    return NULL;
+}
+
+const char *mg_strerror(int status) {
+    const struct meaning *found = meaning_of(status);
+    return found ? found->sentence : "no number of this library";
+}
+
+const char *mg_name(int status) {
+    const struct meaning *found = meaning_of(status);
+    return found ? found->name : "";
+}
+
+#define TEXT_OF(number) #number
+#define VERSION_OF(major, minor) TEXT_OF(major) "." TEXT_OF(minor)
+
+const char *mg_version(void) { return VERSION_OF(MG_VERSION_MAJOR, MG_VERSION_MINOR); }
+
+/* ---- files: as FileDisk of crates/disk ---- */
+
+enum { MOST_READS = 9, BOOT = 1, NO_FILE = -1 };
+
+static int open_file(const char *path, int flags) {
+    int file;
+    do
+        file = open(path, flags | O_CLOEXEC | O_NOCTTY, 0666);
+    while (file < 0 && errno == EINTR);
+    return file;
+}
+
+static bool read_whole(int file, uint8_t *into, size_t length, uint64_t at) {
+    while (length > 0) {
+        ssize_t n = pread(file, into, length, (off_t)at);
+        if (n < 0 && errno == EINTR)
+            continue;
+        if (n <= 0)
+            return false;
+        into += n;
+        length -= (size_t)n;
+        at += (uint64_t)n;
+    }
+    return true;
+}
+
+/* Reads until two reads in a row tell the same: a read that another process's write overlaps may tell some of the old bytes
+ * and some of the new. `length` is up to that of a row, which is that of a header. */
+static bool read_settled(int file, uint8_t *into, size_t length, uint64_t at) {
+    uint8_t again[ROW_LENGTH];
+    if (length > sizeof again || !read_whole(file, into, length, at))
+        return false;
+    for (int reads = 1; reads < MOST_READS; reads++) {
+        if (!read_whole(file, again, length, at))
+            return false;
+        if (memcmp(into, again, length) == 0)
+            return true;
+        memcpy(into, again, length);
+    }
+    return false;
+}
+
+static bool write_whole(int file, const uint8_t *from, size_t length, uint64_t at) {
+    while (length > 0) {
+        ssize_t n = pwrite(file, from, length, (off_t)at);
+        if (n < 0 && errno == EINTR)
+            continue;
+        if (n <= 0)
+            return false;
+        from += n;
+        length -= (size_t)n;
+        at += (uint64_t)n;
+    }
+    return true;
+}
+
+static bool sync_data(int file) {
+    int done;
+    do
+        done = fdatasync(file);
+    while (done != 0 && errno == EINTR);
+    return done == 0;
+}
+
+/* "FOLDER/NAMEnumberEND", to be freed, or NULL. */
+static char *path_of(const char *folder, const char *name, unsigned number, const char *end) {
+    size_t size = strlen(folder) + strlen(name) + strlen(end) + 5;
+    char *path = malloc(size);
+    if (path)
+        (void)snprintf(path, size, "%s/%s%u%s", folder, name, number % 10, end);
+    return path;
+}
+
+/* ---- a host ---- */
+
+enum { FIRST_TRIES = 8 };
+
+struct mg_host {
+    struct handle handle;
+    unsigned tries;
+    int lock;
+    int files[MG_DISKS]; /* NO_FILE: every call fails */
+    /* The device call that is due, and what was read last. */
+    struct due_call call;
+    struct row row;
+};
+
+/* Makes the device call that is due, and says what it was answered. */
+static void make_call(struct mg_host *host, const struct due_call *call, struct told_answer *told, struct row *row) {
+    int *file = call->disk < MG_DISKS ? &host->files[call->disk] : NULL;
+    bool done = file && *file != NO_FILE;
+    told->boot = BOOT;
+    told->unused = 0;
+    if (call->kind != ATTACH && call->boot != BOOT) {
+        told->outcome = RESET;
+        return;
+    }
+    if (done && call->kind == READ)
+        done = read_settled(*file, row->bytes, (size_t)call->length, call->at);
+    else if (done && call->kind == WRITE)
+        done = call->length <= COPY_LENGTH && write_whole(*file, call->bytes, (size_t)call->length, call->at);
+    else if (done && call->kind == SYNC) {
+        done = sync_data(*file);
+        if (!done) {
+            /* The system may hold bytes for written that are not, and no later sync would tell. */
+            close(*file);
+            *file = NO_FILE;
+        }
+    }
+    told->outcome = done ? DONE : FAILED;
+}
+
+/* Makes the calls of an operation that was begun, until it has ended, and tells how. */
+static int carry_out(struct mg_host *host, int32_t begun, struct answer *answer) {
+    struct told_answer told;
+    int32_t status;
+    memset(answer, 0, sizeof *answer);
+    answer->slot = -1;
+    answer->held = answer->wanted = MG_NONE;
+    if (begun != 0)
+        return status_of(begun);
+    while ((status = dlm_c_call(&host->handle, &host->call)) == 0) {
+        make_call(host, &host->call, &told, &host->row);
+        if (dlm_c_hear(&host->handle, &told, &host->row) != 0)
+            return MG_BROKEN;
+    }
+    if (status != NOTHING_DUE)
+        return MG_BROKEN;
+    return status_of(dlm_c_answer(&host->handle, answer));
+}
+
+static void let_go(struct mg_host *host) {
+    for (unsigned disk = 0; disk < MG_DISKS; disk++)
+        if (host->files[disk] != NO_FILE)
+            close(host->files[disk]);
+    if (host->lock != NO_FILE)
+        close(host->lock);
+    dlm_c_close(&host->handle);
+    free(host);
+}
+
+/* Opens an image where it can be read and written, and reads its first bytes. False where memory was refused. */
+static bool find_image(const char *folder, unsigned disk, struct image *image, int *file) {
+    struct stat facts;
+    char *path = path_of(folder, "disk", disk, ".img");
+    if (!path)
+        return false;
+    *file = open_file(path, O_RDWR);
+    free(path);
+    if (*file == NO_FILE)
+        return true;
+    if (fstat(*file, &facts) == 0) {
+        off_t size = S_ISBLK(facts.st_mode) ? lseek(*file, 0, SEEK_END) : facts.st_size;
+        if (size >= 0) {
+            image->is_device = S_ISBLK(facts.st_mode) ? 1 : 0;
+            image->size = (uint64_t)size;
+            if (read_settled(*file, image->bytes, size < HEADER_LENGTH ? (size_t)size : HEADER_LENGTH, 0)) {
+                image->is_read = 1;
+                return true;
+            }
+        }
+    }
+    close(*file);
+    *file = NO_FILE;
+    return true;
+}
+
+/* Locks the host's number, as lock_host of crates/dlm_images does: by the same file, and the same kind of lock. */
+static int lock_number(const char *folder, unsigned number, int *lock) {
+    int done;
+    char *path = path_of(folder, "host", number, ".lock");
+    if (!path)
+        return MG_NO_MEMORY;
+    *lock = open_file(path, O_RDWR | O_CREAT);
+    if (*lock == NO_FILE)
+        *lock = open_file(path, O_RDONLY);
+    free(path);
+    if (*lock == NO_FILE)
+        return MG_NO_LOCK;
+    do
+        done = flock(*lock, LOCK_EX | LOCK_NB);
+    while (done != 0 && errno == EINTR);
+    if (done == 0)
+        return MG_OK;
+    return errno == EWOULDBLOCK ? MG_HOST_IN_USE : MG_NO_LOCK;
+}
+
+static int open_host(struct mg_host *host, struct images *images, const char *folder, unsigned number, int32_t *disk) {
+    struct opened told;
+    int32_t status;
+    memset(&told, 0, sizeof told);
+    for (unsigned k = 0; k < MG_DISKS; k++)
+        if (!find_image(folder, k, &images->all[k], &host->files[k]))
+            return MG_NO_MEMORY;
+    status = dlm_c_open(images, number, &host->handle, &told, disk);
+    if (status != 0)
+        return status_of(status);
+    for (unsigned k = 0; k < MG_DISKS; k++)
+        if (host->files[k] != NO_FILE && (k >= told.disks || told.used[k] != 1)) {
+            close(host->files[k]);
+            host->files[k] = NO_FILE;
+        }
+    return lock_number(folder, number, &host->lock);
+}
+
+int mg_open(const char *folder, unsigned number, struct mg_host **out, int *disk) {
+    int32_t at_fault = -1;
+    int status;
+    struct mg_host *host;
+    struct images *images;
+    if (disk)
+        *disk = -1;
+    if (out)
+        *out = NULL;
+    if (!folder || !out || number >= MG_HOSTS)
+        return MG_BAD_ARGUMENT;
+    host = calloc(1, sizeof *host);
+    if (!host)
+        return MG_NO_MEMORY;
+    host->tries = FIRST_TRIES;
+    host->lock = NO_FILE;
+    for (unsigned k = 0; k < MG_DISKS; k++)
+        host->files[k] = NO_FILE;
+    images = calloc(1, sizeof *images);
+    status = images ? open_host(host, images, folder, number, &at_fault) : MG_NO_MEMORY;
+    free(images);
+    if (disk)
+        *disk = at_fault;
+    if (status != MG_OK) {
+        int cause = errno;
+        let_go(host);
+        errno = cause;
+        return status;
+    }
+    *out = host;
+    return MG_OK;
+}
+
+void mg_close(struct mg_host *host) {
+    if (host)
+        let_go(host);
+}
+
+int mg_set_tries(struct mg_host *host, unsigned tries) {
+    if (!host || tries < 1 || tries > 255)
+        return MG_BAD_ARGUMENT;
+    host->tries = tries;
+    return MG_OK;
+}
+
+/* ---- a new folder: as format_folder and lay_out of crates/dlm_images ---- */
+
+/* Whether something is at this path that is not to be written over: all but a block device that is not formatted. */
+static int look_at_place(const char *path, uint64_t size, bool *taken) {
+    struct stat facts;
+    struct header found;
+    int file;
+    int status = MG_UNREADABLE;
+    *taken = lstat(path, &facts) == 0;
+    if (!*taken || stat(path, &facts) != 0 || !S_ISBLK(facts.st_mode))
+        return MG_OK;
+    file = open_file(path, O_RDWR);
+    if (file == NO_FILE)
+        return MG_UNREADABLE;
+    found.size = size;
+    if (lseek(file, 0, SEEK_END) >= (off_t)size && read_settled(file, found.bytes, sizeof found.bytes, 0)) {
+        *taken = dlm_c_is_formatted(&found);
+        status = MG_OK;
+    }
+    close(file);
+    return status;
+}
+
+/* Zeros throughout, and a sync; the header with a closed gate, and a sync; the gate, and a sync. */
+static bool lay_out(int file, const struct header *header) {
+    static const uint8_t zeros[4096];
+    uint8_t bytes[HEADER_LENGTH];
+    for (uint64_t at = 0; at < header->size; at += sizeof zeros) {
+        uint64_t left = header->size - at;
+        if (!write_whole(file, zeros, left < sizeof zeros ? (size_t)left : sizeof zeros, at))
+            return false;
+    }
+    if (!sync_data(file))
+        return false;
+    memcpy(bytes, header->bytes, sizeof bytes);
+    bytes[0] = 0;
+    if (!write_whole(file, bytes, sizeof bytes, 0) || !sync_data(file))
+        return false;
+    return write_whole(file, header->bytes, 1, 0) && sync_data(file);
+}
+
+static bool sync_folder(const char *folder) {
+    int file = open_file(folder, O_RDONLY);
+    int done;
+    if (file == NO_FILE)
+        return false;
+    do
+        done = fsync(file);
+    while (done != 0 && errno == EINTR);
+    close(file);
+    return done == 0;
+}
+
+static bool make_image(const char *folder, const char *path, const struct header *header) {
+    struct stat facts;
+    bool is_there = lstat(path, &facts) == 0;
+    int file = open_file(path, is_there ? O_RDWR : O_RDWR | O_CREAT | O_EXCL);
+    bool done = file != NO_FILE;
+    if (done && is_there)
+        done = fstat(file, &facts) == 0 && S_ISBLK(facts.st_mode) && lseek(file, 0, SEEK_END) >= (off_t)header->size;
+    done = done && lay_out(file, header);
+    if (file != NO_FILE)
+        close(file);
+    return done && sync_folder(folder);
+}
+
+/* Looks at the place of an image, or makes it. */
+static int at_image(const char *folder, const struct header *header, unsigned disk, bool makes) {
+    int status = MG_OK;
+    bool taken = false;
+    char *path = path_of(folder, "disk", disk, ".img");
+    if (!path)
+        return MG_NO_MEMORY;
+    if (!makes)
+        status = look_at_place(path, header->size, &taken);
+    else if (!make_image(folder, path, header))
+        status = MG_UNREADABLE;
+    free(path);
+    return taken ? MG_ALREADY_THERE : status;
+}
+
+int mg_format(const char *folder, unsigned disks, unsigned slots, uint64_t cluster, int *disk) {
+    struct header header;
+    if (disk)
+        *disk = -1;
+    if (!folder)
+        return MG_BAD_ARGUMENT;
+    memset(&header, 0, sizeof header);
+    if (dlm_c_header(disks, slots, cluster, 0, &header) != 0)
+        return MG_BAD_ARGUMENT;
+    for (int makes = 0; makes < 2; makes++)
+        for (unsigned k = 0; k < disks; k++) {
+            int status = status_of(dlm_c_header(disks, slots, cluster, k, &header));
+            if (status == MG_OK)
+                status = at_image(folder, &header, k, makes == 1);
+            if (status == MG_UNREADABLE && disk)
+                *disk = (int)k;
+            if (status != MG_OK)
+                return status;
+        }
+    return MG_OK;
+}
+
+/* ---- waiting ---- */
+
+static int64_t milliseconds(void) {
+    struct timespec now = {0, 0};
+    (void)clock_gettime(CLOCK_MONOTONIC, &now);
+    return (int64_t)now.tv_sec * 1000 + now.tv_nsec / 1000000;
+}
+
+static void sleep_for(int64_t microseconds) {
+    struct timespec left;
+    left.tv_sec = (time_t)(microseconds / 1000000);
+    left.tv_nsec = (long)(microseconds % 1000000) * 1000;
+    while (nanosleep(&left, &left) != 0 && errno == EINTR)
+        ;
+}
+
+/* Waits for a random time, which grows with the tries that were outrun before: as pause of crates/dlm_images. Where the system
+ * has no random numbers it waits as long as it ever does after so many. */
+static void pause_after(unsigned outrun) {
+    uint64_t longest = (uint64_t)(16 << (outrun < 7 ? outrun : 7)) * 1000;
+    uint32_t part;
+    if (getrandom(&part, sizeof part, 0) != (ssize_t)sizeof part)
+        part = UINT32_MAX;
+    sleep_for((int64_t)((longest * part) >> 32));
+}
+
+/* ---- commands ---- */
+
+static const struct mg_answer NO_ANSWER = {-1, MG_NO_REPLY, 0, MG_NONE, MG_NONE};
+
+/* One submission, which ends where it is outrun. */
+static int submit_once(struct mg_host *host, const struct request *request, const char *name, struct answer *answer) {
+    return carry_out(host, dlm_c_submit(&host->handle, request, (const uint8_t *)name, strlen(name), 1), answer);
+}
+
+static int submit(struct mg_host *host, const struct request *request, const char *name, struct mg_answer *into) {
+    struct answer answer;
+    int status;
+    if (into)
+        *into = NO_ANSWER;
+    if (!host || !name)
+        return MG_BAD_ARGUMENT;
+    status = submit_once(host, request, name, &answer);
+    for (unsigned outrun = 0; status == MG_OUTRUN && outrun + 1 < host->tries; outrun++) {
+        pause_after(outrun);
+        status = submit_once(host, request, name, &answer);
+    }
+    if (into) {
+        into->slot = answer.slot;
+        into->reply = answer.reply;
+        into->purged = answer.purged;
+        into->held = answer.held;
+        into->wanted = answer.wanted;
+    }
+    if (answer.slot >= 0) {
+        /* The command stands in the log whether or not that comes to its end. */
+        struct answer marked;
+        (void)carry_out(host, dlm_c_mark(&host->handle, (uint32_t)answer.slot), &marked);
+    }
+    return status;
+}
+
+/* A mode below 0 becomes one that is none, and other flags than those that are known are refused. */
+static struct request asks(uint32_t action, unsigned client, uint64_t request, unsigned lock) {
+    struct request asked = {0, 0, 0, 0, 0, 0, 0};
+    asked.request = request;
+    asked.client = client;
+    asked.action = action;
+    asked.lock = lock;
+    return asked;
+}
+
+int mg_enqueue(struct mg_host *host, unsigned client, uint64_t request, unsigned lock, int mode, const char *name,
+               unsigned flags, struct mg_answer *answer) {
+    struct request asked = asks(ENQUEUE, client, request, lock);
+    asked.mode = (uint32_t)mode;
+    asked.no_queue = flags;
+    return submit(host, &asked, name, answer);
+}
+
+int mg_convert(struct mg_host *host, unsigned client, uint64_t request, unsigned lock, int mode, unsigned flags,
+               struct mg_answer *answer) {
+    struct request asked = asks(CONVERT, client, request, lock);
+    asked.mode = (uint32_t)mode;
+    asked.no_queue = flags;
+    return submit(host, &asked, "", answer);
+}
+
+int mg_release(struct mg_host *host, unsigned client, uint64_t request, unsigned lock, struct mg_answer *answer) {
+    struct request asked = asks(RELEASE, client, request, lock);
+    return submit(host, &asked, "", answer);
+}
+
+int mg_cancel(struct mg_host *host, unsigned client, uint64_t request, unsigned lock, struct mg_answer *answer) {
+    struct request asked = asks(CANCEL, client, request, lock);
+    return submit(host, &asked, "", answer);
+}
+
+int mg_status(struct mg_host *host, unsigned client, uint64_t request, unsigned lock, struct mg_answer *answer) {
+    struct request asked = asks(STATUS, client, request, lock);
+    return submit(host, &asked, "", answer);
+}
+
+int mg_purge(struct mg_host *host, unsigned client, uint64_t request, unsigned purged, struct mg_answer *answer) {
+    struct request asked = asks(PURGE, client, request, 0);
+    asked.purged = purged;
+    return submit(host, &asked, "", answer);
+}
+
+/* ---- what others did ---- */
+
+static int look(struct mg_host *host, struct answer *answer) {
+    return carry_out(host, dlm_c_look(&host->handle), answer);
+}
+
+static int refresh(struct mg_host *host, struct answer *answer) {
+    int status = look(host, answer);
+    if (status != MG_OK)
+        return status;
+    return carry_out(host, dlm_c_recover(&host->handle, host->tries), answer);
+}
+
+int mg_look(struct mg_host *host, uint64_t *learned) {
+    struct answer answer;
+    int status;
+    if (learned)
+        *learned = 0;
+    if (!host)
+        return MG_BAD_ARGUMENT;
+    status = look(host, &answer);
+    if (learned)
+        *learned = answer.count;
+    return status;
+}
+
+int mg_refresh(struct mg_host *host, uint64_t *learned) {
+    struct answer answer;
+    int status;
+    if (learned)
+        *learned = 0;
+    if (!host)
+        return MG_BAD_ARGUMENT;
+    status = refresh(host, &answer);
+    if (learned)
+        *learned = answer.count;
+    return status;
+}
+
+static uint64_t learned_by(struct mg_host *host) {
+    struct mg_host_view view;
+    memset(&view, 0, sizeof view);
+    (void)dlm_c_host(&host->handle, &view);
+    return view.learned;
+}
+
+int mg_mark(struct mg_host *host, uint64_t *learned) {
+    struct answer answer;
+    struct answer marked;
+    uint64_t first;
+    uint64_t end;
+    int status;
+    if (learned)
+        *learned = 0;
+    if (!host)
+        return MG_BAD_ARGUMENT;
+    status = look(host, &answer);
+    if (status != MG_OK)
+        return status;
+    first = learned_by(host);
+    status = carry_out(host, dlm_c_recover(&host->handle, host->tries), &answer);
+    end = learned_by(host);
+    for (uint64_t slot = first; slot < end; slot++)
+        (void)carry_out(host, dlm_c_mark(&host->handle, (uint32_t)slot), &marked);
+    if (learned)
+        *learned = answer.count;
+    return status;
+}
+
+int mg_wait(struct mg_host *host, unsigned lock, int interval, int timeout, int *granted) {
+    int64_t start;
+    int64_t pause = 1;
+    if (granted)
+        *granted = MG_NONE;
+    if (!host || interval < 1)
+        return MG_BAD_ARGUMENT;
+    start = milliseconds();
+    for (;;) {
+        struct mg_lock_view view;
+        int64_t nap = pause;
+        int status = mg_look(host, NULL);
+        if (status != MG_OK)
+            return status;
+        status = mg_lock(host, lock, &view);
+        if (status != MG_OK)
+            return status;
+        if (view.wanted == MG_NONE) {
+            if (granted)
+                *granted = view.held;
+            return MG_OK;
+        }
+        if (timeout >= 0) {
+            int64_t left = timeout - (milliseconds() - start);
+            if (left <= 0)
+                return MG_TIMED_OUT;
+            if (left < nap)
+                nap = left;
+        }
+        sleep_for(nap * 1000);
+        pause = pause < interval / 2 ? 2 * pause : interval;
+    }
+}
+
+/* ---- the table ---- */
+
+int mg_host_facts(struct mg_host *host, struct mg_host_view *into) {
+    if (!host || !into)
+        return MG_BAD_ARGUMENT;
+    memset(into, 0, sizeof *into);
+    return status_of(dlm_c_host(&host->handle, into));
+}
+
+int mg_lock(struct mg_host *host, unsigned lock, struct mg_lock_view *into) {
+    if (!host || !into)
+        return MG_BAD_ARGUMENT;
+    memset(into, 0, sizeof *into);
+    return status_of(dlm_c_lock(&host->handle, lock, into));
+}
+
+/* A slice of no elements still has a place, and each element is initialized before it is handed on. */
+
+int mg_locks(struct mg_host *host, struct mg_lock_view *into, size_t room, size_t *count) {
+    struct mg_lock_view none;
+    size_t there = 0;
+    int status;
+    if (count)
+        *count = 0;
+    if (!host || (!into && room > 0))
+        return MG_BAD_ARGUMENT;
+    if (room > MG_LOCKS)
+        room = MG_LOCKS;
+    if (room > 0)
+        memset(into, 0, room * sizeof *into);
+    status = status_of(dlm_c_locks(&host->handle, room > 0 ? into : &none, room, &there));
+    if (count)
+        *count = there;
+    return status;
+}
+
+int mg_clients(struct mg_host *host, struct mg_client_view *into, size_t room, size_t *count) {
+    struct mg_client_view none;
+    size_t there = 0;
+    int status;
+    if (count)
+        *count = 0;
+    if (!host || (!into && room > 0))
+        return MG_BAD_ARGUMENT;
+    if (room > MG_CLIENTS)
+        room = MG_CLIENTS;
+    if (room > 0)
+        memset(into, 0, room * sizeof *into);
+    status = status_of(dlm_c_clients(&host->handle, room > 0 ? into : &none, room, &there));
+    if (count)
+        *count = there;
+    return status;
+}
+
+int mg_text(struct mg_host *host, char *into, size_t size, size_t *length) {
+    uint8_t none = 0;
+    size_t there = 0;
+    size_t room;
+    int status;
+    if (length)
+        *length = 0;
+    if (!host || (!into && size > 0))
+        return MG_BAD_ARGUMENT;
+    room = size > 0 ? size - 1 : 0;
+    if (room > MG_TEXT_SIZE)
+        room = MG_TEXT_SIZE;
+    if (size > 0)
+        memset(into, 0, room + 1);
+    status = status_of(dlm_c_text(&host->handle, room > 0 ? (uint8_t *)into : &none, room, &there));
+    if (length)
+        *length = there;
+    return status;
+}

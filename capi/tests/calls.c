@@ -1,0 +1,234 @@
+/*
+ * Each call once where it goes well, and once for each argument that is none. Prints nothing where all is as it should be.
+ *
+ *   calls FOLDER      an empty folder
+ */
+#include <midgegalena.h>
+
+#include <stdio.h>
+#include <string.h>
+
+static int failures = 0;
+
+static void is_at(int line, long got, long want) {
+    if (got != want) {
+        printf("line %d: %ld in place of %ld\n", line, got, want);
+        failures++;
+    }
+}
+
+#define IS(got, want) is_at(__LINE__, (long)(got), (long)(want))
+#define IS_TEXT(got, want) is_at(__LINE__, strcmp((got), (want)), 0)
+
+static void bad_arguments(const char *folder) {
+    struct mg_host *host = (struct mg_host *)&failures;
+    int disk = 5;
+    IS(mg_format(NULL, 3, 8, 7, &disk), MG_BAD_ARGUMENT);
+    IS(disk, -1);
+    IS(mg_format(folder, 0, 8, 7, NULL), MG_BAD_ARGUMENT);
+    IS(mg_format(folder, 8, 8, 7, NULL), MG_BAD_ARGUMENT);
+    IS(mg_format(folder, 256 + 3, 8, 7, NULL), MG_BAD_ARGUMENT);
+    IS(mg_format(folder, 3, 0, 7, NULL), MG_BAD_ARGUMENT);
+    IS(mg_format(folder, 3, 4097, 7, NULL), MG_BAD_ARGUMENT);
+    IS(mg_format(folder, 3, 65536 + 8, 7, NULL), MG_BAD_ARGUMENT);
+    IS(mg_format("/nowhere at all", 3, 8, 7, &disk), MG_UNREADABLE);
+    IS(disk, 0);
+    IS(mg_format("\xff", 3, 8, 7, &disk), MG_UNREADABLE);
+    IS(mg_open(NULL, 0, &host, NULL), MG_BAD_ARGUMENT);
+    IS(host == NULL, 1);
+    IS(mg_open(folder, 0, NULL, NULL), MG_BAD_ARGUMENT);
+    IS(mg_open(folder, 8, &host, NULL), MG_BAD_ARGUMENT);
+    IS(mg_open(folder, 256, &host, NULL), MG_BAD_ARGUMENT);
+    IS(mg_open("/nowhere at all", 0, &host, &disk), MG_UNREADABLE);
+    IS(disk, 0);
+    IS(mg_open(folder, 0, &host, &disk), MG_UNREADABLE);
+    IS(disk, 0);
+    mg_close(NULL);
+    IS(mg_set_tries(NULL, 1), MG_BAD_ARGUMENT);
+    IS(mg_enqueue(NULL, 1, 1, 1, MG_EX, "a", 0, NULL), MG_BAD_ARGUMENT);
+    IS(mg_convert(NULL, 1, 1, 1, MG_EX, 0, NULL), MG_BAD_ARGUMENT);
+    IS(mg_release(NULL, 1, 1, 1, NULL), MG_BAD_ARGUMENT);
+    IS(mg_cancel(NULL, 1, 1, 1, NULL), MG_BAD_ARGUMENT);
+    IS(mg_status(NULL, 1, 1, 1, NULL), MG_BAD_ARGUMENT);
+    IS(mg_purge(NULL, 1, 1, 1, NULL), MG_BAD_ARGUMENT);
+    IS(mg_refresh(NULL, NULL), MG_BAD_ARGUMENT);
+    IS(mg_look(NULL, NULL), MG_BAD_ARGUMENT);
+    IS(mg_mark(NULL, NULL), MG_BAD_ARGUMENT);
+    IS(mg_wait(NULL, 1, 1, 1, NULL), MG_BAD_ARGUMENT);
+    IS(mg_host_facts(NULL, NULL), MG_BAD_ARGUMENT);
+    IS(mg_lock(NULL, 1, NULL), MG_BAD_ARGUMENT);
+    IS(mg_locks(NULL, NULL, 0, NULL), MG_BAD_ARGUMENT);
+    IS(mg_clients(NULL, NULL, 0, NULL), MG_BAD_ARGUMENT);
+    IS(mg_text(NULL, NULL, 0, NULL), MG_BAD_ARGUMENT);
+}
+
+static void bad_commands(struct mg_host *host) {
+    struct mg_answer answer;
+    uint64_t learned;
+    char name[300];
+    memset(&answer, 9, sizeof answer);
+    IS(mg_enqueue(host, 1, 1, 1, MG_EX, NULL, 0, &answer), MG_BAD_ARGUMENT);
+    IS(answer.slot, -1);
+    IS(answer.reply, MG_NO_REPLY);
+    IS(mg_enqueue(host, 1, 1, 1, MG_EX, "", 0, &answer), MG_BAD_ARGUMENT);
+    IS(mg_enqueue(host, 1, 1, 1, MG_EX, "sixteen_bytes_ab", 0, &answer), MG_BAD_ARGUMENT);
+    memset(name, 'a', sizeof name);
+    name[sizeof name - 1] = 0;
+    IS(mg_enqueue(host, 1, 1, 1, MG_EX, name, 0, &answer), MG_BAD_ARGUMENT);
+    IS(mg_enqueue(host, 1, 1, 1, MG_EX, "a b", 0, &answer), MG_BAD_ARGUMENT);
+    IS(mg_enqueue(host, 1, 1, 1, MG_EX, "\xc3\xa4", 0, &answer), MG_BAD_ARGUMENT);
+    IS(mg_enqueue(host, 256, 1, 1, MG_EX, "a", 0, &answer), MG_BAD_ARGUMENT);
+    IS(mg_enqueue(host, 1, 0, 1, MG_EX, "a", 0, &answer), MG_BAD_ARGUMENT);
+    IS(mg_enqueue(host, 1, ((uint64_t)1 << 62) + 1, 1, MG_EX, "a", 0, &answer), MG_BAD_ARGUMENT);
+    IS(mg_enqueue(host, 1, 1, 0, MG_EX, "a", 0, &answer), MG_BAD_ARGUMENT);
+    IS(mg_enqueue(host, 1, 1, 65536, MG_EX, "a", 0, &answer), MG_BAD_ARGUMENT);
+    IS(mg_enqueue(host, 1, 1, 1, MG_NONE, "a", 0, &answer), MG_BAD_ARGUMENT);
+    IS(mg_enqueue(host, 1, 1, 1, 6, "a", 0, &answer), MG_BAD_ARGUMENT);
+    IS(mg_enqueue(host, 1, 1, 1, MG_EX, "a", 2, &answer), MG_BAD_ARGUMENT);
+    IS(mg_convert(host, 1, 1, 1, 6, 0, &answer), MG_BAD_ARGUMENT);
+    IS(mg_convert(host, 1, 1, 1, MG_EX, 3, &answer), MG_BAD_ARGUMENT);
+    IS(mg_release(host, 1, 1, 0, &answer), MG_BAD_ARGUMENT);
+    IS(mg_cancel(host, 1, 1, 65536, &answer), MG_BAD_ARGUMENT);
+    IS(mg_status(host, 1, 0, 1, &answer), MG_BAD_ARGUMENT);
+    IS(mg_purge(host, 1, 1, 8, &answer), MG_BAD_ARGUMENT);
+    IS(mg_set_tries(host, 0), MG_BAD_ARGUMENT);
+    IS(mg_set_tries(host, 256), MG_BAD_ARGUMENT);
+    IS(mg_wait(host, 1, 0, 1, NULL), MG_BAD_ARGUMENT);
+    IS(mg_wait(host, 1, -1, 1, NULL), MG_BAD_ARGUMENT);
+    IS(mg_host_facts(host, NULL), MG_BAD_ARGUMENT);
+    IS(mg_lock(host, 1, NULL), MG_BAD_ARGUMENT);
+    IS(mg_locks(host, NULL, 1, NULL), MG_BAD_ARGUMENT);
+    IS(mg_clients(host, NULL, 1, NULL), MG_BAD_ARGUMENT);
+    IS(mg_text(host, NULL, 1, NULL), MG_BAD_ARGUMENT);
+    IS(mg_look(host, &learned), MG_OK);
+    IS(learned, 0);
+    IS(mg_refresh(host, &learned), MG_OK);
+    IS(learned, 0);
+    IS(mg_mark(host, &learned), MG_OK);
+    IS(learned, 0);
+}
+
+static void commands(struct mg_host *first, struct mg_host *second) {
+    struct mg_answer answer;
+    struct mg_lock_view view, views[3];
+    struct mg_client_view clients[4];
+    struct mg_host_view facts;
+    size_t count;
+    uint64_t learned;
+    char text[MG_TEXT_SIZE];
+    int mode;
+    IS(mg_set_tries(first, 255), MG_OK);
+    IS(mg_enqueue(first, 1, 1, 1, MG_PR, "db", 0, &answer), MG_OK);
+    IS(answer.slot, 0);
+    IS(answer.reply, MG_GRANTED);
+    IS(mg_enqueue(first, 1, 1, 1, MG_PR, "db", 0, &answer), MG_OK); /* again: the same reply, a slot of its own */
+    IS(answer.slot, 1);
+    IS(answer.reply, MG_GRANTED);
+    IS(mg_enqueue(second, 2, 1, 2, MG_EX, "db", MG_NO_QUEUE, &answer), MG_NOT_QUEUED);
+    IS(answer.slot, 2);
+    IS(answer.reply, MG_REFUSED);
+    IS(mg_enqueue(second, 2, 2, 2, MG_EX, "db", 0, &answer), MG_OK);
+    IS(answer.reply, MG_QUEUED);
+    IS(mg_wait(second, 2, 1, 5, &mode), MG_TIMED_OUT);
+    IS(mode, MG_NONE);
+    IS(mg_wait(second, 77, 1, 5, &mode), MG_NO_SUCH_LOCK);
+    IS(mg_status(second, 2, 3, 2, &answer), MG_OK);
+    IS(answer.reply, MG_STATE);
+    IS(answer.held, MG_NONE);
+    IS(answer.wanted, MG_EX);
+    IS(mg_convert(first, 1, 2, 1, MG_NL, 0, &answer), MG_OK);
+    IS(answer.reply, MG_GRANTED);
+    IS(mg_wait(second, 2, 1, 1000, &mode), MG_OK);
+    IS(mode, MG_EX);
+    IS(mg_convert(first, 1, 3, 1, MG_CR, 0, &answer), MG_OK);
+    IS(answer.reply, MG_QUEUED);
+    IS(mg_wait(first, 1, 2, 3, &mode), MG_TIMED_OUT);
+    IS(mg_lock(first, 1, &view), MG_OK);
+    IS(view.held, MG_NL);
+    IS(view.wanted, MG_CR);
+    IS(view.client, 1);
+    IS(view.host, 0);
+    IS_TEXT(view.name, "db");
+    IS(mg_cancel(first, 1, 4, 1, &answer), MG_OK);
+    IS(answer.reply, MG_CANCELLED);
+    IS(mg_cancel(first, 1, 5, 1, &answer), MG_NOTHING_TO_CANCEL);
+    IS(mg_release(first, 1, 4, 1, &answer), MG_STALE);
+    IS(mg_release(first, 1, 6, 9, &answer), MG_NO_SUCH_LOCK);
+    IS(mg_release(first, 1, 7, 2, &answer), MG_NOT_OWNER);
+    IS(mg_enqueue(first, 1, 8, 1, MG_NL, "x", 0, &answer), MG_LOCK_IN_USE);
+    IS(mg_look(second, &learned), MG_OK);
+    IS(learned, 13);
+    IS(mg_refresh(second, &learned), MG_OK);
+    IS(learned, 13);
+    IS(mg_locks(second, NULL, 0, &count), MG_OK);
+    IS(count, 2);
+    memset(views, 9, sizeof views);
+    IS(mg_locks(second, views, 1, &count), MG_OK);
+    IS(count, 2);
+    IS(views[0].lock, 1);
+    IS(views[1].lock, 0x09090909);
+    IS(mg_locks(second, views, 3, &count), MG_OK);
+    IS(views[1].lock, 2);
+    IS(views[1].held, MG_EX);
+    IS(mg_clients(second, clients, 4, &count), MG_OK);
+    IS(count, 2);
+    IS(clients[0].client, 1);
+    IS(clients[0].request, 8);
+    IS(clients[0].reply, MG_REFUSED);
+    IS(clients[0].refusal, MG_LOCK_IN_USE);
+    IS(clients[1].reply, MG_STATE);
+    IS(clients[1].refusal, 0);
+    IS(mg_text(second, text, sizeof text, &count), MG_OK);
+    IS_TEXT(text, "db\n  granted 1 1 0 NL\n  granted 2 2 1 EX\n");
+    IS(count, strlen(text));
+    IS(mg_text(second, text, 4, &count), MG_OK);
+    IS_TEXT(text, "db\n");
+    IS(count, 41);
+    IS(mg_text(second, NULL, 0, &count), MG_OK);
+    IS(count, 41);
+    IS(mg_host_facts(second, &facts), MG_OK);
+    IS(facts.cluster, 7);
+    IS(facts.host, 1);
+    IS(facts.disks, 3);
+    IS(facts.slots, 16);
+    IS(facts.learned, 13);
+    IS(mg_purge(first, 1, 9, 1, &answer), MG_OK);
+    IS(answer.reply, MG_PURGED);
+    IS(answer.purged, 1);
+    IS(mg_release(first, 1, 10, 1, NULL), MG_OK);
+    IS(mg_status(first, 1, 11, 1, &answer), MG_NO_SUCH_LOCK);
+    IS(mg_status(first, 1, 12, 1, &answer), MG_LOG_FULL);
+    IS(answer.slot, -1);
+    IS(mg_text(first, text, sizeof text, NULL), MG_OK);
+    IS_TEXT(text, "empty\n");
+}
+
+int main(int argc, char **argv) {
+    struct mg_host *first, *second;
+    int status, disk;
+    if (argc != 2)
+        return 2;
+    bad_arguments(argv[1]);
+    IS(mg_format(argv[1], 3, 16, 7, &disk), MG_OK);
+    IS(disk, -1);
+    IS(mg_format(argv[1], 3, 16, 7, &disk), MG_ALREADY_THERE);
+    IS(mg_open(argv[1], 0, &first, &disk), MG_OK);
+    IS(disk, -1);
+    IS(mg_open(argv[1], 0, &second, &disk), MG_HOST_IN_USE);
+    IS(second == NULL, 1);
+    IS(disk, -1);
+    IS(mg_open(argv[1], 1, &second, NULL), MG_OK);
+    bad_commands(first);
+    commands(first, second);
+    mg_close(first);
+    IS(mg_open(argv[1], 0, &first, NULL), MG_OK);
+    mg_close(first);
+    mg_close(second);
+    for (status = -100; status < 100; status++)
+        IS(mg_strerror(status) != NULL && mg_name(status) != NULL, 1);
+    IS_TEXT(mg_name(7), "NoMajority");
+    IS_TEXT(mg_version(), "0.1");
+    if (failures == 0)
+        puts("calls: as they should be");
+    return failures != 0;
+}

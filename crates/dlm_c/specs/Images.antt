@@ -1,0 +1,90 @@
+-- A folder as C found it, and the host that is opened over it.
+use Rattle.std.specs.Prelude.{◌≡◌, ◌<◌, ◌==◌, ◌⊎◌, ℕ, ℤ, List, min, length, slice_get, Option, Some, None, Result, Ok, Err, if◌then◌else◌}
+use Rattle.torn_block.specs.declared.layout.TheConstants.{DISKS}
+use Rattle.disk.specs.declared.fault.ImageFault.{ImageFault}
+use Rattle.paxos_block.specs.declared.header.Header.{Header}
+use Rattle.paxos_block.specs.Headers.{IsRight, header_in}
+use Rattle.paxos_block.specs.Places.{image_length}
+use Rattle.slot_log.specs.Shape.{Shape}
+use Rattle.host.specs.Host.{fresh}
+use Rattle.host.specs.Kept.{LeadsTo}
+use Rattle.lock_command.specs.declared.number.TheConstants.{HOSTS}
+use Rattle.dlm_images.specs.declared.set.SetFault.{SetFault}
+use Rattle.dlm_images.specs.Sets.{Found, HasNumbers}
+use Rattle.dlm_images.specs.SetFaults.{HasSetFault}
+use Rattle.dlm_c.specs.declared.fault.Fault.{Fault}
+use Rattle.dlm_c.specs.declared.fault.Fault.TheVariants as cause
+use Rattle.dlm_c.specs.declared.images.Image.{Image}
+use Rattle.dlm_c.specs.declared.images.Images.{Images}
+use Rattle.dlm_c.specs.declared.images.Opened.{Opened}
+use Rattle.dlm_c.specs.declared.session.Session.{Session}
+use Rattle.dlm_c.specs.Numbers.{done, no_disk, fault_number, disk_number}
+
+-- how long it is as an image: of a device, what its first bytes say, as far as there is room
+abbrev pub long_of : Image → ℕ
+long_of image = if image.is_device == 1 then min (image_length (header_in image.bytes).slots) image.size else image.size
+
+-- it was read, and as those of the image of this number its first bytes are right: they say this header
+abbrev pub IsRead : ℕ → Image → Header → Type 0
+IsRead disk image header = (image.is_read ≡ 1) × IsRight disk (long_of image) image.bytes header
+
+-- what is found of an image: what it says, or, where it says no right header, some fault
+abbrev pub Finds : ℕ → Image → Result Header ImageFault → Type 0
+Finds disk image (Ok header) = IsRead disk image header
+Finds disk image (Err fault) = (header : Header) → IsRead disk image header → ⊥
+
+-- The same of all images.
+abbrev pub AreFound : List Image → Found → Type 0
+AreFound images found = (k : ℕ) (image : Image) (said : Result Header ImageFault) → slice_get images k ≡ Some image → slice_get found k ≡ Some said → Finds k image said
+
+-- what C is told of an image of which this was found
+abbrev pub used_of : Result Header ImageFault → ℕ
+used_of (Ok header) = 1
+used_of (Err fault) = 0
+
+-- C is told how many disks there are, and which images are used.
+pub record TellsImages (found : Found) (config : Shape) (told : Opened) : Type 0 where
+  pub disks : told.disks ≡ config.disks
+  pub used : (k : ℕ) (said : Result Header ImageFault) (flag : ℕ) → slice_get found k ≡ Some said → slice_get told.used k ≡ Some flag → flag ≡ used_of said
+
+-- The host has this number and has learned nothing, and the folder the numbers of the set that was found; C is told of its images.
+pub record IsOpened (images : Images) (number : ℕ) (session : Session) (told : Opened) : Type 0 where
+  pub found : Found
+  pub all : length found ≡ DISKS
+  pub are : AreFound images.all found
+  pub set : HasNumbers found session.config session.cluster
+  pub tells : TellsImages found session.config told
+  pub leads : LeadsTo session.config number fresh session.core
+
+-- The images are no set, and this is told of one of them.
+pub record IsNoSet (images : Images) (why : SetFault) : Type 0 where
+  pub found : Found
+  pub all : length found ≡ DISKS
+  pub are : AreFound images.all found
+  pub fault : HasSetFault found why
+
+-- why no host is opened over these images under this number, in a handle that keeps this
+abbrev pub MayRefuse : Images → ℕ → Option Session → Fault → Type 0
+MayRefuse images number old cause.BadArgument = number < HOSTS → ⊥
+MayRefuse images number old cause.Closed = ⊥
+MayRefuse images number old cause.Open = old ≡ None → ⊥
+MayRefuse images number old cause.NoSuchLock = ⊥
+MayRefuse images number old cause.NoMemory = Unit {0}
+MayRefuse images number old (cause.Images why) = IsNoSet images why
+
+-- A host is kept where none was.
+abbrev pub IsOpenedIn : Images → ℕ → Option Session → Opened → Type 0
+IsOpenedIn images number None told = ⊥
+IsOpenedIn images number (Some new) told = IsOpened images number new told
+
+-- Nothing is changed, and C is told why, and of which image.
+pub record IsNotOpened (images : Images) (number : ℕ) (old new : Option Session) (status disk : ℤ) : Type 0 where
+  pub fault : Fault
+  pub may : MayRefuse images number old fault
+  pub same : new ≡ old
+  pub told : status ≡ fault_number fault
+  pub image : disk ≡ disk_number fault
+
+abbrev pub OpensIn : Images → ℕ → Option Session → Option Session → Opened → ℤ → ℤ → Type 0
+OpensIn images number old new told status disk =
+    ((status ≡ done) × (disk ≡ no_disk) × (old ≡ None) × IsOpenedIn images number new told) ⊎ IsNotOpened images number old new status disk

@@ -1,0 +1,152 @@
+-- The numbers that C is told: those of the printed text, where it has one.
+use Rattle.std.specs.Prelude.{ℕ, ℤ, pos, negsuc}
+use Rattle.lock_modes.specs.declared.mode.Mode.{Mode}
+use Rattle.lock_modes.specs.declared.mode.Mode.TheVariants.{Null, ConcurrentRead, ConcurrentWrite, ProtectedRead, ProtectedWrite, Exclusive}
+use Rattle.lock_table.specs.declared.record.LockState.{LockState}
+use Rattle.lock_table.specs.declared.record.LockState.TheVariants.{Granted as Holding, Converting, Waiting}
+use Rattle.lock_table.specs.declared.reply.Reply.{Reply}
+use Rattle.lock_table.specs.declared.reply.Reply.TheVariants.{Granted, Queued, Released, Cancelled, Purged, State, Refused}
+use Rattle.lock_table.specs.declared.reply.Refusal as table
+use Rattle.lock_table.specs.declared.reply.Refusal.TheVariants.{LockInUse, NoSuchLock, NotOwner, AlreadyConverting, StillWaiting, NotQueued, TableFull, Stale, ClientsFull, NothingToCancel}
+use Rattle.slot_log.specs.declared.outcome.Refusal as operation
+use Rattle.slot_log.specs.declared.outcome.Refusal.TheVariants.{Outrun, NoMajority, BallotsSpent, LogFull, NotACommand, NotLearned}
+use Rattle.disk.specs.declared.fault.ImageFault.{ImageFault}
+use Rattle.disk.specs.declared.fault.ImageFault.TheVariants.{NotFormatted, WrongHeader, Unreadable}
+use Rattle.dlm_c.specs.declared.answer.Answer.{Answer}
+use Rattle.dlm_c.specs.declared.fault.Fault.{Fault}
+use Rattle.dlm_c.specs.declared.fault.Fault.TheVariants as fault
+
+-- what is done
+abbrev pub done : ℤ
+done = pos 0
+
+-- an argument is none that the call takes
+abbrev pub bad_argument : ℤ
+bad_argument = negsuc 0
+
+-- nothing is kept in the handle
+abbrev pub closed : ℤ
+closed = negsuc 1
+
+-- an operation is under way
+abbrev pub busy : ℤ
+busy = negsuc 3
+
+-- none is, so that no device call is due
+abbrev pub nothing_due : ℤ
+nothing_due = negsuc 4
+
+-- the device call that is due writes more bytes than there is room for
+abbrev pub no_room : ℤ
+no_room = negsuc 5
+
+-- no operation has ended with the last answer
+abbrev pub nothing_said : ℤ
+nothing_said = negsuc 6
+
+-- a refusal that ends an operation
+abbrev pub operation_number : operation.Refusal → ℤ
+operation_number Outrun = pos 6
+operation_number NoMajority = pos 7
+operation_number BallotsSpent = pos 8
+operation_number LogFull = pos 9
+operation_number NotACommand = pos 10
+operation_number NotLearned = pos 30
+
+-- a refusal of the lock table
+abbrev pub table_number : table.Refusal → ℤ
+table_number LockInUse = pos 11
+table_number NoSuchLock = pos 12
+table_number NotOwner = pos 13
+table_number AlreadyConverting = pos 14
+table_number StillWaiting = pos 15
+table_number NotQueued = pos 16
+table_number TableFull = pos 17
+table_number Stale = pos 18
+table_number ClientsFull = pos 19
+table_number NothingToCancel = pos 20
+
+abbrev pub no_such_lock : ℤ
+no_such_lock = table_number NoSuchLock
+
+-- memory was refused
+abbrev pub no_memory : ℤ
+no_memory = pos 21
+
+-- a mode, and that there is none
+abbrev pub mode_number : Mode → ℤ
+mode_number Null = pos 0
+mode_number ConcurrentRead = pos 1
+mode_number ConcurrentWrite = pos 2
+mode_number ProtectedRead = pos 3
+mode_number ProtectedWrite = pos 4
+mode_number Exclusive = pos 5
+
+abbrev pub no_mode : ℤ
+no_mode = negsuc 0
+
+-- the mode that a lock holds, and the one that it wants
+abbrev pub held_number : LockState → ℤ
+held_number (Holding mode) = mode_number mode
+held_number (Converting held wanted) = mode_number held
+held_number (Waiting wanted) = no_mode
+
+abbrev pub wanted_number : LockState → ℤ
+wanted_number (Holding mode) = no_mode
+wanted_number (Converting held wanted) = mode_number wanted
+wanted_number (Waiting wanted) = mode_number wanted
+
+-- what is told of a command that was not acknowledged
+abbrev pub no_answer : Answer
+no_answer = record { slot = negsuc 0; reply = pos 0; purged = 0; held = no_mode; wanted = no_mode; count = 0 }
+
+-- a reply that tells neither a count nor a state
+abbrev pub plain_answer : ℕ → ℤ → Answer
+plain_answer at reply = record { slot = pos at; reply = reply; purged = 0; held = no_mode; wanted = no_mode; count = 0 }
+
+-- what is told of a command that is acknowledged at this slot with this reply
+abbrev pub answer_of : ℕ → Reply → Answer
+answer_of at Granted = plain_answer at (pos 1)
+answer_of at Queued = plain_answer at (pos 2)
+answer_of at Released = plain_answer at (pos 3)
+answer_of at Cancelled = plain_answer at (pos 4)
+answer_of at (Purged count) = record { slot = pos at; reply = pos 5; purged = count; held = no_mode; wanted = no_mode; count = 0 }
+answer_of at (State state) = record { slot = pos at; reply = pos 6; purged = 0; held = held_number state; wanted = wanted_number state; count = 0 }
+answer_of at (Refused refusal) = plain_answer at (pos 7)
+
+-- and what the call returns then
+abbrev pub status_of : Reply → ℤ
+status_of Granted = done
+status_of Queued = done
+status_of Released = done
+status_of Cancelled = done
+status_of (Purged count) = done
+status_of (State state) = done
+status_of (Refused refusal) = table_number refusal
+
+-- a fault of an image
+abbrev pub image_number : ImageFault → ℤ
+image_number NotFormatted = pos 24
+image_number WrongHeader = pos 25
+image_number Unreadable = pos 26
+
+-- why a call did not do what it was asked
+abbrev pub fault_number : Fault → ℤ
+fault_number fault.BadArgument = bad_argument
+fault_number fault.Closed = closed
+fault_number fault.Open = negsuc 2
+fault_number fault.NoSuchLock = no_such_lock
+fault_number fault.NoMemory = no_memory
+fault_number (fault.Images why) = image_number why.fault
+
+-- the image that is told of, or that none is
+abbrev pub no_disk : ℤ
+no_disk = negsuc 0
+
+abbrev pub disk_number : Fault → ℤ
+disk_number fault.BadArgument = no_disk
+disk_number fault.Closed = no_disk
+disk_number fault.Open = no_disk
+disk_number fault.NoSuchLock = no_disk
+disk_number fault.NoMemory = no_disk
+disk_number (fault.Images why) = pos why.disk

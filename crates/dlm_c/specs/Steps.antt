@@ -1,0 +1,137 @@
+-- What an export does with the host that is kept, and what C is told of that.
+use Rattle.std.specs.Prelude.{◌≡◌, ◌≤◌, ◌<◌, ◌^◌, ◌⊎◌, ℕ, ℤ, true, false, List, [], ◌∷◌, Option, Some, None}
+use Rattle.disk.specs.Disk.{Call, Answer}
+use Rattle.slot_log.specs.Shape.{Shape}
+use Rattle.lock_command.specs.declared.command.Command.{Command}
+use Rattle.lock_command.specs.Command.{Fits}
+use Rattle.host.specs.Host.{Memory, Operation, Submitting, Recovering, Looking, goes_on, starts_marking}
+use Rattle.host.specs.Kept.{Kept, LeadsTo, is_idle, due_call}
+use Rattle.dlm_images.specs.Operations.{Made, IsDue, Gave, HasOperated, HasMarked, after_call}
+use Rattle.dlm_c.specs.declared.call.DueCall.{DueCall}
+use Rattle.dlm_c.specs.declared.call.ToldAnswer.{ToldAnswer}
+use Rattle.dlm_c.specs.declared.request.Request.{Request}
+use Rattle.dlm_c.specs.declared.session.Session.{Session}
+use Rattle.dlm_c.specs.Calls.{TellsDue, IsTooLong, no_call, answer_in}
+use Rattle.dlm_c.specs.Numbers.{done, bad_argument, closed, busy, nothing_due, no_room}
+use Rattle.dlm_c.specs.Requests.{IsAsked}
+
+-- A HANDLE
+
+-- this is so of the host that is kept; where none is, C is told so
+abbrev pub InHandle : (Session → Session → Type 0) → Option Session → Option Session → ℤ → Type 0
+InHandle Changes None new status = (new ≡ None) × (status ≡ closed)
+InHandle Changes (Some old) None status = ⊥
+InHandle Changes (Some old) (Some new) status = Changes old new
+
+-- the folder is the same
+pub record IsSameFolder (old new : Session) : Type 0 where
+  pub config : new.config ≡ old.config
+  pub cluster : new.cluster ≡ old.cluster
+
+-- AN OPERATION BEGINS
+
+-- whatever led to the old host, with this operation begun it leads to the new one
+abbrev pub Begins : Operation → ℕ → Kept → Kept → Type 0
+Begins operation tries old new = (c : Shape) (h : ℕ) (m : Memory) → LeadsTo c h m old → LeadsTo c h (goes_on c m operation tries) new
+
+-- the same of a marking of this slot
+abbrev pub BeginsMarking : ℕ → Kept → Kept → Type 0
+BeginsMarking slot old new = (c : Shape) (h : ℕ) (m : Memory) → LeadsTo c h m old → LeadsTo c h (starts_marking m slot) new
+
+-- An idle host began what was asked.
+pub record HasBegun (Asked : Kept → Kept → Type 0) (old new : Session) (status : ℤ) : Type 0 where
+  pub told : status ≡ done
+  pub idle : is_idle old.core ≡ true
+  pub begins : Asked old.core new.core
+  pub same : IsSameFolder old new
+
+-- Nothing was begun, since an operation is under way, or since nothing was asked that may be; the host is as it was.
+pub record IsRefused (Wrong : Kept → Type 0) (old new : Session) (status : ℤ) : Type 0 where
+  pub same : new ≡ old
+  pub told : ((status ≡ busy) × (is_idle old.core ≡ false)) ⊎ ((status ≡ bad_argument) × Wrong old.core)
+
+abbrev pub BeginsOr : (Kept → Kept → Type 0) → (Kept → Type 0) → Session → Session → ℤ → Type 0
+BeginsOr Asked Wrong old new status = HasBegun Asked old new status ⊎ IsRefused Wrong old new status
+
+-- so many tries may be given
+abbrev pub AreTries : ℕ → Type 0
+AreTries tries = (1 ≤ tries) × (tries < 2 ^ 8)
+
+-- The command that is asked of this host is submitted.
+pub record SubmitsAsked (r : Request) (name : List ℕ) (tries : ℕ) (old new : Kept) : Type 0 where
+  pub command : Command
+  pub fits : Fits command
+  pub asked : IsAsked r name old.learner.host command
+  pub tried : AreTries tries
+  pub begins : Begins (Submitting command) tries old new
+
+-- no command is asked, or not so many tries may be given
+abbrev pub AsksNothing : Request → List ℕ → ℕ → Kept → Type 0
+AsksNothing r name tries old = (command : Command) → Fits command → IsAsked r name old.learner.host command → AreTries tries → ⊥
+
+abbrev pub Submits : Request → List ℕ → ℕ → Session → Session → ℤ → Type 0
+Submits r name tries = BeginsOr (SubmitsAsked r name tries) (AsksNothing r name tries)
+
+abbrev pub Recovers : ℕ → Session → Session → ℤ → Type 0
+Recovers tries = BeginsOr (λ old new. AreTries tries × Begins Recovering tries old new) (λ old. AreTries tries → ⊥)
+
+abbrev pub Looks : Session → Session → ℤ → Type 0
+Looks = BeginsOr (Begins Looking 1) (λ old. ⊥)
+
+abbrev pub Marks : ℕ → Session → Session → ℤ → Type 0
+Marks slot = BeginsOr (BeginsMarking slot) (λ old. slot < 2 ^ 16 → ⊥)
+
+-- ITS CALLS
+
+-- C is told the call that is due, or that none is; the host stays as it is.
+abbrev pub CallsNext : Session → DueCall → ℤ → Type 0
+CallsNext session call status =
+    ((status ≡ done) × (is_idle session.core ≡ false) × TellsDue call (due_call session.core))
+    ⊎ ((status ≡ nothing_due) × (is_idle session.core ≡ true) × (call ≡ no_call))
+    ⊎ ((status ≡ no_room) × (is_idle session.core ≡ false) × IsTooLong (due_call session.core).1)
+
+-- the call that is due, and this answer to it
+abbrev pub made_of : Kept → Answer → Made
+made_of old answer = record { disk = (due_call old).0; call = (due_call old).1; answer = answer }
+
+-- It was the call that was due, its answer is of its kind, and the host has heard it, and nothing else.
+pub record IsHeard (old : Kept) (x : Made) (new : Kept) : Type 0 where
+  pub due : (c : Shape) (h : ℕ) (m : Memory) → LeadsTo c h m old → IsDue c h m x
+  pub leads : (c : Shape) (h : ℕ) (m : Memory) → LeadsTo c h m old → LeadsTo c h (after_call c h m x) new
+
+-- The host heard the answer that C told.
+pub record HasHeardTold (told : ToldAnswer) (row : List ℕ) (old new : Session) (status : ℤ) : Type 0 where
+  pub done : status ≡ done
+  pub busy : is_idle old.core ≡ false
+  pub answer : Answer
+  pub is : answer_in (due_call old.core).1 told row ≡ Some answer
+  pub heard : IsHeard old.core (made_of old.core answer) new.core
+  pub same : IsSameFolder old new
+
+-- The host heard nothing, since no call is due, or since C told no answer; it is as it was.
+pub record HearsNothing (told : ToldAnswer) (row : List ℕ) (old new : Session) (status : ℤ) : Type 0 where
+  pub same : new ≡ old
+  pub why :
+      ((status ≡ nothing_due) × (is_idle old.core ≡ true)) ⊎ ((status ≡ bad_argument) × (answer_in (due_call old.core).1 told row ≡ None))
+
+abbrev pub Hears : ToldAnswer → List ℕ → Session → Session → ℤ → Type 0
+Hears told row old new status = HasHeardTold told row old new status ⊎ HearsNothing told row old new status
+
+-- ALL OF THEM
+
+-- from old to new the host heard these calls, one after another
+abbrev pub AreHeard : Kept → List Made → Kept → Type 0
+AreHeard old [] new = new ≡ old
+AreHeard old (x ∷ xs) new = (between : Kept) × IsHeard old x between × AreHeard between xs new
+
+-- An operation that began, whose calls were heard until it had ended, and whose disks gave what was heard, is what hosts over disks do.
+abbrev pub CallsOperate : {D : Type 0} → (D → Call → Answer → D → Type 0) → Type 0
+CallsOperate {D = D} gives = (operation : Operation) (tries : ℕ) (old begun new : Kept) (made : List Made) (disks left : List D) →
+    Begins operation tries old begun → AreHeard begun made new → Gave gives disks made left → is_idle new ≡ true →
+    HasOperated gives operation tries (record { core = old; disks = disks }) (record { core = new; disks = left })
+
+-- and so is a marking
+abbrev pub CallsMark : {D : Type 0} → (D → Call → Answer → D → Type 0) → Type 0
+CallsMark {D = D} gives = (slot : ℕ) (old begun new : Kept) (made : List Made) (disks left : List D) →
+    BeginsMarking slot old begun → AreHeard begun made new → Gave gives disks made left → is_idle new ≡ true →
+    HasMarked gives slot (record { core = old; disks = disks }) (record { core = new; disks = left })

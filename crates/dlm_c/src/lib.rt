@@ -1,0 +1,324 @@
+//! What C calls: a host over a folder of images, kept between calls in a handle. C makes the device calls that it is told, and tells
+//! what they were answered. `capi/` has the header, and the C that sees to what is required here.
+#![tactic(auto)]
+
+ghost use Rattle.std.specs.Prelude.{◌≡◌, ◌↔◌, None, IfOk, IfErr, IsTrue};
+ghost use Rattle.paxos_block.specs.Headers.{IsFormatted};
+ghost use Rattle.dlm_c.specs.Headers.{LaysOut};
+ghost use Rattle.dlm_c.specs.Images.{IsOpenedIn, MayRefuse, OpensIn};
+ghost use Rattle.dlm_c.specs.Numbers.{done, fault_number};
+ghost use Rattle.dlm_c.specs.Steps.{InHandle, Submits, Recovers, Looks, Marks, CallsNext, Hears};
+ghost use Rattle.dlm_c.specs.Told.{answer_told, status_told};
+ghost use Rattle.dlm_c.specs.Views.{ShowsHost, TellsLock, ShowsLocks, ShowsClients, ShowsText, Tells};
+
+mod answer;
+mod call;
+mod fault;
+mod handle;
+mod header;
+mod held;
+mod images;
+mod law;
+mod looks;
+mod mode_number;
+mod parts;
+mod request;
+mod session;
+mod view;
+
+use answer::Answer;
+use call::{DueCall, Row, ToldAnswer};
+use fault::{CLOSED, Fault};
+use handle::Handle;
+use header::{HeaderBytes, lay_out};
+use images::{Images, Opened};
+pub use law::calls_make_operations;
+use paxos_block::is_formatted;
+use request::Request;
+use session::Session;
+use std::alloc::Global;
+use view::{ClientView, HostView, LockView};
+
+/// Tells the size and the first bytes of an image that is to be made.
+#[unsafe(no_mangle)]
+pub extern "C" fn dlm_c_header(
+    disks: u32,
+    slots: u32,
+    cluster: u64,
+    disk: u32,
+    into: &mut HeaderBytes,
+) -> i32
+    ensures { LaysOut disks slots cluster disk into.old into.new result }
+{
+    lay_out(disks, slots, cluster, disk, into)
+}
+
+/// Tells whether an image with these first bytes was formatted to the end.
+#[unsafe(no_mangle)]
+pub extern "C" fn dlm_c_is_formatted(header: &HeaderBytes) -> bool
+    ensures { IsTrue result ↔ IsFormatted header.now.bytes }
+{
+    is_formatted(&header.bytes)
+}
+
+/// Opens images for a host, and keeps it in the handle. `disk` becomes the image that is at fault, -1 where none is.
+#[unsafe(no_mangle)]
+pub extern "C" fn dlm_c_open(
+    alloc: Global,
+    images: &Images,
+    number: u32,
+    handle: &mut Handle,
+    told: &mut Opened,
+    disk: &mut i32,
+) -> i32
+    ensures { OpensIn images.now number handle.old.held.value handle.new.held.value told.new result disk.new }
+{
+    *disk = -1;
+    match open(alloc, images, number, handle, told) {
+        Ok(()) => 0,
+        Err(fault) => {
+            *disk = fault.disk();
+            fault.number()
+        }
+    }
+}
+
+fn open(
+    alloc: Global,
+    images: &Images,
+    number: u32,
+    handle: &mut Handle,
+    told: &mut Opened,
+) -> Result<(), Fault>
+    ensures opened { IfOk result (λ _. (handle.old.held.value ≡ None) × IsOpenedIn images.now number handle.new.held.value told.new) }
+    ensures refused { IfErr result (MayRefuse images.now number handle.old.held.value) }
+    ensures unchanged { IfErr result (λ _. handle.new.held.value ≡ handle.old.held.value) }
+{
+    if let Some(session) = handle.take(alloc) {
+        handle.keep(session);
+        return Err(Fault::Open);
+    }
+    let (session, opened) = Session::open(alloc, images, number)?;
+    match Box::new(alloc, session) {
+        Ok(session) => {
+            handle.keep(session);
+            *told = opened;
+            Ok(())
+        }
+        Err(_) => Err(Fault::NoMemory),
+    }
+}
+
+/// Lets the host go that the handle keeps, if it keeps one.
+#[unsafe(no_mangle)]
+pub extern "C" fn dlm_c_close(alloc: Global, handle: &mut Handle)
+    ensures { handle.new.held.value ≡ None }
+{
+    let _session = handle.take(alloc);
+}
+
+/// Begins to put a command of the host into the log.
+#[unsafe(no_mangle)]
+pub extern "C" fn dlm_c_submit(
+    alloc: Global,
+    handle: &mut Handle,
+    request: &Request,
+    name: &[u8],
+    tries: u32,
+) -> i32
+    ensures { InHandle (λ old new. Submits request.now name.now tries old new result) handle.old.held.value handle.new.held.value result }
+{
+    let Some(mut session) = handle.take(alloc) else {
+        return CLOSED;
+    };
+    let status = session.submit(request, name, tries);
+    handle.keep(session);
+    status
+}
+
+/// Begins to learn all that is in the log.
+#[unsafe(no_mangle)]
+pub extern "C" fn dlm_c_recover(alloc: Global, handle: &mut Handle, tries: u32) -> i32
+    ensures { InHandle (λ old new. Recovers tries old new result) handle.old.held.value handle.new.held.value result }
+{
+    let Some(mut session) = handle.take(alloc) else {
+        return CLOSED;
+    };
+    let status = session.recover(tries);
+    handle.keep(session);
+    status
+}
+
+/// Begins to learn what marks tell.
+#[unsafe(no_mangle)]
+pub extern "C" fn dlm_c_look(alloc: Global, handle: &mut Handle) -> i32
+    ensures { InHandle (λ old new. Looks old new result) handle.old.held.value handle.new.held.value result }
+{
+    let Some(mut session) = handle.take(alloc) else {
+        return CLOSED;
+    };
+    let status = session.look();
+    handle.keep(session);
+    status
+}
+
+/// Begins to mark a slot.
+#[unsafe(no_mangle)]
+pub extern "C" fn dlm_c_mark(alloc: Global, handle: &mut Handle, slot: u32) -> i32
+    ensures { InHandle (λ old new. Marks slot old new result) handle.old.held.value handle.new.held.value result }
+{
+    let Some(mut session) = handle.take(alloc) else {
+        return CLOSED;
+    };
+    let status = session.mark(slot);
+    handle.keep(session);
+    status
+}
+
+/// Tells the device call that is due.
+#[unsafe(no_mangle)]
+pub extern "C" fn dlm_c_call(alloc: Global, handle: &mut Handle, call: &mut DueCall) -> i32
+    ensures { InHandle (λ old new. (new ≡ old) × CallsNext old call.new result) handle.old.held.value handle.new.held.value result }
+{
+    let Some(session) = handle.take(alloc) else {
+        return CLOSED;
+    };
+    let status = session.call(call);
+    handle.keep(session);
+    status
+}
+
+/// Hears what the device call that is due was answered. The row is looked at where that was a read.
+#[unsafe(no_mangle)]
+pub extern "C" fn dlm_c_hear(
+    alloc: Global,
+    handle: &mut Handle,
+    told: &ToldAnswer,
+    row: &Row,
+) -> i32
+    ensures { InHandle (λ old new. Hears told.now row.now.bytes old new result) handle.old.held.value handle.new.held.value result }
+{
+    let Some(mut session) = handle.take(alloc) else {
+        return CLOSED;
+    };
+    let status = session.hear(told, row);
+    handle.keep(session);
+    status
+}
+
+/// Tells how the last operation ended.
+#[unsafe(no_mangle)]
+pub extern "C" fn dlm_c_answer(alloc: Global, handle: &mut Handle, answer: &mut Answer) -> i32
+    ensures { InHandle (λ old new. (new ≡ old) × (answer.new ≡ answer_told old.core.said) × (result ≡ status_told old.core.said))
+        handle.old.held.value handle.new.held.value result }
+{
+    let Some(session) = handle.take(alloc) else {
+        return CLOSED;
+    };
+    let status = session.answer(answer);
+    handle.keep(session);
+    status
+}
+
+/// Shows the host.
+#[unsafe(no_mangle)]
+pub extern "C" fn dlm_c_host(alloc: Global, handle: &mut Handle, into: &mut HostView) -> i32
+    ensures { InHandle (λ old new. (new ≡ old) × (result ≡ done) × ShowsHost into.new old) handle.old.held.value handle.new.held.value result }
+{
+    let Some(session) = handle.take(alloc) else {
+        return CLOSED;
+    };
+    *into = session.view();
+    handle.keep(session);
+    0
+}
+
+/// Shows the lock of this number.
+#[unsafe(no_mangle)]
+pub extern "C" fn dlm_c_lock(
+    alloc: Global,
+    handle: &mut Handle,
+    lock: u32,
+    into: &mut LockView,
+) -> i32
+    ensures { InHandle (λ old new. (new ≡ old) × TellsLock old.core.prefix lock into.new result)
+        handle.old.held.value handle.new.held.value result }
+{
+    let Some(session) = handle.take(alloc) else {
+        return CLOSED;
+    };
+    let outcome = session.lock(alloc, lock, into);
+    handle.keep(session);
+    number_of(outcome)
+}
+
+/// Shows the locks of the table, as many as there is room for, and tells how many there are.
+#[unsafe(no_mangle)]
+pub extern "C" fn dlm_c_locks(
+    alloc: Global,
+    handle: &mut Handle,
+    into: &mut [LockView],
+    count: &mut usize,
+) -> i32
+    ensures { InHandle (λ old new. (new ≡ old) × Tells (ShowsLocks old.core.prefix into.new count.new) result)
+        handle.old.held.value handle.new.held.value result }
+{
+    *count = 0;
+    let Some(session) = handle.take(alloc) else {
+        return CLOSED;
+    };
+    let outcome = session.locks(alloc, into, count);
+    handle.keep(session);
+    number_of(outcome)
+}
+
+/// Shows the clients that are known, as many as there is room for, and tells how many there are.
+#[unsafe(no_mangle)]
+pub extern "C" fn dlm_c_clients(
+    alloc: Global,
+    handle: &mut Handle,
+    into: &mut [ClientView],
+    count: &mut usize,
+) -> i32
+    ensures { InHandle (λ old new. (new ≡ old) × Tells (ShowsClients old.core.prefix into.new count.new) result)
+        handle.old.held.value handle.new.held.value result }
+{
+    *count = 0;
+    let Some(session) = handle.take(alloc) else {
+        return CLOSED;
+    };
+    let outcome = session.clients(alloc, into, count);
+    handle.keep(session);
+    number_of(outcome)
+}
+
+/// Puts the table's text into a buffer, as much as there is room for, and tells how long it is.
+#[unsafe(no_mangle)]
+pub extern "C" fn dlm_c_text(
+    alloc: Global,
+    handle: &mut Handle,
+    into: &mut [u8],
+    length: &mut usize,
+) -> i32
+    ensures { InHandle (λ old new. (new ≡ old) × Tells (ShowsText old.core.prefix into.old into.new length.new) result)
+        handle.old.held.value handle.new.held.value result }
+{
+    *length = 0;
+    let Some(session) = handle.take(alloc) else {
+        return CLOSED;
+    };
+    let outcome = session.text(alloc, into, length);
+    handle.keep(session);
+    number_of(outcome)
+}
+
+/// 0, or the number of the fault.
+fn number_of(outcome: Result<(), Fault>) -> i32
+    ensures ok { IfOk outcome (λ _. result ≡ done) }
+    ensures err { IfErr outcome (λ fault. result ≡ fault_number fault) }
+{
+    match outcome {
+        Ok(()) => 0,
+        Err(fault) => fault.number(),
+    }
+}

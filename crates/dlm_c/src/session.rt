@@ -1,0 +1,161 @@
+ghost use Rattle.std.specs.Prelude.{◌≡◌, ◌≤◌, ◌<◌, ◌^◌, None, IfOk, IfErr, IfSome};
+ghost use Rattle.std.specs.Option.{SomeIff};
+ghost use Rattle.lock_command.specs.declared.number.TheConstants.{HOSTS};
+ghost use Rattle.dlm_c.specs.Images.{IsOpened, MayRefuse};
+ghost use Rattle.dlm_c.specs.Steps.{Submits, Recovers, Looks, Marks, CallsNext, Hears};
+ghost use Rattle.dlm_c.specs.Told.{answer_told, status_told};
+
+use crate::answer::{Answer, status_told};
+use crate::call::{DueCall, Row, ToldAnswer};
+use crate::fault::{BAD_ARGUMENT, BUSY, Fault, NO_ROOM, NOTHING_DUE};
+use crate::images::{Images, Opened, found_in, told_of};
+use crate::request::Request;
+use dlm_images::set_of;
+use host::{Config, HostCore};
+use lock_command::HostNumber;
+use std::alloc::Global;
+
+/// A host and the numbers of its folder, as C keeps them between calls.
+#[derive(Drop)]
+pub struct Session {
+    pub core: HostCore,
+    pub config: Config,
+    pub cluster: u64,
+}
+
+impl Session {
+    /// A host over these images, which has learned nothing yet, and what C is to know of the images.
+    pub fn open(alloc: Global, images: &Images, number: u32) -> Result<(Session, Opened), Fault>
+        ensures opened { IfOk result (λ made. IsOpened images.now number made.0 made.1) }
+        ensures refused { IfErr result (MayRefuse images.now number None) }
+    {
+        let Some(number) = host_of(number) else {
+            return Err(Fault::BadArgument);
+        };
+        let found = found_in(images);
+        let set = set_of(&found)?;
+        let core = HostCore::start(alloc, number, set.config)?;
+        let session = Session {
+            core,
+            config: set.config,
+            cluster: set.cluster,
+        };
+        Ok((session, told_of(&found, set.config)))
+    }
+
+    /// Begins to put the command into the log that is asked.
+    pub fn submit(&mut self, request: &Request, name: &[u8], tries: u32) -> i32
+        ensures { Submits request.now name.now tries self.old self.new result }
+    {
+        if !self.core.idle() {
+            return BUSY;
+        }
+        let (Some(tries), Some(command)) = (
+            tries_of(tries),
+            request.command(self.core.host(), name),
+        ) else {
+            return BAD_ARGUMENT;
+        };
+        // Called for its contract only: the command's numbers are in their ranges.
+        let _spelled = command.encode();
+        self.core.submit(command, tries);
+        0
+    }
+
+    /// Begins to learn all that is in the log.
+    pub fn recover(&mut self, tries: u32) -> i32
+        ensures { Recovers tries self.old self.new result }
+    {
+        if !self.core.idle() {
+            return BUSY;
+        }
+        let Some(tries) = tries_of(tries) else {
+            return BAD_ARGUMENT;
+        };
+        self.core.recover(tries);
+        0
+    }
+
+    /// Begins to learn what marks tell.
+    pub fn look(&mut self) -> i32
+        ensures { Looks self.old self.new result }
+    {
+        if !self.core.idle() {
+            return BUSY;
+        }
+        self.core.look();
+        0
+    }
+
+    /// Begins to mark a slot.
+    pub fn mark(&mut self, slot: u32) -> i32
+        ensures { Marks slot self.old self.new result }
+    {
+        if !self.core.idle() {
+            return BUSY;
+        }
+        let Ok(slot) = u16::try_from(slot) else {
+            return BAD_ARGUMENT;
+        };
+        self.core.mark(slot);
+        0
+    }
+
+    /// Tells the device call that is due.
+    pub fn call(&self, call: &mut DueCall) -> i32
+        ensures { CallsNext self.now call.new result }
+    {
+        *call = DueCall::none();
+        if self.core.idle() {
+            return NOTHING_DUE;
+        }
+        match DueCall::of(&self.core.call()) {
+            Some(due) => {
+                *call = due;
+                0
+            }
+            None => NO_ROOM,
+        }
+    }
+
+    /// Hears what the device call that is due was answered.
+    pub fn hear(&mut self, told: &ToldAnswer, row: &Row) -> i32
+        ensures { Hears told.now row.now.bytes self.old self.new result }
+    {
+        if self.core.idle() {
+            return NOTHING_DUE;
+        }
+        let Some(heard) = told.heard(&self.core.call().call, row) else {
+            return BAD_ARGUMENT;
+        };
+        self.core.hear(&heard);
+        0
+    }
+
+    /// Tells how the last operation ended.
+    pub fn answer(&self, answer: &mut Answer) -> i32
+        ensures answer { answer.new ≡ answer_told self.now.core.said }
+        ensures status { result ≡ status_told self.now.core.said }
+    {
+        let said = self.core.answer();
+        *answer = Answer::told(said);
+        status_told(said)
+    }
+}
+
+/// The host with this number, if there is one.
+pub fn host_of(number: u32) -> Option<HostNumber>
+    ensures { SomeIff result (number < HOSTS) number }
+{
+    HostNumber::new(u8::try_from(number).ok()?)
+}
+
+/// How often an operation may be outrun, if it may be so often.
+fn tries_of(tries: u32) -> Option<u8>
+    ensures { SomeIff result ((1 ≤ tries) × (tries < 2 ^ 8)) tries }
+{
+    match u8::try_from(tries) {
+        Ok(tries) if tries >= 1 => Some(tries),
+        _ => None,
+    }
+}
