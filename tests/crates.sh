@@ -17,6 +17,7 @@ cites() {
 status=0
 while read -r name libraries; do
     [[ -n $name && $name != '#'* ]] || continue
+    libraries=${libraries#staticlib:}
     for library in $libraries; do
         if ! cites "${name%:}" "$library"; then
             echo "crates.txt: ${name%:} names $library and cites it nowhere"

@@ -1,29 +1,27 @@
 #!/usr/bin/env python3
-"""sentences.py [PAGE..]: names each sentence of a page that has more than 40 words, and each line of a fenced block that nothing runs.
-Without a page: README, tutorial and operations. The status is 1 where a sentence is too long; a line that is not run is only told."""
+"""sentences.py [PAGE..]: names each sentence of a page that has too many words: more than 35 in README.md, more than 40 elsewhere.
+Without a page: README, tutorial and operations. The status is 1 where a sentence is too long."""
 
 import os
 import re
 import sys
 
-LONGEST = 40
+LONGEST = {"README.md": 35}
+LONGEST_ELSEWHERE = 40
 TOP = os.path.dirname(os.path.dirname(os.path.realpath(__file__)))
+PAGES = ("README.md", "docs/TUTORIAL.md", "docs/OPERATIONS.md")
 
 
-def split_page(text):
-    """The paragraphs, list items and table cells of a page by their first line, and the lines of fenced blocks that examples/pages.sh does not run."""
-    prose, not_run, paragraph, fence = [], [], [], None
+def prose(text):
+    """The paragraphs, list items and table cells of a page, by their first line. Headings and fenced blocks have none."""
+    found, paragraph, fenced = [], [], False
     for number, line in enumerate(text.split("\n"), 1):
         if line.startswith("```"):
-            fence = None if fence is not None else (line[3:], [])
-        elif fence is not None:
-            fence[1].append(line)
-            # What is run, and what it prints, stands in a block without a language that begins with a prompt. A drawing has no prompt, and runs nothing.
-            runs = not fence[0] and fence[1][0].startswith("$ ") and not fence[1][0].startswith("$ rt ")
-            if not runs and (fence[0] in ("sh", "bash", "c", "python") or line.startswith("$ ")):
-                not_run.append((number, line))
+            fenced, paragraph = not fenced, []
+        elif fenced:
+            continue
         elif line.startswith("|"):
-            prose += [(number, cell) for cell in re.split(r"(?<!\\)\|", line)[1:-1] if cell.strip(" :-")]
+            found += [[number, cell] for cell in re.split(r"(?<!\\)\|", line)[1:-1] if cell.strip(" :-")]
             paragraph = []
         elif not line.strip() or line.startswith("#"):
             paragraph = []
@@ -31,8 +29,8 @@ def split_page(text):
             paragraph[1] += " " + line
         else:
             paragraph = [number, line]
-            prose.append(paragraph)
-    return prose, not_run
+            found.append(paragraph)
+    return found
 
 
 def sentences(text):
@@ -46,18 +44,17 @@ def words(sentence):
 
 def main(pages):
     too_long = 0
-    for page in pages or [f"{TOP}/{it}" for it in ("README.md", "docs/TUTORIAL.md", "docs/OPERATIONS.md")]:
-        with open(page, encoding="utf-8") as it:
-            prose, not_run = split_page(it.read())
+    for page in pages or [f"{TOP}/{it}" for it in PAGES]:
         name = os.path.relpath(page, TOP)
-        for number, text in prose:
+        longest = LONGEST.get(name, LONGEST_ELSEWHERE)
+        with open(page, encoding="utf-8") as it:
+            paragraphs = prose(it.read())
+        for number, text in paragraphs:
             for sentence in sentences(text):
-                if len(words(sentence)) > LONGEST:
+                if len(words(sentence)) > longest:
                     too_long += 1
                     print(f"{name}:{number}: {len(words(sentence))} words: {sentence[:100]} ..")
-        for number, line in not_run:
-            print(f"{name}:{number}: nothing runs: {line}")
-    print(f"sentences.py: {too_long} sentences of more than {LONGEST} words")
+    print(f"sentences.py: {too_long} sentences are too long")
     return 1 if too_long else 0
 
 
