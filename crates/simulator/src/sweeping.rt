@@ -20,6 +20,7 @@ pub fn sweep(alloc: Global, script: &Script) -> Result<Sweep, NoMemory>
     ensures wrong { IfOk result (λ swept. swept.wrong ≡ 0) }
     ensures first { IfOk result (λ swept. swept.first ≡ None) }
 {
+    // Called for its contract only: a script has at most a million events.
     let _few = script.events.len();
     let events = script.events.to_vec(alloc)?;
     let mut parts = Parts::new(alloc, script.config)?;
