@@ -32,7 +32,7 @@ use fault::{CLOSED, Fault};
 use handle::Handle;
 use header::{HeaderBytes, lay_out};
 use images::{Images, Opened};
-pub use law::calls_make_operations;
+pub use law::{calls_make_operations, ends_are_told};
 use paxos_block::is_formatted;
 use request::Request;
 use session::Session;
