@@ -2,17 +2,19 @@ ghost use Rattle.std.specs.Prelude.{◌≡◌, ◌≤◌, ◌<◌, ◌^◌, None
 ghost use Rattle.std.specs.Option.{SomeIff};
 ghost use Rattle.lock_command.specs.declared.number.TheConstants.{HOSTS};
 ghost use Rattle.dlm_c.specs.Images.{IsOpened, MayRefuse};
-ghost use Rattle.dlm_c.specs.Steps.{Submits, Recovers, Looks, Marks, CallsNext, Hears};
+ghost use Rattle.dlm_c.specs.Steps.{Submits, Recovers, Looks, Marks, Attaches, TellsNext, CallsNext, HasHeardTold, HearsNothing, GoesOn};
 ghost use Rattle.dlm_c.specs.Told.{answer_told, status_told};
 
 use crate::answer::{Answer, status_told};
-use crate::call::{DueCall, Row, ToldAnswer};
+use crate::call::{DueCall, Row, ToldAnswer, Written};
 use crate::fault::{BAD_ARGUMENT, BUSY, Fault, NO_ROOM, NOTHING_DUE};
 use crate::images::{Images, Opened, found_in, told_of};
 use crate::request::Request;
+use disk::Boot;
 use dlm_images::set_of;
 use host::{Config, HostCore};
 use lock_command::HostNumber;
+use phases::{DeviceCall, Heard};
 use std::alloc::Global;
 
 /// A host and the numbers of its folder, as C keeps them between calls.
@@ -101,35 +103,75 @@ impl Session {
         0
     }
 
-    /// Tells the device call that is due.
-    pub fn call(&self, call: &mut DueCall) -> i32
-        ensures { CallsNext self.now call.new result }
+    /// Tells the device call that is due. An attach is answered with this boot number, and the call after it is told.
+    pub fn call(&mut self, boot: u64, call: &mut DueCall, written: &mut Written) -> i32
+        ensures { CallsNext boot self.old self.new call.new written.new.bytes result }
     {
-        *call = DueCall::none();
+        self.attach(boot);
+        self.due(call, written)
+    }
+
+    /// Hears what the device call that is due was answered, and tells the next.
+    pub fn next(
+        &mut self,
+        told: &ToldAnswer,
+        row: &Row,
+        call: &mut DueCall,
+        written: &mut Written,
+    ) -> i32
+        ensures { GoesOn told.now row.now.bytes self.old self.new call.new written.new.bytes result }
+    {
+        match self.hear(told, row) {
+            Ok(()) => self.call(told.boot, call, written),
+            Err(status) => {
+                *call = DueCall::none();
+                status
+            }
+        }
+    }
+
+    fn hear(&mut self, told: &ToldAnswer, row: &Row) -> Result<(), i32>
+        ensures heard { IfOk result (λ _. HasHeardTold told.now row.now.bytes self.old self.new) }
+        ensures nothing { IfErr result (HearsNothing told.now row.now.bytes self.old self.new) }
+    {
         if self.core.idle() {
+            return Err(NOTHING_DUE);
+        }
+        let Some(heard) = told.heard(&self.core.call().call, row) else {
+            return Err(BAD_ARGUMENT);
+        };
+        self.core.hear(&heard);
+        Ok(())
+    }
+
+    /// Where an attach is due it hears that the disk answered with this boot number.
+    fn attach(&mut self, boot: u64)
+        ensures { Attaches boot self.old self.new }
+    {
+        if self.core.idle() {
+            return;
+        }
+        let DeviceCall::Attach = self.core.call().call else {
+            return;
+        };
+        let booted = Heard::Booted(Boot { number: boot });
+        self.core.hear(&booted);
+    }
+
+    fn due(&self, call: &mut DueCall, written: &mut Written) -> i32
+        ensures { TellsNext self.now call.new written.new.bytes result }
+    {
+        if self.core.idle() {
+            *call = DueCall::none();
             return NOTHING_DUE;
         }
-        match DueCall::of(&self.core.call()) {
+        match DueCall::of(&self.core.call(), written) {
             Some(due) => {
                 *call = due;
                 0
             }
             None => NO_ROOM,
         }
-    }
-
-    /// Hears what the device call that is due was answered.
-    pub fn hear(&mut self, told: &ToldAnswer, row: &Row) -> i32
-        ensures { Hears told.now row.now.bytes self.old self.new result }
-    {
-        if self.core.idle() {
-            return NOTHING_DUE;
-        }
-        let Some(heard) = told.heard(&self.core.call().call, row) else {
-            return BAD_ARGUMENT;
-        };
-        self.core.hear(&heard);
-        0
     }
 
     /// Tells how the last operation ended.
