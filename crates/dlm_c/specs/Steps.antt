@@ -106,12 +106,15 @@ pub record HasAttached (boot : ℕ) (old new : Session) : Type 0 where
 abbrev pub Attaches : ℕ → Session → Session → Type 0
 Attaches boot old new = HasAttached boot old new ⊎ ((IsAttachDue old.core → ⊥) × (new ≡ old))
 
--- C is told the call that is due, or that none is; or it writes more bytes than there is room for.
+-- C is told this call, and its disk, unless it writes more bytes than there is room for
+abbrev pub TellsCallDue : ℕ × Call → DueCall → List ℕ → ℤ → Type 0
+TellsCallDue due call written status = ((status ≡ done) × TellsDue call written due) ⊎ ((status ≡ no_room) × IsTooLong due.1)
+
+-- C is told the call that is due, or that none is.
 abbrev pub TellsNext : Session → DueCall → List ℕ → ℤ → Type 0
 TellsNext session call written status =
-    ((status ≡ done) × (is_idle session.core ≡ false) × TellsDue call written (due_call session.core))
-    ⊎ ((status ≡ nothing_due) × (is_idle session.core ≡ true) × (call ≡ no_call))
-    ⊎ ((status ≡ no_room) × (is_idle session.core ≡ false) × IsTooLong (due_call session.core).1)
+    ((is_idle session.core ≡ false) × TellsCallDue (due_call session.core) call written status)
+    ⊎ ((is_idle session.core ≡ true) × (status ≡ nothing_due) × (call ≡ no_call))
 
 -- The same, after an attach that was due.
 pub record CallsNext (boot : ℕ) (old new : Session) (call : DueCall) (written : List ℕ) (status : ℤ) : Type 0 where

@@ -1,8 +1,11 @@
-ghost use Rattle.std.specs.Prelude.{◌≡◌, ◌≤◌, ◌<◌, ◌^◌, None, IfOk, IfErr, IfSome};
+ghost use Rattle.std.specs.Prelude.{◌≡◌, ◌≤◌, ◌<◌, ◌^◌, ◌↔◌, None, false, IsTrue, IfOk, IfErr, IfSome};
 ghost use Rattle.std.specs.Option.{SomeIff};
+ghost use Rattle.disk.specs.Disk.{Attach};
+ghost use Rattle.phases.specs.Calls.{call_of_need};
+ghost use Rattle.host.specs.Kept.{due_call, is_idle};
 ghost use Rattle.lock_command.specs.declared.number.TheConstants.{HOSTS};
 ghost use Rattle.dlm_c.specs.Images.{IsOpened, MayRefuse};
-ghost use Rattle.dlm_c.specs.Steps.{Submits, Recovers, Looks, Marks, Attaches, TellsNext, CallsNext, HasHeardTold, HearsNothing, GoesOn};
+ghost use Rattle.dlm_c.specs.Steps.{Submits, Recovers, Looks, Marks, IsAttachDue, HasAttached, TellsCallDue, TellsNext, CallsNext, HasHeardTold, HearsNothing, GoesOn};
 ghost use Rattle.dlm_c.specs.Told.{answer_told, status_told};
 
 use crate::answer::{Answer, status_told};
@@ -14,7 +17,7 @@ use disk::Boot;
 use dlm_images::set_of;
 use host::{Config, HostCore};
 use lock_command::HostNumber;
-use phases::{DeviceCall, Heard};
+use phases::{DeviceCall, Heard, Need};
 use std::alloc::Global;
 
 /// A host and the numbers of its folder, as C keeps them between calls.
@@ -107,8 +110,16 @@ impl Session {
     pub fn call(&mut self, boot: u64, call: &mut DueCall, written: &mut Written) -> i32
         ensures { CallsNext boot self.old self.new call.new written.new.bytes result }
     {
-        self.attach(boot);
-        self.due(call, written)
+        if self.core.idle() {
+            *call = DueCall::none();
+            return NOTHING_DUE;
+        }
+        // An attach goes its own way, so that for each other call what is due is looked up once.
+        if self.is_attach_due() {
+            self.attach(boot);
+            return self.due(call, written);
+        }
+        tell(&self.core.call(), call, written)
     }
 
     /// Hears what the device call that is due was answered, and tells the next.
@@ -144,16 +155,23 @@ impl Session {
         Ok(())
     }
 
-    /// Where an attach is due it hears that the disk answered with this boot number.
-    fn attach(&mut self, boot: u64)
-        ensures { Attaches boot self.old self.new }
+    fn is_attach_due(&self) -> bool
+        requires { is_idle self.now.core ≡ false }
+        ensures { IsTrue result ↔ ((due_call self.now.core).1 ≡ Attach) }
     {
-        if self.core.idle() {
-            return;
+        match self.core.call().call {
+            DeviceCall::Attach => true,
+            _ => false,
         }
-        let DeviceCall::Attach = self.core.call().call else {
-            return;
-        };
+    }
+
+    /// Hears that the disk which is to be attached answered with this boot number.
+    fn attach(&mut self, boot: u64)
+        requires { IsAttachDue self.old.core }
+        ensures { HasAttached boot self.old self.new }
+    {
+        // Called for its contract only: the attach is the host's next call.
+        let _ = self.core.call();
         let booted = Heard::Booted(Boot { number: boot });
         self.core.hear(&booted);
     }
@@ -165,13 +183,7 @@ impl Session {
             *call = DueCall::none();
             return NOTHING_DUE;
         }
-        match DueCall::of(&self.core.call(), written) {
-            Some(due) => {
-                *call = due;
-                0
-            }
-            None => NO_ROOM,
-        }
+        tell(&self.core.call(), call, written)
     }
 
     /// Tells how the last operation ended.
@@ -182,6 +194,19 @@ impl Session {
         let said = self.core.answer();
         *answer = Answer::told(said);
         status_told(said)
+    }
+}
+
+/// Tells a call, unless it writes more bytes than there is room for.
+fn tell(need: &Need<'_>, call: &mut DueCall, written: &mut Written) -> i32
+    ensures { TellsCallDue (call_of_need need.now) call.new written.new.bytes result }
+{
+    match DueCall::of(need, written) {
+        Some(due) => {
+            *call = due;
+            0
+        }
+        None => NO_ROOM,
     }
 }
 
