@@ -86,11 +86,12 @@ static void bare_look(int slot) {
 
 /* ---- batches: of the library and of bare calls in turn ---- */
 
-enum { BATCH = 100, MOST_BATCHES = SLOTS / BATCH - 1 };
+/* After each batch of commands there are ten of looks: these take no slots. */
+enum { BATCH = 100, MOST_BATCHES = SLOTS / BATCH - 1, LOOKS = 10, MOST_TIMES = LOOKS * MOST_BATCHES };
 
 struct times {
-    double library[MOST_BATCHES];
-    double bare[MOST_BATCHES];
+    double library[MOST_TIMES];
+    double bare[MOST_TIMES];
 };
 
 static void commands(struct mg_host *host, int batch, struct times *times) {
@@ -107,14 +108,14 @@ static void commands(struct mg_host *host, int batch, struct times *times) {
     times->bare[batch] = (now() - begun) / BATCH;
 }
 
-static void looks(struct mg_host *host, int batch, struct times *times) {
+static void looks(struct mg_host *host, int slot, int batch, struct times *times) {
     double begun = now();
     for (int i = 0; i < BATCH; i++)
         needs(mg_look(host, NULL) == MG_OK);
     times->library[batch] = (now() - begun) / BATCH;
     begun = now();
     for (int i = 0; i < BATCH; i++)
-        bare_look((batch + 1) * BATCH);
+        bare_look(slot);
     times->bare[batch] = (now() - begun) / BATCH;
 }
 
@@ -124,7 +125,7 @@ static int in_order(const void *a, const void *b) {
 }
 
 static void tell(const char *what, struct times *times, int batches) {
-    double quotients[MOST_BATCHES];
+    double quotients[MOST_TIMES];
     for (int i = 0; i < batches; i++)
         quotients[i] = times->library[i] / times->bare[i];
     qsort(quotients, (size_t)batches, sizeof quotients[0], in_order);
@@ -155,10 +156,11 @@ int main(int argc, char **argv) {
     }
     for (int batch = 0; batch < batches; batch++) {
         commands(host, batch, &of_commands);
-        looks(host, batch, &of_looks);
+        for (int i = 0; i < LOOKS; i++)
+            looks(host, (batch + 1) * BATCH, batch * LOOKS + i, &of_looks);
     }
     tell("a command", &of_commands, batches);
-    tell("a look that finds nothing", &of_looks, batches);
+    tell("a look that finds nothing", &of_looks, batches * LOOKS);
     mg_close(host);
     return 0;
 }

@@ -107,6 +107,8 @@ impl Session {
     }
 
     /// Tells the device call that is due. An attach is answered with this boot number, and the call after it is told.
+    // Out of line each answer would pay for two functions' registers.
+    #[inline(always)]
     pub fn call(&mut self, boot: u64, call: &mut DueCall, written: &mut Written) -> i32
         ensures { CallsNext boot self.old self.new call.new written.new.bytes result }
     {
