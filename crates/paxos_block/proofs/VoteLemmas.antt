@@ -1,15 +1,16 @@
 -- The ballot that a host takes, and what it may say at it.
-use Rattle.std.proofs.Common.{◌≡◌, ◌+◌, ◌<◌, ◌≤◌, ℕ, zero, suc, Bool, true, false, List, nat_lt, nat_le, Option, Some, None, refl, sym, ap, subst, inl, inr, arith}
+use Rattle.std.proofs.Common.{◌≡◌, ◌+◌, ◌<◌, ◌≤◌, ℕ, zero, suc, Bool, true, false, List, nat_lt, nat_le, Option, Some, None, refl, sym, ◌∙◌, ap, subst, inl, inr, arith}
 use Rattle.std.proofs.lemmas.Bool.Decides.{nat_tests}
 use Rattle.std.proofs.lemmas.Bool.{cases_lt}
+use Rattle.std.specs.Option.{option_or}
 use Rattle.torn_block.specs.declared.layout.TheConstants.{HOSTS, LAST_SEQUENCE}
 use Rattle.torn_block.specs.Block.{next_sequence_at}
 use Rattle.paxos_block.specs.declared.ballot.TheConstants.{LAST_BALLOT}
 use Rattle.paxos_block.specs.declared.block.PBlock.{PBlock}
 use Rattle.paxos_block.specs.Ballot.{owner_of, IsBallotOf}
-use Rattle.paxos_block.specs.Row.{IsSaid, sequence_or_zero}
+use Rattle.paxos_block.specs.Row.{SeenBlock, IsSaid, sequence_or_zero}
 use Rattle.paxos_block.specs.Saying.{IsVoteOf, MaySay}
-use Rattle.paxos_block.specs.Votes.{ballot_above, greatest, later_of}
+use Rattle.paxos_block.specs.Votes.{ballot_above, greatest, later_of, marked, marked_below, says_in}
 
 -- THE LEAST BALLOT ABOVE A NUMBER
 
@@ -54,6 +55,20 @@ greatest_same (suc n) g h e =
     let before : greatest n g ≡ greatest n h = greatest_same n g h (λ k l. e k (omega arith)) in
     let here : g n ≡ h n = e n (omega arith) in
     rw (before, here) refl
+
+-- THE FIRST MARKED BLOCK
+
+-- it is the first of however many blocks more
+pub first_marked : (row : List SeenBlock) (g n : ℕ) (value : List ℕ) → g < n → marked_below row g ≡ None → marked (says_in row g) ≡ Some value → marked_below row n ≡ Some value
+first_marked row g zero value below none is = absurd (omega arith)
+first_marked row g (suc n) value below none is =
+    elim (cases_lt g n) [
+      | inl less ↦ ap (λ (o : Option (List ℕ)). option_or o (marked (says_in row n))) (first_marked row g n value less none is)
+      | inr same ↦
+          (let at : g ≡ n = omega arith in
+          ap (λ (o : Option (List ℕ)). option_or o (marked (says_in row n))) (subst (λ (m : ℕ). marked_below row m ≡ None) at none)
+          ∙ subst (λ (m : ℕ). marked (says_in row m) ≡ Some value) at is)
+    ]
 
 -- WHAT MAY BE SAID
 

@@ -97,11 +97,13 @@ impl Row {
     pub fn marked(&self) -> Option<Value>
         ensures { (seen : List SeenBlock) → AreSeenAs seen self.now → result ≡ marked_in seen }
     {
-        let mut marked = None;
+        // Most rows have no mark, so nothing is copied on the way to one.
         for g in 0..HOSTS {
-            marked = marked.or(self.cells[g].says.marked());
+            if let Some(value) = self.cells[g].says.marked() {
+                return Some(value);
+            }
         }
-        marked
+        None
     }
 }
 
