@@ -1,4 +1,5 @@
 pub mod DamageLaws
+pub mod LayoutLaws
 pub mod NumberLaws
 pub mod PlaceLaws
 pub mod PlanLaws

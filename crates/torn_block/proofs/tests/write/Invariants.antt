@@ -1,5 +1,5 @@
 use Rattle.std.proofs.Common.{◌≡◌, length}
-use Rattle.torn_block.specs.declared.layout.TheConstants.{BLOCK_LENGTH}
+use Rattle.torn_block.specs.declared.tests.TheConstants.{BLOCK_LENGTH}
 use Rattle.torn_block.proofs.tests.write.Given as goal
 
 abbrev pub invariant-loop : goal.invariant-loop
