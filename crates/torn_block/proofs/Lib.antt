@@ -6,3 +6,4 @@ pub mod PlanLaws
 pub mod RegisterLaws
 pub mod StageLaws
 pub mod Writing
+pub mod ZeroLaws

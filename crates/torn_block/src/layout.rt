@@ -1,5 +1,6 @@
-ghost use Rattle.std.specs.Prelude.{◌≡◌, ℕ, List, length, refl, bytes_eq};
-ghost use Rattle.torn_block.specs.Layout.{Version, Version1, Version2, number_of, hosts_in, copy_length, value_length, area_place};
+ghost use Rattle.std.specs.Prelude.{◌≡◌, ◌==◌, ℕ, List, length, refl, bytes_eq};
+ghost use Rattle.std.specs.List.{list_all};
+ghost use Rattle.torn_block.specs.Layout.{Version, Version1, Version2, number_of, hosts_in, copy_length, value_length, padding, area_place};
 
 /// A cluster has at most so many disks.
 pub const DISKS: u8 = 7;
@@ -97,6 +98,16 @@ pub trait Layout {
         requires { length bytes.old ≡ value_length version }
         ensures { bytes.new ≡ spelled value.now };
 
+    /// Whether these bytes of an input are zeros. As one array they are compared in one go: a row may have many such.
+    fn is_blank(bytes: &[u8]) -> bool
+        requires { length bytes.now ≡ value_length version }
+        ensures { result ≡ list_all (λ b. b == 0) bytes.now };
+
+    /// Whether these bytes behind an input are zeros.
+    fn is_padding(bytes: &[u8]) -> bool
+        requires { length bytes.now ≡ padding version }
+        ensures { result ≡ list_all (λ b. b == 0) bytes.now };
+
     /// Whether two inputs have the same bytes.
     fn is_same(one: &Self::Value, other: &Self::Value) -> bool
         ensures { result ≡ bytes_eq (spelled one.now) (spelled other.now) };
@@ -155,6 +166,14 @@ impl Layout for Layout1 {
         bytes.copy_from_slice(value);
     }
 
+    fn is_blank(bytes: &[u8]) -> bool {
+        Self::value_in(bytes) == [0; 32]
+    }
+
+    fn is_padding(_bytes: &[u8]) -> bool {
+        true
+    }
+
     fn is_same(one: &[u8; 32], other: &[u8; 32]) -> bool {
         one == other
     }
@@ -205,6 +224,15 @@ impl Layout for Layout2 {
 
     fn put_value(value: &[u8; 48], bytes: &mut [u8]) {
         bytes.copy_from_slice(value);
+    }
+
+    fn is_blank(bytes: &[u8]) -> bool {
+        Self::value_in(bytes) == [0; 48]
+    }
+
+    // There are as many as an input has.
+    fn is_padding(bytes: &[u8]) -> bool {
+        Self::is_blank(bytes)
     }
 
     fn is_same(one: &[u8; 48], other: &[u8; 48]) -> bool {

@@ -215,7 +215,8 @@ fn done_with_the_sixth_call(rt: HostRuntime) {
 
 // All calls of a write of the first layout.
 fn make(disk: &mut SimDisk, steps: &mut WriteSteps) -> Result<(), DiskFault>
-    requires { length disk.old.disk.bytes ≡ BLOCK_LENGTH }
+    requires disk { length disk.old.disk.bytes ≡ BLOCK_LENGTH }
+    requires steps { steps.old.size ≡ 64 }
     ensures { length disk.new.disk.bytes ≡ BLOCK_LENGTH }
 {
     let boot = disk.attach()?;
