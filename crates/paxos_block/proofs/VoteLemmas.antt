@@ -1,15 +1,16 @@
 -- The ballot that a host takes, and what it may say at it.
-use Rattle.std.proofs.Common.{max, ◌≡◌, ◌+◌, ◌<◌, ◌≤◌, ℕ, zero, suc, Bool, true, false, List, nat_lt, nat_le, Option, Some, None, refl, sym, ap, ◌∙◌, subst, inl, inr, arith}
+use Rattle.std.proofs.Common.{max, ◌≡◌, ◌+◌, ◌<◌, ◌≤◌, ℕ, zero, suc, Bool, true, false, List, nat_lt, nat_le, length, Option, Some, None, refl, sym, ap, ◌∙◌, subst, inl, inr, arith}
 use Rattle.std.proofs.lemmas.Bool.Decides.{nat_tests}
 use Rattle.std.proofs.lemmas.Bool.{cases_lt, eq-eqb, ne_eqb}
 use Rattle.std.specs.Prelude.{◌==◌, ◌≢◌, if◌then◌else◌}
 use Rattle.std.specs.Ordering.{nat_cmp, ord_max}
-use Rattle.torn_block.specs.declared.layout.TheConstants.{LAST_SEQUENCE}
+use Rattle.std.proofs.lemmas.List.{get_or_past}
+use Rattle.torn_block.specs.declared.layout.TheConstants.{LAST_SEQUENCE, HOSTS_ROOM}
 use Rattle.torn_block.specs.layouts.Block.{next_number}
 use Rattle.paxos_block.specs.declared.ballot.TheConstants.{LAST_BALLOT}
 use Rattle.paxos_block.specs.layouts.Saying.{Said, said_as}
 use Rattle.paxos_block.specs.layouts.Ballot.{owner_of, IsBallotOf}
-use Rattle.paxos_block.specs.layouts.Row.{IsSaid, SeenBlock, number_or_zero}
+use Rattle.paxos_block.specs.layouts.Row.{IsSaid, SeenBlock, number_or_zero, blank, blank_seen}
 use Rattle.paxos_block.specs.layouts.Saying.{IsVoteOf, MaySay}
 use Rattle.paxos_block.specs.layouts.Votes.{says_in, ballot_above, greatest, later_of, latest_below, marked, marked_below}
 use Rattle.std.specs.Option.{option_map, option_or}
@@ -143,3 +144,55 @@ marked_next row g = let e : g + 1 ≡ suc g = omega arith in rw e refl
 pub or_mapped : {V : Type 0} (f : V → List ℕ) (a b : Option V) → option_map f (option_or a b) ≡ option_or (option_map f a) (option_map f b)
 or_mapped f None b = refl
 or_mapped f (Some x) b = refl
+
+-- HOSTS THAT THERE ARE NOT: what they say is blank, which changes nothing
+
+abbrev RestIs : (ℕ → Type 0) → ℕ → ℕ → Type 0
+RestIs P n m = (g : ℕ) → n ≤ g → g < m → P g
+
+pub greatest_rest : (f : ℕ → ℕ) (n m : ℕ) → n ≤ m → RestIs (λ g. f g ≡ 0) n m → greatest m f ≡ greatest n f
+greatest_rest f n zero few rest = let none : 0 ≡ n = omega arith in ap (λ (k : ℕ). greatest k f) none
+greatest_rest f n (suc m) few rest =
+    elim (cases_lt m n) [
+      | inl lt ↦ (let all : suc m ≡ n = omega arith in ap (λ (k : ℕ). greatest k f) all)
+      | inr le ↦
+          (let here : f m ≡ 0 = rest m le (omega arith) in
+          let before = greatest_rest f n m le (λ g from below. rest g from (omega arith)) in
+          rw (here, before) (omega arith))
+    ]
+
+later_blank : (best : Said) → later_of best blank ≡ best
+later_blank best =
+    let never : nat_lt best.bal 0 ≡ false = grind (arith, nat_tests) in
+    ap (λ (b : Bool). if b then blank else best) never
+
+latest_same : (host : ℕ) (row : List SeenBlock) (best : Said) (m : ℕ) (t : Bool) → says_in row m ≡ blank → (if t then latest_below host row m best else later_of (latest_below host row m best) (says_in row m)) ≡ latest_below host row m best
+latest_same host row best m true is = refl
+latest_same host row best m false is = ap (later_of (latest_below host row m best)) is ∙ later_blank (latest_below host row m best)
+
+pub latest_rest : (host : ℕ) (row : List SeenBlock) (best : Said) (n m : ℕ) → n ≤ m → RestIs (λ g. says_in row g ≡ blank) n m → latest_below host row m best ≡ latest_below host row n best
+latest_rest host row best n zero few rest = let none : 0 ≡ n = omega arith in ap (λ (k : ℕ). latest_below host row k best) none
+latest_rest host row best n (suc m) few rest =
+    elim (cases_lt m n) [
+      | inl lt ↦ (let all : suc m ≡ n = omega arith in ap (λ (k : ℕ). latest_below host row k best) all)
+      | inr le ↦ latest_same host row best m (m == host) (rest m le (omega arith)) ∙ latest_rest host row best n m le (λ g from below. rest g from (omega arith))
+    ]
+
+or_none : (o : Option (List ℕ)) → option_or o None ≡ o
+or_none None = refl
+or_none (Some value) = refl
+
+pub marked_rest : (row : List SeenBlock) (n m : ℕ) → n ≤ m → RestIs (λ g. says_in row g ≡ blank) n m → marked_below row m ≡ marked_below row n
+marked_rest row n zero few rest = let none : 0 ≡ n = omega arith in ap (marked_below row) none
+marked_rest row n (suc m) few rest =
+    elim (cases_lt m n) [
+      | inl lt ↦ (let all : suc m ≡ n = omega arith in ap (marked_below row) all)
+      | inr le ↦
+          ap (λ (s : Said). option_or (marked_below row m) (marked s)) (rest m le (omega arith))
+          ∙ or_none (marked_below row m)
+          ∙ marked_rest row n m le (λ g from below. rest g from (omega arith))
+    ]
+
+-- so it is in a row
+pub says_rest : (v : Version) (row : List SeenBlock) → length row ≡ hosts_in v → RestIs (λ g. says_in row g ≡ blank) (hosts_in v) HOSTS_ROOM
+says_rest v row count g from below = ap (λ (s : SeenBlock). s.says) (get_or_past row g blank_seen (omega (arith, count, from)))

@@ -1,8 +1,22 @@
 -- What a row shows of ballots and votes, and the ballot that a host takes above them, in the cluster's layout.
-use Rattle.std.specs.Prelude.{ℕ}
+use Rattle.std.specs.Prelude.{ℕ, List, Option}
 use Rattle.torn_block.specs.Layout.{cluster_version}
+use Rattle.paxos_block.specs.layouts.Saying.{Said}
+use Rattle.paxos_block.specs.layouts.Row.{SeenBlock}
 use Rattle.paxos_block.specs.layouts.Votes as by
-pub use Rattle.paxos_block.specs.layouts.Votes.{says_in, greatest, top_of, others_top_of, later_of, latest_below, latest_in, marked, marked_below, marked_in}
+pub use Rattle.paxos_block.specs.layouts.Votes.{says_in, greatest, later_of, latest_below, marked, marked_below}
+
+abbrev pub top_of : List SeenBlock → ℕ
+top_of = by.top_of cluster_version
+
+abbrev pub others_top_of : ℕ → List SeenBlock → ℕ
+others_top_of = by.others_top_of cluster_version
+
+abbrev pub latest_in : ℕ → List SeenBlock → Said → Said
+latest_in = by.latest_in cluster_version
+
+abbrev pub marked_in : List SeenBlock → Option (List ℕ)
+marked_in = by.marked_in cluster_version
 
 abbrev pub ballot_above : ℕ → ℕ → ℕ
 ballot_above = by.ballot_above cluster_version

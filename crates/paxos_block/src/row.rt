@@ -45,7 +45,7 @@ impl<V: Copy> Row<V> {
     /// The greatest mbal of all hosts.
     pub fn greatest_mbal(&self) -> u64
         ensures { (v : Version) (spelled : V → List ℕ) (seen : List SeenBlock) →
-            AreSeenAs v spelled seen self.now → result ≡ top_of seen }
+            AreSeenAs v spelled seen self.now → result ≡ top_of v seen }
     {
         let mut greatest = 0;
         for g in 0..HOSTS_ROOM {
@@ -57,7 +57,7 @@ impl<V: Copy> Row<V> {
     /// The greatest mbal of all hosts but this one.
     pub fn others_mbal(&self, host: u8) -> u64
         ensures { (v : Version) (spelled : V → List ℕ) (seen : List SeenBlock) →
-            AreSeenAs v spelled seen self.now → result ≡ others_top_of host seen }
+            AreSeenAs v spelled seen self.now → result ≡ others_top_of v host seen }
     {
         let mut top = 0;
         for other in 0..HOSTS_ROOM {
@@ -73,7 +73,7 @@ impl<V: Copy> Row<V> {
     pub fn latest_vote(&self, host: u8, best: PBlock<V>) -> PBlock<V>
         ensures { (v : Version) (spelled : V → List ℕ) (seen : List SeenBlock) →
             AreSeenAs v spelled seen self.now →
-            said_as spelled result ≡ latest_in host seen (said_as spelled best) }
+            said_as spelled result ≡ latest_in v host seen (said_as spelled best) }
     {
         let mut best = best;
         for g in 0..HOSTS_ROOM {
@@ -87,7 +87,7 @@ impl<V: Copy> Row<V> {
     /// The input of the first marked block, by host.
     pub fn marked(&self) -> Option<V>
         ensures { (v : Version) (spelled : V → List ℕ) (seen : List SeenBlock) →
-            AreSeenAs v spelled seen self.now → option_map spelled result ≡ marked_in seen }
+            AreSeenAs v spelled seen self.now → option_map spelled result ≡ marked_in v seen }
     {
         let mut marked = None;
         for g in 0..HOSTS_ROOM {

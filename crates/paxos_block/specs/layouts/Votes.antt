@@ -1,7 +1,6 @@
 -- What a row shows of ballots and votes, and the ballot that a host takes above them, in each layout.
 use Rattle.std.specs.Prelude.{◌+◌, ◌-◌, ◌*◌, ◌/◌, ◌==◌, ℕ, zero, suc, List, max, nat_lt, Option, None, if◌then◌else◌}
 use Rattle.std.specs.Option.{option_or}
-use Rattle.torn_block.specs.declared.layout.TheConstants.{HOSTS_ROOM}
 use Rattle.torn_block.specs.Layout.{Version, hosts_in}
 use Rattle.paxos_block.specs.layouts.Saying.{Said}
 use Rattle.paxos_block.specs.layouts.Row.{SeenBlock, seen_at}
@@ -15,13 +14,13 @@ abbrev pub greatest : ℕ → (ℕ → ℕ) → ℕ
 greatest zero f = 0
 greatest (suc n) f = max (greatest n f) (f n)
 
--- the greatest mbal of a row; a host that there is not has a blank block
-abbrev pub top_of : List SeenBlock → ℕ
-top_of row = greatest HOSTS_ROOM (λ g. (says_in row g).mbal)
+-- the greatest mbal of a row
+abbrev pub top_of : Version → List SeenBlock → ℕ
+top_of v row = greatest (hosts_in v) (λ g. (says_in row g).mbal)
 
 -- the same without the host's own block
-abbrev pub others_top_of : ℕ → List SeenBlock → ℕ
-others_top_of host row = greatest HOSTS_ROOM (λ g. if g == host then 0 else (says_in row g).mbal)
+abbrev pub others_top_of : Version → ℕ → List SeenBlock → ℕ
+others_top_of v host row = greatest (hosts_in v) (λ g. if g == host then 0 else (says_in row g).mbal)
 
 -- the later of two votes: the one with the greater bal, or else the first
 abbrev pub later_of : Said → Said → Said
@@ -33,8 +32,8 @@ latest_below host row zero best = best
 latest_below host row (suc g) best =
     if g == host then latest_below host row g best else later_of (latest_below host row g best) (says_in row g)
 
-abbrev pub latest_in : ℕ → List SeenBlock → Said → Said
-latest_in host row best = latest_below host row HOSTS_ROOM best
+abbrev pub latest_in : Version → ℕ → List SeenBlock → Said → Said
+latest_in v host row best = latest_below host row (hosts_in v) best
 
 -- the input of a marked block
 abbrev pub marked : Said → Option (List ℕ)
@@ -45,8 +44,8 @@ abbrev pub marked_below : List SeenBlock → ℕ → Option (List ℕ)
 marked_below row zero = None
 marked_below row (suc g) = option_or (marked_below row g) (marked (says_in row g))
 
-abbrev pub marked_in : List SeenBlock → Option (List ℕ)
-marked_in row = marked_below row HOSTS_ROOM
+abbrev pub marked_in : Version → List SeenBlock → Option (List ℕ)
+marked_in v row = marked_below row (hosts_in v)
 
 -- the least ballot of the host above n: host h owns h + 1, and as many further on as there are hosts, again and again
 abbrev pub ballot_above : Version → ℕ → ℕ → ℕ

@@ -4,7 +4,9 @@ use Rattle.torn_block.specs.declared.layout.TheConstants.{HOSTS_ROOM}
 use Rattle.paxos_block.specs.layouts.Saying.{Said, said_as}
 use Rattle.paxos_block.specs.layouts.Row.{SeenBlock, seen_at}
 use Rattle.paxos_block.specs.layouts.Votes.{says_in, greatest, latest_below, later_of}
-use Rattle.paxos_block.proofs.VoteLemmas.{latest_own, latest_other}
+use Rattle.paxos_block.proofs.VoteLemmas.{latest_own, latest_other, latest_rest, says_rest}
+use Rattle.torn_block.specs.Layout.{hosts_in}
+use Rattle.torn_block.proofs.LayoutLaws.{few_hosts}
 use Rattle.paxos_block.proofs.row.Row.latest_vote.Goals as goal
 use Rattle.paxos_block.proofs.row.Row.latest_vote.Goals.{then-g-from, else-g-from}
 
@@ -30,4 +32,6 @@ pub returns : goal.returns
 returns g c =
     λ v spelled seen are.
     let all : c.loop-g.g ≡ HOSTS_ROOM = omega (arith, c.loop-g-test.false) in
-    c.loop-g.invariant v spelled seen are ∙ ap (λ (n : ℕ). latest_below c.args.host seen n (said_as spelled c.args.best)) all
+    c.loop-g.invariant v spelled seen are
+    ∙ ap (λ (n : ℕ). latest_below c.args.host seen n (said_as spelled c.args.best)) all
+    ∙ latest_rest c.args.host seen (said_as spelled c.args.best) (hosts_in v) HOSTS_ROOM (few_hosts v) (says_rest v seen are.count)

@@ -3,7 +3,9 @@ use Rattle.std.specs.Option.{option_map, option_or}
 use Rattle.torn_block.specs.declared.layout.TheConstants.{HOSTS_ROOM}
 use Rattle.paxos_block.specs.layouts.Saying.{Said, said_as}
 use Rattle.paxos_block.specs.layouts.Votes.{says_in, marked, marked_below}
-use Rattle.paxos_block.proofs.VoteLemmas.{marked_next, or_mapped}
+use Rattle.paxos_block.proofs.VoteLemmas.{marked_next, or_mapped, marked_rest, says_rest}
+use Rattle.torn_block.specs.Layout.{hosts_in}
+use Rattle.torn_block.proofs.LayoutLaws.{few_hosts}
 use Rattle.paxos_block.proofs.row.Row.marked.Goals as goal
 
 pub loop-g-preserved : goal.loop-g-preserved
@@ -21,4 +23,4 @@ pub returns : goal.returns
 returns g c =
     λ v spelled seen are.
     let all : c.loop-g.g ≡ HOSTS_ROOM = omega (arith, c.loop-g-test.false) in
-    c.loop-g.invariant v spelled seen are ∙ ap (marked_below seen) all
+    c.loop-g.invariant v spelled seen are ∙ ap (marked_below seen) all ∙ marked_rest seen (hosts_in v) HOSTS_ROOM (few_hosts v) (says_rest v seen are.count)
