@@ -193,6 +193,10 @@ closed_zeros Version1 Second = refl
 closed_zeros Version2 First = refl
 closed_zeros Version2 Second = refl
 
+-- so zeros read as a blank block
+pub blank_reads : (v : Version) → IsReading v blank_seen.bytes (record { current = None; sequence = 0; next_is_open = false })
+blank_reads v = (shut_is_blank v (λ (value : List ℕ). value) 0 blank_seen.bytes (closed_zeros v First) (closed_zeros v Second)).read
+
 -- ---- what a row says
 
 pub length-block_of : (v : Version) → (host : ℕ) (row : List ℕ) → host < (hosts_in v) → length row ≡ row_length v → length (block_of v host row) ≡ block_length v

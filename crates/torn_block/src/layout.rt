@@ -1,6 +1,6 @@
 ghost use Rattle.std.specs.Prelude.{◌≡◌, ◌==◌, ℕ, List, length, refl, bytes_eq};
 ghost use Rattle.std.specs.List.{list_all};
-ghost use Rattle.torn_block.specs.Layout.{Version, Version1, Version2, number_of, hosts_in, copy_length, value_length, padding, area_place};
+ghost use Rattle.torn_block.specs.Layout.{Version, Version1, Version2, number_of, hosts_in, copy_length, value_length, row_length, padding, area_place};
 
 /// A cluster has at most so many disks.
 pub const DISKS: u8 = 7;
@@ -58,6 +58,9 @@ pub trait Layout {
     /// An input: a command, spelled in bytes that are not looked at here.
     type Value: Copy + Drop;
 
+    /// The bytes of a row: a block of each host.
+    type Row: Copy + Drop;
+
     /// The number of this layout, in each header and each copy.
     const VERSION: u8;
 
@@ -87,6 +90,14 @@ pub trait Layout {
 
     // The bytes of an input.
     ghost spelled: { Self.Value → List ℕ };
+
+    // The bytes of a row.
+    ghost row_bytes: { Self.Row → List ℕ };
+
+    /// The bytes of a row.
+    fn bytes_in(row: &Self::Row) -> &[u8]
+        ensures bytes { result.now ≡ row_bytes row.now }
+        ensures long { length result.now ≡ row_length version };
 
     /// The input that these bytes are.
     fn value_in(bytes: &[u8]) -> Self::Value
@@ -132,6 +143,8 @@ pub struct Layout2;
 impl Layout for Layout1 {
     type Value = [u8; 32];
 
+    type Row = [u8; 1024];
+
     const VERSION: u8 = 1;
 
     const HOSTS: usize = 8;
@@ -155,6 +168,12 @@ impl Layout for Layout1 {
     ghost version = { Version1 };
 
     ghost spelled = { λ value. value };
+
+    ghost row_bytes = { λ row. row };
+
+    fn bytes_in(row: &[u8; 1024]) -> &[u8] {
+        row
+    }
 
     fn value_in(bytes: &[u8]) -> [u8; 32] {
         let mut value = [0; 32];
@@ -192,6 +211,8 @@ impl Layout for Layout1 {
 impl Layout for Layout2 {
     type Value = [u8; 48];
 
+    type Row = [u8; 4096];
+
     const VERSION: u8 = 2;
 
     const HOSTS: usize = 16;
@@ -215,6 +236,12 @@ impl Layout for Layout2 {
     ghost version = { Version2 };
 
     ghost spelled = { λ value. value };
+
+    ghost row_bytes = { λ row. row };
+
+    fn bytes_in(row: &[u8; 4096]) -> &[u8] {
+        row
+    }
 
     fn value_in(bytes: &[u8]) -> [u8; 48] {
         let mut value = [0; 48];
