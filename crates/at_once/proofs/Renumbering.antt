@@ -5,6 +5,7 @@ use Rattle.std.proofs.Common.{ℕ, zero, suc, ◌≡◌, ◌==◌, Bool, false, 
 use Rattle.std.proofs.lemmas.Bool.{cases_Bool, eqb-true}
 use Rattle.std.proofs.lemmas.List.{length-map}
 use Rattle.disk.specs.Disk as device
+use Rattle.torn_block.specs.Layout.{cluster_version}
 use Rattle.torn_block.specs.declared.layout.TheConstants.{LAST_SEQUENCE}
 use Rattle.torn_block.specs.declared.write_steps.WriteCall.{WriteCall}
 use Rattle.torn_block.specs.declared.write_steps.WriteCall.TheVariants.{CloseGate, SyncClosed, PutBody, SyncBody, OpenGate, SyncOpened}
@@ -193,7 +194,7 @@ module _ (s : Setup) (losses : ℕ → ℕ) (f : attempt.Answers) where
   saying Two = λ i. record { mbal = balloted i; bal = balloted i; inp = Some (some_value (proposed i)); mark = false }
 
   writing : (p : Phase) (d : ℕ) → write_on s p d g ≡ write_on s p d f
-  writing p d = λ i. record { place = place_of (VoteOf s.slot s.host); block = (seen_block (last d i) s.host).bytes; body = body_saying (saying p i) }
+  writing p d = λ i. record { version = cluster_version; place = place_of (VoteOf s.slot s.host); block = (seen_block (last d i) s.host).bytes; body = body_saying (saying p i) }
 
   booted : (d : ℕ) → boot_of (g d) ≡ later (losses d) (boot_of (f d))
   booted d = boot_later (losses d) (f d)

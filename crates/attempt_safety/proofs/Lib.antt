@@ -1,3 +1,4 @@
+
 pub mod Accepting
 pub mod Agreeing
 pub mod Answering

@@ -1,3 +1,5 @@
+pub mod Cluster
+
 pub mod Follows
 pub mod Leads
 pub mod Machine

@@ -9,7 +9,7 @@ ghost use Rattle.paxos_block.specs.layouts.Votes.{later_of, marked};
 
 use crate::ballot::is_ballot_of;
 use crate::number::{NUMBER_LENGTH, SHORT_LENGTH, number_in, short_in};
-use torn_block::{BODY_ROOM, Body, HEADING_LENGTH, Layout, put_number};
+use torn_block::{BODY_ROOM, Body, HEADING_LENGTH, Layout, VALUE_LENGTH, put_number};
 
 // The two ballots of a body.
 const BALLOTS_LENGTH: usize = 2 * NUMBER_LENGTH;
@@ -26,6 +26,9 @@ const VERSION_PLACE: u32 = 0x0100_0000;
 const VOTED: u32 = 0x0001_0000;
 
 const MARKED: u32 = 0x0001_0100;
+
+/// An input of the cluster's layout.
+pub type Value = [u8; VALUE_LENGTH];
 
 /// What a host's block says of a slot, by the names of Gafni and Lamport, "Disk Paxos" (2003).
 #[derive(Clone, Copy, Debug, PartialEq, Eq)]

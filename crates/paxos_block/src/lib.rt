@@ -12,7 +12,7 @@ mod place;
 mod row;
 
 pub use ballot::{LAST_BALLOT, ballot_above, is_ballot_of, majority};
-pub use block::{PBlock, decode, encode, may_say};
+pub use block::{PBlock, Value, decode, encode, may_say};
 pub use cell::Cell;
 pub use damaged::Damaged;
 pub use header::{Header, decode_header, encode_header, is_formatted, is_header, told_length};

@@ -1,6 +1,7 @@
 -- Attempts by themselves: what they end with over disks that answer in some plain way, and after how many answers.
 use Rattle.std.specs.Prelude.{false, ◌-◌, ◌^◌, ℕ, zero, suc, List, [], ◌∷◌, ◌++◌, map, replicate, length, nat_lt, Option, Some, None, slice_get, if◌then◌else◌}
 use Rattle.disk.specs.declared.fault.DiskFault.TheVariants.{Gone}
+use Rattle.torn_block.specs.Layout.{cluster_version}
 use Rattle.paxos_block.specs.Row.{SeenBlock, blank_seen}
 use Rattle.lock_command.specs.declared.command.Command.{Command}
 use Rattle.slot_log.specs.Shape.{Shape}
@@ -61,7 +62,7 @@ showing_then first later heard d = if nat_lt (length (on heard d)) 3 then showin
 
 -- an attempt for slot 0 with this input, over so many disks
 abbrev pub attempt_of : (host disks : ℕ) → Option (List ℕ) → Setup
-attempt_of host disks input = record { host = host; slot = 0; disks = disks; floor = 0; input = input }
+attempt_of host disks input = record { version = cluster_version; host = host; slot = 0; disks = disks; floor = 0; input = input }
 
 -- an attempt's end, and after how many answers
 pub record Ending : Type 0 where

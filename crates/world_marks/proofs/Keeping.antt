@@ -5,6 +5,7 @@ use Rattle.std.proofs.lemmas.Bool.{and_parts, cases_eq}
 use Rattle.disk.specs.declared.fault.DiskFault.TheVariants.{Reset, Failed, Gone}
 use Rattle.disk.specs.Disk.{DiskState, Call, Attach, Sync, Answer, Booted, Told, Done, Fault, IsUnder, Step}
 use Rattle.disk.proofs.CrashLemmas.{may_leave_now}
+use Rattle.torn_block.specs.Layout.{cluster_version}
 use Rattle.torn_block.specs.declared.layout.TheConstants.{HOSTS}
 use Rattle.torn_block.specs.declared.write_steps.WriteCall.{WriteCall}
 use Rattle.torn_block.specs.declared.write_steps.WriteCall.TheVariants.{CloseGate, SyncClosed, PutBody, SyncBody, OpenGate, SyncOpened}
@@ -13,7 +14,7 @@ use Rattle.torn_block.specs.Place.{block_in}
 use Rattle.torn_block.specs.Register.{Value}
 use Rattle.torn_block.specs.Stage.{old_value}
 use Rattle.torn_block.proofs.StageLaws.{reads_closed}
-use Rattle.paxos_block.specs.declared.block.PBlock.{PBlock}
+use Rattle.paxos_block.specs.Saying.{Said as PBlock}
 use Rattle.paxos_block.specs.Places.{BeatOf, VoteOf, place_of}
 use Rattle.paxos_block.specs.Row.{SeenBlock, says_of}
 use Rattle.paxos_block.specs.Votes.{says_in, marked, marked_below}
@@ -89,13 +90,13 @@ shows_no_mark K s f tells none d inside row read g below =
 -- A CALL OF A WRITE THAT THE DISK REFUSES
 
 -- a call that cannot be made under the disk's boot number leaves the block
-refused_stays : (call : Call) (answer : Answer) (place : ℕ) (disk new : DiskState) → Step disk call answer new → (IsUnder call disk.boot → ⊥) → Outcomes disk place new
+refused_stays : (call : Call) (answer : Answer) (place : ℕ) (disk new : DiskState) → Step disk call answer new → (IsUnder call disk.boot → ⊥) → Outcomes cluster_version disk place new
 refused_stays call (Booted number) place disk new step never = absurd (never step.1)
 refused_stays call (Told bytes) place disk new step never = absurd (never step.1)
 refused_stays call Done place disk new step never = absurd (never step.1)
 refused_stays call (Fault Failed) place disk new step never = absurd (never step.1)
-refused_stays call (Fault Reset) place disk new step never = same_outcomes disk new place step.2
-refused_stays call (Fault Gone) place disk new step never = same_outcomes disk new place step.1
+refused_stays call (Fault Reset) place disk new step never = same_outcomes cluster_version disk new place step.2
+refused_stays call (Fault Gone) place disk new step never = same_outcomes cluster_version disk new place step.1
 
 -- a write's calls come behind the read
 put_late : (n : ℕ) (p : Phase) (put : WriteCall) → slice_get seventeen n ≡ Some (Putting p put) → 3 ≤ n
@@ -176,9 +177,9 @@ module _ (c : Shape) (w : World) (ms : Moves) (tied : Tied c w ms) (h k : ℕ) (
         step_as kind same = subst (λ (q : Kind). Step disk (call_by s k f q) answer new) same known.step_by
 
         by : (kind : Kind) → known.is.kind ≡ kind → AllSay HasMark place new
-        by Attaching same = all_say_by HasMark place disk new (calm_outcomes disk new place (call_by s k f Attaching) answer tt (step_as Attaching same)) marked_before
-        by Syncing same = all_say_by HasMark place disk new (calm_outcomes disk new place (call_by s k f Syncing) answer tt (step_as Syncing same)) marked_before
-        by Reading same = all_say_by HasMark place disk new (calm_outcomes disk new place (call_by s k f Reading) answer tt (step_as Reading same)) marked_before
+        by Attaching same = all_say_by HasMark place disk new (calm_outcomes cluster_version disk new place (call_by s k f Attaching) answer tt (step_as Attaching same)) marked_before
+        by Syncing same = all_say_by HasMark place disk new (calm_outcomes cluster_version disk new place (call_by s k f Syncing) answer tt (step_as Syncing same)) marked_before
+        by Reading same = all_say_by HasMark place disk new (calm_outcomes cluster_version disk new place (call_by s k f Reading) answer tt (step_as Reading same)) marked_before
         by (Putting p put) same =
             all_say_by HasMark place disk new
             (refused_stays (call_by s k f (Putting p put)) answer place disk new (step_as (Putting p put) same)
@@ -244,7 +245,7 @@ module _ (c : Shape) (w : World) (ms : Moves) (tied : Tied c w ms) (h k : ℕ) (
     marking_own : AllSay HasMark mark_place disk → AllSay HasMark mark_place new
     marking_own before = by due.kind refl
       where
-        calm : Outcomes disk mark_place new → AllSay HasMark mark_place new
+        calm : Outcomes cluster_version disk mark_place new → AllSay HasMark mark_place new
         calm o = all_say_by HasMark mark_place disk new o before
 
         -- a write is not due there
@@ -258,20 +259,20 @@ module _ (c : Shape) (w : World) (ms : Moves) (tied : Tied c w ms) (h k : ℕ) (
         by_put : (p : Phase) (put : WriteCall) → due.kind ≡ Putting p put → AllSay HasMark mark_place new
         by_put p CloseGate same =
             writes p CloseGate same (λ boot. ap (λ (b : SeenBlock). b.says.mark) (mark_known (Putting p CloseGate) same boot disk.bytes (may_leave_now disk)) ∙ free p CloseGate same)
-        by_put p SyncClosed same = calm (calm_outcomes disk new mark_place (Sync (boot_of a)) answer tt (mark_step (Putting p SyncClosed) same))
+        by_put p SyncClosed same = calm (calm_outcomes cluster_version disk new mark_place (Sync (boot_of a)) answer tt (mark_step (Putting p SyncClosed) same))
         by_put p PutBody same =
             writes p PutBody same (λ boot. (let it : IsMarking q a PutBody disk = mark_known (Putting p PutBody) same boot in writing_free p PutBody same it.old (reads_closed (mark.write_on q a) disk.bytes it.due.now)))
-        by_put p SyncBody same = calm (calm_outcomes disk new mark_place (Sync (boot_of a)) answer tt (mark_step (Putting p SyncBody) same))
+        by_put p SyncBody same = calm (calm_outcomes cluster_version disk new mark_place (Sync (boot_of a)) answer tt (mark_step (Putting p SyncBody) same))
         by_put p OpenGate same =
             writes p OpenGate same
             (λ boot. (let it : IsMarking q a OpenGate disk = mark_known (Putting p OpenGate) same boot in
             writing_free p OpenGate same it.old (reads_closed (mark.write_on q a) disk.bytes (record { kept = it.due.now.kept; target = it.due.now.target.0 }))))
-        by_put p SyncOpened same = calm (calm_outcomes disk new mark_place (Sync (boot_of a)) answer tt (mark_step (Putting p SyncOpened) same))
+        by_put p SyncOpened same = calm (calm_outcomes cluster_version disk new mark_place (Sync (boot_of a)) answer tt (mark_step (Putting p SyncOpened) same))
 
         by : (kind : Kind) → due.kind ≡ kind → AllSay HasMark mark_place new
-        by Attaching same = calm (calm_outcomes disk new mark_place Attach answer tt (mark_step Attaching same))
-        by Syncing same = calm (calm_outcomes disk new mark_place (Sync (boot_of a)) answer tt (mark_step Syncing same))
-        by Reading same = calm (calm_outcomes disk new mark_place (mark.call_by q a Reading) answer tt (mark_step Reading same))
+        by Attaching same = calm (calm_outcomes cluster_version disk new mark_place Attach answer tt (mark_step Attaching same))
+        by Syncing same = calm (calm_outcomes cluster_version disk new mark_place (Sync (boot_of a)) answer tt (mark_step Syncing same))
+        by Reading same = calm (calm_outcomes cluster_version disk new mark_place (mark.call_by q a Reading) answer tt (mark_step Reading same))
         by (Putting p put) same = by_put p put same
 
     marking_keeps : (slot host : ℕ) → Keeps slot host

@@ -2,13 +2,14 @@
 use Rattle.std.proofs.Common.{ℕ, ◌<◌, ◌≤◌, ◌≡◌, ◌≢◌, true, List, length, refl, sym, subst, ap, ap₂, ◌∙◌, arith}
 use Rattle.disk.specs.Disk.{DiskState, Call, Answer, Step, Crashes, lost}
 use Rattle.disk.specs.Crash.{MayLeave}
+use Rattle.torn_block.specs.Layout.{cluster_version}
 use Rattle.torn_block.specs.declared.layout.TheConstants.{HOSTS}
 use Rattle.torn_block.specs.declared.write_steps.WriteCall.{WriteCall}
 use Rattle.torn_block.specs.declared.write_steps.WriteCall.TheVariants.{CloseGate, SyncClosed, PutBody, SyncBody, OpenGate, SyncOpened}
 use Rattle.torn_block.specs.Place.{block_in}
 use Rattle.torn_block.specs.Register.{IsAtRest}
 use Rattle.torn_block.specs.Stage.{Write128, IsDue, IsPlaced}
-use Rattle.paxos_block.specs.declared.block.PBlock.{PBlock}
+use Rattle.paxos_block.specs.Saying.{Said as PBlock}
 use Rattle.paxos_block.specs.Places.{Spot, place_of, IsSpot, IsImage, IsWithin}
 use Rattle.paxos_block.specs.Row.{seen_in}
 use Rattle.paxos_block.specs.Saying.{body_saying}
@@ -54,7 +55,7 @@ writing_same host says w call disk new old cell same due is =
 -- whatever happened there, it was not to this block
 pub record Spares (place : ℕ) (disk new : DiskState) : Type 0 where
   pub boot : new.boot ≡ disk.boot
-  pub outcomes : Outcomes disk place new
+  pub outcomes : Outcomes cluster_version disk place new
   pub due : (w : Write128) (call : WriteCall) → w.place ≡ place → IsPlaced w disk → IsDue call w disk → IsDue call w new
 
 -- a call within another block
@@ -63,13 +64,13 @@ pub spares_others : (slots : ℕ) (mine other : Spot) (disk new : DiskState) (ca
 spares_others slots mine other disk new call answer is_mine is_other differ image within step =
     record {
       boot = boot_kept disk new call answer step;
-      outcomes = others_outcomes slots mine is_mine disk image other is_other differ call answer new within step;
-      due = λ w due_call at_other placed due. others_stay_due slots mine is_mine disk image other is_other differ w due_call call answer new at_other placed within step due;
+      outcomes = others_outcomes cluster_version slots mine is_mine disk image other is_other differ call answer new within step;
+      due = λ w due_call at_other placed due. others_stay_due cluster_version slots mine is_mine disk image other is_other differ w due_call call answer new at_other placed within step due;
     }
 
 -- nothing
 pub spares_same : (place : ℕ) (disk : DiskState) → Spares place disk disk
-spares_same place disk = record { boot = refl; outcomes = same_outcomes disk disk place refl; due = λ w call at placed due. due }
+spares_same place disk = record { boot = refl; outcomes = same_outcomes cluster_version disk disk place refl; due = λ w call at placed due. due }
 
 -- the loss of a disk
 pub spares_lost : (place : ℕ) (disk : DiskState) → Spares place disk (lost disk)
@@ -83,7 +84,7 @@ knows_spared slots s f d disk new old cell image slot_below host_below spares sa
       boot = (let kept = spares.boot in let before = known.boot in omega arith);
       next = λ current kind is.
           knows_for s f f d disk new old cell
-          (rests_by disk new (own_place s) spares.outcomes)
+          (rests_by cluster_version disk new (own_place s) spares.outcomes)
           (λ settled bytes may. (let b = spares.outcomes bytes may in ap seen_in b.2 ∙ settled b.0 b.1))
           (λ p call later at writes. writing_same s.host (says_for s p f) (write_on s p d f) call disk new old cell same
           (spares.due (write_on s p d f) call refl (placed slots s p d f disk image slot_below host_below writes.can)) writes)
@@ -125,7 +126,7 @@ module _ (s : Setup) (f : Answers) (k : ℕ) (x : Heard) (p : Phase) (come : sta
       let first = not_before q p (omega arith) in
       let says : says_for s q g ≡ says_for s q f = says_same s g f q (λ r before. rows_kept f k x r (omega (arith, before, come, first))) in (
         says,
-        ap₂ (λ (a : List Heard) (b : PBlock). record { place = own_place s; block = (seen_block (last_row a) s.host).bytes; body = body_saying b }) there says,
+        ap₂ (λ (a : List Heard) (b : PBlock). record { version = cluster_version; place = own_place s; block = (seen_block (last_row a) s.host).bytes; body = body_saying b }) there says,
       )
 
   pub knows_elsewhere : (disk : DiskState) (old cell : Cell (List ℕ)) → IsSameBlock old cell → Knows disk s f d old → Knows disk s g d cell

@@ -6,6 +6,7 @@ use Rattle.disk.specs.declared.fault.DiskFault.TheVariants.{Failed}
 use Rattle.disk.specs.Disk.{DiskState, Call, Attach, Read, Write, Sync, Answer, Booted, Told, Done, Fault, IsUnder, success_of, Step}
 use Rattle.disk.proofs.CrashLemmas.{may_leave_now}
 use Rattle.disk.proofs.StepLemmas.{step_keeps}
+use Rattle.torn_block.specs.Layout.{cluster_version}
 use Rattle.torn_block.specs.declared.layout.TheConstants.{HOSTS, BLOCK_LENGTH, BODY_LENGTH, ROW_LENGTH, LAST_SEQUENCE}
 use Rattle.torn_block.specs.declared.write_steps.WriteCall.{WriteCall}
 use Rattle.torn_block.specs.declared.write_steps.WriteCall.TheVariants.{CloseGate, SyncClosed, PutBody, SyncBody, OpenGate, SyncOpened}
@@ -124,7 +125,7 @@ module _ (slots : ℕ) (s : Setup) (p : Phase) (d : ℕ) (f : Answers) (disk : D
   w = write_on s p d f
 
   lies : own_place s + BLOCK_LENGTH ≤ length disk.bytes
-  lies = omega (arith, image.long, spot_fits slots (VoteOf s.slot s.host) (slot_below, host_below))
+  lies = omega (arith, image.long, spot_fits cluster_version slots (VoteOf s.slot s.host) (slot_below, host_below))
 
   -- the write lies on the disk
   pub placed : CanWrite s.host (says_for s p f) w → IsPlaced w disk
@@ -133,7 +134,7 @@ module _ (slots : ℕ) (s : Setup) (p : Phase) (d : ℕ) (f : Answers) (disk : D
 
   -- what is in writing says what the attempt writes
   pub new_says : MaySay s.host (says_for s p f) → said (new_value w) ≡ block_said (says_for s p f)
-  new_says may = ap block_said (claims_back (says_for s p f) s.host may)
+  new_says may = ap block_said (claims_back cluster_version (says_for s p f) s.host may)
 
   stands_writing : (new : DiskState) (cell : Cell (List ℕ)) → StandsFor (own_place s) (in_writing w) new → IsSoundAt s.host (own_place s) new → cell.confirmed ≡ said (old_value w) → cell.writing ≡ Some (said (new_value w)) → Stands new s.slot s.host cell
   stands_writing new cell holds sound confirmed writing =
@@ -175,7 +176,7 @@ module _ (slots : ℕ) (s : Setup) (p : Phase) (d : ℕ) (f : Answers) (disk : D
             body = refl;
             number = number_fits (value_of w.block) (seen_block (last_row (f d)) s.host).sequence (ap (λ (b : List ℕ). sequence_or_zero (value_of b)) (sym same_bytes) ∙ ap (λ (b : SeenBlock). b.sequence) now) unspent;
           };
-          long = ap length (sym same_bytes) ∙ length-block_in (own_place s) disk.bytes lies;
+          long = ap length (sym same_bytes) ∙ length-block_in cluster_version (own_place s) disk.bytes lies;
           full = full;
         }
 

@@ -1,6 +1,7 @@
 -- Each call of an attempt is within its own block.
 use Rattle.std.specs.Prelude.{if◌then◌else◌}
 use Rattle.std.proofs.Common.{ℕ, ◌<◌, ◌≤◌, ◌≡◌, Bool, true, false, Some, List, [], ◌∷◌, length, arith}
+use Rattle.torn_block.specs.Layout.{cluster_version}
 use Rattle.torn_block.specs.declared.layout.TheConstants.{HOSTS, BODY_LENGTH}
 use Rattle.torn_block.specs.declared.write_steps.WriteCall.{WriteCall}
 use Rattle.torn_block.specs.declared.write_steps.WriteCall.TheVariants.{CloseGate, SyncClosed, PutBody, SyncBody, OpenGate, SyncOpened}
@@ -28,19 +29,19 @@ closing_short false = omega arith
 put_within : (s : Setup) (p : Phase) (d boot : ℕ) (f : Answers) (call : WriteCall) → length (body_saying (says_for s p f)) ≡ BODY_LENGTH → IsWithin (VoteOf s.slot s.host) (call_of call (write_on s p d f) boot)
 put_within s p d boot f CloseGate full =
     let w = write_on s p d f in
-    let a = offset_fits (target_of w.block) in
+    let a = offset_fits cluster_version (target_of w.block) in
     let b = closing_short (is_open (copy_of (target_of w.block) w.block)) in
     (omega arith, omega (arith, a, b))
 put_within s p d boot f SyncClosed full = tt
 put_within s p d boot f PutBody full =
     let w = write_on s p d f in
-    let a = offset_fits (target_of w.block) in
-    let b = length-tail_with (next_sequence w.block) w.body full in
+    let a = offset_fits cluster_version (target_of w.block) in
+    let b = length-tail_with cluster_version (next_sequence w.block) w.body full in
     (omega arith, omega (arith, a, b))
 put_within s p d boot f SyncBody full = tt
 put_within s p d boot f OpenGate full =
     let w = write_on s p d f in
-    let a = offset_fits (target_of w.block) in
+    let a = offset_fits cluster_version (target_of w.block) in
     (omega arith, omega (arith, a))
 put_within s p d boot f SyncOpened full = tt
 

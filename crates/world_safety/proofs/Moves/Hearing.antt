@@ -1,4 +1,5 @@
 -- An answer to a device call: the events of the attempt, and where all stands behind them.
+use Rattle.torn_block.specs.Layout.{cluster_version}
 use Rattle.std.specs.Prelude.{map}
 use Rattle.std.specs.List.{All}
 use Rattle.std.proofs.Common.{ℕ, ◌≡◌, ◌==◌, inl, inr, cond, Some, List, [], ◌∷◌, ◌++◌, length, append_assoc, sym, subst, ap, ◌∙◌}
@@ -104,7 +105,7 @@ module _ (c : Shape) (w : World) (ms : Moves) (h k : ℕ) (call : Call) (answer 
     changes = record { history = history_then; others = arrives.others; block = arrives.block }
 
     votes_then : (d : ℕ) → TellsVotes (more f k (heard_as answer) d)
-    votes_then = by_disk f k (heard_as answer) (λ d a. TellsVotes a) (votes_more (f k) (heard_as answer) (trying.votes k) shows) (λ d off. trying.votes d)
+    votes_then = by_disk f k (heard_as answer) (λ d a. TellsVotes a) (votes_more cluster_version (f k) (heard_as answer) (trying.votes k) shows) (λ d off. trying.votes d)
 
     abbrev early : Moves
     early = r.pre ++ in_slot slot lead.events
