@@ -144,7 +144,7 @@ module _ (s : Setup) (g : Answers) (disk : (e : ℕ) → IsDisk (g e)) (of_clust
         events = e ∷ [];
         few = omega arith;
         own = All-cons (IsOfAttempt s g) e [] (record { host = refl; input = λ value puts. absurd puts; proposes = λ value puts. absurd puts }) (All-nil (IsOfAttempt s g));
-        allowed = ((stands.mind, owner s g, less, majority_at s g m Opening stands behind seen refl come.over enough), tt);
+        allowed = ((stands.mind, owner, less, majority_at s g m Opening stands behind seen refl come.over enough), tt);
         agrees = agrees (after m e) stands_one;
         proposing = λ value p. absurd (none_opening stands behind value p);
         commits = λ value. early Opening (omega arith) behind value (after m e);

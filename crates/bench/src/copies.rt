@@ -6,7 +6,7 @@ use crate::benchmark::Benchmark;
 use crate::failure::Failure;
 use paxos_block::{image_length, row_place};
 use std::alloc::{AllocError, Global};
-use torn_block::{COPY_LENGTH, DISKS, ROW_LENGTH, SLOTS};
+use torn_block::{COPY_LENGTH, ClusterLayout, DISKS, ROW_LENGTH, SLOTS};
 
 /// What is written of a block at a time.
 const COPY: [u8; COPY_LENGTH] = [7; COPY_LENGTH];
@@ -31,7 +31,7 @@ impl Copies {
     fn copy(&mut self, slot: u16)
         requires { slot < SLOTS }
     {
-        let at = row_place(u32::from(slot)) as usize;
+        let at = row_place::<ClusterLayout>(u32::from(slot)) as usize;
         for disk in 0..usize::from(DISKS) {
             self.buffers[disk].read(at, &mut self.row);
         }
@@ -47,7 +47,7 @@ impl Copies {
 impl Buffer {
     fn new(alloc: Global) -> Result<Buffer, AllocError> {
         Ok(Buffer {
-            bytes: vec![in alloc; 0; image_length(SLOTS) as usize]?,
+            bytes: vec![in alloc; 0; image_length::<ClusterLayout>(SLOTS) as usize]?,
         })
     }
 

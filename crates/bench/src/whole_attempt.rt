@@ -8,7 +8,7 @@ use crate::image::Image;
 use paxos_block::Value;
 use phases::{Attempt, End};
 use std::alloc::{AllocError, Global};
-use torn_block::{DISKS, ROW_LENGTH, SLOTS, VALUE_LENGTH};
+use torn_block::{ClusterLayout, DISKS, ROW_LENGTH, SLOTS, VALUE_LENGTH};
 
 /// The device calls of an attempt on a disk: attach, sync and read, then two block writes of six calls, each followed by a read.
 const CALLS: u32 = 17;
@@ -29,7 +29,7 @@ impl WholeAttempt {
     fn commit(&mut self, slot: u16) -> Result<(), Failure>
         requires { slot < SLOTS }
     {
-        let mut attempt = Attempt::new(0, slot, DISKS, 0, Some(INPUT));
+        let mut attempt = Attempt::<ClusterLayout>::new(0, slot, DISKS, 0, Some(INPUT));
         'calls: for _ in 0..CALLS * u32::from(DISKS) {
             if attempt.end().is_some() {
                 return Err(Failure::Wrong);
@@ -43,7 +43,7 @@ impl WholeAttempt {
     }
 
     /// Makes the attempt's next device call.
-    fn step(&mut self, attempt: &mut Attempt)
+    fn step(&mut self, attempt: &mut Attempt<ClusterLayout>)
         requires going { attempt.old.end ≡ None }
         requires images { IsOnImages attempt.old }
         ensures { IsOnImages attempt.new }

@@ -6,7 +6,7 @@ ghost use Rattle.dlm_c.specs.Images.{Finds, AreFound, long_of, used_of, TellsIma
 use disk::ImageFault;
 use host::Config;
 use paxos_block::{Header, decode_header, told_length};
-use torn_block::{DISKS, HEADER_LENGTH};
+use torn_block::{ClusterLayout, DISKS, HEADER_LENGTH};
 
 /// What C found of an image.
 #[repr(C)]
@@ -58,7 +58,7 @@ fn header_of(disk: u8, image: &Image) -> Result<Header, ImageFault>
     if image.is_read != 1 {
         return Err(ImageFault::Unreadable);
     }
-    decode_header(disk, image.long(), &image.bytes)
+    decode_header::<ClusterLayout>(disk, image.long(), &image.bytes)
 }
 
 impl Image {
@@ -67,7 +67,7 @@ impl Image {
         ensures { result ≡ long_of self.now }
     {
         if self.is_device == 1 {
-            told_length(&self.bytes).min(self.size)
+            told_length::<ClusterLayout>(&self.bytes).min(self.size)
         } else {
             self.size
         }

@@ -18,7 +18,7 @@ use std::io;
 use std::io::Write;
 use std::os::unix::fs::FileExt;
 use thiserror::Error;
-use torn_block::{DISKS, HOSTS, ROW_LENGTH};
+use torn_block::{ClusterLayout, DISKS, HOSTS, ROW_LENGTH};
 
 /// What is wrong with an image.
 #[derive(Clone, Copy, Debug, PartialEq, Eq)]
@@ -234,7 +234,7 @@ fn damage_of_row<D: Disk>(device: &mut D, boot: Boot, slot: u32) -> Result<[bool
         Contains damaged true ↔ IsDamagedRow (row_of slot (D.state device.old).bytes)) }
 {
     let mut row = [0; ROW_LENGTH];
-    device.read(boot, row_place(slot), &mut row)?;
+    device.read(boot, row_place::<ClusterLayout>(slot), &mut row)?;
     Ok(damaged_hosts(&row))
 }
 

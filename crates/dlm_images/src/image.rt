@@ -13,7 +13,7 @@ use std::fs::OpenFile;
 use std::os::unix::fs::FileExt;
 use std::path::{Path, PathBuf};
 use std::rt::Files;
-use torn_block::HEADER_LENGTH;
+use torn_block::{ClusterLayout, HEADER_LENGTH};
 
 /// What an image is opened for.
 #[derive(Clone, Copy)]
@@ -61,7 +61,7 @@ fn cut_as_told<F: FileExt + OpenFile + Drop>(device: &mut FileDisk<F>) -> Result
     ensures cut { OnOk result (HEADER_LENGTH ≤ device.old.size → IsCutAsTold device.old device.new) }
 {
     let bytes = first_bytes(device)?;
-    device.cut(told_length(&bytes).min(device.size()));
+    device.cut(told_length::<ClusterLayout>(&bytes).min(device.size()));
     Ok(())
 }
 
@@ -76,7 +76,7 @@ fn read_header<D: Disk>(device: &mut D, disk: u8) -> Result<Header, ImageFault>
 {
     let long = device.size();
     let bytes = first_bytes(device)?;
-    decode_header(disk, long, &bytes)
+    decode_header::<ClusterLayout>(disk, long, &bytes)
 }
 
 /// The first bytes of a device; of one that is shorter, zeros behind those that it has.

@@ -17,6 +17,7 @@ use Rattle.torn_block.specs.Register.{LiesOn}
 use Rattle.torn_block.proofs.RegisterLaws.{ranges}
 use Rattle.paxos_block.specs.Saying.{Said as PBlock}
 use Rattle.paxos_block.specs.Places.{Spot, VoteOf, place_of, IsSpot, IsImage, IsWithin, row_of}
+use Rattle.paxos_block.specs.layouts.Row as by_layout
 use Rattle.paxos_block.specs.Row.{SeenBlock, blank_seen, hosts, is_damaged_block, seen_in, seen_at, says_of, row_seen, row_said}
 use Rattle.paxos_block.specs.Votes.{says_in}
 use Rattle.paxos_block.proofs.PlaceLemmas.{spot_fits, writes_on, leaves_other, block_of-row_of}
@@ -44,7 +45,7 @@ block_kept slots mine other disk new call answer is_mine is_other differ image w
 
 -- a sound row is its blocks
 pub row_is_seen : (bytes : List ℕ) (row : List SeenBlock) → row_said bytes ≡ Some row → row ≡ row_seen bytes
-unfolding row_said
+unfolding by_layout.row_said
 row_is_seen bytes row is = go (list_any (λ host. is_damaged_block host (block_of host bytes)) hosts) is
   where
     go : (b : Bool) → (if b then None else Some (row_seen bytes)) ≡ Some row → row ≡ row_seen bytes

@@ -99,7 +99,7 @@ fn answer<'a>(disk: &mut SimDisk, call: &DeviceCall<'_>, row: &'a mut [u8; ROW_L
 }
 
 // Makes so many calls, or fewer where the attempt ends, and counts them.
-fn drive(attempt: &mut Attempt, disks: &mut [SimDisk], calls: usize) -> usize
+fn drive(attempt: &mut Attempt<ClusterLayout>, disks: &mut [SimDisk], calls: usize) -> usize
     requires { attempt.old.of.slot ≡ 0 }
     ensures { attempt.new.of.slot ≡ 0 }
 {
@@ -126,7 +126,7 @@ fn seven_blank_disks(rt: HostRuntime) -> Result<(), Fail> {
     let rows = [(Some(V), 119, End::Committed(V)), (None, 70, End::Empty)];
     for (input, calls, end) in rows {
         let mut disks = blank_disks(rt.alloc(), 7)?;
-        let mut attempt = Attempt::new(0, 0, 7, 0, input);
+        let mut attempt = Attempt::<ClusterLayout>::new(0, 0, 7, 0, input);
         assert_eq!(rt; drive(&mut attempt, &mut disks, ENOUGH), calls);
         assert_eq!(rt; attempt.end(), Some(end));
         assert_eq!(rt; attempt.ballot(), 1);
@@ -142,7 +142,7 @@ fn disks_gone_from_the_start(rt: HostRuntime) -> Result<(), Fail> {
         for disk in disks.iter_mut().take(gone) {
             disk.lose();
         }
-        let mut attempt = Attempt::new(0, 0, 7, 0, Some(V));
+        let mut attempt = Attempt::<ClusterLayout>::new(0, 0, 7, 0, Some(V));
         assert_eq!(rt; drive(&mut attempt, &mut disks, ENOUGH), calls);
         assert_eq!(rt; attempt.end(), Some(end));
     }
@@ -154,7 +154,7 @@ fn latest_vote_is_adopted(rt: HostRuntime) -> Result<(), Fail> {
     let mut disks = blank_disks(rt.alloc(), 1)?;
     put(disks.get_mut(0), 0, &VOTED_FOR_V)?;
     put(disks.get_mut(0), 1, &VOTED_FOR_W)?;
-    let mut attempt = Attempt::new(2, 0, 1, 0, Some(X));
+    let mut attempt = Attempt::<ClusterLayout>::new(2, 0, 1, 0, Some(X));
     assert_eq!(rt; drive(&mut attempt, &mut disks, ENOUGH), 17);
     assert_eq!(rt; attempt.ballot(), 11);
     assert_eq!(rt; attempt.end(), Some(End::Committed(W)));
@@ -169,7 +169,7 @@ fn damaged_row_drops_its_disk(rt: HostRuntime) -> Result<(), Fail> {
         damaged[at] = byte;
         let mut disks = blank_disks(rt.alloc(), 3)?;
         put(disks.get_mut(1), 0, &damaged)?;
-        let mut attempt = Attempt::new(0, 0, 3, 0, Some(W));
+        let mut attempt = Attempt::<ClusterLayout>::new(0, 0, 3, 0, Some(W));
         // Three openings, and two disks for the rest.
         assert_eq!(rt; drive(&mut attempt, &mut disks, ENOUGH), 37);
         assert_eq!(rt; attempt.end(), Some(End::Committed(W)));
@@ -180,7 +180,7 @@ fn damaged_row_drops_its_disk(rt: HostRuntime) -> Result<(), Fail> {
 #[test]
 fn crash_between_two_calls_of_a_write(rt: HostRuntime) -> Result<(), Fail> {
     let mut disks = blank_disks(rt.alloc(), 3)?;
-    let mut attempt = Attempt::new(0, 0, 3, 0, Some(V));
+    let mut attempt = Attempt::<ClusterLayout>::new(0, 0, 3, 0, Some(V));
     assert_eq!(rt; drive(&mut attempt, &mut disks, 12), 12);
     crash(disks.get_mut(0))?;
     // The write's fourth call is refused, and two disks are left.
@@ -201,7 +201,7 @@ fn spent_blocks_are_not_written(rt: HostRuntime) -> Result<(), Fail> {
         for disk in spent.iter() {
             put(disks.get_mut(*disk), 0, &SPENT)?;
         }
-        let mut attempt = Attempt::new(0, 0, 3, 0, Some(V));
+        let mut attempt = Attempt::<ClusterLayout>::new(0, 0, 3, 0, Some(V));
         assert_eq!(rt; drive(&mut attempt, &mut disks, ENOUGH), calls);
         assert_eq!(rt; attempt.end(), Some(end));
         assert_eq!(rt; attempt.ballot(), 9);
@@ -217,7 +217,7 @@ fn ballots_come_to_an_end(rt: HostRuntime) -> Result<(), Fail> {
     ];
     for (floor, ballot, end) in rows {
         let mut disks = blank_disks(rt.alloc(), 1)?;
-        let mut attempt = Attempt::new(0, 0, 1, floor, Some(V));
+        let mut attempt = Attempt::<ClusterLayout>::new(0, 0, 1, floor, Some(V));
         drive(&mut attempt, &mut disks, ENOUGH);
         assert_eq!(rt; attempt.ballot(), ballot);
         assert_eq!(rt; attempt.end(), Some(end));
@@ -228,9 +228,9 @@ fn ballots_come_to_an_end(rt: HostRuntime) -> Result<(), Fail> {
 #[test]
 fn faster_host_ends_an_attempt(rt: HostRuntime) -> Result<(), Fail> {
     let mut disks = blank_disks(rt.alloc(), 1)?;
-    let mut slow = Attempt::new(0, 0, 1, 0, Some(V));
+    let mut slow = Attempt::<ClusterLayout>::new(0, 0, 1, 0, Some(V));
     assert_eq!(rt; drive(&mut slow, &mut disks, 16), 16);
-    let mut fast = Attempt::new(1, 0, 1, 0, Some(W));
+    let mut fast = Attempt::<ClusterLayout>::new(1, 0, 1, 0, Some(W));
     // The slow host's vote stands, so the faster one takes it over.
     assert_eq!(rt; drive(&mut fast, &mut disks, ENOUGH), 17);
     assert_eq!(rt; fast.end(), Some(End::Committed(V)));
@@ -248,7 +248,7 @@ fn marked_block_ends_an_attempt(rt: HostRuntime) -> Result<(), Fail> {
         let mut disks = blank_disks(rt.alloc(), 3)?;
         put(disks.get_mut(0), 0, &VOTED_FOR_V)?;
         put(disks.get_mut(on), 1, &marked)?;
-        let mut attempt = Attempt::new(2, 0, 3, floor, Some(X));
+        let mut attempt = Attempt::<ClusterLayout>::new(2, 0, 3, floor, Some(X));
         assert_eq!(rt; drive(&mut attempt, &mut disks, ENOUGH), calls);
         assert_eq!(rt; attempt.end(), Some(End::Decided(W)));
         assert_eq!(rt; attempt.ballot(), 0);
@@ -266,7 +266,7 @@ fn other_marks_are_damage(rt: HostRuntime) -> Result<(), Fail> {
     for damaged in [twice, bare] {
         let mut disks = blank_disks(rt.alloc(), 1)?;
         put(disks.get_mut(0), 0, &damaged)?;
-        let mut attempt = Attempt::new(0, 0, 1, 0, Some(W));
+        let mut attempt = Attempt::<ClusterLayout>::new(0, 0, 1, 0, Some(W));
         assert_eq!(rt; drive(&mut attempt, &mut disks, ENOUGH), 3);
         assert_eq!(rt; attempt.end(), Some(End::NoMajority));
     }

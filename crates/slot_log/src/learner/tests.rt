@@ -12,7 +12,7 @@ use paxos_block::Value;
 use phases::{DeviceCall, Heard};
 use std::alloc::{AllocError, Global};
 use std::test::Fail;
-use torn_block::ROW_LENGTH;
+use torn_block::{ClusterLayout, ROW_LENGTH};
 
 const V: Value = [0x56; 32];
 
@@ -70,7 +70,7 @@ fn answer<'a>(disk: &mut SimDisk, call: &DeviceCall<'_>, row: &'a mut [u8; ROW_L
 }
 
 // Makes so many calls, or fewer where the operation ends or a value waits, and counts them.
-fn drive(learner: &mut Learner, disks: &mut [SimDisk], calls: usize) -> usize {
+fn drive(learner: &mut Learner<ClusterLayout>, disks: &mut [SimDisk], calls: usize) -> usize {
     let mut row = [0; ROW_LENGTH];
     for made in 0..calls {
         if learner.idle() || learner.offered().is_some() {
@@ -90,7 +90,7 @@ fn drive(learner: &mut Learner, disks: &mut [SimDisk], calls: usize) -> usize {
 fn recovery_of_blank_disks(rt: HostRuntime) -> Result<(), Fail> {
     let config = Config::new(3, 4).ok_or("config")?;
     let mut disks = blank_disks(rt.alloc(), config)?;
-    let mut learner = Learner::new(rt.alloc(), 0, config)?;
+    let mut learner = Learner::<ClusterLayout>::new(rt.alloc(), 0, config)?;
     assert!(rt; learner.idle());
     learner.recover(1);
     assert_eq!(rt; drive(&mut learner, &mut disks, 1000), 30);
@@ -103,7 +103,7 @@ fn recovery_of_blank_disks(rt: HostRuntime) -> Result<(), Fail> {
 fn placed_and_judged(rt: HostRuntime) -> Result<(), Fail> {
     let config = Config::new(1, 2).ok_or("config")?;
     let mut disks = blank_disks(rt.alloc(), config)?;
-    let mut learner = Learner::new(rt.alloc(), 0, config)?;
+    let mut learner = Learner::<ClusterLayout>::new(rt.alloc(), 0, config)?;
     learner.place(V, 1);
     assert_eq!(rt; drive(&mut learner, &mut disks, 1000), 17);
     assert_eq!(rt; learner.offered(), Some(V));
