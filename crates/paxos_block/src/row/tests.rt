@@ -4,7 +4,7 @@ ghost use Rattle.std.specs.Prelude.{◌≤◌, ◌+◌};
 use super::*;
 use crate::block::{PBlock, Value, decode, encode, may_say};
 use std::test::Fail;
-use torn_block::{BODY_LENGTH, Body, COPY_LENGTH, HEADING_LENGTH, Half};
+use torn_block::{BODY_LENGTH, BODY_ROOM, Body, COPY_LENGTH, HEADING_LENGTH, Half, Layout1};
 
 // The command `enqueue 1 1 1 EX db` of host 0.
 const COMMAND: Value = [
@@ -36,9 +36,9 @@ fn row_with(first: &[u8; COPY_LENGTH], second: &[u8; COPY_LENGTH]) -> [u8; ROW_L
 
 // The body of a copy: all but its gate and its sequence number.
 fn body_in(copy: &[u8; COPY_LENGTH]) -> Body {
-    let mut bytes = [0; BODY_LENGTH];
+    let mut bytes = [0; BODY_ROOM];
     bytes[..HEADING_LENGTH].copy_from_slice(&copy[1..8]);
-    bytes[HEADING_LENGTH..].copy_from_slice(&copy[16..]);
+    bytes[HEADING_LENGTH..BODY_LENGTH].copy_from_slice(&copy[16..]);
     Body { bytes }
 }
 
@@ -57,20 +57,20 @@ fn both_copies(rt: HostRuntime) -> Result<(), Fail> {
         mark: false,
     };
     for (copy, says) in [(PROMISE, promised), (VOTE, voted)] {
-        assert!(rt; may_say(0, &says));
-        assert_eq!(rt; decode(0, &body_in(&copy)), Some(says));
-        assert_eq!(rt; decode(1, &body_in(&copy)), None);
+        assert!(rt; may_say::<Layout1>(0, &says));
+        assert_eq!(rt; decode::<Layout1>(0, &body_in(&copy)), Some(says));
+        assert_eq!(rt; decode::<Layout1>(1, &body_in(&copy)), None);
     }
-    assert_eq!(rt; encode(0, &promised), body_in(&PROMISE));
-    assert_eq!(rt; encode(0, &voted), body_in(&VOTE));
-    let row = decode_row(&row_with(&PROMISE, &[0; COPY_LENGTH]))?;
+    assert_eq!(rt; encode::<Layout1>(0, &promised), body_in(&PROMISE));
+    assert_eq!(rt; encode::<Layout1>(0, &voted), body_in(&VOTE));
+    let row = decode_row::<Layout1>(&row_with(&PROMISE, &[0; COPY_LENGTH]))?;
     assert_eq!(rt; row.cells[0].says, promised);
     assert_eq!(rt; row.cells[0].block.sequence, 1);
-    let row = decode_row(&row_with(&PROMISE, &VOTE))?;
+    let row = decode_row::<Layout1>(&row_with(&PROMISE, &VOTE))?;
     assert_eq!(rt; row.cells[0].says, voted);
     assert_eq!(rt; row.cells[0].block.sequence, 2);
     assert_eq!(rt; row.cells[0].block.current, Some(Half::Second));
-    assert_eq!(rt; row.cells[7].says, PBlock::BLANK);
+    assert_eq!(rt; row.cells[7].says, PBlock::<Value>::blank());
     Ok(())
 }
 
@@ -78,9 +78,9 @@ fn both_copies(rt: HostRuntime) -> Result<(), Fail> {
 fn two_copies_with_one_sequence_number(rt: HostRuntime) {
     let mut vote = VOTE;
     vote[15] = 1;
-    assert_eq!(rt; decode_row(&row_with(&PROMISE, &vote)), Err(Damaged));
+    assert_eq!(rt; decode_row::<Layout1>(&row_with(&PROMISE, &vote)), Err(Damaged));
     vote[0] = 0x5a;
-    assert!(rt; decode_row(&row_with(&PROMISE, &vote)).is_ok());
+    assert!(rt; decode_row::<Layout1>(&row_with(&PROMISE, &vote)).is_ok());
 }
 
 // What host 0 says, in the last host's block.
@@ -103,16 +103,16 @@ fn four_damaged_copies(rt: HostRuntime) {
         promise[at] = byte;
         vote[at] = byte;
         assert_eq!(rt;
-            decode_row(&row_with(&promise, &[0; COPY_LENGTH])),
+            decode_row::<Layout1>(&row_with(&promise, &[0; COPY_LENGTH])),
             Err(Damaged)
         );
-        assert_eq!(rt; decode_row(&row_with(&PROMISE, &vote)), Err(Damaged));
+        assert_eq!(rt; decode_row::<Layout1>(&row_with(&PROMISE, &vote)), Err(Damaged));
         assert_eq!(rt;
             damaged_hosts(&row_with(&PROMISE, &vote)),
             [true, false, false, false, false, false, false, false]
         );
         promise[0] = 0;
-        assert!(rt; decode_row(&row_with(&promise, &VOTE)).is_ok());
+        assert!(rt; decode_row::<Layout1>(&row_with(&promise, &VOTE)).is_ok());
     }
 }
 
@@ -162,13 +162,13 @@ fn each_byte_changed(rt: HostRuntime) {
             promise[at] = byte;
             let mut vote = VOTE;
             vote[at] = byte;
-            let read = decode_row(&row_with(&promise, &[0; COPY_LENGTH]));
+            let read = decode_row::<Layout1>(&row_with(&promise, &[0; COPY_LENGTH]));
             assert_eq!(rt;
                 read.is_ok(),
                 is_sound_plainly(&promise),
                 "promise, {at}, {byte}"
             );
-            let read = decode_row(&row_with(&[0; COPY_LENGTH], &vote));
+            let read = decode_row::<Layout1>(&row_with(&[0; COPY_LENGTH], &vote));
             assert_eq!(rt; read.is_ok(), is_sound_plainly(&vote), "vote, {at}, {byte}");
         }
     }
@@ -183,7 +183,7 @@ fn what_a_row_tells(rt: HostRuntime) {
         inp: Some([byte; 32]),
         mark: false,
     };
-    let mut row = Row::BLANK;
+    let mut row = Row::<Value>::blank();
     row.cells[0].says = vote(9, 1, 1);
     row.cells[1].says = vote(2, 2, 2);
     row.cells[3].says = vote(4, 2, 3);
@@ -194,7 +194,7 @@ fn what_a_row_tells(rt: HostRuntime) {
         mark: false,
     };
     assert_eq!(rt; row.cell(3).says, vote(4, 2, 3));
-    assert_eq!(rt; row.cell(7).says, PBlock::BLANK);
+    assert_eq!(rt; row.cell(7).says, PBlock::<Value>::blank());
     assert_eq!(rt; row.marked(), None);
     row.cells[3].says.mark = true;
     row.cells[6].says = PBlock {
@@ -203,14 +203,14 @@ fn what_a_row_tells(rt: HostRuntime) {
     };
     assert_eq!(rt; row.marked(), Some([3; 32]));
     row.cells[3].says.mark = false;
-    row.cells[6].says = PBlock::BLANK;
+    row.cells[6].says = PBlock::<Value>::blank();
     assert_eq!(rt; row.greatest_mbal(), 14);
     assert_eq!(rt; row.others_mbal(5), 9);
     assert_eq!(rt; row.others_mbal(0), 14);
     // Of the votes at 2 the first one, but for host 1's own; a vote that is no later than the given one is not taken.
-    assert_eq!(rt; row.latest_vote(2, PBlock::BLANK), vote(2, 2, 2));
-    assert_eq!(rt; row.latest_vote(1, PBlock::BLANK), vote(4, 2, 3));
+    assert_eq!(rt; row.latest_vote(2, PBlock::<Value>::blank()), vote(2, 2, 2));
+    assert_eq!(rt; row.latest_vote(1, PBlock::<Value>::blank()), vote(4, 2, 3));
     assert_eq!(rt; row.latest_vote(2, vote(6, 2, 6)), vote(6, 2, 6));
-    assert_eq!(rt; Row::BLANK.greatest_mbal(), 0);
-    assert_eq!(rt; Row::BLANK.latest_vote(0, PBlock::BLANK), PBlock::BLANK);
+    assert_eq!(rt; Row::<Value>::blank().greatest_mbal(), 0);
+    assert_eq!(rt; Row::<Value>::blank().latest_vote(0, PBlock::<Value>::blank()), PBlock::<Value>::blank());
 }
