@@ -14,7 +14,7 @@ use Rattle.torn_block.specs.Stage.{Write128, call_of}
 use Rattle.paxos_block.specs.declared.ballot.TheConstants.{LAST_BALLOT}
 use Rattle.paxos_block.specs.Places.{place_of, VoteOf, row_place}
 use Rattle.paxos_block.specs.Saying.{body_saying}
-use Rattle.paxos_block.specs.Votes.{greatest, ballot_above}
+use Rattle.paxos_block.specs.layouts.Votes.{greatest, ballot_above}
 use Rattle.attempt.specs.Calls.{Phase, Opening, One, Two, Kind, Attaching, Syncing, Reading, Putting, start, goal, seventeen}
 use Rattle.attempt.specs.Heard.{Heard, Booted, Done, Told, Fault, Answered, Answers, on, is_bad, all_good, told, boot_of}
 use Rattle.attempt.specs.Answers as attempt
@@ -149,7 +149,7 @@ module _ (s : Setup) (losses : ℕ → ℕ) (f : attempt.Answers) where
   enough p = λ i. are_enough s (λ d. part p d i && not (stuck p d i && is_past (visiting p i) d))
 
   balloted : ballot s g ≡ ballot s f
-  balloted = λ i. ballot_above s.host (max s.floor (greatest s.disks (λ d. top_in (row Opening d i))))
+  balloted = λ i. ballot_above s.version s.host (max s.floor (greatest s.disks (λ d. top_in s.version (row Opening d i))))
 
   owned : (n : ℕ) → own_below s g n ≡ own_below s f n
   owned zero = refl
@@ -157,17 +157,17 @@ module _ (s : Setup) (losses : ℕ → ℕ) (f : attempt.Answers) where
 
   bettered : (n : ℕ) → best_below s g n ≡ best_below s f n
   bettered zero = owned s.disks
-  bettered (suc d) = λ i. best_in s.host (bettered d i) (row One d i)
+  bettered (suc d) = λ i. best_in s.version s.host (bettered d i) (row One d i)
 
   proposed : proposal s g ≡ proposal s f
   proposed = λ i. or_else (bettered s.disks i).inp s.input
 
   deciding : (n : ℕ) → decided_below s g n ≡ decided_below s f n
   deciding zero = refl
-  deciding (suc d) = λ i. or_else (deciding d i) (decided_in (row Opening d i))
+  deciding (suc d) = λ i. or_else (deciding d i) (decided_in s.version (row Opening d i))
 
   others : (p : Phase) → others_mbal s p g ≡ others_mbal s p f
-  others p = λ i. greatest s.disks (λ d. others_top s.host (row p d i))
+  others p = λ i. greatest s.disks (λ d. others_top s.version s.host (row p d i))
 
   votes : (value : List ℕ) → voting s g value ≡ voting s f value
   votes value =

@@ -5,7 +5,8 @@ use Rattle.std.proofs.lemmas.Bool.{and_parts, cases_eq}
 use Rattle.disk.specs.declared.fault.DiskFault.TheVariants.{Reset, Failed, Gone}
 use Rattle.disk.specs.Disk.{DiskState, Call, Attach, Sync, Answer, Booted, Told, Done, Fault, IsUnder, Step}
 use Rattle.disk.proofs.CrashLemmas.{may_leave_now}
-use Rattle.torn_block.specs.Layout.{cluster_version}
+use Rattle.torn_block.proofs.LayoutLaws.{some_hosts}
+use Rattle.torn_block.specs.Layout.{cluster_version, hosts_in}
 use Rattle.torn_block.specs.declared.layout.TheConstants.{HOSTS}
 use Rattle.torn_block.specs.declared.write_steps.WriteCall.{WriteCall}
 use Rattle.torn_block.specs.declared.write_steps.WriteCall.TheVariants.{CloseGate, SyncClosed, PutBody, SyncBody, OpenGate, SyncOpened}
@@ -52,12 +53,12 @@ none_of None second is = (refl, is)
 none_of (Some value) second is = absurd (cc)
 
 -- no row of the opening shows a marked input,
-row_undecided : (s : Setup) (f : Answers) (n d : ℕ) → d < n → decided_below s f n ≡ None → decided_in (row_in Opening (f d)) ≡ None
+row_undecided : (s : Setup) (f : Answers) (n d : ℕ) → d < n → decided_below s f n ≡ None → decided_in s.version (row_in Opening (f d)) ≡ None
 row_undecided s f zero d less none = absurd (omega arith)
 row_undecided s f (suc n) d less none =
-    let both = none_of (decided_below s f n) (decided_in (row_in Opening (f n))) none in
+    let both = none_of (decided_below s f n) (decided_in s.version (row_in Opening (f n))) none in
     elim (cases_eq d n) [
-      | inl same ↦ ap (λ (e : ℕ). decided_in (row_in Opening (f e))) same ∙ both.1
+      | inl same ↦ ap (λ (e : ℕ). decided_in s.version (row_in Opening (f e))) same ∙ both.1
       | inr off ↦ row_undecided s f n d (omega (arith, less, off)) both.0
     ]
 
@@ -81,7 +82,7 @@ mark_undecided K says true_mark none = by says.mark refl none
 
 -- no block of a row that was read has a marked input
 pub undecided_block : (s : Setup) (f : Answers) → decided s f ≡ None → (d : ℕ) → d < s.disks → (row : List SeenBlock) → row_in Opening (f d) ≡ Some row → (g : ℕ) → g < HOSTS → marked (says_in row g) ≡ None
-undecided_block s f none d inside row read g below = block_undecided row HOSTS g below (ap decided_in (sym read) ∙ row_undecided s f s.disks d inside none)
+undecided_block s f none d inside row read g below = block_undecided row (hosts_in s.version) g (let few = some_hosts s.version in omega arith) (ap (decided_in s.version) (sym read) ∙ row_undecided s f s.disks d inside none)
 
 shows_no_mark : (K : List ℕ → Type 0) (s : Setup) (f : Answers) → ((d : ℕ) → TellsTrueMarks K (f d)) → decided s f ≡ None → (d : ℕ) → d < s.disks → (row : List SeenBlock) → row_in Opening (f d) ≡ Some row → (g : ℕ) → g < HOSTS → (says_in row g).mark ≡ false
 shows_no_mark K s f tells none d inside row read g below =

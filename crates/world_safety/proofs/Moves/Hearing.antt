@@ -87,7 +87,7 @@ module _ (c : Shape) (w : World) (ms : Moves) (h k : ℕ) (call : Call) (answer 
     ms1 = ms ++ r.pre
 
     lead : Leads s (events_of_slot slot ms1) t.heard x
-    lead = leads s (events_of_slot slot ms1) t.heard x run.below (machine_runs c.disks ms1 slot r.tied.history) r.trying.follows answered r.allows
+    lead = leads s (events_of_slot slot ms1) t.heard x (record { version = refl; is_host = run.below }) (machine_runs c.disks ms1 slot r.tied.history) r.trying.follows answered r.allows
 
     abbrev ms2 : Moves
     ms2 = ms1 ++ in_slot slot lead.events
