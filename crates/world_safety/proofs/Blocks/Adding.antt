@@ -1,4 +1,5 @@
 -- What an attempt's call makes of its own block: beside what it said before it may say what the attempt writes, and nothing else.
+use Rattle.world_safety.specs.Cluster.{at_cluster}
 use Rattle.std.proofs.Common.{ℕ, ◌≡◌, List, refl, sym, subst}
 use Rattle.disk.specs.declared.fault.DiskFault.TheVariants.{Reset, Failed, Gone}
 use Rattle.disk.specs.Disk.{DiskState, Attach, Sync, Answer, Booted, Told, Done, Fault, IsUnder, Step}
@@ -22,7 +23,10 @@ use Rattle.world_safety.proofs.Blocks.Owning.{done_is, under_is, placed, can_beg
 use Rattle.world_safety.proofs.Blocks.Putting.{CanBegin}
 use Rattle.world_safety.proofs.Blocks.Values.{all_say_by, all_say_added, put_adds}
 
-module _ (slots : ℕ) (s : Setup) (p : Phase) (d : ℕ) (f : Answers) (disk new : DiskState) (answer : Answer) (old cell : Cell (List ℕ)) (own : IsOwnCall slots s p d f disk new old) where
+module _ (slots : ℕ) (any : Setup) (p : Phase) (d : ℕ) (f : Answers) (disk new : DiskState) (answer : Answer) (old cell : Cell (List ℕ)) (own : IsOwnCall slots (at_cluster any) p d f disk new old) where
+  abbrev s : Setup
+  s = at_cluster any
+
   open own use {image, image_then, slot_below, host_below, good, stands, knows}
 
   abbrev w : Write128

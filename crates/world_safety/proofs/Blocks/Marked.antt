@@ -74,7 +74,7 @@ mark_spared slots s a disk new image slot_below host_below spares known =
     }
   where
     writing : (call : WriteCall) → IsMarking s a call disk → IsMarking s a call new
-    writing call now = record { due = spares.due (write_on s a) call refl (mark_placed slots s a disk image slot_below host_below now.can) now.due; can = now.can; old = now.old }
+    writing call now = record { due = spares.due (write_on s a) call refl refl (mark_placed slots s a disk image slot_below host_below now.can) now.due; can = now.can; old = now.old }
 
     by_kind : (kind : Kind) → KnowsMarkFor kind disk s a → KnowsMarkFor kind new s a
     by_kind Attaching now = tt

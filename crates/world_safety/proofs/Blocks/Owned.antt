@@ -1,4 +1,5 @@
 -- A call of an attempt is answered: what its own block there stands for then, and what it knows of it, where the call writes nothing.
+use Rattle.world_safety.specs.Cluster.{at_cluster}
 use Rattle.std.proofs.Common.{ℕ, ◌<◌, ◌≤◌, ◌≡◌, ◌≢◌, true, false, true≢false, Bool, not, Option, Some, None, List, length, refl, sym, subst, ap, ap₂, ◌∙◌, arith}
 use Rattle.std.proofs.lemmas.Bool.{and_parts}
 use Rattle.disk.specs.declared.fault.DiskFault.TheVariants.{Reset, Failed, Gone}
@@ -73,7 +74,10 @@ pub record IsOwnCall (slots : ℕ) (s : Setup) (p : Phase) (d : ℕ) (f : Answer
   pub stands : Stands disk s.slot s.host old
   pub knows : Knows disk s f d old
 
-module _ (slots : ℕ) (s : Setup) (p : Phase) (d : ℕ) (f : Answers) (disk new : DiskState) (answer : Answer) (old cell : Cell (List ℕ)) (own : IsOwnCall slots s p d f disk new old) where
+module _ (slots : ℕ) (any : Setup) (p : Phase) (d : ℕ) (f : Answers) (disk new : DiskState) (answer : Answer) (old cell : Cell (List ℕ)) (own : IsOwnCall slots (at_cluster any) p d f disk new old) where
+  abbrev s : Setup
+  s = at_cluster any
+
   open own use {host_below, is_disk, good, come, stands, knows}
 
   abbrev x : Heard

@@ -1,4 +1,5 @@
 -- What an answer to an attempt's call makes of its own block on that disk, and of what it knows of it.
+use Rattle.world_safety.specs.Cluster.{at_cluster}
 use Rattle.std.specs.Prelude.{nat_le, ◌^◌}
 use Rattle.std.proofs.Common.{ℕ, ◌+◌, ◌<◌, ◌≤◌, ◌≡◌, inl, inr, false, true≢false, Option, Some, None, List, [], ◌∷◌, ◌++◌, length, refl, sym, subst, ap, ◌∙◌, arith}
 use Rattle.std.proofs.lemmas.Bool.Decides.{nat_tests}
@@ -120,7 +121,10 @@ some_is value other is = cc
 
 -- THE OWN BLOCK
 
-module _ (slots : ℕ) (s : Setup) (p : Phase) (d : ℕ) (f : Answers) (disk : DiskState) (image : IsImage slots disk) (slot_below : s.slot < slots) (host_below : s.host < HOSTS) where
+module _ (slots : ℕ) (any : Setup) (p : Phase) (d : ℕ) (f : Answers) (disk : DiskState) (image : IsImage slots disk) (slot_below : (at_cluster any).slot < slots) (host_below : (at_cluster any).host < HOSTS) where
+  abbrev s : Setup
+  s = at_cluster any
+
   abbrev w : Write128
   w = write_on s p d f
 

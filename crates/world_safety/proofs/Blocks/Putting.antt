@@ -1,4 +1,5 @@
 -- A call of an attempt's write is answered: what its own block stands for then, and what it knows of it; and so of any call.
+use Rattle.world_safety.specs.Cluster.{at_cluster}
 use Rattle.std.proofs.Common.{ℕ, ◌≤◌, ◌≡◌, inl, true, false, Some, None, List, length, refl, sym, subst, ap, ◌∙◌}
 use Rattle.std.specs.Prelude.{nat_le}
 use Rattle.disk.specs.declared.fault.DiskFault.TheVariants.{Reset, Failed, Gone}
@@ -30,7 +31,10 @@ use Rattle.world_safety.proofs.Blocks.Standing.{stands_same}
 use Rattle.world_safety.proofs.Blocks.Owned.{After, IsOwnCall, then_is, boot_then, knows_none, says_then, write_then, attached, synced, read}
 use Rattle.world_safety.proofs.Blocks.Owning.{done_is, under_is, stands_more, placed, new_says, due_stands, failed_stands, can_begin, begins_due, old_is}
 
-module _ (slots : ℕ) (s : Setup) (p : Phase) (d : ℕ) (f : Answers) (disk new : DiskState) (answer : Answer) (old cell : Cell (List ℕ)) (own : IsOwnCall slots s p d f disk new old) where
+module _ (slots : ℕ) (any : Setup) (p : Phase) (d : ℕ) (f : Answers) (disk new : DiskState) (answer : Answer) (old cell : Cell (List ℕ)) (own : IsOwnCall slots (at_cluster any) p d f disk new old) where
+  abbrev s : Setup
+  s = at_cluster any
+
   open own use {image, image_then, slot_below, host_below, good, stands, knows}
 
   abbrev x : Heard

@@ -1,4 +1,5 @@
 -- Before a row is told, the own block settles to what is read of it; then the registers allow the answer.
+use Rattle.world_safety.specs.Cluster.{at_cluster}
 use Rattle.std.specs.Prelude.{IsSome}
 use Rattle.std.proofs.Common.{ℕ, ◌<◌, ◌≡◌, ◌≢◌, ◌⊎◌, inl, inr, true, Option, Some, None, List, refl, sym, subst, ap, ◌∙◌}
 use Rattle.disk.specs.Disk.{DiskState, Answer, Step}
@@ -40,8 +41,11 @@ some_writing : (o : Option (Block (List ℕ))) (x : Block (List ℕ)) → o ≡ 
 some_writing None x is = absurd (cc)
 some_writing (Some y) x is = refl
 
-module _ (s : Setup) (f : Answers) (k : ℕ) (disk new : DiskState) (answer : Answer) (kind : Kind) (good : all_good (f k) ≡ true) (is : IsNext (f k) kind) (fits : Fits (call_by s k f kind) (heard_as answer))
-    (step : Step disk (call_by s k f kind) answer new) where
+module _ (any : Setup) (f : Answers) (k : ℕ) (disk new : DiskState) (answer : Answer) (kind : Kind) (good : all_good (f k) ≡ true) (is : IsNext (f k) kind) (fits : Fits (call_by (at_cluster any) k f kind) (heard_as answer))
+    (step : Step disk (call_by (at_cluster any) k f kind) answer new) where
+  abbrev s : Setup
+  s = at_cluster any
+
   -- WHERE NO ROW IS TOLD
 
   module _ (m : Machine) (none : (row : List SeenBlock) → heard_as answer ≡ answers.Told (Some row) → ⊥) (knows : Knows disk s f k (m.cell s.host k)) where

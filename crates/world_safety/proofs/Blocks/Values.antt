@@ -48,7 +48,10 @@ bytes_left old new call answer reads step =
     (record { writes = λ boot at from left is as_many. absurd (subst OnlyReads is reads); syncs = refl; stays = refl })
     step
 
-module _ (w : Write128) (disk : DiskState) (placed : IsPlaced w disk) (boot : ℕ) (new : DiskState) (placed_then : IsPlaced w new) where
+module _ (any : Write128) (disk : DiskState) (placed : IsPlaced (record any { version = cluster_version }) disk) (boot : ℕ) (new : DiskState) (placed_then : IsPlaced (record any { version = cluster_version }) new) where
+  abbrev w : Write128
+  w = record any { version = cluster_version }
+
   -- a call of the write leaves the block as it was; or the block reads as its owner read it, and then as that or the new value
   data IsPut : Type 0 where
     Leaves : (bytes : new.bytes ≡ disk.bytes) → (outcomes : Outcomes cluster_version disk w.place new) → IsPut

@@ -2,7 +2,7 @@
 use Rattle.torn_block.specs.Layout.{cluster_version}
 use Rattle.std.specs.Prelude.{map}
 use Rattle.std.specs.List.{All}
-use Rattle.std.proofs.Common.{ℕ, ◌≡◌, ◌==◌, inl, inr, cond, Some, List, [], ◌∷◌, ◌++◌, length, append_assoc, sym, subst, ap, ◌∙◌}
+use Rattle.std.proofs.Common.{ℕ, ◌≡◌, ◌==◌, inl, inr, cond, Some, List, [], ◌∷◌, ◌++◌, length, append_assoc, refl, sym, subst, ap, ◌∙◌}
 use Rattle.std.proofs.lemmas.List.{length-map}
 use Rattle.std.proofs.lemmas.List.Elements.{All-head, All-tail}
 use Rattle.disk.specs.Disk.{DiskState, Call, Answer}
