@@ -1,7 +1,7 @@
 -- What marked blocks tell: true marks on the disks are true marks in the rows that are read, and in what an attempt takes as decided.
 use Rattle.torn_block.specs.Layout.{Version, cluster_version, hosts_in}
 use Rattle.std.specs.Prelude.{slice_get, pred}
-use Rattle.std.proofs.Common.{ℕ, ◌≡◌, inl, inr, Some, None, List, [], ◌∷◌, ◌++◌, length, sym, subst, ap, ◌∙◌, arith}
+use Rattle.std.proofs.Common.{ℕ, ◌≡◌, ◌<◌, inl, inr, Some, None, List, [], ◌∷◌, ◌++◌, length, sym, subst, ap, ◌∙◌, arith}
 use Rattle.std.proofs.lemmas.Bool.{cases_lt, cases_eq}
 use Rattle.disk.specs.Disk.{Call, Answer}
 use Rattle.disk.proofs.CrashLemmas.{may_leave_now}
