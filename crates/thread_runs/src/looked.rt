@@ -69,6 +69,37 @@ struct Looked {
     same: bool,
 }
 
+// What two hosts came to, and their seats.
+#[derive(Drop)]
+struct Ended<N: Named> {
+    looks: Looks,
+    one: HostSeat<N>,
+    other: HostSeat<N>,
+}
+
+fn start_and_look<N: Named>(
+    rt: &impl Wait,
+    alloc: Global,
+    cluster: &Cluster<'_, N, SimDisk>,
+) -> Option<Ended<N>> {
+    let mut one = seat_of(rt, alloc, cluster, 0)?;
+    let mut other = seat_of(rt, alloc, cluster, 1)?;
+    let looks = looks_and_marks(rt, cluster, &mut one, &mut other)?;
+    Some(Ended { looks, one, other })
+}
+
+fn look_for_marks<N: Named>(
+    rt: &impl Wait,
+    alloc: Global,
+    config: Config,
+    cluster: Cluster<'_, N, SimDisk>,
+) -> Option<Looked> {
+    let ended = start_and_look(rt, alloc, &cluster)?;
+    let looks = ended.looks;
+    let same = comes_out_the_same(alloc, config, cluster, ended.one, ended.other)?;
+    Some(Looked { looks, same })
+}
+
 // A host looks for what another marks.
 fn looks_for_marks<N: Named, R: Wait>(rt: &R, alloc: Global, opening: Opening) -> Option<Looked>
     requires { IsNamed opening N.shape N.table N.name N.parts N.all }
@@ -76,11 +107,7 @@ fn looks_for_marks<N: Named, R: Wait>(rt: &R, alloc: Global, opening: Opening) -
     let config = opening.config();
     let (ties, foundation) = opening.named::<N>(alloc).ok()?;
     let cluster = Cluster::simulated(alloc, &ties, foundation).ok()?;
-    let mut one = seat_of(rt, alloc, &cluster, 0)?;
-    let mut other = seat_of(rt, alloc, &cluster, 1)?;
-    let looks = looks_and_marks(rt, &cluster, &mut one, &mut other)?;
-    let same = comes_out_the_same(alloc, config, cluster, one, other)?;
-    Some(Looked { looks, same })
+    look_for_marks(rt, alloc, config, cluster)
 }
 
 // What is acknowledged and not marked a look does not find. A slot that is not learned can't be marked.

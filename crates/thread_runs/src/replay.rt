@@ -39,36 +39,39 @@ pub fn audit<N: Named>(
     requires { 0 < length given.now }
 {
     let mut replay = Replay::new(alloc, config)?;
-    for place in 0..record.entries.len() {
-        if !replay.happens(alloc, &record.entries[place], place, given)? {
-            return Ok(false);
-        }
-    }
-    for seat in &record.seats {
-        if !replay.has(alloc, seat)? {
-            return Ok(false);
-        }
-    }
-    Ok(true)
+    replay.comes_out(alloc, record, given)
 }
 
 impl Replay {
     fn new(alloc: Global, config: Config) -> Result<Replay, AllocError> {
-        let mut disks = Vec::new(alloc);
-        for _ in 0..config.disks() {
-            let disk = SimDisk::new(alloc, config.image_length()).map_err(|_| AllocError)?;
-            disks.push(disk).map_err(AllocError::from)?;
-        }
-        let mut hosts = Vec::new(alloc);
-        for _ in 0..HOSTS {
-            hosts.push(None).map_err(AllocError::from)?;
-        }
         Ok(Replay {
             config,
-            disks,
-            hosts,
+            disks: fresh_disks(alloc, config)?,
+            hosts: stopped_hosts(alloc)?,
             row: [0; ROW_LENGTH],
         })
+    }
+
+    /// Whether a record comes out the same.
+    fn comes_out<N: Named>(
+        &mut self,
+        alloc: Global,
+        record: &Record<N>,
+        given: &[u8],
+    ) -> Result<bool, AllocError>
+        requires { 0 < length given.now }
+    {
+        for place in 0..record.entries.len() {
+            if !self.happens(alloc, &record.entries[place], place, given)? {
+                return Ok(false);
+            }
+        }
+        for seat in &record.seats {
+            if !self.has(alloc, seat)? {
+                return Ok(false);
+            }
+        }
+        Ok(true)
     }
 
     /// Whether the entry may follow. It has happened then.
@@ -110,26 +113,19 @@ impl Replay {
     }
 
     fn starts(&mut self, alloc: Global, host: HostNumber) -> Result<bool, AllocError> {
-        let core = HostCore::start(alloc, host, self.config).map_err(|_| AllocError)?;
         let number = usize::from(host.get());
         if number >= self.hosts.len() || self.hosts[number].is_some() {
             return Ok(false);
         }
-        self.hosts[number] = Some(Replica {
-            core,
-            submitting: None,
-            acks: Vec::new(alloc),
-        });
+        self.hosts[number] = Some(Replica::start(alloc, host, self.config)?);
         Ok(true)
     }
 
     fn stops(&mut self, host: HostNumber) -> bool {
-        let number = usize::from(host.get());
-        if number >= self.hosts.len() || self.hosts[number].is_none() {
-            return false;
+        match self.hosts.get_mut(usize::from(host.get())) {
+            Some(replica) => replica.take().is_some(),
+            None => false,
         }
-        self.hosts[number] = None;
-        true
     }
 
     fn submits(
@@ -257,7 +253,33 @@ impl Replay {
     }
 }
 
+/// Disks of zeros.
+fn fresh_disks(alloc: Global, config: Config) -> Result<Vec<SimDisk>, AllocError> {
+    let mut disks = Vec::new(alloc);
+    for _ in 0..config.disks() {
+        let disk = SimDisk::new(alloc, config.image_length()).map_err(|_| AllocError)?;
+        disks.push(disk).map_err(AllocError::from)?;
+    }
+    Ok(disks)
+}
+
+fn stopped_hosts(alloc: Global) -> Result<Vec<Option<Replica>>, AllocError> {
+    let mut hosts = Vec::new(alloc);
+    for _ in 0..HOSTS {
+        hosts.push(None).map_err(AllocError::from)?;
+    }
+    Ok(hosts)
+}
+
 impl Replica {
+    fn start(alloc: Global, host: HostNumber, config: Config) -> Result<Replica, AllocError> {
+        Ok(Replica {
+            core: HostCore::start(alloc, host, config).map_err(|_| AllocError)?,
+            submitting: None,
+            acks: Vec::new(alloc),
+        })
+    }
+
     /// Makes the host's next call, where it is this one. Tells whether it was answered so.
     fn steps(
         &mut self,

@@ -5,7 +5,8 @@ use crate::audit;
 use crate::looked::mark_once;
 use crate::pair_disk::{Flags, PairDisk, is_set, pair};
 use cluster::{
-    Cluster, Config, Entry, Gate, HostFault, HostSeat, Named, OpenGate, Opening, Receipt, Refusal,
+    Cluster, Config, Entry, Gate, HostFault, HostSeat, Named, OpenGate, Opening, Receipt, Record,
+    Refusal,
 };
 use disk::{Disk, SimDisk};
 use lock_command::{
@@ -13,7 +14,7 @@ use lock_command::{
 };
 use lock_modes::Mode;
 use lock_table::Reply;
-use std::alloc::Global;
+use std::alloc::{AllocError, Global};
 use std::marker::Brand;
 use std::sync::Wait;
 use std::sync::atomic::{AtomicBool, Ordering};
@@ -49,18 +50,45 @@ pub(crate) fn seat_of<N: Named, D: Disk + Drop>(
     cluster.seat(rt, alloc, HostNumber::new(host)?).ok()
 }
 
+// Two seats, to be given back.
+fn both<N: Named>(alloc: Global, one: HostSeat<N>, other: HostSeat<N>) -> Option<Vec<HostSeat<N>>> {
+    vec![in alloc; one, other].map_err(AllocError::from).ok()
+}
+
+fn alone<N: Named>(alloc: Global, seat: HostSeat<N>) -> Option<Vec<HostSeat<N>>> {
+    vec![in alloc; seat].map_err(AllocError::from).ok()
+}
+
+// What one host has left.
+fn record_of_one<N: Named>(
+    alloc: Global,
+    cluster: Cluster<'_, N, SimDisk>,
+    seat: HostSeat<N>,
+) -> Option<Record<N>> {
+    let seats = alone(alloc, seat)?;
+    cluster.finish(seats).ok()
+}
+
+// What two hosts have left.
+fn record_of_both<N: Named, D: Disk + Drop>(
+    alloc: Global,
+    cluster: Cluster<'_, N, D>,
+    one: HostSeat<N>,
+    other: HostSeat<N>,
+) -> Option<Record<N>> {
+    let seats = both(alloc, one, other)?;
+    cluster.finish(seats).ok()
+}
+
 // Whether what two hosts have left comes out the same when it is run again.
-pub(crate) fn comes_out_the_same<N: Named>(
+pub(crate) fn comes_out_the_same<N: Named, D: Disk + Drop>(
     alloc: Global,
     config: Config,
-    cluster: Cluster<'_, N, SimDisk>,
+    cluster: Cluster<'_, N, D>,
     one: HostSeat<N>,
     other: HostSeat<N>,
 ) -> Option<bool> {
-    let mut seats = Vec::new(alloc);
-    seats.push(one).ok()?;
-    seats.push(other).ok()?;
-    let record = cluster.finish(seats).ok()?;
+    let record = record_of_both(alloc, cluster, one, other)?;
     audit(alloc, config, &record, &[0]).ok()
 }
 
@@ -102,6 +130,104 @@ impl<R: Clock> Gate for Holds<'_, R> {
     }
 }
 
+// A host's seat, and the receipt that it got.
+#[derive(Drop)]
+struct Served<N: Named> {
+    seat: HostSeat<N>,
+    receipt: Option<Receipt>,
+}
+
+// Submits an enqueue of a lock.
+fn serve<N: Named, D: Disk + Drop, G: Gate>(
+    rt: &impl Wait,
+    cluster: &Cluster<'_, N, D>,
+    seat: HostSeat<N>,
+    gate: &mut G,
+    lock: u16,
+    tries: u8,
+) -> Served<N>
+    requires { 1 ≤ tries }
+{
+    let mut seat = seat;
+    let receipt = submitted(rt, cluster, &mut seat, gate, lock, tries);
+    Served {
+        seat,
+        receipt: receipt.ok().flatten(),
+    }
+}
+
+// Submits, and is held before the 17th call. Tells whether it was held in vain.
+fn serve_held<N: Named, R: Wait + Clock>(
+    rt: &R,
+    cluster: &Cluster<'_, N, SimDisk>,
+    seat: HostSeat<N>,
+    held: &AtomicBool,
+    done: &AtomicBool,
+) -> (Served<N>, bool) {
+    let mut gate = Holds {
+        rt,
+        held,
+        done,
+        late: false,
+    };
+    let served = serve(rt, cluster, seat, &mut gate, 1, 2);
+    (served, gate.late)
+}
+
+// Submits once the other host is held, and lets that go on. Tells whether the other was held.
+fn serve_meanwhile<N: Named, R: Wait + Clock>(
+    rt: &R,
+    cluster: &Cluster<'_, N, SimDisk>,
+    seat: HostSeat<N>,
+    held: &AtomicBool,
+    done: &AtomicBool,
+) -> (Served<N>, bool) {
+    let begun = is_set(rt, held);
+    let served = serve(rt, cluster, seat, &mut OpenGate, 2, 1);
+    done.store(true, Ordering::SeqCst);
+    (served, begun)
+}
+
+// What two hosts come to, of which one is held until the other is acknowledged.
+#[derive(Drop)]
+struct HeldAndServed<N: Named> {
+    one: Served<N>,
+    other: Served<N>,
+    late: bool,
+}
+
+fn serve_one_held<N: Named + Send + Sync, R: Threads + Wait + Clock + Sync>(
+    rt: &R,
+    cluster: &Cluster<'_, N, SimDisk>,
+    one: HostSeat<N>,
+    other: HostSeat<N>,
+) -> HeldAndServed<N> {
+    let held = AtomicBool::new(false);
+    let done = AtomicBool::new(false);
+    let (is_held, is_done) = (&held, &done);
+    let ((one, late), (other, begun)) = join(
+        rt,
+        move || serve_held(rt, cluster, one, is_held, is_done),
+        move || serve_meanwhile(rt, cluster, other, is_held, is_done),
+    );
+    HeldAndServed {
+        one,
+        other,
+        late: late || !begun,
+    }
+}
+
+// Starts both.
+fn serve_two<N: Named + Send + Sync, R: Threads + Wait + Clock + Sync>(
+    rt: &R,
+    alloc: Global,
+    cluster: &Cluster<'_, N, SimDisk>,
+) -> Option<HeldAndServed<N>> {
+    let one = seat_of(rt, alloc, cluster, 0)?;
+    let other = seat_of(rt, alloc, cluster, 1)?;
+    Some(serve_one_held(rt, cluster, one, other))
+}
+
 #[derive(Drop)]
 struct Held {
     first: Option<Receipt>,
@@ -112,6 +238,25 @@ struct Held {
 }
 
 // One host is held within its command until another's is acknowledged.
+fn hold_one<N: Named + Send + Sync, R: Threads + Wait + Clock + Sync>(
+    rt: &R,
+    alloc: Global,
+    config: Config,
+    cluster: Cluster<'_, N, SimDisk>,
+) -> Option<Held> {
+    let HeldAndServed { one, other, late } = serve_two(rt, alloc, &cluster)?;
+    let first = one.receipt;
+    let second = other.receipt;
+    let record = record_of_both(alloc, cluster, one.seat, other.seat)?;
+    Some(Held {
+        first,
+        second,
+        late,
+        entries: record.entries.len(),
+        same: audit(alloc, config, &record, &[0]).ok()?,
+    })
+}
+
 fn one_host_held<N: Named + Send + Sync, R: Threads + Wait + Clock + Sync>(
     rt: &R,
     alloc: Global,
@@ -122,42 +267,7 @@ fn one_host_held<N: Named + Send + Sync, R: Threads + Wait + Clock + Sync>(
     let config = opening.config();
     let (ties, foundation) = opening.named::<N>(alloc).ok()?;
     let cluster = Cluster::simulated(alloc, &ties, foundation).ok()?;
-    let mut one = seat_of(rt, alloc, &cluster, 0)?;
-    let mut other = seat_of(rt, alloc, &cluster, 1)?;
-    let held = AtomicBool::new(false);
-    let done = AtomicBool::new(false);
-    let (shared, is_held, is_done) = (&cluster, &held, &done);
-    let (a, b) = join(
-        rt,
-        move || {
-            let mut gate = Holds {
-                rt,
-                held: is_held,
-                done: is_done,
-                late: false,
-            };
-            let receipt = submitted(rt, shared, &mut one, &mut gate, 1, 2);
-            (one, receipt.ok(), gate.late)
-        },
-        move || {
-            let begun = is_set(rt, is_held);
-            let receipt = submitted(rt, shared, &mut other, &mut OpenGate, 2, 1);
-            is_done.store(true, Ordering::SeqCst);
-            (other, receipt.ok(), begun)
-        },
-    );
-    let mut seats = Vec::new(alloc);
-    let late = a.2 || !b.2;
-    seats.push(a.0).ok()?;
-    seats.push(b.0).ok()?;
-    let record = cluster.finish(seats).ok()?;
-    Some(Held {
-        first: a.1?,
-        second: b.1?,
-        late,
-        entries: record.entries.len(),
-        same: audit(alloc, config, &record, &[0]).ok()?,
-    })
+    hold_one(rt, alloc, config, cluster)
 }
 
 #[test]
@@ -175,28 +285,6 @@ fn gate_one_host(rt: HostRuntime) -> Result<(), Fail> {
     Ok(())
 }
 
-// A host's seat, and the receipt that it got.
-#[derive(Drop)]
-struct Served<N: Named> {
-    seat: HostSeat<N>,
-    receipt: Option<Receipt>,
-}
-
-// Submits an enqueue of a lock.
-fn serve<N: Named, R: Wait + Clock>(
-    rt: &R,
-    cluster: &Cluster<'_, N, PairDisk<'_, R>>,
-    seat: HostSeat<N>,
-    lock: u16,
-) -> Served<N> {
-    let mut seat = seat;
-    let receipt = submitted(rt, cluster, &mut seat, &mut OpenGate, lock, 255);
-    Served {
-        seat,
-        receipt: receipt.ok().flatten(),
-    }
-}
-
 // One host submits; the other begins when the first one's call of disk 1 has begun.
 fn serve_both<N: Named + Send + Sync, R: Threads + Wait + Clock + Sync>(
     rt: &R,
@@ -207,10 +295,10 @@ fn serve_both<N: Named + Send + Sync, R: Threads + Wait + Clock + Sync>(
 ) -> (Served<N>, Served<N>) {
     join(
         rt,
-        move || serve(rt, cluster, one, 1),
+        move || serve(rt, cluster, one, &mut OpenGate, 1, 255),
         move || {
             is_set(rt, begun);
-            serve(rt, cluster, other, 2)
+            serve(rt, cluster, other, &mut OpenGate, 2, 255)
         },
     )
 }
@@ -221,6 +309,32 @@ struct Met {
     begun: bool,
     late: bool,
     same: bool,
+}
+
+// Starts both.
+fn start_and_serve<N: Named + Send + Sync, R: Threads + Wait + Clock + Sync>(
+    rt: &R,
+    alloc: Global,
+    cluster: &Cluster<'_, N, PairDisk<'_, R>>,
+    begun: &AtomicBool,
+) -> Option<(Served<N>, Served<N>)> {
+    let one = seat_of(rt, alloc, cluster, 0)?;
+    let other = seat_of(rt, alloc, cluster, 1)?;
+    Some(serve_both(rt, cluster, begun, one, other))
+}
+
+// How many of two hosts are acknowledged that serve at once, and whether what they have left comes out the same.
+fn serve_and_meet<N: Named + Send + Sync, R: Threads + Wait + Clock + Sync>(
+    rt: &R,
+    alloc: Global,
+    config: Config,
+    cluster: Cluster<'_, N, PairDisk<'_, R>>,
+    begun: &AtomicBool,
+) -> Option<(usize, bool)> {
+    let (one, other) = start_and_serve(rt, alloc, &cluster, begun)?;
+    let acks = usize::from(one.receipt.is_some()) + usize::from(other.receipt.is_some());
+    let same = comes_out_the_same(alloc, config, cluster, one.seat, other.seat)?;
+    Some((acks, same))
 }
 
 // One host's call of disk 1 goes on until the other has called disk 0.
@@ -237,19 +351,12 @@ fn two_hosts_met<N: Named + Send + Sync, R: Threads + Wait + Clock + Sync>(
     let flags = Flags::new();
     let disks = pair(rt, alloc, config, &flags).ok()?;
     let cluster = Cluster::new(alloc, disks, &ties, foundation).ok()?;
-    let one = seat_of(rt, alloc, &cluster, 0)?;
-    let other = seat_of(rt, alloc, &cluster, 1)?;
-    let (one, other) = serve_both(rt, &cluster, &flags.begun, one, other);
-    let acks = usize::from(one.receipt.is_some()) + usize::from(other.receipt.is_some());
-    let mut seats = Vec::new(alloc);
-    seats.push(one.seat).ok()?;
-    seats.push(other.seat).ok()?;
-    let record = cluster.finish(seats).ok()?;
+    let (acks, same) = serve_and_meet(rt, alloc, config, cluster, &flags.begun)?;
     Some(Met {
         acks,
         begun: flags.begun.load(Ordering::SeqCst),
         late: flags.late.load(Ordering::SeqCst),
-        same: audit(alloc, config, &record, &[0]).ok()?,
+        same,
     })
 }
 
@@ -303,6 +410,58 @@ fn lose<N: Named>(
     Ok(())
 }
 
+// What a submission came to within which a disk crashed, and a recovery after two disks were lost.
+#[derive(Drop)]
+struct Harm {
+    receipt: Receipt,
+    fault: Option<HostFault>,
+    refused: Option<HostFault>,
+}
+
+// Submits, and a disk crashes meanwhile. Tells what the crash came to, too.
+fn submitted_in_a_crash<N: Named>(
+    rt: &impl Wait,
+    cluster: &Cluster<'_, N, SimDisk>,
+    seat: &mut HostSeat<N>,
+) -> Option<(Receipt, Option<HostFault>)> {
+    let mut gate = Crashes {
+        rt,
+        cluster,
+        fault: None,
+    };
+    let receipt = submitted(rt, cluster, seat, &mut gate, 1, 1).ok()??;
+    Some((receipt, gate.fault))
+}
+
+// How a recovery is refused.
+fn recovery_refused<N: Named>(
+    rt: &impl Wait,
+    cluster: &Cluster<'_, N, SimDisk>,
+    seat: &mut HostSeat<N>,
+) -> Option<HostFault> {
+    if !seat.idle() {
+        return None;
+    }
+    cluster.recover(rt, seat, &mut OpenGate, 1).err()
+}
+
+// A disk crashes within a submission; then two disks are lost, and a recovery is tried.
+fn do_harm<N: Named>(
+    rt: &impl Wait,
+    cluster: &Cluster<'_, N, SimDisk>,
+    seat: &mut HostSeat<N>,
+) -> Option<Harm> {
+    let (receipt, fault) = submitted_in_a_crash(rt, cluster, seat)?;
+    lose(rt, cluster, 0).ok()?;
+    lose(rt, cluster, 1).ok()?;
+    let refused = recovery_refused(rt, cluster, seat);
+    Some(Harm {
+        receipt,
+        fault,
+        refused,
+    })
+}
+
 #[derive(Drop)]
 struct Harmed {
     receipt: Receipt,
@@ -312,30 +471,19 @@ struct Harmed {
     same: bool,
 }
 
-// A disk crashes within a submission; then two disks are lost, and a recovery is tried.
-fn harm_read_back<N: Named, R: Wait>(rt: &R, alloc: Global, opening: Opening) -> Option<Harmed>
-    requires { IsNamed opening N.shape N.table N.name N.parts N.all }
-{
-    let config = opening.config();
-    let (ties, foundation) = opening.named::<N>(alloc).ok()?;
-    let cluster = Cluster::simulated(alloc, &ties, foundation).ok()?;
+fn harm_one<N: Named>(
+    rt: &impl Wait,
+    alloc: Global,
+    config: Config,
+    cluster: Cluster<'_, N, SimDisk>,
+) -> Option<Harmed> {
     let mut seat = seat_of(rt, alloc, &cluster, 0)?;
-    let mut gate = Crashes {
-        rt,
-        cluster: &cluster,
-        fault: None,
-    };
-    let receipt = submitted(rt, &cluster, &mut seat, &mut gate, 1, 1).ok()??;
-    let fault = gate.fault;
-    lose(rt, &cluster, 0).ok()?;
-    lose(rt, &cluster, 1).ok()?;
-    if !seat.idle() {
-        return None;
-    }
-    let refused = cluster.recover(rt, &mut seat, &mut OpenGate, 1).err();
-    let mut seats = Vec::new(alloc);
-    seats.push(seat).ok()?;
-    let record = cluster.finish(seats).ok()?;
+    let Harm {
+        receipt,
+        fault,
+        refused,
+    } = do_harm(rt, &cluster, &mut seat)?;
+    let record = record_of_one(alloc, cluster, seat)?;
     let same = audit(alloc, config, &record, &[0]).ok()?;
     Some(Harmed {
         receipt,
@@ -344,6 +492,15 @@ fn harm_read_back<N: Named, R: Wait>(rt: &R, alloc: Global, opening: Opening) ->
         entries: record.entries,
         same,
     })
+}
+
+fn harm_read_back<N: Named, R: Wait>(rt: &R, alloc: Global, opening: Opening) -> Option<Harmed>
+    requires { IsNamed opening N.shape N.table N.name N.parts N.all }
+{
+    let config = opening.config();
+    let (ties, foundation) = opening.named::<N>(alloc).ok()?;
+    let cluster = Cluster::simulated(alloc, &ties, foundation).ok()?;
+    harm_one(rt, alloc, config, cluster)
 }
 
 #[test]
@@ -396,9 +553,19 @@ fn finish_refused<N: Named>(
     cluster: Cluster<'_, N, SimDisk>,
     seat: HostSeat<N>,
 ) -> Option<HostFault> {
-    let mut seats = Vec::new(alloc);
-    seats.push(seat).ok()?;
+    let seats = alone(alloc, seat)?;
     cluster.finish(seats).err()
+}
+
+// A seat is lost and asked for again, and then another is taken: how the second asking is refused.
+fn lose_and_take<N: Named>(
+    rt: &impl Wait,
+    alloc: Global,
+    cluster: &Cluster<'_, N, SimDisk>,
+) -> Option<(HostFault, HostSeat<N>)> {
+    let lost = lose_seat(rt, alloc, cluster, 1)?;
+    let taken = seat_refused(rt, alloc, cluster, lost)?;
+    Some((taken, seat_of(rt, alloc, cluster, 0)?))
 }
 
 // A host is handed out once, and each that was is to be given back.
@@ -407,9 +574,7 @@ fn miscounted<N: Named, R: Wait>(
     alloc: Global,
     cluster: Cluster<'_, N, SimDisk>,
 ) -> Option<(HostFault, HostFault)> {
-    let lost = lose_seat(rt, alloc, &cluster, 1)?;
-    let taken = seat_refused(rt, alloc, &cluster, lost)?;
-    let seat = seat_of(rt, alloc, &cluster, 0)?;
+    let (taken, seat) = lose_and_take(rt, alloc, &cluster)?;
     let missing = finish_refused(alloc, cluster, seat)?;
     Some((taken, missing))
 }
@@ -469,6 +634,37 @@ fn suggested_in_turn<N: Named>(
     Some(suggested)
 }
 
+// What two hosts were suggested, and their seats.
+#[derive(Drop)]
+struct Suggested<N: Named> {
+    hosts: Vec<u8>,
+    one: HostSeat<N>,
+    other: HostSeat<N>,
+}
+
+fn start_and_beat<N: Named>(
+    rt: &impl Wait,
+    alloc: Global,
+    cluster: &Cluster<'_, N, SimDisk>,
+) -> Option<Suggested<N>> {
+    let mut one = seat_of(rt, alloc, cluster, 3)?;
+    let mut other = seat_of(rt, alloc, cluster, 5)?;
+    let hosts = suggested_in_turn(rt, alloc, cluster, &mut other, &mut one)?;
+    Some(Suggested { hosts, one, other })
+}
+
+fn beat_in_turn<N: Named>(
+    rt: &impl Wait,
+    alloc: Global,
+    config: Config,
+    cluster: Cluster<'_, N, SimDisk>,
+) -> Option<Beaten> {
+    let told = start_and_beat(rt, alloc, &cluster)?;
+    let suggested = told.hosts;
+    let same = comes_out_the_same(alloc, config, cluster, told.one, told.other)?;
+    Some(Beaten { suggested, same })
+}
+
 // Two hosts beat in turn, twice each.
 fn beats_in_turn<N: Named, R: Wait>(rt: &R, alloc: Global, opening: Opening) -> Option<Beaten>
     requires { IsNamed opening N.shape N.table N.name N.parts N.all }
@@ -476,11 +672,7 @@ fn beats_in_turn<N: Named, R: Wait>(rt: &R, alloc: Global, opening: Opening) -> 
     let config = opening.config();
     let (ties, foundation) = opening.named::<N>(alloc).ok()?;
     let cluster = Cluster::simulated(alloc, &ties, foundation).ok()?;
-    let mut one = seat_of(rt, alloc, &cluster, 3)?;
-    let mut other = seat_of(rt, alloc, &cluster, 5)?;
-    let suggested = suggested_in_turn(rt, alloc, &cluster, &mut other, &mut one)?;
-    let same = comes_out_the_same(alloc, config, cluster, one, other)?;
-    Some(Beaten { suggested, same })
+    beat_in_turn(rt, alloc, config, cluster)
 }
 
 // A first beat suggests its own host, a later one the least that has beaten since.
@@ -510,16 +702,27 @@ fn works<N: Named, R: Wait + Clock>(
     rounds: u16,
 ) -> Option<HostSeat<N>> {
     let mut seat = cluster.seat(rt, alloc, host).ok()?;
+    work_rounds(rt, alloc, cluster, &mut seat, rounds)?;
+    Some(seat)
+}
+
+fn work_rounds<N: Named, R: Wait + Clock>(
+    rt: &R,
+    alloc: Global,
+    cluster: &Cluster<'_, N, SimDisk>,
+    seat: &mut HostSeat<N>,
+    rounds: u16,
+) -> Option<()> {
     for round in 0..rounds {
-        take_turn(rt, cluster, &mut seat, round + 1)?;
+        take_turn(rt, cluster, seat, round + 1)?;
         if round % 4 == 1 {
-            beat_if_idle(rt, cluster, &mut seat)?;
+            beat_if_idle(rt, cluster, seat)?;
         }
         if round == 3 || round == 9 {
-            start_anew(rt, alloc, cluster, &mut seat)?;
+            start_anew(rt, alloc, cluster, seat)?;
         }
     }
-    Some(seat)
+    Some(())
 }
 
 // Submits the command of this round, and marks its slot in every third. Whoever is outrun lets the others go on for a while.
@@ -660,6 +863,70 @@ fn harms<N: Named, R: Wait + Clock>(rt: &R, cluster: &Cluster<'_, N, SimDisk>) -
 }
 
 // Eight hosts over five disks, with a thread that does harm to the disks.
+fn left_by_a_crowd<N: Named + Send + Sync, R: Threads + Wait + Clock + Sync>(
+    rt: &R,
+    alloc: Global,
+    cluster: &Cluster<'_, N, SimDisk>,
+    rounds: u16,
+) -> Option<Vec<Option<HostSeat<N>>>> {
+    map_indices(
+        rt,
+        alloc,
+        9,
+        &|i: usize| -> Option<HostSeat<N>> {
+            match u8::try_from(i).ok().and_then(HostNumber::new) {
+                Some(host) => works(rt, alloc, cluster, host, rounds),
+                None => {
+                    let _ = harms(rt, cluster);
+                    None
+                }
+            }
+        },
+    )
+    .ok()
+}
+
+// The seats that are left.
+fn seats_left<N: Named>(alloc: Global, left: Vec<Option<HostSeat<N>>>) -> Option<Vec<HostSeat<N>>> {
+    let mut seats = Vec::new(alloc);
+    for seat in left {
+        if let Some(seat) = seat {
+            seats.push(seat).ok()?;
+        }
+    }
+    Some(seats)
+}
+
+fn acks_of<N: Named>(seats: &[HostSeat<N>]) -> usize {
+    let mut acks: usize = 0;
+    for seat in seats {
+        acks = seat.acks().len().saturating_add(acks);
+    }
+    acks
+}
+
+fn harm_in(entries: &[Entry]) -> usize {
+    let mut harm: usize = 0;
+    for entry in entries {
+        if matches!(entry, Entry::DiskCrash(_) | Entry::DiskGone(_)) {
+            harm = harm.saturating_add(1);
+        }
+    }
+    harm
+}
+
+// What the crowd has left.
+fn record_of_a_crowd<N: Named + Send + Sync, R: Threads + Wait + Clock + Sync>(
+    rt: &R,
+    alloc: Global,
+    cluster: Cluster<'_, N, SimDisk>,
+    rounds: u16,
+) -> Option<Record<N>> {
+    let left = left_by_a_crowd(rt, alloc, &cluster, rounds)?;
+    let seats = seats_left(alloc, left)?;
+    cluster.finish(seats).ok()
+}
+
 fn crowded<N: Named + Send + Sync, R: Threads + Wait + Clock + Sync>(
     rt: &R,
     alloc: Global,
@@ -671,41 +938,11 @@ fn crowded<N: Named + Send + Sync, R: Threads + Wait + Clock + Sync>(
     let config = opening.config();
     let (ties, foundation) = opening.named::<N>(alloc).ok()?;
     let cluster = Cluster::simulated(alloc, &ties, foundation).ok()?;
-    let shared = &cluster;
-    let left = map_indices(
-        rt,
-        alloc,
-        9,
-        &|i: usize| -> Option<HostSeat<N>> {
-            match u8::try_from(i).ok().and_then(HostNumber::new) {
-                Some(host) => works(rt, alloc, shared, host, rounds),
-                None => {
-                    let _ = harms(rt, shared);
-                    None
-                }
-            }
-        },
-    )
-    .ok()?;
-    let mut seats = Vec::new(alloc);
-    let mut acks: usize = 0;
-    for seat in left {
-        if let Some(seat) = seat {
-            acks = seat.acks().len().saturating_add(acks);
-            seats.push(seat).ok()?;
-        }
-    }
-    let record = cluster.finish(seats).ok()?;
-    let mut harm: usize = 0;
-    for entry in &record.entries {
-        if matches!(entry, Entry::DiskCrash(_) | Entry::DiskGone(_)) {
-            harm = harm.saturating_add(1);
-        }
-    }
+    let record = record_of_a_crowd(rt, alloc, cluster, rounds)?;
     Some(Crowd {
-        acks,
+        acks: acks_of(record.seats.as_slice()),
         same: audit(alloc, config, &record, &[0]).ok()?,
-        harm,
+        harm: harm_in(&record.entries),
     })
 }
 
