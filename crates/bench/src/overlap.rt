@@ -9,9 +9,9 @@ use std::alloc::{AllocError, AllocGlobal, Global};
 use std::marker::Brand;
 use std::sync::Wait;
 use std::sync::atomic::{AtomicBool, Ordering};
-use std::thread;
 use std::thread::{Threads, join};
 use std::time::{Clock, Duration, Instant};
+use std::{io, thread};
 
 /// How many recoveries each host makes.
 const RECOVERIES: u32 = 8;
@@ -20,7 +20,7 @@ const RECOVERIES: u32 = 8;
 const OPENING_CALLS: u64 = 3;
 
 /// Device calls of two hosts.
-#[derive(Clone, Copy, Debug)]
+#[derive(Clone, Copy)]
 pub struct Calls {
     pub made: usize,
     /// Nanoseconds.
@@ -28,7 +28,7 @@ pub struct Calls {
 }
 
 /// When the second of two hosts begins.
-#[derive(Clone, Copy, Debug)]
+#[derive(Clone, Copy)]
 pub enum Order {
     /// When the first has left the first disk for the second.
     AtOnce,
@@ -87,25 +87,16 @@ fn time_both<N: Named + Send + Sync, R: Threads + Wait + Clock + Sync>(
 ) -> Result<(Vec<HostSeat<N>>, u64), Failure> {
     let one = seat_of(rt, alloc, cluster, 0)?;
     let other = seat_of(rt, alloc, cluster, 1)?;
-    let (one, other, spent) = time_recoveries(rt, cluster, one, other, order)?;
-    Ok((both(alloc, one, other)?, spent))
+    let start = Instant::now(rt);
+    let (one, other) = recover_both(rt, cluster, one, other, order);
+    let spent = spent_since(rt, start);
+    Ok((both(alloc, one, other)?, spent?))
 }
 
-fn time_recoveries<N: Named + Send + Sync, R: Threads + Wait + Clock + Sync>(
-    rt: &R,
-    cluster: &Cluster<'_, N, SlowDisk<'_, R>>,
-    one: HostSeat<N>,
-    other: HostSeat<N>,
-    order: Order,
-) -> Result<(HostSeat<N>, HostSeat<N>, u64), Failure> {
-    let start = Instant::now(rt)?;
-    let (one, other) = recover_both(rt, cluster, one, other, order);
-    let spent = start.elapsed(rt)?;
-    Ok((
-        one,
-        other,
-        u64::try_from(spent.as_nanos()).unwrap_or(u64::MAX),
-    ))
+// Asked without a `?` while seats are held, which would have to be dropped there.
+fn spent_since<R: Clock>(rt: &R, start: io::Result<Instant>) -> Result<u64, Failure> {
+    let spent = start?.elapsed(rt)?;
+    Ok(u64::try_from(spent.as_nanos()).unwrap_or(u64::MAX))
 }
 
 fn seat_of<N: Named, R: Wait + Clock>(

@@ -18,14 +18,14 @@ const DISKS: u8 = 3;
 const PAGES: usize = 256;
 
 /// When memory is held back: from a submission on, or from a restart on, which is left so many pages.
-#[derive(Clone, Copy, Debug)]
+#[derive(Clone, Copy)]
 enum Held {
     FromSubmission,
     FromRestart(usize),
 }
 
 /// A host recovers first or does not, restarts so often, submits, marks what was acknowledged, and restarts once more. So the journal grows in another place each time.
-#[derive(Clone, Copy, Debug)]
+#[derive(Clone, Copy)]
 struct Trial {
     recovers: bool,
     restarts: u8,
@@ -33,7 +33,7 @@ struct Trial {
 }
 
 /// How often memory was refused, and where.
-#[derive(Clone, Copy, Debug)]
+#[derive(Clone, Copy)]
 pub struct Refusals {
     /// Before the entry of a submission: the host was idle.
     pub submissions: u32,
@@ -46,7 +46,7 @@ pub struct Refusals {
 }
 
 /// What a host's submission and its mark came to.
-#[derive(Clone, Copy, Debug)]
+#[derive(Clone, Copy)]
 struct Came {
     receipt: Receipt,
     marked: u8,

@@ -17,7 +17,7 @@ const TURNS: u64 = 300;
 const ROUNDS: u32 = 30;
 
 /// The kinds of commands. After each turn the table is as before.
-#[derive(Clone, Copy, Debug, PartialEq, Eq)]
+#[derive(Clone, Copy, PartialEq, Eq)]
 enum Kind {
     Enqueue,
     Convert,
@@ -46,7 +46,7 @@ const KINDS: [(Kind, &str); 8] = [
 ];
 
 /// A table in which so many locks stand all the while, on one name or each on a name of its own.
-#[derive(Clone, Copy, Debug)]
+#[derive(Clone, Copy)]
 struct Shape {
     standing: u16,
     one_name: bool,

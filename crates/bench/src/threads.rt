@@ -15,7 +15,7 @@ use std::time::{Clock, Instant};
 const SLOTS: u16 = 256;
 
 /// What hosts got done at the same time.
-#[derive(Clone, Copy, Debug)]
+#[derive(Clone, Copy)]
 pub struct Work {
     pub acks: usize,
     pub entries: usize,

@@ -8,7 +8,7 @@ use std::time::{Clock, Instant};
 pub const ROUNDS: u32 = 20;
 
 /// How long so many operations took together.
-#[derive(Clone, Copy, Debug)]
+#[derive(Clone, Copy)]
 pub struct Timing {
     pub count: u32,
     /// Nanoseconds, by the clock that never goes back.
@@ -56,7 +56,7 @@ impl fmt::Display for Timing {
 }
 
 /// How many times as long the operations of `these` took as those of `those`, with two decimals.
-#[derive(Clone, Copy, Debug)]
+#[derive(Clone, Copy)]
 pub struct Ratio {
     pub these: Timing,
     pub those: Timing,

@@ -1,7 +1,7 @@
 use crate::failure::Failure;
 
 /// What the program is asked to do with each benchmark.
-#[derive(Clone, Copy, Debug, PartialEq, Eq)]
+#[derive(Clone, Copy, PartialEq, Eq)]
 pub enum Task {
     /// Run it a few times, and tell that it ran.
     Check,
