@@ -1,6 +1,6 @@
 ghost use Rattle.std.specs.Prelude.{◌≡◌, IfSome};
 
-use disk::{Disk, ImageFault};
+use disk::{Disk, FileDisk, ImageFault};
 use dlm_images::{DiskHost, FolderFault, format_folder, open_folder, open_folder_to_read};
 use host::{Config, Refusal};
 use lock_command::{
@@ -8,8 +8,11 @@ use lock_command::{
 };
 use lock_modes::Mode;
 use lock_table::{LockState, Reply};
-use std::alloc::Global;
+use std::alloc::{AllocGlobal, Global};
 use std::fs;
+use std::fs::OpenFile;
+use std::os::unix::fs::FileExt;
+use std::rt::Files;
 use std::test::Fail;
 
 // A lock of a client on one name.
@@ -62,23 +65,39 @@ fn three_submitted<D: Disk>(host: &mut DiskHost<D>) -> [Option<(u16, Reply)>; 3]
     [first, second, third]
 }
 
+// A host over the folder.
+fn host_over<R: Files + AllocGlobal>(
+    rt: &R,
+    folder: &str,
+    number: u8,
+) -> Result<DiskHost<FileDisk<R::File>>, Fail>
+where
+    R::File: FileExt + OpenFile + Drop,
+{
+    let number = HostNumber::new(number).ok_or("a host")?;
+    Ok(open_folder(rt, folder)?.host(rt.alloc(), number)?)
+}
+
 // What they come to through host 0, which stays open over the folder, and the locks that its table shows then.
 fn submit_three(
     rt: &HostRuntime,
     folder: &str,
 ) -> Result<([Option<(u16, Reply)>; 3], Vec<Line>), Fail> {
-    let number = HostNumber::new(0).ok_or("a host")?;
-    let mut host = open_folder(rt, folder)?.host(rt.alloc(), number)?;
+    let mut host = host_over(rt, folder, 0)?;
     let done = three_submitted(&mut host);
     Ok((done, shown(rt.alloc(), &host)?))
 }
 
-// How many commands host 1 learns from the folder, and the locks that its table shows then.
-fn learn_all(rt: &HostRuntime, folder: &str) -> Result<(u16, Vec<Line>), Fail> {
-    let number = HostNumber::new(1).ok_or("a host")?;
-    let mut host = open_folder(rt, folder)?.host(rt.alloc(), number)?;
+// How many commands a host learns, and the locks that its table shows then.
+fn learned<D: Disk>(alloc: Global, host: &mut DiskHost<D>) -> Result<(u16, Vec<Line>), Fail> {
     let learned = host.recover(8)?;
-    Ok((learned, shown(rt.alloc(), &host)?))
+    Ok((learned, shown(alloc, host)?))
+}
+
+// The same of host 1, over the folder.
+fn learn_all(rt: &HostRuntime, folder: &str) -> Result<(u16, Vec<Line>), Fail> {
+    let mut host = host_over(rt, folder, 1)?;
+    learned(rt.alloc(), &mut host)
 }
 
 // A folder of three images with nothing in them.
@@ -119,8 +138,7 @@ fn host_that_stays_open(rt: HostRuntime) -> Result<(), Fail> {
 
 // What a submission through host 0 comes to, over the folder.
 fn submit_one(rt: &HostRuntime, folder: &str) -> Result<Option<(u16, Reply)>, Fail> {
-    let number = HostNumber::new(0).ok_or("a host")?;
-    let mut host = open_folder(rt, folder)?.host(rt.alloc(), number)?;
+    let mut host = host_over(rt, folder, 0)?;
     Ok(submitted(&mut host, 1, Mode::ConcurrentRead))
 }
 
@@ -133,17 +151,21 @@ fn marked<D: Disk>(host: &mut DiskHost<D>) -> [Result<u8, Refusal>; 2] {
 
 // The same of host 0, over the folder.
 fn mark_first(rt: &HostRuntime, folder: &str) -> Result<[Result<u8, Refusal>; 2], Fail> {
-    let number = HostNumber::new(0).ok_or("a host")?;
-    let mut host = open_folder(rt, folder)?.host(rt.alloc(), number)?;
+    let mut host = host_over(rt, folder, 0)?;
     Ok(marked(&mut host))
 }
 
-// How many commands host 1 learns that looks at the folder, which it only reads, and the locks that its table shows then.
+// How many commands a host learns that looks, and the locks that its table shows then.
+fn seen<D: Disk>(alloc: Global, host: &mut DiskHost<D>) -> Result<(u16, Vec<Line>), Fail> {
+    let learned = host.look()?;
+    Ok((learned, shown(alloc, host)?))
+}
+
+// The same of host 1, over the folder, which it only reads.
 fn look_at(rt: &HostRuntime, folder: &str) -> Result<(u16, Vec<Line>), Fail> {
     let number = HostNumber::new(1).ok_or("a host")?;
     let mut host = open_folder_to_read(rt, folder)?.host(rt.alloc(), number)?;
-    let learned = host.look()?;
-    Ok((learned, shown(rt.alloc(), &host)?))
+    seen(rt.alloc(), &mut host)
 }
 
 // A slot is marked once it is learned, on all three disks, since the host's own block holds its value there.

@@ -128,57 +128,78 @@ impl Scene {
         Ok(())
     }
 
+    fn host(&mut self, at: usize) -> Result<&mut HostCore, Fail> {
+        Ok(self.hosts.get_mut(at).ok_or("host")?)
+    }
+
     fn play(&mut self, rt: &impl Abort, alloc: Global, step: &Step) -> Result<(), Fail> {
         match step {
-            Step::Start { number } => self.start(alloc, *number)?,
-            Step::Stop => self.stop(),
+            Step::Start { number } => self.start(alloc, *number),
+            Step::Stop => {
+                self.stop();
+                Ok(())
+            }
             Step::Submit {
                 at,
                 client,
                 lock,
                 tries,
-            } => {
-                let host = self.hosts.get_mut(*at).ok_or("host")?;
-                submit(host, *client, *lock, *tries)?;
-            }
-            Step::Recover { at } => recover(self.hosts.get_mut(*at).ok_or("host")?)?,
-            Step::Beat { at } => beat(self.hosts.get_mut(*at).ok_or("host")?)?,
+            } => submit(self.host(*at)?, *client, *lock, *tries),
+            Step::Recover { at } => recover(self.host(*at)?),
+            Step::Beat { at } => beat(self.host(*at)?),
             Step::Make { at, calls } => {
-                let host = self.hosts.get_mut(*at).ok_or("host")?;
-                assert_eq!(rt; drive(host, &mut self.disks, *calls), *calls);
+                assert_eq!(rt; self.drive(*at, *calls)?, *calls);
+                Ok(())
             }
             Step::End { at, calls } => {
-                let host = self.hosts.get_mut(*at).ok_or("host")?;
-                assert_eq!(rt; drive(host, &mut self.disks, 1000), *calls);
+                assert_eq!(rt; self.drive(*at, 1000)?, *calls);
+                Ok(())
             }
             Step::Says { at, answer } => {
-                let host = self.hosts.get(*at).ok_or("host")?;
-                assert_eq!(rt; host.answer(), Some(*answer));
+                assert_eq!(rt; self.host(*at)?.answer(), Some(*answer));
+                Ok(())
             }
             Step::Knows {
                 at,
                 commands,
                 locks,
             } => {
-                let host = self.hosts.get(*at).ok_or("host")?;
-                let picture = host.table().picture(alloc)?;
-                assert_eq!(rt;
-                    (host.prefix().len(), picture.locks().len()),
-                    (*commands, *locks)
-                );
+                assert_eq!(rt; self.known(alloc, *at)?, (*commands, *locks));
+                Ok(())
             }
-            other => self.fault(alloc, other)?,
+            Step::Fail { .. } | Step::Crash { .. } | Step::Lose { .. } => self.fault(alloc, step),
         }
-        Ok(())
+    }
+
+    fn drive(&mut self, at: usize, calls: usize) -> Result<usize, Fail> {
+        let host = self.hosts.get_mut(at).ok_or("host")?;
+        Ok(drive(host, &mut self.disks, calls))
+    }
+
+    // How many commands a host has learned, and how many locks its table has.
+    fn known(&self, alloc: Global, at: usize) -> Result<(usize, usize), Fail> {
+        let host = self.hosts.get(at).ok_or("host")?;
+        let picture = host.table().picture(alloc)?;
+        Ok((host.prefix().len(), picture.locks().len()))
     }
 }
 
-fn play(rt: &impl Abort, alloc: Global, disks: u8, slots: u16, steps: &[Step]) -> Result<(), Fail> {
-    let mut scene = Scene::new(alloc, disks, slots)?;
+// Plays the steps in a scene.
+fn play_each(
+    rt: &impl Abort,
+    alloc: Global,
+    scene: &mut Scene,
+    steps: &[Step],
+) -> Result<(), Fail> {
     for step in steps {
         scene.play(rt, alloc, step)?;
     }
     Ok(())
+}
+
+fn play(rt: &impl Abort, alloc: Global, disks: u8, slots: u16, steps: &[Step]) -> Result<(), Fail> {
+    let mut scene = Scene::new(alloc, disks, slots)?;
+    play_each(rt, alloc, &mut scene, steps)
 }
 
 fn submit(host: &mut HostCore, client: u8, lock: u16, tries: u8) -> Result<(), Fail> {

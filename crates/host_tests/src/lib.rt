@@ -17,3 +17,5 @@ mod laid_out;
 mod raced;
 #[cfg(test)]
 mod simulated;
+#[cfg(test)]
+mod watched;

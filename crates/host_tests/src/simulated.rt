@@ -1,8 +1,9 @@
 // Worked runs, through every call that may want memory.
-use host::HostAnswer;
+use host::{Config, HostAnswer};
 use lock_table::Reply;
-use simulator::{Parts, Report, Sim, read_script, run, sweep};
+use simulator::{Answer, Event, Parts, Report, Sim, read_script, run, sweep};
 use std::alloc::{AllocError, Global};
+use std::process::Abort;
 use std::test::Fail;
 
 const FIRST_REPLY: &[u8] = b"cluster 1 4\nstart 0\nsubmit 0 1 enqueue 1 1 10 EX db\nstep 0 17\n";
@@ -25,32 +26,59 @@ start 1\nlook 1\nstep 1 6\n";
 // A submission over three disks, none of whose calls is made.
 const SUBMITTED: &str = "cluster 3 2\nstart 0\nsubmit 0 1 enqueue 1 1 1 EX db\n";
 
-#[test]
-fn first_reply(rt: HostRuntime) -> Result<(), Fail> {
-    let script = read_script(rt.alloc(), FIRST_REPLY)?;
-    let mut sim = Sim::new(rt.alloc(), script.config)?;
-    let mut answers = Vec::new(rt.alloc());
-    for event in &script.events.to_vec(rt.alloc())? {
-        if let Some(answer) = sim.event(rt.alloc(), event)? {
-            answers.push((answer.place, answer.host.get(), answer.said))?;
+// The size of a script's cluster, and its events.
+fn events_of(alloc: Global, text: &[u8]) -> Option<(Config, Vec<Event>)> {
+    let script = read_script(alloc, text).ok()?;
+    let events = script.events.to_vec(alloc).ok()?;
+    Some((script.config, events))
+}
+
+// What a run of a script reports. A test lends it to whoever looks at it, since at each `?` and `assert!` it would have to be dropped, which is dear to prove.
+fn reported(alloc: Global, text: &[u8]) -> Option<Report> {
+    let (config, events) = events_of(alloc, text)?;
+    run(alloc, config, &events).ok()
+}
+
+// An answer's place, its host, and what that said.
+type Line = (usize, u8, HostAnswer);
+
+// What the hosts say to events.
+fn lines_of(alloc: Global, sim: &mut Sim, events: &[Event]) -> Option<Vec<Line>> {
+    let mut lines = Vec::new(alloc);
+    for event in events {
+        if let Some(answer) = sim.event(alloc, event).ok()? {
+            lines.push((answer.place, answer.host.get(), answer.said)).ok()?;
         }
     }
+    Some(lines)
+}
+
+// How many commands a host has learned that runs.
+fn learned_by(sim: &Sim, host: u8) -> Option<usize> {
+    Some(sim.host(host)?.prefix().len())
+}
+
+// What is said in a run of the script, and how many commands the first two hosts have learned then.
+fn said_first(alloc: Global) -> Option<(Vec<Line>, Option<usize>, Option<usize>)> {
+    let (config, events) = events_of(alloc, FIRST_REPLY)?;
+    let mut sim = Sim::new(alloc, config).ok()?;
+    let lines = lines_of(alloc, &mut sim, &events)?;
+    Some((lines, learned_by(&sim, 0), learned_by(&sim, 1)))
+}
+
+#[test]
+fn first_reply(rt: HostRuntime) -> Result<(), Fail> {
+    let (lines, first, second) = said_first(rt.alloc()).ok_or("a run")?;
     let granted = HostAnswer::Ack {
         slot: 0,
         reply: Reply::Granted,
     };
-    assert_eq!(rt; answers.as_slice(), [(18, 0, granted)].as_slice());
-    let host = sim.host(0).ok_or("host 0")?;
-    assert_eq!(rt; host.prefix().len(), 1);
-    assert!(rt; sim.host(1).is_none());
+    assert_eq!(rt; lines.as_slice(), [(18, 0, granted)].as_slice());
+    assert_eq!(rt; (first, second), (Some(1), None));
     Ok(())
 }
 
-#[test]
-fn torn_gate(rt: HostRuntime) -> Result<(), Fail> {
-    let script = read_script(rt.alloc(), TORN_GATE)?;
-    let events = script.events.to_vec(rt.alloc())?;
-    let report = run(rt.alloc(), script.config, &events)?;
+fn shows_the_torn_gate(rt: &impl Abort, report: &Report) -> Result<(), Fail> {
     let answers = report.answers();
     assert_eq!(rt; answers.len(), 1);
     assert_eq!(rt; answers[0].place, 25);
@@ -61,26 +89,39 @@ fn torn_gate(rt: HostRuntime) -> Result<(), Fail> {
 }
 
 #[test]
-fn taken_over(rt: HostRuntime) -> Result<(), Fail> {
-    let script = read_script(rt.alloc(), TAKEN_OVER)?;
-    let events = script.events.to_vec(rt.alloc())?;
-    let report = run(rt.alloc(), script.config, &events)?;
+fn torn_gate(rt: HostRuntime) -> Result<(), Fail> {
+    let report = reported(rt.alloc(), TORN_GATE).ok_or("a report")?;
+    shows_the_torn_gate(&rt, &report)
+}
+
+// Whether a picture has the lock 1 alone.
+fn has_one_lock(answer: &Answer) -> bool {
+    match &answer.picture {
+        Some(picture) => match picture.locks() {
+            [lock] => lock.lock.get() == 1,
+            _ => false,
+        },
+        None => false,
+    }
+}
+
+fn shows_the_takeover(rt: &impl Abort, report: &Report) {
     let answers = report.answers();
     assert_eq!(rt; answers.len(), 2);
     assert_eq!(rt; answers[0].place, 36);
     assert_eq!(rt; answers[1].place, 96);
     assert_eq!(rt; answers[1].said, HostAnswer::Recovered { length: 1 });
-    let picture = answers[1].picture.as_ref().ok_or("picture")?;
-    assert_eq!(rt; picture.locks().len(), 1);
-    assert_eq!(rt; picture.locks()[0].lock.get(), 1);
-    Ok(())
+    assert!(rt; has_one_lock(&answers[1]));
 }
 
 #[test]
-fn looked(rt: HostRuntime) -> Result<(), Fail> {
-    let script = read_script(rt.alloc(), LOOKED)?;
-    let events = script.events.to_vec(rt.alloc())?;
-    let report = run(rt.alloc(), script.config, &events)?;
+fn taken_over(rt: HostRuntime) -> Result<(), Fail> {
+    let report = reported(rt.alloc(), TAKEN_OVER).ok_or("a report")?;
+    shows_the_takeover(&rt, &report);
+    Ok(())
+}
+
+fn shows_the_look(rt: &impl Abort, report: &Report) {
     let answers = report.answers();
     assert_eq!(rt; answers.len(), 3);
     assert_eq!(rt; answers[1].place, 28);
@@ -88,23 +129,36 @@ fn looked(rt: HostRuntime) -> Result<(), Fail> {
     assert!(rt; answers[1].picture.is_none());
     assert_eq!(rt; answers[2].place, 36);
     assert_eq!(rt; answers[2].said, HostAnswer::Looked { length: 1 });
-    let picture = answers[2].picture.as_ref().ok_or("picture")?;
-    assert_eq!(rt; picture.locks().len(), 1);
-    assert_eq!(rt; picture.locks()[0].lock.get(), 1);
+    assert!(rt; has_one_lock(&answers[2]));
+}
+
+#[test]
+fn looked(rt: HostRuntime) -> Result<(), Fail> {
+    let report = reported(rt.alloc(), LOOKED).ok_or("a report")?;
+    shows_the_look(&rt, &report);
     Ok(())
+}
+
+// The places at which parts say something to events, and the hosts that do.
+fn heard_of(alloc: Global, parts: &mut Parts, events: &[Event]) -> Option<Vec<(usize, u8)>> {
+    let mut said = Vec::new(alloc);
+    for (place, event) in events.iter().enumerate() {
+        if let Some(heard) = parts.event(alloc, event).ok()? {
+            said.push((place, heard.host.get())).ok()?;
+        }
+    }
+    Some(said)
+}
+
+fn heard_first(alloc: Global) -> Option<Vec<(usize, u8)>> {
+    let (config, events) = events_of(alloc, FIRST_REPLY)?;
+    let mut parts = Parts::new(alloc, config).ok()?;
+    heard_of(alloc, &mut parts, &events)
 }
 
 #[test]
 fn parts_say_the_same(rt: HostRuntime) -> Result<(), Fail> {
-    let script = read_script(rt.alloc(), FIRST_REPLY)?;
-    let mut parts = Parts::new(rt.alloc(), script.config)?;
-    let mut said = Vec::new(rt.alloc());
-    let events = script.events.to_vec(rt.alloc())?;
-    for (place, event) in events.iter().enumerate() {
-        if let Some(heard) = parts.event(rt.alloc(), event)? {
-            said.push((place, heard.host.get()))?;
-        }
-    }
+    let said = heard_first(rt.alloc()).ok_or("a run")?;
     assert_eq!(rt; said.as_slice(), [(18, 0)].as_slice());
     Ok(())
 }
@@ -136,9 +190,7 @@ fn failing_calls(rt: HostRuntime) -> Result<(), Fail> {
 // What is answered to a submission over three disks of which a call fails after so many.
 fn said_with_a_failing_call(alloc: Global, calls: usize) -> Option<HostAnswer> {
     let text = failing_after(alloc, calls).ok()?;
-    let script = read_script(alloc, text.as_bytes()).ok()?;
-    let events = script.events.to_vec(alloc).ok()?;
-    let report = run(alloc, script.config, &events).ok()?;
+    let report = reported(alloc, text.as_bytes())?;
     only_answer(&report)
 }
 

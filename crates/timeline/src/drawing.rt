@@ -1,7 +1,6 @@
-use crate::call::{Call, Ending};
 use crate::layout::Layout;
-use crate::moment::{Happened, Lane, Moment, Turn};
 use host::{Config, HostAnswer};
+use moments::{Call, Ending, Happened, Lane, Moment, Turn};
 use std::io;
 use std::io::Write;
 

@@ -1,7 +1,7 @@
 ghost use Rattle.std.specs.Prelude.{◌≤◌};
 
-use crate::moment::{Happened, Moment};
 use host::Config;
+use moments::{Happened, Moment};
 use simulator::MOST_EVENTS;
 
 /// Where the first column begins. All lengths are pixels.
@@ -26,7 +26,7 @@ const LOWEST_HOST: u64 = 20_000;
 const LOWEST_DISK: u64 = 40_000;
 
 /// The places of a picture: a lane for each host and below them one for each disk, and a column for each moment.
-#[derive(Clone, Copy, Debug)]
+#[derive(Clone, Copy)]
 pub struct Layout {
     pub hosts: u8,
     pub disks: u8,

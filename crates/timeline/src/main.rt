@@ -1,18 +1,13 @@
 //! The program: runs scripts, and draws what their hosts and disks do over time.
 #![tactic(auto)]
 
-mod call;
 mod drawing;
 mod failure;
-mod history;
 mod layout;
-mod moment;
-mod task;
-mod watch;
 
 use drawing::draw;
 use failure::Failure;
-use history::moments_of;
+use moments::moments_of;
 use simulator::read_script;
 use std::io::{BufWriter, Write};
 use std::process::ExitCode;

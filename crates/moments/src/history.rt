@@ -1,28 +1,32 @@
 use crate::call::{Call, Kind, Phase};
-use crate::failure::Failure;
 use crate::moment::{Happened, Moment, Turn};
 use crate::watch::Watch;
+use disk::NoMemory;
 use host::HostCore;
 use phases::DeviceCall;
-use simulator::{Parts, Script};
+use simulator::{Event, Parts, Script};
 use std::alloc::{AllocError, Global};
 
 /// Lets a script's events happen, and gives those that changed something.
-pub fn moments_of(alloc: Global, script: &Script) -> Result<Vec<Moment>, Failure> {
+pub fn moments_of(alloc: Global, script: &Script) -> Result<Vec<Moment>, NoMemory> {
     let events = script.events.to_vec(alloc)?;
     let mut parts = Parts::new(alloc, script.config)?;
     let mut watch = Watch::new(alloc, script.config.disks())?;
+    watched(alloc, &mut parts, &mut watch, &events)
+}
+
+fn watched(
+    alloc: Global,
+    parts: &mut Parts,
+    watch: &mut Watch,
+    events: &[Event],
+) -> Result<Vec<Moment>, NoMemory> {
     let mut moments = Vec::new(alloc);
     for (place, event) in events.iter().enumerate() {
-        let Some(happened) = watch.look(&parts, event) else {
+        let Some(happened) = watch.look(parts, event) else {
             continue;
         };
-        let before = learned(&parts, &happened);
-        let said = parts.event(alloc, event)?;
-        let turn = match said {
-            Some(said) => Some(Turn::Said(said.answer)),
-            None => turn_of(&parts, &happened, before),
-        };
+        let turn = happens(alloc, parts, event, &happened)?;
         let moment = Moment {
             place,
             happened,
@@ -31,6 +35,20 @@ pub fn moments_of(alloc: Global, script: &Script) -> Result<Vec<Moment>, Failure
         moments.push(moment).map_err(AllocError::from)?;
     }
     Ok(moments)
+}
+
+/// Lets an event happen, and gives what comes of it for its host.
+fn happens(
+    alloc: Global,
+    parts: &mut Parts,
+    event: &Event,
+    happened: &Happened,
+) -> Result<Option<Turn>, NoMemory> {
+    let before = learned(parts, happened);
+    Ok(match parts.event(alloc, event)? {
+        Some(said) => Some(Turn::Said(said.answer)),
+        None => turn_of(parts, happened, before),
+    })
 }
 
 /// How many commands the host has learned to which this happens.
@@ -74,6 +92,3 @@ fn is_attach_due(core: &HostCore) -> bool {
         _ => false,
     }
 }
-
-#[cfg(test)]
-mod tests;

@@ -1,8 +1,8 @@
-//! What is drawn of two runs, by the numbers of their events, and of a third by the colours of its calls.
+// What is drawn of two runs, by the numbers of their events, and of a third by the colours of its calls.
 
-use super::*;
-use crate::call::Ending;
+use moments::{Ending, Happened, Moment, Turn, moments_of};
 use simulator::read_script;
+use std::alloc::Global;
 use std::test::Fail;
 
 // Host 1 outruns host 0 with its promise, and gets slot 0; host 0 learns that, and takes slot 1.
@@ -16,18 +16,29 @@ const FAULTS: &[u8] =
 crash 0 ff\nstep 0 12\nsubmit 1 1 enqueue 2 1 2 PR db\nstep 1 11\ntear 1 a5\ngone 2\ngone 2\ncrash 2 00\n\
 start 0\nstop 0\nrecover 0 1\nstart 1\nrecover 1 1\nstep 1 7\n";
 
+// What the script's events do that change something.
+fn moments_in(alloc: Global, text: &[u8]) -> Option<Vec<Moment>> {
+    let script = read_script(alloc, text).ok()?;
+    moments_of(alloc, &script).ok()
+}
+
+// What a host comes to.
+fn turned(turn: &Turn) -> &'static str {
+    match turn {
+        Turn::Said(_) => "said",
+        Turn::Learned(0) => "learned 0",
+        Turn::Learned(_) => "learned",
+        Turn::Outrun => "outrun",
+    }
+}
+
 #[test]
 fn race(rt: HostRuntime) -> Result<(), Fail> {
-    let script = read_script(rt.alloc(), RACE)?;
+    let moments = moments_in(rt.alloc(), RACE).ok_or("moments")?;
     let mut turns = Vec::new(rt.alloc());
-    for moment in &moments_of(rt.alloc(), &script)? {
-        if let Some(turn) = moment.turn {
-            let word = match turn {
-                Turn::Said(_) => "said",
-                Turn::Learned(slot) => if slot == 0 { "learned 0" } else { "learned" },
-                Turn::Outrun => "outrun",
-            };
-            turns.push((moment.place, word))?;
+    for moment in &moments {
+        if let Some(turn) = &moment.turn {
+            turns.push((moment.place, turned(turn)))?;
         }
     }
     let wanted = [
@@ -40,23 +51,28 @@ fn race(rt: HostRuntime) -> Result<(), Fail> {
     Ok(())
 }
 
+// What goes wrong.
+fn wrong(happened: &Happened) -> &'static str {
+    match happened {
+        Happened::Called { call, .. } => match call.ending {
+            Ending::Done => "",
+            Ending::Refused => "refused",
+            Ending::Failed => "fails",
+            Ending::Torn => "torn",
+        },
+        Happened::Crashed(_) => "crash",
+        Happened::Lost(_) => "lost",
+        Happened::Stopped(_) => "stop",
+        Happened::Started(_) | Happened::Began { .. } => "",
+    }
+}
+
 #[test]
 fn faults(rt: HostRuntime) -> Result<(), Fail> {
-    let script = read_script(rt.alloc(), FAULTS)?;
+    let moments = moments_in(rt.alloc(), FAULTS).ok_or("moments")?;
     let mut found = Vec::new(rt.alloc());
-    for moment in &moments_of(rt.alloc(), &script)? {
-        let word = match moment.happened {
-            Happened::Called { call, .. } => match call.ending {
-                Ending::Done => "",
-                Ending::Refused => "refused",
-                Ending::Failed => "fails",
-                Ending::Torn => "torn",
-            },
-            Happened::Crashed(_) => "crash",
-            Happened::Lost(_) => "lost",
-            Happened::Stopped(_) => "stop",
-            Happened::Started(_) | Happened::Began { .. } => "",
-        };
+    for moment in &moments {
+        let word = wrong(&moment.happened);
         if word != "" {
             found.push((moment.place, word))?;
         }
@@ -81,9 +97,9 @@ start 1\nlook 1\nstep 1 6\n";
 
 #[test]
 fn marking_and_look(rt: HostRuntime) -> Result<(), Fail> {
-    let script = read_script(rt.alloc(), MARKED)?;
+    let moments = moments_in(rt.alloc(), MARKED).ok_or("moments")?;
     let mut classes = String::new(rt.alloc());
-    for moment in &moments_of(rt.alloc(), &script)? {
+    for moment in &moments {
         if let Happened::Called { call, .. } = moment.happened {
             classes.push_str(call.phase.class())?;
         }
