@@ -68,13 +68,16 @@ struct header {
     uint8_t bytes[HEADER_LENGTH];
 };
 
-/* DueCall, Row and ToldAnswer of call.rt */
+/* DueCall, Written, Row and ToldAnswer of call.rt */
 struct due_call {
     uint64_t boot;
     uint64_t at;
     uint64_t length;
     uint32_t kind;
     uint32_t disk;
+};
+
+struct written {
     uint8_t bytes[COPY_LENGTH];
 };
 
@@ -101,15 +104,15 @@ struct answer {
 /* The sizes of the structs there. That each field lies where it does there is tried by tests/calls.c. */
 typedef char sizes_are_as_there[sizeof(struct handle) == 16 && sizeof(struct request) == 32 && sizeof(struct image) == 1040 &&
                                         sizeof(struct images) == 7280 && sizeof(struct opened) == 32 &&
-                                        sizeof(struct header) == 1032 && sizeof(struct due_call) == 96 &&
-                                        sizeof(struct row) == 1024 && sizeof(struct told_answer) == 16 &&
+                                        sizeof(struct header) == 1032 && sizeof(struct due_call) == 32 &&
+                                        sizeof(struct written) == 64 && sizeof(struct row) == 1024 && sizeof(struct told_answer) == 16 &&
                                         sizeof(struct answer) == 24 && sizeof(struct mg_lock_view) == 36 &&
                                         sizeof(struct mg_client_view) == 24 && sizeof(struct mg_host_view) == 32
                                     ? 1
                                     : -1];
 
 enum { ENQUEUE = 1, CONVERT = 2, RELEASE = 3, CANCEL = 4, STATUS = 5, PURGE = 6 };
-enum { ATTACH = 1, SYNC = 2, READ = 3, WRITE = 4 };
+enum { SYNC = 2, READ = 3, WRITE = 4 };
 enum { DONE = 0, RESET = 1, FAILED = 2 };
 enum { NOTHING_DUE = -5 };
 
@@ -121,8 +124,9 @@ int32_t dlm_c_submit(struct handle *handle, const struct request *request, const
 int32_t dlm_c_recover(struct handle *handle, uint32_t tries);
 int32_t dlm_c_look(struct handle *handle);
 int32_t dlm_c_mark(struct handle *handle, uint32_t slot);
-int32_t dlm_c_call(struct handle *handle, struct due_call *call);
-int32_t dlm_c_hear(struct handle *handle, const struct told_answer *told, const struct row *row);
+int32_t dlm_c_call(struct handle *handle, uint64_t boot, struct due_call *call, struct written *written);
+int32_t dlm_c_next(struct handle *handle, const struct told_answer *told, const struct row *row, struct due_call *call,
+                   struct written *written);
 int32_t dlm_c_answer(struct handle *handle, struct answer *answer);
 int32_t dlm_c_host(struct handle *handle, struct mg_host_view *into);
 int32_t dlm_c_lock(struct handle *handle, uint32_t lock, struct mg_lock_view *into);
@@ -275,26 +279,27 @@ struct mg_host {
     unsigned tries;
     int lock;
     int files[MG_DISKS]; /* NO_FILE: every call fails */
-    /* The device call that is due, and what was read last. */
+    /* The device call that is due, what it writes, and what was read last. */
     struct due_call call;
+    struct written written;
     struct row row;
 };
 
-/* Makes the device call that is due, and says what it was answered. */
-static void make_call(struct mg_host *host, const struct due_call *call, struct told_answer *told, struct row *row) {
+/* Makes the device call that is due, and says what it was answered. It is never an attach: of these the library has the answer,
+ * since every file tells boot number 1. */
+static uint32_t make_call(struct mg_host *host) {
+    const struct due_call *call = &host->call;
     int *file = call->disk < MG_DISKS ? &host->files[call->disk] : NULL;
-    bool done = file && *file != NO_FILE;
-    told->boot = BOOT;
-    told->unused = 0;
-    if (call->kind != ATTACH && call->boot != BOOT) {
-        told->outcome = RESET;
-        return;
-    }
-    if (done && call->kind == READ)
-        done = read_settled(*file, row->bytes, (size_t)call->length, call->at);
-    else if (done && call->kind == WRITE)
-        done = call->length <= COPY_LENGTH && write_whole(*file, call->bytes, (size_t)call->length, call->at);
-    else if (done && call->kind == SYNC) {
+    bool done = false;
+    if (call->boot != BOOT)
+        return RESET;
+    if (!file || *file == NO_FILE)
+        return FAILED;
+    if (call->kind == READ)
+        done = read_settled(*file, host->row.bytes, (size_t)call->length, call->at);
+    else if (call->kind == WRITE)
+        done = call->length <= COPY_LENGTH && write_whole(*file, host->written.bytes, (size_t)call->length, call->at);
+    else if (call->kind == SYNC) {
         done = sync_data(*file);
         if (!done) {
             /* The system may hold bytes for written that are not, and no later sync would tell. */
@@ -302,22 +307,22 @@ static void make_call(struct mg_host *host, const struct due_call *call, struct 
             *file = NO_FILE;
         }
     }
-    told->outcome = done ? DONE : FAILED;
+    return done ? DONE : FAILED;
 }
 
 /* Makes the calls of an operation that was begun, until it has ended, and tells how. */
 static int carry_out(struct mg_host *host, int32_t begun, struct answer *answer) {
-    struct told_answer told;
+    struct told_answer told = {BOOT, DONE, 0};
     int32_t status;
     memset(answer, 0, sizeof *answer);
     answer->slot = -1;
     answer->held = answer->wanted = MG_NONE;
     if (begun != 0)
         return status_of(begun);
-    while ((status = dlm_c_call(&host->handle, &host->call)) == 0) {
-        make_call(host, &host->call, &told, &host->row);
-        if (dlm_c_hear(&host->handle, &told, &host->row) != 0)
-            return MG_BROKEN;
+    status = dlm_c_call(&host->handle, BOOT, &host->call, &host->written);
+    while (status == 0) {
+        told.outcome = make_call(host);
+        status = dlm_c_next(&host->handle, &told, &host->row, &host->call, &host->written);
     }
     if (status != NOTHING_DUE)
         return MG_BROKEN;

@@ -62,39 +62,80 @@ static void bad_arguments(const char *folder) {
     IS(mg_text(NULL, NULL, 0, NULL), MG_BAD_ARGUMENT);
 }
 
+/* What a command is asked, and the commands that are to refuse it: those that read the argument which is none. */
+struct asked {
+    unsigned commands;
+    unsigned client;
+    uint64_t request;
+    unsigned lock;
+    int mode;
+    const char *name;
+    unsigned flags;
+    unsigned purged;
+};
+
+enum { ENQUEUE = 1, CONVERT = 2, RELEASE = 4, CANCEL = 8, STATUS = 16, PURGE = 32, ALL = 63, OF_A_LOCK = ALL - PURGE };
+
+static int ask(struct mg_host *host, unsigned command, const struct asked *a, struct mg_answer *answer) {
+    switch (command) {
+    case ENQUEUE: return mg_enqueue(host, a->client, a->request, a->lock, a->mode, a->name, a->flags, answer);
+    case CONVERT: return mg_convert(host, a->client, a->request, a->lock, a->mode, a->flags, answer);
+    case RELEASE: return mg_release(host, a->client, a->request, a->lock, answer);
+    case CANCEL: return mg_cancel(host, a->client, a->request, a->lock, answer);
+    case STATUS: return mg_status(host, a->client, a->request, a->lock, answer);
+    default: return mg_purge(host, a->client, a->request, a->purged, answer);
+    }
+}
+
+/* In each line one argument is none: below the least, above the greatest, and such that fewer bits of it would do. */
 static void bad_commands(struct mg_host *host) {
+    static const struct asked BAD[] = {
+        {ALL, 256, 1, 1, MG_EX, "a", 0, 1},
+        {ALL, (unsigned)-1, 1, 1, MG_EX, "a", 0, 1},
+        {ALL, 1, 0, 1, MG_EX, "a", 0, 1},
+        {ALL, 1, ((uint64_t)1 << 62) + 1, 1, MG_EX, "a", 0, 1},
+        {ALL, 1, UINT64_MAX, 1, MG_EX, "a", 0, 1},
+        {OF_A_LOCK, 1, 1, 0, MG_EX, "a", 0, 1},
+        {OF_A_LOCK, 1, 1, 65536, MG_EX, "a", 0, 1},
+        {OF_A_LOCK, 1, 1, 65537, MG_EX, "a", 0, 1},
+        {ENQUEUE | CONVERT, 1, 1, 1, MG_NONE, "a", 0, 1},
+        {ENQUEUE | CONVERT, 1, 1, 1, 6, "a", 0, 1},
+        {ENQUEUE | CONVERT, 1, 1, 1, 256, "a", 0, 1},
+        {ENQUEUE | CONVERT, 1, 1, 1, MG_EX, "a", 2, 1},
+        {ENQUEUE | CONVERT, 1, 1, 1, MG_EX, "a", 256 + MG_NO_QUEUE, 1},
+        {ENQUEUE, 1, 1, 1, MG_EX, NULL, 0, 1},
+        {ENQUEUE, 1, 1, 1, MG_EX, "", 0, 1},
+        {ENQUEUE, 1, 1, 1, MG_EX, "sixteen_bytes_ab", 0, 1},
+        {ENQUEUE, 1, 1, 1, MG_EX, "a b", 0, 1},
+        {ENQUEUE, 1, 1, 1, MG_EX, "a\x7f", 0, 1},
+        {ENQUEUE, 1, 1, 1, MG_EX, "\xc3\xa4", 0, 1},
+        {PURGE, 1, 1, 1, MG_EX, "a", 0, 8},
+        {PURGE, 1, 1, 1, MG_EX, "a", 0, 256},
+    };
+    static char long_name[300];
+    const struct asked long_named = {ENQUEUE, 1, 1, 1, MG_EX, long_name, 0, 1};
     struct mg_answer answer;
     uint64_t learned;
-    char name[300];
-    memset(&answer, 9, sizeof answer);
-    IS(mg_enqueue(host, 1, 1, 1, MG_EX, NULL, 0, &answer), MG_BAD_ARGUMENT);
-    IS(answer.slot, -1);
-    IS(answer.reply, MG_NO_REPLY);
-    IS(mg_enqueue(host, 1, 1, 1, MG_EX, "", 0, &answer), MG_BAD_ARGUMENT);
-    IS(mg_enqueue(host, 1, 1, 1, MG_EX, "sixteen_bytes_ab", 0, &answer), MG_BAD_ARGUMENT);
-    memset(name, 'a', sizeof name);
-    name[sizeof name - 1] = 0;
-    IS(mg_enqueue(host, 1, 1, 1, MG_EX, name, 0, &answer), MG_BAD_ARGUMENT);
-    IS(mg_enqueue(host, 1, 1, 1, MG_EX, "a b", 0, &answer), MG_BAD_ARGUMENT);
-    IS(mg_enqueue(host, 1, 1, 1, MG_EX, "\xc3\xa4", 0, &answer), MG_BAD_ARGUMENT);
-    IS(mg_enqueue(host, 256, 1, 1, MG_EX, "a", 0, &answer), MG_BAD_ARGUMENT);
-    IS(mg_enqueue(host, 1, 0, 1, MG_EX, "a", 0, &answer), MG_BAD_ARGUMENT);
-    IS(mg_enqueue(host, 1, ((uint64_t)1 << 62) + 1, 1, MG_EX, "a", 0, &answer), MG_BAD_ARGUMENT);
-    IS(mg_enqueue(host, 1, 1, 0, MG_EX, "a", 0, &answer), MG_BAD_ARGUMENT);
-    IS(mg_enqueue(host, 1, 1, 65536, MG_EX, "a", 0, &answer), MG_BAD_ARGUMENT);
-    IS(mg_enqueue(host, 1, 1, 1, MG_NONE, "a", 0, &answer), MG_BAD_ARGUMENT);
-    IS(mg_enqueue(host, 1, 1, 1, 6, "a", 0, &answer), MG_BAD_ARGUMENT);
-    IS(mg_enqueue(host, 1, 1, 1, MG_EX, "a", 2, &answer), MG_BAD_ARGUMENT);
-    IS(mg_convert(host, 1, 1, 1, 6, 0, &answer), MG_BAD_ARGUMENT);
-    IS(mg_convert(host, 1, 1, 1, MG_EX, 3, &answer), MG_BAD_ARGUMENT);
-    IS(mg_release(host, 1, 1, 0, &answer), MG_BAD_ARGUMENT);
-    IS(mg_cancel(host, 1, 1, 65536, &answer), MG_BAD_ARGUMENT);
-    IS(mg_status(host, 1, 0, 1, &answer), MG_BAD_ARGUMENT);
-    IS(mg_purge(host, 1, 1, 8, &answer), MG_BAD_ARGUMENT);
+    for (unsigned command = ENQUEUE; command <= PURGE; command *= 2)
+        for (size_t i = 0; i < sizeof BAD / sizeof BAD[0]; i++)
+            if (BAD[i].commands & command) {
+                memset(&answer, 9, sizeof answer);
+                is_at((int)i + 1, ask(host, command, &BAD[i], &answer), MG_BAD_ARGUMENT);
+                IS(answer.slot, -1);
+                IS(answer.reply, MG_NO_REPLY);
+                IS(answer.purged, 0);
+                IS(answer.held, MG_NONE);
+                IS(answer.wanted, MG_NONE);
+                IS(ask(host, command, &BAD[i], NULL), MG_BAD_ARGUMENT);
+            }
+    memset(long_name, 'a', sizeof long_name - 1);
+    IS(ask(host, ENQUEUE, &long_named, &answer), MG_BAD_ARGUMENT);
     IS(mg_set_tries(host, 0), MG_BAD_ARGUMENT);
     IS(mg_set_tries(host, 256), MG_BAD_ARGUMENT);
     IS(mg_wait(host, 1, 0, 1, NULL), MG_BAD_ARGUMENT);
     IS(mg_wait(host, 1, -1, 1, NULL), MG_BAD_ARGUMENT);
+    IS(mg_wait(host, 0, 1, 1, NULL), MG_NO_SUCH_LOCK);
+    IS(mg_wait(host, 65537, 1, 1, NULL), MG_NO_SUCH_LOCK);
     IS(mg_host_facts(host, NULL), MG_BAD_ARGUMENT);
     IS(mg_lock(host, 1, NULL), MG_BAD_ARGUMENT);
     IS(mg_locks(host, NULL, 1, NULL), MG_BAD_ARGUMENT);
@@ -143,6 +184,8 @@ static void commands(struct mg_host *first, struct mg_host *second) {
     IS(mg_convert(first, 1, 3, 1, MG_CR, 0, &answer), MG_OK);
     IS(answer.reply, MG_QUEUED);
     IS(mg_wait(first, 1, 2, 3, &mode), MG_TIMED_OUT);
+    IS(mg_lock(first, 0, &view), MG_NO_SUCH_LOCK);
+    IS(mg_lock(first, 65537, &view), MG_NO_SUCH_LOCK); /* not lock 1 */
     IS(mg_lock(first, 1, &view), MG_OK);
     IS(view.held, MG_NL);
     IS(view.wanted, MG_CR);
@@ -151,15 +194,22 @@ static void commands(struct mg_host *first, struct mg_host *second) {
     IS_TEXT(view.name, "db");
     IS(mg_cancel(first, 1, 4, 1, &answer), MG_OK);
     IS(answer.reply, MG_CANCELLED);
+    IS(mg_wait(first, 1, 2, 1000, &mode), MG_OK); /* it converts no longer, and holds what it held */
+    IS(mode, MG_NL);
     IS(mg_cancel(first, 1, 5, 1, &answer), MG_NOTHING_TO_CANCEL);
     IS(mg_release(first, 1, 4, 1, &answer), MG_STALE);
     IS(mg_release(first, 1, 6, 9, &answer), MG_NO_SUCH_LOCK);
     IS(mg_release(first, 1, 7, 2, &answer), MG_NOT_OWNER);
-    IS(mg_enqueue(first, 1, 8, 1, MG_NL, "x", 0, &answer), MG_LOCK_IN_USE);
+    IS(mg_enqueue(first, 1, 8, 3, MG_PR, "db", 0, &answer), MG_OK);
+    IS(answer.reply, MG_QUEUED);
+    IS(mg_cancel(first, 1, 9, 3, &answer), MG_OK);
+    IS(mg_wait(first, 3, 1, 1000, &mode), MG_NO_SUCH_LOCK); /* it waited, and is gone */
+    IS(mode, MG_NONE);
+    IS(mg_enqueue(first, 1, 10, 1, MG_NL, "x", 0, &answer), MG_LOCK_IN_USE);
     IS(mg_look(second, &learned), MG_OK);
-    IS(learned, 13);
+    IS(learned, 15);
     IS(mg_refresh(second, &learned), MG_OK);
-    IS(learned, 13);
+    IS(learned, 15);
     IS(mg_locks(second, NULL, 0, &count), MG_OK);
     IS(count, 2);
     memset(views, 9, sizeof views);
@@ -173,7 +223,7 @@ static void commands(struct mg_host *first, struct mg_host *second) {
     IS(mg_clients(second, clients, 4, &count), MG_OK);
     IS(count, 2);
     IS(clients[0].client, 1);
-    IS(clients[0].request, 8);
+    IS(clients[0].request, 10);
     IS(clients[0].reply, MG_REFUSED);
     IS(clients[0].refusal, MG_LOCK_IN_USE);
     IS(clients[1].reply, MG_STATE);
@@ -190,14 +240,14 @@ static void commands(struct mg_host *first, struct mg_host *second) {
     IS(facts.cluster, 7);
     IS(facts.host, 1);
     IS(facts.disks, 3);
-    IS(facts.slots, 16);
-    IS(facts.learned, 13);
-    IS(mg_purge(first, 1, 9, 1, &answer), MG_OK);
+    IS(facts.slots, 18);
+    IS(facts.learned, 15);
+    IS(mg_purge(first, 1, 11, 1, &answer), MG_OK);
     IS(answer.reply, MG_PURGED);
     IS(answer.purged, 1);
-    IS(mg_release(first, 1, 10, 1, NULL), MG_OK);
-    IS(mg_status(first, 1, 11, 1, &answer), MG_NO_SUCH_LOCK);
-    IS(mg_status(first, 1, 12, 1, &answer), MG_LOG_FULL);
+    IS(mg_release(first, 1, 12, 1, NULL), MG_OK);
+    IS(mg_status(first, 1, 13, 1, &answer), MG_NO_SUCH_LOCK);
+    IS(mg_status(first, 1, 14, 1, &answer), MG_LOG_FULL);
     IS(answer.slot, -1);
     IS(mg_text(first, text, sizeof text, NULL), MG_OK);
     IS_TEXT(text, "empty\n");
@@ -209,9 +259,9 @@ int main(int argc, char **argv) {
     if (argc != 2)
         return 2;
     bad_arguments(argv[1]);
-    IS(mg_format(argv[1], 3, 16, 7, &disk), MG_OK);
+    IS(mg_format(argv[1], 3, 18, 7, &disk), MG_OK);
     IS(disk, -1);
-    IS(mg_format(argv[1], 3, 16, 7, &disk), MG_ALREADY_THERE);
+    IS(mg_format(argv[1], 3, 18, 7, &disk), MG_ALREADY_THERE);
     IS(mg_open(argv[1], 0, &first, &disk), MG_OK);
     IS(disk, -1);
     IS(mg_open(argv[1], 0, &second, &disk), MG_HOST_IN_USE);

@@ -1,8 +1,8 @@
 /*
  * Times a command over an open host, and a look that finds nothing, against the bare system calls of the same device calls on files of
- * the same size. Prints microseconds and the quotient of each.
+ * the same size. Both take turns, 100 of a kind in a batch. Prints the least microseconds of all batches, and their quotient.
  *
- *   measure FOLDER ROUNDS      an empty folder, best in memory; up to 1,000 rounds
+ *   measure FOLDER BATCHES      an empty folder, best in memory; up to 39 batches
  */
 #ifndef _DEFAULT_SOURCE
 #define _DEFAULT_SOURCE
@@ -22,7 +22,6 @@ enum { DISKS = 3, SLOTS = 4096, ROW = 1024 };
 
 static int files[DISKS];
 static char row[ROW];
-static int failed = 0;
 
 static double now(void) {
     struct timespec at;
@@ -85,14 +84,67 @@ static void bare_look(int slot) {
     }
 }
 
+/* ---- batches: of the library and of bare calls in turn ---- */
+
+/* After each batch of commands there are ten of looks: these take no slots. */
+enum { BATCH = 100, MOST_BATCHES = SLOTS / BATCH - 1, LOOKS = 10, MOST_TIMES = LOOKS * MOST_BATCHES };
+
+struct times {
+    double library[MOST_TIMES];
+    double bare[MOST_TIMES];
+};
+
+static void commands(struct mg_host *host, int batch, struct times *times) {
+    double begun = now();
+    for (int n = batch * BATCH; n < (batch + 1) * BATCH; n++) {
+        uint64_t request = (uint64_t)n + 1;
+        int status = n % 2 == 0 ? mg_enqueue(host, 1, request, 1, MG_EX, "db", 0, NULL) : mg_release(host, 1, request, 1, NULL);
+        needs(status == MG_OK);
+    }
+    times->library[batch] = (now() - begun) / BATCH;
+    begun = now();
+    for (int n = batch * BATCH; n < (batch + 1) * BATCH; n++)
+        bare_command(n);
+    times->bare[batch] = (now() - begun) / BATCH;
+}
+
+static void looks(struct mg_host *host, int slot, int batch, struct times *times) {
+    double begun = now();
+    for (int i = 0; i < BATCH; i++)
+        needs(mg_look(host, NULL) == MG_OK);
+    times->library[batch] = (now() - begun) / BATCH;
+    begun = now();
+    for (int i = 0; i < BATCH; i++)
+        bare_look(slot);
+    times->bare[batch] = (now() - begun) / BATCH;
+}
+
+static int in_order(const void *a, const void *b) {
+    double first = *(const double *)a, second = *(const double *)b;
+    return (first > second) - (first < second);
+}
+
+static void tell(const char *what, struct times *times, int batches) {
+    double quotients[MOST_TIMES];
+    for (int i = 0; i < batches; i++)
+        quotients[i] = times->library[i] / times->bare[i];
+    qsort(quotients, (size_t)batches, sizeof quotients[0], in_order);
+    qsort(times->library, (size_t)batches, sizeof times->library[0], in_order);
+    qsort(times->bare, (size_t)batches, sizeof times->bare[0], in_order);
+    printf("%s: %.2f us, its system calls %.2f us, quotient %.2f; of the batches the middle quotient %.2f\n", what, times->library[0],
+           times->bare[0], times->library[0] / times->bare[0], quotients[batches / 2]);
+}
+
 int main(int argc, char **argv) {
+    static struct times of_commands, of_looks;
     struct mg_host *host;
     char path[4096];
-    double begun, library, bare;
-    int rounds;
+    int batches;
     if (argc != 3)
         return 2;
-    rounds = atoi(argv[2]);
+    batches = atoi(argv[2]);
+    if (batches < 1 || batches > MOST_BATCHES)
+        return 2;
     needs(mg_format(argv[1], DISKS, SLOTS, 7, NULL) == MG_OK && mg_open(argv[1], 0, &host, NULL) == MG_OK);
     for (int k = 0; k < DISKS; k++) {
         static char zeros[4096];
@@ -102,31 +154,13 @@ int main(int argc, char **argv) {
         for (int at = 0; at < 2048 + SLOTS * ROW; at += (int)sizeof zeros)
             needs(pwrite(files[k], zeros, sizeof zeros, at) == (ssize_t)sizeof zeros);
     }
-    for (int pass = 0; pass < 2; pass++) {
-        begun = now();
-        for (int i = 0; i < rounds; i++) {
-            int n = pass * rounds + i;
-            int status = n % 2 == 0 ? mg_enqueue(host, 1, (uint64_t)n + 1, 1, MG_EX, "db", 0, NULL) : mg_release(host, 1, (uint64_t)n + 1, 1, NULL);
-            failed += status != MG_OK;
-        }
-        library = (now() - begun) / rounds;
-        begun = now();
-        for (int i = 0; i < rounds; i++)
-            bare_command(pass * rounds + i);
-        bare = (now() - begun) / rounds;
+    for (int batch = 0; batch < batches; batch++) {
+        commands(host, batch, &of_commands);
+        for (int i = 0; i < LOOKS; i++)
+            looks(host, (batch + 1) * BATCH, batch * LOOKS + i, &of_looks);
     }
-    printf("a command: %.2f us, its system calls %.2f us, quotient %.2f\n", library, bare, library / bare);
-    for (int pass = 0; pass < 2; pass++) {
-        begun = now();
-        for (int i = 0; i < rounds; i++)
-            failed += mg_look(host, NULL) != MG_OK;
-        library = (now() - begun) / rounds;
-        begun = now();
-        for (int i = 0; i < rounds; i++)
-            bare_look(2 * rounds);
-        bare = (now() - begun) / rounds;
-    }
-    printf("a look that finds nothing: %.2f us, its system calls %.2f us, quotient %.2f\n", library, bare, library / bare);
+    tell("a command", &of_commands, batches);
+    tell("a look that finds nothing", &of_looks, batches * LOOKS);
     mg_close(host);
-    return failed != 0;
+    return 0;
 }

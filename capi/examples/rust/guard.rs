@@ -1,7 +1,8 @@
 //! A lock as a guard, which gives it up where it goes out of scope.
 //!
 //!     guard FOLDER      an empty folder
-use std::ffi::{CString, c_char, c_int, c_uint, c_void};
+use std::ffi::CString;
+use std::os::raw::{c_char, c_int, c_uint, c_void};
 use std::ptr;
 
 #[repr(C)]
@@ -14,7 +15,7 @@ struct Answer {
     wanted: i32,
 }
 
-unsafe extern "C" {
+extern "C" {
     fn mg_format(folder: *const c_char, disks: c_uint, slots: c_uint, cluster: u64, disk: *mut c_int) -> c_int;
     fn mg_open(folder: *const c_char, host: c_uint, out: *mut *mut c_void, disk: *mut c_int) -> c_int;
     fn mg_close(host: *mut c_void);

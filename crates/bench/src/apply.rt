@@ -23,14 +23,7 @@ pub struct Apply {
 impl Benchmark for Apply {
     fn new(alloc: Global) -> Result<Self, Failure> {
         let mut table = Table::new(alloc)?;
-        for place in 0..STANDING {
-            let Some(command) = standing_at(place) else {
-                return Err(Failure::Wrong);
-            };
-            if table.apply(&command) != Reply::Granted {
-                return Err(Failure::Wrong);
-            }
-        }
+        stand_all(&mut table)?;
         Ok(Apply { table })
     }
 
@@ -45,6 +38,19 @@ impl Benchmark for Apply {
         }
         Ok(())
     }
+}
+
+/// Puts all locks into the table that stand there all the while.
+fn stand_all(table: &mut Table) -> Result<(), Failure> {
+    for place in 0..STANDING {
+        let Some(command) = standing_at(place) else {
+            return Err(Failure::Wrong);
+        };
+        if table.apply(&command) != Reply::Granted {
+            return Err(Failure::Wrong);
+        }
+    }
+    Ok(())
 }
 
 /// The enqueue of a lock that stands all the while.
@@ -66,29 +72,45 @@ fn standing_at(place: u16) -> Option<Command> {
 fn command_at(place: u32) -> Option<Command> {
     let client = place % CLIENTS;
     let round = place / CLIENTS;
-    let lock = LockNumber::new(client as u16 + 1)?;
-    let action = match round % 3 {
-        0 => Action::Enqueue {
-            lock,
-            name: LockName::new(if client < 4 { b"accounts" } else { b"orders" })?,
-            mode: Mode::ConcurrentRead,
-            no_queue: false,
-        },
-        1 => Action::Convert {
-            lock,
-            mode: if client % 2 == 0 {
-                Mode::ProtectedRead
-            } else {
-                Mode::ProtectedWrite
-            },
-            no_queue: false,
-        },
-        _ => Action::Release(lock),
-    };
     Some(Command {
         host: HostNumber::new(0)?,
         client: ClientNumber::new(client as u8),
         request: RequestNumber::new(u64::from(round) + 1)?,
-        action,
+        action: action_at(client as u16, round)?,
     })
+}
+
+/// What a client asks in a round: its lock, then another mode of it, then its end.
+fn action_at(client: u16, round: u32) -> Option<Action> {
+    let lock = LockNumber::new(client.checked_add(1)?)?;
+    match round % 3 {
+        0 => Some(Action::Enqueue {
+            lock,
+            name: name_of(client)?,
+            mode: Mode::ConcurrentRead,
+            no_queue: false,
+        }),
+        1 => Some(Action::Convert {
+            lock,
+            mode: mode_of(client),
+            no_queue: false,
+        }),
+        _ => Some(Action::Release(lock)),
+    }
+}
+
+fn name_of(client: u16) -> Option<LockName> {
+    if client < 4 {
+        LockName::new(b"accounts")
+    } else {
+        LockName::new(b"orders")
+    }
+}
+
+fn mode_of(client: u16) -> Mode {
+    if client % 2 == 0 {
+        Mode::ProtectedRead
+    } else {
+        Mode::ProtectedWrite
+    }
 }

@@ -5,7 +5,7 @@ use crate::failure::Failure;
 use crate::slow_disk::{SlowDisk, two_slow_disks};
 use cluster::{Cluster, Config, Entry, Gate, HostSeat, Named, OpenGate, Opening};
 use lock_command::HostNumber;
-use std::alloc::AllocGlobal;
+use std::alloc::{AllocError, AllocGlobal, Global};
 use std::marker::Brand;
 use std::sync::Wait;
 use std::sync::atomic::{AtomicBool, Ordering};
@@ -57,32 +57,91 @@ fn recoveries_of<N: Named + Send + Sync, R: Threads + Wait + Clock + AllocGlobal
     requires two { opening.shape.disks ≡ 2 }
 {
     let alloc = rt.alloc();
-    let (Some(one), Some(other)) = (HostNumber::new(0), HostNumber::new(1)) else {
-        return Err(Failure::Wrong);
-    };
     let disks = two_slow_disks(rt, alloc, opening.config())?;
     let (ties, foundation) = opening.named::<N>(alloc)?;
     let cluster = Cluster::new(alloc, disks, &ties, foundation)?;
-    let one = cluster.seat(rt, alloc, one)?;
-    let other = cluster.seat(rt, alloc, other)?;
-    let start = Instant::now(rt)?;
-    let (one, other) = match order {
-        Order::AtOnce => at_once(rt, &cluster, one, other),
-        Order::InTurn => (
-            recovers(rt, &cluster, one, &mut OpenGate),
-            recovers(rt, &cluster, other, &mut OpenGate),
-        ),
-    };
-    let spent = start.elapsed(rt)?;
-    let mut seats = Vec::new(alloc);
-    if seats.push(one).is_err() || seats.push(other).is_err() {
-        return Err(Failure::NoMemory);
-    }
+    calls_of(rt, alloc, cluster, order)
+}
+
+// The calls that two hosts have made.
+fn calls_of<N: Named + Send + Sync, R: Threads + Wait + Clock + Sync>(
+    rt: &R,
+    alloc: Global,
+    cluster: Cluster<'_, N, SlowDisk<'_, R>>,
+    order: Order,
+) -> Result<Calls, Failure> {
+    let (seats, spent) = time_both(rt, alloc, &cluster, order)?;
     let record = cluster.finish(seats)?;
     Ok(Calls {
         made: calls_in(&record.entries),
-        spent: u64::try_from(spent.as_nanos()).unwrap_or(u64::MAX),
+        spent,
     })
+}
+
+// The seats of two hosts once both are done, and the nanoseconds that this took.
+fn time_both<N: Named + Send + Sync, R: Threads + Wait + Clock + Sync>(
+    rt: &R,
+    alloc: Global,
+    cluster: &Cluster<'_, N, SlowDisk<'_, R>>,
+    order: Order,
+) -> Result<(Vec<HostSeat<N>>, u64), Failure> {
+    let one = seat_of(rt, alloc, cluster, 0)?;
+    let other = seat_of(rt, alloc, cluster, 1)?;
+    let (one, other, spent) = time_recoveries(rt, cluster, one, other, order)?;
+    Ok((both(alloc, one, other)?, spent))
+}
+
+fn time_recoveries<N: Named + Send + Sync, R: Threads + Wait + Clock + Sync>(
+    rt: &R,
+    cluster: &Cluster<'_, N, SlowDisk<'_, R>>,
+    one: HostSeat<N>,
+    other: HostSeat<N>,
+    order: Order,
+) -> Result<(HostSeat<N>, HostSeat<N>, u64), Failure> {
+    let start = Instant::now(rt)?;
+    let (one, other) = recover_both(rt, cluster, one, other, order);
+    let spent = start.elapsed(rt)?;
+    Ok((
+        one,
+        other,
+        u64::try_from(spent.as_nanos()).unwrap_or(u64::MAX),
+    ))
+}
+
+fn seat_of<N: Named, R: Wait + Clock>(
+    rt: &R,
+    alloc: Global,
+    cluster: &Cluster<'_, N, SlowDisk<'_, R>>,
+    host: u8,
+) -> Result<HostSeat<N>, Failure> {
+    let Some(host) = HostNumber::new(host) else {
+        return Err(Failure::Wrong);
+    };
+    Ok(cluster.seat(rt, alloc, host)?)
+}
+
+fn both<N: Named>(
+    alloc: Global,
+    one: HostSeat<N>,
+    other: HostSeat<N>,
+) -> Result<Vec<HostSeat<N>>, Failure> {
+    Ok(vec![in alloc; one, other].map_err(AllocError::from)?)
+}
+
+fn recover_both<N: Named + Send + Sync, R: Threads + Wait + Clock + Sync>(
+    rt: &R,
+    cluster: &Cluster<'_, N, SlowDisk<'_, R>>,
+    one: HostSeat<N>,
+    other: HostSeat<N>,
+    order: Order,
+) -> (HostSeat<N>, HostSeat<N>) {
+    match order {
+        Order::AtOnce => at_once(rt, cluster, one, other),
+        Order::InTurn => (
+            recovers(rt, cluster, one, &mut OpenGate),
+            recovers(rt, cluster, other, &mut OpenGate),
+        ),
+    }
 }
 
 /// Each host in a thread of its own.
@@ -136,13 +195,22 @@ fn recovers<N: Named, R: Wait + Clock, G: Gate>(
     gate: &mut G,
 ) -> HostSeat<N> {
     let mut seat = seat;
+    recover_each(rt, cluster, &mut seat, gate);
+    seat
+}
+
+fn recover_each<N: Named, R: Wait + Clock, G: Gate>(
+    rt: &R,
+    cluster: &Cluster<'_, N, SlowDisk<'_, R>>,
+    seat: &mut HostSeat<N>,
+    gate: &mut G,
+) {
     for _ in 0..RECOVERIES {
         if !seat.idle() {
-            return seat;
+            return;
         }
-        let _ = cluster.recover(rt, &mut seat, gate, 255);
+        let _ = cluster.recover(rt, seat, gate, 255);
     }
-    seat
 }
 
 fn calls_in(entries: &[Entry]) -> usize {

@@ -7,7 +7,7 @@ use cluster::{Cluster, Config, HostFault, HostSeat, Named, OpenGate, Opening, Re
 use disk::SimDisk;
 use lock_command::HostNumber;
 use lock_table::Reply;
-use std::alloc::{AllocGlobal, Global};
+use std::alloc::{AllocError, AllocGlobal, Global};
 use std::marker::Brand;
 use std::sync::Wait;
 
@@ -119,15 +119,37 @@ fn entries_of<N: Named, R: Wait + AllocGlobal>(
     requires { IsNamed opening N.shape N.table N.name N.parts N.all }
 {
     let alloc = rt.alloc();
+    let (ties, foundation) = opening.named::<N>(alloc)?;
+    let cluster = Cluster::simulated(alloc, &ties, foundation)?;
+    come_to(rt, alloc, cluster, trial, refusals)
+}
+
+fn come_to<N: Named, R: Wait>(
+    rt: &R,
+    alloc: Global,
+    cluster: Cluster<'_, N, SimDisk>,
+    trial: Trial,
+    refusals: &mut Refusals,
+) -> Result<(Came, usize), Failure> {
+    let (came, seat) = go_from_the_start(rt, alloc, &cluster, trial, refusals)?;
+    let entries = finish(alloc, cluster, seat)?;
+    Ok((came?, entries))
+}
+
+// Starts host 0, and lets it go through the trial. Gives its seat as well.
+fn go_from_the_start<N: Named>(
+    rt: &impl Wait,
+    alloc: Global,
+    cluster: &Cluster<'_, N, SimDisk>,
+    trial: Trial,
+    refusals: &mut Refusals,
+) -> Result<(Result<Came, Failure>, HostSeat<N>), Failure> {
     let Some(host) = HostNumber::new(0) else {
         return Err(Failure::Wrong);
     };
-    let (ties, foundation) = opening.named::<N>(alloc)?;
-    let cluster = Cluster::simulated(alloc, &ties, foundation)?;
     let mut seat = cluster.seat(rt, alloc, host)?;
-    let came = go_through(rt, alloc, &cluster, &mut seat, trial, refusals);
-    let entries = finish(alloc, cluster, seat)?;
-    Ok((came?, entries))
+    let came = go_through(rt, alloc, cluster, &mut seat, trial, refusals);
+    Ok((came, seat))
 }
 
 /// How many entries a cluster has left, all of whose seats are this one.
@@ -136,12 +158,13 @@ fn finish<N: Named>(
     cluster: Cluster<'_, N, SimDisk>,
     seat: HostSeat<N>,
 ) -> Result<usize, Failure> {
-    let mut seats = Vec::new(alloc);
-    if seats.push(seat).is_err() {
-        return Err(Failure::NoMemory);
-    }
+    let seats = alone(alloc, seat)?;
     let record = cluster.finish(seats)?;
     Ok(record.entries.len())
+}
+
+fn alone<N: Named>(alloc: Global, seat: HostSeat<N>) -> Result<Vec<HostSeat<N>>, Failure> {
+    Ok(vec![in alloc; seat].map_err(AllocError::from)?)
 }
 
 fn go_through<N: Named>(

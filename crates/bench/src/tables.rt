@@ -77,14 +77,7 @@ pub fn print_tables<R: Print + Clock + AllocGlobal>(rt: &R) -> Result<(), Failur
 fn best_of<R: Clock>(rt: &R, alloc: Global, shape: Shape) -> Result<[u64; 8], Failure> {
     let mut best = [u64::MAX; 8];
     for _ in 0..ROUNDS {
-        let mut table = standing(alloc, shape)?;
-        let mut spent = [0u64; 8];
-        for turn in 0..TURNS {
-            for at in 0..KINDS.len() {
-                let taken = together(rt, &mut table, shape, KINDS[at].0, turn * 8 + at as u64)?;
-                spent[at] = spent[at].saturating_add(taken);
-            }
-        }
+        let spent = spent_in(rt, alloc, shape)?;
         for at in 0..KINDS.len() {
             best[at] = best[at].min(spent[at]);
         }
@@ -92,9 +85,31 @@ fn best_of<R: Clock>(rt: &R, alloc: Global, shape: Shape) -> Result<[u64; 8], Fa
     Ok(best)
 }
 
+/// The nanoseconds that the commands of each kind take in all turns, in a table made anew.
+fn spent_in<R: Clock>(rt: &R, alloc: Global, shape: Shape) -> Result<[u64; 8], Failure> {
+    let mut table = standing(alloc, shape)?;
+    all_turns(rt, &mut table, shape)
+}
+
+fn all_turns<R: Clock>(rt: &R, table: &mut Table, shape: Shape) -> Result<[u64; 8], Failure> {
+    let mut spent = [0u64; 8];
+    for turn in 0..TURNS {
+        for at in 0..KINDS.len() {
+            let taken = together(rt, table, shape, KINDS[at].0, turn * 8 + at as u64)?;
+            spent[at] = spent[at].saturating_add(taken);
+        }
+    }
+    Ok(spent)
+}
+
 /// A table with the locks that stand all the while.
 fn standing(alloc: Global, shape: Shape) -> Result<Table, Failure> {
     let mut table = Table::new(alloc)?;
+    stand_all(&mut table, shape)?;
+    Ok(table)
+}
+
+fn stand_all(table: &mut Table, shape: Shape) -> Result<(), Failure> {
     for place in 0..shape.standing {
         let client = CLIENTS as u8;
         let Some(command) = command_at(shape, Kind::Enqueue, client, place, u64::from(place)) else {
@@ -104,7 +119,7 @@ fn standing(alloc: Global, shape: Shape) -> Result<Table, Failure> {
             return Err(Failure::Wrong);
         }
     }
-    Ok(table)
+    Ok(())
 }
 
 /// The nanoseconds that the eight commands of a kind take, or the one purge.
@@ -139,38 +154,46 @@ fn together<R: Clock>(
 
 /// The command of a kind for the lock at a place. The numbers of the locks do not rise as the places do.
 fn command_at(shape: Shape, kind: Kind, client: u8, place: u16, request: u64) -> Option<Command> {
-    let number = place.wrapping_mul(37) % 256;
-    let lock = LockNumber::new(number.saturating_add(1))?;
-    let free = name_at(shape, place)?;
-    let taken = name_at(shape, place % shape.standing.max(1))?;
-    let no_queue = false;
-    let (name, mode) = match kind {
-        Kind::Wait => (taken, Mode::Exclusive),
-        _ => (free, Mode::ConcurrentRead),
-    };
-    let action = match kind {
-        Kind::Enqueue | Kind::Wait | Kind::Through => Action::Enqueue {
-            lock,
-            name,
-            mode,
-            no_queue,
-        },
-        Kind::Convert => Action::Convert {
-            lock,
-            mode: Mode::ConcurrentWrite,
-            no_queue,
-        },
-        Kind::Status => Action::Status(lock),
-        Kind::Release => Action::Release(lock),
-        Kind::Cancel => Action::Cancel(lock),
-        Kind::Purge => Action::Purge(HostNumber::new(1)?),
-    };
+    let host = if kind == Kind::Through { 1 } else { 0 };
     Some(Command {
-        host: HostNumber::new(if kind == Kind::Through { 1 } else { 0 })?,
+        host: HostNumber::new(host)?,
         client: ClientNumber::new(client),
         request: RequestNumber::new(request.saturating_add(1))?,
-        action,
+        action: action_at(shape, kind, place)?,
     })
+}
+
+/// What a command of a kind asks of the lock at a place.
+fn action_at(shape: Shape, kind: Kind, place: u16) -> Option<Action> {
+    let number = place.wrapping_mul(37) % 256;
+    let lock = LockNumber::new(number.saturating_add(1))?;
+    match kind {
+        Kind::Enqueue | Kind::Through => {
+            Some(enqueue(lock, name_at(shape, place)?, Mode::ConcurrentRead))
+        }
+        Kind::Wait => {
+            let taken = place % shape.standing.max(1);
+            Some(enqueue(lock, name_at(shape, taken)?, Mode::Exclusive))
+        }
+        Kind::Convert => Some(Action::Convert {
+            lock,
+            mode: Mode::ConcurrentWrite,
+            no_queue: false,
+        }),
+        Kind::Status => Some(Action::Status(lock)),
+        Kind::Release => Some(Action::Release(lock)),
+        Kind::Cancel => Some(Action::Cancel(lock)),
+        Kind::Purge => Some(Action::Purge(HostNumber::new(1)?)),
+    }
+}
+
+fn enqueue(lock: LockNumber, name: LockName, mode: Mode) -> Action {
+    Action::Enqueue {
+        lock,
+        name,
+        mode,
+        no_queue: false,
+    }
 }
 
 /// The name of the lock at a place.

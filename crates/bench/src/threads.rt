@@ -2,7 +2,7 @@ ghost use Rattle.cluster.specs.Opening.{IsNamed};
 
 use crate::failure::Failure;
 use crate::first_path::command_at;
-use cluster::{Cluster, Config, Entry, HostFault, HostSeat, Named, OpenGate, Opening, Receipt};
+use cluster::{Cluster, Config, HostFault, HostSeat, Named, OpenGate, Opening, Receipt};
 use disk::SimDisk;
 use lock_command::HostNumber;
 use std::alloc::{AllocGlobal, Global};
@@ -47,36 +47,82 @@ fn work_of<N: Named + Send + Sync, R: Threads + Wait + Clock + AllocGlobal + Syn
     let alloc = rt.alloc();
     let (ties, foundation) = opening.named::<N>(alloc)?;
     let cluster = Cluster::simulated(alloc, &ties, foundation)?;
-    let shared = &cluster;
+    let_work(rt, alloc, cluster, hosts, rounds)
+}
+
+// Lets the hosts work, and counts what they have left.
+fn let_work<N: Named + Send + Sync, R: Threads + Wait + Clock + Sync>(
+    rt: &R,
+    alloc: Global,
+    cluster: Cluster<'_, N, SimDisk>,
+    hosts: u8,
+    rounds: u32,
+) -> Result<Work, Failure> {
+    let (left, spent) = time_all(rt, alloc, &cluster, hosts, rounds)?;
+    let seats = seats_in(alloc, left)?;
+    let record = cluster.finish(seats)?;
+    Ok(Work {
+        acks: acks_of(&record.seats),
+        entries: record.entries.len(),
+        spent,
+    })
+}
+
+// The seats of the hosts once all are done, and the nanoseconds that this took.
+fn time_all<N: Named + Send + Sync, R: Threads + Wait + Clock + Sync>(
+    rt: &R,
+    alloc: Global,
+    cluster: &Cluster<'_, N, SimDisk>,
+    hosts: u8,
+    rounds: u32,
+) -> Result<(Vec<Option<HostSeat<N>>>, u64), Failure> {
     let start = Instant::now(rt)?;
-    let left = map_indices(
+    let left = work_all(rt, alloc, cluster, hosts, rounds)?;
+    let spent = start.elapsed(rt)?;
+    Ok((left, u64::try_from(spent.as_nanos()).unwrap_or(u64::MAX)))
+}
+
+fn work_all<N: Named + Send + Sync, R: Threads + Wait + Clock + Sync>(
+    rt: &R,
+    alloc: Global,
+    cluster: &Cluster<'_, N, SimDisk>,
+    hosts: u8,
+    rounds: u32,
+) -> Result<Vec<Option<HostSeat<N>>>, Failure> {
+    Ok(map_indices(
         rt,
         alloc,
         usize::from(hosts),
         &|i: usize| -> Option<HostSeat<N>> {
             let host = u8::try_from(i).ok().and_then(HostNumber::new)?;
-            submits(rt, alloc, shared, host, rounds)
+            submits(rt, alloc, cluster, host, rounds)
         },
-    )?;
-    let spent = start.elapsed(rt)?;
+    )?)
+}
+
+// The seats, where each host has left one.
+fn seats_in<N: Named>(
+    alloc: Global,
+    left: Vec<Option<HostSeat<N>>>,
+) -> Result<Vec<HostSeat<N>>, Failure> {
     let mut seats = Vec::new(alloc);
-    let mut acks: usize = 0;
     for seat in left {
         let Some(seat) = seat else {
             return Err(Failure::Wrong);
         };
-        acks = acks.saturating_add(seat.acks().len());
         if seats.push(seat).is_err() {
             return Err(Failure::NoMemory);
         }
     }
-    let record = cluster.finish(seats)?;
-    let entries: &[Entry] = &record.entries;
-    Ok(Work {
-        acks,
-        entries: entries.len(),
-        spent: u64::try_from(spent.as_nanos()).unwrap_or(u64::MAX),
-    })
+    Ok(seats)
+}
+
+fn acks_of<N: Named>(seats: &[HostSeat<N>]) -> usize {
+    let mut acks: usize = 0;
+    for seat in seats {
+        acks = acks.saturating_add(seat.acks().len());
+    }
+    acks
 }
 
 /// Submits so many commands, of which some may be refused.
@@ -88,10 +134,20 @@ fn submits<N: Named>(
     rounds: u32,
 ) -> Option<HostSeat<N>> {
     let mut seat = cluster.seat(rt, alloc, host).ok()?;
-    for round in 0..rounds {
-        submit_once(rt, cluster, &mut seat, round)?;
-    }
+    submit_each(rt, cluster, &mut seat, rounds)?;
     Some(seat)
+}
+
+fn submit_each<N: Named>(
+    rt: &impl Wait,
+    cluster: &Cluster<'_, N, SimDisk>,
+    seat: &mut HostSeat<N>,
+    rounds: u32,
+) -> Option<()> {
+    for round in 0..rounds {
+        submit_once(rt, cluster, seat, round)?;
+    }
+    Some(())
 }
 
 // Submits the command of this round, refused or not.

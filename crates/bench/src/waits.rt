@@ -20,17 +20,8 @@ pub struct Waits {
 
 impl Benchmark for Waits {
     fn new(alloc: Global) -> Result<Self, Failure> {
-        let mut table = Table::new(alloc)?;
-        for place in 0..256 {
-            let Some(command) = enqueue_at(place) else {
-                return Err(Failure::Wrong);
-            };
-            if let Reply::Refused(_) = table.apply(&command) {
-                return Err(Failure::Wrong);
-            }
-        }
         Ok(Waits {
-            picture: table.picture(alloc)?,
+            picture: crowded(alloc)?,
         })
     }
 
@@ -42,6 +33,25 @@ impl Benchmark for Waits {
         }
         Ok(())
     }
+}
+
+/// A table with all locks.
+fn crowded(alloc: Global) -> Result<Picture, Failure> {
+    let mut table = Table::new(alloc)?;
+    enqueue_all(&mut table)?;
+    Ok(table.picture(alloc)?)
+}
+
+fn enqueue_all(table: &mut Table) -> Result<(), Failure> {
+    for place in 0..256 {
+        let Some(command) = enqueue_at(place) else {
+            return Err(Failure::Wrong);
+        };
+        if let Reply::Refused(_) = table.apply(&command) {
+            return Err(Failure::Wrong);
+        }
+    }
+    Ok(())
 }
 
 /// The enqueue at this place, from 0.

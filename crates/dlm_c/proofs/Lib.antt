@@ -1,3 +1,4 @@
+mod Ended
 mod Shown
 mod Steps
 mod Values

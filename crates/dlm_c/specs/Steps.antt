@@ -1,6 +1,6 @@
 -- What an export does with the host that is kept, and what C is told of that.
 use Rattle.std.specs.Prelude.{◌≡◌, ◌≤◌, ◌<◌, ◌^◌, ◌⊎◌, ℕ, ℤ, true, false, List, [], ◌∷◌, Option, Some, None}
-use Rattle.disk.specs.Disk.{Call, Answer}
+use Rattle.disk.specs.Disk.{Call, Answer, Attach, Booted}
 use Rattle.slot_log.specs.Shape.{Shape}
 use Rattle.lock_command.specs.declared.command.Command.{Command}
 use Rattle.lock_command.specs.Command.{Fits}
@@ -83,13 +83,6 @@ Marks slot = BeginsOr (BeginsMarking slot) (λ old. slot < 2 ^ 16 → ⊥)
 
 -- ITS CALLS
 
--- C is told the call that is due, or that none is; the host stays as it is.
-abbrev pub CallsNext : Session → DueCall → ℤ → Type 0
-CallsNext session call status =
-    ((status ≡ done) × (is_idle session.core ≡ false) × TellsDue call (due_call session.core))
-    ⊎ ((status ≡ nothing_due) × (is_idle session.core ≡ true) × (call ≡ no_call))
-    ⊎ ((status ≡ no_room) × (is_idle session.core ≡ false) × IsTooLong (due_call session.core).1)
-
 -- the call that is due, and this answer to it
 abbrev pub made_of : Kept → Answer → Made
 made_of old answer = record { disk = (due_call old).0; call = (due_call old).1; answer = answer }
@@ -99,9 +92,37 @@ pub record IsHeard (old : Kept) (x : Made) (new : Kept) : Type 0 where
   pub due : (c : Shape) (h : ℕ) (m : Memory) → LeadsTo c h m old → IsDue c h m x
   pub leads : (c : Shape) (h : ℕ) (m : Memory) → LeadsTo c h m old → LeadsTo c h (after_call c h m x) new
 
--- The host heard the answer that C told.
-pub record HasHeardTold (told : ToldAnswer) (row : List ℕ) (old new : Session) (status : ℤ) : Type 0 where
-  pub done : status ≡ done
+-- an attach is due
+abbrev pub IsAttachDue : Kept → Type 0
+IsAttachDue k = (is_idle k ≡ false) × ((due_call k).1 ≡ Attach)
+
+-- The host heard that the disk to be attached answered with this boot number, and nothing else.
+pub record HasAttached (boot : ℕ) (old new : Session) : Type 0 where
+  pub due : IsAttachDue old.core
+  pub heard : IsHeard old.core (made_of old.core (Booted boot)) new.core
+  pub same : IsSameFolder old new
+
+-- so it is where an attach is due; else the host is as it was
+abbrev pub Attaches : ℕ → Session → Session → Type 0
+Attaches boot old new = HasAttached boot old new ⊎ ((IsAttachDue old.core → ⊥) × (new ≡ old))
+
+-- C is told this call, and its disk, unless it writes more bytes than there is room for
+abbrev pub TellsCallDue : ℕ × Call → DueCall → List ℕ → ℤ → Type 0
+TellsCallDue due call written status = ((status ≡ done) × TellsDue call written due) ⊎ ((status ≡ no_room) × IsTooLong due.1)
+
+-- C is told the call that is due, or that none is.
+abbrev pub TellsNext : Session → DueCall → List ℕ → ℤ → Type 0
+TellsNext session call written status =
+    ((is_idle session.core ≡ false) × TellsCallDue (due_call session.core) call written status)
+    ⊎ ((is_idle session.core ≡ true) × (status ≡ nothing_due) × (call ≡ no_call))
+
+-- The same, after an attach that was due.
+pub record CallsNext (boot : ℕ) (old new : Session) (call : DueCall) (written : List ℕ) (status : ℤ) : Type 0 where
+  pub attaches : Attaches boot old new
+  pub tells : TellsNext new call written status
+
+-- The host heard the answer that C told, and nothing else.
+pub record HasHeardTold (told : ToldAnswer) (row : List ℕ) (old new : Session) : Type 0 where
   pub busy : is_idle old.core ≡ false
   pub answer : Answer
   pub is : answer_in (due_call old.core).1 told row ≡ Some answer
@@ -114,8 +135,14 @@ pub record HearsNothing (told : ToldAnswer) (row : List ℕ) (old new : Session)
   pub why :
       ((status ≡ nothing_due) × (is_idle old.core ≡ true)) ⊎ ((status ≡ bad_argument) × (answer_in (due_call old.core).1 told row ≡ None))
 
-abbrev pub Hears : ToldAnswer → List ℕ → Session → Session → ℤ → Type 0
-Hears told row old new status = HasHeardTold told row old new status ⊎ HearsNothing told row old new status
+-- It heard the answer, and C is told the next call.
+pub record HeardGoesOn (told : ToldAnswer) (row : List ℕ) (old new : Session) (call : DueCall) (written : List ℕ) (status : ℤ) : Type 0 where
+  pub between : Session
+  pub heard : HasHeardTold told row old between
+  pub next : CallsNext told.boot between new call written status
+
+abbrev pub GoesOn : ToldAnswer → List ℕ → Session → Session → DueCall → List ℕ → ℤ → Type 0
+GoesOn told row old new call written status = HeardGoesOn told row old new call written status ⊎ HearsNothing told row old new status
 
 -- ALL OF THEM
 

@@ -23,7 +23,13 @@ pub struct DueCall {
     /// 0 none, 1 attach, 2 sync, 3 read, 4 write.
     pub kind: u32,
     pub disk: u32,
-    /// What is written, zeros behind it.
+}
+
+/// Room for what C writes: as much of it as the call's range is long.
+// Apart from the call, so that a call which writes nothing moves none of it.
+#[repr(C)]
+#[derive(Clone, Copy, Drop)]
+pub struct Written {
     pub bytes: [u8; COPY_LENGTH],
 }
 
@@ -36,8 +42,8 @@ impl DueCall {
     }
 
     /// The call that is due, unless it writes more bytes than there is room for.
-    pub fn of(need: &Need<'_>) -> Option<DueCall>
-        ensures told { IfSome result (λ view. TellsDue view (call_of_need need.now)) }
+    pub fn of(need: &Need<'_>, written: &mut Written) -> Option<DueCall>
+        ensures told { IfSome result (λ view. TellsDue view written.new.bytes (call_of_need need.now)) }
         ensures long { result ≡ None → IsTooLong (call_of_need need.now).1 }
     {
         let disk = u32::from(need.disk);
@@ -49,7 +55,9 @@ impl DueCall {
                 length: ROW_LENGTH as u64,
                 ..DueCall::plain(3, disk, boot.number)
             }),
-            DeviceCall::Write { boot, at, bytes } => DueCall::write(disk, *boot, *at, bytes),
+            DeviceCall::Write { boot, at, bytes } => {
+                DueCall::write(disk, *boot, *at, bytes, written)
+            }
         }
     }
 
@@ -62,27 +70,22 @@ impl DueCall {
             length: 0,
             kind,
             disk,
-            bytes: [0; COPY_LENGTH],
         }
     }
 
-    fn write(disk: u32, boot: Boot, at: u64, from: &[u8]) -> Option<DueCall>
-        ensures told { IfSome result (λ view. TellsDue view (disk, Write boot.number at from.now)) }
+    fn write(disk: u32, boot: Boot, at: u64, from: &[u8], written: &mut Written) -> Option<DueCall>
+        ensures told { IfSome result (λ view. TellsDue view written.new.bytes (disk, Write boot.number at from.now)) }
         ensures long { result ≡ None → COPY_LENGTH < length from.now }
     {
         let long = from.len();
         if long > COPY_LENGTH {
             return None;
         }
-        let mut bytes = [0; COPY_LENGTH];
-        bytes[..long].copy_from_slice(from);
+        written.bytes[..long].copy_from_slice(from);
         Some(DueCall {
-            boot: boot.number,
             at,
             length: long as u64,
-            kind: 4,
-            disk,
-            bytes,
+            ..DueCall::plain(4, disk, boot.number)
         })
     }
 }
@@ -98,7 +101,7 @@ pub struct Row {
 #[repr(C)]
 #[derive(Clone, Copy, Drop)]
 pub struct ToldAnswer {
-    /// That of the disk, where it is the answer to an attach.
+    /// The boot number of every disk: that by which an attach is answered.
     pub boot: u64,
     /// 0 it was carried out; else the number of the fault: 1 reset, 2 failed, 3 gone.
     pub outcome: u32,

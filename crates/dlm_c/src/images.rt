@@ -33,7 +33,7 @@ pub struct Images {
 #[repr(C)]
 #[derive(Clone, Copy, Drop)]
 pub struct Opened {
-    /// 1 for each image that is used, by number. Every call on another one has to fail.
+    /// 1 for each image that is used, by number. Every call on another one has to fail; an attach never reaches C.
     pub used: [u32; DISKS as usize],
     pub disks: u32,
 }

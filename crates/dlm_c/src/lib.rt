@@ -7,7 +7,7 @@ ghost use Rattle.paxos_block.specs.Headers.{IsFormatted};
 ghost use Rattle.dlm_c.specs.Headers.{LaysOut};
 ghost use Rattle.dlm_c.specs.Images.{IsOpenedIn, MayRefuse, OpensIn};
 ghost use Rattle.dlm_c.specs.Numbers.{done, fault_number};
-ghost use Rattle.dlm_c.specs.Steps.{InHandle, Submits, Recovers, Looks, Marks, CallsNext, Hears};
+ghost use Rattle.dlm_c.specs.Steps.{InHandle, Submits, Recovers, Looks, Marks, CallsNext, GoesOn};
 ghost use Rattle.dlm_c.specs.Told.{answer_told, status_told};
 ghost use Rattle.dlm_c.specs.Views.{ShowsHost, TellsLock, ShowsLocks, ShowsClients, ShowsText, Tells};
 
@@ -27,12 +27,12 @@ mod session;
 mod view;
 
 use answer::Answer;
-use call::{DueCall, Row, ToldAnswer};
+use call::{DueCall, Row, ToldAnswer, Written};
 use fault::{CLOSED, Fault};
 use handle::Handle;
 use header::{HeaderBytes, lay_out};
 use images::{Images, Opened};
-pub use law::calls_make_operations;
+pub use law::{calls_make_operations, ends_are_told};
 use paxos_block::is_formatted;
 use request::Request;
 use session::Session;
@@ -175,33 +175,42 @@ pub extern "C" fn dlm_c_mark(alloc: Global, handle: &mut Handle, slot: u32) -> i
     status
 }
 
-/// Tells the device call that is due.
+/// Tells the device call that is due. Every disk answers an attach with this boot number, so that C is told none.
 #[unsafe(no_mangle)]
-pub extern "C" fn dlm_c_call(alloc: Global, handle: &mut Handle, call: &mut DueCall) -> i32
-    ensures { InHandle (λ old new. (new ≡ old) × CallsNext old call.new result) handle.old.held.value handle.new.held.value result }
-{
-    let Some(session) = handle.take(alloc) else {
-        return CLOSED;
-    };
-    let status = session.call(call);
-    handle.keep(session);
-    status
-}
-
-/// Hears what the device call that is due was answered. The row is looked at where that was a read.
-#[unsafe(no_mangle)]
-pub extern "C" fn dlm_c_hear(
+pub extern "C" fn dlm_c_call(
     alloc: Global,
     handle: &mut Handle,
-    told: &ToldAnswer,
-    row: &Row,
+    boot: u64,
+    call: &mut DueCall,
+    written: &mut Written,
 ) -> i32
-    ensures { InHandle (λ old new. Hears told.now row.now.bytes old new result) handle.old.held.value handle.new.held.value result }
+    ensures { InHandle (λ old new. CallsNext boot old new call.new written.new.bytes result) handle.old.held.value handle.new.held.value result }
 {
     let Some(mut session) = handle.take(alloc) else {
         return CLOSED;
     };
-    let status = session.hear(told, row);
+    let status = session.call(boot, call, written);
+    handle.keep(session);
+    status
+}
+
+/// Hears what the device call that is due was answered, and tells the next. The row is looked at where that was a read.
+#[unsafe(no_mangle)]
+pub extern "C" fn dlm_c_next(
+    alloc: Global,
+    handle: &mut Handle,
+    told: &ToldAnswer,
+    row: &Row,
+    call: &mut DueCall,
+    written: &mut Written,
+) -> i32
+    ensures { InHandle (λ old new. GoesOn told.now row.now.bytes old new call.new written.new.bytes result)
+        handle.old.held.value handle.new.held.value result }
+{
+    let Some(mut session) = handle.take(alloc) else {
+        return CLOSED;
+    };
+    let status = session.next(told, row, call, written);
     handle.keep(session);
     status
 }

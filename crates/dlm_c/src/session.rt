@@ -1,18 +1,23 @@
-ghost use Rattle.std.specs.Prelude.{◌≡◌, ◌≤◌, ◌<◌, ◌^◌, None, IfOk, IfErr, IfSome};
+ghost use Rattle.std.specs.Prelude.{◌≡◌, ◌≤◌, ◌<◌, ◌^◌, ◌↔◌, None, false, IsTrue, IfOk, IfErr, IfSome};
 ghost use Rattle.std.specs.Option.{SomeIff};
+ghost use Rattle.disk.specs.Disk.{Attach};
+ghost use Rattle.phases.specs.Calls.{call_of_need};
+ghost use Rattle.host.specs.Kept.{due_call, is_idle};
 ghost use Rattle.lock_command.specs.declared.number.TheConstants.{HOSTS};
 ghost use Rattle.dlm_c.specs.Images.{IsOpened, MayRefuse};
-ghost use Rattle.dlm_c.specs.Steps.{Submits, Recovers, Looks, Marks, CallsNext, Hears};
+ghost use Rattle.dlm_c.specs.Steps.{Submits, Recovers, Looks, Marks, IsAttachDue, HasAttached, TellsCallDue, TellsNext, CallsNext, HasHeardTold, HearsNothing, GoesOn};
 ghost use Rattle.dlm_c.specs.Told.{answer_told, status_told};
 
 use crate::answer::{Answer, status_told};
-use crate::call::{DueCall, Row, ToldAnswer};
+use crate::call::{DueCall, Row, ToldAnswer, Written};
 use crate::fault::{BAD_ARGUMENT, BUSY, Fault, NO_ROOM, NOTHING_DUE};
 use crate::images::{Images, Opened, found_in, told_of};
 use crate::request::Request;
+use disk::Boot;
 use dlm_images::set_of;
 use host::{Config, HostCore};
 use lock_command::HostNumber;
+use phases::{DeviceCall, Heard, Need};
 use std::alloc::Global;
 
 /// A host and the numbers of its folder, as C keeps them between calls.
@@ -101,35 +106,86 @@ impl Session {
         0
     }
 
-    /// Tells the device call that is due.
-    pub fn call(&self, call: &mut DueCall) -> i32
-        ensures { CallsNext self.now call.new result }
+    /// Tells the device call that is due. An attach is answered with this boot number, and the call after it is told.
+    // Out of line each answer would pay for two functions' registers.
+    #[inline(always)]
+    pub fn call(&mut self, boot: u64, call: &mut DueCall, written: &mut Written) -> i32
+        ensures { CallsNext boot self.old self.new call.new written.new.bytes result }
     {
-        *call = DueCall::none();
         if self.core.idle() {
+            *call = DueCall::none();
             return NOTHING_DUE;
         }
-        match DueCall::of(&self.core.call()) {
-            Some(due) => {
-                *call = due;
-                0
+        // An attach goes its own way, so that for each other call what is due is looked up once.
+        if self.is_attach_due() {
+            self.attach(boot);
+            return self.due(call, written);
+        }
+        tell(&self.core.call(), call, written)
+    }
+
+    /// Hears what the device call that is due was answered, and tells the next.
+    pub fn next(
+        &mut self,
+        told: &ToldAnswer,
+        row: &Row,
+        call: &mut DueCall,
+        written: &mut Written,
+    ) -> i32
+        ensures { GoesOn told.now row.now.bytes self.old self.new call.new written.new.bytes result }
+    {
+        match self.hear(told, row) {
+            Ok(()) => self.call(told.boot, call, written),
+            Err(status) => {
+                *call = DueCall::none();
+                status
             }
-            None => NO_ROOM,
         }
     }
 
-    /// Hears what the device call that is due was answered.
-    pub fn hear(&mut self, told: &ToldAnswer, row: &Row) -> i32
-        ensures { Hears told.now row.now.bytes self.old self.new result }
+    fn hear(&mut self, told: &ToldAnswer, row: &Row) -> Result<(), i32>
+        ensures heard { IfOk result (λ _. HasHeardTold told.now row.now.bytes self.old self.new) }
+        ensures nothing { IfErr result (HearsNothing told.now row.now.bytes self.old self.new) }
     {
         if self.core.idle() {
-            return NOTHING_DUE;
+            return Err(NOTHING_DUE);
         }
         let Some(heard) = told.heard(&self.core.call().call, row) else {
-            return BAD_ARGUMENT;
+            return Err(BAD_ARGUMENT);
         };
         self.core.hear(&heard);
-        0
+        Ok(())
+    }
+
+    fn is_attach_due(&self) -> bool
+        requires { is_idle self.now.core ≡ false }
+        ensures { IsTrue result ↔ ((due_call self.now.core).1 ≡ Attach) }
+    {
+        match self.core.call().call {
+            DeviceCall::Attach => true,
+            _ => false,
+        }
+    }
+
+    /// Hears that the disk which is to be attached answered with this boot number.
+    fn attach(&mut self, boot: u64)
+        requires { IsAttachDue self.old.core }
+        ensures { HasAttached boot self.old self.new }
+    {
+        // Called for its contract only: the attach is the host's next call.
+        let _ = self.core.call();
+        let booted = Heard::Booted(Boot { number: boot });
+        self.core.hear(&booted);
+    }
+
+    fn due(&self, call: &mut DueCall, written: &mut Written) -> i32
+        ensures { TellsNext self.now call.new written.new.bytes result }
+    {
+        if self.core.idle() {
+            *call = DueCall::none();
+            return NOTHING_DUE;
+        }
+        tell(&self.core.call(), call, written)
     }
 
     /// Tells how the last operation ended.
@@ -140,6 +196,19 @@ impl Session {
         let said = self.core.answer();
         *answer = Answer::told(said);
         status_told(said)
+    }
+}
+
+/// Tells a call, unless it writes more bytes than there is room for.
+fn tell(need: &Need<'_>, call: &mut DueCall, written: &mut Written) -> i32
+    ensures { TellsCallDue (call_of_need need.now) call.new written.new.bytes result }
+{
+    match DueCall::of(need, written) {
+        Some(due) => {
+            *call = due;
+            0
+        }
+        None => NO_ROOM,
     }
 }
 

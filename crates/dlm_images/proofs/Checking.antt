@@ -1,17 +1,18 @@
 -- Image after image is checked, and what is told first is kept.
-use Rattle.std.specs.Prelude.{IsTrue}
+use Rattle.std.specs.Prelude.{◌⊎◌, IsTrue}
 use Rattle.std.specs.Option.{option_or}
-use Rattle.std.proofs.Common.{◌≡◌, ◌≤◌, ◌<◌, ◌+◌, ◌∙◌, ℕ, zero, suc, List, [], ◌∷◌, Option, Some, None, Result, Err, length, slice_get, slice_set, refl, sym, subst, arith, inl, inr}
+use Rattle.std.proofs.Common.{◌≡◌, ◌≤◌, ◌<◌, ◌+◌, ◌∙◌, ℕ, zero, suc, List, [], ◌∷◌, Option, Some, None, Result, Ok, Err, length, slice_get, slice_set, refl, sym, ap, subst, arith, inl, inr}
 use Rattle.std.proofs.lemmas.Bool.{cases_lt}
 use Rattle.std.proofs.lemmas.List.{length-set}
 use Rattle.disk.specs.Disk.{Device, DiskState}
 use Rattle.disk.specs.declared.fault.ImageFault.{ImageFault}
+use Rattle.disk.specs.declared.fault.ImageFault.TheVariants.{Unreadable}
 use Rattle.paxos_block.specs.Places.{image_length}
 use Rattle.paxos_block.specs.declared.header.Header.{Header}
 use Rattle.dlm_images.specs.Sets.{Found}
 use Rattle.dlm_images.specs.declared.check.Finding.{Finding}
-use Rattle.dlm_images.specs.declared.check.Finding.TheVariants.{Image}
-use Rattle.dlm_images.specs.Damage.{AreLarge, IsDamagedImage, TellsOf, IsTold, AreSound, IsToldFirst}
+use Rattle.dlm_images.specs.declared.check.Finding.TheVariants.{Image, Damaged}
+use Rattle.dlm_images.specs.Damage.{AreLarge, IsDamagedImage, TellsOf, IsTold, AreSound, IsToldFirst, NoneRefused, IsToldOfFolder}
 use Rattle.dlm_images.proofs.Images.{Each}
 
 set_each : {X : Type 0} (P : X → Type 0) (xs : List X) (i : ℕ) (y : X) → P y → Each P xs → Each P (slice_set xs i y)
@@ -75,12 +76,38 @@ module _ {D : Type 0} (device : D → Device) (state : D → DiskState) (slots :
         (subst (λ (i : Result Header ImageFault). TellsOf i n (IsTrue (device x).tells) (IsDamagedImage slots (state x).bytes) finding) image_is told));
   }
 
--- where nothing is told of them, none is refused
+-- what is told first of a folder's images
 module _ {D : Type 0} (device : D → Device) (state : D → DiskState) (slots : ℕ) (found : Found) (disks : List D) where
-  pub none_refused : (n : ℕ) (first : Option Finding) → IsToldFirst device state slots found disks n first → first ≡ None → (k : ℕ) (fault : ImageFault) → k < n → k < length disks →
-      slice_get found k ≡ Some (Err fault) → ⊥
-  none_refused n (Some finding) told is k fault below there imaged = absurd (cc)
-  none_refused n None told is k fault below there imaged =
-      let disk = item_at disks k there in
-      let same : None ≡ Some (Image k fault) = told k below disk.0 (Err fault) disk.1 imaged in
+  none_before : (k : ℕ) → k ≤ length disks → AreSound device state slots found disks k → NoneRefused found k
+  none_before k enough sound j fault below imaged =
+      let disk = item_at disks j (omega (arith, below, enough)) in
+      let same : None ≡ Some (Image j fault) = sound j below disk.0 (Err fault) disk.1 imaged in
       cc
+
+  none_up_to : (k : ℕ) → NoneRefused found k → ((fault : ImageFault) → slice_get found k ≡ Some (Err fault) → ⊥) → NoneRefused found (k + 1)
+  none_up_to k before here j fault below imaged =
+      elim (cases_lt j k) [
+        | inl lt ↦ before j fault lt imaged
+        | inr ge ↦ (let same : j ≡ k = omega (arith, below, ge) in here fault (subst (λ (i : ℕ). slice_get found i ≡ Some (Err fault)) same imaged))
+      ]
+
+  image_told : (k m : ℕ) (fault : ImageFault) (image : Result Header ImageFault) (tells damaged : Type 0) → slice_get found k ≡ Some image → NoneRefused found k → TellsOf image k tells damaged (Some (Image m fault)) →
+      (m ≡ k) × ((slice_get found k ≡ Some (Err fault)) ⊎ ((fault ≡ Unreadable) × NoneRefused found (k + 1)))
+  image_told k m fault (Ok header) tells damaged imaged before told = (told.0, inr (told.1, none_up_to k before (λ other refused. let never : Some (Ok header) ≡ Some (Err other) = sym imaged ∙ refused in absurd (cc))))
+  image_told k m fault (Err other) tells damaged imaged before told = ((cc), inl (let same : other ≡ fault = cc in imaged ∙ ap (λ (f : ImageFault). Some (Err f)) same))
+
+  pub told_of_folder : (n : ℕ) → n ≤ length disks → n ≤ length found → (finding : Option Finding) → IsToldFirst device state slots found disks n finding → IsToldOfFolder found n finding
+  told_of_folder n enough known None told = none_before n enough told
+  told_of_folder n enough known (Some Damaged) told =
+      let k = told.0 in
+      let below = told.1 in
+      let disk = item_at disks k (omega (arith, below, enough)) in
+      (k, below, none_up_to k (none_before k (omega (arith, below, enough)) told.2) (λ fault refused. let never : Some Damaged ≡ Some (Image k fault) = told.3 disk.0 (Err fault) disk.1 refused in absurd (cc)))
+  told_of_folder n enough known (Some (Image m fault)) told =
+      let k = told.0 in
+      let below = told.1 in
+      let disk = item_at disks k (omega (arith, below, enough)) in
+      let image = item_at found k (omega (arith, below, known)) in
+      let before = none_before k (omega (arith, below, enough)) told.2 in
+      let is = image_told k m fault image.0 (IsTrue (device disk.0).tells) (IsDamagedImage slots (state disk.0).bytes) image.1 before (told.3 disk.0 image.0 disk.1 image.1) in
+      subst (λ (j : ℕ). (j < n) × NoneRefused found j × ((slice_get found j ≡ Some (Err fault)) ⊎ ((fault ≡ Unreadable) × NoneRefused found (j + 1)))) (sym is.0) (below, before, is.1)

@@ -1,5 +1,5 @@
 -- Reading a disk changes nothing, and lines are printed one after another.
-use Rattle.std.proofs.Common.{◌≡◌, ◌+◌, ◌∙◌, ℕ, zero, suc, Bool, true, false, List, [], ◌∷◌, ◌++◌, Option, Result, Ok, Err, get_or, slice_range, arith, sym, ap, subst, refl, IsTrue, add-zero}
+use Rattle.std.proofs.Common.{◌≡◌, ◌+◌, ◌∙◌, ℕ, zero, suc, Bool, true, false, List, [], ◌∷◌, ◌++◌, Option, Result, Ok, Err, get_or, slice_range, arith, sym, ap, subst, refl, IsTrue, add-zero, inl, inr}
 use Rattle.std.specs.Prelude.{◌⊎◌, ◌↔◌, ◌||◌, if◌then◌else◌}
 use Rattle.std.specs.List.{flat_map, range_with_len}
 use Rattle.std.proofs.lemmas.List.{flat_map_more}
@@ -10,10 +10,13 @@ use Rattle.disk.specs.declared.fault.DiskFault.TheVariants.{Reset, Failed, Gone}
 use Rattle.disk.specs.Disk.{DiskState, Answer, Read, Attach, Step, Device, Told, read_answer, attach_answer}
 use Rattle.disk.specs.declared.boot.Boot.{Boot}
 use Rattle.dlm_images.specs.declared.check.Blocks.{Blocks}
-use Rattle.paxos_block.specs.Places.{row_of}
 use Rattle.paxos_block.specs.Row.{IsDamagedRow}
-use Rattle.dlm_images.specs.Damage.{line_of, line_if, row_text, rows_text, IsDamagedBelow}
-use Rattle.dlm_images.proofs.Found.{none_below, below_more}
+use Rattle.heartbeat.specs.Beat.{IsDamagedArea}
+use Rattle.paxos_block.specs.Places.{area_of, row_of}
+use Rattle.dlm_images.specs.declared.check.CheckFault.{CheckFault}
+use Rattle.dlm_images.specs.declared.check.CheckFault.TheVariants.{Device as OfDevice, Output}
+use Rattle.dlm_images.specs.Damage.{line_of, line_if, area_text, row_text, rows_text, IsDamagedBelow, PrintsNothing, IsLeftInRows, IsLeftAt}
+use Rattle.dlm_images.proofs.Found.{none_below, below_more, image_is}
 
 -- a read leaves the disk as it was
 pub read_keeps : {T : Type 0} (old new : DiskState) (boot at len : ℕ) (r : Result T DiskFault) (into : List ℕ) → Step old (Read boot at len) (read_answer r into) new → new ≡ old
@@ -97,3 +100,17 @@ one_slot_more device middle now a b c disk slot first any row_any old new newer 
           below_more old.bytes slot any row_any (so_far.found t)
           (subst (λ (d : DiskState). IsTrue row_any ↔ IsDamagedRow (row_of slot d.bytes)) (so_far.same t) (found (tells t)));
     }
+
+-- WHERE THE DEVICE FAILS
+
+-- behind the heartbeats
+pub image_left : (fault : CheckFault) (a b c : Option (List ℕ)) (disk slots : ℕ) (first beats any : Bool) (bytes : List ℕ)
+    → Appends a b (area_text disk bytes) → (IsTrue beats ↔ IsDamagedArea (area_of bytes)) → IsLeftInRows fault disk slots bytes b c (first || beats) any → IsLeftAt fault disk slots bytes a c first any
+image_left (Output error) a b c disk slots first beats any bytes area found rows = tt
+image_left (OfDevice fault) a b c disk slots first beats any bytes area found rows =
+    inr (rows.0, rows.1, record { text = Appends-trans a b c (area_text disk bytes) (rows_text disk rows.0 bytes) area rows.2; found = image_is first beats any found rows.3 })
+
+-- or among them
+pub nothing_left : (fault : CheckFault) (a b : Option (List ℕ)) (disk slots : ℕ) (any : Bool) (bytes : List ℕ) → PrintsNothing fault a b → IsLeftAt fault disk slots bytes a b any any
+nothing_left (Output error) a b disk slots any bytes silent = tt
+nothing_left (OfDevice fault) a b disk slots any bytes silent = inl (silent, refl)

@@ -1,9 +1,10 @@
 -- When an image is damaged, the text of its damage, a line for each damaged block, and what a check tells of the images of a folder.
-use Rattle.std.specs.Prelude.{◌≡◌, ◌⊎◌, ◌≤◌, ◌<◌, ℕ, Bool, false, IsTrue, List, [], ◌∷◌, ◌++◌, codes, decimal, slice_get, slice_index_or, Option, Some, None, Result, Ok, Err, if◌then◌else◌}
+use Rattle.std.specs.Prelude.{◌≡◌, ◌≢◌, ◌⊎◌, ◌↔◌, ◌≤◌, ◌<◌, ◌+◌, ℕ, Bool, false, IsTrue, List, [], ◌∷◌, ◌++◌, codes, decimal, slice_get, slice_index_or, Option, Some, None, Result, Ok, Err, if◌then◌else◌}
+use Rattle.std.specs.Io.KnownBytes.{Appends}
 use Rattle.std.specs.List.{flat_map, range_with_len}
 use Rattle.disk.specs.Disk.{Device, DiskState}
 use Rattle.disk.specs.declared.fault.ImageFault.{ImageFault}
-use Rattle.disk.specs.declared.fault.ImageFault.TheVariants.{Unreadable}
+use Rattle.disk.specs.declared.fault.ImageFault.TheVariants.{NotFormatted, WrongHeader, Unreadable}
 use Rattle.torn_block.specs.declared.layout.TheConstants.{HOSTS}
 use Rattle.paxos_block.specs.Places.{area_of, row_of, image_length}
 use Rattle.paxos_block.specs.Damage as rows
@@ -14,6 +15,8 @@ use Rattle.heartbeat.specs.Beat.{IsDamagedArea}
 use Rattle.dlm_images.specs.Sets.{Found}
 use Rattle.dlm_images.specs.declared.check.Blocks.{Blocks}
 use Rattle.dlm_images.specs.declared.check.Blocks.TheVariants.{Heartbeat, Slot}
+use Rattle.dlm_images.specs.declared.check.CheckFault.{CheckFault}
+use Rattle.dlm_images.specs.declared.check.CheckFault.TheVariants.{Device as OfDevice, Output}
 use Rattle.dlm_images.specs.declared.check.Finding.{Finding}
 use Rattle.dlm_images.specs.declared.check.Finding.TheVariants.{Image, Damaged}
 
@@ -51,9 +54,42 @@ row_text disk bytes slot = lines_of disk (Slot slot) (rows.damaged_in (row_of sl
 abbrev pub rows_text : ℕ → ℕ → List ℕ → List ℕ
 rows_text disk slots bytes = flat_map (row_text disk bytes) (range_with_len 0 slots)
 
+-- the line of an image that is not used
+abbrev pub fault_name : ImageFault → List ℕ
+fault_name NotFormatted = codes "24 NotFormatted"
+fault_name WrongHeader = codes "25 WrongHeader"
+fault_name Unreadable = codes "26 Unreadable"
+
+abbrev pub fault_line : ℕ → ImageFault → List ℕ
+fault_line disk fault = codes "disk" ++ decimal disk ++ codes " " ++ fault_name fault ++ 10 ∷ []
+
 -- the heartbeat blocks first, and then the blocks of each slot
 abbrev pub image_text : ℕ → ℕ → List ℕ → List ℕ
 image_text disk slots bytes = area_text disk bytes ++ rows_text disk slots bytes
+
+-- AN IMAGE THAT IS NOT READ TO ITS END
+
+-- Its heartbeat blocks and the first n slots were looked at: their lines are printed, and it is told whether there is one, or was before.
+pub record IsLookedAt (disk n : ℕ) (bytes : List ℕ) (before after : Option (List ℕ)) (first any : Bool) : Type 0 where
+  pub text : Appends before after (image_text disk n bytes)
+  pub found : IsTrue any ↔ (IsTrue first ⊎ IsDamagedImage n bytes)
+
+-- Nothing is printed where a call of the device failed. Of an output that failed nothing is said, here and below.
+abbrev pub PrintsNothing : CheckFault → (before after : Option (List ℕ)) → Type 0
+PrintsNothing (Output error) before after = Unit {0}
+PrintsNothing (OfDevice fault) before after = after ≡ before
+
+-- The slots before some slot were looked at, where the device failed.
+abbrev pub IsLeftInRows : CheckFault → (disk slots : ℕ) → List ℕ → (before after : Option (List ℕ)) → (first any : Bool) → Type 0
+IsLeftInRows (Output error) disk slots bytes before after first any = Unit {0}
+IsLeftInRows (OfDevice fault) disk slots bytes before after first any =
+    (n : ℕ) × (n < slots) × Appends before after (rows_text disk n bytes) × (IsTrue any ↔ (IsTrue first ⊎ IsDamagedBelow n bytes))
+
+-- Nothing of an image was looked at, where the device failed, or all before some slot.
+abbrev pub IsLeftAt : CheckFault → (disk slots : ℕ) → List ℕ → (before after : Option (List ℕ)) → (first any : Bool) → Type 0
+IsLeftAt (Output error) disk slots bytes before after first any = Unit {0}
+IsLeftAt (OfDevice fault) disk slots bytes before after first any =
+    ((after ≡ before) × (any ≡ first)) ⊎ ((n : ℕ) × (n < slots) × IsLookedAt disk n bytes before after first any)
 
 -- WHAT A CHECK TELLS
 
@@ -84,3 +120,17 @@ abbrev pub IsToldFirst : {D : Type 0} → (D → Device) → (D → DiskState) �
 IsToldFirst device state slots found disks n None = AreSound device state slots found disks n
 IsToldFirst device state slots found disks n (Some finding) =
     (k : ℕ) × (k < n) × AreSound device state slots found disks k × IsTold device state slots found disks k (Some finding)
+
+-- OF A FOLDER
+
+-- none of the first n images is refused
+abbrev pub NoneRefused : Found → ℕ → Type 0
+NoneRefused found n = (k : ℕ) (fault : ImageFault) → k < n → slice_get found k ≢ Some (Err fault)
+
+-- Nothing is told only where none of the first n images is refused. Else it is told why the first refused one is, or, of one before it, that it
+-- is damaged or could not be read. A file tells no bytes, so it is not said which of both.
+abbrev pub IsToldOfFolder : Found → ℕ → Option Finding → Type 0
+IsToldOfFolder found n None = NoneRefused found n
+IsToldOfFolder found n (Some (Image k fault)) =
+    (k < n) × NoneRefused found k × ((slice_get found k ≡ Some (Err fault)) ⊎ ((fault ≡ Unreadable) × NoneRefused found (k + 1)))
+IsToldOfFolder found n (Some Damaged) = (k : ℕ) × (k < n) × NoneRefused found (k + 1)

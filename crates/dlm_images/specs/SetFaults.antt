@@ -1,6 +1,6 @@
--- Why a folder's images are no set.
-use Rattle.std.specs.Prelude.{◌≡◌, ◌⊎◌}
-use Rattle.disk.specs.declared.fault.ImageFault.TheVariants.{WrongHeader}
+-- Why a folder's images are no set, or are not made.
+use Rattle.std.specs.Prelude.{◌≡◌, ◌⊎◌, ◌<◌, ℕ}
+use Rattle.disk.specs.declared.fault.ImageFault.TheVariants.{WrongHeader, Unreadable}
 use Rattle.dlm_images.specs.declared.fault.FolderFault.{FolderFault}
 use Rattle.dlm_images.specs.declared.fault.FolderFault.TheVariants.{NoMemory, AlreadyThere, Image}
 use Rattle.dlm_images.specs.declared.set.SetFault.{SetFault}
@@ -15,3 +15,9 @@ abbrev pub MayRefuse : FolderFault → Type 0
 MayRefuse NoMemory = Unit {0}
 MayRefuse AlreadyThere = ⊥
 MayRefuse (Image disk fault) = (found : Found) × AreImages found × HasSetFault found (record { disk = disk; fault = fault })
+
+-- Of so many images some are not made: for want of memory, since one of them is there, or since a file or device of one could not be used.
+abbrev pub IsFormatFault : ℕ → FolderFault → Type 0
+IsFormatFault disks NoMemory = Unit {0}
+IsFormatFault disks AlreadyThere = Unit {0}
+IsFormatFault disks (Image disk fault) = (disk < disks) × (fault ≡ Unreadable)

@@ -1,4 +1,4 @@
-ghost use Rattle.std.specs.Prelude.{◌≡◌, ◌≢◌, ◌⊎◌, ◌+◌, ◌≤◌, ◌<◌, ◌↔◌, ℕ, true, IsTrue, Contains, IfOk, OnOk, Some, None, Ok, Err, length, slice_get};
+ghost use Rattle.std.specs.Prelude.{◌≡◌, ◌⊎◌, ◌+◌, ◌≤◌, ◌<◌, ◌↔◌, ℕ, true, IsTrue, Contains, Err, IfOk, IfErr, OnOk, length};
 ghost use Rattle.std.specs.List.{list_any};
 ghost use Rattle.std.specs.Io.KnownBytes.{Appends};
 ghost use Rattle.torn_block.specs.declared.layout.TheConstants.{DISKS};
@@ -7,7 +7,8 @@ ghost use Rattle.paxos_block.specs.Row.{IsDamagedRow};
 ghost use Rattle.paxos_block.specs.Damage as rows;
 ghost use Rattle.heartbeat.specs.Beat.{IsDamagedArea};
 ghost use Rattle.heartbeat.specs.Damage as areas;
-ghost use Rattle.dlm_images.specs.Damage.{AreLarge, IsDamagedImage, IsDamagedBelow, Shows, TellsOf, IsToldFirst, line_of, lines_of, image_text, area_text, row_text, rows_text};
+ghost use Rattle.dlm_images.specs.declared.check.CheckFault.TheVariants.{Device, Output};
+ghost use Rattle.dlm_images.specs.Damage.{AreLarge, IsDamagedImage, IsDamagedBelow, PrintsNothing, IsLeftInRows, IsLeftAt, Shows, TellsOf, IsToldFirst, IsToldOfFolder, line_of, lines_of, fault_line, image_text, area_text, row_text, rows_text};
 
 use crate::folder::Folder;
 use disk::{Boot, Disk, DiskFault, ImageFault};
@@ -40,9 +41,25 @@ pub enum Blocks {
 #[derive(Debug, Drop, Error)]
 pub enum CheckFault {
     #[error("the image cannot be read")]
-    Device(#[from] DiskFault),
+    Device(DiskFault),
     #[error("output failed")]
-    Output(#[from] io::Error),
+    Output(io::Error),
+}
+
+impl From<DiskFault> for CheckFault {
+    ghost from_gives = { λ of fault. fault ≡ Device of };
+
+    fn from(fault: DiskFault) -> Self {
+        CheckFault::Device(fault)
+    }
+}
+
+impl From<io::Error> for CheckFault {
+    ghost from_gives = { λ of fault. fault ≡ Output of };
+
+    fn from(error: io::Error) -> Self {
+        CheckFault::Output(error)
+    }
 }
 
 /// Prints what is wrong with the images of a folder, and tells what it found first. It writes to no image.
@@ -50,8 +67,7 @@ pub fn check_folder<F: FileExt + OpenFile + Drop, O: Write>(
     folder: Folder<F>,
     out: &mut O,
 ) -> io::Result<Option<Finding>>
-    // Nothing is told only where no image of the set is refused.
-    ensures sound { result ≡ Ok None → (k : ℕ) (fault : ImageFault) → k < folder.config.disks → slice_get folder.found k ≢ Some (Err fault) }
+    ensures { IfOk result (IsToldOfFolder folder.found folder.config.disks) }
 {
     let slots = u32::from(folder.config.slots());
     let mut disks = folder.disks;
@@ -69,7 +85,8 @@ fn check_disks<D: Disk, O: Write>(
     requires few { length disks.old ≤ DISKS }
     requires large { AreLarge D.device slots disks.old }
     ensures told { IfOk result (IsToldFirst D.device D.state slots found.now disks.old (length disks.old)) }
-    ensures sound { result ≡ Ok None → (k : ℕ) (fault : ImageFault) → k < length disks.old → slice_get found.now k ≢ Some (Err fault) }
+    // The same, as far as what was found of each image alone tells it.
+    ensures refusals { IfOk result (IsToldOfFolder found.now (length disks.old)) }
 {
     let mut first = None;
     for disk in 0..disks.len() {
@@ -90,6 +107,7 @@ fn check_image<D: Disk, O: Write>(
     requires { image_length slots ≤ (D.device device.old).size }
     ensures device { D.device device.new ≡ D.device device.old }
     ensures told { IfOk result (TellsOf found.now disk (IsTrue (D.device device.old).tells) (IsDamagedImage slots (D.state device.old).bytes)) }
+    ensures line { OnOk result ((fault : ImageFault) → found.now ≡ Err fault → Appends (O.contents out.old) (O.contents out.new) (fault_line disk fault)) }
 {
     match found {
         Ok(_) => check_disk(device, disk, slots, out),
@@ -134,6 +152,8 @@ pub fn print_damage<D: Disk, O: Write>(
         IsTrue any.new ↔ (IsTrue any.old ⊎ IsDamagedImage slots (D.state device.old).bytes)) }
     // Also where it is not read to its end.
     ensures cause { IsTrue (D.device device.old).tells → IsTrue any.new → IsTrue any.old ⊎ IsDamagedImage slots (D.state device.old).bytes }
+    ensures left { IfErr result (λ fault. IsTrue (D.device device.old).tells →
+        IsLeftAt fault disk slots (D.state device.old).bytes (O.contents out.old) (O.contents out.new) any.old any.new) }
 {
     let boot = device.attach()?;
     let beats = print_area(device, boot, disk, out)?;
@@ -156,6 +176,7 @@ fn print_area<D: Disk, O: Write>(
         Appends (O.contents out.old) (O.contents out.new) (area_text disk (D.state device.old).bytes)) }
     ensures found { IfOk result (λ found. IsTrue (D.device device.old).tells →
         IsTrue found ↔ IsDamagedArea (area_of (D.state device.old).bytes)) }
+    ensures left { IfErr result (λ fault. PrintsNothing fault (O.contents out.old) (O.contents out.new)) }
 {
     let damaged = damage_of_area(device, boot)?;
     print_lines(disk, Blocks::Heartbeat, &damaged, out)?;
@@ -179,6 +200,8 @@ fn print_rows<D: Disk, O: Write>(
     ensures found { OnOk result (IsTrue (D.device device.old).tells →
         IsTrue any.new ↔ (IsTrue any.old ⊎ IsDamagedBelow slots (D.state device.old).bytes)) }
     ensures cause { IsTrue (D.device device.old).tells → IsTrue any.new → IsTrue any.old ⊎ IsDamagedBelow slots (D.state device.old).bytes }
+    ensures left { IfErr result (λ fault. IsTrue (D.device device.old).tells →
+        IsLeftInRows fault disk slots (D.state device.old).bytes (O.contents out.old) (O.contents out.new) any.old any.new) }
 {
     for slot in 0..slots {
         let damaged = print_row(device, boot, disk, slot, out)?;
@@ -202,6 +225,7 @@ fn print_row<D: Disk, O: Write>(
         Appends (O.contents out.old) (O.contents out.new) (row_text disk (D.state device.old).bytes slot)) }
     ensures found { IfOk result (λ found. IsTrue (D.device device.old).tells →
         IsTrue found ↔ IsDamagedRow (row_of slot (D.state device.old).bytes)) }
+    ensures left { IfErr result (λ fault. PrintsNothing fault (O.contents out.old) (O.contents out.new)) }
 {
     let damaged = damage_of_row(device, boot, slot)?;
     print_lines(disk, Blocks::Slot(slot), &damaged, out)?;
@@ -274,7 +298,8 @@ fn print_line<O: Write>(disk: u8, blocks: Blocks, host: usize, out: &mut O) -> i
 
 /// Prints why an image is not used.
 fn print_fault<O: Write>(disk: u8, fault: ImageFault, out: &mut O) -> io::Result<Finding>
-    ensures { IfOk result (λ finding. finding ≡ Finding.Image disk fault) }
+    ensures finding { IfOk result (λ finding. finding ≡ Finding.Image disk fault) }
+    ensures text { OnOk result (Appends (O.contents out.old) (O.contents out.new) (fault_line disk fault)) }
 {
     let name = match fault {
         ImageFault::NotFormatted => "24 NotFormatted",

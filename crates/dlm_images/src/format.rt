@@ -1,5 +1,6 @@
-ghost use Rattle.std.specs.Prelude.{◌≡◌, ◌≤◌, ◌<◌, OnOk, IfOk};
+ghost use Rattle.std.specs.Prelude.{◌≡◌, ◌≤◌, ◌<◌, OnOk, IfOk, IfErr};
 ghost use Rattle.paxos_block.specs.Places.{image_length};
+ghost use Rattle.dlm_images.specs.SetFaults.{IsFormatFault};
 ghost use Rattle.dlm_images.specs.Layout.{IsLaidOut, WritesZeros, header_of};
 
 use crate::fault::FolderFault;
@@ -27,6 +28,7 @@ pub fn format_folder<R: Files + AllocGlobal>(
 ) -> Result<(), FolderFault>
 where
     R::File: FileExt + OpenFile + Drop,
+    ensures { IfErr result (IsFormatFault config.disks) }
 {
     let disks = config.disks();
     for disk in 0..disks {
@@ -51,6 +53,7 @@ where
 fn is_taken<R: Files>(files: &R, path: &str, size: u64) -> Result<bool, ImageFault>
 where
     R::File: FileExt + OpenFile + Drop,
+    ensures { IfErr result (λ fault. fault ≡ ImageFault.Unreadable) }
 {
     if files.symlink_metadata(path).is_err() {
         return Ok(false);
@@ -70,6 +73,7 @@ fn open_device<R: Files>(files: &R, path: &str, size: u64) -> Result<FileDisk<R:
 where
     R::File: FileExt + OpenFile + Drop,
     ensures room { IfOk result (λ device. size ≤ device.size) }
+    ensures fault { IfErr result (λ fault. fault ≡ ImageFault.Unreadable) }
 {
     let device = FileDisk::open(files, path)?;
     if device.is_block_device() && size <= device.size() {
@@ -90,6 +94,7 @@ fn make_image<R: Files>(
 where
     R::File: FileExt + OpenFile + Drop,
     requires { disk < config.disks }
+    ensures { IfErr result (λ fault. fault ≡ ImageFault.Unreadable) }
 {
     let size = config.image_length();
     let mut device = if files.symlink_metadata(path).is_ok() {

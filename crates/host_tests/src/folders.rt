@@ -173,6 +173,33 @@ fn look_behind_a_mark(rt: HostRuntime) -> Result<(), Fail> {
     Ok(())
 }
 
+// What a host's submission is refused with.
+fn refused<D: Disk>(host: &mut DiskHost<D>) -> Option<Refusal> {
+    let command = enqueue(host.host(), 1, Mode::ConcurrentRead)?;
+    host.submit(command, 8).err()
+}
+
+// The same of host 0, over the folder, which it only reads.
+fn submit_reading(rt: &HostRuntime, folder: &str) -> Result<Option<Refusal>, Fail> {
+    let number = HostNumber::new(0).ok_or("a host")?;
+    let mut host = open_folder_to_read(rt, folder)?.host(rt.alloc(), number)?;
+    Ok(refused(&mut host))
+}
+
+// Who only reads the images cannot submit, and leaves them as they are.
+#[test]
+fn images_that_are_only_read(rt: HostRuntime) -> Result<(), Fail> {
+    let folder = "dlm_images_only_read";
+    let image = "dlm_images_only_read/disk0.img";
+    make(&rt, folder)?;
+    let before = fs::read(&rt, image)?;
+    assert_eq!(rt; submit_reading(&rt, folder)?, Some(Refusal::NoMajority));
+    let after = fs::read(&rt, image)?;
+    assert_eq!(rt; after.as_slice(), before.as_slice());
+    fs::remove_dir_all(&rt, folder)?;
+    Ok(())
+}
+
 // How many disks and slots an open folder has, its cluster number, and how many images are open.
 fn opened(rt: &HostRuntime, folder: &str) -> Result<(u8, u16, u64, usize), Fail> {
     let folder = open_folder(rt, folder)?;

@@ -7,6 +7,7 @@ use lock_table::{Picture, Reply, Table};
 use std::alloc::Global;
 use std::io;
 use std::io::Write;
+use std::process::Abort;
 use std::test::Fail;
 
 /// Client `n` asks for its lock `n` through host `n - 1`, by its first request.
@@ -34,7 +35,7 @@ fn no_locks(rt: HostRuntime) -> Result<(), Fail> {
     Ok(())
 }
 
-/// Locks on two names, in each state. A test that holds the table would have to drop it at each `?`: so its steps stand apart.
+/// Locks on two names, in each state.
 fn two_names(table: &mut Table) -> Result<(), Fail> {
     enqueue(table, 1, Mode::ProtectedRead, b"db")?;
     enqueue(table, 2, Mode::ProtectedRead, b"db")?;
@@ -44,19 +45,32 @@ fn two_names(table: &mut Table) -> Result<(), Fail> {
     Ok(())
 }
 
-/// The table as text.
-fn text_of(alloc: Global, table: &Table) -> Result<Vec<u8>, Fail> {
-    let picture = table.picture(alloc)?;
+/// What a table shows then. A test that held the table would have to drop it at each `?`: so its steps stand apart.
+fn shown_then(alloc: Global, table: &mut Table) -> Result<Picture, Fail> {
+    two_names(table)?;
+    Ok(table.picture(alloc)?)
+}
+
+fn picture_of_two_names(alloc: Global) -> Result<Picture, Fail> {
+    let mut table = Table::new(alloc)?;
+    shown_then(alloc, &mut table)
+}
+
+/// The picture as text.
+fn text_of(alloc: Global, picture: &Picture) -> Result<Vec<u8>, Fail> {
     let mut out = Vec::new(alloc);
-    queues(&picture, &mut out)?;
+    queues(picture, &mut out)?;
     Ok(out)
+}
+
+fn text_of_two_names(alloc: Global) -> Result<Vec<u8>, Fail> {
+    let picture = picture_of_two_names(alloc)?;
+    text_of(alloc, &picture)
 }
 
 #[test]
 fn two_names_in_all_states(rt: HostRuntime) -> Result<(), Fail> {
-    let mut table = Table::new(rt.alloc())?;
-    two_names(&mut table)?;
-    let out = text_of(rt.alloc(), &table)?;
+    let out = text_of_two_names(rt.alloc())?;
     let text =
         b"d\n  granted 4 4 3 NL\ndb\n  granted 2 2 1 PR\n  converting 1 1 0 PR EX\n  waiting 3 3 2 EX\n";
     assert_eq!(rt; out.as_slice(), text.as_slice());
@@ -96,20 +110,22 @@ fn cut_text(alloc: Global, picture: &Picture, left: usize) -> (Vec<u8>, bool) {
     (out.taken, failed)
 }
 
-#[test]
-fn writers_that_fail_at_each_byte(rt: HostRuntime) -> Result<(), Fail> {
-    let mut table = Table::new(rt.alloc())?;
-    two_names(&mut table)?;
-    let text = text_of(rt.alloc(), &table)?;
-    let picture = table.picture(rt.alloc())?;
+fn fails_at_each_byte(rt: &impl Abort, alloc: Global, picture: &Picture, text: &[u8]) {
     for left in 0..text.len() {
-        let (taken, failed) = cut_text(rt.alloc(), &picture, left);
+        let (taken, failed) = cut_text(alloc, picture, left);
         assert!(rt; failed, "after {left} bytes");
         assert_eq!(rt; taken.as_slice(), &text[..left], "after {left} bytes");
     }
-    let (taken, failed) = cut_text(rt.alloc(), &picture, text.len());
+    let (taken, failed) = cut_text(alloc, picture, text.len());
     assert!(rt; !failed);
-    assert_eq!(rt; taken.as_slice(), text.as_slice());
+    assert_eq!(rt; taken.as_slice(), text);
+}
+
+#[test]
+fn writers_that_fail_at_each_byte(rt: HostRuntime) -> Result<(), Fail> {
+    let picture = picture_of_two_names(rt.alloc())?;
+    let text = text_of(rt.alloc(), &picture)?;
+    fails_at_each_byte(&rt, rt.alloc(), &picture, text.as_slice());
     Ok(())
 }
 

@@ -292,9 +292,13 @@ fn take_all(table: &mut Table) -> Result<bool, Fail> {
     Ok(true)
 }
 
+fn replies_behind_all_locks(table: &mut Table, steps: &[Step]) -> Result<bool, Fail> {
+    Ok(take_all(table)? && replies(table, steps)?)
+}
+
 fn plays_behind_all_locks(alloc: Global, steps: &[Step]) -> Result<bool, Fail> {
     let mut table = Table::new(alloc)?;
-    Ok(take_all(&mut table)? && replies(&mut table, steps)?)
+    replies_behind_all_locks(&mut table, steps)
 }
 
 #[test]
@@ -337,9 +341,13 @@ fn ask_all(table: &mut Table) -> Result<bool, Fail> {
     Ok(true)
 }
 
+fn replies_behind_all_clients(table: &mut Table, steps: &[Step]) -> Result<bool, Fail> {
+    Ok(ask_all(table)? && replies(table, steps)?)
+}
+
 fn plays_behind_all_clients(alloc: Global, steps: &[Step]) -> Result<bool, Fail> {
     let mut table = Table::new(alloc)?;
-    Ok(ask_all(&mut table)? && replies(&mut table, steps)?)
+    replies_behind_all_clients(&mut table, steps)
 }
 
 #[test]
@@ -378,9 +386,13 @@ fn fill(table: &mut Table) -> Result<bool, Fail> {
 }
 
 /// Whether the full table replies so, and then has no lock and 32 clients.
+fn ends_behind_full(alloc: Global, table: &mut Table, steps: &[Step]) -> Result<bool, Fail> {
+    Ok(fill(table)? && ends_at(alloc, table, steps, &[], 32)?)
+}
+
 fn plays_behind_full(alloc: Global, steps: &[Step]) -> Result<bool, Fail> {
     let mut table = Table::new(alloc)?;
-    Ok(fill(&mut table)? && ends_at(alloc, &mut table, steps, &[], 32)?)
+    ends_behind_full(alloc, &mut table, steps)
 }
 
 #[test]

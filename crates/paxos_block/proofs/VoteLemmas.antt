@@ -66,6 +66,20 @@ greatest_same (suc n) g h e =
     let here : g n ≡ h n = e n (omega arith) in
     rw (before, here) refl
 
+-- THE FIRST MARKED BLOCK
+
+-- it is the first of however many blocks more
+pub first_marked : (row : List SeenBlock) (g n : ℕ) (value : List ℕ) → g < n → marked_below row g ≡ None → marked (says_in row g) ≡ Some value → marked_below row n ≡ Some value
+first_marked row g zero value below none is = absurd (omega arith)
+first_marked row g (suc n) value below none is =
+    elim (cases_lt g n) [
+      | inl less ↦ ap (λ (o : Option (List ℕ)). option_or o (marked (says_in row n))) (first_marked row g n value less none is)
+      | inr same ↦
+          (let at : g ≡ n = omega arith in
+          ap (λ (o : Option (List ℕ)). option_or o (marked (says_in row n))) (subst (λ (m : ℕ). marked_below row m ≡ None) at none)
+          ∙ subst (λ (m : ℕ). marked (says_in row m) ≡ Some value) at is)
+    ]
+
 -- WHAT MAY BE SAID
 
 -- a vote at a ballot up to another is one up to a greater

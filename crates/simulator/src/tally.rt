@@ -1,4 +1,5 @@
-ghost use Rattle.std.specs.Prelude.{◌≡◌, ◌+◌, ◌*◌, ◌≤◌, ◌<◌, ◌^◌, true, None};
+ghost use Rattle.std.specs.Prelude.{◌≡◌, ◌+◌, ◌*◌, ◌≤◌, ◌<◌, ◌^◌, true, false, Some, None};
+ghost use Rattle.std.specs.Option.{option_or};
 
 /// What the variants of a script came to.
 #[derive(Clone, Copy, Debug, PartialEq, Eq)]
@@ -35,6 +36,7 @@ impl Sweep {
         ensures recovered { self.new.recovered ≡ self.old.recovered + recovered }
         ensures counted { (self.new.recovered ≤ 2 * self.new.runs) × (self.new.wrong ≤ self.new.runs) }
         ensures right { right ≡ true → (self.new.wrong ≡ self.old.wrong) × (self.new.first ≡ self.old.first) }
+        ensures wrong { right ≡ false → (self.new.wrong ≡ self.old.wrong + 1) × (self.new.first ≡ option_or self.old.first (Some self.old.runs)) }
     {
         if !right {
             if self.first.is_none() {

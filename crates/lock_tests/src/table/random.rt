@@ -223,19 +223,42 @@ fn shows(alloc: Global, table: &Table, flat: &FlatTable) -> Result<bool, Fail> {
 }
 
 /// Whether the table answers random commands as the flat table does, and shows what that holds after each so many.
-fn agrees(alloc: Global, seed: u64, range: &Range, each: u64) -> Result<bool, Fail> {
-    let mut random = Random(seed.wrapping_mul(0x9e37_79b9_7f4a_7c15) ^ 0x2545_f491_4f6c_dd1d);
-    let mut table = Table::new(alloc)?;
-    let mut flat = FlatTable::new(alloc)?;
+fn agree(
+    alloc: Global,
+    table: &mut Table,
+    flat: &mut FlatTable,
+    random: &mut Random,
+    range: &Range,
+    each: u64,
+) -> Result<bool, Fail> {
     for place in 0..range.commands {
-        if !answer_alike(&mut table, &mut flat, &mut random, range, place)? {
+        if !answer_alike(table, flat, random, range, place)? {
             return Ok(false);
         }
-        if place % each.max(1) == 0 && !shows(alloc, &table, &flat)? {
+        if place % each.max(1) == 0 && !shows(alloc, table, flat)? {
             return Ok(false);
         }
     }
     Ok(true)
+}
+
+/// The same of this table and a flat one that is made anew.
+fn agrees_with_another(
+    alloc: Global,
+    table: &mut Table,
+    seed: u64,
+    range: &Range,
+    each: u64,
+) -> Result<bool, Fail> {
+    let mut random = Random(seed.wrapping_mul(0x9e37_79b9_7f4a_7c15) ^ 0x2545_f491_4f6c_dd1d);
+    let mut flat = FlatTable::new(alloc)?;
+    agree(alloc, table, &mut flat, &mut random, range, each)
+}
+
+/// The same of two tables that are made anew.
+fn agrees(alloc: Global, seed: u64, range: &Range, each: u64) -> Result<bool, Fail> {
+    let mut table = Table::new(alloc)?;
+    agrees_with_another(alloc, &mut table, seed, range, each)
 }
 
 #[test]

@@ -18,5 +18,5 @@ returns-else-any-clause-told g c =
           subst (Shows c.args.disk tells damaged) (sym w.unread-is)
           (λ t d. let is : c.print_damage.new.any ≡ true = (w.in-Ok.ensures.found t).1 (inr d) in false≢true (sym c.if-any.false ∙ is))
       | in-Err-Device+in_ok-print_fault-in-Err-Device w ↦
-          subst (Shows c.args.disk tells damaged) (sym (w.unread-is ∙ ap (λ (f : Finding). Some f) w.in_ok-print_fault-in-Err-Device.ensures)) (refl, refl)
+          subst (Shows c.args.disk tells damaged) (sym (w.unread-is ∙ ap (λ (f : Finding). Some f) w.in_ok-print_fault-in-Err-Device.ensures.finding)) (refl, refl)
     ]

@@ -1,7 +1,8 @@
-use Rattle.std.proofs.Common.{◌≡◌, ◌<◌, ◌+◌, Option, None, length, slice_set, get_or, sym, subst, arith}
+use Rattle.std.proofs.Common.{◌≡◌, ◌<◌, ◌+◌, ℕ, Option, length, slice_set, get_or, sym, subst, arith}
 use Rattle.std.proofs.lemmas.Option.{slice_get-get_or}
 use Rattle.dlm_images.specs.declared.check.Finding.{Finding}
-use Rattle.dlm_images.proofs.Checking.{Checked, one_checked, none_refused}
+use Rattle.dlm_images.specs.Damage.{IsToldOfFolder}
+use Rattle.dlm_images.proofs.Checking.{Checked, one_checked, told_of_folder}
 use Rattle.dlm_images.proofs.check.check_disks.Goals as goal
 
 pub loop-disk-preserved : goal.loop-disk-preserved
@@ -16,8 +17,9 @@ loop-disk-preserved g c =
     (one_checked g.D.Disk.device g.D.Disk.state c.args.slots found old now n (get_or now n c.index-disks-disk.result) c.check_image.new.device (get_or found n _) c.loop-disk.first c.in_ok-finding.finding
     c.loop-disk.invariant (slice_get-get_or now n c.index-disks-disk.result within) (slice_get-get_or found n _ is_there) c.check_image.ensures.device c.in_ok-finding.ensures.told)
 
-pub returns-clause-sound : goal.returns-clause-sound
-returns-clause-sound g c = λ is k fault below.
-    let none : c.loop-disk.first ≡ None = cc in
-    none_refused g.D.Disk.device g.D.Disk.state c.args.slots c.args.found.now c.args.disks.now c.loop-disk.disk c.loop-disk.first c.loop-disk.invariant.told none k fault
-    (omega (arith, below, c.loop-disk-test.false)) below
+pub returns-clause-refusals : goal.returns-clause-refusals
+returns-clause-refusals g c =
+    let n = c.loop-disk.disk in
+    let all : n ≡ length c.args.disks.now = omega (arith, c.loop-disk-test.false, c.loop-disk.invariant.as_many) in
+    subst (λ (m : ℕ). IsToldOfFolder c.args.found.now m c.loop-disk.first) all
+    (told_of_folder g.D.Disk.device g.D.Disk.state c.args.slots c.args.found.now c.args.disks.now n (omega (arith, all)) (omega (arith, all, c.told-found, c.requires.few)) c.loop-disk.first c.loop-disk.invariant.told)

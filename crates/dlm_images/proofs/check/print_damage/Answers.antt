@@ -5,9 +5,10 @@ use Rattle.disk.specs.Disk.{DiskState, Device}
 use Rattle.std.specs.Prelude.{◌↔◌, ◌⊎◌, ◌||◌}
 use Rattle.paxos_block.specs.Places.{area_of}
 use Rattle.heartbeat.specs.Beat.{IsDamagedArea}
-use Rattle.dlm_images.specs.Damage.{area_text, rows_text, IsDamagedBelow}
+use Rattle.std.proofs.lemmas.Result.{err_from_is_err_and}
+use Rattle.dlm_images.specs.Damage.{area_text, rows_text, IsDamagedBelow, IsLeftInRows}
 use Rattle.dlm_images.proofs.Found.{image_is, image_cause}
-use Rattle.dlm_images.proofs.Damage.{attach_keeps}
+use Rattle.dlm_images.proofs.Damage.{attach_keeps, image_left, nothing_left}
 use Rattle.dlm_images.proofs.check.print_damage.Goals as goal
 
 pub returns-in_err-print_rows-clause-unchanged : goal.returns-in_err-print_rows-clause-unchanged
@@ -69,3 +70,30 @@ returns-clause-cause g c = λ t0 any.
     (subst (λ (d : DiskState). IsTrue c.in_ok-beats.beats ↔ IsDamagedArea (area_of d.bytes)) same (c.in_ok-beats.ensures.found t1))
     (subst (λ (d : DiskState). IsTrue (c.args.any.now || c.in_ok-beats.beats) ⊎ IsDamagedBelow c.args.slots d.bytes) (c.print_area.ensures.unchanged t1 ∙ same)
     (c.print_rows.ensures.cause t2 any))
+
+pub returns-in_err-print_rows-clause-left : goal.returns-in_err-print_rows-clause-left
+returns-in_err-print_rows-clause-left g c =
+    let p = err_from_is_err_and c.from_residual-in_err-print_rows.result c.from_residual-in_err-print_rows.ensures.1 in
+    rw (p.1, p.2)
+    (λ t0.
+    let t1 = subst (λ (d : Device). IsTrue d.tells) (sym c.attach.ensures.device) t0 in
+    let t2 = subst (λ (d : Device). IsTrue d.tells) (sym c.print_area.ensures.device) t1 in
+    let old = g.D.Disk.state c.args.device.now in
+    let same = attach_keeps old (g.D.Disk.state c.attach.new.self) c.attach.result (c.attach.ensures.step t0) in
+    let a = g.O.Write.contents c.args.out.now in
+    let b = g.O.Write.contents c.print_area.new.out in
+    let e = g.O.Write.contents c.print_rows.new.out in
+    let fault = c.in_err-print_rows.field-0.0 in
+    image_left fault a b e c.args.disk c.args.slots c.args.any.now c.in_ok-beats.beats c.print_rows.new.any old.bytes
+    (subst (λ (d : DiskState). Appends a b (area_text c.args.disk d.bytes)) same (c.in_ok-beats.ensures.text t1))
+    (subst (λ (d : DiskState). IsTrue c.in_ok-beats.beats ↔ IsDamagedArea (area_of d.bytes)) same (c.in_ok-beats.ensures.found t1))
+    (subst (λ (d : DiskState). IsLeftInRows fault c.args.disk c.args.slots d.bytes b e (c.args.any.now || c.in_ok-beats.beats) c.print_rows.new.any)
+    (c.print_area.ensures.unchanged t1 ∙ same) (c.in_err-print_rows.ensures.left t2)))
+
+pub returns-in_err-beats-clause-left : goal.returns-in_err-beats-clause-left
+returns-in_err-beats-clause-left g c =
+    let p = err_from_is_err_and c.from_residual-in_err-beats.result c.from_residual-in_err-beats.ensures.1 in
+    rw (p.1, p.2)
+    (λ tells.
+    nothing_left c.in_err-beats.field-0.0 (g.O.Write.contents c.args.out.now) (g.O.Write.contents c.print_area.new.out) c.args.disk c.args.slots c.args.any.now (g.D.Disk.state c.args.device.now).bytes
+    c.in_err-beats.ensures.left)

@@ -1,0 +1,74 @@
+-- What C is told where an operation has ended, from how the host says that it ended.
+use Rattle.std.proofs.Common.{◌≡◌, ◌≤◌, ℕ, true, List, length, Option, Some, None, inl, inr, refl, sym, ◌∙◌, ap, arith}
+use Rattle.disk.specs.Disk.{Call, Answer}
+use Rattle.lock_command.specs.declared.command.Command.{Command}
+use Rattle.slot_log.specs.Shape.{Shape}
+use Rattle.host.specs.declared.answer.HostAnswer.{HostAnswer}
+use Rattle.host.specs.declared.answer.HostAnswer.TheVariants.{Ack, Recovered, Looked, Beaten, Marked, Refused}
+use Rattle.host.specs.Host.{Operation, Submitting, Recovering, Looking, fresh}
+use Rattle.host.specs.Kept.{Kept, LeadsTo}
+use Rattle.host.proofs.Hosts.{idle_is}
+use Rattle.dlm_images.specs.Operations.{Standing, HasOperated, HasMarked, Ends, EndsMarking}
+use Rattle.dlm_images.proofs.Driving.{known_operated, operated_ends, known_marked, marked_prefix, marked_ends}
+use Rattle.dlm_images.proofs.Ending.{ReadsBack, reads_back}
+use Rattle.dlm_c.specs.Ends.{TellsEnd, TellsMarked, HasNumbersInRange, IsResting, OpenedRest, OperationsTell, MarkingsTell}
+use Rattle.dlm_c.specs.Told.{answer_told, status_told}
+
+-- how an operation has ended is told
+tells_end : (o : Operation) (learned : List Command) (said : Option HostAnswer) → Ends o learned said → TellsEnd o learned (answer_told said) (status_told said)
+tells_end (Submitting command) learned None ends = absurd ends
+tells_end (Submitting command) learned (Some (Ack slot reply)) ends = inl (record { slot = slot; reply = reply; is = ends; told = refl; returned = refl })
+tells_end (Submitting command) learned (Some (Recovered count)) ends = absurd ends
+tells_end (Submitting command) learned (Some (Looked count)) ends = absurd ends
+tells_end (Submitting command) learned (Some (Beaten host)) ends = absurd ends
+tells_end (Submitting command) learned (Some (Marked count)) ends = absurd ends
+tells_end (Submitting command) learned (Some (Refused refusal)) ends = inr (record { refusal = refusal; told = refl; returned = refl })
+tells_end Recovering learned None ends = absurd ends
+tells_end Recovering learned (Some (Ack slot reply)) ends = absurd ends
+tells_end Recovering learned (Some (Recovered count)) ends = inl (ap (λ (n : ℕ). answer_told (Some (Recovered n))) ends, refl)
+tells_end Recovering learned (Some (Looked count)) ends = absurd ends
+tells_end Recovering learned (Some (Beaten host)) ends = absurd ends
+tells_end Recovering learned (Some (Marked count)) ends = absurd ends
+tells_end Recovering learned (Some (Refused refusal)) ends = inr (record { refusal = refusal; told = refl; returned = refl })
+tells_end Looking learned None ends = absurd ends
+tells_end Looking learned (Some (Ack slot reply)) ends = absurd ends
+tells_end Looking learned (Some (Recovered count)) ends = absurd ends
+tells_end Looking learned (Some (Looked count)) ends = inl (ap (λ (n : ℕ). answer_told (Some (Looked n))) ends, refl)
+tells_end Looking learned (Some (Beaten host)) ends = absurd ends
+tells_end Looking learned (Some (Marked count)) ends = absurd ends
+tells_end Looking learned (Some (Refused refusal)) ends = inr (record { refusal = refusal; told = refl; returned = refl })
+
+tells_marked : (said : Option HostAnswer) → EndsMarking said → TellsMarked (answer_told said) (status_told said)
+tells_marked None ends = absurd ends
+tells_marked (Some (Ack slot reply)) ends = absurd ends
+tells_marked (Some (Recovered count)) ends = absurd ends
+tells_marked (Some (Looked count)) ends = absurd ends
+tells_marked (Some (Beaten host)) ends = absurd ends
+tells_marked (Some (Marked count)) ends = inl (count, refl, refl)
+tells_marked (Some (Refused refusal)) ends = inr (record { refusal = refusal; told = refl; returned = refl })
+
+-- a command whose numbers are in their ranges reads back
+reads : (o : Operation) → HasNumbersInRange o → ReadsBack o
+reads (Submitting command) fits = reads_back command fits
+reads Recovering fits = tt
+reads Looking fits = tt
+
+-- a host that was opened rests
+pub opened : OpenedRest
+opened c h k leads = record {
+  known = record { shape = c; host = h; memory = fresh; leads = leads; rests = refl; tries = omega arith };
+  idle = idle_is c h fresh k leads;
+}
+
+pub operations : {D : Type 0} (gives : D → Call → Answer → D → Type 0) → OperationsTell gives
+operations gives operation tries old new rests fits done = (
+  record { known = known_operated gives operation tries old new rests.known done; idle = done.ended },
+  tells_end operation new.core.prefix new.core.said (operated_ends gives operation tries old new (reads operation fits) rests.known rests.idle done),
+)
+
+pub markings : {D : Type 0} (gives : D → Call → Answer → D → Type 0) → MarkingsTell gives
+markings gives slot old new rests done = (
+  record { known = known_marked gives slot old new rests.known done; idle = done.ended },
+  marked_prefix gives slot old new rests.known done,
+  tells_marked new.core.said (marked_ends gives slot old new rests.known done),
+)
