@@ -1,5 +1,5 @@
 #!/usr/bin/env bash
-# Makes libmidgegalena.a, libmidgegalena.so.0.1 and midgegalena.pc in capi/out, where they are not newer than all that they are made of.
+# Makes libmidgegalena.a, libmidgegalena.so.0.2 and midgegalena.pc in capi/out, where they are not newer than all that they are made of.
 # Proves crates/dlm_c, and what stands below it, first.
 #   capi/build.sh [PREFIX]     where they will be installed, /usr/local if it is left out
 set -euo pipefail

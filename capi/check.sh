@@ -68,7 +68,7 @@ tried "refused memory, built" cc -std=c99 $common -Wl,--wrap=malloc,--wrap=callo
 folder
 tried "refused memory" "$work/refused_memory" "$work/images"
 
-# Images that are missing, short, of another folder, or unformatted.
+# Images that are missing, short, of another folder or layout, or unformatted.
 tried "images, built" cc -std=c99 $common "$here/tests/images.c" $flags -o "$work/images_test"
 folder
 tried "images" "$work/images_test" "$work/images" "$dlm"

@@ -3,6 +3,7 @@
 
 _dlm() {
     local word=${COMP_WORDS[COMP_CWORD]} task=${COMP_WORDS[1]} command=${COMP_WORDS[4]-} words=
+    local hosts="0 1 2 3 4 5 6 7 8 9 10 11 12 13 14 15"
 
     COMPREPLY=()
     case $COMP_CWORD:$task in
@@ -17,18 +18,19 @@ _dlm() {
             mapfile -t COMPREPLY < <(compgen -d -- "$word")
             return
             ;;
-        2:race) words="1 2 3 4 5 6 7 8" ;;
+        2:race) words="1 2 3 4 5 6 7 8 9 10 11 12 13 14 15 16" ;;
         3:format) words="1 2 3 4 5 6 7" ;;
-        3:submit | 3:table | 3:mark) words="0 1 2 3 4 5 6 7" ;;
+        3:submit | 3:table | 3:mark) words=$hosts ;;
         4:submit) words="enqueue convert release cancel status purge" ;;
         *:submit)
             case $COMP_CWORD:$command in
-                7:purge) words="0 1 2 3 4 5 6 7" ;;
+                7:purge) words=$hosts ;;
                 8:enqueue | 8:convert) words="NL CR CW PR PW EX" ;;
                 10:enqueue | 9:convert) words="noqueue" ;;
             esac
             ;;
     esac
+    [[ $words != [01]\ * ]] || compopt -o nosort
     mapfile -t COMPREPLY < <(compgen -W "$words" -- "$word")
 }
 

@@ -23,11 +23,11 @@ complete -c dlm -n 'test (count (commandline -opc)) -eq 1' -a race -d 'race host
 complete -c dlm -n 'test (count (commandline -opc)) -eq 1' -a sweep -d 'run the variants of a script'
 complete -c dlm -n '__dlm_at 2 run sweep' -F
 complete -c dlm -n '__dlm_at 2 format submit table mark check' -a '(__fish_complete_directories)'
-complete -c dlm -n '__dlm_at 2 race' -a '(seq 1 8)' -d 'hosts'
+complete -c dlm -n '__dlm_at 2 race' -a '(seq 1 16)' -d 'hosts'
 complete -c dlm -n '__dlm_at 3 format' -a '(seq 1 7)' -d 'disks'
-complete -c dlm -n '__dlm_at 3 submit table mark' -a '(seq 0 7)' -d 'host'
+complete -c dlm -n '__dlm_at 3 submit table mark' -a '(seq 0 15)' -d 'host'
 complete -c dlm -n '__dlm_at 4 submit' -a 'enqueue convert release cancel status purge' -d 'command'
-complete -c dlm -n '__dlm_command_at 7 purge' -a '(seq 0 7)' -d 'host'
+complete -c dlm -n '__dlm_command_at 7 purge' -a '(seq 0 15)' -d 'host'
 complete -c dlm -n '__dlm_command_at 8 enqueue convert' -a 'NL CR CW PR PW EX' -d 'mode'
 complete -c dlm -n '__dlm_command_at 10 enqueue' -a noqueue
 complete -c dlm -n '__dlm_command_at 9 convert' -a noqueue

@@ -4,7 +4,7 @@ cluster 1 4
 start 0
 submit 0 1 enqueue 1 1 1 EX db
 
-# Call 13 writes the body of the vote: 63 bytes, which become ff. Its gate would have been opened two calls later.
+# Call 13 writes the body of the vote: 127 bytes, which become ff. Its gate would have been opened two calls later.
 step 0 12
 tear 0 ff
 

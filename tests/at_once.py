@@ -8,7 +8,7 @@ lock table after the commands before it, each killed or refused command stands t
     at_once.py [--rounds N] [--seconds N] [--hosts N] [--disks N] [--slots N] [--kill PERCENT] [--where FOLDER] [--seed N]
                [--same] [--calls WORDS] [--devices PATH,PATH,..] [--program PATH]
 
-A round ends after so many seconds, or once the log is full.
+A round ends after so many seconds, or once the log is full. The host numbers are any of the sixteen, as many as are asked for.
 `--same` runs all loops under host number 0. One process at a time gets in; the others are refused, and nothing is lost.
 `--calls "DLM_READ=128 DLM_GAP=50,2000"` puts tests/shim/calls.c before the C library, with these words for it; that needs `cc`.
 `--devices` takes block devices, one a disk, in place of files, and writes over them; that needs root."""
@@ -33,6 +33,7 @@ class Round:
     def __init__(self, given, folder, seed):
         self.given, self.folder = given, folder
         self.random = random.Random(seed)
+        self.numbers = self.random.sample(range(lock_log.HOSTS), given.hosts)
         self.lock = threading.Lock()
         self.acks = []                      # (slot, reply, words, host)
         self.others = []                    # (host, words) of processes that were killed or refused
@@ -45,8 +46,8 @@ class Round:
         self.typical = 0.005               # how long a process took, lately
 
     def words(self, rng, loop, number, own):
-        """What a loop submits next: by four client numbers of its own, on three shared names."""
-        client = loop * 4 + rng.randrange(4)
+        """What a loop submits next: by two client numbers of its own, on three shared names."""
+        client = loop * 2 + rng.randrange(2)
         kind = rng.random()
         if own and kind < 0.45:
             lock = rng.choice(sorted(own))
@@ -62,7 +63,7 @@ class Round:
         return ["enqueue", str(client), str(number), str(lock), rng.choice(lock_log.MODES), rng.choice(["db", "log", "x"])]
 
     def loop(self, loop):
-        host = 0 if self.given.same else loop
+        host = 0 if self.given.same else self.numbers[loop]
         rng = random.Random(self.random.random() + loop)
         number, own = 0, {}
         again, tries = None, 0
@@ -138,7 +139,7 @@ class Round:
         before, wrong = lock_log.log_of(self.folder)
         for each in wrong:
             self.fail("images as they were left: " + each)
-        tables = [self.table(self.folder, host) for host in range(8)]
+        tables = [self.table(self.folder, host) for host in range(lock_log.HOSTS)]
         if len(set(tables)) != 1:
             self.fail("tables differ: " + repr(tables))
         log, wrong = lock_log.log_of(self.folder)
@@ -202,7 +203,7 @@ def main():
     words = argparse.ArgumentParser()
     words.add_argument("--rounds", type=int, default=3)
     words.add_argument("--seconds", type=float, default=60)
-    words.add_argument("--hosts", type=int, default=8, choices=range(1, 9))
+    words.add_argument("--hosts", type=int, default=8, choices=range(1, lock_log.HOSTS + 1))
     words.add_argument("--disks", type=int, default=3, choices=range(1, 8))
     words.add_argument("--slots", type=int, default=100)
     words.add_argument("--kill", type=int, default=25)

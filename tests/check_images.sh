@@ -1,6 +1,6 @@
 #!/usr/bin/env bash
 # dlm check over images that are damaged by hand: what it prints, the refusal that it ends with, and that no byte of any image changes. The
-# places are those of docs/FORMAT.md: host h's heartbeat block at 1024 + 128 * h, its block of slot s at 2048 + 1024 * s + 128 * h.
+# places are those of docs/FORMAT.md: host h's heartbeat block at 4096 + 256 * h, its block of slot s at 8192 + 4096 * s + 256 * h.
 set -uo pipefail
 
 tests=$(dirname -- "$(readlink -f -- "${BASH_SOURCE[0]}")")
@@ -58,18 +58,18 @@ check "sound" 0 "sound" ""
 
 # A ballot of host 1 in host 0's block: one disk less for that slot, and with two of them too few.
 fresh
-poke 0 2071 002
+poke 0 8215 002
 check "one ballot" 1 "disk0 slot 0 host 0 damaged" "dlm: 5 Damaged"
 expect "table beside one ballot" 0 "$held" "" "$program" table "$work/d" 1
 fresh
-poke 0 2071 002
-poke 1 2071 002
+poke 0 8215 002
+poke 1 8215 002
 check "two ballots" 1 $'disk0 slot 0 host 0 damaged\ndisk1 slot 0 host 0 damaged' "dlm: 5 Damaged"
 expect "table beside two ballots" 1 "" "dlm: 7 NoMajority" "$program" table "$work/d" 1
 
 # A marked value that is no command: the blocks are sound.
 fresh
-for disk in 0 1 2; do poke "$disk" 2080 007; done
+for disk in 0 1 2; do poke "$disk" 8224 007; done
 check "no command" 0 "sound" ""
 expect "table of no command" 1 "" "dlm: 10 NotACommand" "$program" table "$work/d" 1
 
@@ -87,28 +87,61 @@ fresh
 for disk in 0 1 2; do poke "$disk" 0 000; done
 check "no right header" 1 "" "dlm: 24 NotFormatted disk0"
 poke 0 0 245
-poke 0 1 002
+poke 0 1 003
 check "no right header, and another version" 1 "" "dlm: 25 WrongHeader disk0"
 
 # Damage, and images that are not used: by image, the heartbeats first, then by slot and host. Three gates are opened over zeros, which are no
 # beat and no promise; both copies of host 3's block of slot 9 get one sequence number.
 fresh
-poke 0 1664 245
-poke 0 2944 245
-poke 0 18304 245
-truncate -s 18431 -- "$work/d/disk1.img"
-dd if="$work/d/disk2.img" of="$work/d/disk2.img" bs=1 skip=2048 seek=11648 count=64 conv=notrunc status=none
-dd if="$work/d/disk2.img" of="$work/d/disk2.img" bs=1 skip=2048 seek=11712 count=64 conv=notrunc status=none
-for copy in 11648 11712; do
+poke 0 5376 245
+poke 0 12032 245
+poke 0 73472 245
+truncate -s 73727 -- "$work/d/disk1.img"
+dd if="$work/d/disk2.img" of="$work/d/disk2.img" bs=1 skip=8192 seek=45824 count=128 conv=notrunc status=none
+dd if="$work/d/disk2.img" of="$work/d/disk2.img" bs=1 skip=8192 seek=45952 count=128 conv=notrunc status=none
+for copy in 45824 45952; do
     poke 2 $((copy + 23)) 004
     poke 2 $((copy + 31)) 004
 done
-many=$'disk0 heartbeat host 5 damaged\ndisk0 slot 0 host 7 damaged\ndisk0 slot 15 host 7 damaged\ndisk1 25 WrongHeader\ndisk2 slot 9 host 3 damaged'
+many=$'disk0 heartbeat host 5 damaged\ndisk0 slot 0 host 15 damaged\ndisk0 slot 15 host 15 damaged\ndisk1 25 WrongHeader\ndisk2 slot 9 host 3 damaged'
 check "many" 1 "$many" "dlm: 5 Damaged"
-poke 2 11712 000
+poke 2 45952 000
 check "one copy closed" 1 "${many%$'\n'*}" "dlm: 5 Damaged"
 rm -- "$work/d/disk0.img"
 check "one missing, one of another length" 1 $'disk0 26 Unreadable\ndisk1 25 WrongHeader' "dlm: 26 Unreadable disk0"
+
+# old DISK: an image of the layout before this one in its place: version 1, three disks, 16 slots, cluster 7, and rows of 1,024 bytes.
+old() {
+    printf '%b' "\\0245\\0001\\000$1\\0003\\0000\\0000\\0000\\0020\\0000\\0000\\0000\\0000\\0000\\0000\\0000\\0007" >"$work/d/disk$1.img"
+    truncate -s 18432 -- "$work/d/disk$1.img"
+}
+
+# Beside images of this layout it is a disk that fails. Where no image is of this layout every command is refused, and nothing is written.
+fresh
+old 1
+check "one of the old layout" 1 "disk1 32 OldLayout" "dlm: 32 OldLayout disk1"
+expect "table beside one of the old layout" 0 "$held" "" "$program" table "$work/d" 1
+old 0
+old 2
+check "the old layout" 1 "" "dlm: 32 OldLayout disk0"
+before=$(sha256sum -- "$work"/d/*)
+expect "table of the old layout" 1 "" "dlm: 32 OldLayout disk0" "$program" table "$work/d" 1
+expect "marks of the old layout" 1 "" "dlm: 32 OldLayout disk0" "$program" mark "$work/d" 1
+expect "submission to the old layout" 1 "" "dlm: 32 OldLayout disk0" "$program" submit "$work/d" 1 status 1 1 1
+expect "format over the old layout" 1 "" "dlm: 29 AlreadyThere" "$program" format "$work/d" 3 16 7
+[[ $before == "$(sha256sum -- "$work"/d/*)" ]] || { echo "the old layout: a file changed"; failed=$((failed + 1)); }
+
+# It is refused so only where it passes all checks of that layout.
+poke 0 16 001
+check "the old layout, not right" 1 "" "dlm: 25 WrongHeader disk0"
+old 0
+truncate -s 73728 -- "$work/d/disk0.img"
+check "the old layout, of another length" 1 "" "dlm: 25 WrongHeader disk0"
+old 0
+poke 0 0 000
+check "the old layout, not formatted" 1 "" "dlm: 24 NotFormatted disk0"
+rm -- "$work/d/disk0.img"
+check "the old layout, the first missing" 1 "" "dlm: 26 Unreadable disk0"
 
 # An image beyond the set is not looked at.
 fresh

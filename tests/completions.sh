@@ -37,22 +37,22 @@ expect() {
 
 expect 'dlm ' '<check> <format> <mark> <race> <run> <submit> <sweep> <table>'
 expect 'dlm f' '<format>'
-expect 'dlm race ' '<race> <1> <2> <3> <4> <5> <6> <7> <8>'
+expect 'dlm race ' '<race> <1> <2> <3> <4> <5> <6> <7> <8> <9> <10> <11> <12> <13> <14> <15> <16>'
 expect 'dlm run o' '<run> <one.dlm>'
 expect 'dlm sweep o' '<sweep> <one.dlm>'
 expect 'dlm table ' '<table> <images> <more images>'
 expect 'dlm check im' '<check> <images>'
 expect 'dlm format im' '<format> <images>'
 expect 'dlm format images ' '<format> <images> <1> <2> <3> <4> <5> <6> <7>'
-expect 'dlm table images ' '<table> <images> <0> <1> <2> <3> <4> <5> <6> <7>'
-expect 'dlm mark images ' '<mark> <images> <0> <1> <2> <3> <4> <5> <6> <7>'
+expect 'dlm table images ' '<table> <images> <0> <1> <2> <3> <4> <5> <6> <7> <8> <9> <10> <11> <12> <13> <14> <15>'
+expect 'dlm mark images ' '<mark> <images> <0> <1> <2> <3> <4> <5> <6> <7> <8> <9> <10> <11> <12> <13> <14> <15>'
 expect 'dlm submit images 0 ' '<submit> <images> <0> <cancel> <convert> <enqueue> <purge> <release> <status>'
 expect 'dlm submit images 0 c' '<submit> <images> <0> <cancel> <convert>'
 expect 'dlm submit images 0 enqueue 1 1 1 ' '<submit> <images> <0> <enqueue> <1> <1> <1> <CR> <CW> <EX> <NL> <PR> <PW>'
 expect 'dlm submit images 0 enqueue 1 1 1 EX db n' '<submit> <images> <0> <enqueue> <1> <1> <1> <EX> <db> <noqueue>'
 expect 'dlm submit images 0 convert 1 2 1 P' '<submit> <images> <0> <convert> <1> <2> <1> <PR> <PW>'
 expect 'dlm submit images 0 convert 1 2 1 PW ' '<submit> <images> <0> <convert> <1> <2> <1> <PW> <noqueue>'
-expect 'dlm submit images 0 purge 1 2 ' '<submit> <images> <0> <purge> <1> <2> <0> <1> <2> <3> <4> <5> <6> <7>'
+expect 'dlm submit images 0 purge 1 2 ' '<submit> <images> <0> <purge> <1> <2> <0> <1> <2> <3> <4> <5> <6> <7> <8> <9> <10> <11> <12> <13> <14> <15>'
 expect 'dlm submit images 0 release 1 2 7' '<submit> <images> <0> <release> <1> <2> <7>'
 expect './dlm f' '<format>'
 
@@ -73,7 +73,7 @@ if command -v fish >/dev/null; then
     asked 'dlm submit images 0 ' 'cancel convert enqueue purge release status'
     asked 'dlm submit images 0 enqueue 1 1 1 ' 'CR CW EX NL PR PW'
     asked 'dlm submit images 0 convert 1 2 1 PW ' 'noqueue'
-    asked 'dlm submit images 0 purge 1 2 ' '0 1 2 3 4 5 6 7'
+    asked 'dlm submit images 0 purge 1 2 ' '0 1 10 11 12 13 14 15 2 3 4 5 6 7 8 9'
 fi
 if command -v zsh >/dev/null; then
     tried=$((tried + 1))

@@ -55,11 +55,11 @@ zeros() {
     done
 }
 
-# An image of 16 slots has 18,432 bytes. The second device has room for exactly that, the fourth for less.
+# An image of 16 slots has 73,728 bytes. The second device has room for exactly that, the fourth for less.
 add 1M
-add 18432
-add 64K
-add 16384
+add 73728
+add 256K
+add 65536
 mkdir -- "$work/d"
 for k in 0 1 2; do
     ln -s -- "${devices[k]}" "$work/d/disk$k.img"
@@ -74,15 +74,24 @@ expect "format again" 1 "dlm: 29 AlreadyThere" "$program" format "$work/d" 3 16 
 expect "what was there" 0 "$held" "$program" table "$work/d" 1
 
 # What stands behind an image on its device is not written, and does not matter.
-printf 'behind the image' | dd of="${devices[0]}" bs=1 seek=18432 conv=notrunc,fsync status=none
+printf 'behind the image' | dd of="${devices[0]}" bs=1 seek=73728 conv=notrunc,fsync status=none
 expect "other bytes behind" 0 "$held" "$program" table "$work/d" 2
-expect "they stay" 0 "behind the image" dd if="${devices[0]}" bs=1 skip=18432 count=16 status=none
+expect "they stay" 0 "behind the image" dd if="${devices[0]}" bs=1 skip=73728 count=16 status=none
 
 # A device that tells of a longer image than it has room for.
 zeros "${devices[1]}"
 expect "one of three" 0 "$held" "$program" table "$work/d" 3
-printf '\245\001\001\003\000\000\000\021\000\000\000\000\000\000\000\007' | dd of="${devices[1]}" bs=1 conv=notrunc,fsync status=none
+printf '\245\002\001\003\000\000\000\021\000\000\000\000\000\000\000\007' | dd of="${devices[1]}" bs=1 conv=notrunc,fsync status=none
 expect "no room for what is told" 0 "$held" "$program" table "$work/d" 4
+
+# A device of the layout before this one, which has room for it: beside the others it is a disk that fails, and it is not formatted again.
+printf '\245\001\001\003\000\000\000\020\000\000\000\000\000\000\000\007' | dd of="${devices[1]}" bs=1 conv=notrunc,fsync status=none
+expect "the old layout" 1 $'disk1 32 OldLayout\ndlm: 32 OldLayout disk1' "$program" check "$work/d"
+expect "one of the old layout" 0 "$held" "$program" table "$work/d" 4
+zeros "${devices[0]}" "${devices[2]}"
+expect "format over the old layout" 1 "dlm: 29 AlreadyThere" "$program" format "$work/d" 3 16 7
+zeros "${devices[1]}"
+expect "format of all" 0 "formatted 3 disks, 16 slots" "$program" format "$work/d" 3 16 7
 
 # One formatted device, or one that is too short, and nothing is made on the others.
 zeros "${devices[0]}" "${devices[1]}"

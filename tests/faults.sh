@@ -64,7 +64,7 @@ held=$'recovered 1\ndb\n  granted 1 1 0 EX'
 
 # A full disk: what was made stays, and the folder is not formatted.
 mkdir -- "$work/full"
-expect "format on a full disk" 1 "dlm: 26 Unreadable disk0" limited 12 "$program" format "$work/full" 3 16 7
+expect "format on a full disk" 1 "dlm: 26 Unreadable disk0" limited 48 "$program" format "$work/full" 3 16 7
 expect "half a format" 1 "dlm: 24 NotFormatted disk0" "$program" table "$work/full" 0
 expect "format again" 1 "dlm: 29 AlreadyThere" "$program" format "$work/full" 3 16 7
 
@@ -95,7 +95,7 @@ expect "two cut off" 1 "dlm: 7 NoMajority" "$program" table "$work/d" 2
 
 # Zeros, and another cluster's image.
 fresh
-dd if=/dev/zero of="$work/d/disk2.img" bs=18432 count=1 status=none
+dd if=/dev/zero of="$work/d/disk2.img" bs=73728 count=1 status=none
 expect "one of zeros" 0 "ack 1 Queued" "$program" submit "$work/d" 4 enqueue 2 1 2 EX db
 fresh
 mkdir -- "$work/other"
@@ -108,18 +108,18 @@ expect "its own again" 0 "$held" "$program" table "$work/d" 2
 
 # Host 0's block of slot 0 without its mark, as the gate of the marked copy is closed: on one image, on two, on all.
 fresh
-poke 0 2048 000
+poke 0 8192 000
 expect "a mark on two images" 0 "$held" "$program" table "$work/d" 3
-poke 1 2048 000
+poke 1 8192 000
 expect "a mark on one image" 0 "$held" "$program" table "$work/d" 4
-poke 2 2048 000
+poke 2 8192 000
 expect "no mark" 0 "$held" "$program" table "$work/d" 5
 
 # A mark of 2 damages its row: that disk does not count for the slot.
 fresh
-poke 0 2051 002
+poke 0 8195 002
 expect "one damaged mark" 0 "$held" "$program" table "$work/d" 3
-poke 1 2051 002
+poke 1 8195 002
 expect "two damaged marks" 1 "dlm: 7 NoMajority" "$program" table "$work/d" 3
 
 # Cut off under way: what is acknowledged stands on the two others.
@@ -127,7 +127,7 @@ for turn in 1 2 3 4 5 6 7 8 9 10; do
     fresh
     "$program" submit "$work/d" 5 enqueue 2 1 2 EX db >"$work/out" 2>&1 &
     [[ $((turn % 2)) -eq 0 ]] && sleep "0.00$((turn % 5))"
-    truncate -s $((1024 * turn)) -- "$work/d/disk$((turn % 3)).img"
+    truncate -s $((4096 * turn)) -- "$work/d/disk$((turn % 3)).img"
     wait $!
     rm -- "$work/d/disk$((turn % 3)).img"
     "$program" table "$work/d" 6 >"$work/table" 2>&1

@@ -40,7 +40,7 @@ look() {
     local kind lock rest
     while read -r kind lock rest; do
         [[ $kind == granted ]] && found[$lock]=1
-    done < <("$program" table "$1" $((RANDOM % 8)) 2>"$work/told" || echo failed)
+    done < <("$program" table "$1" $((RANDOM % 16)) 2>"$work/told" || echo failed)
     [[ ! -s $work/told ]] || fail "dlm table tells: $(<"$work/told")"
 }
 
@@ -63,7 +63,7 @@ round() {
     acked=()
     while [[ $killed -lt $until && $lock -lt 200 ]]; do
         lock=$((lock + 1))
-        host=$((RANDOM % 8))
+        host=$((RANDOM % 16))
         pause=$((500 + (RANDOM * 32768 + RANDOM) % longest))
         # The shell tells of each that it was killed: that goes nowhere.
         {

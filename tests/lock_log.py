@@ -38,35 +38,43 @@ def built_shim(folder):
 
 # THE BYTES
 
+HOSTS = 16
+COPY = 128
+BLOCK = 2 * COPY
+ROW = HOSTS * BLOCK
+ROWS = 2 * ROW
+COMMAND = 48
+
+
 def length(slots):
     """How long an image is."""
-    return 2048 + 1024 * slots
+    return ROWS + ROW * slots
 
 
 def header(data):
     """Disk, disks, slots and cluster number of an image, or None. A block device may be longer than its image."""
-    if len(data) < 1024 or data[0] != 0xA5 or data[1] != 1:
+    if len(data) < 1024 or data[0] != 0xA5 or data[1] != 2:
         return None
     return data[2], data[3], int.from_bytes(data[4:8], "big"), int.from_bytes(data[8:16], "big")
 
 
 def open_copies(block):
-    """Of each open copy of a block: sequence number, flag, mbal, bal, input, and bytes 1 to 7."""
+    """Of each open copy of a block: sequence number, flag, mbal, bal, input, bytes 1 to 7, and what stands after the input."""
     found = []
-    for copy in (block[:64], block[64:]):
+    for copy in (block[:COPY], block[COPY:]):
         if copy[0] == 0xA5:
             sequence, mbal, bal = struct.unpack(">QQQ", copy[8:32])
-            found.append((sequence, copy[2], mbal, bal, copy[32:64], copy[1:8]))
+            found.append((sequence, copy[2], mbal, bal, copy[32:32 + COMMAND], copy[1:8], copy[32 + COMMAND:]))
     return found
 
 
 def is_sound(copy, host):
-    sequence, flag, mbal, bal, given, head = copy
-    right = head[0] == 1 and flag in (0, 1) and head[2] <= flag and head[3:] == bytes(4) and sequence >= 1
-    right = right and mbal >= 1 and (mbal - 1) % 8 == host
+    sequence, flag, mbal, bal, given, head, rest = copy
+    right = head[0] == 2 and flag in (0, 1) and head[2] <= flag and head[3:] == bytes(4) and sequence >= 1 and not any(rest)
+    right = right and mbal >= 1 and (mbal - 1) % HOSTS == host
     if flag:
-        return right and 1 <= bal <= mbal and (bal - 1) % 8 == host
-    return right and bal == 0 and given == bytes(32)
+        return right and 1 <= bal <= mbal and (bal - 1) % HOSTS == host
+    return right and bal == 0 and not any(given)
 
 
 def current(block):
@@ -95,9 +103,9 @@ def log_of(folder):
     for slot in range(slots):
         best = (0, None)
         for disk, data in enumerate(images):
-            for host in range(8):
-                at = 2048 + 1024 * slot + 128 * host
-                block = data[at:at + 128]
+            for host in range(HOSTS):
+                at = ROWS + ROW * slot + BLOCK * host
+                block = data[at:at + BLOCK]
                 copies = open_copies(block)
                 if len(copies) == 2 and copies[0][0] == copies[1][0]:
                     wrong.append(f"disk {disk} slot {slot} host {host}: two copies of one number")
@@ -121,7 +129,7 @@ def words_of(command):
     """Host and words of a command, as `dlm submit` takes them; of bytes that spell no command, host 255 and these bytes."""
     kind, host, client, mode, no_queue, length = command[:6]
     lock, request, gone = int.from_bytes(command[6:8], "big"), int.from_bytes(command[8:16], "big"), command[16]
-    if kind not in KINDS or mode >= len(MODES) or not command[17:17 + length].isascii():
+    if kind not in KINDS or mode >= len(MODES) or not command[17:17 + length].isascii() or any(command[32:]):
         return 255, [command.hex()]
     words = [KINDS[kind], str(client), str(request), str(gone if kind == 6 else lock)]
     if kind in (1, 2):

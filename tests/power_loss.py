@@ -52,8 +52,8 @@ def said(row):
     found = rows_seen.get(row)
     if found is None:
         best, broken = (0, None), []
-        for host in range(8):
-            block = row[128 * host:128 * host + 128]
+        for host in range(lock_log.HOSTS):
+            block = row[lock_log.BLOCK * host:lock_log.BLOCK * (host + 1)]
             copies = lock_log.open_copies(block)
             if len(copies) == 2 and copies[0][0] == copies[1][0]:
                 broken.append(f"host {host}: two copies of one number")
@@ -62,7 +62,7 @@ def said(row):
             if copy and copy[1] and copy[3] > best[0]:
                 best = (copy[3], copy[4])
         found = best, broken
-        if len(rows_seen) > 200000:
+        if len(rows_seen) > 50000:
             rows_seen.clear()
         rows_seen[row] = found
     return found
@@ -113,13 +113,13 @@ class Walk:
 
     def at_once(self, log, started):
         """Some hosts submit at once, and some of their processes end in the midst. Tells whether the log is full."""
-        hosts = self.random.sample(range(8), self.given.hosts or self.random.choice([1, 1, 2, 3, 4]))
+        hosts = self.random.sample(range(lock_log.HOSTS), self.given.hosts or self.random.choice([1, 1, 2, 3, 4]))
         env = {**os.environ, "LD_PRELOAD": self.shim, "DLM_LOG": log, "DLM_STOP": self.random.choice(["0", "0", "5", "20"]),
                "DLM_PAUSE": "30,200" if len(hosts) > 1 else "0,0"}
         processes, full = [], False
         for host in hosts:
             self.number += 1
-            words = ["enqueue", str(host * 4 + self.random.randrange(4)), str(self.number), str(self.number % 60000 + 1), "NL", "db"]
+            words = ["enqueue", str(host * 2 + self.random.randrange(2)), str(self.number), str(self.number % 60000 + 1), "NL", "db"]
             process = subprocess.Popen([self.given.program, "submit", self.folder, str(host), *words],
                                        stdout=subprocess.PIPE, stderr=subprocess.PIPE, text=True, env=env)
             processes.append((process, words))
@@ -285,13 +285,13 @@ class Walk:
         """By every majority of the disks the greatest vote of an acknowledged slot is its command."""
         votes = []
         for disk, image in enumerate(state):
-            at, mine = 2048, []
+            at, mine = lock_log.ROWS, []
             for slot in range(self.given.slots):
-                best, broken = said(bytes(image[at:at + 1024]))
+                best, broken = said(bytes(image[at:at + lock_log.ROW]))
                 if broken:
                     self.wrong.append(f"disk {disk} slot {slot}: {broken}")
                 mine.append(best)
-                at += 1024
+                at += lock_log.ROW
             votes.append(mine)
         most = self.given.disks // 2 + 1
         for slot, (host, words) in acks.items():
@@ -307,7 +307,7 @@ class Walk:
         os.mkdir(apart)
         most = self.random.randrange(self.given.disks // 2 + 1, self.given.disks + 1)
         self.put(state, apart, self.random.sample(range(self.given.disks), most))
-        told = self.run(["table", apart, str(self.random.randrange(8))])
+        told = self.run(["table", apart, str(self.random.randrange(lock_log.HOSTS))])
         self.counts["tables"] += 1
         held = {line.split()[1] for line in told.stdout.splitlines() if line.startswith("  granted")}
         missing = [words for host, words in acks.values() if words[3] not in held]

@@ -70,6 +70,9 @@ def images(disks, slots):
 
 
 HELD = "recovered 1\ndb\n  granted 1 1 0 EX\n"
+# An image of 16 slots: where its rows begin, and where it ends.
+ROWS = 8192
+LENGTH = 73728
 
 
 @test
@@ -79,23 +82,23 @@ def from_format_to_lost_disks():
     refused("format . 3 16 7", "dlm: 29 AlreadyThere\n")
     prints("submit . 0 enqueue 1 1 1 EX db", "ack 0 Granted\n")
     prints("submit . 3 enqueue 2 1 2 EX db noqueue", "ack 1 16 NotQueued\n")
-    prints("table . 1", "recovered 2\ndb\n  granted 1 1 0 EX\n")
+    prints("table . 15", "recovered 2\ndb\n  granted 1 1 0 EX\n")
     # The same words again are the command that is in the log. Through another host they are another one, and get the reply that is kept.
     prints("submit . 0 enqueue 1 1 1 EX db", "ack 0 Granted\n")
     prints("submit . 3 enqueue 1 1 1 EX db", "ack 2 Granted\n")
-    put_zeros("disk1.img", 18432)
+    put_zeros("disk1.img", LENGTH)
     prints("table . 2", "recovered 3\ndb\n  granted 1 1 0 EX\n")
     os.remove("disk2.img")
     refused("table . 2", "dlm: 7 NoMajority\n")
-    put_zeros("disk0.img", 18432)
+    put_zeros("disk0.img", LENGTH)
     refused("table . 2", "dlm: 24 NotFormatted disk0\n")
 
 
-# Copy 1 of host 0's block of slot 0, marked, and copy 2, once its first command is acknowledged.
-COMMAND = "0100010500020001" "0000000000000001" "0064620000000000" "0000000000000000"
+# Copy 1 of host 0's block of slot 0, marked, and copy 2, once its first command is acknowledged. Zeros follow the command's 48 bytes.
+COMMAND = "0100010500020001" "0000000000000001" "0064620000000000" + 24 * "00"
 FIRST_BLOCK = bytes.fromhex(
-    "a501010100000000" "0000000000000003" "0000000000000001" "0000000000000001" + COMMAND +
-    "a501010000000000" "0000000000000002" "0000000000000001" "0000000000000001" + COMMAND)
+    "a502010100000000" "0000000000000003" "0000000000000001" "0000000000000001" + COMMAND + 48 * "00" +
+    "a502010000000000" "0000000000000002" "0000000000000001" "0000000000000001" + COMMAND + 48 * "00")
 
 
 @test
@@ -104,8 +107,8 @@ def bytes_of_an_image():
     prints("submit . 0 enqueue 1 1 1 EX db", "ack 0 Granted\n")
     with open("disk1.img", "rb") as file:
         image = file.read()
-    header = bytes.fromhex("a5010103" "00000010" "0000000000000007")
-    wants("the image", image, header.ljust(2048, b"\0") + FIRST_BLOCK.ljust(18432 - 2048, b"\0"))
+    header = bytes.fromhex("a5020103" "00000010" "0000000000000007")
+    wants("the image", image, header.ljust(ROWS, b"\0") + FIRST_BLOCK.ljust(LENGTH - ROWS, b"\0"))
 
 
 # What is done to the only image, of four slots, before it is opened, by the checks in their order: where two faults meet, the one that is
@@ -114,7 +117,8 @@ WRONG = [
     lambda image: os.truncate(image, 0),
     lambda image: put_zeros(image, 1023),
     lambda image: os.truncate(image, 1023),
-    lambda image: put_byte(image, 1, 2),
+    lambda image: put_byte(image, 1, 1),
+    lambda image: put_byte(image, 1, 3),
     lambda image: put_byte(image, 2, 1),
     lambda image: put_byte(image, 3, 0),
     lambda image: put_byte(image, 3, 8),
@@ -123,11 +127,11 @@ WRONG = [
     lambda image: put_byte(image, 7, 5),
     lambda image: put_byte(image, 16, 1),
     lambda image: put_byte(image, 1023, 1),
-    lambda image: os.truncate(image, 6145),
+    lambda image: os.truncate(image, 24577),
 ]
 UNFORMATTED = [
     lambda image: put_zeros(image, 1024),
-    lambda image: put_zeros(image, 6144),
+    lambda image: put_zeros(image, 24576),
     lambda image: put_byte(image, 0, 0),
     lambda image: put_byte(image, 0, 0xA4),
 ]
@@ -144,9 +148,40 @@ def checks_of_an_image():
             refused("table . 0", told)
     shutil.copy("whole", "disk0.img")
     put_byte("disk0.img", 15, 8)
+    # What stands between the header and the heartbeats is not looked at.
+    put_byte("disk0.img", 1024, 1)
+    put_byte("disk0.img", 4095, 1)
     put_zeros("disk6.img", 9)
     shutil.copy("whole", "disk7.img")
     prints("table . 0", "recovered 0\nempty\n")
+
+
+def put_old_image(disk):
+    """An image of the layout before this one, of three disks with 16 slots, with host 0's block of slot 0 after its first command."""
+    header = bytes.fromhex(f"a501{disk:02x}03" "00000010" "0000000000000007")
+    block = bytes.fromhex(
+        "a501000000000000" "0000000000000001" "0000000000000001" "0000000000000000" + 32 * "00" +
+        "a501010000000000" "0000000000000002" "0000000000000001" "0000000000000001" + COMMAND[:64])
+    with open(f"disk{disk}.img", "wb") as file:
+        file.write(header.ljust(2048, b"\0") + block.ljust(16 * 1024, b"\0"))
+
+
+@test
+def images_of_the_layout_before():
+    for disk in range(3):
+        put_old_image(disk)
+    for text in ("table . 0", "table . 15", "mark . 0", "check .", "submit . 0 enqueue 1 1 1 EX db"):
+        refused(text, "dlm: 32 OldLayout disk0\n")
+    refused("format . 3 16 7", "dlm: 29 AlreadyThere\n")
+    wants("files", sorted(os.listdir(".")), ["disk0.img", "disk1.img", "disk2.img"])
+    # Without disk 0 its own fault is told. Beside an image of this layout each of them is a disk that fails.
+    os.remove("disk0.img")
+    refused("table . 0", "dlm: 26 Unreadable disk0\n")
+    os.mkdir("new")
+    prints("format new 3 16 7", "formatted 3 disks, 16 slots\n")
+    shutil.copy("new/disk0.img", "disk0.img")
+    ends("check .", 1, "disk1 32 OldLayout\ndisk2 32 OldLayout\n", "dlm: 32 OldLayout disk1\n")
+    refused("table . 0", "dlm: 7 NoMajority\n")
 
 
 @test
@@ -175,7 +210,7 @@ def slots_that_have_no_mark():
     prints("mark . 1", "recovered 2\nmarked 0 slots\n")
     # The mark of host 0's block of slot 0 is taken away on each disk, as if its process had died before it. Slot 1 keeps its own.
     for disk in range(3):
-        put_byte(f"disk{disk}.img", 2051, 0)
+        put_byte(f"disk{disk}.img", ROWS + 3, 0)
     prints("mark . 1", "recovered 2\nmarked 1 slots\n")
     prints("mark . 2", "recovered 2\nmarked 0 slots\n")
     prints("table . 3", "recovered 2\nempty\n")
@@ -187,13 +222,13 @@ def slots_that_have_no_mark():
 @test
 def one_process_a_host_number():
     images(1, 4)
-    with open("host3.lock", "w", encoding="ascii") as lock:
+    with open("host13.lock", "w", encoding="ascii") as lock:
         fcntl.flock(lock, fcntl.LOCK_EX)
-        refused("table . 3", "dlm: 36 HostInUse host3\n")
-        refused("submit . 3 enqueue 1 1 1 EX db", "dlm: 36 HostInUse host3\n")
+        refused("table . 13", "dlm: 36 HostInUse host13\n")
+        refused("submit . 13 enqueue 1 1 1 EX db", "dlm: 36 HostInUse host13\n")
         prints("submit . 2 enqueue 1 1 1 EX db", "ack 0 Granted\n")
     os.symlink("no/such/folder", "host4.lock")
-    prints("table . 3", "recovered 1\ndb\n  granted 1 1 2 EX\n")
+    prints("table . 13", "recovered 1\ndb\n  granted 1 1 2 EX\n")
     refused("table . 4", "dlm: 37 NoLock host4\n")
     # What is wrong with the images is told first.
     os.remove("disk0.img")
@@ -203,10 +238,10 @@ def one_process_a_host_number():
 @test
 def words_that_are_no_task():
     wants("no words", run([], stdout=subprocess.PIPE).returncode, 2)
-    for text in ("run", "run a b", "RUN a", "help", "-V", "run -h", "run -", "-- run a", "race", "race 0", "race 9", "race 01", "race 1 2"):
+    for text in ("run", "run a b", "RUN a", "help", "-V", "run -h", "run -", "-- run a", "race", "race 0", "race 17", "race 01", "race 1 2"):
         usage(text)
     for text in ("format d 3 16", "format d 0 16 7", "format d 8 16 7", "format d 3 4097 7", "format d 3 16 18446744073709551616",
-                 "format d 03 16 7", "table d 8", "table d 0 0", "mark d 8", "check", "check d 0", "submit d 8 release 1 1 1"):
+                 "format d 03 16 7", "table d 16", "table d 0 0", "mark d 16", "check", "check d 0", "submit d 16 release 1 1 1"):
         usage(text)
     for text in ("submit no/such 0", "submit no/such 0 release 1 1", "submit no/such 0 release 1 1 1 "):
         usage(text, "dlm: bad command\n")
@@ -231,20 +266,20 @@ def damaged_images():
     for disk in range(3):
         shutil.copy(f"disk{disk}.img", f"whole{disk}")
     # An image beyond the set is not looked at.
-    put_zeros("disk3.img", 18432)
+    put_zeros("disk3.img", LENGTH)
 
     # A ballot of host 1 in host 0's block, on one disk and then on two.
-    put_byte("disk0.img", 2071, 2)
+    put_byte("disk0.img", ROWS + 23, 2)
     ends("check .", 1, "disk0 slot 0 host 0 damaged\n", "dlm: 5 Damaged\n")
     prints("table . 1", HELD)
-    put_byte("disk1.img", 2071, 2)
+    put_byte("disk1.img", ROWS + 23, 2)
     refused("table . 1", "dlm: 7 NoMajority\n")
     ends("check .", 1, "disk0 slot 0 host 0 damaged\ndisk1 slot 0 host 0 damaged\n", "dlm: 5 Damaged\n")
 
     # A value that is no command, on all disks: no block is damaged.
     restore()
     for disk in range(3):
-        put_byte(f"disk{disk}.img", 2080, 7)
+        put_byte(f"disk{disk}.img", ROWS + 32, 7)
     prints("check .", "sound\n")
     refused("table . 1", "dlm: 10 NotACommand\n")
 
@@ -256,12 +291,12 @@ def damaged_images():
 
     # Images that are refused or missing, beside an opened heartbeat gate and damage of the last block; and without these two.
     restore()
-    put_byte("disk0.img", 1664, 0xA5)
-    put_byte("disk0.img", 18304, 0xA5)
-    put_zeros("disk1.img", 18432)
+    put_byte("disk0.img", 4096 + 5 * 256, 0xA5)
+    put_byte("disk0.img", LENGTH - 256, 0xA5)
+    put_zeros("disk1.img", LENGTH)
     os.remove("disk2.img")
     missing = "disk1 24 NotFormatted\ndisk2 26 Unreadable\n"
-    ends("check .", 1, "disk0 heartbeat host 5 damaged\ndisk0 slot 15 host 7 damaged\n" + missing, "dlm: 5 Damaged\n")
+    ends("check .", 1, "disk0 heartbeat host 5 damaged\ndisk0 slot 15 host 15 damaged\n" + missing, "dlm: 5 Damaged\n")
     shutil.copy("whole0", "disk0.img")
     ends("check .", 1, missing, "dlm: 24 NotFormatted disk1\n")
 

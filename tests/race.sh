@@ -1,11 +1,11 @@
 #!/usr/bin/env bash
-# race.sh [RACES [HOSTS]]: so many races (none given: 100) of so many hosts (none given: 8) by ./dlm race. Each has to end with
+# race.sh [RACES [HOSTS]]: so many races (none given: 100) of so many hosts (none given: 16) by ./dlm race. Each has to end with
 # status 0 and `agree`, with a line a host by rising host, and nothing on standard error; the slots that were acknowledged are all
 # different, and only the first of the log is `Granted`.
 set -uo pipefail
 
 races=${1:-100}
-hosts=${2:-8}
+hosts=${2:-16}
 tests=$(dirname -- "$(readlink -f -- "${BASH_SOURCE[0]}")")
 program=$tests/../crates/dlm/out/dlm
 

@@ -26,14 +26,14 @@ extern "C" {
 
 /* The library's numbers: an increase of the first breaks programs, an increase of the second adds to what there is. */
 #define MG_VERSION_MAJOR 0
-#define MG_VERSION_MINOR 1
+#define MG_VERSION_MINOR 2
 
-/* "0.1", of the library that is linked. */
+/* "0.2", of the library that is linked. */
 const char *mg_version(void);
 
 /* ---- limits ---- */
 
-#define MG_HOSTS 8         /* numbered from 0 */
+#define MG_HOSTS 16        /* numbered from 0 */
 #define MG_DISKS 7
 #define MG_SLOTS 4096      /* commands in the life of a folder */
 #define MG_LOCKS 256       /* at once */
@@ -79,6 +79,7 @@ enum mg_outcome {
     MG_WRONG_HEADER = 25,
     MG_UNREADABLE = 26,
     MG_ALREADY_THERE = 29,
+    MG_OLD_LAYOUT = 32, /* images of the layout before this one: the library that made them, 0.1, reads them */
     MG_HOST_IN_USE = 36,
     MG_NO_LOCK = 37
 };
@@ -113,7 +114,7 @@ struct mg_host;
  * becomes the image that is at fault, -1 where none is. */
 int mg_format(const char *folder, unsigned disks, unsigned slots, uint64_t cluster, int *disk);
 
-/* Opens a folder's images for the host of this number, 0 to 7, and locks the number. At MG_OK `*out` is a host that has
+/* Opens a folder's images for the host of this number, 0 to 15, and locks the number. At MG_OK `*out` is a host that has
  * learned nothing, and is to be closed; else it is NULL. */
 int mg_open(const char *folder, unsigned host, struct mg_host **out, int *disk);
 

@@ -26,7 +26,7 @@
 
 /* ---- crates/dlm_c/src ---- */
 
-enum { HEADER_LENGTH = 1024, ROW_LENGTH = 1024, COPY_LENGTH = 64 };
+enum { HEADER_LENGTH = 1024, ROW_LENGTH = 4096, COPY_LENGTH = 128 };
 
 /* Handle of handle.rt: all zeros keep no host. Nothing but the functions below reads or writes it. */
 struct handle {
@@ -105,7 +105,7 @@ struct answer {
 typedef char sizes_are_as_there[sizeof(struct handle) == 16 && sizeof(struct request) == 32 && sizeof(struct image) == 1040 &&
                                         sizeof(struct images) == 7280 && sizeof(struct opened) == 32 &&
                                         sizeof(struct header) == 1032 && sizeof(struct due_call) == 32 &&
-                                        sizeof(struct written) == 64 && sizeof(struct row) == 1024 && sizeof(struct told_answer) == 16 &&
+                                        sizeof(struct written) == 128 && sizeof(struct row) == 4096 && sizeof(struct told_answer) == 16 &&
                                         sizeof(struct answer) == 24 && sizeof(struct mg_lock_view) == 36 &&
                                         sizeof(struct mg_client_view) == 24 && sizeof(struct mg_host_view) == 32
                                     ? 1
@@ -171,6 +171,7 @@ static const struct meaning MEANINGS[] = {
     {MG_WRONG_HEADER, "WrongHeader", "an image has a header that is not of this folder, or of another number"},
     {MG_UNREADABLE, "Unreadable", "an image cannot be opened, read, made or written"},
     {MG_ALREADY_THERE, "AlreadyThere", "one of the images that were to be made is there"},
+    {MG_OLD_LAYOUT, "OldLayout", "an image has the layout before this one; the library that made it reads it"},
     {MG_HOST_IN_USE, "HostInUse", "somebody else works under this host number"},
     {MG_NO_LOCK, "NoLock", "the host number cannot be locked, see errno"},
 };
@@ -224,7 +225,7 @@ static bool read_whole(int file, uint8_t *into, size_t length, uint64_t at) {
 }
 
 /* Reads until two reads in a row tell the same: a read that another process's write overlaps may tell some of the old bytes
- * and some of the new. `length` is up to that of a row, which is that of a header. */
+ * and some of the new. `length` is up to that of a row. */
 static bool read_settled(int file, uint8_t *into, size_t length, uint64_t at) {
     uint8_t again[ROW_LENGTH];
     if (length > sizeof again || !read_whole(file, into, length, at))
@@ -266,7 +267,7 @@ static char *path_of(const char *folder, const char *name, unsigned number, cons
     size_t size = strlen(folder) + strlen(name) + strlen(end) + 5;
     char *path = malloc(size);
     if (path)
-        (void)snprintf(path, size, "%s/%s%u%s", folder, name, number % 10, end);
+        (void)snprintf(path, size, "%s/%s%u%s", folder, name, number % 100, end);
     return path;
 }
 

@@ -37,7 +37,7 @@ static void bad_arguments(const char *folder) {
     IS(mg_open(NULL, 0, &host, NULL), MG_BAD_ARGUMENT);
     IS(host == NULL, 1);
     IS(mg_open(folder, 0, NULL, NULL), MG_BAD_ARGUMENT);
-    IS(mg_open(folder, 8, &host, NULL), MG_BAD_ARGUMENT);
+    IS(mg_open(folder, 16, &host, NULL), MG_BAD_ARGUMENT);
     IS(mg_open(folder, 256, &host, NULL), MG_BAD_ARGUMENT);
     IS(mg_open("/nowhere at all", 0, &host, &disk), MG_UNREADABLE);
     IS(disk, 0);
@@ -109,7 +109,7 @@ static void bad_commands(struct mg_host *host) {
         {ENQUEUE, 1, 1, 1, MG_EX, "a b", 0, 1},
         {ENQUEUE, 1, 1, 1, MG_EX, "a\x7f", 0, 1},
         {ENQUEUE, 1, 1, 1, MG_EX, "\xc3\xa4", 0, 1},
-        {PURGE, 1, 1, 1, MG_EX, "a", 0, 8},
+        {PURGE, 1, 1, 1, MG_EX, "a", 0, 16},
         {PURGE, 1, 1, 1, MG_EX, "a", 0, 256},
     };
     static char long_name[300];
@@ -273,11 +273,13 @@ int main(int argc, char **argv) {
     mg_close(first);
     IS(mg_open(argv[1], 0, &first, NULL), MG_OK);
     mg_close(first);
+    IS(mg_open(argv[1], 11, &first, NULL), MG_OK); /* not the number of the second, which is 1 */
+    mg_close(first);
     mg_close(second);
     for (status = -100; status < 100; status++)
         IS(mg_strerror(status) != NULL && mg_name(status) != NULL, 1);
     IS_TEXT(mg_name(7), "NoMajority");
-    IS_TEXT(mg_version(), "0.1");
+    IS_TEXT(mg_version(), "0.2");
     if (failures == 0)
         puts("calls: as they should be");
     return failures != 0;

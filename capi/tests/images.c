@@ -1,6 +1,6 @@
 /*
- * What becomes of a folder whose images are missing, short, unformatted, of another folder, or fail. Prints nothing but that all is as it
- * should be.
+ * What becomes of a folder whose images are missing, short, unformatted, of another folder or layout, or fail. Prints nothing but that all is
+ * as it should be.
  *
  *   images FOLDER      an empty folder
  */
@@ -100,6 +100,16 @@ int main(int argc, char **argv) {
     IS(opens(argv[1], &disk), MG_NOT_FORMATTED);
     IS(disk, 0);
     IS(ftruncate(file, 100), 0);
+    IS(opens(argv[1], &disk), MG_WRONG_HEADER);
+    IS(disk, 0);
+
+    /* The first is right by the layout before this one: version 1, here with 16 slots, and 1,024 bytes a row. */
+    IS(ftruncate(file, 0), 0);
+    IS(ftruncate(file, 2048 + 16 * 1024), 0);
+    IS(pwrite(file, "\xa5\1\0\3\0\0\0\x10\0\0\0\0\0\0\0\7", 16, 0), 16);
+    IS(opens(argv[1], &disk), MG_OLD_LAYOUT);
+    IS(disk, 0);
+    IS(ftruncate(file, 2048 + 15 * 1024), 0);
     IS(opens(argv[1], &disk), MG_WRONG_HEADER);
     IS(disk, 0);
     close(file);

@@ -18,7 +18,7 @@
 #include <time.h>
 #include <unistd.h>
 
-enum { DISKS = 3, SLOTS = 4096, ROW = 1024 };
+enum { DISKS = 3, SLOTS = 4096, ROWS = 8192, ROW = 4096, COPY = 128 };
 
 static int files[DISKS];
 static char row[ROW];
@@ -49,7 +49,7 @@ static void bare_write(int file, off_t at, int closes) {
     if (closes)
         needs(pwrite(file, row, 1, at) == 1);
     bare_sync(file);
-    needs(pwrite(file, row + 1, 63, at + 1) == 63);
+    needs(pwrite(file, row + 1, COPY - 1, at + 1) == COPY - 1);
     bare_sync(file);
     needs(pwrite(file, row, 1, at) == 1);
     bare_sync(file);
@@ -57,7 +57,7 @@ static void bare_write(int file, off_t at, int closes) {
 
 /* The device calls of a submission and of the marking after it: 17 and 9 a disk. */
 static void bare_command(int slot) {
-    off_t at = 2048 + (off_t)slot * ROW;
+    off_t at = ROWS + (off_t)slot * ROW;
     for (int k = 0; k < DISKS; k++) {
         bare_sync(files[k]);
         bare_read(files[k], at);
@@ -67,7 +67,7 @@ static void bare_command(int slot) {
         bare_read(files[k], at);
     }
     for (int k = 0; k < DISKS; k++) {
-        bare_write(files[k], at + 64, 0);
+        bare_write(files[k], at + COPY, 0);
         bare_read(files[k], at);
     }
     for (int k = 0; k < DISKS; k++) {
@@ -80,7 +80,7 @@ static void bare_command(int slot) {
 static void bare_look(int slot) {
     for (int k = 0; k < DISKS; k++) {
         bare_sync(files[k]);
-        bare_read(files[k], 2048 + (off_t)slot * ROW);
+        bare_read(files[k], ROWS + (off_t)slot * ROW);
     }
 }
 
@@ -151,7 +151,7 @@ int main(int argc, char **argv) {
         snprintf(path, sizeof path, "%s/bare%d", argv[1], k);
         files[k] = open(path, O_RDWR | O_CREAT, 0666);
         needs(files[k] >= 0);
-        for (int at = 0; at < 2048 + SLOTS * ROW; at += (int)sizeof zeros)
+        for (int at = 0; at < ROWS + SLOTS * ROW; at += (int)sizeof zeros)
             needs(pwrite(files[k], zeros, sizeof zeros, at) == (ssize_t)sizeof zeros);
     }
     for (int batch = 0; batch < batches; batch++) {

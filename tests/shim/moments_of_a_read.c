@@ -1,8 +1,8 @@
-/* Whether a read of 1,024 bytes of a file or device is one step, beside a thread that writes 63 bytes of the first of eight blocks
- * and then 63 bytes of the last, with a number that rises. It tells how many reads had bytes of two writes within one block, and how many
+/* Whether a read of 4,096 bytes of a file or device is one step, beside a thread that writes 127 bytes of the first of sixteen blocks
+ * and then 127 bytes of the last, with a number that rises. It tells how many reads had bytes of two writes within one block, and how many
  * had the two blocks as they never stood together. The file is written over.
  *
- *   cc -O2 -pthread -o /tmp/moments tests/shim/moments_of_a_read.c && /tmp/moments FILE SECONDS
+ *   cc -O2 -pthread -o moments tests/shim/moments_of_a_read.c && ./moments FILE SECONDS
  */
 #include <fcntl.h>
 #include <pthread.h>
@@ -12,7 +12,7 @@
 #include <time.h>
 #include <unistd.h>
 
-enum { BLOCK = 128, ROW = 1024, BODY = 63, LAST = 7 * BLOCK };
+enum { BLOCK = 256, ROW = 4096, BODY = 127, LAST = 15 * BLOCK };
 
 static int file;
 static volatile int stop;

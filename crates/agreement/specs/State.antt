@@ -3,7 +3,7 @@ use Rattle.std.specs.Prelude.{ℕ, ◌-◌, ◌%◌, ◌==◌, Bool, false, cond
 
 -- there are so many hosts
 abbrev pub HOSTS : ℕ
-HOSTS = 8
+HOSTS = 16
 
 -- the host that a ballot belongs to
 abbrev pub owner_of : ℕ → ℕ

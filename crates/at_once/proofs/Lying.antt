@@ -5,6 +5,7 @@ use Rattle.std.proofs.Common.{ℕ, ◌+◌, ◌<◌, ◌≤◌, ◌≡◌, ◌==
 use Rattle.std.proofs.lemmas.Bool.{cases_Bool, eqb-true, eq-eqb}
 use Rattle.disk.specs.declared.fault.DiskFault.TheVariants.{Reset, Failed, Gone}
 use Rattle.disk.specs.Disk.{DiskState, Call, Attach, Read, Write, Sync, Answer, Fault, Step, IsUnder}
+use Rattle.torn_block.specs.Layout.{cluster_version}
 use Rattle.torn_block.specs.declared.layout.TheConstants.{HOSTS, ROW_LENGTH, HEADER_LENGTH}
 use Rattle.torn_block.specs.declared.write_steps.WriteCall.TheVariants.{CloseGate, SyncClosed, PutBody, SyncBody, OpenGate, SyncOpened}
 use Rattle.paxos_block.specs.Places.{BeatOf, VoteOf, row_place, image_length, IsWithin}
@@ -23,6 +24,7 @@ use Rattle.slot_log.specs.Shape.{Shape}
 use Rattle.host.specs.Host.{Doing, Host, next_of, next_doing, setup_of, marking_of, beat_of}
 use Rattle.world.specs.Entry.{Filled, called_by}
 use Rattle.world.specs.World.{World, world, IsRun}
+use Rattle.world_safety.specs.Cluster.{at_cluster}
 use Rattle.world_safety.specs.Marking.{IsMarkingSlot, IsMarkingIf}
 use Rattle.world_safety.specs.Tied.{Moves, IsDoing, Tied}
 use Rattle.world_safety.proofs.Moves.Beating.{beat_within}
@@ -94,7 +96,7 @@ row_lies : (slots slot : ℕ) → slot < slots → (HEADER_LENGTH ≤ row_place 
 row_lies slots slot fits = (omega arith, omega (arith, fits))
 
 -- what an attempt reads
-attempt_reads : (slots : ℕ) (s : Setup) (d : ℕ) (f : Answers) (kind : Kind) → s.slot < slots → ReadLies slots (call_by s d f kind)
+attempt_reads : (slots : ℕ) (s : Setup) (d : ℕ) (f : Answers) (kind : Kind) → s.slot < slots → ReadLies slots (call_by (at_cluster s) d f kind)
 unfolding ReadLies
 attempt_reads slots s d f Attaching fits = tt
 attempt_reads slots s d f Syncing fits = tt
@@ -150,7 +152,7 @@ own_long s a below votes = by (row_in Opening a) refl
   where
     by : (o : Option (List SeenBlock)) → row_in Opening a ≡ o → IsLong (seen_block o s.host).says.inp
     by None is = tt
-    by (Some row) is = (votes_told Opening a row votes is s.host below).long
+    by (Some row) is = (votes_told cluster_version Opening a row votes is s.host below).long
 
 whole : {A : Type 0} (l : List A) → take (length l) l ≡ l
 whole [] = refl
@@ -196,7 +198,7 @@ module _ (c : Shape) (log : List Filled) (run : IsRun c log) (h k : ℕ) (call :
       let s = marking_of c h m t.slot in
       let a = on t.heard k in
       let due = mark_due s (on t.heard) k call b.due in
-      let within = mark_within s a (fills (mark.with_mark (mark.own_block s a).says) (own_long s a running.below (marking.votes k))) due.kind in
+      let within = mark_within s a (fills cluster_version (mark.with_mark (mark.own_block s a).says) (own_long s a running.below (marking.votes k))) due.kind in
       subst (Lies c.slots) (sym due.call_is)
       (vote_lies c.slots t.slot h (mark.call_by s a due.kind) marking.fits running.below within (mark_reads c.slots s a due.kind marking.fits))
 

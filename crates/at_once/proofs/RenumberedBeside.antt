@@ -4,6 +4,7 @@ use Rattle.std.specs.List.{range_with_len}
 use Rattle.std.proofs.Common.{ℕ, ◌≡◌, ◌==◌, Option, Some, None, map, length, refl, ap, ◌∙◌}
 use Rattle.std.proofs.lemmas.List.{length-map}
 use Rattle.disk.specs.Disk as device
+use Rattle.torn_block.specs.Layout.{cluster_version}
 use Rattle.torn_block.specs.declared.layout.TheConstants.{LAST_SEQUENCE, ROW_LENGTH}
 use Rattle.torn_block.specs.Stage.{call_of}
 use Rattle.paxos_block.specs.Places.{place_of, VoteOf, BeatOf, row_place, area_place}
@@ -58,7 +59,7 @@ module _ (s : beat.Setup) (losses : ℕ → ℕ) (f : beat_answers.Answers) wher
   calling d beat.Syncing = λ i. device.Sync (booted d i)
   calling d beat.Reading = λ i. device.Read (booted d i) area_place ROW_LENGTH
   calling d (beat.Putting call) =
-      (λ i. call_of call (record { place = place_of (BeatOf s.host); block = own_block_in s.host (area d i); body = beat_body }) (booted d i))
+      (λ i. call_of call (record { version = cluster_version; place = place_of (BeatOf s.host); block = own_block_in s.host (area d i); body = beat_body }) (booted d i))
       ∙ call_of_later (losses d) call (beat.write_on s (f d)) (boot_of (f d))
 
   calling_so : (d : ℕ) (o : Option beat.Kind) → option_map (beat.call_by s (g d)) o ≡ option_map (call_later (losses d)) (option_map (beat.call_by s (f d)) o)
@@ -117,7 +118,7 @@ module _ (s : mark.Setup) (losses : ℕ → ℕ) (f : attempt_answers.Answers) w
   making d attempt.Syncing = λ i. device.Sync (boots d i)
   making d attempt.Reading = λ i. device.Read (boots d i) (row_place s.slot) ROW_LENGTH
   making d (attempt.Putting p call) =
-      (λ i. call_of call (record { place = place_of (VoteOf s.slot s.host); block = (own d i).bytes; body = body_saying (mark.with_mark (own d i).says) }) (boots d i))
+      (λ i. call_of call (record { version = cluster_version; place = place_of (VoteOf s.slot s.host); block = (own d i).bytes; body = body_saying (mark.with_mark (own d i).says) }) (boots d i))
       ∙ call_of_later (losses d) call (mark.write_on s (f d)) (boot_of (f d))
 
   making_so : (d : ℕ) (o : Option attempt.Kind) → option_map (mark.call_by s (m d)) o ≡ option_map (call_later (losses d)) (option_map (mark.call_by s (f d)) o)

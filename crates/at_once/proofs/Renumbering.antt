@@ -5,15 +5,15 @@ use Rattle.std.proofs.Common.{ℕ, zero, suc, ◌≡◌, ◌==◌, Bool, false, 
 use Rattle.std.proofs.lemmas.Bool.{cases_Bool, eqb-true}
 use Rattle.std.proofs.lemmas.List.{length-map}
 use Rattle.disk.specs.Disk as device
+use Rattle.torn_block.specs.Layout.{row_length}
 use Rattle.torn_block.specs.declared.layout.TheConstants.{LAST_SEQUENCE}
 use Rattle.torn_block.specs.declared.write_steps.WriteCall.{WriteCall}
 use Rattle.torn_block.specs.declared.write_steps.WriteCall.TheVariants.{CloseGate, SyncClosed, PutBody, SyncBody, OpenGate, SyncOpened}
-use Rattle.torn_block.specs.declared.layout.TheConstants.{ROW_LENGTH}
 use Rattle.torn_block.specs.Stage.{Write128, call_of}
 use Rattle.paxos_block.specs.declared.ballot.TheConstants.{LAST_BALLOT}
-use Rattle.paxos_block.specs.Places.{place_of, VoteOf, row_place}
-use Rattle.paxos_block.specs.Saying.{body_saying}
-use Rattle.paxos_block.specs.Votes.{greatest, ballot_above}
+use Rattle.paxos_block.specs.layouts.Places.{place_of, VoteOf, row_place}
+use Rattle.paxos_block.specs.layouts.Saying.{body_saying}
+use Rattle.paxos_block.specs.layouts.Votes.{greatest, ballot_above}
 use Rattle.attempt.specs.Calls.{Phase, Opening, One, Two, Kind, Attaching, Syncing, Reading, Putting, start, goal, seventeen}
 use Rattle.attempt.specs.Heard.{Heard, Booted, Done, Told, Fault, Answered, Answers, on, is_bad, all_good, told, boot_of}
 use Rattle.attempt.specs.Answers as attempt
@@ -148,7 +148,7 @@ module _ (s : Setup) (losses : ℕ → ℕ) (f : attempt.Answers) where
   enough p = λ i. are_enough s (λ d. part p d i && not (stuck p d i && is_past (visiting p i) d))
 
   balloted : ballot s g ≡ ballot s f
-  balloted = λ i. ballot_above s.host (max s.floor (greatest s.disks (λ d. top_in (row Opening d i))))
+  balloted = λ i. ballot_above s.version s.host (max s.floor (greatest s.disks (λ d. top_in s.version (row Opening d i))))
 
   owned : (n : ℕ) → own_below s g n ≡ own_below s f n
   owned zero = refl
@@ -156,17 +156,17 @@ module _ (s : Setup) (losses : ℕ → ℕ) (f : attempt.Answers) where
 
   bettered : (n : ℕ) → best_below s g n ≡ best_below s f n
   bettered zero = owned s.disks
-  bettered (suc d) = λ i. best_in s.host (bettered d i) (row One d i)
+  bettered (suc d) = λ i. best_in s.version s.host (bettered d i) (row One d i)
 
   proposed : proposal s g ≡ proposal s f
   proposed = λ i. or_else (bettered s.disks i).inp s.input
 
   deciding : (n : ℕ) → decided_below s g n ≡ decided_below s f n
   deciding zero = refl
-  deciding (suc d) = λ i. or_else (deciding d i) (decided_in (row Opening d i))
+  deciding (suc d) = λ i. or_else (deciding d i) (decided_in s.version (row Opening d i))
 
   others : (p : Phase) → others_mbal s p g ≡ others_mbal s p f
-  others p = λ i. greatest s.disks (λ d. others_top s.host (row p d i))
+  others p = λ i. greatest s.disks (λ d. others_top s.version s.host (row p d i))
 
   votes : (value : List ℕ) → voting s g value ≡ voting s f value
   votes value =
@@ -193,7 +193,7 @@ module _ (s : Setup) (losses : ℕ → ℕ) (f : attempt.Answers) where
   saying Two = λ i. record { mbal = balloted i; bal = balloted i; inp = Some (some_value (proposed i)); mark = false }
 
   writing : (p : Phase) (d : ℕ) → write_on s p d g ≡ write_on s p d f
-  writing p d = λ i. record { place = place_of (VoteOf s.slot s.host); block = (seen_block (last d i) s.host).bytes; body = body_saying (saying p i) }
+  writing p d = λ i. record { version = s.version; place = place_of s.version (VoteOf s.slot s.host); block = (seen_block (last d i) s.host).bytes; body = body_saying s.version (saying p i) }
 
   booted : (d : ℕ) → boot_of (g d) ≡ later (losses d) (boot_of (f d))
   booted d = boot_later (losses d) (f d)
@@ -201,7 +201,7 @@ module _ (s : Setup) (losses : ℕ → ℕ) (f : attempt.Answers) where
   calling : (d : ℕ) (kind : Kind) → call_by s d g kind ≡ call_later (losses d) (call_by s d f kind)
   calling d Attaching = refl
   calling d Syncing = λ i. device.Sync (booted d i)
-  calling d Reading = λ i. device.Read (booted d i) (row_place s.slot) ROW_LENGTH
+  calling d Reading = λ i. device.Read (booted d i) (row_place s.version s.slot) (row_length s.version)
   calling d (Putting p call) = (λ i. call_of call (writing p d i) (booted d i)) ∙ call_of_later (losses d) call (write_on s p d f) (boot_of (f d))
 
   calling_so : (d : ℕ) (o : Option Kind) → option_map (call_by s d g) o ≡ option_map (call_later (losses d)) (option_map (call_by s d f) o)

@@ -3,15 +3,15 @@ use Rattle.std.specs.Prelude.{slice_get, take, drop, nat_lt, option_and_then, if
 use Rattle.std.proofs.Common.{ℕ, zero, suc, pred, ◌+◌, ◌<◌, ◌≤◌, ◌≡◌, ◌≢◌, ◌==◌, true, false, Option, Some, None, List, [], length, refl, sym, subst, ap, ap₂, ◌∙◌, arith, take-append-drop}
 use Rattle.std.proofs.lemmas.Bool.{ltb-false}
 use Rattle.disk.specs.Disk as device
-use Rattle.torn_block.specs.declared.layout.TheConstants.{HOSTS, ROW_LENGTH}
+use Rattle.torn_block.specs.Layout.{Version, hosts_in, row_length}
 use Rattle.torn_block.specs.declared.write_steps.WriteCall.{WriteCall}
 use Rattle.torn_block.specs.declared.write_steps.WriteCall.TheVariants.{CloseGate, SyncClosed, PutBody, SyncBody, OpenGate, SyncOpened}
 use Rattle.torn_block.specs.Stage.{Write128, call_of}
-use Rattle.paxos_block.specs.declared.block.PBlock.{PBlock}
-use Rattle.paxos_block.specs.Places.{place_of, VoteOf, row_place}
-use Rattle.paxos_block.specs.Row.{SeenBlock}
-use Rattle.paxos_block.specs.Saying.{body_saying}
-use Rattle.paxos_block.specs.Votes.{says_in, others_top_of}
+use Rattle.paxos_block.specs.layouts.Saying.{Said}
+use Rattle.paxos_block.specs.layouts.Places.{place_of, VoteOf, row_place}
+use Rattle.paxos_block.specs.layouts.Row.{SeenBlock}
+use Rattle.paxos_block.specs.layouts.Saying.{body_saying}
+use Rattle.paxos_block.specs.layouts.Votes.{says_in, others_top_of}
 use Rattle.paxos_block.proofs.VoteLemmas.{greatest_is_greatest}
 use Rattle.attempt.specs.Calls.{Phase, Opening, One, Two, start, goal, Kind, Reading, Putting, seventeen}
 use Rattle.attempt.specs.Answers.{Heard, Done, Told, Answered, Answers, on, is_bad, all_good, told, row_in, later_row, last_row, seen_block, boot_of}
@@ -85,16 +85,16 @@ says_same : (s : Setup) (p : Phase) (f g : Answers) → ((q : Phase) → goal q 
 says_same s Opening f g same = refl
 says_same s One f g same =
     let opening = same Opening (omega arith) in
-    ap₂ (λ (b : ℕ) (vote : PBlock). record { mbal = b; bal = vote.bal; inp = vote.inp; mark = false }) (ballot_same s f g opening) (own_same s f g opening s.disks)
+    ap₂ (λ (b : ℕ) (vote : Said). record { mbal = b; bal = vote.bal; inp = vote.inp; mark = false }) (ballot_same s f g opening) (own_same s f g opening s.disks)
 says_same s Two f g same =
     let opening = same Opening (omega arith) in
     let one = same One (omega arith) in
     ap₂ (λ (b : ℕ) (value : Option (List ℕ)). record { mbal = b; bal = b; inp = Some (some_value value); mark = false }) (ballot_same s f g opening) (proposal_same s f g opening one)
 
 -- a row without a greater mbal of another host
-below_top : (host : ℕ) (row : List SeenBlock) (g : ℕ) → g < HOSTS → g ≢ host → (says_in row g).mbal ≤ others_top_of host row
-below_top host row g l other =
-    let one = greatest_is_greatest HOSTS (λ k. if k == host then 0 else (says_in row k).mbal) g l in
+below_top : (v : Version) (host : ℕ) (row : List SeenBlock) (g : ℕ) → g < hosts_in v → g ≢ host → (says_in row g).mbal ≤ others_top_of v host row
+below_top v host row g l other =
+    let one = greatest_is_greatest (hosts_in v) (λ k. if k == host then 0 else (says_in row k).mbal) g l in
     let here : (if g == host then 0 else (says_in row g).mbal) ≡ (says_in row g).mbal = by_eq (λ t. (if t then 0 else (says_in row g).mbal) ≡ (says_in row g).mbal) g host (λ same. absurd (other same)) (λ off. refl) in
     omega arith
 
@@ -177,14 +177,14 @@ module _ (s : Setup) (heard : List Answered) (is : IsHistory s heard) (d : ℕ) 
 
     -- the write of the phase
     abbrev write : Write128
-    write = record { place = place_of (VoteOf s.slot s.host); block = (seen_block (last_row (take (start p) (f d))) s.host).bytes; body = body_saying (says_for s p f) }
+    write = record { version = s.version; place = place_of s.version (VoteOf s.slot s.host); block = (seen_block (last_row (take (start p) (f d))) s.host).bytes; body = body_saying s.version (says_for s p f) }
 
     -- each of its calls is of this one write
     write_at : (i : ℕ) → i ≤ 6 → write_on s p d (on (prior i)) ≡ write
     write_at i l =
         let last : last_row (on (prior i) d) ≡ last_row (take (start p) (f d)) = ap last_row (at_step i l).at.before ∙ still i l in
         let same : says_for s p (on (prior i)) ≡ says_for s p f = says_same s p (on (prior i)) f (λ q before e. sym ((lasts_from i l).rows q before e)) in
-        ap₂ (λ (row : Option (List SeenBlock)) (says : PBlock). record { place = place_of (VoteOf s.slot s.host); block = (seen_block row s.host).bytes; body = body_saying says }) last same
+        ap₂ (λ (row : Option (List SeenBlock)) (says : Said). record { version = s.version; place = place_of s.version (VoteOf s.slot s.host); block = (seen_block row s.host).bytes; body = body_saying s.version says }) last same
 
     -- and under this one boot number
     boot_at : (i : ℕ) → i ≤ 6 → boot_of (on (prior i) d) ≡ boot_of (f d)
@@ -209,7 +209,7 @@ module _ (s : Setup) (heard : List Answered) (is : IsHistory s heard) (d : ℕ) 
 
     -- it read a sound row
     row_read : (row : List SeenBlock) × (read_at.answer ≡ Told (Some row))
-    row_read = reading_tells (boot_of (on (prior 6) d)) (row_place s.slot) ROW_LENGTH read_at.answer (fits_at 6 (omega arith) Reading (reads_at p puts)) (is_good 6 (omega arith))
+    row_read = reading_tells (boot_of (on (prior 6) d)) (row_place s.version s.slot) (row_length s.version) read_at.answer (fits_at 6 (omega arith) Reading (reads_at p puts)) (is_good 6 (omega arith))
 
     -- which is the row of the phase
     row_is : row_in p (f d) ≡ Some row_read.0
@@ -230,14 +230,14 @@ module _ (s : Setup) (heard : List Answered) (is : IsHistory s heard) (d : ℕ) 
           wrote = wrote;
           row = row_read.0;
           read = record {
-            due = due_at 6 (omega arith) Reading (reads_at p puts) ∙ ap (λ (boot : ℕ). Some (d, device.Read boot (row_place s.slot) ROW_LENGTH)) (boot_at 6 (omega arith));
+            due = due_at 6 (omega arith) Reading (reads_at p puts) ∙ ap (λ (boot : ℕ). Some (d, device.Read boot (row_place s.version s.slot) (row_length s.version))) (boot_at 6 (omega arith));
             answered = read_at.at.here ∙ ap (λ (x : Heard). Some (record { disk = d; heard = x })) row_read.1;
           };
           is_row = row_is;
           none_above = λ g l other. (
-              let top = below_top s.host row_read.0 g l other in
-              let here : others_top s.host (row_in p (f d)) ≡ others_top_of s.host row_read.0 = ap (others_top s.host) row_is in
-              let all = greatest_is_greatest s.disks (λ e. others_top s.host (row_in p (f e))) d below in
+              let top = below_top s.version s.host row_read.0 g l other in
+              let here : others_top s.version s.host (row_in p (f d)) ≡ others_top_of s.version s.host row_read.0 = ap (others_top s.version s.host) row_is in
+              let all = greatest_is_greatest s.disks (λ e. others_top s.version s.host (row_in p (f e))) d below in
               let less = ltb-false (ballot s f) (others_mbal s p f) calm in
               omega arith);
         }

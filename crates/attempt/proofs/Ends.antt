@@ -2,9 +2,9 @@
 use Rattle.std.specs.Prelude.{nat_lt, if◌then◌else◌}
 use Rattle.std.proofs.Common.{ℕ, zero, suc, ◌*◌, ◌<◌, ◌≤◌, ◌≡◌, ◌≢◌, ◌==◌, inl, inr, true, false, Option, Some, None, List, length, is_some, refl, sym, subst, ap, ◌∙◌, arith}
 use Rattle.std.proofs.lemmas.Bool.{cases_lt, both_ways, lt-ltb, ltb-true}
-use Rattle.torn_block.specs.declared.layout.TheConstants.{HOSTS}
-use Rattle.paxos_block.specs.Row.{SeenBlock}
-use Rattle.paxos_block.specs.Votes.{says_in, greatest, top_of, others_top_of}
+use Rattle.torn_block.specs.Layout.{Version, hosts_in}
+use Rattle.paxos_block.specs.layouts.Row.{SeenBlock}
+use Rattle.paxos_block.specs.layouts.Votes.{says_in, greatest, top_of, others_top_of}
 use Rattle.paxos_block.proofs.VoteLemmas.{above, greatest_is_greatest}
 use Rattle.attempt.specs.Calls.{Phase, Opening, One, Two, start, goal}
 use Rattle.attempt.specs.Answers.{Heard, Answered, Answers, on, row_in}
@@ -98,30 +98,30 @@ opened_too One a row disk is = has_passed One a row disk (omega arith) is
 opened_too Two a row disk is = has_passed Two a row disk (omega arith) is
 
 -- a row that has the mbal of other hosts that an earlier one had has no greater mbal of another host
-rest_top : (host : ℕ) (first later : List SeenBlock) → ((g : ℕ) → g ≢ host → (says_in later g).mbal ≡ (says_in first g).mbal) → others_top_of host later ≤ top_of first
-rest_top host first later same =
-    greatest_bound HOSTS (λ g. if g == host then 0 else (says_in later g).mbal) (top_of first) (λ g l.
-    by_eq (λ t. (if t then 0 else (says_in later g).mbal) ≤ top_of first) g host (λ e. omega arith) (λ off.
-    let one : (says_in first g).mbal ≤ top_of first = greatest_is_greatest HOSTS (λ k. (says_in first k).mbal) g l in
-    subst (λ (mbal : ℕ). mbal ≤ top_of first) (sym (same g off)) one))
+rest_top : (v : Version) (host : ℕ) (first later : List SeenBlock) → ((g : ℕ) → g ≢ host → (says_in later g).mbal ≡ (says_in first g).mbal) → others_top_of v host later ≤ top_of v first
+rest_top v host first later same =
+    greatest_bound (hosts_in v) (λ g. if g == host then 0 else (says_in later g).mbal) (top_of v first) (λ g l.
+    by_eq (λ t. (if t then 0 else (says_in later g).mbal) ≤ top_of v first) g host (λ e. omega arith) (λ off.
+    let one : (says_in first g).mbal ≤ top_of v first = greatest_is_greatest (hosts_in v) (λ k. (says_in first k).mbal) g l in
+    subst (λ (mbal : ℕ). mbal ≤ top_of v first) (sym (same g off)) one))
 
 module _ (s : Setup) (f : Answers) (reached : IsReached s f) (rest : OthersRest s f) (p : Phase) where
   -- what a phase's row of a disk shows of other hosts, its opening's row showed
-  top_row : (d : ℕ) (o first : Option (List SeenBlock)) → row_in p (f d) ≡ o → row_in Opening (f d) ≡ first → others_top s.host o ≤ top_in first
+  top_row : (d : ℕ) (o first : Option (List SeenBlock)) → row_in p (f d) ≡ o → row_in Opening (f d) ≡ first → others_top s.version s.host o ≤ top_in s.version first
   top_row d None first is before = omega arith
-  top_row d (Some later) (Some first) is before = rest_top s.host first later (λ g off. rest p d g first later before is off)
+  top_row d (Some later) (Some first) is before = rest_top s.version s.host first later (λ g off. rest p d g first later before is off)
   top_row d (Some later) None is before = absurd (both_ways (is_some (row_in Opening (f d))) (ap is_some before) (opened_too p (f d) later (reached.disk d) is))
 
   -- so their greatest mbal is below the ballot
   under : others_mbal s p f ≤ highest s f
   under =
-      let each = greatest_bound s.disks (λ d. others_top s.host (row_in p (f d))) (greatest s.disks (λ d. top_in (row_in Opening (f d))))
-      (λ e l. (let at = greatest_is_greatest s.disks (λ d. top_in (row_in Opening (f d))) e l in omega (arith, top_row e (row_in p (f e)) (row_in Opening (f e)) refl refl))) in
+      let each = greatest_bound s.disks (λ d. others_top s.version s.host (row_in p (f d))) (greatest s.disks (λ d. top_in s.version (row_in Opening (f d))))
+      (λ e l. (let at = greatest_is_greatest s.disks (λ d. top_in s.version (row_in Opening (f d))) e l in omega (arith, top_row e (row_in p (f e)) (row_in Opening (f e)) refl refl))) in
       omega arith
 
   -- and they do not outrun it
   pub not_above : ¬ (nat_lt (ballot s f) (others_mbal s p f) ≡ true)
-  not_above is = let over = above s.host (highest s f) in let less = ltb-true (ballot s f) (others_mbal s p f) is in absurd (omega (arith, under))
+  not_above is = let over = above s.version s.host (highest s f) in let less = ltb-true (ballot s f) (others_mbal s p f) is in absurd (omega (arith, under))
 
 -- COUNTING CALLS
 

@@ -41,7 +41,7 @@ early (suc (suc (suc n))) kind l is = absurd (omega arith)
 module _ (s : Setup) (f : Answers) (high : LAST_BALLOT ≤ s.floor) where
   -- its ballot is above the last
   pub spent : LAST_BALLOT < ballot s f
-  spent = omega (arith, high, above s.host (highest s f))
+  spent = omega (arith, high, above s.version s.host (highest s f))
 
   no_ballot : HasBallot s f → ⊥
   no_ballot has = omega (arith, spent, not_spent (ballot s f) has.fits)

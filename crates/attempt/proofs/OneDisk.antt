@@ -2,8 +2,8 @@
 use Rattle.std.specs.Prelude.{slice_get}
 use Rattle.std.proofs.Common.{not, ℕ, pred, ◌+◌, ◌<◌, ◌≤◌, ◌≡◌, inl, inr, true, false, Some, None, List, [], ◌∷◌, ◌++◌, length, is_some, refl, sym, subst, ap, ◌∙◌, arith}
 use Rattle.std.proofs.lemmas.Bool.{cases_lt, and_parts, and_from, both_ways, not-true, true_from_ne_false}
-use Rattle.torn_block.specs.declared.layout.TheConstants.{ROW_LENGTH}
-use Rattle.paxos_block.specs.Places.{row_place}
+use Rattle.torn_block.specs.Layout.{row_length}
+use Rattle.paxos_block.specs.layouts.Places.{row_place}
 use Rattle.attempt.specs.Calls.{Phase, Opening, One, Two, goal, Kind, Attaching, Reading, seventeen}
 use Rattle.attempt.specs.Answers.{Heard, Booted, Answers, is_bad, all_good, row_in, boot_of, told}
 use Rattle.attempt.specs.Setup.{Setup}
@@ -62,7 +62,7 @@ module _ (s : Setup) (f : Answers) (d : ℕ) (x : Heard) (answer : IsAnswer s f 
         | inl last ↦
             (let here : length (f d) + 1 ≡ goal q = omega (arith, length_more (f d) x) in
             let fits = fits_at (pred (goal q)) Reading (omega arith) (reads_last q) in
-            let read = reading_tells (boot_of (f d)) (row_place s.slot) ROW_LENGTH x fits (good_new is) in
+            let read = reading_tells (boot_of (f d)) (row_place s.version s.slot) (row_length s.version) x fits (good_new is) in
             ap is_some (row_last q (f d) x here) ∙ ap (λ (y : Heard). is_some (told y)) read.1)
         | inr over ↦ ap is_some (row_kept q (f d) x over) ∙ before.read q good over
       ]

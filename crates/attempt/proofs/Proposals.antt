@@ -2,11 +2,11 @@
 use Rattle.std.specs.Prelude.{nat_lt, if◌then◌else◌}
 use Rattle.std.proofs.Common.{ℕ, zero, suc, ◌<◌, ◌≤◌, ◌≡◌, ◌≢◌, ◌⊎◌, inl, inr, Bool, true, false, Option, Some, None, List, refl, sym, subst, ap, ◌∙◌, arith}
 use Rattle.std.proofs.lemmas.Bool.{cases_eq, ltb-false, ltb-true}
-use Rattle.torn_block.specs.declared.layout.TheConstants.{HOSTS}
-use Rattle.paxos_block.specs.declared.block.PBlock.{PBlock}
-use Rattle.paxos_block.specs.Row.{SeenBlock, blank}
-use Rattle.paxos_block.specs.Saying.{IsVoteOf}
-use Rattle.paxos_block.specs.Votes.{says_in, later_of, latest_below}
+use Rattle.torn_block.specs.Layout.{Version, hosts_in}
+use Rattle.paxos_block.specs.layouts.Saying.{Said}
+use Rattle.paxos_block.specs.layouts.Row.{SeenBlock, blank}
+use Rattle.paxos_block.specs.layouts.Saying.{IsVoteOf}
+use Rattle.paxos_block.specs.layouts.Votes.{says_in, later_of, latest_below}
 use Rattle.attempt.specs.Calls.{Opening, One}
 use Rattle.attempt.specs.Answers.{Answers, row_in}
 use Rattle.attempt.specs.Setup.{Setup}
@@ -17,7 +17,7 @@ use Rattle.attempt.proofs.Lists.{by_eq}
 -- THE LATER OF TWO
 
 -- it is one of them
-later_either : (P : PBlock → Type 0) (a y : PBlock) → P a → P y → P (later_of a y)
+later_either : (P : Said → Type 0) (a y : Said) → P a → P y → P (later_of a y)
 later_either P a y first second = go (nat_lt a.bal y.bal)
   where
     go : (t : Bool) → P (if t then y else a)
@@ -25,12 +25,12 @@ later_either P a y first second = go (nat_lt a.bal y.bal)
     go false = first
 
 -- and has the greater bal
-record IsAbove (a y later : PBlock) : Type 0 where
+record IsAbove (a y later : Said) : Type 0 where
   first : a.bal ≤ later.bal
   second : y.bal ≤ later.bal
 
 -- whichever it is
-later_above : (a y : PBlock) → IsAbove a y (later_of a y)
+later_above : (a y : Said) → IsAbove a y (later_of a y)
 later_above a y = go (nat_lt a.bal y.bal) refl
   where
     go : (t : Bool) → nat_lt a.bal y.bal ≡ t → IsAbove a y (if t then y else a)
@@ -39,9 +39,9 @@ later_above a y = go (nat_lt a.bal y.bal) refl
 
 -- THE LATEST OF A ROW
 
-module _ (host : ℕ) (row : List SeenBlock) (before : PBlock) where
+module _ (hosts host : ℕ) (row : List SeenBlock) (before : Said) where
   -- it is the vote before, or one of another host's in the row
-  latest_either : (P : PBlock → Type 0) → P before → ((g : ℕ) → g < HOSTS → g ≢ host → P (says_in row g)) → (n : ℕ) → n ≤ HOSTS → P (latest_below host row n before)
+  latest_either : (P : Said → Type 0) → P before → ((g : ℕ) → g < hosts → g ≢ host → P (says_in row g)) → (n : ℕ) → n ≤ hosts → P (latest_below host row n before)
   latest_either P first each zero l = first
   latest_either P first each (suc n) l =
       let less = latest_either P first each n (omega arith) in
@@ -72,11 +72,11 @@ module _ (host : ℕ) (row : List SeenBlock) (before : PBlock) where
 
 module _ (s : Setup) (f : Answers) where
   -- nothing yet, or a vote that was seen
-  abbrev IsFrom : PBlock → Type 0
+  abbrev IsFrom : Said → Type 0
   IsFrom vote = (vote ≡ blank) ⊎ IsSeenVote s f vote
 
   -- the opening's row of a disk brings a vote that was seen
-  own_on : (d : ℕ) → d < s.disks → (o : Option (List SeenBlock)) → row_in Opening (f d) ≡ o → (before : PBlock) → IsFrom before → IsFrom (own_in s.host before o)
+  own_on : (d : ℕ) → d < s.disks → (o : Option (List SeenBlock)) → row_in Opening (f d) ≡ o → (before : Said) → IsFrom before → IsFrom (own_in s.host before o)
   own_on d l None is before from = from
   own_on d l (Some row) is before from =
       later_either IsFrom before (says_in row s.host) from (inr (inl (record { disk = d; row = row; inside = l; read = is; is = refl })))
@@ -87,12 +87,12 @@ module _ (s : Setup) (f : Answers) where
   own_from (suc n) l = own_on n (omega arith) (row_in Opening (f n)) refl (own_below s f n) (own_from n (omega arith))
 
   -- a row of phase 1 brings votes that were seen
-  best_on : (d : ℕ) → d < s.disks → (o : Option (List SeenBlock)) → row_in One (f d) ≡ o → (before : PBlock) → IsFrom before → IsFrom (best_in s.host before o)
+  best_on : (d : ℕ) → d < s.disks → (o : Option (List SeenBlock)) → row_in One (f d) ≡ o → (before : Said) → IsFrom before → IsFrom (best_in s.version s.host before o)
   best_on d l None is before from = from
   best_on d l (Some row) is before from =
-      latest_either s.host row before IsFrom from
+      latest_either (hosts_in s.version) s.host row before IsFrom from
       (λ g below other. inr (inr (record { disk = d; row = row; host = g; inside = l; read = is; below = below; other = other; is = refl })))
-      HOSTS (omega arith)
+      (hosts_in s.version) (omega arith)
 
   -- so the latest vote was seen
   best_from : (n : ℕ) → n ≤ s.disks → IsFrom (best_below s f n)
@@ -100,14 +100,14 @@ module _ (s : Setup) (f : Answers) where
   best_from (suc n) l = best_on n (omega arith) (row_in One (f n)) refl (best_below s f n) (best_from n (omega arith))
 
   -- a row of the opening lowers no bal
-  own_rises : (o : Option (List SeenBlock)) (before : PBlock) → before.bal ≤ (own_in s.host before o).bal
+  own_rises : (o : Option (List SeenBlock)) (before : Said) → before.bal ≤ (own_in s.host before o).bal
   own_rises None before = omega arith
   own_rises (Some row) before = (later_above before (says_in row s.host)).first
 
   -- nor does one of phase 1
-  best_rises : (o : Option (List SeenBlock)) (before : PBlock) → before.bal ≤ (best_in s.host before o).bal
+  best_rises : (o : Option (List SeenBlock)) (before : Said) → before.bal ≤ (best_in s.version s.host before o).bal
   best_rises None before = omega arith
-  best_rises (Some row) before = latest_rises s.host row before HOSTS
+  best_rises (Some row) before = latest_rises (hosts_in s.version) s.host row before (hosts_in s.version)
 
   -- the own latest vote is not below one that was seen
   own_above : (n d : ℕ) (row : List SeenBlock) → d < n → row_in Opening (f d) ≡ Some row → (says_in row s.host).bal ≤ (own_below s f n).bal
@@ -125,58 +125,58 @@ module _ (s : Setup) (f : Answers) where
   own_under (suc n) = omega (arith, own_under n, best_rises (row_in One (f n)) (best_below s f n))
 
   -- or below another host's that was seen
-  best_above : (n d g : ℕ) (row : List SeenBlock) → d < n → row_in One (f d) ≡ Some row → g < HOSTS → g ≢ s.host → (says_in row g).bal ≤ (best_below s f n).bal
+  best_above : (n d g : ℕ) (row : List SeenBlock) → d < n → row_in One (f d) ≡ Some row → g < hosts_in s.version → g ≢ s.host → (says_in row g).bal ≤ (best_below s f n).bal
   best_above zero d g row l is below other = absurd (omega arith)
   best_above (suc n) d g row l is below other = elim (cases_eq d n) [
     | inl here ↦
         (let at : row_in One (f n) ≡ Some row = ap (λ (k : ℕ). row_in One (f k)) (sym here) ∙ is in
-        subst (λ (o : Option (List SeenBlock)). (says_in row g).bal ≤ (best_in s.host (best_below s f n) o).bal) (sym at) (latest_above s.host row (best_below s f n) HOSTS g below other))
+        subst (λ (o : Option (List SeenBlock)). (says_in row g).bal ≤ (best_in s.version s.host (best_below s f n) o).bal) (sym at) (latest_above (hosts_in s.version) s.host row (best_below s f n) (hosts_in s.version) g below other))
     | inr there ↦ omega (arith, best_above n d g row (omega arith) is below other, best_rises (row_in One (f n)) (best_below s f n))
   ]
 
   -- no vote that was seen has a greater bal than the latest
-  seen_under : (vote : PBlock) → IsSeenVote s f vote → vote.bal ≤ (best s f).bal
+  seen_under : (vote : Said) → IsSeenVote s f vote → vote.bal ≤ (best s f).bal
   seen_under vote (inl seen) =
-      let at = ap (λ (x : PBlock). x.bal) seen.is in
+      let at = ap (λ (x : Said). x.bal) seen.is in
       omega (arith, own_above s.disks seen.disk seen.row seen.inside seen.read, own_under s.disks)
   seen_under vote (inr seen) =
-      let at = ap (λ (x : PBlock). x.bal) seen.is in
+      let at = ap (λ (x : Said). x.bal) seen.is in
       omega (arith, best_above s.disks seen.disk seen.host seen.row seen.inside seen.read seen.below seen.other)
 
 -- THE PROPOSAL
 
 -- a vote without a bal has no input
-none_of : (host mbal bal : ℕ) (inp : Option (List ℕ)) → IsVoteOf host mbal bal inp → bal ≡ 0 → inp ≡ None
-none_of host mbal bal None vote zeroed = refl
-none_of host mbal bal (Some value) vote zeroed = absurd (omega (arith, (vote.0).positive))
+none_of : (v : Version) (host mbal bal : ℕ) (inp : Option (List ℕ)) → IsVoteOf v host mbal bal inp → bal ≡ 0 → inp ≡ None
+none_of v host mbal bal None vote zeroed = refl
+none_of v host mbal bal (Some value) vote zeroed = absurd (omega (arith, (vote.0).positive))
 
 -- and one without an input has no bal
-zero_of : (host mbal bal : ℕ) (inp : Option (List ℕ)) → IsVoteOf host mbal bal inp → inp ≡ None → bal ≡ 0
-zero_of host mbal bal None vote none = vote
-zero_of host mbal bal (Some value) vote none = absurd (cc)
+zero_of : (v : Version) (host mbal bal : ℕ) (inp : Option (List ℕ)) → IsVoteOf v host mbal bal inp → inp ≡ None → bal ≡ 0
+zero_of v host mbal bal None vote none = vote
+zero_of v host mbal bal (Some value) vote none = absurd (cc)
 
-module _ (s : Setup) (f : Answers) (is_host : s.host < HOSTS) (votes : AreVotes f) where
+module _ (s : Setup) (f : Answers) (is_host : s.host < hosts_in s.version) (votes : AreVotes s.version f) where
   -- a vote that was seen is one of its host
-  seen_vote : (vote : PBlock) → IsSeenVote s f vote → (host : ℕ) × IsVoteOf host vote.mbal vote.bal vote.inp
+  seen_vote : (vote : Said) → IsSeenVote s f vote → (host : ℕ) × IsVoteOf s.version host vote.mbal vote.bal vote.inp
   seen_vote vote (inl seen) =
-      (s.host, subst (λ (x : PBlock). IsVoteOf s.host x.mbal x.bal x.inp) (sym seen.is) (votes Opening seen.disk s.host seen.row seen.read is_host))
+      (s.host, subst (λ (x : Said). IsVoteOf s.version s.host x.mbal x.bal x.inp) (sym seen.is) (votes Opening seen.disk s.host seen.row seen.read is_host))
   seen_vote vote (inr seen) =
-      (seen.host, subst (λ (x : PBlock). IsVoteOf seen.host x.mbal x.bal x.inp) (sym seen.is) (votes One seen.disk seen.host seen.row seen.read seen.below))
+      (seen.host, subst (λ (x : Said). IsVoteOf s.version seen.host x.mbal x.bal x.inp) (sym seen.is) (votes One seen.disk seen.host seen.row seen.read seen.below))
 
   -- where the latest vote has no input it has no bal
   best_zero : IsFrom s f (best s f) → (best s f).inp ≡ None → (best s f).bal ≡ 0
-  best_zero (inl is) none = ap (λ (x : PBlock). x.bal) is
-  best_zero (inr seen) none = (let vote = seen_vote (best s f) seen in zero_of vote.0 (best s f).mbal (best s f).bal (best s f).inp vote.1 none)
+  best_zero (inl is) none = ap (λ (x : Said). x.bal) is
+  best_zero (inr seen) none = (let vote = seen_vote (best s f) seen in zero_of s.version vote.0 (best s f).mbal (best s f).bal (best s f).inp vote.1 none)
 
   -- so no vote that was seen has one
-  no_inputs : (best s f).inp ≡ None → (vote : PBlock) → IsSeenVote s f vote → vote.inp ≡ None
+  no_inputs : (best s f).inp ≡ None → (vote : Said) → IsSeenVote s f vote → vote.inp ≡ None
   no_inputs none vote seen =
       let is = seen_vote vote seen in
-      none_of is.0 vote.mbal vote.bal vote.inp is.1 (omega (arith, seen_under s f vote seen, best_zero (best_from s f s.disks (omega arith)) none))
+      none_of s.version is.0 vote.mbal vote.bal vote.inp is.1 (omega (arith, seen_under s f vote seen, best_zero (best_from s f s.disks (omega arith)) none))
 
   -- and where it has one, that is a latest input
   latest_is : (value : List ℕ) → IsFrom s f (best s f) → (best s f).inp ≡ Some value → IsLatestInput s f value
-  latest_is value (inl is) some = (let none : (best s f).inp ≡ None = ap (λ (x : PBlock). x.inp) is in absurd (cc))
+  latest_is value (inl is) some = (let none : (best s f).inp ≡ None = ap (λ (x : Said). x.inp) is in absurd (cc))
   latest_is value (inr seen) some = record { vote = best s f; seen = seen; inp = some; latest = seen_under s f }
 
   -- by whether it has one

@@ -1,9 +1,9 @@
 -- The rows that an attempt has read, with one answer more: what follows from them stays, or takes the new row in.
 use Rattle.std.proofs.Common.{ℕ, zero, suc, ◌+◌, ◌<◌, ◌≤◌, ◌≡◌, ◌≢◌, max, inl, inr, Option, Some, None, List, [], ◌∷◌, ◌++◌, length, is_some, refl, sym, ap, ap₂, ◌∙◌, arith}
 use Rattle.std.proofs.lemmas.Bool.{cases_eq}
-use Rattle.paxos_block.specs.declared.block.PBlock.{PBlock}
-use Rattle.paxos_block.specs.Row.{SeenBlock}
-use Rattle.paxos_block.specs.Votes.{says_in, greatest, top_of, others_top_of, later_of, latest_in, marked_in, ballot_above}
+use Rattle.paxos_block.specs.layouts.Saying.{Said}
+use Rattle.paxos_block.specs.layouts.Row.{SeenBlock}
+use Rattle.paxos_block.specs.layouts.Votes.{says_in, greatest, top_of, others_top_of, later_of, latest_in, marked_in, ballot_above}
 use Rattle.paxos_block.proofs.VoteLemmas.{greatest_same}
 use Rattle.attempt.specs.Calls.{Phase, Opening, One, goal}
 use Rattle.attempt.specs.Answers.{Heard, Told, Answers, told, row_in, more}
@@ -22,11 +22,11 @@ AreSameRows p f g = (e : ℕ) → row_in p (f e) ≡ row_in p (g e)
 module _ (s : Setup) (f g : Answers) where
   -- the opening's rows give the ballot
   pub highest_same : AreSameRows Opening f g → highest s f ≡ highest s g
-  highest_same same = ap (max s.floor) (greatest_same s.disks (λ d. top_in (row_in Opening (f d))) (λ d. top_in (row_in Opening (g d))) (λ e l. ap top_in (same e)))
+  highest_same same = ap (max s.floor) (greatest_same s.disks (λ d. top_in s.version (row_in Opening (f d))) (λ d. top_in s.version (row_in Opening (g d))) (λ e l. ap (top_in s.version) (same e)))
 
   -- and so the ballot itself
   pub ballot_same : AreSameRows Opening f g → ballot s f ≡ ballot s g
-  ballot_same same = ap (ballot_above s.host) (highest_same same)
+  ballot_same same = ap (ballot_above s.version s.host) (highest_same same)
 
   -- and the own latest vote
   pub own_same : AreSameRows Opening f g → (n : ℕ) → own_below s f n ≡ own_below s g n
@@ -36,7 +36,7 @@ module _ (s : Setup) (f g : Answers) where
   -- and what is decided
   pub decided_same_below : AreSameRows Opening f g → (n : ℕ) → decided_below s f n ≡ decided_below s g n
   decided_same_below same zero = refl
-  decided_same_below same (suc n) = ap₂ (λ (before : Option (List ℕ)) (row : Option (List SeenBlock)). or_else before (decided_in row)) (decided_same_below same n) (same n)
+  decided_same_below same (suc n) = ap₂ (λ (before : Option (List ℕ)) (row : Option (List SeenBlock)). or_else before (decided_in s.version row)) (decided_same_below same n) (same n)
 
   pub decided_same : AreSameRows Opening f g → decided s f ≡ decided s g
   decided_same same = decided_same_below same s.disks
@@ -44,15 +44,15 @@ module _ (s : Setup) (f g : Answers) where
   -- those of phase 1 the proposal
   pub best_same : AreSameRows Opening f g → AreSameRows One f g → (n : ℕ) → best_below s f n ≡ best_below s g n
   best_same opening one zero = own_same opening s.disks
-  best_same opening one (suc n) = ap₂ (best_in s.host) (best_same opening one n) (one n)
+  best_same opening one (suc n) = ap₂ (best_in s.version s.host) (best_same opening one n) (one n)
 
   -- and the proposal itself
   pub proposal_same : AreSameRows Opening f g → AreSameRows One f g → proposal s f ≡ proposal s g
-  proposal_same opening one = ap (λ (vote : PBlock). or_else vote.inp s.input) (best_same opening one s.disks)
+  proposal_same opening one = ap (λ (vote : Said). or_else vote.inp s.input) (best_same opening one s.disks)
 
   -- those of a phase the other hosts' mbal in it
   pub others_same : (p : Phase) → AreSameRows p f g → others_mbal s p f ≡ others_mbal s p g
-  others_same p same = greatest_same s.disks (λ d. others_top s.host (row_in p (f d))) (λ d. others_top s.host (row_in p (g d))) (λ e l. ap (others_top s.host) (same e))
+  others_same p same = greatest_same s.disks (λ d. others_top s.version s.host (row_in p (f d))) (λ d. others_top s.version s.host (row_in p (g d))) (λ e l. ap (others_top s.version s.host) (same e))
 
   -- and the disks that were opened
   pub opened_same : AreSameRows Opening f g → (d : ℕ) → is_opened f d ≡ is_opened g d
@@ -113,7 +113,7 @@ or_none (Some value) = refl
 pub best_none : (s : Setup) (f : Answers) (n : ℕ) → ((e : ℕ) → e < n → row_in One (f e) ≡ None) → best_below s f n ≡ own s f
 best_none s f zero none = refl
 best_none s f (suc n) none =
-    ap (best_in s.host (best_below s f n)) (none n (omega arith)) ∙ best_none s f n (λ e l. none e (omega arith))
+    ap (best_in s.version s.host (best_below s f n)) (none n (omega arith)) ∙ best_none s f n (λ e l. none e (omega arith))
 
 module _ (s : Setup) (f : Answers) (d : ℕ) (row : List SeenBlock) where
   -- the answers with this row
@@ -145,12 +145,12 @@ module _ (s : Setup) (f : Answers) (d : ℕ) (row : List SeenBlock) where
       s.disks is.below (omega arith)
 
   -- a row of the opening: the greatest mbal is the old one or one of the row's
-  pub highest_takes : IsLast s Opening d f → highest s new ≡ max (highest s f) (top_of row)
-  highest_takes is = let top = greatest_takes Opening top_in refl is in omega (arith, top)
+  pub highest_takes : IsLast s Opening d f → highest s new ≡ max (highest s f) (top_of s.version row)
+  highest_takes is = let top = greatest_takes Opening (top_in s.version) refl is in omega (arith, top)
 
   -- a row of phase 1 or 2: so is that of other hosts
-  pub others_takes : (p : Phase) → IsLast s p d f → others_mbal s p new ≡ max (others_mbal s p f) (others_top_of s.host row)
-  others_takes p is = greatest_takes p (others_top s.host) refl is
+  pub others_takes : (p : Phase) → IsLast s p d f → others_mbal s p new ≡ max (others_mbal s p f) (others_top_of s.version s.host row)
+  others_takes p is = greatest_takes p (others_top s.version s.host) refl is
 
   -- a row of the opening: the own latest vote is the old one or the row's
   pub own_takes : IsLast s Opening d f → own s new ≡ later_of (own s f) (says_in row s.host)
@@ -161,9 +161,9 @@ module _ (s : Setup) (f : Answers) (d : ℕ) (row : List SeenBlock) where
       s.disks is.below (omega arith)
 
   -- a row of the opening: what is decided was before, or the row shows it
-  pub decided_takes : IsLast s Opening d f → decided s new ≡ or_else (decided s f) (marked_in row)
+  pub decided_takes : IsLast s Opening d f → decided s new ≡ or_else (decided s f) (marked_in s.version row)
   decided_takes is =
-      fold_takes (λ (before : Option (List ℕ)) (o : Option (List SeenBlock)). or_else before (decided_in o)) or_none (λ e. row_in Opening (f e)) (λ e. row_in Opening (new e)) d s.disks (Some row)
+      fold_takes (λ (before : Option (List ℕ)) (o : Option (List SeenBlock)). or_else before (decided_in s.version o)) or_none (λ e. row_in Opening (f e)) (λ e. row_in Opening (new e)) d s.disks (Some row)
       (row_here Opening is) (row_there Opening) (from_here Opening is)
       (decided_below s f) (decided_below s new) refl (λ n. refl) (λ n. refl)
       s.disks is.below (omega arith)
@@ -174,12 +174,12 @@ module _ (s : Setup) (f : Answers) (d : ℕ) (row : List SeenBlock) where
       let early : AreSameRows One new f = rows_early f d (Told (Some row)) One (omega (arith, is.last)) in
       best_none s new s.disks (λ e l. early e ∙ none e l)
       ∙ own_takes is
-      ∙ ap (λ (vote : PBlock). later_of vote (says_in row s.host)) (sym (best_none s f s.disks none))
+      ∙ ap (λ (vote : Said). later_of vote (says_in row s.host)) (sym (best_none s f s.disks none))
 
   -- a row of phase 1: the latest vote is the old one or the latest of the row
-  pub best_takes : IsLast s One d f → best s new ≡ latest_in s.host row (best s f)
+  pub best_takes : IsLast s One d f → best s new ≡ latest_in s.version s.host row (best s f)
   best_takes is =
-      fold_takes (best_in s.host) (λ a. refl) (λ e. row_in One (f e)) (λ e. row_in One (new e)) d s.disks (Some row)
+      fold_takes (best_in s.version s.host) (λ a. refl) (λ e. row_in One (f e)) (λ e. row_in One (new e)) d s.disks (Some row)
       (row_here One is) (row_there One) (from_here One is)
       (best_below s f) (best_below s new) (own_same s new f (rows_kept f d (Told (Some row)) Opening (omega (arith, is.last))) s.disks) (λ n. refl) (λ n. refl)
       s.disks is.below (omega arith)

@@ -1,7 +1,8 @@
 -- What an attempt hears of its disks, and what follows from the answers of one disk alone.
 use Rattle.std.specs.Prelude.{ℕ, pred, List, [], ◌∷◌, slice_get, Option, Some, None, option_and_then}
 use Rattle.disk.specs.Disk as device
-use Rattle.paxos_block.specs.Row.{SeenBlock, blank_seen, seen_at, row_said}
+use Rattle.torn_block.specs.Layout.{Version, cluster_version}
+use Rattle.paxos_block.specs.layouts.Row.{SeenBlock, blank_seen, seen_at, row_said}
 use Rattle.attempt.specs.Calls.{Phase, goal}
 use Rattle.attempt.specs.Heard as hearing
 use Rattle.attempt.specs.Heard.{heard_by}
@@ -11,8 +12,12 @@ pub use Rattle.attempt.specs.Heard.{Booted, Done, Told, Fault, on, more, is_bad,
 abbrev pub Heard : Type 0
 Heard = hearing.Heard (List SeenBlock)
 
+abbrev pub heard_in : Version → device.Answer → Heard
+heard_in v answer = heard_by (row_said v) answer
+
+-- of the cluster's disks
 abbrev pub heard_as : device.Answer → Heard
-heard_as answer = heard_by row_said answer
+heard_as = heard_in cluster_version
 
 abbrev pub Answered : Type 0
 Answered = hearing.Answered (List SeenBlock)

@@ -1,7 +1,8 @@
 -- When a value is chosen, by what one attempt has heard.
 use Rattle.std.specs.Prelude.{◌≡◌, ℕ, Bool, true, false, not, List, nat_lt, Option, Some, None}
-use Rattle.paxos_block.specs.Row.{SeenBlock}
-use Rattle.paxos_block.specs.Votes.{others_top_of}
+use Rattle.torn_block.specs.Layout.{Version}
+use Rattle.paxos_block.specs.layouts.Row.{SeenBlock}
+use Rattle.paxos_block.specs.layouts.Votes.{others_top_of}
 use Rattle.attempt.specs.Calls.{Two}
 use Rattle.attempt.specs.Answers.{Answers, row_in}
 use Rattle.attempt.specs.Setup.{Setup}
@@ -10,13 +11,13 @@ use Rattle.attempt.specs.Proposal.{ballot}
 use Rattle.attempt.specs.Standing.{HasProposal}
 
 -- a row was read, and no other host's mbal in it is above the ballot
-abbrev pub accepts_in : ℕ → ℕ → Option (List SeenBlock) → Bool
-accepts_in host ballot None = false
-accepts_in host ballot (Some row) = not (nat_lt ballot (others_top_of host row))
+abbrev pub accepts_in : Version → ℕ → ℕ → Option (List SeenBlock) → Bool
+accepts_in v host ballot None = false
+accepts_in v host ballot (Some row) = not (nat_lt ballot (others_top_of v host row))
 
 -- so it is with the row of phase 2, the disk's seventeenth answer: behind the vote, none was faster
 abbrev pub accepts : Setup → Answers → ℕ → Bool
-accepts s f d = accepts_in s.host (ballot s f) (row_in Two (f d))
+accepts s f d = accepts_in s.version s.host (ballot s f) (row_in Two (f d))
 
 -- in phase 2 the attempt proposes the value, and a majority of the disks accepts it
 pub record Chooses (s : Setup) (f : Answers) (value : List ℕ) : Type 0 where

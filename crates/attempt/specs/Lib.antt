@@ -14,3 +14,4 @@ pub mod Standing
 pub mod Status
 pub mod Visits
 pub mod Votes
+pub mod layouts

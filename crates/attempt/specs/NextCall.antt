@@ -1,11 +1,11 @@
 -- The device call that an attempt makes next, with its boot number and its bytes.
 use Rattle.std.specs.Prelude.{ℕ, false, List, [], length, slice_get, Option, Some, None, option_map}
 use Rattle.disk.specs.Disk as device
-use Rattle.torn_block.specs.declared.layout.TheConstants.{ROW_LENGTH}
+use Rattle.torn_block.specs.Layout.{row_length}
 use Rattle.torn_block.specs.Stage.{Write128, call_of}
-use Rattle.paxos_block.specs.declared.block.PBlock.{PBlock}
-use Rattle.paxos_block.specs.Places.{place_of, VoteOf, row_place}
-use Rattle.paxos_block.specs.Saying.{body_saying}
+use Rattle.paxos_block.specs.layouts.Saying.{Said}
+use Rattle.paxos_block.specs.layouts.Places.{place_of, VoteOf, row_place}
+use Rattle.paxos_block.specs.layouts.Saying.{body_saying}
 use Rattle.attempt.specs.Calls.{Phase, Opening, One, Two, Kind, Attaching, Syncing, Reading, Putting, seventeen}
 use Rattle.attempt.specs.Answers.{Answers, last_row, seen_block, boot_of}
 use Rattle.attempt.specs.Setup.{Setup}
@@ -17,7 +17,7 @@ some_value None = []
 some_value (Some value) = value
 
 -- what is written in a phase: the ballot with the own latest vote, and then with the vote for the proposal
-abbrev pub says_for : Setup → Phase → Answers → PBlock
+abbrev pub says_for : Setup → Phase → Answers → Said
 says_for s Opening f = record { mbal = 0; bal = 0; inp = None; mark = false }
 says_for s One f = record { mbal = ballot s f; bal = (own s f).bal; inp = (own s f).inp; mark = false }
 says_for s Two f = record { mbal = ballot s f; bal = ballot s f; inp = Some (some_value (proposal s f)); mark = false }
@@ -25,12 +25,12 @@ says_for s Two f = record { mbal = ballot s f; bal = ballot s f; inp = Some (som
 -- the write of a phase goes to the own block, as it was read last
 abbrev pub write_on : Setup → Phase → ℕ → Answers → Write128
 write_on s p d f =
-    record { place = place_of (VoteOf s.slot s.host); block = (seen_block (last_row (f d)) s.host).bytes; body = body_saying (says_for s p f) }
+    record { version = s.version; place = place_of s.version (VoteOf s.slot s.host); block = (seen_block (last_row (f d)) s.host).bytes; body = body_saying s.version (says_for s p f) }
 
 abbrev pub call_by : Setup → ℕ → Answers → Kind → device.Call
 call_by s d f Attaching = device.Attach
 call_by s d f Syncing = device.Sync (boot_of (f d))
-call_by s d f Reading = device.Read (boot_of (f d)) (row_place s.slot) ROW_LENGTH
+call_by s d f Reading = device.Read (boot_of (f d)) (row_place s.version s.slot) (row_length s.version)
 call_by s d f (Putting p call) = call_of call (write_on s p d f) (boot_of (f d))
 
 -- of a disk's seventeen calls, the one behind those that were answered

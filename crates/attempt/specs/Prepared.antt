@@ -1,15 +1,15 @@
 -- What an attempt has done once it proposes and once its proposal is chosen, told by the places of its history.
 use Rattle.std.specs.Prelude.{◌≡◌, ◌≢◌, ◌⊎◌, ◌<◌, ◌≤◌, ℕ, true, false, List, take, slice_get, Some, None}
 use Rattle.disk.specs.Disk as device
-use Rattle.torn_block.specs.declared.layout.TheConstants.{HOSTS, ROW_LENGTH}
+use Rattle.torn_block.specs.Layout.{Version, hosts_in, row_length}
 use Rattle.torn_block.specs.declared.write_steps.WriteCall.{WriteCall}
 use Rattle.torn_block.specs.declared.write_steps.WriteCall.TheVariants.{CloseGate, SyncClosed, PutBody, SyncBody, OpenGate, SyncOpened}
 use Rattle.torn_block.specs.Stage.{Write128, call_of}
-use Rattle.paxos_block.specs.declared.block.PBlock.{PBlock}
-use Rattle.paxos_block.specs.Places.{place_of, VoteOf, row_place}
-use Rattle.paxos_block.specs.Row.{SeenBlock}
-use Rattle.paxos_block.specs.Saying.{IsVoteOf, body_saying}
-use Rattle.paxos_block.specs.Votes.{says_in}
+use Rattle.paxos_block.specs.layouts.Saying.{Said}
+use Rattle.paxos_block.specs.layouts.Places.{place_of, VoteOf, row_place}
+use Rattle.paxos_block.specs.layouts.Row.{SeenBlock}
+use Rattle.paxos_block.specs.layouts.Saying.{IsVoteOf, body_saying}
+use Rattle.paxos_block.specs.layouts.Votes.{says_in}
 use Rattle.attempt.specs.Calls.{Phase, Opening, One, Two}
 use Rattle.attempt.specs.Answers.{Heard, Done, Told, Answered, Answers, on, row_in}
 use Rattle.attempt.specs.Setup.{Setup}
@@ -37,18 +37,18 @@ step_of SyncOpened = 5
 
 -- On a disk the host wrote this to its block of the slot, all under one boot number and each of the six calls with success,
 -- and behind them read the row of the phase, in which no other host has a greater mbal.
-pub record IsConfirmedOn (s : Setup) (heard : List Answered) (p : Phase) (says : PBlock) (disk : ℕ) : Type 0 where
+pub record IsConfirmedOn (s : Setup) (heard : List Answered) (p : Phase) (says : Said) (disk : ℕ) : Type 0 where
   pub boot : ℕ
   pub write : Write128
-  pub place : write.place ≡ place_of (VoteOf s.slot s.host)
-  pub body : write.body ≡ body_saying says
+  pub place : write.place ≡ place_of s.version (VoteOf s.slot s.host)
+  pub body : write.body ≡ body_saying s.version says
   pub places : ℕ → ℕ
   pub in_order : (i j : ℕ) → i < j → j ≤ 6 → places i < places j
   pub wrote : (call : WriteCall) → IsAnswered s heard (places (step_of call)) disk (call_of call write boot) Done
   pub row : List SeenBlock
-  pub read : IsAnswered s heard (places 6) disk (device.Read boot (row_place s.slot) ROW_LENGTH) (Told (Some row))
+  pub read : IsAnswered s heard (places 6) disk (device.Read boot (row_place s.version s.slot) (row_length s.version)) (Told (Some row))
   pub is_row : row_in p (on heard disk) ≡ Some row
-  pub none_above : (host : ℕ) → host < HOSTS → host ≢ s.host → (says_in row host).mbal ≤ says.mbal
+  pub none_above : (host : ℕ) → host < hosts_in s.version → host ≢ s.host → (says_in row host).mbal ≤ says.mbal
 
 -- its ballot, with its own latest vote, is confirmed on more than half of the disks
 abbrev pub IsPrepared : Setup → List Answered → Type 0
@@ -66,7 +66,7 @@ pub record Proposes (s : Setup) (f : Answers) (value : List ℕ) : Type 0 where
   pub majority : are_enough s (is_left s One f) ≡ true
 
 -- what the host's own block said in the opening's row of a disk
-pub record IsOwnVote (s : Setup) (f : Answers) (vote : PBlock) : Type 0 where
+pub record IsOwnVote (s : Setup) (f : Answers) (vote : Said) : Type 0 where
   pub disk : ℕ
   pub row : List SeenBlock
   pub inside : disk < s.disks
@@ -74,35 +74,35 @@ pub record IsOwnVote (s : Setup) (f : Answers) (vote : PBlock) : Type 0 where
   pub is : vote ≡ says_in row s.host
 
 -- what another host's block said in the row of phase 1 of a disk
-pub record IsOtherVote (s : Setup) (f : Answers) (vote : PBlock) : Type 0 where
+pub record IsOtherVote (s : Setup) (f : Answers) (vote : Said) : Type 0 where
   pub disk : ℕ
   pub row : List SeenBlock
   pub host : ℕ
   pub inside : disk < s.disks
   pub read : row_in One (f disk) ≡ Some row
-  pub below : host < HOSTS
+  pub below : host < hosts_in s.version
   pub other : host ≢ s.host
   pub is : vote ≡ says_in row host
 
 -- a vote that was seen is one of these
-abbrev pub IsSeenVote : Setup → Answers → PBlock → Type 0
+abbrev pub IsSeenVote : Setup → Answers → Said → Type 0
 IsSeenVote s f vote = IsOwnVote s f vote ⊎ IsOtherVote s f vote
 
 -- the value is the input of a vote that was seen, and no vote that was seen has a greater bal
 pub record IsLatestInput (s : Setup) (f : Answers) (value : List ℕ) : Type 0 where
-  pub vote : PBlock
+  pub vote : Said
   pub seen : IsSeenVote s f vote
   pub inp : vote.inp ≡ Some value
-  pub latest : (other : PBlock) → IsSeenVote s f other → other.bal ≤ vote.bal
+  pub latest : (other : Said) → IsSeenVote s f other → other.bal ≤ vote.bal
 
 -- no vote that was seen has an input, and the value is the attempt's own
 pub record IsOwnInput (s : Setup) (f : Answers) (value : List ℕ) : Type 0 where
-  pub none : (vote : PBlock) → IsSeenVote s f vote → vote.inp ≡ None
+  pub none : (vote : Said) → IsSeenVote s f vote → vote.inp ≡ None
   pub inp : s.input ≡ Some value
 
 -- no vote that was seen has an input, and the attempt has none of its own
 pub record HasNoInput (s : Setup) (f : Answers) : Type 0 where
-  pub none : (vote : PBlock) → IsSeenVote s f vote → vote.inp ≡ None
+  pub none : (vote : Said) → IsSeenVote s f vote → vote.inp ≡ None
   pub inp : s.input ≡ None
 
 -- a proposal is the latest input that was seen, or where none was seen the attempt's own
@@ -118,11 +118,11 @@ pub record IsMarkSeen (s : Setup) (f : Answers) (value : List ℕ) : Type 0 wher
   pub host : ℕ
   pub inside : disk < s.disks
   pub read : row_in Opening (f disk) ≡ Some row
-  pub below : host < HOSTS
+  pub below : host < hosts_in s.version
   pub mark : (says_in row host).mark ≡ true
   pub inp : (says_in row host).inp ≡ Some value
 
 -- each block in the rows that were read says a vote of its host
-abbrev pub AreVotes : Answers → Type 0
-AreVotes f =
-    (p : Phase) (d host : ℕ) (row : List SeenBlock) → row_in p (f d) ≡ Some row → host < HOSTS → IsVoteOf host (says_in row host).mbal (says_in row host).bal (says_in row host).inp
+abbrev pub AreVotes : Version → Answers → Type 0
+AreVotes v f =
+    (p : Phase) (d host : ℕ) (row : List SeenBlock) → row_in p (f d) ≡ Some row → host < hosts_in v → IsVoteOf v host (says_in row host).mbal (says_in row host).bal (says_in row host).inp

@@ -1,7 +1,7 @@
 // What bounds an attempt's device calls, how one ends that its disks answer, and what one has done that proposes.
 ghost use Rattle.std.specs.Prelude.{◌≡◌, ◌≢◌, ◌*◌, ◌<◌, ◌≤◌, ℕ, List, length};
 ghost use Rattle.disk.specs.Disk.{Call};
-ghost use Rattle.torn_block.specs.declared.layout.TheConstants.{HOSTS};
+ghost use Rattle.torn_block.specs.Layout.{hosts_in};
 ghost use Rattle.paxos_block.specs.declared.ballot.TheConstants.{LAST_BALLOT};
 ghost use Rattle.attempt.specs.Calls.{Phase, Opening, Two};
 ghost use Rattle.attempt.specs.Answers.{Answered, Answers, on};
@@ -51,8 +51,8 @@ pub fn alone_answered()
 pub fn prepared_and_proposed()
     ensures prepared { (s : Setup) (heard : List Answered) (value : List ℕ) →
         IsHistory s heard → Proposes s (on heard) value → IsPrepared s heard }
-    ensures proposal { (s : Setup) (heard : List Answered) (value : List ℕ) → s.host < HOSTS →
-        AreVotes (on heard) → Proposes s (on heard) value → IsProposal s (on heard) value }
+    ensures proposal { (s : Setup) (heard : List Answered) (value : List ℕ) → s.host < hosts_in s.version →
+        AreVotes s.version (on heard) → Proposes s (on heard) value → IsProposal s (on heard) value }
     // Whoever votes proposes, and so does whoever has committed.
     ensures voting { (s : Setup) (heard : List Answered) (d : ℕ) →
         status s (on heard) ≡ Due Two d → (value : List ℕ) × Proposes s (on heard) value }
@@ -60,7 +60,7 @@ pub fn prepared_and_proposed()
         status s (on heard) ≡ Ended (Committed value) → Proposes s (on heard) value }
     ensures empty { (s : Setup) (heard : List Answered) → IsHistory s heard →
         status s (on heard) ≡ Ended Empty → IsPrepared s heard }
-    ensures none { (s : Setup) (heard : List Answered) → s.host < HOSTS → AreVotes (on heard) →
+    ensures none { (s : Setup) (heard : List Answered) → s.host < hosts_in s.version → AreVotes s.version (on heard) →
         status s (on heard) ≡ Ended Empty → HasNoInput s (on heard) }
     ensures accepted { (s : Setup) (heard : List Answered) (value : List ℕ) → IsHistory s heard →
         status s (on heard) ≡ Ended (Committed value) → IsAccepted s heard value }

@@ -35,7 +35,7 @@ module _ (s : Setup) (g : Answers) (disk : (e : ℕ) → IsDisk (g e)) where
       }
     where
       no_row : row_in Two (g e) ≡ None → ⊥
-      no_row none = both_ways (accepts s g e) (ap (accepts_in s.host (ballot s g)) none) is
+      no_row none = both_ways (accepts s g e) (ap (accepts_in s.version s.host (ballot s g)) none) is
 
   module _ (m : Machine) where
     -- in phase 2, where the machine has come as far on each disk that accepts

@@ -4,11 +4,10 @@ use Rattle.std.specs.List.{All}
 use Rattle.std.proofs.Common.{true≢false, ℕ, suc, ◌+◌, ◌<◌, ◌≤◌, ◌≡◌, ◌≢◌, ◌⊎◌, inl, inr, Bool, true, false, Some, None, List, [], ◌∷◌, length, refl, sym, subst, ap, ◌∙◌, arith}
 use Rattle.std.proofs.lemmas.Bool.{ltb-false, cases_lt, cases_Bool}
 use Rattle.std.proofs.lemmas.List.Elements.{All-nil, All-cons}
-use Rattle.torn_block.specs.declared.layout.TheConstants.{HOSTS}
 use Rattle.torn_block.specs.declared.write_steps.WriteCall.{WriteCall}
 use Rattle.torn_block.specs.declared.write_steps.WriteCall.TheVariants.{CloseGate, SyncClosed, PutBody, SyncBody, OpenGate, SyncOpened}
 use Rattle.paxos_block.specs.Row.{SeenBlock}
-use Rattle.paxos_block.specs.Votes.{others_top_of}
+use Rattle.paxos_block.specs.layouts.Votes.{others_top_of}
 use Rattle.attempt.specs.Calls.{Phase, Opening, One, Two, Kind, Attaching, Syncing, Reading, Putting, start, goal}
 use Rattle.attempt.specs.Answers.{Heard, Booted, Done, Told, Fault, Answers, is_bad, all_good, told, more}
 use Rattle.attempt.specs.Setup.{Setup}
@@ -28,6 +27,7 @@ use Rattle.agreement.specs.Event.Event.{Sees, Begins, Confirms, ReadsOne, ReadsT
 use Rattle.agreement.specs.Chosen.{PutsIn, IsInput}
 use Rattle.agreement.proofs.Invariant.{Holds}
 use Rattle.agreement.proofs.Puts.{put_same, put_other}
+use Rattle.attempt_safety.specs.Cluster.{IsOfCluster}
 use Rattle.attempt_safety.specs.Machine.{Machine, blocks_said, stage_at, opened, asking, telling, mind_in, writing_in, write_in}
 use Rattle.attempt_safety.specs.Follows.{StandsIn}
 use Rattle.attempt_safety.specs.Registers.{IsNext, RegistersAllow}
@@ -56,12 +56,12 @@ pub record IsFaster (s : Setup) (p : Phase) (f : Answers) (d : ℕ) (x : Heard) 
   pub is : x ≡ Told (Some row)
   pub last : length (f d) + 1 ≡ goal p
   pub later : start One ≤ length (f d)
-  pub above : nat_lt (ballot s f) (others_top_of s.host row) ≡ true
+  pub above : nat_lt (ballot s f) (others_top_of s.version s.host row) ≡ true
   pub block : (kind : Kind) → IsNext (f d) kind → OwnBlock s f kind x (m.cell s.host d) (m.cell s.host d)
 
 -- EVENTS
 
-module _ (s : Setup) (f : Answers) (d : ℕ) (m : Machine) (holds : Holds s.disks m) (host_below : s.host < HOSTS) (reached : IsReached s f) where
+module _ (s : Setup) (f : Answers) (d : ℕ) (m : Machine) (holds : Holds s.disks m) (of_cluster : IsOfCluster s) (reached : IsReached s f) where
   abbrev c : Cell (List ℕ)
   c = m.cell s.host d
 
@@ -158,18 +158,18 @@ module _ (s : Setup) (f : Answers) (d : ℕ) (m : Machine) (holds : Holds s.disk
         let e : Event (List ℕ) = Sees s.host d (opened s f) (opened s (more f d x)) in
         let all = last_in Opening due stands last in
         by_event Opening due stands Reading x e (at_stage c seen) reads refl (λ value puts. puts)
-        (stands.mind, can_see s f d row c host_below all (allow.own_rests row (last, refl)) (allow.own_read row (last, refl)))
+        (stands.mind, can_see s f d row c of_cluster.is_host all (allow.own_rests row (last, refl)) (allow.own_read row (last, refl)))
         refl (put_same m.mind s.host (OpeningMind (opened s (more f d x)))) (λ g off. put_other m.mind s.host (OpeningMind (opened s (more f d x))) g off)
         (λ good. ap stage_at (sym last)) (record { confirmed = refl; writing = refl })
 
     -- nobody else in the row is above the ballot
-    is_row : RegistersAllow s.host d (f d) x m → nat_lt (ballot s f) (others_top_of s.host row) ≡ false → IsRow m s.host d (ballot s f) (blocks_said row)
+    is_row : RegistersAllow s.host d (f d) x m → nat_lt (ballot s f) (others_top_of s.version s.host row) ≡ false → IsRow m s.host d (ballot s f) (blocks_said row)
     is_row allow below =
-        let most : others_top_of s.host row ≤ ballot s f = ltb-false (ballot s f) (others_top_of s.host row) below in
-        record { reads = allow.others row refl; below = λ g l off. omega (arith, others_below s.host row g l off) }
+        let most : others_top_of s.version s.host row ≤ ballot s f = ltb-false (ballot s f) (others_top_of s.version s.host row) below in
+        record { reads = allow.others row refl; below = λ g l off. omega (arith, others_below s.version of_cluster.version s.host row g l off) }
 
     -- phase 1's: the host takes the latest vote
-    reads_one : (due : IsDueAt s One d f) → StandsIn s One f m → RegistersAllow s.host d (f d) x m → length (f d) + 1 ≡ goal One → nat_lt (ballot s f) (others_top_of s.host row) ≡ false → Moves s One f d x m
+    reads_one : (due : IsDueAt s One d f) → StandsIn s One f m → RegistersAllow s.host d (f d) x m → length (f d) + 1 ≡ goal One → nat_lt (ballot s f) (others_top_of s.version s.host row) ≡ false → Moves s One f d x m
     reads_one due stands allow last below =
         let g = more f d x in
         let e : Event (List ℕ) = ReadsOne s.host d (blocks_said row) (asking s f) (asking s g).best in
@@ -179,12 +179,12 @@ module _ (s : Setup) (f : Answers) (d : ℕ) (m : Machine) (holds : Holds s.disk
         let nine : length (f d) ≡ 9 = omega (arith, last) in
         let now : c.stage ≡ wrote_one = was One due stands ∙ ap stage_at nine in
         by_event One due stands Reading x e (at_stage c read_one) reads refl (λ value puts. puts)
-        (stands.mind, now, is_row allow below, best_is s f d row all)
+        (stands.mind, now, is_row allow below, best_is s f d row of_cluster.version all)
         refl (put_same m.mind s.host _ ∙ sym knows) (λ g off. put_other m.mind s.host _ g off)
         (λ good. ap stage_at (sym last)) (record { confirmed = refl; writing = refl })
 
     -- phase 2's: the ballot is accepted on the disk
-    reads_two : (due : IsDueAt s Two d f) → StandsIn s Two f m → RegistersAllow s.host d (f d) x m → length (f d) + 1 ≡ goal Two → nat_lt (ballot s f) (others_top_of s.host row) ≡ false → Moves s Two f d x m
+    reads_two : (due : IsDueAt s Two d f) → StandsIn s Two f m → RegistersAllow s.host d (f d) x m → length (f d) + 1 ≡ goal Two → nat_lt (ballot s f) (others_top_of s.version s.host row) ≡ false → Moves s Two f d x m
     reads_two due stands allow last below =
         let g = more f d x in
         let e : Event (List ℕ) = ReadsTwo s.host d (blocks_said row) (telling s f) in
@@ -197,15 +197,15 @@ module _ (s : Setup) (f : Answers) (d : ℕ) (m : Machine) (holds : Holds s.disk
         refl (stands.mind ∙ sym (mind_same s g f opening one Two)) (λ g off. refl)
         (λ good. ap stage_at (sym last)) (record { confirmed = refl; writing = refl })
 
-    above_or : (p : Phase) (t : Bool) → nat_lt (ballot s f) (others_top_of s.host row) ≡ t → length (f d) + 1 ≡ goal p → start One ≤ length (f d)
-        → (nat_lt (ballot s f) (others_top_of s.host row) ≡ false → Moves s p f d x m) → Moves s p f d x m ⊎ IsFaster s p f d x m
+    above_or : (p : Phase) (t : Bool) → nat_lt (ballot s f) (others_top_of s.version s.host row) ≡ t → length (f d) + 1 ≡ goal p → start One ≤ length (f d)
+        → (nat_lt (ballot s f) (others_top_of s.version s.host row) ≡ false → Moves s p f d x m) → Moves s p f d x m ⊎ IsFaster s p f d x m
     above_or p true is last later below = inr (record { row = row; is = refl; last = last; later = later; above = is; block = only Reading x c reads (block_same c) })
     above_or p false is last later below = inl (below is)
 
     reads_row : (p : Phase) (due : IsDueAt s p d f) → StandsIn s p f m → RegistersAllow s.host d (f d) x m → length (f d) + 1 ≡ goal p → Moves s p f d x m ⊎ IsFaster s p f d x m
     reads_row Opening due stands allow last = inl (sees due stands allow last)
-    reads_row One due stands allow last = above_or One (nat_lt (ballot s f) (others_top_of s.host row)) refl last (omega (arith, last)) (reads_one due stands allow last)
-    reads_row Two due stands allow last = above_or Two (nat_lt (ballot s f) (others_top_of s.host row)) refl last (omega (arith, last)) (reads_two due stands allow last)
+    reads_row One due stands allow last = above_or One (nat_lt (ballot s f) (others_top_of s.version s.host row)) refl last (omega (arith, last)) (reads_one due stands allow last)
+    reads_row Two due stands allow last = above_or Two (nat_lt (ballot s f) (others_top_of s.version s.host row)) refl last (omega (arith, last)) (reads_two due stands allow last)
 
   -- EVERY ANSWER
 

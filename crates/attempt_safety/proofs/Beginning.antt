@@ -1,9 +1,9 @@
 -- An attempt begins; and a write of it may begin whose first call gets no answer.
 use Rattle.std.proofs.Common.{ℕ, zero, suc, ◌≡◌, ◌<◌, List, [], ◌∷◌, ◌++◌, length, refl, sym, subst, ap, ap₂, ◌∙◌, arith}
 use Rattle.torn_block.specs.declared.write_steps.WriteCall.TheVariants.{CloseGate}
-use Rattle.paxos_block.specs.declared.block.PBlock.{PBlock}
+use Rattle.paxos_block.specs.Saying.{Said as PBlock}
 use Rattle.paxos_block.specs.Row.{blank}
-use Rattle.paxos_block.specs.Votes.{greatest}
+use Rattle.paxos_block.specs.layouts.Votes.{greatest}
 use Rattle.attempt.specs.Calls.{Phase, Opening, One, Two, Putting, goal}
 use Rattle.attempt.specs.Answers.{Answered, on}
 use Rattle.attempt.specs.Setup.{Setup}

@@ -2,7 +2,7 @@
 use Rattle.std.specs.Prelude.{not}
 use Rattle.std.proofs.Common.{ℕ, ◌<◌, ◌≤◌, ◌≡◌, true, List, ◌∷◌, [], ◌++◌, ap, ◌∙◌, arith}
 use Rattle.std.proofs.lemmas.Bool.{le-ltb, ltb-false}
-use Rattle.paxos_block.specs.Votes.{others_top_of}
+use Rattle.paxos_block.specs.layouts.Votes.{others_top_of}
 use Rattle.paxos_block.proofs.VoteLemmas.{greatest_is_greatest}
 use Rattle.attempt.specs.Calls.{Two}
 use Rattle.attempt.specs.Answers.{Answered, on, row_in}
@@ -33,10 +33,10 @@ module _ (s : Setup) (heard : List Answered) (value : List ℕ) (history : IsHis
       let part = left_is s Two (visited s Two (on heard)) (on heard) d left in
       let all = left_over s Two (on heard) d is.over.visits below left in
       let row = some_of (row_in Two (on heard d)) ((reached.disk d).read Two part.good all) in
-      let most = greatest_is_greatest s.disks (λ e. others_top s.host (row_in Two (on heard e))) d below in
-      let here : others_top s.host (row_in Two (on heard d)) ≡ others_top_of s.host row.0 = ap (others_top s.host) row.1 in
+      let most = greatest_is_greatest s.disks (λ e. others_top s.version s.host (row_in Two (on heard e))) d below in
+      let here : others_top s.version s.host (row_in Two (on heard d)) ≡ others_top_of s.version s.host row.0 = ap (others_top s.version s.host) row.1 in
       let under : others_mbal s Two (on heard) ≤ ballot s (on heard) = ltb-false (ballot s (on heard)) (others_mbal s Two (on heard)) is.over.not_outrun in
-      ap (accepts_in s.host (ballot s (on heard))) row.1 ∙ ap not (le-ltb (ballot s (on heard)) (others_top_of s.host row.0) (omega arith))
+      ap (accepts_in s.version s.host (ballot s (on heard))) row.1 ∙ ap not (le-ltb (ballot s (on heard)) (others_top_of s.version s.host row.0) (omega arith))
 
   chooses : Chooses s (on heard) value
   chooses =

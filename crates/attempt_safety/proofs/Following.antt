@@ -4,9 +4,8 @@ use Rattle.std.specs.List.{All}
 use Rattle.std.proofs.Common.{ℕ, ◌+◌, ◌<◌, ◌≤◌, ◌≡◌, inl, inr, true, false, Some, List, [], ◌∷◌, ◌++◌, length, length-append, sym, subst, ap, ◌∙◌, arith}
 use Rattle.std.proofs.lemmas.Bool.{cases_eq, both_ways, lt-ltb, ltb-true}
 use Rattle.std.proofs.lemmas.List.Elements.{All-nil, All-append}
-use Rattle.torn_block.specs.declared.layout.TheConstants.{HOSTS}
 use Rattle.paxos_block.specs.Row.{SeenBlock}
-use Rattle.paxos_block.specs.Votes.{others_top_of}
+use Rattle.paxos_block.specs.layouts.Votes.{others_top_of}
 use Rattle.paxos_block.proofs.VoteLemmas.{greatest_is_greatest}
 use Rattle.attempt.specs.Calls.{Phase, Opening, One, Two, Kind, start, goal}
 use Rattle.attempt.specs.Answers.{Heard, Told, Answered, Answers, on, is_bad, told, row_in, more}
@@ -33,6 +32,7 @@ use Rattle.agreement.specs.Chosen.{IsProposing, IsCommitted}
 use Rattle.agreement.proofs.Steps.{state_by-append, may_both}
 use Rattle.agreement.proofs.Invariant.{Holds}
 use Rattle.agreement.proofs.Runs.{holds_reached}
+use Rattle.attempt_safety.specs.Cluster.{IsOfCluster}
 use Rattle.attempt_safety.specs.Machine.{Machine, stage_at}
 use Rattle.attempt_safety.specs.Follows.{StandsIn, Agrees, Follows}
 use Rattle.attempt_safety.specs.Registers.{IsNext, RegistersAllow}
@@ -59,7 +59,7 @@ pub record Comes (s : Setup) (f : Answers) (d : ℕ) (x : Heard) (g : Answers) (
   pub allowed : AllAllowed s.disks m events
   pub goes : Goes s f d x g m (run m events)
 
-module _ (s : Setup) (f : Answers) (d : ℕ) (x : Heard) (m : Machine) (p : Phase) (due : IsDueAt s p d f) (reached : IsReached s f) (stands : StandsIn s p f m) (reached_then : IsReached s (more f d x)) (host_below : s.host < HOSTS) where
+module _ (s : Setup) (f : Answers) (d : ℕ) (x : Heard) (m : Machine) (p : Phase) (due : IsDueAt s p d f) (reached : IsReached s f) (stands : StandsIn s p f m) (reached_then : IsReached s (more f d x)) (of_cluster : IsOfCluster s) where
   abbrev g : Answers
   g = more f d x
 
@@ -75,7 +75,7 @@ module _ (s : Setup) (f : Answers) (d : ℕ) (x : Heard) (m : Machine) (p : Phas
   -- the answer's event, and the turn
   by_moves : Moves s p f d x m → Comes s f d x g m
   by_moves one =
-      let two : Turns s g (run m one.events) (status s g) = turn s g reached_then.disk host_below (run m one.events) p (status s g) one.stands behind_then come_then (status_tells s g) in
+      let two : Turns s g (run m one.events) (status s g) = turn s g reached_then.disk of_cluster (run m one.events) p (status s g) one.stands behind_then come_then (status_tells s g) in
       record {
         events = one.events ++ two.events;
         few = omega (arith, length-append one.events two.events, one.few, two.few);
@@ -91,7 +91,7 @@ module _ (s : Setup) (f : Answers) (d : ℕ) (x : Heard) (m : Machine) (p : Phas
       }
 
   -- another host is faster: nothing happens, and the attempt has ended
-  module _ (row : List SeenBlock) (is : x ≡ Told (Some row)) (last : length (f d) + 1 ≡ goal p) (later : start One ≤ length (f d)) (above : nat_lt (ballot s f) (others_top_of s.host row) ≡ true) where
+  module _ (row : List SeenBlock) (is : x ≡ Told (Some row)) (last : length (f d) + 1 ≡ goal p) (later : start One ≤ length (f d)) (above : nat_lt (ballot s f) (others_top_of s.version s.host row) ≡ true) where
     row_then : row_in p (g d) ≡ Some row
     row_then = ap (row_in p) (more_here f d x) ∙ row_last p (f d) x last ∙ ap told is
 
@@ -100,9 +100,9 @@ module _ (s : Setup) (f : Answers) (d : ℕ) (x : Heard) (m : Machine) (p : Phas
 
     above_then : nat_lt (ballot s g) (others_mbal s p g) ≡ true
     above_then =
-        let over : ballot s f < others_top_of s.host row = ltb-true (ballot s f) (others_top_of s.host row) above in
-        let most = greatest_is_greatest s.disks (λ e. others_top s.host (row_in p (g e))) d (visit s p d f due).below in
-        let here : others_top s.host (row_in p (g d)) ≡ others_top_of s.host row = ap (others_top s.host) row_then in
+        let over : ballot s f < others_top_of s.version s.host row = ltb-true (ballot s f) (others_top_of s.version s.host row) above in
+        let most = greatest_is_greatest s.disks (λ e. others_top s.version s.host (row_in p (g e))) d (visit s p d f due).below in
+        let here : others_top s.version s.host (row_in p (g d)) ≡ others_top_of s.version s.host row = ap (others_top s.version s.host) row_then in
         let same = ballot_then in
         lt-ltb (ballot s g) (others_mbal s p g) (omega arith)
 
@@ -126,14 +126,14 @@ module _ (s : Setup) (f : Answers) (d : ℕ) (x : Heard) (m : Machine) where
   abbrev then : Answers
   then = more f d x
 
-  faster_commits : (p : Phase) (due : IsDueAt s p d f) (reached : IsReached s f) (stands : StandsIn s p f m) (reached_then : IsReached s then) (host_below : s.host < HOSTS)
-      (row : List SeenBlock) (is : x ≡ Told (Some row)) (last : length (f d) + 1 ≡ goal p) (later : start One ≤ length (f d)) (above : nat_lt (ballot s f) (others_top_of s.host row) ≡ true)
+  faster_commits : (p : Phase) (due : IsDueAt s p d f) (reached : IsReached s f) (stands : StandsIn s p f m) (reached_then : IsReached s then) (of_cluster : IsOfCluster s)
+      (row : List SeenBlock) (is : x ≡ Told (Some row)) (last : length (f d) + 1 ≡ goal p) (later : start One ≤ length (f d)) (above : nat_lt (ballot s f) (others_top_of s.version s.host row) ≡ true)
       → (value : List ℕ) → Chooses s then value → IsCommitted s.disks m s.host (ballot s then) value
-  faster_commits Opening due reached stands reached_then host_below row is last later above value chooses = absurd (omega arith)
-  faster_commits One due reached stands reached_then host_below row is last later above value chooses =
-      absurd (not_yet s then reached_then.disk m (λ e. (let most = behind_then s f d x m One due reached stands reached_then host_below e in omega arith)) value chooses)
-  faster_commits Two due reached stands reached_then host_below row is last later above value chooses =
-      commits_by s then reached_then.disk m (behind_then s f d x m Two due reached stands reached_then host_below)
+  faster_commits Opening due reached stands reached_then of_cluster row is last later above value chooses = absurd (omega arith)
+  faster_commits One due reached stands reached_then of_cluster row is last later above value chooses =
+      absurd (not_yet s then reached_then.disk m (λ e. (let most = behind_then s f d x m One due reached stands reached_then of_cluster e in omega arith)) value chooses)
+  faster_commits Two due reached stands reached_then of_cluster row is last later above value chooses =
+      commits_by s then reached_then.disk m (behind_then s f d x m Two due reached stands reached_then of_cluster)
       (stands.mind ∙ sym (mind_same s then f (rows_kept f d x Opening later) (rows_kept f d x One (omega (arith, last))) Two))
       (λ e l all accepted. elim (cases_eq e d) [
         | inl same ↦ absurd (both_ways (accepts s then d) refused (subst (λ (k : ℕ). accepts s then k ≡ true) same accepted))
@@ -144,30 +144,30 @@ module _ (s : Setup) (f : Answers) (d : ℕ) (x : Heard) (m : Machine) where
       value chooses
     where
       exact : (e : ℕ) → Accepted s then reached_then.disk e → length (then e) ≡ 17
-      exact e all = (let most = behind_then s f d x m Two due reached stands reached_then host_below e in omega (arith, all.all))
+      exact e all = (let most = behind_then s f d x m Two due reached stands reached_then of_cluster e in omega (arith, all.all))
 
       refused : accepts s then d ≡ false
       refused =
-          ap (accepts_in s.host (ballot s then)) (row_then s f d x m Two due reached stands reached_then host_below row is last later above)
-          ∙ ap (λ (b : ℕ). not (nat_lt b (others_top_of s.host row))) (ballot_then s f d x m Two due reached stands reached_then host_below row is last later above)
+          ap (accepts_in s.version s.host (ballot s then)) (row_then s f d x m Two due reached stands reached_then of_cluster row is last later above)
+          ∙ ap (λ (b : ℕ). not (nat_lt b (others_top_of s.version s.host row))) (ballot_then s f d x m Two due reached stands reached_then of_cluster row is last later above)
           ∙ ap not above
 
   -- as is what was proposed before it
-  faster_proposes : (p : Phase) (due : IsDueAt s p d f) (reached : IsReached s f) (stands : StandsIn s p f m) (reached_then : IsReached s then) (host_below : s.host < HOSTS)
-      (row : List SeenBlock) (is : x ≡ Told (Some row)) (last : length (f d) + 1 ≡ goal p) (later : start One ≤ length (f d)) (above : nat_lt (ballot s f) (others_top_of s.host row) ≡ true)
+  faster_proposes : (p : Phase) (due : IsDueAt s p d f) (reached : IsReached s f) (stands : StandsIn s p f m) (reached_then : IsReached s then) (of_cluster : IsOfCluster s)
+      (row : List SeenBlock) (is : x ≡ Told (Some row)) (last : length (f d) + 1 ≡ goal p) (later : start One ≤ length (f d)) (above : nat_lt (ballot s f) (others_top_of s.version s.host row) ≡ true)
       → (value : List ℕ) → Proposes s then value → IsProposing m s.host (ballot s then) value
-  faster_proposes Opening due reached stands reached_then host_below row is last later above value p = absurd (omega arith)
-  faster_proposes One due reached stands reached_then host_below row is last later above value p =
-      absurd (both_ways (nat_lt (ballot s then) (others_mbal s One then)) p.has.not_outrun (above_then s f d x m One due reached stands reached_then host_below row is last later above))
-  faster_proposes Two due reached stands reached_then host_below row is last later above value p =
+  faster_proposes Opening due reached stands reached_then of_cluster row is last later above value p = absurd (omega arith)
+  faster_proposes One due reached stands reached_then of_cluster row is last later above value p =
+      absurd (both_ways (nat_lt (ballot s then) (others_mbal s One then)) p.has.not_outrun (above_then s f d x m One due reached stands reached_then of_cluster row is last later above))
+  faster_proposes Two due reached stands reached_then of_cluster row is last later above value p =
       stands.mind ∙ sym (mind_same s then f (rows_kept f d x Opening later) (rows_kept f d x One (omega (arith, last))) Two) ∙ knows_two s then value p.has.is
 
-module _ (s : Setup) (f : Answers) (d : ℕ) (x : Heard) (m : Machine) (p : Phase) (due : IsDueAt s p d f) (reached : IsReached s f) (stands : StandsIn s p f m) (reached_then : IsReached s (more f d x)) (host_below : s.host < HOSTS) where
+module _ (s : Setup) (f : Answers) (d : ℕ) (x : Heard) (m : Machine) (p : Phase) (due : IsDueAt s p d f) (reached : IsReached s f) (stands : StandsIn s p f m) (reached_then : IsReached s (more f d x)) (of_cluster : IsOfCluster s) where
   by_faster : IsFaster s p f d x m → Comes s f d x (more f d x) m
   by_faster k =
-      let enough = enough_before s p (more f d x) (enough_then s f d x m p due reached stands reached_then host_below k.row k.is k.last k.later k.above) in
-      let above = above_then s f d x m p due reached stands reached_then host_below k.row k.is k.last k.later k.above in
-      let ended = outrun_is s (more f d x) p (come_then s f d x m p due reached stands reached_then host_below) enough above (omega (arith, k.last, k.later)) in
+      let enough = enough_before s p (more f d x) (enough_then s f d x m p due reached stands reached_then of_cluster k.row k.is k.last k.later k.above) in
+      let above = above_then s f d x m p due reached stands reached_then of_cluster k.row k.is k.last k.later k.above in
+      let ended = outrun_is s (more f d x) p (come_then s f d x m p due reached stands reached_then of_cluster) enough above (omega (arith, k.last, k.later)) in
       record {
         events = [];
         few = omega arith;
@@ -175,8 +175,8 @@ module _ (s : Setup) (f : Answers) (d : ℕ) (x : Heard) (m : Machine) (p : Phas
         allowed = tt;
         goes = record {
           agrees = subst (Agrees s (more f d x) m) (sym ended) tt;
-          proposing = faster_proposes s f d x m p due reached stands reached_then host_below k.row k.is k.last k.later k.above;
-          commits = faster_commits s f d x m p due reached stands reached_then host_below k.row k.is k.last k.later k.above;
+          proposing = faster_proposes s f d x m p due reached stands reached_then of_cluster k.row k.is k.last k.later k.above;
+          commits = faster_commits s f d x m p due reached stands reached_then of_cluster k.row k.is k.last k.later k.above;
           others = leaves_same s.host d m;
           block = k.block;
         };
@@ -184,8 +184,8 @@ module _ (s : Setup) (f : Answers) (d : ℕ) (x : Heard) (m : Machine) (p : Phas
 
   comes : (holds : Holds s.disks m) → IsAnswer s f d x → RegistersAllow s.host d (f d) x m → Comes s f d x (more f d x) m
   comes holds answer allow =
-      elim (answered s f d m holds host_below reached p due stands x answer allow) [
-        | inl one ↦ by_moves s f d x m p due reached stands reached_then host_below one
+      elim (answered s f d m holds of_cluster reached p due stands x answer allow) [
+        | inl one ↦ by_moves s f d x m p due reached stands reached_then of_cluster one
         | inr faster ↦ by_faster faster
       ]
 
@@ -213,9 +213,9 @@ module _ (s : Setup) (early : List (Event (List ℕ))) (heard : List Answered) (
         };
       }
 
-  pub leads : s.host < HOSTS → IsRun s.disks early → Follows s heard (state_after early) → IsAnswerTo (next_call s (on heard)) x
+  pub leads : IsOfCluster s → IsRun s.disks early → Follows s heard (state_after early) → IsAnswerTo (next_call s (on heard)) x
       → RegistersAllow s.host x.disk (on heard x.disk) x.heard (state_after early) → Leads s early heard x
-  leads host_below is_run follows answers allow =
+  leads of_cluster is_run follows answers allow =
       let answer = answer_is s (on heard) x answers in
       let history = history_more (next_call s) heard x follows.history answers in
       let reached_then = subst (IsReached s) (on_more heard x) (history_reached s new history) in
@@ -223,4 +223,4 @@ module _ (s : Setup) (early : List (Event (List ℕ))) (heard : List Answered) (
       leads_by is_run history
       (subst (λ (g : Answers). Comes s (on heard) x.disk x.heard g (state_after early)) (sym (on_more heard x))
       (comes s (on heard) x.disk x.heard (state_after early) answer.phase (due_is s (on heard) answer.phase x.disk answer.due)
-      (history_reached s heard follows.history) stands reached_then host_below (holds_reached s.disks early is_run) answer allow))
+      (history_reached s heard follows.history) stands reached_then of_cluster (holds_reached s.disks early is_run) answer allow))

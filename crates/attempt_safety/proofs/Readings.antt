@@ -3,9 +3,10 @@ use Rattle.std.specs.Prelude.{nat_lt, max, if◌then◌else◌}
 use Rattle.std.proofs.Common.{ℕ, zero, suc, ◌<◌, ◌≤◌, ◌≡◌, ◌≢◌, ◌==◌, inl, inr, Bool, true, false, None, Some, List, refl, sym, subst, ap, ◌∙◌, arith}
 use Rattle.std.proofs.lemmas.Bool.{cases_lt, ltb-true, ltb-false}
 use Rattle.torn_block.specs.declared.layout.TheConstants.{HOSTS}
-use Rattle.paxos_block.specs.declared.block.PBlock.{PBlock}
+use Rattle.paxos_block.specs.Saying.{Said as PBlock}
 use Rattle.paxos_block.specs.Row.{SeenBlock}
-use Rattle.paxos_block.specs.Votes.{says_in, top_of, others_top_of, later_of, latest_below, latest_in}
+use Rattle.torn_block.specs.Layout.{Version, cluster_version, hosts_in}
+use Rattle.paxos_block.specs.layouts.Votes.{says_in, top_of, others_top_of, later_of, latest_below, latest_in}
 use Rattle.paxos_block.proofs.VoteLemmas.{greatest_is_greatest}
 use Rattle.attempt.specs.Calls.{Opening, One}
 use Rattle.attempt.specs.Answers.{Told, Answers, more}
@@ -88,14 +89,15 @@ module _ (host : ℕ) (row : List SeenBlock) (best : PBlock) where
       (λ off. next n (latest_below host row n best) off before (later_is (latest_below host row n best) (says_in row n)))
 
   -- of a vote and those of the other hosts in a row, the latest
-  pub latest_is : IsLastVote (IsOthers host (blocks_said row)) (vote_said best) (vote_said (latest_in host row best))
-  latest_is = latest_is_below HOSTS
+  pub latest_is : (v : Version) → v ≡ cluster_version → IsLastVote (IsOthers host (blocks_said row)) (vote_said best) (vote_said (latest_in v host row best))
+  latest_is v is = subst (λ (w : Version). IsLastVote (IsOthers host (blocks_said row)) (vote_said best) (vote_said (latest_in w host row best))) (sym is) (latest_is_below HOSTS)
 
 -- nobody else in a row has a greater mbal than the greatest of the others
-pub others_below : (host : ℕ) (row : List SeenBlock) (g : ℕ) → g < HOSTS → g ≢ host → (says_in row g).mbal ≤ others_top_of host row
-others_below host row g l off =
-    let least = greatest_is_greatest HOSTS (λ g. if g == host then 0 else (says_in row g).mbal) g l in
-    by_eq (λ t. (if t then 0 else (says_in row g).mbal) ≤ others_top_of host row → (says_in row g).mbal ≤ others_top_of host row) g host (λ same. absurd (off same)) (λ other. λ le. le) least
+pub others_below : (v : Version) → v ≡ cluster_version → (host : ℕ) (row : List SeenBlock) (g : ℕ) → g < HOSTS → g ≢ host → (says_in row g).mbal ≤ others_top_of v host row
+others_below v is host row g low off =
+    let l : g < hosts_in v = subst (λ (w : Version). g < hosts_in w) (sym is) low in
+    let least = greatest_is_greatest (hosts_in v) (λ g. if g == host then 0 else (says_in row g).mbal) g l in
+    by_eq (λ t. (if t then 0 else (says_in row g).mbal) ≤ others_top_of v host row → (says_in row g).mbal ≤ others_top_of v host row) g host (λ same. absurd (off same)) (λ other. λ le. le) least
 
 -- ONE ROW MORE
 
@@ -104,17 +106,17 @@ module _ (s : Setup) (f : Answers) (d : ℕ) (row : List SeenBlock) where
   new = more f d (Told (Some row))
 
   -- the greatest mbal, whatever the floor
-  top_takes : IsLast s Opening d f → top s new ≡ max (top s f) (top_of row)
+  top_takes : IsLast s Opening d f → top s new ≡ max (top s f) (top_of s.version row)
   top_takes is =
       let low : Setup = record s { floor = 0 } in
       let takes = highest_takes low f d row (record { below = is.below; last = is.last; behind = is.behind }) in
       omega (arith, takes)
 
   -- the opening's row, in which the own block is the confirmed one
-  pub can_see : (c : Cell (List ℕ)) → s.host < HOSTS → IsLast s Opening d f → c.writing ≡ None → blocks_said row s.host ≡ c.confirmed → CanSee c (opened s f) (opened s new)
+  pub can_see : (c : Cell (List ℕ)) → s.host < hosts_in s.version → IsLast s Opening d f → c.writing ≡ None → blocks_said row s.host ≡ c.confirmed → CanSee c (opened s f) (opened s new)
   can_see c below is rests read =
       let takes = top_takes is in
-      let own_top : (says_in row s.host).mbal ≤ top_of row = greatest_is_greatest HOSTS (λ g. (says_in row g).mbal) s.host below in
+      let own_top : (says_in row s.host).mbal ≤ top_of s.version row = greatest_is_greatest (hosts_in s.version) (λ g. (says_in row g).mbal) s.host below in
       let mbal : (says_in row s.host).mbal ≡ c.confirmed.mbal = ap (λ (x : Block (List ℕ)). x.mbal) read in
       let later : IsLastVote (λ x. x ≡ blocks_said row s.host) (vote_said (own s f)) (vote_said (later_of (own s f) (says_in row s.host))) = later_is (own s f) (says_in row s.host) in
       let own_is : IsLastVote (λ x. x ≡ blocks_said row s.host) (vote_said (own s f)) (vote_said (own s new)) = subst (λ (v : PBlock). IsLastVote (λ x. x ≡ blocks_said row s.host) (vote_said (own s f)) (vote_said v)) (sym (own_takes s f d row is)) later in
@@ -126,5 +128,5 @@ module _ (s : Setup) (f : Answers) (d : ℕ) (row : List SeenBlock) where
       }
 
   -- the row of phase 1
-  pub best_is : IsLast s One d f → IsLastVote (IsOthers s.host (blocks_said row)) (vote_said (best s f)) (vote_said (best s new))
-  best_is is = subst (λ (v : PBlock). IsLastVote (IsOthers s.host (blocks_said row)) (vote_said (best s f)) (vote_said v)) (sym (best_takes s f d row is)) (latest_is s.host row (best s f))
+  pub best_is : s.version ≡ cluster_version → IsLast s One d f → IsLastVote (IsOthers s.host (blocks_said row)) (vote_said (best s f)) (vote_said (best s new))
+  best_is of_cluster is = subst (λ (v : PBlock). IsLastVote (IsOthers s.host (blocks_said row)) (vote_said (best s f)) (vote_said v)) (sym (best_takes s f d row is)) (latest_is s.host row (best s f) s.version of_cluster)

@@ -1,7 +1,7 @@
 -- The machine's host and the attempt, with one answer more.
 use Rattle.std.proofs.Common.{not, ℕ, ◌+◌, ◌≤◌, ◌≡◌, ◌≢◌, true, false, None, List, [], ◌∷◌, ◌++◌, length, refl, sym, ap, ap₂, ◌∙◌}
 use Rattle.std.proofs.lemmas.Bool.{and_parts, not-true}
-use Rattle.paxos_block.specs.declared.block.PBlock.{PBlock}
+use Rattle.paxos_block.specs.Saying.{Said as PBlock}
 use Rattle.paxos_block.proofs.VoteLemmas.{greatest_same}
 use Rattle.attempt.specs.Calls.{Phase, Opening, One, Two, start}
 use Rattle.attempt.specs.Answers.{Heard, Answers, is_bad, all_good, told, row_in, more}
@@ -20,7 +20,7 @@ use Rattle.attempt_safety.specs.Follows.{StandsIn}
 
 module _ (s : Setup) (f g : Answers) (opening : AreSameRows Opening f g) where
   pub top_same : top s f ≡ top s g
-  top_same = greatest_same s.disks (λ d. top_in (row_in Opening (f d))) (λ d. top_in (row_in Opening (g d))) (λ e l. ap top_in (opening e))
+  top_same = greatest_same s.disks (λ d. top_in s.version (row_in Opening (f d))) (λ d. top_in s.version (row_in Opening (g d))) (λ e l. ap (top_in s.version) (opening e))
 
   pub mind_same : AreSameRows One f g → (p : Phase) → mind_in s p f ≡ mind_in s p g
   mind_same one Opening = ap₂ (λ (n : ℕ) (own : PBlock). OpeningMind (record { top = n; own = vote_said own })) top_same (own_same s f g opening s.disks)

@@ -1,9 +1,9 @@
 -- What follows an answer: the attempt goes on, comes to its next phase, or ends; and so does the machine.
 use Rattle.std.specs.List.{All}
-use Rattle.std.proofs.Common.{ℕ, ◌<◌, ◌≤◌, ◌≡◌, ◌≢◌, inl, inr, true, Option, Some, None, List, [], ◌∷◌, length, refl, sym, subst, ap, ◌∙◌, arith}
+use Rattle.std.proofs.Common.{ℕ, ◌-◌, ◌%◌, ◌<◌, ◌≤◌, ◌≡◌, ◌≢◌, inl, inr, true, Option, Some, None, List, [], ◌∷◌, length, refl, sym, subst, ap, ◌∙◌, arith}
 use Rattle.std.proofs.lemmas.Bool.{eq-eqb}
 use Rattle.std.proofs.lemmas.List.Elements.{All-nil, All-cons}
-use Rattle.torn_block.specs.declared.layout.TheConstants.{HOSTS}
+use Rattle.torn_block.specs.Layout.{Version, hosts_in}
 use Rattle.paxos_block.proofs.VoteLemmas.{above, owned}
 use Rattle.attempt.specs.Calls.{Phase, Opening, One, Two, start, goal}
 use Rattle.attempt.specs.Answers.{Answers}
@@ -21,12 +21,13 @@ use Rattle.attempt.proofs.Statuses.{IsDueAt, IsOver, HasNone, HasChosen, Tells, 
 use Rattle.attempt.proofs.Preparing.{in_phase_two, one_is_over, proposes_or_not}
 use Rattle.attempt.proofs.OneDisk.{IsDisk}
 use Rattle.agreement.specs.Majority.{IsMajority}
-use Rattle.agreement.specs.State.{Cell, Mind, put, seen, read_one, read_two, first_asking}
+use Rattle.agreement.specs.State.{Cell, Mind, owner_of, put, seen, read_one, read_two, first_asking}
 use Rattle.agreement.specs.State.Mind.{One as OneMind, Two as TwoMind}
 use Rattle.agreement.specs.Event.{Event, is_at, MayPropose, AllAllowed, after, run}
 use Rattle.agreement.specs.Event.Event.{Takes, Proposes as MakesProposal}
 use Rattle.agreement.specs.Chosen.{IsProposing, IsCommitted}
 use Rattle.agreement.proofs.Puts.{put_same, put_other, all_put}
+use Rattle.attempt_safety.specs.Cluster.{IsOfCluster}
 use Rattle.attempt_safety.specs.Machine.{Machine, stage_at, top, opened, asking, mind_in}
 use Rattle.attempt_safety.specs.Follows.{StandsIn, Agrees}
 use Rattle.attempt_safety.specs.Leads.{IsOfAttempt}
@@ -102,7 +103,11 @@ NoneIn Two s g = Unit {0}
 pub knows_two : (s : Setup) (g : Answers) (value : List ℕ) → proposal s g ≡ Some value → mind_in s Two g ≡ TwoMind (record { ballot = ballot s g; value = value })
 knows_two s g value is = rw is refl
 
-module _ (s : Setup) (g : Answers) (disk : (e : ℕ) → IsDisk (g e)) (host_below : s.host < HOSTS) (m : Machine) where
+module _ (s : Setup) (g : Answers) (disk : (e : ℕ) → IsDisk (g e)) (of_cluster : IsOfCluster s) (m : Machine) where
+  -- the ballot is the host's
+  owner : owner_of (ballot s g) ≡ s.host
+  owner = ap (λ (v : Version). (ballot s g - 1) % hosts_in v) (sym of_cluster.version) ∙ owned s.version s.host (highest s g) of_cluster.is_host
+
   -- in the opening nothing is proposed
   none_opening : StandsIn s Opening g m → ((e : ℕ) → length (g e) ≤ goal Opening) → (value : List ℕ) → ¬ Proposes s g value
   none_opening stands behind value p = none_over s g m Opening stands behind One (omega arith) (one_is_over s g value p)
@@ -127,7 +132,7 @@ module _ (s : Setup) (g : Answers) (disk : (e : ℕ) → IsDisk (g e)) (host_bel
       let e : Event (List ℕ) = Takes s.host (opened s g) (ballot s g) in
       let none : best s g ≡ own s g = best_none s g s.disks (λ e l. row_none One (g e) (let most = behind e in omega arith)) in
       let knows : OneMind (first_asking (opened s g) (ballot s g)) ≡ mind_in s One g = rw none refl in
-      let over : highest s g < ballot s g = above s.host (highest s g) in
+      let over : highest s g < ballot s g = above s.version s.host (highest s g) in
       let less : top s g < ballot s g = omega arith in
       let stands_one : StandsIn s One g (after m e) =
       record {
@@ -139,7 +144,7 @@ module _ (s : Setup) (g : Answers) (disk : (e : ℕ) → IsDisk (g e)) (host_bel
         events = e ∷ [];
         few = omega arith;
         own = All-cons (IsOfAttempt s g) e [] (record { host = refl; input = λ value puts. absurd puts; proposes = λ value puts. absurd puts }) (All-nil (IsOfAttempt s g));
-        allowed = ((stands.mind, owned s.host (highest s g) host_below, less, majority_at s g m Opening stands behind seen refl come.over enough), tt);
+        allowed = ((stands.mind, owner, less, majority_at s g m Opening stands behind seen refl come.over enough), tt);
         agrees = agrees (after m e) stands_one;
         proposing = λ value p. absurd (none_opening stands behind value p);
         commits = λ value. early Opening (omega arith) behind value (after m e);

@@ -1,3 +1,4 @@
+pub mod Cluster
 pub mod Follows
 pub mod Leads
 pub mod Machine

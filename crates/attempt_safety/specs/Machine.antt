@@ -1,8 +1,8 @@
 -- An attempt as agreement's machine has it: what blocks say, how far it has come, what its host knows and writes.
 use Rattle.std.specs.Prelude.{ℕ, List, [], ◌∷◌, slice_index_or}
-use Rattle.paxos_block.specs.declared.block.PBlock.{PBlock}
+use Rattle.paxos_block.specs.Saying.{Said as PBlock}
 use Rattle.paxos_block.specs.Row.{SeenBlock}
-use Rattle.paxos_block.specs.Votes.{says_in, greatest}
+use Rattle.paxos_block.specs.layouts.Votes.{says_in, greatest}
 use Rattle.attempt.specs.Calls.{Phase, Opening, One, Two}
 use Rattle.attempt.specs.Answers.{Answers, row_in}
 use Rattle.attempt.specs.Setup.{Setup}
@@ -47,7 +47,7 @@ stage_at answers = slice_index_or stages answers away
 
 -- the greatest mbal in the opening's rows
 abbrev pub top : Setup → Answers → ℕ
-top s f = greatest s.disks (λ d. top_in (row_in Opening (f d)))
+top s f = greatest s.disks (λ d. top_in s.version (row_in Opening (f d)))
 
 -- in the opening: that, and the own latest vote
 abbrev pub opened : Setup → Answers → Opened (List ℕ)

@@ -1,6 +1,5 @@
 // What an attempt does is what agreement allows.
 ghost use Rattle.std.specs.Prelude.{◌≡◌, ◌≢◌, ◌∷◌, ◌++◌, ◌<◌, ℕ, List, [], length};
-ghost use Rattle.torn_block.specs.declared.layout.TheConstants.{HOSTS};
 ghost use Rattle.torn_block.specs.declared.write_steps.WriteCall.TheVariants.{CloseGate};
 ghost use Rattle.attempt.specs.Calls.{Phase, Putting};
 ghost use Rattle.attempt.specs.Answers.{Answered, on};
@@ -18,6 +17,7 @@ ghost use Rattle.agreement.specs.Chosen.{IsProposed, IsChosenBy};
 ghost use Rattle.agreement.specs.Claims.{NoneChosen};
 ghost use Rattle.agreement.specs.Log.{Move, IsHistory as IsSlotsHistory};
 ghost use Rattle.agreement.specs.Log.{slots_after, events_of_slot};
+ghost use Rattle.attempt_safety.specs.Cluster.{IsOfCluster};
 ghost use Rattle.attempt_safety.specs.Machine.{Machine, write_in};
 ghost use Rattle.attempt_safety.specs.Follows.{Follows, IsSameHost};
 ghost use Rattle.attempt_safety.specs.Registers.{IsNext, RegistersAllow};
@@ -36,7 +36,7 @@ pub fn attempt_begins()
 /// machine, each of them allowed, behind which the machine follows the attempt with that answer.
 pub fn answers_lead()
     ensures { (s : Setup) (early : List (Event (List ℕ))) (heard : List Answered) (x : Answered) →
-        s.host < HOSTS → IsRun s.disks early → Follows s heard (state_after early) →
+        IsOfCluster s → IsRun s.disks early → Follows s heard (state_after early) →
         IsAnswerTo (next_call s (on heard)) x →
         RegistersAllow s.host x.disk (on heard x.disk) x.heard (state_after early) →
         Leads s early heard x }

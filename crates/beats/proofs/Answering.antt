@@ -9,11 +9,13 @@ use Rattle.torn_block.specs.declared.layout.TheConstants.{LAST_SEQUENCE}
 use Rattle.torn_block.specs.declared.block.Block128.{Block128}
 use Rattle.torn_block.specs.declared.write_steps.WriteCall.{WriteCall}
 use Rattle.torn_block.specs.declared.write_steps.WriteCall.TheVariants.{CloseGate, SyncClosed, PutBody, SyncBody, OpenGate, SyncOpened}
-use Rattle.torn_block.specs.Block.{next_sequence_at}
+use Rattle.torn_block.specs.Block.{next_number, number_in, value_of}
 use Rattle.torn_block.specs.Damage.{block_of}
-use Rattle.torn_block.specs.Plan.{Plan, IsReading, told_value, plan_by, need_at, next_after, device_call}
+use Rattle.torn_block.specs.Plan.{Plan, IsReading, told_number, plan_by, need_at, next_after, device_call}
+use Rattle.torn_block.specs.Layout.{cluster_version}
 use Rattle.torn_block.proofs.PlanLaws.{plan_calls}
 use Rattle.torn_block.specs.Stage.{Write128, next_call as call_behind, call_of}
+use Rattle.paxos_block.specs.Row.{number_or_zero}
 use Rattle.paxos_block.specs.Places.{place_of, BeatOf}
 use Rattle.phases.specs.Steps.{made, write_due}
 use Rattle.heartbeat.specs.Beat.{beat_body, counter_of, counter_at, counters_in}
@@ -30,16 +32,20 @@ use Rattle.beats.proofs.Beating.{IsKept, stays, passes, ahead_still, read_same, 
 use Rattle.attempt.proofs.More.{by_disk}
 
 -- a sequence number is spent where there is no next one
-pub spent_is : (o : Option (ℕ × List ℕ)) → (next_sequence_at o ≤ 2 ^ 62 → ⊥) → nat_le LAST_SEQUENCE (counter_at o) ≡ true
+pub spent_is : (o : Option ℕ) → (next_number o ≤ 2 ^ 62 → ⊥) → nat_le LAST_SEQUENCE (number_or_zero o) ≡ true
 spent_is None none = absurd (none (omega arith))
-spent_is (Some value) none = elim (cases_lt value.0 LAST_SEQUENCE) [
+spent_is (Some number) none = elim (cases_lt number LAST_SEQUENCE) [
   | inl less ↦ absurd (none (omega arith))
-  | inr most ↦ le-leb LAST_SEQUENCE value.0 most
+  | inr most ↦ le-leb LAST_SEQUENCE number most
 ]
 
-pub unspent_is : (o : Option (ℕ × List ℕ)) → next_sequence_at o ≤ 2 ^ 62 → counter_at o < LAST_SEQUENCE
+pub unspent_is : (o : Option ℕ) → next_number o ≤ 2 ^ 62 → number_or_zero o < LAST_SEQUENCE
 unspent_is None some = omega arith
-unspent_is (Some value) some = omega arith
+unspent_is (Some number) some = omega arith
+
+counted : (value : Option (ℕ × List ℕ)) → number_or_zero (number_in value) ≡ counter_at value
+counted None = refl
+counted (Some value) = refl
 
 not_spent : (number : ℕ) → number < LAST_SEQUENCE → nat_le LAST_SEQUENCE number ≡ false
 not_spent number less = false_from_ne_true (nat_le LAST_SEQUENCE number) (λ t. absurd (let most = leb-true LAST_SEQUENCE number t in omega arith))
@@ -105,24 +111,24 @@ module _ (s : Setup) (f : Answers) (n : Notes) (is : Follows s f n) (going : n.e
         e refl
 
     module _ (block : Block128) (reads : IsReading (block_of n.host area) block) where
-      counts : counter_at (told_value block) ≡ counter_of (block_of n.host area)
-      counts = ap counter_at reads.value
+      counts : number_or_zero (told_number block) ≡ counter_of (block_of n.host area)
+      counts = ap number_or_zero reads.number ∙ counted (value_of (block_of n.host area))
 
       -- a write begins
-      pub writes : (steps : Plan) → steps ≡ plan_by block beat_body → next_sequence_at (told_value block) ≤ 2 ^ 62 → Follows s (more f n.disk told) (record n { readings = read; steps = steps; stage = stage.Writing })
+      pub writes : (steps : Plan) → steps ≡ plan_by block beat_body → next_number (told_number block) ≤ 2 ^ 62 → Follows s (more f n.disk told) (record n { readings = read; steps = steps; stage = stage.Writing })
       writes steps plan some =
           let new : Notes = record n { readings = read; steps = steps; stage = stage.Writing } in
           follows_of (more f n.disk told) new going
           (stays s f n v told new refl refl refl refl readings_then
-          (record { area = area; block = block; call = CloseGate; heard = three_are; read = reads; unspent = subst (λ (k : ℕ). k < LAST_SEQUENCE) counts (unspent_is (told_value block) some); plan = plan }))
+          (record { area = area; block = block; call = CloseGate; heard = three_are; read = reads; unspent = subst (λ (k : ℕ). k < LAST_SEQUENCE) counts (unspent_is (told_number block) some); plan = plan }))
 
       -- none can
-      pub is_spent : (next_sequence_at (told_value block) ≤ 2 ^ 62 → ⊥) → (lost : ℕ) → lost ≡ n.lost + 1 → IsPassed s (more f n.disk told) (record n { readings = read }) (n.disk + 1) lost
+      pub is_spent : (next_number (told_number block) ≤ 2 ^ 62 → ⊥) → (lost : ℕ) → lost ≡ n.lost + 1 → IsPassed s (more f n.disk told) (record n { readings = read }) (n.disk + 1) lost
       is_spent none lost lost_is =
           let new : Notes = record n { readings = read } in
           let own : n.host ≡ s.host = v.passed.is_host in
           let stuck : nat_le LAST_SEQUENCE (counter_of (block_of s.host area)) ≡ true =
-          ap (λ (h : ℕ). nat_le LAST_SEQUENCE (counter_of (block_of h area))) (sym own) ∙ ap (nat_le LAST_SEQUENCE) (sym counts) ∙ spent_is (told_value block) none in
+          ap (λ (h : ℕ). nat_le LAST_SEQUENCE (counter_of (block_of h area))) (sym own) ∙ ap (nat_le LAST_SEQUENCE) (sym counts) ∙ spent_is (told_number block) none in
           let gone : is_left s.host three ≡ false = ap not stuck in
           let left : is_left s.host (f n.disk ++ told ∷ []) ≡ false = ap (is_left s.host) three_are ∙ gone in
           passes s f n v told new refl refl false (not_left_waits s.host (f n.disk ++ told ∷ []) left) left readings_then lost lost_is
@@ -197,7 +203,7 @@ module _ (s : Setup) (f : Answers) (n : Notes) (is : Follows s f n) (going : n.e
     so_far call = Booted n.boot.number ∷ Done ∷ Told (Some area) ∷ replicate (made (Some call)) Done
 
     abbrev own : Write128
-    own = record { place = place_of (BeatOf s.host); block = block_of s.host area; body = beat_body }
+    own = record { version = cluster_version; place = place_of (BeatOf s.host); block = block_of s.host area; body = beat_body }
 
     abbrev due_now : device.Call
     due_now = write_due (place_of (BeatOf s.host)) n.boot.number steps steps.due

@@ -1,7 +1,7 @@
 -- What a beat keeps, and when that is what follows from a list of answers.
 use Rattle.std.specs.Prelude.{◌≡◌, ◌<◌, ◌≤◌, ◌+◌, ◌*◌, ℕ, false, List, [], ◌∷◌, take, replicate, slice_index_or, Option, Some, None}
 use Rattle.disk.specs.Disk as device
-use Rattle.torn_block.specs.declared.layout.TheConstants.{HOSTS, DISKS, ROW_LENGTH, LAST_SEQUENCE}
+use Rattle.torn_block.specs.declared.layout.TheConstants.{HOSTS, DISKS, COPY_LENGTH, ROW_LENGTH, LAST_SEQUENCE}
 use Rattle.torn_block.specs.declared.block.Block128.{Block128}
 use Rattle.torn_block.specs.declared.write_steps.WriteCall.{WriteCall}
 use Rattle.torn_block.specs.Damage.{block_of}
@@ -35,11 +35,11 @@ abbrev pub call_due : Notes → ℕ × device.Call
 call_due n = (n.disk, call_at n.stage n)
 
 -- an answer to it
-abbrev pub answer_of : Notes → code_heard.Heard → Answered
+abbrev pub answer_of : Notes → code_heard.Heard (List ℕ) → Answered
 answer_of n heard = record { disk = n.disk; heard = heard_of heard }
 
 -- an answer of the kind that the call may get
-abbrev pub FitsStage : Stage → code_heard.Heard → Type 0
+abbrev pub FitsStage : Stage → code_heard.Heard (List ℕ) → Type 0
 FitsStage stage (answer.Fault fault) = Unit {0}
 FitsStage stage.Attaching (answer.Booted boot) = Unit {0}
 FitsStage stage.Syncing answer.Done = Unit {0}
@@ -62,6 +62,7 @@ pub record IsSound (n : Notes) : Type 0 where
   pub visits_one : n.disk < n.disks
   pub few : n.disks ≤ DISKS
   pub lost : n.lost ≤ n.disk
+  pub size : n.steps.size ≡ COPY_LENGTH
 
 -- it is of the same host and disks
 pub record IsSameBeat (old new : Notes) : Type 0 where

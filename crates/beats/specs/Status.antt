@@ -4,6 +4,7 @@ use Rattle.std.specs.List.{range_with_len}
 use Rattle.disk.specs.Disk as device
 use Rattle.torn_block.specs.declared.layout.TheConstants.{LAST_SEQUENCE, ROW_LENGTH}
 use Rattle.torn_block.specs.declared.write_steps.WriteCall.{WriteCall}
+use Rattle.torn_block.specs.Layout.{cluster_version}
 use Rattle.torn_block.specs.Stage.{Write128, call_of}
 use Rattle.paxos_block.specs.Places.{place_of, BeatOf, area_place}
 use Rattle.attempt.specs.Calls.{six_calls}
@@ -80,7 +81,7 @@ nine = (Attaching ∷ Syncing ∷ Reading ∷ []) ++ map Putting six_calls
 
 -- the write goes to the own block, as it was read
 abbrev pub write_on : Setup → List Heard → Write128
-write_on s a = record { place = place_of (BeatOf s.host); block = own_block s.host a; body = beat_body }
+write_on s a = record { version = cluster_version; place = place_of (BeatOf s.host); block = own_block s.host a; body = beat_body }
 
 abbrev pub call_by : Setup → List Heard → Kind → device.Call
 call_by s a Attaching = device.Attach

@@ -1,6 +1,6 @@
 // What a beat keeps of what it has heard, and how each answer changes it.
 ghost use Rattle.std.specs.Prelude.{◌≡◌, ◌<◌, ◌≤◌, ◌+◌, ◌-◌, ◌*◌, ℕ, true, false, [], Some, None};
-ghost use Rattle.torn_block.specs.declared.layout.TheConstants.{HOSTS, DISKS, ROW_LENGTH};
+ghost use Rattle.torn_block.specs.declared.layout.TheConstants.{HOSTS, DISKS, COPY_LENGTH, ROW_LENGTH};
 ghost use Rattle.torn_block.specs.Damage.{block_of};
 ghost use Rattle.torn_block.specs.Plan.{IsReading};
 ghost use Rattle.paxos_block.specs.Places.{place_of, BeatOf, area_place};
@@ -19,8 +19,8 @@ use heartbeat::{Reading, decode_area, encode_beat};
 use paxos_block::{AREA_PLACE, beat_place};
 use phases::{DeviceCall, Heard};
 use torn_block::{
-    BLOCK_LENGTH, BODY_LENGTH, Block128, BlockNeed, Body, DISKS, HOSTS, ROW_LENGTH, WriteSteps,
-    block_from,
+    BLOCK_LENGTH, BODY_ROOM, Block128, BlockNeed, Body, ClusterLayout, DISKS, HOSTS, ROW_LENGTH,
+    WriteSteps, read_block,
 };
 
 /// As many as there may be disks.
@@ -105,7 +105,7 @@ impl Notes {
         ensures range { IsWithin (area_place + ROW_LENGTH) result }
     {
         let boot = self.boot;
-        let place = beat_place(self.host);
+        let place = beat_place::<ClusterLayout>(self.host);
         match self.steps.next() {
             Some(BlockNeed::Write { at, bytes }) => DeviceCall::Write {
                 boot,
@@ -197,7 +197,7 @@ impl Notes {
     {
         self.readings[usize::from(self.disk)] = Some(counters);
         let block = own_block(self.host, area);
-        match WriteSteps::new(&block, &encode_beat()) {
+        match WriteSteps::new::<ClusterLayout>(&block, &encode_beat()) {
             Ok(steps) => {
                 self.steps = steps;
                 self.stage = Stage::Writing;
@@ -246,19 +246,15 @@ fn own_block(host: u8, area: &[u8; ROW_LENGTH]) -> Block128
     ensures { IsReading (block_of host area.now) result }
 {
     let place = BLOCK_LENGTH * usize::from(host);
-    block_from(&area[place..place + BLOCK_LENGTH])
+    read_block::<ClusterLayout>(&area[place..place + BLOCK_LENGTH])
 }
 
 // What stands where no write is under way: it is put in its place before it is gone by.
-fn no_steps() -> WriteSteps {
+fn no_steps() -> WriteSteps
+    ensures { result.size ≡ COPY_LENGTH }
+{
     let body = Body {
-        bytes: [0; BODY_LENGTH],
+        bytes: [0; BODY_ROOM],
     };
-    let blank = Block128 {
-        current: None,
-        sequence: 0,
-        body,
-        next_is_open: false,
-    };
-    WriteSteps::new(&blank, &body).unwrap()
+    WriteSteps::new::<ClusterLayout>(&Block128::BLANK, &body).unwrap()
 }

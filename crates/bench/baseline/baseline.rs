@@ -8,9 +8,13 @@ use lock_tables::{Action, Command, Flat, Maps, Mode, Record, Reply, State, Table
 use std::hint::black_box;
 use std::time::Instant;
 
-const BLOCK: usize = 128;
-const COPY: usize = 64;
-const ROW: usize = 8 * BLOCK;
+const HOSTS: usize = 16;
+const COPY: usize = 128;
+const BLOCK: usize = 2 * COPY;
+const ROW: usize = HOSTS * BLOCK;
+const ROWS_AT: usize = 2 * ROW;
+const BODY: usize = COPY - 9;
+const VERSION: u8 = 2;
 const OPEN: u8 = 0xA5;
 
 #[derive(Clone, Copy, Debug)]
@@ -117,7 +121,7 @@ fn current(block: &[u8]) -> Option<usize> {
 }
 
 /// Writes a body over a block as it was read, in six calls.
-fn write_over(disk: &mut Disk, boot: u64, at: usize, block: &[u8], body: &[u8; 55]) -> Result<(), Fault> {
+fn write_over(disk: &mut Disk, boot: u64, at: usize, block: &[u8], body: &[u8; BODY]) -> Result<(), Fault> {
     let (target, sequence) = match current(block) {
         None => (0, 1),
         Some(half) => (1 - half, number(&block[COPY * half + 8..]) + 1),
@@ -139,7 +143,7 @@ fn write_over(disk: &mut Disk, boot: u64, at: usize, block: &[u8], body: &[u8; 5
 
 fn block_write(disk: &mut Disk, count: u32) -> Result<(), Fault> {
     let boot = disk.attach()?;
-    let mut body = [0; 55];
+    let mut body = [0; BODY];
     for write in 0..count {
         body[0] = (write % 251) as u8;
         let mut block = [0; BLOCK];
@@ -149,33 +153,35 @@ fn block_write(disk: &mut Disk, count: u32) -> Result<(), Fault> {
     Ok(())
 }
 
+type Value = [u8; 48];
+
 #[derive(Clone, Copy, Default)]
 struct Says {
     mbal: u64,
     bal: u64,
-    inp: Option<[u8; 32]>,
+    inp: Option<Value>,
 }
 
-fn body_of(says: &Says) -> [u8; 55] {
-    let mut body = [0; 55];
-    body[0] = 1;
+fn body_of(says: &Says) -> [u8; BODY] {
+    let mut body = [0; BODY];
+    body[0] = VERSION;
     body[1] = u8::from(says.inp.is_some());
     body[7..15].copy_from_slice(&says.mbal.to_be_bytes());
     body[15..23].copy_from_slice(&says.bal.to_be_bytes());
-    body[23..].copy_from_slice(&says.inp.unwrap_or([0; 32]));
+    body[23..71].copy_from_slice(&says.inp.unwrap_or([0; 48]));
     body
 }
 
 /// What the current copies of a row say.
-fn decode_row(row: &[u8; ROW]) -> [Says; 8] {
-    let mut cells = [Says::default(); 8];
+fn decode_row(row: &[u8; ROW]) -> [Says; HOSTS] {
+    let mut cells = [Says::default(); HOSTS];
     for (host, block) in row.chunks_exact(BLOCK).enumerate() {
         if let Some(half) = current(block) {
             let copy = &block[COPY * half..COPY * half + COPY];
             cells[host] = Says {
                 mbal: number(&copy[16..]),
                 bal: number(&copy[24..]),
-                inp: (copy[2] == 1).then(|| copy[32..].try_into().unwrap()),
+                inp: (copy[2] == 1).then(|| copy[32..80].try_into().unwrap()),
             };
         }
     }
@@ -193,18 +199,24 @@ struct Cell {
 }
 
 #[derive(Clone, Copy)]
-struct Body([u8; 55]);
+struct Body([u8; BODY]);
 
 impl Default for Body {
     fn default() -> Body {
-        Body([0; 55])
+        Body([0; BODY])
     }
 }
 
 const LAST: u64 = 1 << 62;
 
 fn is_ballot_of(host: usize, ballot: u64) -> bool {
-    (1..=LAST).contains(&ballot) && (ballot - 1) % 8 == host as u64
+    (1..=LAST).contains(&ballot) && (ballot - 1) % HOSTS as u64 == host as u64
+}
+
+/// Host 0's least ballot above one.
+fn first_above(top: u64) -> u64 {
+    let hosts = HOSTS as u64;
+    top.div_ceil(hosts) * hosts + 1
 }
 
 /// Whether an open copy in a host's block is spelled as that host may spell it.
@@ -213,15 +225,15 @@ fn is_sound(host: usize, copy: &[u8]) -> bool {
     (1..=LAST).contains(&number(&copy[8..]))
         && is_ballot_of(host, mbal)
         && match copy[1..8] {
-            [1, 1, 0, 0, 0, 0, 0] => is_ballot_of(host, bal) && bal <= mbal,
-            [1, 0, 0, 0, 0, 0, 0] => bal == 0 && copy[32..] == [0; 32],
+            [VERSION, 1, 0, 0, 0, 0, 0] => is_ballot_of(host, bal) && bal <= mbal && copy[80..] == [0; COPY - 80],
+            [VERSION, 0, 0, 0, 0, 0, 0] => bal == 0 && copy[32..] == [0; COPY - 32],
             _ => false,
         }
 }
 
 /// A row with all tests for damage, and with all that a writer goes by.
-fn decode_whole_row(row: &[u8; ROW]) -> Option<[Cell; 8]> {
-    let mut cells = [Cell::default(); 8];
+fn decode_whole_row(row: &[u8; ROW]) -> Option<[Cell; HOSTS]> {
+    let mut cells = [Cell::default(); HOSTS];
     for (host, block) in row.chunks_exact(BLOCK).enumerate() {
         let (first, second) = block.split_at(COPY);
         let open = [first[0] == OPEN, second[0] == OPEN];
@@ -242,7 +254,7 @@ fn decode_whole_row(row: &[u8; ROW]) -> Option<[Cell; 8]> {
             cell.says = Says {
                 mbal: number(&copy[16..]),
                 bal: number(&copy[24..]),
-                inp: (copy[2] == 1).then(|| copy[32..].try_into().unwrap()),
+                inp: (copy[2] == 1).then(|| copy[32..80].try_into().unwrap()),
             };
         }
     }
@@ -252,11 +264,11 @@ fn decode_whole_row(row: &[u8; ROW]) -> Option<[Cell; 8]> {
 fn written_row() -> Result<[u8; ROW], Fault> {
     let mut disk = Disk::new(ROW);
     let boot = disk.attach()?;
-    for host in 0..8 {
+    for host in 0..HOSTS {
         let ballot = host as u64 + 1;
         for says in [
             Says { mbal: ballot, bal: 0, inp: None },
-            Says { mbal: ballot, bal: ballot, inp: Some([1; 32]) },
+            Says { mbal: ballot, bal: ballot, inp: Some([1; 48]) },
         ] {
             let mut block = [0; BLOCK];
             disk.read(boot, BLOCK * host, &mut block)?;
@@ -268,21 +280,24 @@ fn written_row() -> Result<[u8; ROW], Fault> {
     Ok(row)
 }
 
+/// The last byte of the value in the last copy of a row.
+const LAST_OF_VALUE: usize = ROW - COPY + 79;
+
 fn decode_rows(row: &mut [u8; ROW], count: u32) -> bool {
     (0..count).all(|time| {
         let last = (time % 251) as u8;
-        row[ROW - 1] = last;
+        row[LAST_OF_VALUE] = last;
         let cells = black_box(decode_row(black_box(row)));
-        cells.iter().all(|cell| cell.inp.is_some()) && cells[7].inp.is_some_and(|value| value[31] == last)
+        cells.iter().all(|cell| cell.inp.is_some()) && cells[HOSTS - 1].inp.is_some_and(|value| value[47] == last)
     })
 }
 
 fn decode_whole_rows(row: &mut [u8; ROW], count: u32) -> bool {
     (0..count).all(|time| {
         let last = (time % 251) as u8;
-        row[ROW - 1] = last;
+        row[LAST_OF_VALUE] = last;
         black_box(decode_whole_row(black_box(row))).is_some_and(|cells| {
-            cells.iter().all(|cell| cell.says.inp.is_some()) && cells[7].says.inp.is_some_and(|value| value[31] == last)
+            cells.iter().all(|cell| cell.says.inp.is_some()) && cells[HOSTS - 1].says.inp.is_some_and(|value| value[47] == last)
         })
     })
 }
@@ -396,7 +411,7 @@ struct Host {
 }
 
 impl Host {
-    fn read_row(&mut self, boot: u64, at: usize) -> Result<([u8; ROW], [Says; 8]), Fault> {
+    fn read_row(&mut self, boot: u64, at: usize) -> Result<([u8; ROW], [Says; HOSTS]), Fault> {
         let mut row = [0; ROW];
         self.disk.read(boot, at, &mut row)?;
         self.journal.push(Entry::Called(1));
@@ -411,15 +426,15 @@ impl Host {
     }
 
     /// Whether the command was acknowledged.
-    fn submit(&mut self, command: Command, value: [u8; 32]) -> Result<bool, Fault> {
+    fn submit(&mut self, command: Command, value: Value) -> Result<bool, Fault> {
         self.journal.push(Entry::Submit(command));
-        let at = 2048 + ROW * self.learned.len();
+        let at = ROWS_AT + ROW * self.learned.len();
         let boot = self.disk.attach()?;
         self.disk.sync(boot)?;
         self.journal.extend([Entry::Called(0), Entry::Called(3)]);
         let (row, cells) = self.read_row(boot, at)?;
         let top = cells.iter().map(|cell| cell.mbal).max().unwrap_or(0);
-        let ballot = top / 8 * 8 + if top % 8 < 1 { 1 } else { 9 };
+        let ballot = first_above(top);
         let promise = Says { mbal: ballot, ..cells[0] };
         self.write_own(boot, at, &row, &promise)?;
         let (row, cells) = self.read_row(boot, at)?;
@@ -448,7 +463,7 @@ fn first_path(host: &mut Host, count: u32) -> Result<bool, Fault> {
             Action::Release(at + 1)
         };
         let command = Command { host: 0, client: (place % 32) as u8, request: u64::from(place) + 1, action };
-        let mut value = [0; 32];
+        let mut value = [0; 48];
         value[..4].copy_from_slice(&place.to_be_bytes());
         if !host.submit(command, value)? {
             return Ok(false);
@@ -461,8 +476,6 @@ fn first_path(host: &mut Host, count: u32) -> Result<bool, Fault> {
 
 const DISKS: usize = 7;
 const SLOTS: usize = 4096;
-
-type Value = [u8; 32];
 
 /// What is kept of a disk: its boot number, and the own block as it was read last.
 #[derive(Clone, Copy)]
@@ -478,24 +491,24 @@ struct Attempt<const N: usize> {
 
 impl<const N: usize> Attempt<N> {
     fn new() -> Attempt<N> {
-        Attempt { disks: std::array::from_fn(|_| Disk::new(2048 + ROW * SLOTS)), row: [0; ROW] }
+        Attempt { disks: std::array::from_fn(|_| Disk::new(ROWS_AT + ROW * SLOTS)), row: [0; ROW] }
     }
 
     /// What the row of a disk says. The own block in it is kept.
-    fn read_row(&mut self, disk: usize, at: usize, visit: &mut Visit) -> Result<[Says; 8], Fault> {
+    fn read_row(&mut self, disk: usize, at: usize, visit: &mut Visit) -> Result<[Says; HOSTS], Fault> {
         self.disks[disk].read(visit.boot, at, &mut self.row)?;
         visit.block.copy_from_slice(&self.row[..BLOCK]);
         Ok(decode_row(&self.row))
     }
 
-    fn write_own(&mut self, disk: usize, at: usize, visit: &mut Visit, says: &Says) -> Result<[Says; 8], Fault> {
+    fn write_own(&mut self, disk: usize, at: usize, visit: &mut Visit, says: &Says) -> Result<[Says; HOSTS], Fault> {
         write_over(&mut self.disks[disk], visit.boot, at, &visit.block, &body_of(says))?;
         self.read_row(disk, at, visit)
     }
 
     /// Whether the input was committed.
     fn commit(&mut self, slot: usize, input: Value) -> Result<bool, Fault> {
-        let at = 2048 + ROW * slot;
+        let at = ROWS_AT + ROW * slot;
         let mut visits = [Visit { boot: 0, block: [0; BLOCK] }; N];
         let mut top = 0;
         let mut best = Says::default();
@@ -508,7 +521,7 @@ impl<const N: usize> Attempt<N> {
                 best = cells[0];
             }
         }
-        let ballot = top / 8 * 8 + if top % 8 < 1 { 1 } else { 9 };
+        let ballot = first_above(top);
         let promise = Says { mbal: ballot, ..best };
         for (disk, visit) in visits.iter_mut().enumerate() {
             let cells = self.write_own(disk, at, visit, &promise)?;
@@ -534,7 +547,7 @@ impl<const N: usize> Attempt<N> {
 
 fn attempts(work: &mut Attempt<DISKS>, count: u32) -> Result<bool, Fault> {
     for slot in 0..count {
-        if !work.commit(slot as usize, [7; 32])? {
+        if !work.commit(slot as usize, [7; 48])? {
             return Ok(false);
         }
     }
@@ -550,7 +563,7 @@ struct Copies {
 impl Copies {
     /// Each buffer is filled by one call, as the proved program does it; with ones, since the system puts zeros off.
     fn new() -> Copies {
-        Copies { buffers: std::array::from_fn(|_| vec![black_box(1); 2048 + ROW * SLOTS]), row: [0; ROW] }
+        Copies { buffers: std::array::from_fn(|_| vec![black_box(1); ROWS_AT + ROW * SLOTS]), row: [0; ROW] }
     }
 
     fn read(&mut self, disk: usize, at: usize) {
@@ -565,7 +578,7 @@ impl Copies {
 
     /// Copies what an attempt on this blank slot reads and writes, in its order.
     fn copy(&mut self, slot: usize) {
-        let at = 2048 + ROW * slot;
+        let at = ROWS_AT + ROW * slot;
         for disk in 0..DISKS {
             self.read(disk, at);
         }
@@ -612,7 +625,7 @@ impl Learner {
 
 fn learn(log: &mut Learner, count: u32) -> Result<bool, Fault> {
     for _ in 0..count {
-        let mut value = [7; 32];
+        let mut value = [7; 48];
         value[..2].copy_from_slice(&(log.learned.len() as u16).to_be_bytes());
         if !log.place(value)? {
             return Ok(false);
@@ -647,7 +660,7 @@ fn main() {
     timed("apply_maps", 1_000_000, standing_table::<Maps>, apply);
     timed("blocking", 1_000, waiting_table, blocking);
     let host = || Host {
-        disk: Disk::new(2048 + ROW * 4096),
+        disk: Disk::new(ROWS_AT + ROW * 4096),
         table: Maps::default(),
         learned: Vec::new(),
         journal: Vec::new(),

@@ -6,7 +6,9 @@ use std::fs::{File, OpenOptions};
 use std::os::unix::fs::FileExt;
 
 const HEADER: usize = 1024;
-const ROW: usize = 1024;
+const ROW: usize = 4096;
+const COPY: usize = 128;
+const VALUE: usize = 48;
 
 fn open(dir: &str, disk: usize) -> File {
     let path = format!("{dir}/disk{disk}.img");
@@ -38,7 +40,7 @@ fn read_twice(file: &File, into: &mut [u8], at: u64) {
 }
 
 /// A block's six calls, of which the first puts no byte, and the read behind them.
-fn write_block(disk: &File, place: u64, copy: &[u8; 64], row: &mut [u8; ROW], row_at: u64) {
+fn write_block(disk: &File, place: u64, copy: &[u8; COPY], row: &mut [u8; ROW], row_at: u64) {
     disk.sync_data().unwrap();
     disk.write_all_at(&copy[1..], place + 1).unwrap();
     disk.sync_data().unwrap();
@@ -49,7 +51,7 @@ fn write_block(disk: &File, place: u64, copy: &[u8; 64], row: &mut [u8; ROW], ro
 
 /// Where the row of a slot begins.
 fn row_of(slot: u64) -> u64 {
-    2048 + 1024 * slot
+    8192 + ROW as u64 * slot
 }
 
 /// The opening of an attempt, in which the row is read.
@@ -61,19 +63,19 @@ fn open_row(disks: &[File], slot: u64, row: &mut [u8; ROW]) {
 }
 
 /// An attempt of host 0 on a slot where its blocks are blank, of one phase, as on a slot with no command, or of two.
-fn attempt(disks: &[File], slot: u64, phases: u8, command: &[u8; 32], row: &mut [u8; ROW]) {
+fn attempt(disks: &[File], slot: u64, phases: u8, command: &[u8; VALUE], row: &mut [u8; ROW]) {
     open_row(disks, slot, row);
     for phase in 1..=phases {
         let copy = copy_of(phase, command);
         for disk in disks {
-            let place = row_of(slot) + 64 * u64::from(phase - 1);
+            let place = row_of(slot) + COPY as u64 * u64::from(phase - 1);
             write_block(disk, place, &copy, row, row_of(slot));
         }
     }
 }
 
 /// The marking of a slot whose block was written twice: its first copy is written again, from a gate that is open.
-fn mark(disks: &[File], slot: u64, command: &[u8; 32], row: &mut [u8; ROW]) {
+fn mark(disks: &[File], slot: u64, command: &[u8; VALUE], row: &mut [u8; ROW]) {
     let copy = marked(command);
     let place = row_of(slot);
     for disk in disks {
@@ -89,22 +91,22 @@ fn mark(disks: &[File], slot: u64, command: &[u8; 32], row: &mut [u8; ROW]) {
 }
 
 /// A copy as the first phase leaves it, or the second.
-fn copy_of(phase: u8, command: &[u8; 32]) -> [u8; 64] {
-    let mut copy = [0; 64];
+fn copy_of(phase: u8, command: &[u8; VALUE]) -> [u8; COPY] {
+    let mut copy = [0; COPY];
     copy[0] = 0xa5;
-    copy[1] = 1;
+    copy[1] = 2;
     copy[15] = phase;
     copy[23] = 1;
     if phase == 2 {
         copy[2] = 1;
         copy[31] = 1;
-        copy[32..].copy_from_slice(command);
+        copy[32..32 + VALUE].copy_from_slice(command);
     }
     copy
 }
 
 /// A copy as a marking leaves it.
-fn marked(command: &[u8; 32]) -> [u8; 64] {
+fn marked(command: &[u8; VALUE]) -> [u8; COPY] {
     let mut copy = copy_of(2, command);
     copy[3] = 1;
     copy[15] = 3;
@@ -112,8 +114,8 @@ fn marked(command: &[u8; 32]) -> [u8; 64] {
 }
 
 /// Client 1's next request: the status of lock 1.
-fn command(slot: u64) -> [u8; 32] {
-    let mut command = [0; 32];
+fn command(slot: u64) -> [u8; VALUE] {
+    let mut command = [0; VALUE];
     command[..8].copy_from_slice(&[5, 0, 1, 0, 0, 0, 0, 1]);
     command[8..16].copy_from_slice(&(slot + 1).to_be_bytes());
     command
@@ -125,7 +127,7 @@ fn fill(file: &File, slots: u64, with_marks: bool) {
         let command = command(slot);
         let first = if with_marks { marked(&command) } else { copy_of(1, &command) };
         file.write_all_at(&first, row_of(slot)).unwrap();
-        file.write_all_at(&copy_of(2, &command), row_of(slot) + 64).unwrap();
+        file.write_all_at(&copy_of(2, &command), row_of(slot) + COPY as u64).unwrap();
     }
 }
 
@@ -156,7 +158,7 @@ fn main() {
                     attempt(&disks, slot, 2, &command(slot), &mut row);
                 }
             }
-            attempt(&disks, slots, 1, &[0; 32], &mut row);
+            attempt(&disks, slots, 1, &[0; VALUE], &mut row);
             println!("recovered {slots}");
         }
     }

@@ -4,17 +4,18 @@
 use std::fmt;
 use std::io::{self, BufWriter, Write};
 
-const HOSTS: usize = 8;
-const COPY: usize = 64;
+const HOSTS: usize = 16;
+const COPY: usize = 128;
 const BLOCK: usize = 2 * COPY;
 const ROW: usize = HOSTS * BLOCK;
-const ROWS_AT: usize = 2048;
+const ROWS_AT: usize = 8192;
 const OPEN: u8 = 0xA5;
+const VERSION: u8 = 2;
 const LAST: u64 = 1 << 62;
 const LOCKS: usize = 256;
 const CLIENTS: usize = 32;
 
-type Value = [u8; 32];
+type Value = [u8; 48];
 
 fn number(bytes: &[u8]) -> u64 {
     u64::from_be_bytes(bytes[..8].try_into().unwrap())
@@ -128,20 +129,20 @@ struct Block {
 }
 
 fn is_ballot_of(host: usize, ballot: u64) -> bool {
-    (1..=LAST).contains(&ballot) && (ballot - 1) % 8 == host as u64
+    (1..=LAST).contains(&ballot) && (ballot - 1) % HOSTS as u64 == host as u64
 }
 
 fn says_of(host: usize, copy: &[u8]) -> Option<Says> {
     let (mbal, bal) = (number(&copy[16..]), number(&copy[24..]));
-    let plain = copy[1] == 1 && copy[2] <= 1 && copy[3..8] == [0; 5] && (1..=LAST).contains(&number(&copy[8..]));
-    if !plain || !is_ballot_of(host, mbal) {
+    let plain = copy[1] == VERSION && copy[2] <= 1 && copy[3..8] == [0; 5] && (1..=LAST).contains(&number(&copy[8..]));
+    if !plain || copy[80..] != [0; COPY - 80] || !is_ballot_of(host, mbal) {
         return None;
     }
     if copy[2] == 0 {
-        return (bal == 0 && copy[32..] == [0; 32]).then_some(Says { mbal, bal, input: None });
+        return (bal == 0 && copy[32..80] == [0; 48]).then_some(Says { mbal, bal, input: None });
     }
     let sound = is_ballot_of(host, bal) && bal <= mbal;
-    sound.then(|| Says { mbal, bal, input: Some(copy[32..].try_into().unwrap()) })
+    sound.then(|| Says { mbal, bal, input: Some(copy[32..80].try_into().unwrap()) })
 }
 
 /// The host's block in a row, or none where it is damaged.
@@ -232,12 +233,12 @@ impl Attempt {
         match self.step {
             0 => Call::Write { boot, at: copy, bytes, len: usize::from(visit.own.next_open) },
             2 => {
-                bytes[0] = 1;
+                bytes[0] = VERSION;
                 bytes[1] = u8::from(self.says.input.is_some());
                 bytes[7..15].copy_from_slice(&(visit.own.sequence + 1).to_be_bytes());
                 bytes[15..23].copy_from_slice(&self.says.mbal.to_be_bytes());
                 bytes[23..31].copy_from_slice(&self.says.bal.to_be_bytes());
-                bytes[31..63].copy_from_slice(&self.says.input.unwrap_or_default());
+                bytes[31..79].copy_from_slice(&self.says.input.unwrap_or([0; 48]));
                 Call::Write { boot, at: copy + 1, bytes, len: COPY - 1 }
             }
             4 => {
@@ -326,8 +327,8 @@ impl Attempt {
     fn next_phase(&mut self) -> bool {
         match self.phase {
             Phase::Opening => {
-                let round = self.highest.saturating_sub(self.host as u64).div_ceil(8);
-                let ballot = 8 * round + self.host as u64 + 1;
+                let round = self.highest.saturating_sub(self.host as u64).div_ceil(HOSTS as u64);
+                let ballot = HOSTS as u64 * round + self.host as u64 + 1;
                 if ballot > LAST {
                     self.end = Some(End::BallotsSpent);
                     return false;
@@ -401,7 +402,7 @@ struct Command {
 
 impl Command {
     fn encode(&self) -> Value {
-        let mut value = [0; 32];
+        let mut value = [0; 48];
         let (kind, lock) = match self.action {
             Action::Enqueue { lock, .. } => (1, lock),
             Action::Convert { lock, .. } => (2, lock),
@@ -418,7 +419,7 @@ impl Command {
                 value[3] = mode as u8;
                 value[4] = u8::from(no_queue);
                 value[5] = name.iter().take_while(|byte| **byte != 0).count() as u8;
-                value[17..].copy_from_slice(&name);
+                value[17..32].copy_from_slice(&name);
             }
             Action::Convert { mode, no_queue, .. } => {
                 value[3] = mode as u8;
@@ -436,7 +437,7 @@ impl Command {
         let mode = MODES[value[3] as usize].1;
         let no_queue = value[4] == 1;
         let action = match value[0] {
-            1 => Action::Enqueue { lock, name: value[17..].try_into().unwrap(), mode, no_queue },
+            1 => Action::Enqueue { lock, name: value[17..32].try_into().unwrap(), mode, no_queue },
             2 => Action::Convert { lock, mode, no_queue },
             3 => Action::Release(lock),
             4 => Action::Cancel(lock),
@@ -736,7 +737,7 @@ fn number_in(word: &str, low: u64, high: u64) -> Option<u64> {
 }
 
 fn host_in(word: &str) -> Option<usize> {
-    Some(number_in(word, 0, 7)? as usize)
+    Some(number_in(word, 0, HOSTS as u64 - 1)? as usize)
 }
 
 fn given_in(word: &str) -> Option<Vec<u8>> {

@@ -4,7 +4,7 @@ use crate::benchmark::Benchmark;
 use crate::failure::Failure;
 use disk::{Boot, Disk, SimDisk};
 use std::alloc::Global;
-use torn_block::{BLOCK_LENGTH, BODY_LENGTH, BlockNeed, Body, WriteSteps, read_block};
+use torn_block::{BLOCK_LENGTH, BODY_ROOM, BlockNeed, Body, ClusterLayout, WriteSteps, read_block};
 
 /// Whole writes of one block, each of which reads the block and makes its six calls.
 #[derive(Drop)]
@@ -22,7 +22,7 @@ impl Benchmark for BlockWrite {
     fn run(&mut self, count: u32) -> Result<(), Failure> {
         let boot = self.disk.attach()?;
         let mut body = Body {
-            bytes: [0; BODY_LENGTH],
+            bytes: [0; BODY_ROOM],
         };
         for write in 0..count {
             body.bytes[0] = (write % 251) as u8;
@@ -40,7 +40,7 @@ pub fn write_block(disk: &mut SimDisk, boot: Boot, at: u32, body: &Body) -> Resu
     let at = u64::from(at);
     let mut block = [0; BLOCK_LENGTH];
     disk.read(boot, at, &mut block)?;
-    let mut steps = WriteSteps::new(&read_block(&block), body)?;
+    let mut steps = WriteSteps::new::<ClusterLayout>(&read_block::<ClusterLayout>(&block), body)?;
     'calls: for _ in 0..6 {
         match steps.next() {
             None => {}

@@ -6,10 +6,10 @@ use crate::benchmark::Benchmark;
 use crate::failure::Failure;
 use paxos_block::{image_length, row_place};
 use std::alloc::{AllocError, Global};
-use torn_block::{COPY_LENGTH, DISKS, ROW_LENGTH, SLOTS};
+use torn_block::{COPY_LENGTH, ClusterLayout, DISKS, ROW_LENGTH, SLOTS};
 
-/// What is written of a block at a time.
-const COPY: [u8; COPY_LENGTH] = [7; COPY_LENGTH];
+/// Each byte that is written.
+const BYTE: u8 = 7;
 
 /// The bytes that an attempt moves, copied and nothing else.
 #[derive(Drop)]
@@ -31,7 +31,7 @@ impl Copies {
     fn copy(&mut self, slot: u16)
         requires { slot < SLOTS }
     {
-        let at = row_place(u32::from(slot)) as usize;
+        let at = row_place::<ClusterLayout>(u32::from(slot)) as usize;
         for disk in 0..usize::from(DISKS) {
             self.buffers[disk].read(at, &mut self.row);
         }
@@ -47,7 +47,7 @@ impl Copies {
 impl Buffer {
     fn new(alloc: Global) -> Result<Buffer, AllocError> {
         Ok(Buffer {
-            bytes: vec![in alloc; 0; image_length(SLOTS) as usize]?,
+            bytes: vec![in alloc; 0; image_length::<ClusterLayout>(SLOTS) as usize]?,
         })
     }
 
@@ -62,8 +62,9 @@ impl Buffer {
     fn write(&mut self, at: usize)
         requires { at + COPY_LENGTH ≤ Places.image_length SLOTS }
     {
-        self.bytes[at + 1..at + COPY_LENGTH].copy_from_slice(&COPY[1..]);
-        self.bytes[at..at + 1].copy_from_slice(&COPY[..1]);
+        let copy = [BYTE; COPY_LENGTH];
+        self.bytes[at + 1..at + COPY_LENGTH].copy_from_slice(&copy[1..]);
+        self.bytes[at..at + 1].copy_from_slice(&copy[..1]);
     }
 }
 
@@ -85,7 +86,7 @@ impl Benchmark for Copies {
         }
         for slot in 0..count {
             self.copy(slot as u16);
-            if self.row[COPY_LENGTH] != COPY[0] {
+            if self.row[COPY_LENGTH] != BYTE {
                 return Err(Failure::Wrong);
             }
         }

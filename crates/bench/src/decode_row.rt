@@ -2,9 +2,12 @@ use crate::benchmark::Benchmark;
 use crate::block_write::write_block;
 use crate::failure::Failure;
 use disk::{Disk, SimDisk};
-use paxos_block::{PBlock, Row, decode_row, encode, may_say};
+use paxos_block::{PBlock, Row, Value, decode_row, encode, may_say};
 use std::alloc::Global;
-use torn_block::{BLOCK_LENGTH, HOSTS, ROW_LENGTH, VALUE_LENGTH};
+use torn_block::{BLOCK_LENGTH, COPY_LENGTH, ClusterLayout, HOSTS, ROW_LENGTH, VALUE_LENGTH};
+
+/// Where an input begins in its copy.
+const INPUT_AT: usize = 32;
 
 /// Reads of a row in which the block of each host was written twice.
 #[derive(Drop)]
@@ -31,10 +34,10 @@ impl Benchmark for DecodeRow {
                 mark: false,
             };
             'copies: for says in [promise, vote] {
-                if !may_say(host as u8, &says) {
+                if !may_say::<ClusterLayout>(host as u8, &says) {
                     return Err(Failure::Wrong);
                 }
-                let body = encode(host as u8, &says);
+                let body = encode::<ClusterLayout>(host as u8, &says);
                 write_block(&mut disk, boot, (host * BLOCK_LENGTH) as u32, &body)?;
             }
         }
@@ -47,8 +50,8 @@ impl Benchmark for DecodeRow {
         for time in 0..count {
             // The last byte of the last host's input differs from time to time.
             let last = (time % 251) as u8;
-            self.row[ROW_LENGTH - 1] = last;
-            let row = decode_row(&self.row)?;
+            self.row[ROW_LENGTH - COPY_LENGTH + INPUT_AT + VALUE_LENGTH - 1] = last;
+            let row = decode_row::<ClusterLayout>(&self.row)?;
             if !has_votes(&row, last) {
                 return Err(Failure::Wrong);
             }
@@ -58,9 +61,11 @@ impl Benchmark for DecodeRow {
 }
 
 /// Whether each host voted, the last one for an input that ends so.
-fn has_votes(row: &Row, last: u8) -> bool {
-    let [.., cell] = &row.cells;
-    row.cells.iter().all(|cell| cell.says.inp.is_some())
+fn has_votes(row: &Row<Value>, last: u8) -> bool {
+    let cell = &row.cells[HOSTS - 1];
+    row.cells[..HOSTS]
+        .iter()
+        .all(|cell| cell.says.inp.is_some())
         && cell
             .says
             .inp

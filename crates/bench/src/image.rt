@@ -8,7 +8,7 @@ use disk::{Disk, NoMemory, SimDisk};
 use paxos_block::image_length;
 use phases::{DeviceCall, Heard};
 use std::alloc::Global;
-use torn_block::{ROW_LENGTH, SLOTS};
+use torn_block::{ClusterLayout, ROW_LENGTH, SLOTS};
 
 /// A simulated disk with rows for all slots.
 #[derive(Drop)]
@@ -21,7 +21,7 @@ impl Image {
     /// All rows are blank.
     pub fn new(alloc: Global) -> Result<Image, NoMemory> {
         Ok(Image {
-            disk: SimDisk::new(alloc, image_length(SLOTS))?,
+            disk: SimDisk::new(alloc, image_length::<ClusterLayout>(SLOTS))?,
         })
     }
 

@@ -8,7 +8,7 @@ use crate::image::Image;
 use paxos_block::Value;
 use slot_log::{Config, Learner, Outcome};
 use std::alloc::Global;
-use torn_block::{ROW_LENGTH, SLOTS, VALUE_LENGTH};
+use torn_block::{ClusterLayout, ROW_LENGTH, SLOTS, VALUE_LENGTH};
 
 /// The device calls of an attempt on a disk: attach, sync and read, then two block writes of six calls, each followed by a read.
 const CALLS: u32 = 17;
@@ -16,7 +16,7 @@ const CALLS: u32 = 17;
 /// Values that host 0 puts into the log over one simulated disk, where `LEARNED` slots are learned beforehand.
 #[derive(Drop)]
 pub struct Learn<const LEARNED: u16> {
-    learner: Learner,
+    learner: Learner<ClusterLayout>,
     image: Image,
     row: [u8; ROW_LENGTH],
     ghost whole: { learner.shape.slots ≡ SLOTS },
@@ -64,7 +64,7 @@ impl<const LEARNED: u16> Benchmark for Learn<LEARNED> {
             return Err(Failure::Wrong);
         };
         let mut log = Learn {
-            learner: Learner::new(alloc, 0, config)?,
+            learner: Learner::<ClusterLayout>::new(alloc, 0, config)?,
             image: Image::new(alloc)?,
             row: [0; ROW_LENGTH],
         };

@@ -8,13 +8,10 @@ use crate::image::Image;
 use paxos_block::Value;
 use phases::{Attempt, End};
 use std::alloc::{AllocError, Global};
-use torn_block::{DISKS, ROW_LENGTH, SLOTS, VALUE_LENGTH};
+use torn_block::{ClusterLayout, DISKS, ROW_LENGTH, SLOTS, VALUE_LENGTH};
 
 /// The device calls of an attempt on a disk: attach, sync and read, then two block writes of six calls, each followed by a read.
 const CALLS: u32 = 17;
-
-/// What each attempt proposes.
-const INPUT: Value = [7; VALUE_LENGTH];
 
 /// Attempts of host 0 over seven simulated disks, each on the next slot, which is blank.
 #[derive(Drop)]
@@ -25,25 +22,26 @@ pub struct WholeAttempt {
 }
 
 impl WholeAttempt {
-    /// Commits the input for the slot. That takes all calls that an attempt may make, and no less.
+    /// Commits an input for the slot. That takes all calls that an attempt may make, and no less.
     fn commit(&mut self, slot: u16) -> Result<(), Failure>
         requires { slot < SLOTS }
     {
-        let mut attempt = Attempt::new(0, slot, DISKS, 0, Some(INPUT));
+        let input: Value = [7; VALUE_LENGTH];
+        let mut attempt = Attempt::<ClusterLayout>::new(0, slot, DISKS, 0, Some(input));
         'calls: for _ in 0..CALLS * u32::from(DISKS) {
             if attempt.end().is_some() {
                 return Err(Failure::Wrong);
             }
             self.step(&mut attempt);
         }
-        if attempt.end() != Some(End::Committed(INPUT)) {
+        if attempt.end() != Some(End::Committed(input)) {
             return Err(Failure::Wrong);
         }
         Ok(())
     }
 
     /// Makes the attempt's next device call.
-    fn step(&mut self, attempt: &mut Attempt)
+    fn step(&mut self, attempt: &mut Attempt<ClusterLayout>)
         requires going { attempt.old.end ≡ None }
         requires images { IsOnImages attempt.old }
         ensures { IsOnImages attempt.new }

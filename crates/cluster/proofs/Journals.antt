@@ -1,11 +1,11 @@
 -- The tokens that wait in a journal.
 use Rattle.std.proofs.Common.{◌≡◌, ◌≢◌, ◌⊎◌, ℕ, zero, suc, Bool, true, false, cond, Option, map, set, slice_get, None, List, [], ◌∷◌, Some, inl, inr, sym, ap, ◌∙◌, ◌<◌, ◌+◌, length, get_or, arith, ◌++◌, length-append, refl, subst}
-use Rattle.std.proofs.lemmas.List.{get_or_append_left, length-map, length-set}
+use Rattle.std.proofs.lemmas.List.{get_or_append_left, get_or_push, length-map, length-set}
 use Rattle.torn_block.specs.declared.layout.TheConstants.{HOSTS}
 use Rattle.world.specs.Entry.{Filled, is_of}
 use Rattle.world.specs.Plain.{plain, plains}
 use Rattle.world.specs.declared.entry.Entry.{Entry}
-use Rattle.cluster_tie.specs.Parts.{Own, AreFresh, of_host}
+use Rattle.cluster_tie.specs.Parts.{Own, own_of, AreFresh, of_host}
 use Rattle.cluster_tie.proofs.Steps.{part_grows}
 use Rattle.cluster.specs.Journal.{AreWaiting, HaveStarted, KeepsTokens}
 
@@ -96,6 +96,18 @@ pub all_less : {A : Type 0} (P : A → Type 0) (all rest : List A) (x : A) → a
 all_less P all rest x is holds k d less =
     let longer = ap (λ l. length l) is ∙ length-append rest (x ∷ []) in
     subst P (ap (λ l. get_or l k d) is ∙ get_or_append_left rest (x ∷ []) d k less) (holds k d (omega (arith, longer, less)))
+
+-- it holds of the last, too
+pub of_last : {A : Type 0} (P : A → Type 0) (all rest : List A) (x : A) → all ≡ rest ++ x ∷ [] → ((k : ℕ) (d : A) → k < length all → P (get_or all k d)) → P x
+of_last P all rest x is holds =
+    let longer = ap (λ l. length l) is ∙ length-append rest (x ∷ []) in
+    subst P (ap (λ l. get_or l (length rest) x) is ∙ get_or_push rest x x (length rest) refl) (holds (length rest) x (omega (arith, longer)))
+
+-- the last of fresh tokens has the number of those before it
+pub fresh_last : (n m : ℕ) (all rest : List Own) (t : Own) → all ≡ rest ++ t ∷ [] → m + 1 ≡ n → AreFresh n all → t ≡ own_of m []
+fresh_last n m all rest t is one h =
+    let longer = ap (λ (l : List Own). length l) is ∙ length-append rest (t ∷ []) in
+    sym (get_or_push rest t t m (omega (arith, longer, one, h.0))) ∙ ap (λ (l : List Own). get_or l m t) (sym is) ∙ h.1 m t (omega (arith, one))
 
 -- fresh tokens but the last
 pub fresh_rest : (n m : ℕ) (all tokens : List Own) (t : Own) → all ≡ tokens ++ t ∷ [] → m + 1 ≡ n → AreFresh n all → AreFresh m tokens

@@ -8,6 +8,7 @@ use Rattle.std.proofs.lemmas.List.{get_or_push, get_or_append_left}
 use native.Mathlib.Decide.{dec_lt}
 use Rattle.atomic_table.specs.Table.{State, Act, keeps, Me, step, Allows, Splits, Joins}
 use Rattle.atomic_table.proofs.Lists.{at_set, set_again}
+use Rattle.torn_block.specs.declared.layout.TheConstants.{HOSTS}
 use Rattle.world.specs.Entry.{Filled, Start, Stop, Submit, Recover, Look, Beat, Mark, Called, Torn, Crashed, Lost, is_on, is_of}
 use Rattle.cluster_tie.specs.Parts.{Placed, belongs, placed, disk_of, host_of, Own, own_of, AreFresh}
 use Rattle.cluster_tie.specs.View.{Part, Known, part, keeper, holder, kept_back, handed, lent, own, parts_from, host_parts, all_parts}
@@ -330,7 +331,7 @@ pub opens : (disks : ℕ) → Kept (keeper [] (all_parts disks) ∷ [])
 opens disks = (0, (λ _ _. 0), [], one)
   where
     one : (by : ℕ) (v : Known) → get_elem? (keeper [] (all_parts disks) ∷ []) by ≡ some v → Fits 0 (λ _ _. 0) [] by v
-    one zero v e = subst (Fits 0 (λ _ _. 0) [] 0) (some-injective _ _ e) ((λ _. (refl, refl)), all_append (IsPartOf 0 (λ _ _. 0) []) (parts_from true 0 disks) host_parts (each_is_part true 0 disks) (each_is_part false 0 8))
+    one zero v e = subst (Fits 0 (λ _ _. 0) [] 0) (some-injective _ _ e) ((λ _. (refl, refl)), all_append (IsPartOf 0 (λ _ _. 0) []) (parts_from true 0 disks) host_parts (each_is_part true 0 disks) (each_is_part false 0 HOSTS))
     one (suc by) v e = absurd (some-ne-none v (sym e))
 
 -- the parts that are still to be dealt
@@ -347,7 +348,7 @@ hosts_apart n m zero = tt
 hosts_apart n m (suc count) = (refl, hosts_apart n (m + 1) count)
 
 pub disks_apart : (n count : ℕ) → Each (Apart (part true n [])) (parts_from true (n + 1) count ++ host_parts)
-disks_apart n count = all_append (Apart (part true n [])) (parts_from true (n + 1) count) host_parts (later_apart true n (n + 1) count (omega arith)) (hosts_apart n 0 8)
+disks_apart n count = all_append (Apart (part true n [])) (parts_from true (n + 1) count) host_parts (later_apart true n (n + 1) count (omega arith)) (hosts_apart n 0 HOSTS)
 
 pub rest_apart : (n count : ℕ) → Each (Apart (part false n [])) (parts_from false (n + 1) count ++ [])
 rest_apart n count = all_append (Apart (part false n [])) (parts_from false (n + 1) count) [] (later_apart false n (n + 1) count (omega arith)) tt

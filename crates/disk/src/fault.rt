@@ -27,6 +27,9 @@ pub enum ImageFault {
     /// The file could not be opened, read, made or written.
     #[error("the image cannot be read or written")]
     Unreadable,
+    /// It is right by the layout that images had before, and not by that of today.
+    #[error("the image has the old layout")]
+    OldLayout,
 }
 
 /// Memory was refused.

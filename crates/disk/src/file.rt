@@ -14,7 +14,7 @@ use std::rt::Files;
 const BOOT: Boot = Boot { number: 1 };
 
 /// How many bytes are read twice at a time: a row of blocks, or a header.
-const PART: usize = 1024;
+const PART: usize = 4096;
 
 /// How often such a part is read, at most.
 const MOST_READS: usize = 9;

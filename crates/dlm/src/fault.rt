@@ -44,6 +44,9 @@ pub enum Fault {
     /// The number of the first run of a sweep that went by no log, from 0.
     #[error("31 WrongRun {0}")]
     WrongRun(usize),
+    /// The number of an image that is right by the layout that images had before.
+    #[error("32 OldLayout disk{0}")]
+    OldLayout(u8),
     #[error("35 OpenCall")]
     OpenCall,
     /// The number of a host that somebody else works under.
@@ -61,6 +64,7 @@ impl Fault {
             ImageFault::NotFormatted => Fault::NotFormatted(disk),
             ImageFault::WrongHeader => Fault::WrongHeader(disk),
             ImageFault::Unreadable => Fault::UnreadableImage(disk),
+            ImageFault::OldLayout => Fault::OldLayout(disk),
         }
     }
 

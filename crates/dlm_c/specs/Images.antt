@@ -1,15 +1,16 @@
 -- A folder as C found it, and the host that is opened over it.
-use Rattle.std.specs.Prelude.{◌≡◌, ◌<◌, ◌==◌, ◌⊎◌, ℕ, ℤ, List, min, length, slice_get, Option, Some, None, Result, Ok, Err, if◌then◌else◌}
+use Rattle.std.specs.Prelude.{◌≡◌, ◌<◌, ◌==◌, ◌⊎◌, ◌↔◌, ℕ, ℤ, List, min, length, slice_get, Option, Some, None, Result, Ok, Err, if◌then◌else◌}
 use Rattle.torn_block.specs.declared.layout.TheConstants.{DISKS}
 use Rattle.disk.specs.declared.fault.ImageFault.{ImageFault}
+use Rattle.disk.specs.declared.fault.ImageFault.TheVariants.{OldLayout}
 use Rattle.paxos_block.specs.declared.header.Header.{Header}
-use Rattle.paxos_block.specs.Headers.{IsRight, header_in}
-use Rattle.paxos_block.specs.Places.{image_length}
+use Rattle.paxos_block.specs.Headers.{IsRight}
 use Rattle.slot_log.specs.Shape.{Shape}
 use Rattle.host.specs.Host.{fresh}
 use Rattle.host.specs.Kept.{LeadsTo}
 use Rattle.lock_command.specs.declared.number.TheConstants.{HOSTS}
 use Rattle.dlm_images.specs.declared.set.SetFault.{SetFault}
+use Rattle.dlm_images.specs.Headers.{IsOld, told_length}
 use Rattle.dlm_images.specs.Sets.{Found, HasNumbers}
 use Rattle.dlm_images.specs.SetFaults.{HasSetFault}
 use Rattle.dlm_c.specs.declared.fault.Fault.{Fault}
@@ -22,16 +23,20 @@ use Rattle.dlm_c.specs.Numbers.{done, no_disk, fault_number, disk_number}
 
 -- how long it is as an image: of a device, what its first bytes say, as far as there is room
 abbrev pub long_of : Image → ℕ
-long_of image = if image.is_device == 1 then min (image_length (header_in image.bytes).slots) image.size else image.size
+long_of image = if image.is_device == 1 then min (told_length image.bytes) image.size else image.size
 
 -- it was read, and as those of the image of this number its first bytes are right: they say this header
 abbrev pub IsRead : ℕ → Image → Header → Type 0
 IsRead disk image header = (image.is_read ≡ 1) × IsRight disk (long_of image) image.bytes header
 
--- what is found of an image: what it says, or, where it says no right header, some fault
+-- it was read, and is right by the layout that images had before
+abbrev pub IsReadAsOld : ℕ → Image → Type 0
+IsReadAsOld disk image = (image.is_read ≡ 1) × IsOld disk (long_of image) image.bytes
+
+-- what is found of an image: what it says, or, where it says no right header, some fault, which tells whether it has the old layout
 abbrev pub Finds : ℕ → Image → Result Header ImageFault → Type 0
 Finds disk image (Ok header) = IsRead disk image header
-Finds disk image (Err fault) = (header : Header) → IsRead disk image header → ⊥
+Finds disk image (Err fault) = ((header : Header) → IsRead disk image header → ⊥) × ((fault ≡ OldLayout) ↔ IsReadAsOld disk image)
 
 -- The same of all images.
 abbrev pub AreFound : List Image → Found → Type 0

@@ -11,7 +11,7 @@ use Rattle.lock_table.specs.declared.reply.Refusal.TheVariants.{LockInUse, NoSuc
 use Rattle.slot_log.specs.declared.outcome.Refusal as operation
 use Rattle.slot_log.specs.declared.outcome.Refusal.TheVariants.{Outrun, NoMajority, BallotsSpent, LogFull, NotACommand, NotLearned}
 use Rattle.disk.specs.declared.fault.ImageFault.{ImageFault}
-use Rattle.disk.specs.declared.fault.ImageFault.TheVariants.{NotFormatted, WrongHeader, Unreadable}
+use Rattle.disk.specs.declared.fault.ImageFault.TheVariants.{NotFormatted, WrongHeader, Unreadable, OldLayout}
 use Rattle.dlm_c.specs.declared.answer.Answer.{Answer}
 use Rattle.dlm_c.specs.declared.fault.Fault.{Fault}
 use Rattle.dlm_c.specs.declared.fault.Fault.TheVariants as fault
@@ -129,6 +129,7 @@ abbrev pub image_number : ImageFault → ℤ
 image_number NotFormatted = pos 24
 image_number WrongHeader = pos 25
 image_number Unreadable = pos 26
+image_number OldLayout = pos 32
 
 -- why a call did not do what it was asked
 abbrev pub fault_number : Fault → ℤ

@@ -53,6 +53,7 @@ impl Fault {
                 ImageFault::NotFormatted => 24,
                 ImageFault::WrongHeader => 25,
                 ImageFault::Unreadable => 26,
+                ImageFault::OldLayout => 32,
             },
         }
     }

@@ -3,7 +3,7 @@ ghost use Rattle.dlm_c.specs.Headers.{LaysOut};
 use crate::fault::BAD_ARGUMENT;
 use host::Config;
 use paxos_block::{Header, encode_header};
-use torn_block::HEADER_LENGTH;
+use torn_block::{ClusterLayout, HEADER_LENGTH};
 
 /// What C writes as the first bytes of an image.
 #[repr(C)]
@@ -33,7 +33,7 @@ pub fn lay_out(disks: u32, slots: u32, cluster: u64, disk: u32, into: &mut Heade
     }
     *into = HeaderBytes {
         size: config.image_length(),
-        bytes: encode_header(&Header {
+        bytes: encode_header::<ClusterLayout>(&Header {
             disk,
             disks,
             slots: u32::from(slots),

@@ -4,8 +4,9 @@ ghost use Rattle.dlm_images.specs.Sets.{AreHeaders};
 ghost use Rattle.dlm_c.specs.Images.{Finds, AreFound, long_of, used_of, TellsImages};
 
 use disk::ImageFault;
+use dlm_images::{image_header, long_as_told};
 use host::Config;
-use paxos_block::{Header, decode_header, told_length};
+use paxos_block::Header;
 use torn_block::{DISKS, HEADER_LENGTH};
 
 /// What C found of an image.
@@ -58,7 +59,7 @@ fn header_of(disk: u8, image: &Image) -> Result<Header, ImageFault>
     if image.is_read != 1 {
         return Err(ImageFault::Unreadable);
     }
-    decode_header(disk, image.long(), &image.bytes)
+    image_header(disk, image.long(), &image.bytes)
 }
 
 impl Image {
@@ -67,7 +68,7 @@ impl Image {
         ensures { result ≡ long_of self.now }
     {
         if self.is_device == 1 {
-            told_length(&self.bytes).min(self.size)
+            long_as_told(&self.bytes).min(self.size)
         } else {
             self.size
         }

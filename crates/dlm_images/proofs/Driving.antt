@@ -261,7 +261,7 @@ hears_own : (c : Shape) (h : ℕ) (m : Memory) (o : Option Doing) (d : ℕ) (ans
 hears_own c h m None d answer rest = ap (λ (beat : Option (List Beaten)). hears_beside c h m beat d answer) rest
 hears_own c h m (Some t) d answer rest = refl
 
-pub attempt_hears : {D : Type 0} (gives : D → device.Call → device.Answer → D → Type 0) (old now : Standing D) (new : Kept) (made : ℕ) (c : Shape) → IsDriven gives c old now made → (d : ℕ) (heard : code_heard.Heard)
+pub attempt_hears : {D : Type 0} (gives : D → device.Call → device.Answer → D → Type 0) (old now : Standing D) (new : Kept) (made : ℕ) (c : Shape) → IsDriven gives c old now made → (d : ℕ) (heard : code_heard.Heard (List ℕ))
     → ((s : Shape) (h : ℕ) (m : Memory) → LeadsTo s h m now.core → LeadsTo s h (hears_from s h m m.doing d (device_answer heard)) new)
     → (s : Shape) (h : ℕ) (m : Memory) → LeadsTo s h m now.core → LeadsTo s h (hears_one s h m m.doing (record { disk = d; heard = heard_of heard })) new
 attempt_hears gives old now new made c driven d heard hears_it s h m leads =

@@ -4,6 +4,7 @@ pub mod Damage
 pub mod Driving
 pub mod Ending
 pub mod Found
+pub mod Headers
 pub mod Images
 pub mod Opening
 pub mod Sets

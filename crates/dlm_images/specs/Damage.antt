@@ -4,7 +4,7 @@ use Rattle.std.specs.Io.KnownBytes.{Appends}
 use Rattle.std.specs.List.{flat_map, range_with_len}
 use Rattle.disk.specs.Disk.{Device, DiskState}
 use Rattle.disk.specs.declared.fault.ImageFault.{ImageFault}
-use Rattle.disk.specs.declared.fault.ImageFault.TheVariants.{NotFormatted, WrongHeader, Unreadable}
+use Rattle.disk.specs.declared.fault.ImageFault.TheVariants.{NotFormatted, WrongHeader, Unreadable, OldLayout}
 use Rattle.torn_block.specs.declared.layout.TheConstants.{HOSTS}
 use Rattle.paxos_block.specs.Places.{area_of, row_of, image_length}
 use Rattle.paxos_block.specs.Damage as rows
@@ -59,6 +59,7 @@ abbrev pub fault_name : ImageFault → List ℕ
 fault_name NotFormatted = codes "24 NotFormatted"
 fault_name WrongHeader = codes "25 WrongHeader"
 fault_name Unreadable = codes "26 Unreadable"
+fault_name OldLayout = codes "32 OldLayout"
 
 abbrev pub fault_line : ℕ → ImageFault → List ℕ
 fault_line disk fault = codes "disk" ++ decimal disk ++ codes " " ++ fault_name fault ++ 10 ∷ []

@@ -1,14 +1,15 @@
 -- The images of a folder: their names, how one is read, and the disks that a folder has once it is open.
 use Rattle.std.specs.Prelude.{◌≡◌, ◌==◌, ◌++◌, ◌<◌, ◌⊎◌, ℕ, true, false, List, codes, decimal, min, slice_get, Some, Result, Ok, Err, is_ok, if◌then◌else◌}
 use Rattle.disk.specs.declared.fault.ImageFault.{ImageFault}
-use Rattle.disk.specs.declared.fault.ImageFault.TheVariants.{NotFormatted, WrongHeader, Unreadable}
+use Rattle.disk.specs.declared.fault.ImageFault.TheVariants.{NotFormatted, WrongHeader, Unreadable, OldLayout}
 use Rattle.disk.specs.Disk.{Call, Attach, Read, Answer, Booted, Told}
 use Rattle.disk.specs.FileStates.{FileState, FileGives}
 use Rattle.torn_block.specs.declared.layout.TheConstants.{HEADER_LENGTH}
 use Rattle.paxos_block.specs.declared.header.Header.{Header}
-use Rattle.paxos_block.specs.Headers.{IsRight, IsFormatted, HasNoHeader, header_in}
+use Rattle.paxos_block.specs.Headers.{IsRight, IsFormatted}
 use Rattle.paxos_block.specs.Places.{image_length}
 use Rattle.slot_log.specs.Shape.{Shape}
+use Rattle.dlm_images.specs.Headers.{IsOld, HasWrongHeader, told_length}
 use Rattle.dlm_images.specs.Sets.{Found, AreImages, HasNumbers}
 use Rattle.dlm_images.specs.declared.host_lock.LockFault.{LockFault}
 use Rattle.dlm_images.specs.declared.host_lock.LockFault.TheVariants.{NoMemory, InUse, NoLock}
@@ -41,7 +42,7 @@ pub record IsCutAsTold (old new : FileState) : Type 0 where
   pub bytes : List ℕ
   pub read : FileState
   pub told : HasToldFirst FileGives old bytes read
-  pub size : new ≡ record read { size = min (image_length (header_in bytes).slots) read.size }
+  pub size : new ≡ record read { size = min (told_length bytes) read.size }
 
 -- The device told its first bytes, and as those of the image of this number and size they are right: they say this header.
 pub record ReadsHeader {D : Type 0} (gives : D → Call → Answer → D → Type 0) (old : D) (disk size : ℕ) (header : Header) (new : D) : Type 0 where
@@ -53,10 +54,11 @@ pub record ReadsHeader {D : Type 0} (gives : D → Call → Answer → D → Typ
   pub right : IsRight disk size bytes header
 
 -- why it says none: its first bytes, which it told, have no open gate; or they are no header of that image, or fewer than a header has; or
--- a call has failed
+-- they are right by the layout that images had before; or a call has failed
 abbrev pub ReadsNoHeader : {D : Type 0} → (D → Call → Answer → D → Type 0) → (old : D) → (disk size : ℕ) → (new : D) → ImageFault → Type 0
 ReadsNoHeader gives old disk size new NotFormatted = (bytes : List ℕ) × HasToldFirst gives old bytes new × ¬ IsFormatted bytes
-ReadsNoHeader gives old disk size new WrongHeader = (size < HEADER_LENGTH) ⊎ ((bytes : List ℕ) × HasToldFirst gives old bytes new × HasNoHeader disk size bytes)
+ReadsNoHeader gives old disk size new WrongHeader = (size < HEADER_LENGTH) ⊎ ((bytes : List ℕ) × HasToldFirst gives old bytes new × HasWrongHeader disk size bytes)
+ReadsNoHeader gives old disk size new OldLayout = (bytes : List ℕ) × HasToldFirst gives old bytes new × IsOld disk size bytes
 ReadsNoHeader gives old disk size new Unreadable = Unit {0}
 
 -- an image that is right is in use and as long as its header says; of one that is refused no call is carried out

@@ -1,6 +1,7 @@
 pub mod Damage
 pub mod Examples
 pub mod Folders
+pub mod Headers
 pub mod Layout
 pub mod Marking
 pub mod Operations

@@ -19,7 +19,7 @@ use std::io;
 use std::io::Write;
 use std::os::unix::fs::FileExt;
 use thiserror::Error;
-use torn_block::{DISKS, HOSTS, ROW_LENGTH};
+use torn_block::{ClusterLayout, DISKS, HOSTS, ROW_LENGTH};
 
 /// What is wrong with an image.
 #[derive(Clone, Copy, Debug, PartialEq, Eq)]
@@ -258,7 +258,7 @@ fn damage_of_row<D: Disk>(device: &mut D, boot: Boot, slot: u32) -> Result<[bool
         Contains damaged true ↔ IsDamagedRow (row_of slot (D.state device.old).bytes)) }
 {
     let mut row = [0; ROW_LENGTH];
-    device.read(boot, row_place(slot), &mut row)?;
+    device.read(boot, row_place::<ClusterLayout>(slot), &mut row)?;
     Ok(damaged_hosts(&row))
 }
 
@@ -305,6 +305,7 @@ fn print_fault<O: Write>(disk: u8, fault: ImageFault, out: &mut O) -> io::Result
         ImageFault::NotFormatted => "24 NotFormatted",
         ImageFault::WrongHeader => "25 WrongHeader",
         ImageFault::Unreadable => "26 Unreadable",
+        ImageFault::OldLayout => "32 OldLayout",
     };
     writeln!(out, "disk{disk} {name}")?;
     Ok(Finding::Image { disk, fault })

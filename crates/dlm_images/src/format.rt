@@ -13,7 +13,7 @@ use std::io;
 use std::os::unix::fs::{FileExt, FileTypeExt};
 use std::path::PathBuf;
 use std::rt::Files;
-use torn_block::OPEN_GATE;
+use torn_block::{ClusterLayout, OPEN_GATE};
 
 /// How many zeros are written at once.
 const CHUNK: usize = 4096;
@@ -131,7 +131,7 @@ pub fn lay_out<D: Disk>(
     let boot = device.attach()?;
     put_zeros(device, boot, config.image_length())?;
     device.sync(boot)?;
-    let mut bytes = encode_header(&Header {
+    let mut bytes = encode_header::<ClusterLayout>(&Header {
         disk,
         disks: config.disks(),
         slots: u32::from(config.slots()),

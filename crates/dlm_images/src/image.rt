@@ -6,8 +6,9 @@ ghost use Rattle.dlm_images.specs.declared.fault.FolderFault.TheVariants.{NoMemo
 ghost use Rattle.dlm_images.specs.Folders.{image_name, HasToldFirst, IsCutAsTold, ReadsHeader, ReadsNoHeader};
 
 use crate::fault::FolderFault;
+use crate::header::{image_header, long_as_told};
 use disk::{Disk, DiskFault, FileDisk, ImageFault};
-use paxos_block::{Header, decode_header, told_length};
+use paxos_block::Header;
 use std::alloc::Global;
 use std::fs::OpenFile;
 use std::os::unix::fs::FileExt;
@@ -61,7 +62,7 @@ fn cut_as_told<F: FileExt + OpenFile + Drop>(device: &mut FileDisk<F>) -> Result
     ensures cut { OnOk result (HEADER_LENGTH ≤ device.old.size → IsCutAsTold device.old device.new) }
 {
     let bytes = first_bytes(device)?;
-    device.cut(told_length(&bytes).min(device.size()));
+    device.cut(long_as_told(&bytes).min(device.size()));
     Ok(())
 }
 
@@ -76,7 +77,7 @@ fn read_header<D: Disk>(device: &mut D, disk: u8) -> Result<Header, ImageFault>
 {
     let long = device.size();
     let bytes = first_bytes(device)?;
-    decode_header(disk, long, &bytes)
+    image_header(disk, long, &bytes)
 }
 
 /// The first bytes of a device; of one that is shorter, zeros behind those that it has.

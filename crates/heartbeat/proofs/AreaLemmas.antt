@@ -5,6 +5,7 @@ use Rattle.std.specs.List.{list_any, range_with_len}
 use Rattle.std.proofs.lemmas.Bool.{cases_Bool, false_from_ne_true, cond-true, cond-false}
 use Rattle.std.proofs.lemmas.List.Folds.{list_any_at}
 use Rattle.std.proofs.lemmas.List.FromFn.{length-range_with_len, get_or-range_with_len, length-map-range_with_len, get_or-map-range_with_len}
+use Rattle.torn_block.specs.Layout.{cluster_version}
 use Rattle.torn_block.specs.declared.layout.TheConstants.{HOSTS, BLOCK_LENGTH, ROW_LENGTH}
 use Rattle.torn_block.specs.Numbers.{AreBytes}
 use Rattle.torn_block.proofs.NumberLaws.{AreBytes-take, AreBytes-drop}
@@ -16,13 +17,13 @@ use Rattle.heartbeat.proofs.BeatLaws.{beat_tells, beat_since}
 
 sound_is_undamaged : (block : List ℕ) → length block ≡ BLOCK_LENGTH → IsSoundBlock IsBeat block → is_damaged_block block ≡ false
 sound_is_undamaged block long sound =
-    false_from_ne_true (is_damaged_block block) (λ t. sound_is_not_damaged IsBeat is_beat block sound (damaged_tells IsBeat is_beat beat_since block long t))
+    false_from_ne_true (is_damaged_block block) (λ t. sound_is_not_damaged cluster_version IsBeat is_beat block sound (damaged_tells cluster_version IsBeat is_beat beat_since block long t))
 
 damage_is_found : (block : List ℕ) → length block ≡ BLOCK_LENGTH → AreBytes block → IsDamagedBlock IsBeat block → is_damaged_block block ≡ true
 damage_is_found block long fits damage =
     elim (cases_Bool (is_damaged_block block)) [
       | inl t ↦ t
-      | inr f ↦ absurd (sound_is_not_damaged IsBeat is_beat block (sound_block_tells IsBeat is_beat beat_tells block long fits f) damage)
+      | inr f ↦ absurd (sound_is_not_damaged cluster_version IsBeat is_beat block (sound_block_tells cluster_version IsBeat is_beat beat_tells block long fits f) damage)
     ]
 
 none_in : (p : ℕ → Bool) (a n : ℕ) → ((k : ℕ) → a ≤ k → k < a + n → p k ≡ false) → list_any p (range_with_len a n) ≡ false
@@ -37,7 +38,7 @@ any_at p n k below found =
     list_any_at p (range_with_len 0 n) k 0 (omega (arith, length-range_with_len 0 n)) (ap p (get_or-range_with_len 0 n k 0 below ∙ same) ∙ found)
 
 pub length-block_of : (host : ℕ) (area : List ℕ) → host < HOSTS → length area ≡ ROW_LENGTH → length (block_of host area) ≡ BLOCK_LENGTH
-length-block_of host area below long = length-block_in (BLOCK_LENGTH * host) area (omega arith)
+length-block_of host area below long = length-block_in cluster_version (BLOCK_LENGTH * host) area (omega arith)
 
 AreBytes-block_of : (host : ℕ) (area : List ℕ) → AreBytes area → AreBytes (block_of host area)
 AreBytes-block_of host area fits = AreBytes-take _ (drop (BLOCK_LENGTH * host) area) (AreBytes-drop (BLOCK_LENGTH * host) area fits)

@@ -4,6 +4,7 @@ use Rattle.std.proofs.Common.{sym, ◌∙◌, arith, inl, inr}
 use Rattle.std.proofs.lemmas.Bool.{cases_Bool}
 use Rattle.std.proofs.lemmas.List.{get_or_default}
 use Rattle.std.proofs.lemmas.List.FromFn.{fill_by_all, get_or-map-range_with_len, length-map-range_with_len}
+use Rattle.torn_block.specs.Layout.{cluster_version}
 use Rattle.torn_block.specs.declared.layout.TheConstants.{HOSTS, BLOCK_LENGTH, ROW_LENGTH}
 use Rattle.torn_block.specs.Damage.{IsDamagedBlock, block_of}
 use Rattle.torn_block.specs.Numbers.{AreBytes}
@@ -17,11 +18,11 @@ use Rattle.heartbeat.proofs.AreaLemmas.{length-block_of}
 -- the test decides whether a block is damaged
 test_decides : (block : List ℕ) → length block ≡ BLOCK_LENGTH → AreBytes block → (is_damaged_block block ≡ true) ↔ IsDamagedBlock IsBeat block
 test_decides block long fits = (
-  (λ t. damaged_tells IsBeat is_beat beat_since block long t),
+  (λ t. damaged_tells cluster_version IsBeat is_beat beat_since block long t),
   (λ damage.
       elim (cases_Bool (is_damaged_block block)) [
         | inl t ↦ t
-        | inr f ↦ absurd (sound_is_not_damaged IsBeat is_beat block (sound_block_tells IsBeat is_beat beat_tells block long fits f) damage)
+        | inr f ↦ absurd (sound_is_not_damaged cluster_version IsBeat is_beat block (sound_block_tells cluster_version IsBeat is_beat beat_tells block long fits f) damage)
       ]),
 )
 

@@ -1,5 +1,5 @@
 -- The least host of a kind, and the disks on which a counter differs, one by one.
-use Rattle.std.proofs.Common.{ℕ, zero, suc, ◌+◌, ◌<◌, ◌≤◌, ◌≡◌, Bool, true, false, Some, None, length, take, get_or, inl, inr, ap, ◌∙◌, arith}
+use Rattle.std.proofs.Common.{ℕ, zero, suc, ◌+◌, ◌<◌, ◌≤◌, ◌≡◌, Bool, true, false, Some, None, length, take, get_or, inl, inr, ap, ◌∙◌, refl, arith}
 use Rattle.std.specs.List.{count_by, find, range_with_len, zip}
 use Rattle.std.proofs.lemmas.Bool.{cases_eq}
 use Rattle.std.proofs.lemmas.List.{take_all}
@@ -14,6 +14,14 @@ first_from p a (suc n) k from below none here = elim (cases_eq a k) [
   | inl same ↦ (let first : p a ≡ true = ap p same ∙ here in rw first (ap Some same))
   | inr off ↦ rw (none a (omega arith) (omega arith)) (first_from p (a + 1) n k (omega arith) (omega arith) (λ j later under. none j (omega arith) under) here)
 ]
+
+-- where none passes, none is found
+none_from : (p : ℕ → Bool) (a n : ℕ) → ((j : ℕ) → a ≤ j → j < a + n → p j ≡ false) → find p (range_with_len a n) ≡ None
+none_from p a zero none = refl
+none_from p a (suc n) none = rw (none a (omega arith) (omega arith)) (none_from p (a + 1) n (λ j later under. none j (omega arith) (omega arith)))
+
+pub none_found : (p : ℕ → Bool) (n : ℕ) → ((j : ℕ) → j < n → p j ≡ false) → find p (range_with_len 0 n) ≡ None
+none_found p n none = none_from p 0 n (λ j from under. none j (omega arith))
 
 pub first_found : (p : ℕ → Bool) (n k : ℕ) → ((j : ℕ) → j < k → p j ≡ false) → k < n → p k ≡ true → find p (range_with_len 0 n) ≡ Some k
 first_found p n k none below here = first_from p 0 n k (omega arith) (omega arith) (λ j from under. none j under) here

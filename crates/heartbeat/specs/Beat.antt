@@ -1,13 +1,13 @@
 -- The copies of a heartbeat block, and the counters of an area.
-use Rattle.std.specs.Prelude.{◌≡◌, ◌==◌, ◌&&◌, ◌<◌, ℕ, Bool, List, ◌∷◌, map, take, drop, slice_index, replicate, Option, Some, None, if◌then◌else◌}
+use Rattle.std.specs.Prelude.{◌≡◌, ◌==◌, ◌&&◌, ◌<◌, ◌-◌, ℕ, Bool, List, ◌∷◌, map, take, drop, slice_index, replicate, Option, Some, None, if◌then◌else◌}
 use Rattle.std.specs.List.{list_all, list_any, range_with_len}
-use Rattle.torn_block.specs.declared.layout.TheConstants.{VERSION, HOSTS}
+use Rattle.torn_block.specs.declared.layout.TheConstants.{VERSION, HOSTS, BODY_LENGTH}
 use Rattle.torn_block.specs.Block.{sequence_of, tail_with, value_of}
 use Rattle.torn_block.specs.Damage.{IsSequence, IsSoundBlock, IsDamaged, block_of, first_of, second_of, is_sequence, is_damaged}
 
 -- the body of each beat: the version, and zeros
 unfoldable pub beat_body : List ℕ
-beat_body = VERSION ∷ replicate 54 0
+beat_body = VERSION ∷ replicate (BODY_LENGTH - 1) 0
 
 -- an open copy is sound where it is a beat under a sequence number
 pub record IsBeat (copy : List ℕ) : Type 0 where

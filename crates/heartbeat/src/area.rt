@@ -1,5 +1,6 @@
 ghost use Rattle.std.specs.Prelude.{◌≡◌, ◌<◌, ◌↔◌, true, length, Contains, IfOk, OnOk, OnErr, IsErr, Some, None};
 ghost use Rattle.torn_block.specs.Damage;
+ghost use Rattle.torn_block.specs.Plan.{body_in};
 ghost use Rattle.torn_block.specs.Damage.{IsSoundBlock, IsDamagedBlock};
 ghost use Rattle.heartbeat.specs.Beat;
 ghost use Rattle.heartbeat.specs.Beat.{IsBeat, beat_body, counter_of, AreCounters, IsDamagedArea, all_zero, area_said, counters_in};
@@ -7,8 +8,8 @@ ghost use Rattle.heartbeat.specs.Damage.{AreDamagedBeats, damaged_in};
 
 use thiserror::Error;
 use torn_block::{
-    BLOCK_LENGTH, BODY_LENGTH, Body, COPY_LENGTH, HOSTS, ROW_LENGTH, VERSION, block_from,
-    has_twins, is_open, is_sequence, sequence_in,
+    BLOCK_LENGTH, BODY_LENGTH, BODY_ROOM, Body, COPY_LENGTH, ClusterLayout, HOSTS, ROW_LENGTH,
+    VERSION, has_twins, is_open, is_sequence, read_block, sequence_in,
 };
 
 /// Some open copy of an area is no beat, or both copies of a block are open with one sequence number.
@@ -18,10 +19,10 @@ pub struct Damaged;
 
 /// The body of a beat, whoever's.
 pub fn encode_beat() -> Body
-    ensures { result.bytes ≡ beat_body }
+    ensures { body_in result ≡ beat_body }
 {
-    let mut bytes = [0; BODY_LENGTH];
-    put_beat(&mut bytes);
+    let mut bytes = [0; BODY_ROOM];
+    put_beat(&mut bytes[..BODY_LENGTH]);
     Body { bytes }
 }
 
@@ -85,7 +86,7 @@ fn counter_in(bytes: &[u8]) -> Result<u64, Damaged>
     if is_damaged(first, second) {
         return Err(Damaged);
     }
-    let block = block_from(bytes);
+    let block = read_block::<ClusterLayout>(bytes);
     Ok(match block.current {
         None => 0,
         Some(_) => block.sequence,

@@ -1,30 +1,34 @@
 // A beat's bytes, and an area with one.
 use super::*;
-use torn_block::ROW_LENGTH;
+use torn_block::{HOSTS, ROW_LENGTH};
 
 #[test]
 fn one_beat(rt: HostRuntime) {
     let body = encode_beat();
-    assert_eq!(rt; body.bytes[0], 1);
+    assert_eq!(rt; body.bytes[0], 2);
     let mut area = [0; ROW_LENGTH];
-    assert_eq!(rt; decode_area(&area), Ok([0; 8]));
+    assert_eq!(rt; decode_area(&area), Ok([0; 16]));
     // host 1, copy 1, sequence number 5
-    area[192] = 0xA5;
-    area[193] = 1;
-    area[207] = 5;
-    assert_eq!(rt; decode_area(&area), Ok([0, 5, 0, 0, 0, 0, 0, 0]));
-    area[208] = 1;
+    area[384] = 0xA5;
+    area[385] = 2;
+    area[399] = 5;
+    let mut counters = [0; HOSTS];
+    counters[1] = 5;
+    assert_eq!(rt; decode_area(&area), Ok(counters));
+    area[400] = 1;
     assert_eq!(rt; decode_area(&area), Err(Damaged));
-    assert_eq!(rt;
-        damaged_beats(&area),
-        [false, true, false, false, false, false, false, false]
-    );
-    area[192] = 0;
-    assert_eq!(rt; decode_area(&area), Ok([0; 8]));
+    let mut damaged = [false; HOSTS];
+    damaged[1] = true;
+    assert_eq!(rt; damaged_beats(&area), damaged);
+    area[384] = 0;
+    assert_eq!(rt; decode_area(&area), Ok([0; 16]));
 }
 
 fn counters(first: u64, second: u64) -> Reading {
-    Some([first, second, 0, 0, 0, 0, 0, 0])
+    let mut counters = [0; HOSTS];
+    counters[0] = first;
+    counters[1] = second;
+    Some(counters)
 }
 
 // Three disks, host 0 asks.

@@ -11,6 +11,7 @@ use Rattle.std.specs.Option.{option_map}
 use Rattle.std.proofs.lemmas.List.{length-map, map-append, append-nil}
 use Rattle.std.proofs.lemmas.Bool.{and_parts, lt-ltb, le-ltb}
 use Rattle.std.proofs.lemmas.Slice.Eq.{bytes_eq-Decides}
+use Rattle.torn_block.specs.Layout.{cluster_version}
 use Rattle.attempt.specs.Answers.{Answered, Answers, Heard, on, heard_as}
 use Rattle.attempt.specs.NextCall.{next_call}
 use Rattle.heartbeat.specs.Suggesting.{Readings}
@@ -41,8 +42,7 @@ use Rattle.slot_log.specs.Kept as learners
 use Rattle.slot_log.specs.Kept.{AreDoing, is_idle_with}
 use Rattle.slot_log.specs.Learning as log
 use Rattle.slot_log.specs.Learning.{offered_by, offered_in}
-use Rattle.slot_log.specs.declared.operation.Operation as log_operation
-use Rattle.slot_log.specs.declared.operation.Task.{Task}
+use Rattle.slot_log.specs.Kept.{Task}
 use Rattle.slot_log.specs.declared.outcome.Outcome.{Outcome}
 use Rattle.slot_log.specs.declared.outcome.Outcome.TheVariants as outcome
 use Rattle.slot_log.specs.declared.outcome.Refusal.TheVariants as refusal
@@ -80,7 +80,7 @@ length_same : (m : Memory) → length (map spelling m.learned) ≡ length m.lear
 length_same m = length-map m.learned spelling
 
 abbrev setup_at : Shape → ℕ → Memory → Operation → ℕ → Setup
-setup_at c h m operation slot = record { host = h; slot = slot; disks = c.disks; floor = floor_for operation m.floor; input = input_of operation }
+setup_at c h m operation slot = record { version = cluster_version; host = h; slot = slot; disks = c.disks; floor = floor_for operation m.floor; input = input_of operation }
 
 -- it is the same for both
 pub setup_same : (c : Shape) (h : ℕ) (m : Memory) (operation : Operation) → log.setup_of c h (values_of m) (operation_of operation) ≡ setup_of c h m operation
@@ -271,7 +271,7 @@ fresh_offers_none s =
     let left : ℕ → Bool = is_left_at at s Opening nothing in
     offered_through (are_enough s left) at _ (first_of_all s.disks (λ d. waits s Opening []) left (λ d. refl))
 
-tries_offer_none : (c : Shape) (h : ℕ) (m : log.Memory) (operation : log_operation.Operation) (tries : ℕ) (b : Bool) → offered_in c h (if b then log.says m (outcome.Refused refusal.Outrun) else log.begins m operation tries) (if b then log.says m (outcome.Refused refusal.Outrun) else log.begins m operation tries).doing ≡ None
+tries_offer_none : (c : Shape) (h : ℕ) (m : log.Memory) (operation : log.Operation) (tries : ℕ) (b : Bool) → offered_in c h (if b then log.says m (outcome.Refused refusal.Outrun) else log.begins m operation tries) (if b then log.says m (outcome.Refused refusal.Outrun) else log.begins m operation tries).doing ≡ None
 tries_offer_none c h m operation tries true = refl
 tries_offer_none c h m operation tries false = fresh_offers_none (log.setup_of c h m operation)
 
@@ -549,14 +549,14 @@ pub idle_doing : (c : Shape) (h : ℕ) (m : Memory) (k : learners.Kept) → lear
 idle_doing c h m k leads idle = idle_with c h (values_with k.said m) m.doing k.task k.attempt leads.doing idle
 
 -- an attempt hears of an answer what its parts tell
-pub heard_same : (heard : code_heard.Heard) → heard_of heard ≡ heard_as (device_answer heard)
+pub heard_same : (heard : code_heard.Heard (List ℕ)) → heard_of heard ≡ heard_as (device_answer heard)
 heard_same (code_answer.Booted boot) = refl
 heard_same code_answer.Done = refl
 heard_same (code_answer.Told row) = refl
 heard_same (code_answer.Fault fault) = refl
 
 -- an attempt hears what the host does
-pub from_attempt : (c : Shape) (h : ℕ) (m : Memory) (o : Option Doing) (d : ℕ) (heard : code_heard.Heard) → is_some o ≡ true → hears c h m o (record { disk = d; heard = heard_of heard }) ≡ hears_from c h m o d (device_answer heard)
+pub from_attempt : (c : Shape) (h : ℕ) (m : Memory) (o : Option Doing) (d : ℕ) (heard : code_heard.Heard (List ℕ)) → is_some o ≡ true → hears c h m o (record { disk = d; heard = heard_of heard }) ≡ hears_from c h m o d (device_answer heard)
 from_attempt c h m None d heard some = absurd (cc)
 from_attempt c h m (Some t) d heard some = ap (λ (y : Heard). hears c h m (Some t) (record { disk = d; heard = y })) (heard_same heard)
 
@@ -593,7 +593,7 @@ abbrev pub kept_in : Inside → Kept
 kept_in p = record { learner = p.learner; prefix = p.prefix.items; said = p.said; beat = p.beat; readings = p.readings; marking = p.marking }
 
 -- The fields are what is kept, and a beat is under way.
-module _ (c : Shape) (h : ℕ) (m : Memory) (p : Inside) (view : Kept) (shown : kept_in p ≡ view) (b : beat_notes.Notes) (beats : p.beat ≡ Some b) (one : IsOneAtATime p.learner p.beat) (led : LeadsTo c h m view) (answer : code_heard.Heard) where
+module _ (c : Shape) (h : ℕ) (m : Memory) (p : Inside) (view : Kept) (shown : kept_in p ≡ view) (b : beat_notes.Notes) (beats : p.beat ≡ Some b) (one : IsOneAtATime p.learner p.beat) (led : LeadsTo c h m view) (answer : code_heard.Heard (List ℕ)) where
   abbrev k : Kept
   k = kept_in p
 
@@ -738,7 +738,7 @@ no_beat_heard c h None going = refl
 no_beat_heard c h (Some heard) going = absurd going
 
 -- The fields are what is kept, and a marking is under way.
-module _ (c : Shape) (h : ℕ) (m : Memory) (p : Inside) (view : Kept) (shown : kept_in p ≡ view) (b : mark_notes.Notes) (marks : p.marking ≡ Some b) (one : IsAloneToo p.learner p.beat p.marking) (led : LeadsTo c h m view) (answer : code_heard.Heard) where
+module _ (c : Shape) (h : ℕ) (m : Memory) (p : Inside) (view : Kept) (shown : kept_in p ≡ view) (b : mark_notes.Notes) (marks : p.marking ≡ Some b) (one : IsAloneToo p.learner p.beat p.marking) (led : LeadsTo c h m view) (answer : code_heard.Heard (List ℕ)) where
   abbrev mk : Kept
   mk = kept_in p
 

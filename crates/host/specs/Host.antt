@@ -2,6 +2,7 @@
 use Rattle.std.specs.Prelude.{◌-◌, ◌&&◌, ℕ, Bool, true, false, not, List, [], ◌∷◌, ◌++◌, length, max, nat_lt, nat_le, slice_get, Option, Some, None, is_some, if◌then◌else◌, bytes_eq}
 use Rattle.disk.specs.Disk as device
 use Rattle.paxos_block.specs.declared.ballot.TheConstants.{LAST_BALLOT}
+use Rattle.torn_block.specs.Layout.{cluster_version}
 use Rattle.attempt.specs.Answers.{Answered, on, heard_as}
 use Rattle.attempt.specs.Setup.{Setup}
 use Rattle.attempt.specs.Status.{Status, Due, Ended, End, status, taken}
@@ -97,7 +98,7 @@ floor_for Looking floor = max floor LAST_BALLOT
 
 -- the attempt on the next slot
 abbrev pub setup_of : Shape → ℕ → Memory → Operation → Setup
-setup_of c h m operation = record { host = h; slot = length m.learned; disks = c.disks; floor = floor_for operation m.floor; input = input_of operation }
+setup_of c h m operation = record { version = cluster_version; host = h; slot = length m.learned; disks = c.disks; floor = floor_for operation m.floor; input = input_of operation }
 
 -- an attempt on the next slot begins
 abbrev pub begins : Memory → Operation → ℕ → Memory

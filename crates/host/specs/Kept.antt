@@ -14,7 +14,6 @@ use Rattle.marks.specs.Kept as mark_kept
 use Rattle.marks.specs.declared.notes.Notes as mark_notes
 use Rattle.slot_log.specs.Kept as learners
 use Rattle.slot_log.specs.Learning as log
-use Rattle.slot_log.specs.declared.operation.Operation as log_operation
 use Rattle.slot_log.specs.declared.operation.Operation.TheVariants as operation
 use Rattle.slot_log.specs.declared.outcome.Outcome as log_outcome
 use Rattle.slot_log.specs.declared.outcome.Outcome.TheVariants as outcome
@@ -90,7 +89,7 @@ option_list (Some x) = x ∷ []
 
 -- THE SAME BY VALUES
 
-abbrev pub operation_of : Operation → log_operation.Operation
+abbrev pub operation_of : Operation → log.Operation
 operation_of (Submitting command) = operation.Placing (spelling command)
 operation_of Recovering = operation.Recovering
 operation_of Looking = operation.Looking

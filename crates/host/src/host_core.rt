@@ -28,6 +28,7 @@ use phases::{Heard, Need};
 use slot_log::{Config, Learner, Outcome, Refusal};
 use std::alloc::Global;
 use std::marker::Model;
+use torn_block::ClusterLayout;
 
 /// A running host: what it has learned since its start, and the operation that it carries out, one device call at a time.
 ///
@@ -36,7 +37,7 @@ use std::marker::Model;
 pub struct HostCore {
     host: HostNumber,
     config: Config,
-    learner: Learner,
+    learner: Learner<ClusterLayout>,
     prefix: Vec<Command>,
     table: Table,
     said: Option<HostAnswer>,
@@ -78,7 +79,7 @@ impl HostCore {
         ensures { IfOk result (λ core. LeadsTo config host fresh core) }
     {
         let slots = usize::from(config.slots());
-        let learner = Learner::new(alloc, host.get(), config)?;
+        let learner = Learner::<ClusterLayout>::new(alloc, host.get(), config)?;
         let prefix = Vec::with_capacity(alloc, slots)?;
         let Ok(table) = Table::new(alloc) else {
             return Err(NoMemory);
@@ -359,7 +360,7 @@ impl HostCore {
 // A value that the learner offers is learned if it is a command, and then carried out. Gives the reply to it.
 #[inline(never)]
 fn judge(
-    learner: &mut Learner,
+    learner: &mut Learner<ClusterLayout>,
     prefix: &mut Vec<Command>,
     table: &mut Table,
     value: &Value,

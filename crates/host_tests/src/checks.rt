@@ -3,19 +3,26 @@ use dlm_images::{Finding, check_folder, format_folder, open_folder_to_read};
 use host::Config;
 use std::fs;
 use std::test::Fail;
+use torn_block::{BLOCK_LENGTH, ClusterLayout, Layout, ROW_LENGTH};
 
 const FOLDER: &str = "dlm_images_checked";
 
 const IMAGE: &str = "dlm_images_checked/disk0.img";
 
+// Where the heartbeat area begins.
+const AREA: usize = ClusterLayout::AREA_PLACE as usize;
+
 // The gate of host 5's heartbeat block.
-const GATE: usize = 1664;
+const GATE: usize = AREA + 5 * BLOCK_LENGTH;
+
+// Where the row of slot 1 begins.
+const SLOT_1: usize = AREA + 2 * ROW_LENGTH;
 
 // The image gets these bytes, its folder is opened, and then the image is cut off behind slot 0: what a check prints, and what it found first.
 fn check_cut_off(rt: &HostRuntime, bytes: &[u8]) -> Result<(Vec<u8>, Option<Finding>), Fail> {
     fs::write(rt, IMAGE, bytes)?;
     let folder = open_folder_to_read(rt, FOLDER)?;
-    fs::write(rt, IMAGE, bytes.get(..3072).ok_or("slot 0")?)?;
+    fs::write(rt, IMAGE, bytes.get(..SLOT_1).ok_or("slot 0")?)?;
     let mut out = Vec::new(rt.alloc());
     let found = check_folder(folder, &mut out)?;
     Ok((out, found))

@@ -4,8 +4,9 @@ ghost use Rattle.std.specs.Prelude.{◌≡◌, IfOk, length};
 use disk::{Boot, Disk, DiskFault, NoMemory, SimDisk};
 use dlm_images::lay_out;
 use host::Config;
-use std::alloc::Global;
+use std::alloc::{AllocError, Global};
 use std::test::Fail;
+use torn_block::{ClusterLayout, Layout, ROW_LENGTH, VERSION};
 
 // A call of a disk, as it came in; how many bytes it reads or writes.
 #[derive(Clone, Copy, Debug, PartialEq, Eq)]
@@ -86,19 +87,15 @@ impl Disk for Recorder {
     }
 }
 
-const SIZE: usize = 10240;
+// The header and what is behind it, the heartbeat area and the rows of eight slots.
+const SIZE: usize = ClusterLayout::AREA_PLACE as usize + 9 * ROW_LENGTH;
 
-const CALLS: [Seen; 9] = [
-    Seen::Attach,
-    Seen::Write { at: 0, len: 4096 },
-    Seen::Write {
-        at: 4096,
-        len: 4096,
-    },
-    Seen::Write {
-        at: 8192,
-        len: 2048,
-    },
+// How many zeros are written at once, and how often.
+const CHUNK: usize = 4096;
+
+const CHUNKS: usize = (SIZE + CHUNK - 1) / CHUNK;
+
+const LAST_CALLS: [Seen; 5] = [
     Seen::Sync,
     Seen::Write { at: 0, len: 1024 },
     Seen::Sync,
@@ -106,8 +103,23 @@ const CALLS: [Seen; 9] = [
     Seen::Sync,
 ];
 
+// All calls.
+fn calls(alloc: Global) -> Result<Vec<Seen>, AllocError> {
+    let mut calls = Vec::new(alloc);
+    calls.push(Seen::Attach)?;
+    for number in 0..CHUNKS {
+        let at = CHUNK * number;
+        calls.push(Seen::Write {
+            at: at as u64,
+            len: CHUNK.min(SIZE - at),
+        })?;
+    }
+    calls.extend_from_slice(&LAST_CALLS)?;
+    Ok(calls)
+}
+
 // The closed gate, the version, the disk, how many there are, the slots and the cluster; zeros come behind them.
-const HEADER: [u8; 16] = [0, 1, 2, 3, 0, 0, 0, 8, 1, 2, 3, 4, 5, 6, 7, 8];
+const HEADER: [u8; 16] = [0, VERSION, 2, 3, 0, 0, 0, 8, 1, 2, 3, 4, 5, 6, 7, 8];
 
 fn expected(at: usize) -> u8 {
     if at < SIZE {
@@ -128,7 +140,7 @@ fn gate_is_opened_last(rt: HostRuntime) -> Result<(), Fail> {
     let config = Config::new(3, 8).ok_or("a size")?;
     let mut disk = Recorder::new(rt.alloc(), SIZE as u64)?;
     lay_out(&mut disk, config, 0x0102_0304_0506_0708, 2)?;
-    assert_eq!(rt; disk.seen.as_slice(), CALLS.as_slice());
+    assert_eq!(rt; disk.seen.as_slice(), calls(rt.alloc())?.as_slice());
     assert_eq!(rt; disk.written.len(), SIZE + 1024 + 1);
     for (at, byte) in disk.written.iter().enumerate() {
         assert_eq!(rt; *byte, expected(at), "at {at}");

@@ -14,6 +14,8 @@ mod judged;
 #[cfg(test)]
 mod laid_out;
 #[cfg(test)]
+mod old_images;
+#[cfg(test)]
 mod raced;
 #[cfg(test)]
 mod simulated;

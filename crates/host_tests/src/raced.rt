@@ -1,4 +1,4 @@
-use lock_command::HostNumber;
+use lock_command::{HOSTS, HostNumber};
 use lock_table::Reply;
 use race::{Answer, run_race};
 use std::test::Fail;
@@ -19,19 +19,19 @@ fn one_host(rt: HostRuntime) -> Result<(), Fail> {
     Ok(())
 }
 
-// Of eight hosts one has the lock, and the others wait; each stands in a slot of its own.
+// Of all hosts one has the lock, and the others wait; each stands in a slot of its own.
 #[test]
-fn eight_hosts(rt: HostRuntime) -> Result<(), Fail> {
-    let race = run_race(&rt, HostNumber::new(7).ok_or("a host")?)?;
+fn all_hosts(rt: HostRuntime) -> Result<(), Fail> {
+    let race = run_race(&rt, HostNumber::new(HOSTS as u8 - 1).ok_or("a host")?)?;
     assert!(rt; race.agree);
-    assert_eq!(rt; race.answers.len(), 8);
-    let mut taken = [false; 8];
+    assert_eq!(rt; race.answers.len(), HOSTS);
+    let mut taken = [false; HOSTS];
     let mut granted: usize = 0;
     for answer in &race.answers {
         match answer {
             Answer::Acknowledged { slot, reply } => {
                 let slot = usize::from(*slot);
-                assert!(rt; slot < 8 && !taken[slot]);
+                assert!(rt; slot < HOSTS && !taken[slot]);
                 taken[slot] = true;
                 match reply {
                     Reply::Granted => granted = granted.saturating_add(1),

@@ -1,4 +1,4 @@
--- The spelling of a command that it reads as has 32 bytes.
+-- The spelling of a command that it reads as has 48 bytes.
 use Rattle.std.specs.Prelude.{nat_le, ◌-◌, replicate, slice_index, take, drop, bytes_eq, if◌then◌else◌}
 use Rattle.std.proofs.Common.{ℕ, ◌≤◌, ◌≡◌, Bool, true, false, Option, Some, None, List, ◌∷◌, ◌++◌, length, length-append, refl, ap, arith}
 use Rattle.std.proofs.lemmas.List.{length-replicate}
@@ -17,13 +17,14 @@ unfolding number
 number_long n x = length-bytes_high_first n x
 
 -- by the length of its name
-spelled_long : (host client request : ℕ) (f : Fields) → length f.name ≤ 15 → length (spelled host client request f) ≡ 32
+spelled_long : (host client request : ℕ) (f : Fields) → length f.name ≤ 15 → length (spelled host client request f) ≡ 48
 spelled_long host client request f short =
     omega (
       arith,
       short,
-      length-append (number 2 f.lock) (number 8 request ++ (f.purged ∷ padded f.name)),
-      length-append (number 8 request) (f.purged ∷ padded f.name),
+      length-append (number 2 f.lock) (number 8 request ++ (f.purged ∷ (padded f.name ++ replicate 16 0))),
+      length-append (number 8 request) (f.purged ∷ (padded f.name ++ replicate 16 0)),
+      length-append (padded f.name) (replicate 16 0),
       number_long 2 f.lock,
       number_long 8 request,
       length-append f.name (replicate (15 - length f.name) 0),
@@ -70,7 +71,7 @@ name_short bytes found is =
 
 module _ (host client request : ℕ) where
   long_by : (action : Action) → decoded (spelling (record { host = host; client = client; request = request; action = action })) ≡ Some (record { host = host; client = client; request = request; action = action })
-      → length (spelling (record { host = host; client = client; request = request; action = action })) ≡ 32
+      → length (spelling (record { host = host; client = client; request = request; action = action })) ≡ 48
   unfolding command_at action_at enqueue_at
   long_by (Enqueue lock name mode no_queue) is =
       let c : Command = record { host = host; client = client; request = request; action = Enqueue lock name mode no_queue } in
@@ -84,5 +85,5 @@ module _ (host client request : ℕ) where
   long_by (Status lock) is = spelled_long host client request (fields_of (Status lock)) (omega arith)
   long_by (Purge purged) is = spelled_long host client request (fields_of (Purge purged)) (omega arith)
 
-pub spelling_long : (command : Command) → decoded (spelling command) ≡ Some command → length (spelling command) ≡ 32
+pub spelling_long : (command : Command) → decoded (spelling command) ≡ Some command → length (spelling command) ≡ 48
 spelling_long command is = long_by command.host command.client command.request command.action is

@@ -2,6 +2,7 @@
 use Rattle.std.proofs.Common.{◌≡◌, ◌≤◌, ◌<◌, ◌-◌, ◌^◌, ℕ, Bool, true, false, cond, not, ◌&&◌, ◌==◌, nat_le, List, ◌∷◌, ◌++◌, length, take, Option, Some, None, refl, sym, ap, ◌∙◌, arith}
 use Rattle.std.specs.Prelude.{replicate}
 use Rattle.std.proofs.Math.Seq.{take-append_seam}
+use Rattle.std.proofs.lemmas.List.{append_assoc}
 use Rattle.std.proofs.lemmas.Bool.{le-leb, lt-ltb}
 use Rattle.std.specs.Cmp.Derive.{both_true}
 use Rattle.byteorder.specs.Numbers.{big_number-reads_back}
@@ -24,7 +25,7 @@ both_are false b h = cc
 
 -- what stands behind the lock number, and behind the request number
 abbrev behind_lock : ℕ → Fields → List ℕ
-behind_lock request f = number 8 request ++ (f.purged ∷ padded f.name)
+behind_lock request f = number 8 request ++ (f.purged ∷ (padded f.name ++ replicate 16 0))
 
 lock_at-spelled : (host client request : ℕ) (f : Fields) → IsLock f.lock → lock_at (spelled host client request f) ≡ Some f.lock
 unfolding lock_at number
@@ -39,7 +40,7 @@ request_at-spelled host client request f fits =
     let bound : request < 256 ^ 8 = omega (arith, fits.1) in
     let least : nat_le 1 request ≡ true = le-leb 1 request fits.0 in
     let most : nat_le request (2 ^ 62) ≡ true = le-leb request (2 ^ 62) fits.1 in
-    ap (λ n. passed (nat_le 1 n && nat_le n (2 ^ 62)) n) (big_number-reads_back 8 request (f.purged ∷ padded f.name) bound)
+    ap (λ n. passed (nat_le 1 n && nat_le n (2 ^ 62)) n) (big_number-reads_back 8 request (f.purged ∷ (padded f.name ++ replicate 16 0)) bound)
     ∙ passed_true _ request (both_true least most)
 
 name_at-spelled : (host client request : ℕ) (f : Fields) → IsName f.name → name_at (spelled host client request f) ≡ Some f.name
@@ -47,8 +48,9 @@ unfolding name_at number
 name_at-spelled host client request f named =
     let lengths = (both_are _ _ named).0 in
     let few : nat_le (length f.name) 15 ≡ true = (both_are _ _ lengths).1 in
-    ap (λ t. cond t (name_of (take (length f.name) (padded f.name))) None) few
-    ∙ ap name_of (take-append_seam f.name (replicate (15 - length f.name) 0))
+    ap (λ t. cond t (name_of (take (length f.name) (padded f.name ++ replicate 16 0))) None) few
+    ∙ ap (λ l. name_of (take (length f.name) l)) (append_assoc f.name (replicate (15 - length f.name) 0) (replicate 16 0))
+    ∙ ap name_of (take-append_seam f.name (replicate (15 - length f.name) 0 ++ replicate 16 0))
     ∙ passed_true _ f.name named
 
 mode_of-mode_number : (mode : Mode) → mode_of (mode_number mode) ≡ Some mode

@@ -1,5 +1,5 @@
--- The one spelling of a command: 32 bytes, of each number the highest byte first.
-use Rattle.std.specs.Prelude.{ℕ, ◌<◌, ◌≤◌, ◌^◌, List, [], ◌∷◌, ◌++◌, length, if◌then◌else◌}
+-- The one spelling of a command: 48 bytes, of each number the highest byte first.
+use Rattle.std.specs.Prelude.{ℕ, ◌<◌, ◌≤◌, ◌^◌, List, [], ◌∷◌, ◌++◌, length, replicate, if◌then◌else◌}
 use Rattle.byteorder.specs.Endian.{big_bytes}
 use Rattle.lock_modes.specs.declared.mode.Mode.{Mode}
 use Rattle.lock_modes.specs.declared.mode.Mode.TheVariants.{Null, ConcurrentRead, ConcurrentWrite, ProtectedRead, ProtectedWrite, Exclusive}
@@ -40,11 +40,11 @@ fields_of (Purge host) = record { kind = 6; mode = 0; no_queue = 0; lock = 0; pu
 unfoldable pub number : ℕ → ℕ → List ℕ
 number n x = big_bytes n x
 
--- the fields in the order of their bytes
+-- the fields in the order of their bytes, and 16 zeros
 abbrev pub spelled : ℕ → ℕ → ℕ → Fields → List ℕ
 spelled host client request f =
     (f.kind ∷ host ∷ client ∷ f.mode ∷ f.no_queue ∷ length f.name ∷ [])
-    ++ (number 2 f.lock ++ (number 8 request ++ (f.purged ∷ padded f.name)))
+    ++ (number 2 f.lock ++ (number 8 request ++ (f.purged ∷ (padded f.name ++ replicate 16 0))))
 
 -- the one spelling of a command
 abbrev pub spelling : Command → List ℕ

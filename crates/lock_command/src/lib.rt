@@ -1,4 +1,4 @@
-//! The commands of the lock table, and the one spelling in 32 bytes that each of them has.
+//! The commands of the lock table, and the one spelling in 48 bytes that each of them has.
 #![tactic(auto)]
 
 mod command;

@@ -4,7 +4,7 @@ ghost use Rattle.std.specs.Option.{SomeIff};
 use std::marker::Model;
 
 /// The most hosts that a cluster has. They are numbered from 0.
-pub const HOSTS: usize = 8;
+pub const HOSTS: usize = 16;
 
 /// A host of the cluster, by its number below `HOSTS`.
 #[derive(Clone, Copy, Debug, PartialEq, Eq)]

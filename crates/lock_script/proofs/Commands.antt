@@ -1,8 +1,9 @@
 -- Words are read as a command exactly where they spell it.
-use Rattle.std.proofs.Common.{◌≡◌, ◌≤◌, ◌<◌, ◌^◌, ◌∙◌, inl, inr, ℕ, Bool, true, false, List, [], ◌∷◌, Option, Some, None, arith, refl, sym, ap, subst}
+use Rattle.std.proofs.Common.{◌≡◌, ◌≤◌, ◌<◌, ◌-◌, ◌^◌, ◌∙◌, inl, inr, ℕ, Bool, true, false, List, [], ◌∷◌, Option, Some, None, arith, refl, sym, ap, subst}
 use Rattle.std.specs.Prelude.{codes, decimal}
 use Rattle.lock_modes.specs.declared.mode.Mode.{Mode}
 use Rattle.lock_modes.specs.declared.mode.Mode.TheVariants.{Null, ConcurrentRead, ConcurrentWrite, ProtectedRead, ProtectedWrite, Exclusive}
+use Rattle.lock_command.specs.declared.number.TheConstants.{HOSTS}
 use Rattle.lock_command.specs.declared.command.Command.{Command}
 use Rattle.lock_command.specs.declared.command.Action.{Action}
 use Rattle.lock_command.specs.declared.command.Action.TheVariants.{Enqueue, Convert, Release, Cancel, Status, Purge}
@@ -131,9 +132,9 @@ host_alone : (kind : List ℕ) (words : List (List ℕ)) (action : Action) → k
 host_alone kind words action named h =
     let host = bound (last_word words >>= host_of) (λ host. Some (Purge host)) action h in
     let one = one_read host_of words host.0 host.1 in
-    let l = number_in-found 0 7 one.word host.0 one.reads in
+    let l = number_in-found 0 (HOSTS - 1) one.word host.0 one.reads in
     let e : Purge host.0 ≡ action = cc in
-    let range : host.0 < 8 = omega (arith, l.high) in
+    let range : host.0 < HOSTS = omega (arith, l.high) in
     subst (Asks kind words) e (record { kind_is = named; words_are = one.words_are ∙ ap (λ w. w ∷ []) l.spelled; fits = range })
 
 pub action_at-found : (kind : List ℕ) (words : List (List ℕ)) (action : Action) → action_at kind words ≡ Some action → Asks kind words action
@@ -179,7 +180,7 @@ action_at-only (Convert lock mode no_queue) fits =
 action_at-only (Release lock) fits = ap (λ (found : Option ℕ). found >>= λ l. Some (Release l)) (lock_of-only lock fits)
 action_at-only (Cancel lock) fits = ap (λ (found : Option ℕ). found >>= λ l. Some (Cancel l)) (lock_of-only lock fits)
 action_at-only (Status lock) fits = ap (λ (found : Option ℕ). found >>= λ l. Some (Status l)) (lock_of-only lock fits)
-action_at-only (Purge host) fits = ap (λ (found : Option ℕ). found >>= λ h. Some (Purge h)) (number_in-only 0 7 host (omega arith) (omega arith) (omega arith))
+action_at-only (Purge host) fits = ap (λ (found : Option ℕ). found >>= λ h. Some (Purge h)) (number_in-only 0 (HOSTS - 1) host (omega arith) (omega arith) (omega arith))
 
 -- words that spell this command, through a host
 pub record Commands (host : ℕ) (words : List (List ℕ)) (c : Command) : Type 0 where

@@ -1,8 +1,9 @@
 -- Words are read as a line exactly where they spell it.
-use Rattle.std.proofs.Common.{◌≡◌, ◌<◌, ◌∙◌, inl, inr, ℕ, List, [], ◌∷◌, Option, Some, arith, refl, sym, ap, subst}
+use Rattle.std.proofs.Common.{◌≡◌, ◌<◌, ◌-◌, ◌∙◌, inl, inr, ℕ, List, [], ◌∷◌, Option, Some, arith, refl, sym, ap, subst}
 use Rattle.std.specs.Prelude.{codes, decimal}
 use Rattle.torn_block.specs.declared.layout.TheConstants.{DISKS, SLOTS}
 use Rattle.slot_log.specs.Shape.{Shape}
+use Rattle.lock_command.specs.declared.number.TheConstants.{HOSTS}
 use Rattle.lock_command.specs.declared.command.Command.{Command}
 use Rattle.lock_command.specs.Command.{Fits as FitsCommand}
 use Rattle.lock_command.specs.Reading.{◌>>=◌}
@@ -77,30 +78,30 @@ recover_found : (kind : List ℕ) (words : List (List ℕ)) (line : Line) → ki
 unfolding recover_at
 recover_found kind words line named h =
     let r = two_read host_of tries_of (λ x y. Once (Recover x y)) words line h in
-    let d = number_in-found 0 7 r.first r.a r.reads in
+    let d = number_in-found 0 (HOSTS - 1) r.first r.a r.reads in
     let s = number_in-found 1 255 r.second r.b r.then_reads in
     let is : kind ∷ words ≡ codes "recover" ∷ decimal r.a ∷ decimal r.b ∷ [] = cc (named, r.words_are, d.spelled, s.spelled) in
-    let host : r.a < 8 = omega (arith, d.high) in
+    let host : r.a < HOSTS = omega (arith, d.high) in
     subst (Spells (kind ∷ words)) r.made (record { words_are = is; fits = (host, (s.low, s.high)) })
 
 tear_found : (kind : List ℕ) (words : List (List ℕ)) (line : Line) → kind ≡ codes "tear" → tear_at words ≡ Some line → Spells (kind ∷ words) line
 unfolding tear_at
 tear_found kind words line named h =
     let r = two_read host_of given_of (λ x y. Once (Tear x y)) words line h in
-    let d = number_in-found 0 7 r.first r.a r.reads in
+    let d = number_in-found 0 (HOSTS - 1) r.first r.a r.reads in
     let s = given_of-found r.second r.b r.then_reads in
     let is : kind ∷ words ≡ codes "tear" ∷ decimal r.a ∷ hex_word r.b ∷ [] = cc (named, r.words_are, d.spelled, s.spelled) in
-    let host : r.a < 8 = omega (arith, d.high) in
+    let host : r.a < HOSTS = omega (arith, d.high) in
     subst (Spells (kind ∷ words)) r.made (record { words_are = is; fits = (host, s.fits) })
 
 fail_found : (kind : List ℕ) (words : List (List ℕ)) (line : Line) → kind ≡ codes "fail" → fail_at words ≡ Some line → Spells (kind ∷ words) line
 unfolding fail_at
 fail_found kind words line named h =
     let r = two_read host_of given_of (λ x y. Once (FailCall x y)) words line h in
-    let d = number_in-found 0 7 r.first r.a r.reads in
+    let d = number_in-found 0 (HOSTS - 1) r.first r.a r.reads in
     let s = given_of-found r.second r.b r.then_reads in
     let is : kind ∷ words ≡ codes "fail" ∷ decimal r.a ∷ hex_word r.b ∷ [] = cc (named, r.words_are, d.spelled, s.spelled) in
-    let host : r.a < 8 = omega (arith, d.high) in
+    let host : r.a < HOSTS = omega (arith, d.high) in
     subst (Spells (kind ∷ words)) r.made (record { words_are = is; fits = (host, s.fits) })
 
 crash_found : (kind : List ℕ) (words : List (List ℕ)) (line : Line) → kind ≡ codes "crash" → crash_at words ≡ Some line → Spells (kind ∷ words) line
@@ -118,19 +119,19 @@ unfolding step_at
 step_found kind [] line named h = absurd (cc)
 step_found kind (a ∷ []) line named h =
     let host = bound (host_of a) (λ x. Some (Once (Step x))) line h in
-    let d = number_in-found 0 7 a host.0 host.1 in
+    let d = number_in-found 0 (HOSTS - 1) a host.0 host.1 in
     let e : Once (Step host.0) ≡ line = cc in
     let is : kind ∷ a ∷ [] ≡ codes "step" ∷ decimal host.0 ∷ [] = cc (named, d.spelled) in
-    let range : host.0 < 8 = omega (arith, d.high) in
+    let range : host.0 < HOSTS = omega (arith, d.high) in
     subst (Spells (kind ∷ a ∷ [])) e (record { words_are = is; fits = range })
 step_found kind (a ∷ b ∷ []) line named h =
     let host = bound (host_of a) (λ x. times_of b >>= λ y. Some (Steps x y)) line h in
     let times = bound (times_of b) (λ y. Some (Steps host.0 y)) line host.2 in
-    let d = number_in-found 0 7 a host.0 host.1 in
+    let d = number_in-found 0 (HOSTS - 1) a host.0 host.1 in
     let s = number_in-found 1 100000 b times.0 times.1 in
     let e : Steps host.0 times.0 ≡ line = cc in
     let is : kind ∷ a ∷ b ∷ [] ≡ codes "step" ∷ decimal host.0 ∷ decimal times.0 ∷ [] = cc (named, d.spelled, s.spelled) in
-    let range : host.0 < 8 = omega (arith, d.high) in
+    let range : host.0 < HOSTS = omega (arith, d.high) in
     subst (Spells (kind ∷ a ∷ b ∷ [])) e (record { words_are = is; fits = (range, s.low, s.high) })
 step_found kind (a ∷ b ∷ c ∷ words) line named h = absurd (nothing (host_of a) line h)
 
@@ -142,25 +143,25 @@ submit_found kind (a ∷ b ∷ rest) line named h =
     let host = bound (host_of a) (λ x. tries_of b >>= λ y. command_at x rest >>= λ z. Some (Once (Submit z y))) line h in
     let tries = bound (tries_of b) (λ y. command_at host.0 rest >>= λ z. Some (Once (Submit z y))) line host.2 in
     let command = bound (command_at host.0 rest) (λ z. Some (Once (Submit z tries.0))) line tries.2 in
-    let d = number_in-found 0 7 a host.0 host.1 in
+    let d = number_in-found 0 (HOSTS - 1) a host.0 host.1 in
     let s = number_in-found 1 255 b tries.0 tries.1 in
     let c = command_at-found host.0 rest command.0 command.1 in
     let e : Once (Submit command.0 tries.0) ≡ line = cc in
     let is : kind ∷ a ∷ b ∷ rest ≡ codes "submit" ∷ decimal command.0.host ∷ decimal tries.0 ∷ command_words command.0 = cc (named, d.spelled, s.spelled, c.words_are, ap decimal c.host_is) in
-    let range : command.0.host < 8 = omega (arith, d.high, c.host_is) in
+    let range : command.0.host < HOSTS = omega (arith, d.high, c.host_is) in
     let fits : FitsCommand command.0 = record { host = range; client = c.client; request = c.request; action = c.action } in
     subst (Spells (kind ∷ a ∷ b ∷ rest)) e (record { words_are = is; fits = (fits, (s.low, s.high)) })
 
 -- a host alone
 host_alone : (kind : List ℕ) (words : List (List ℕ)) (make : ℕ → Line) (line : Line)
-    → ((host : ℕ) → (line_words (make host) ≡ kind ∷ decimal host ∷ []) × (host < 8 → FitsLine (make host)))
+    → ((host : ℕ) → (line_words (make host) ≡ kind ∷ decimal host ∷ []) × (host < HOSTS → FitsLine (make host)))
     → ((last_word words >>= host_of) >>= λ host. Some (make host)) ≡ Some line → Spells (kind ∷ words) line
 host_alone kind words make line known h =
     let host = bound (last_word words >>= host_of) (λ host. Some (make host)) line h in
     let one = one_read host_of words host.0 host.1 in
-    let d = number_in-found 0 7 one.word host.0 one.reads in
+    let d = number_in-found 0 (HOSTS - 1) one.word host.0 one.reads in
     let e : make host.0 ≡ line = cc in
-    let range : host.0 < 8 = omega (arith, d.high) in
+    let range : host.0 < HOSTS = omega (arith, d.high) in
     let k = known host.0 in
     subst (Spells (kind ∷ words)) e (record { words_are = ap (λ w. kind ∷ w) (one.words_are ∙ ap (λ w. w ∷ []) d.spelled) ∙ sym k.0; fits = k.1 range })
 
@@ -178,9 +179,9 @@ mark_found : (kind : List ℕ) (words : List (List ℕ)) (line : Line) → kind 
 unfolding mark_at
 mark_found kind words line named h =
     let r = two_read host_of slot_of (λ x y. Once (Mark x y)) words line h in
-    let d = number_in-found 0 7 r.first r.a r.reads in
+    let d = number_in-found 0 (HOSTS - 1) r.first r.a r.reads in
     let s = number_in-found 0 4095 r.second r.b r.then_reads in
-    let host : r.a < 8 = omega (arith, d.high) in
+    let host : r.a < HOSTS = omega (arith, d.high) in
     let slot : r.b < 4096 = omega (arith, s.high) in
     let is : kind ∷ words ≡ codes "mark" ∷ decimal r.a ∷ decimal r.b ∷ [] = cc (named, r.words_are, d.spelled, s.spelled) in
     subst (Spells (kind ∷ words)) r.made (record { words_are = is; fits = (host, slot) })
@@ -245,8 +246,8 @@ line_at-found (kind ∷ words) line h =
       ]
     ]
 
-host_of-only : (host : ℕ) → host < 8 → host_of (decimal host) ≡ Some host
-host_of-only host small = number_in-only 0 7 host (omega arith) (omega arith) (omega arith)
+host_of-only : (host : ℕ) → host < HOSTS → host_of (decimal host) ≡ Some host
+host_of-only host small = number_in-only 0 (HOSTS - 1) host (omega arith) (omega arith) (omega arith)
 
 disk_of-only : (disk : ℕ) → disk < 7 → disk_of (decimal disk) ≡ Some disk
 disk_of-only disk small = number_in-only 0 6 disk (omega arith) (omega arith) (omega arith)

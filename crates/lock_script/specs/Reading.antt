@@ -5,6 +5,7 @@ use Rattle.std.specs.List.{list_all}
 use Rattle.std.specs.Str.Parse.{digits_value}
 use Rattle.lock_modes.specs.declared.mode.Mode.{Mode}
 use Rattle.lock_modes.specs.declared.mode.Mode.TheVariants.{Null, ConcurrentRead, ConcurrentWrite, ProtectedRead, ProtectedWrite, Exclusive}
+use Rattle.lock_command.specs.declared.number.TheConstants.{HOSTS}
 use Rattle.lock_command.specs.declared.command.Command.{Command}
 use Rattle.lock_command.specs.declared.command.Action.{Action}
 use Rattle.lock_command.specs.declared.command.Action.TheVariants.{Enqueue, Convert, Release, Cancel, Status, Purge}
@@ -37,7 +38,7 @@ number_in least most word = do
   passed (nat_le least n && nat_le n most) n
 
 abbrev pub host_of : List ℕ → Option ℕ
-host_of = number_in 0 7
+host_of = number_in 0 (HOSTS - 1)
 
 abbrev pub disk_of : List ℕ → Option ℕ
 disk_of = number_in 0 6

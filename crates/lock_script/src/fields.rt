@@ -17,7 +17,7 @@ const LAST_SLOT: u64 = SLOTS as u64 - 1;
 /// The most steps that one line asks for.
 const MOST_STEPS: u64 = 100_000;
 
-/// The number of a host, 0 to 7.
+/// The number of a host, 0 to 15.
 pub fn host_of(word: &[u8]) -> Option<HostNumber>
     ensures { result ≡ host_of word.now }
 {

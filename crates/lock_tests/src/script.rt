@@ -2,12 +2,13 @@ use lock_script::{Event, Run, ScriptFault, View, read_script};
 use std::test::Fail;
 
 /// Lines that may stand behind `cluster 3 16`, each with the events that it brings.
-const GOOD: [(&[u8], usize); 26] = [
+const GOOD: [(&[u8], usize); 28] = [
     (b"start 0", 1),
-    (b"stop 7", 1),
+    (b"start 8", 1),
+    (b"stop 15", 1),
     (b"submit 0 1 enqueue 1 1 1 EX db", 1),
     (
-        b"submit 7 255 enqueue 255 4611686018427387904 65535 NL 123456789012345 noqueue",
+        b"submit 15 255 enqueue 255 4611686018427387904 65535 NL 123456789012345 noqueue",
         1,
     ),
     (b"submit 0 1 enqueue 0 1 1 CR noqueue", 1),
@@ -16,9 +17,10 @@ const GOOD: [(&[u8], usize); 26] = [
     (b"submit 0 1 release 1 2 3", 1),
     (b"submit 0 1 cancel 1 2 3", 1),
     (b"submit 0 1 status 1 2 3", 1),
-    (b"submit 0 1 purge 1 2 7", 1),
+    (b"submit 0 1 purge 1 1 8", 1),
+    (b"submit 0 1 purge 1 2 15", 1),
     (b"recover 0 255", 1),
-    (b"beat 7", 1),
+    (b"beat 15", 1),
     (b"step 0", 1),
     (b"step 0 1", 1),
     (b"step 0 100000", 100_000),
@@ -30,13 +32,13 @@ const GOOD: [(&[u8], usize); 26] = [
     (b"blocking 0", 0),
     (b"", 0),
     (b"#", 0),
-    (b"# start 8", 0),
+    (b"# start 16", 0),
     (b"#\xff", 0),
 ];
 
 /// Lines that may not stand there.
 const BAD: [&[u8]; 50] = [
-    b"start 8",
+    b"start 16",
     b"start 00",
     b"start 01",
     b"start -1",
@@ -56,9 +58,9 @@ const BAD: [&[u8]; 50] = [
     b" # start 0",
     b"cluster 3 16",
     b"beat",
-    b"beat 8",
+    b"beat 16",
     b"beat 0 1",
-    b"blocking 8",
+    b"blocking 16",
     b"step 0 0",
     b"step 0 100001",
     b"step 0 1 1",
@@ -77,7 +79,7 @@ const BAD: [&[u8]; 50] = [
     b"submit 0 1 enqueue 1 1 1 EX",
     b"submit 0 1 enqueue 1 1 1 EX db wait",
     b"submit 0 1 enqueue 1 1 1 EX db noqueue noqueue",
-    b"submit 0 1 purge 1 1 8",
+    b"submit 0 1 purge 1 1 16",
     b"submit 0 1 upgrade 1 1 1",
     b"tear 0",
     b"tear 0 ",
@@ -101,7 +103,7 @@ fn lines_behind_the_first(rt: HostRuntime) -> Result<(), Fail> {
     for line in BAD {
         let mut script = b"cluster 3 16\n# a comment\n".to_vec(rt.alloc())?;
         script.extend_from_slice(line)?;
-        script.extend_from_slice(b"\nstart 9\n")?;
+        script.extend_from_slice(b"\nstart 17\n")?;
         let fault = read_script(rt.alloc(), script.as_slice()).err();
         assert_eq!(rt; fault, Some(ScriptFault::BadLine(3)));
     }
@@ -159,13 +161,13 @@ fn most_events(rt: HostRuntime) -> Result<(), Fail> {
     for _ in 0..10 {
         script.extend_from_slice(b"step 0 100000\n")?;
     }
-    script.extend_from_slice(b"blocking 7\n")?;
+    script.extend_from_slice(b"blocking 15\n")?;
     let whole = read_script(rt.alloc(), script.as_slice())?;
     assert_eq!(rt; whole.events.len(), 1_000_000);
     match whole.shows.as_slice() {
         [show] => assert_eq!(rt;
             (show.place, show.host.get(), show.view),
-            (1_000_000, 7, View::Blocking)
+            (1_000_000, 15, View::Blocking)
         ),
         _ => assert!(rt; false),
     }

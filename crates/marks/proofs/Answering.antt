@@ -8,14 +8,16 @@ use Rattle.torn_block.specs.declared.layout.TheConstants.{LAST_SEQUENCE}
 use Rattle.torn_block.specs.declared.block.Block128.{Block128}
 use Rattle.torn_block.specs.declared.write_steps.WriteCall.{WriteCall}
 use Rattle.torn_block.specs.declared.write_steps.WriteCall.TheVariants.{CloseGate, SyncClosed, PutBody, SyncBody, OpenGate, SyncOpened}
-use Rattle.torn_block.specs.Block.{next_sequence_at}
-use Rattle.torn_block.specs.Plan.{Plan, told_value, plan_by, need_at, next_after, device_call}
+use Rattle.torn_block.specs.Block.{next_number}
+use Rattle.torn_block.specs.Plan.{Plan, told_number, plan_by, need_at, next_after, device_call}
+use Rattle.torn_block.specs.Layout.{cluster_version}
 use Rattle.torn_block.proofs.PlanLaws.{plan_calls}
 use Rattle.torn_block.specs.Stage.{Write128, next_call as call_behind, call_of}
-use Rattle.paxos_block.specs.declared.block.PBlock.{PBlock}
+use Rattle.paxos_block.specs.Saying.{Said as PBlock}
 use Rattle.paxos_block.specs.Places.{place_of, VoteOf}
 use Rattle.paxos_block.specs.Row.{SeenBlock, IsSaid, seen_at}
 use Rattle.paxos_block.specs.Saying.{MaySay, body_saying}
+use Rattle.paxos_block.specs.layouts.Saying.{said_as}
 use Rattle.paxos_block.proofs.VoteLemmas.{unspent, spent}
 use Rattle.attempt.specs.Answers.{Heard, Booted, Done, Told, Answers, more, is_bad}
 use Rattle.attempt.specs.NextCall.{with_disk}
@@ -42,6 +44,17 @@ may_mark_it host None says value said holds =
     absurd (cc)
 may_mark_it host (Some read) says value said holds =
     record { mbal = said.1.mbal; vote = said.1.vote; mark = has_input says.inp value holds }
+
+-- an input is its bytes
+same_input : (o : Option (List ℕ)) → option_map (λ value. value) o ≡ o
+same_input None = refl
+same_input (Some value) = refl
+
+pub said_same : (says : PBlock) → said_as (λ value. value) says ≡ says
+said_same says = ap (λ (o : Option (List ℕ)). record says { inp = o }) (same_input says.inp)
+
+pub says_shown : (says seen : PBlock) → said_as (λ value. value) says ≡ seen → says ≡ seen
+says_shown says seen is = sym (said_same says) ∙ is
 
 module _ (f : Answers) (n : Notes) (is : Follows f n) (going : n.end ≡ None) where
   abbrev s : Setup
@@ -123,17 +136,17 @@ module _ (f : Answers) (n : Notes) (is : Follows f n) (going : n.end ≡ None) w
           ap (λ (x : PBlock). not x.mark && is_value x.inp n.value) (sym begins.says_is) ∙ ap₂ (λ (t k : Bool). not t && k) begins.unmarked begins.holds
 
       -- a write begins
-      pub writes : (steps : Plan) → steps ≡ plan_by block (body_saying (with_mark says)) → next_sequence_at (told_value block) ≤ LAST_SEQUENCE → Follows (more f n.disk told) (record n { steps = steps; stage = stage.Writing })
+      pub writes : (steps : Plan) → steps ≡ plan_by block (body_saying (with_mark says)) → next_number (told_number block) ≤ LAST_SEQUENCE → Follows (more f n.disk told) (record n { steps = steps; stage = stage.Writing })
       writes steps plan some =
           let new : Notes = record n { steps = steps; stage = stage.Writing } in
           follows_of (more f n.disk told) new going
           (stays f n v told n.boot stage.Writing steps
-          (record { row = row; block = block; says = says; call = CloseGate; heard = three_are; begun = begins; unspent = unspent (told_value block) own.sequence begins.sequence some; plan = plan }))
+          (record { row = row; block = block; says = says; call = CloseGate; heard = three_are; begun = begins; unspent = unspent (told_number block) own.sequence begins.sequence some; plan = plan }))
 
       -- none can
-      pub is_spent : (next_sequence_at (told_value block) ≤ LAST_SEQUENCE → ⊥) → (lost : ℕ) → lost ≡ n.lost + 1 → IsPassed s (more f n.disk told) (n.disk + 1) lost n.marked
+      pub is_spent : (next_number (told_number block) ≤ LAST_SEQUENCE → ⊥) → (lost : ℕ) → lost ≡ n.lost + 1 → IsPassed s (more f n.disk told) (n.disk + 1) lost n.marked
       is_spent none lost lost_is =
-          let stuck : nat_le LAST_SEQUENCE own.sequence ≡ true = spent (told_value block) own.sequence begins.sequence none in
+          let stuck : nat_le LAST_SEQUENCE own.sequence ≡ true = spent (told_number block) own.sequence begins.sequence none in
           let gone : is_left s three ≡ false = ap₂ (λ (t k : Bool). not (t && k)) to_mark stuck in
           let left : is_left s (f n.disk ++ told ∷ []) ≡ false = ap (is_left s) three_are ∙ gone in
           passes f n v told false false (not_left_waits s (f n.disk ++ told ∷ []) left) left (not_left_marked s (f n.disk ++ told ∷ []) left) lost n.marked lost_is (omega arith)
@@ -214,7 +227,7 @@ module _ (f : Answers) (n : Notes) (is : Follows f n) (going : n.end ≡ None) w
     so_far call = Booted n.boot.number ∷ Done ∷ Told (Some row) ∷ replicate (made (Some call)) Done
 
     abbrev write : Write128
-    write = record { place = place_of (VoteOf n.slot n.host); block = (seen_at row n.host).bytes; body = body_saying (with_mark (seen_at row n.host).says) }
+    write = record { version = cluster_version; place = place_of (VoteOf n.slot n.host); block = (seen_at row n.host).bytes; body = body_saying (with_mark (seen_at row n.host).says) }
 
     abbrev due_now : device.Call
     due_now = write_due (place_of (VoteOf n.slot n.host)) n.boot.number steps steps.due

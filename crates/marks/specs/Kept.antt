@@ -1,13 +1,13 @@
 -- What a marking keeps, and when that is what follows from a list of answers.
 use Rattle.std.specs.Prelude.{◌≡◌, ◌<◌, ◌≤◌, ◌+◌, ◌*◌, ℕ, true, false, nat_le, List, [], ◌∷◌, replicate, Option, Some, None}
 use Rattle.disk.specs.Disk as device
-use Rattle.torn_block.specs.declared.layout.TheConstants.{HOSTS, DISKS, ROW_LENGTH, LAST_SEQUENCE}
+use Rattle.torn_block.specs.declared.layout.TheConstants.{HOSTS, DISKS, COPY_LENGTH, ROW_LENGTH, LAST_SEQUENCE}
 use Rattle.torn_block.specs.declared.block.Block128.{Block128}
 use Rattle.torn_block.specs.declared.write_steps.WriteCall.{WriteCall}
-use Rattle.torn_block.specs.Plan.{IsReading, told_value, plan_by}
-use Rattle.paxos_block.specs.declared.block.PBlock.{PBlock}
+use Rattle.torn_block.specs.Plan.{IsReading, told_number, plan_by}
+use Rattle.paxos_block.specs.Saying.{Said as PBlock}
 use Rattle.paxos_block.specs.Places.{place_of, VoteOf, row_place}
-use Rattle.paxos_block.specs.Row.{SeenBlock, seen_at, sequence_or_zero}
+use Rattle.paxos_block.specs.Row.{SeenBlock, seen_at, number_or_zero}
 use Rattle.paxos_block.specs.Saying.{body_saying}
 use Rattle.attempt.specs.Answers.{Heard, Booted, Done, Told, Answered, Answers, on}
 use Rattle.attempt.specs.Numbers.{count}
@@ -40,11 +40,11 @@ abbrev pub call_due : Notes → ℕ × device.Call
 call_due n = (n.disk, call_at n.stage n)
 
 -- an answer to it
-abbrev pub answer_of : Notes → code_heard.Heard → Answered
+abbrev pub answer_of : Notes → code_heard.Heard (List ℕ) → Answered
 answer_of n heard = record { disk = n.disk; heard = heard_of heard }
 
 -- an answer of the kind that the call may get
-abbrev pub FitsStage : Stage → code_heard.Heard → Type 0
+abbrev pub FitsStage : Stage → code_heard.Heard (List ℕ) → Type 0
 FitsStage stage (answer.Fault fault) = Unit {0}
 FitsStage stage.Attaching (answer.Booted boot) = Unit {0}
 FitsStage stage.Syncing answer.Done = Unit {0}
@@ -64,6 +64,7 @@ pub record IsSound (n : Notes) : Type 0 where
   pub few : n.disks ≤ DISKS
   pub lost : n.lost ≤ n.disk
   pub marked : n.marked ≤ n.disk
+  pub size : n.steps.size ≡ COPY_LENGTH
 
 -- it is of the same slot, by the same host on the same disks
 abbrev pub IsSameMarking : Notes → Notes → Type 0
@@ -74,7 +75,7 @@ IsSameMarking old new = setup_of new ≡ setup_of old
 -- the own block in a row holds the value without a mark, and this is what a writer of it goes by
 pub record BeginsOn (s : Setup) (row : List SeenBlock) (block : Block128) (says : PBlock) : Type 0 where
   pub read : IsReading (seen_at row s.host).bytes block
-  pub sequence : sequence_or_zero (told_value block) ≡ (seen_at row s.host).sequence
+  pub sequence : number_or_zero (told_number block) ≡ (seen_at row s.host).sequence
   pub says_is : says ≡ (seen_at row s.host).says
   pub unmarked : says.mark ≡ false
   pub holds : is_value says.inp s.value ≡ true

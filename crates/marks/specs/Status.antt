@@ -2,8 +2,9 @@
 use Rattle.std.specs.Prelude.{◌*◌, ◌==◌, ◌&&◌, ◌||◌, ℕ, Bool, true, false, not, List, length, nat_lt, nat_le, slice_get, Option, Some, None, option_map, if◌then◌else◌, bytes_eq}
 use Rattle.disk.specs.Disk as device
 use Rattle.torn_block.specs.declared.layout.TheConstants.{LAST_SEQUENCE, ROW_LENGTH}
+use Rattle.torn_block.specs.Layout.{cluster_version}
 use Rattle.torn_block.specs.Stage.{Write128, call_of}
-use Rattle.paxos_block.specs.declared.block.PBlock.{PBlock}
+use Rattle.paxos_block.specs.Saying.{Said as PBlock}
 use Rattle.paxos_block.specs.Places.{place_of, VoteOf, row_place}
 use Rattle.paxos_block.specs.Row.{SeenBlock}
 use Rattle.paxos_block.specs.Saying.{body_saying}
@@ -94,7 +95,7 @@ with_mark says = record { mbal = says.mbal; bal = says.bal; inp = says.inp; mark
 
 -- the write goes to the own block, as it was read
 abbrev pub write_on : Setup → List Heard → Write128
-write_on s a = record { place = place_of (VoteOf s.slot s.host); block = (own_block s a).bytes; body = body_saying (with_mark (own_block s a).says) }
+write_on s a = record { version = cluster_version; place = place_of (VoteOf s.slot s.host); block = (own_block s a).bytes; body = body_saying (with_mark (own_block s a).says) }
 
 abbrev pub call_by : Setup → List Heard → Kind → device.Call
 call_by s a Attaching = device.Attach

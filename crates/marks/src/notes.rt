@@ -1,6 +1,7 @@
 // What a marking keeps of what it has heard, and how each answer changes it.
 ghost use Rattle.std.specs.Prelude.{◌≡◌, ◌<◌, ◌≤◌, ◌+◌, ◌-◌, ◌*◌, ℕ, List, Bool, true, false, cond, [], Some, None};
-ghost use Rattle.torn_block.specs.declared.layout.TheConstants.{HOSTS, DISKS, ROW_LENGTH};
+ghost use Rattle.torn_block.specs.declared.layout.TheConstants.{HOSTS, DISKS, COPY_LENGTH, ROW_LENGTH};
+ghost use Rattle.torn_block.specs.Layout.{cluster_version};
 ghost use Rattle.torn_block.specs.Plan.{IsReading};
 ghost use Rattle.paxos_block.specs.Places.{place_of, VoteOf, row_place};
 ghost use Rattle.paxos_block.specs.Row.{SeenBlock, seen_at, row_said};
@@ -15,9 +16,9 @@ ghost use Rattle.marks.specs.Status.{is_value, with_mark};
 
 use crate::end::End;
 use disk::Boot;
-use paxos_block::{PBlock, Row, Value, block_place, encode, row_place};
+use paxos_block::{PBlock, Row, Value, block_place, encode, read_row, row_place};
 use phases::{DeviceCall, Heard};
-use torn_block::{BODY_LENGTH, Block128, BlockNeed, Body, ROW_LENGTH, WriteSteps};
+use torn_block::{BODY_ROOM, Block128, BlockNeed, Body, ClusterLayout, ROW_LENGTH, WriteSteps};
 
 /// What comes next on a disk.
 #[derive(Clone, Copy, Debug, PartialEq, Eq)]
@@ -87,7 +88,7 @@ impl Notes {
             Stage::Syncing => DeviceCall::Sync { boot },
             Stage::Reading => DeviceCall::Read {
                 boot,
-                at: row_place(u32::from(self.slot)),
+                at: row_place::<ClusterLayout>(u32::from(self.slot)),
             },
             Stage::Writing => self.write_call(),
         }
@@ -101,7 +102,7 @@ impl Notes {
         ensures range { IsWithin (row_place self.now.slot + ROW_LENGTH) result }
     {
         let boot = self.boot;
-        let place = block_place(u32::from(self.slot), self.host);
+        let place = block_place::<ClusterLayout>(u32::from(self.slot), self.host);
         match self.steps.next() {
             Some(BlockNeed::Write { at, bytes }) => DeviceCall::Write {
                 boot,
@@ -188,22 +189,22 @@ impl Notes {
         ensures follows { (f : Answers) → Follows f self.old →
             Follows (more f self.old.disk (answers.Told (row_said bytes.now))) self.new }
     {
-        let mut row = Row::BLANK;
-        match row.read(bytes) {
+        let mut row = Row::blank();
+        match read_row::<ClusterLayout>(&mut row, bytes) {
             Ok(()) => self.take_row(&row),
             Err(_) => self.drop_disk(),
         }
     }
 
     // The row was read. The own block is written where it holds the value without a mark.
-    fn take_row(&mut self, row: &Row)
+    fn take_row(&mut self, row: &Row<Value>)
         requires sound { IsSound self.old }
         requires going { self.old.end ≡ None }
         requires stage { self.old.stage ≡ Stage.Reading }
-        requires row { (bytes : List ℕ) × ReadsAs bytes row.now }
+        requires row { (bytes : List ℕ) × ReadsAs cluster_version (λ value. value) bytes row.now }
         ensures sound { IsSound self.new }
         ensures same { IsSameMarking self.old self.new }
-        ensures follows { (f : Answers) (bytes : List ℕ) → ReadsAs bytes row.now → Follows f self.old →
+        ensures follows { (f : Answers) (bytes : List ℕ) → ReadsAs cluster_version (λ value. value) bytes row.now → Follows f self.old →
             Follows (more f self.old.disk (answers.Told (row_said bytes))) self.new }
     {
         let cell = row.cell(self.host);
@@ -217,7 +218,7 @@ impl Notes {
     }
 
     // A write begins that marks the own block, or the disk is dropped where the block is spent.
-    fn begin_write(&mut self, block: &Block128, says: &PBlock)
+    fn begin_write(&mut self, block: &Block128, says: &PBlock<Value>)
         requires sound { IsSound self.old }
         requires going { self.old.end ≡ None }
         requires stage { self.old.stage ≡ Stage.Reading }
@@ -232,8 +233,8 @@ impl Notes {
             mark: true,
             ..*says
         };
-        let body = encode(self.host, &marked);
-        match WriteSteps::new(block, &body) {
+        let body = encode::<ClusterLayout>(self.host, &marked);
+        match WriteSteps::new::<ClusterLayout>(block, &body) {
             Ok(steps) => {
                 self.steps = steps;
                 self.stage = Stage::Writing;
@@ -280,7 +281,7 @@ impl Notes {
 }
 
 // Whether a block holds this value.
-fn holds(says: &PBlock, value: &Value) -> bool
+fn holds(says: &PBlock<Value>, value: &Value) -> bool
     ensures { result ≡ is_value says.now.inp value.now }
 {
     match says.inp {
@@ -290,15 +291,11 @@ fn holds(says: &PBlock, value: &Value) -> bool
 }
 
 // What stands where no write is under way: it is put in its place before it is gone by.
-fn no_steps() -> WriteSteps {
+fn no_steps() -> WriteSteps
+    ensures { result.size ≡ COPY_LENGTH }
+{
     let body = Body {
-        bytes: [0; BODY_LENGTH],
+        bytes: [0; BODY_ROOM],
     };
-    let blank = Block128 {
-        current: None,
-        sequence: 0,
-        body,
-        next_is_open: false,
-    };
-    WriteSteps::new(&blank, &body).unwrap()
+    WriteSteps::new::<ClusterLayout>(&Block128::BLANK, &body).unwrap()
 }

@@ -5,6 +5,7 @@ use Rattle.std.proofs.lemmas.Bool.{cases_Bool}
 use Rattle.std.proofs.lemmas.List.{get_or_default}
 use Rattle.std.proofs.lemmas.List.FromFn.{fill_by_all, get_or-map-range_with_len, length-map-range_with_len}
 use Rattle.torn_block.specs.declared.layout.TheConstants.{HOSTS, BLOCK_LENGTH, ROW_LENGTH}
+use Rattle.torn_block.specs.Layout.{cluster_version}
 use Rattle.torn_block.specs.Damage.{IsDamagedBlock, block_of}
 use Rattle.torn_block.specs.Numbers.{AreBytes}
 use Rattle.torn_block.proofs.NumberLaws.{AreBytes-drop, AreBytes-take}
@@ -16,11 +17,11 @@ use Rattle.paxos_block.proofs.RowLemmas.{sound_tells, sound_since, length-block_
 -- the test decides whether a block is damaged
 test_decides : (host : ℕ) (block : List ℕ) → length block ≡ BLOCK_LENGTH → AreBytes block → (is_damaged_block host block ≡ true) ↔ IsDamagedBlock (IsSound host) block
 test_decides host block long fits = (
-  (λ t. damaged_tells (IsSound host) (is_sound host) (sound_since host) block long t),
+  (λ t. damaged_tells cluster_version (IsSound host) (is_sound host) (sound_since cluster_version host) block long t),
   (λ damage.
       elim (cases_Bool (is_damaged_block host block)) [
         | inl t ↦ t
-        | inr f ↦ absurd (sound_is_not_damaged (IsSound host) (is_sound host) block (sound_block_tells (IsSound host) (is_sound host) (sound_tells host) block long fits f) damage)
+        | inr f ↦ absurd (sound_is_not_damaged cluster_version (IsSound host) (is_sound host) block (sound_block_tells cluster_version (IsSound host) (is_sound host) (sound_tells cluster_version host) block long fits f) damage)
       ]),
 )
 
@@ -47,7 +48,7 @@ module _ (row : List ℕ) where
             λ host below.
             let block = block_of host row in
             let bytes : AreBytes block = AreBytes-take _ (drop (BLOCK_LENGTH * host) row) (AreBytes-drop (BLOCK_LENGTH * host) row fits) in
-            let decides = test_decides host block (length-block_of host row below long) bytes in
+            let decides = test_decides host block (length-block_of cluster_version host row below long) bytes in
             let is = damaged_in-at host below in
             ((λ t. decides.0 (sym is ∙ t)), (λ damage. is ∙ decides.1 damage));
       }

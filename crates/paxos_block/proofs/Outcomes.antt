@@ -4,17 +4,19 @@ use Rattle.disk.specs.Disk.{DiskState, Call, Attach, Read, Write, Sync, Answer, 
 use Rattle.disk.specs.Crash.{MayLeave}
 use Rattle.disk.proofs.CrashLemmas.{may_leave_now, may_leave_synced}
 use Rattle.disk.proofs.StepLemmas.{step_keeps}
-use Rattle.torn_block.specs.Place.{block_in}
-use Rattle.torn_block.specs.Register.{IsAtRest}
+use Rattle.torn_block.specs.layouts.Place.{block_in}
+use Rattle.torn_block.specs.layouts.Register.{IsAtRest}
+use Rattle.torn_block.specs.Layout.{Version, hosts_in, copy_length, block_length, body_length, row_length, value_length, padding, number_of, area_place}
+use Rattle.torn_block.proofs.LayoutLaws.{long_copy, long_value, some_hosts, few_hosts, blocks_follow, row_holds, rows_follow}
 
 -- whatever a crash may make of the block on the new disk, it may on the old one
-abbrev pub Outcomes : DiskState → ℕ → DiskState → Type 0
-Outcomes old place new =
-    (bytes : List ℕ) → MayLeave new bytes → (before : List ℕ) × MayLeave old before × (block_in place bytes ≡ block_in place before)
+abbrev pub Outcomes : (v : Version) → DiskState → ℕ → DiskState → Type 0
+Outcomes v old place new =
+    (bytes : List ℕ) → MayLeave new bytes → (before : List ℕ) × MayLeave old before × (block_in v place bytes ≡ block_in v place before)
 
 -- so it is of a disk itself
-pub same_outcomes : (disk new : DiskState) (place : ℕ) → new ≡ disk → Outcomes disk place new
-same_outcomes disk new place is = subst (Outcomes disk place) (sym is) (λ bytes may. (bytes, may, refl))
+pub same_outcomes : (v : Version) → (disk new : DiskState) (place : ℕ) → new ≡ disk → Outcomes v disk place new
+same_outcomes v disk new place is = subst (Outcomes v disk place) (sym is) (λ bytes may. (bytes, may, refl))
 
 -- the call writes nothing
 abbrev pub IsCalm : Call → Type 0
@@ -28,19 +30,19 @@ no_write : (call : Call) (boot at : ℕ) (from : List ℕ) → IsCalm call → c
 no_write call boot at from calm is = subst IsCalm is calm
 
 -- and leaves no other outcome
-pub calm_outcomes : (disk new : DiskState) (place : ℕ) (call : Call) (answer : Answer) → IsCalm call → Step disk call answer new → Outcomes disk place new
-calm_outcomes disk new place call answer calm step =
-    step_keeps (Outcomes disk place) disk new call answer
+pub calm_outcomes : (v : Version) → (disk new : DiskState) (place : ℕ) (call : Call) (answer : Answer) → IsCalm call → Step disk call answer new → Outcomes v disk place new
+calm_outcomes v disk new place call answer calm step =
+    step_keeps (Outcomes v disk place) disk new call answer
     (record {
       writes = λ boot at from left is as_many. absurd (no_write call boot at from calm is);
-      syncs = λ bytes may. (disk.bytes, may_leave_now disk, ap (block_in place) (may_leave_synced disk bytes may));
+      syncs = λ bytes may. (disk.bytes, may_leave_now disk, ap (block_in v place) (may_leave_synced disk bytes may));
       stays = λ bytes may. (bytes, may, refl);
     })
     step
 
 -- what is at rest stays so
-pub rests_by : (disk new : DiskState) (place : ℕ) → Outcomes disk place new → IsAtRest place disk → IsAtRest place new
-rests_by disk new place o rests bytes may =
+pub rests_by : (v : Version) → (disk new : DiskState) (place : ℕ) → Outcomes v disk place new → IsAtRest v place disk → IsAtRest v place new
+rests_by v disk new place o rests bytes may =
     let then = o bytes may in
     let now = o new.bytes (may_leave_now new) in
     then.2 ∙ rests then.0 then.1 ∙ sym (rests now.0 now.1) ∙ sym now.2

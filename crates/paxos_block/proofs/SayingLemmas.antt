@@ -1,22 +1,24 @@
 -- A body is read as what it was written to say, and what is read is spelled so.
-use Rattle.std.specs.Prelude.{◌≡◌, ◌≢◌, ◌==◌, ◌&&◌, ◌+◌, ◌-◌, ◌≤◌, ◌<◌, ◌^◌, ◌++◌, ℕ, Bool, true, false, List, [], ◌∷◌, length, take, drop, slice_index, Option, Some, None, is_some, IfSome, nat_eq, nat_le, if◌then◌else◌}
-use Rattle.std.proofs.Common.{true≢false, zero, suc, refl, sym, ap, ◌∙◌, subst, arith, inl, inr, length-drop}
+use Rattle.std.specs.Prelude.{◌≡◌, ◌≢◌, ◌==◌, ◌&&◌, ◌+◌, ◌*◌, ◌-◌, ◌≤◌, ◌<◌, ◌^◌, ◌++◌, ℕ, Bool, true, false, List, [], ◌∷◌, length, take, drop, slice_index, Option, Some, None, is_some, IfSome, nat_eq, nat_le, if◌then◌else◌}
+use Rattle.std.proofs.Common.{true≢false, zero, suc, refl, sym, ap, ◌∙◌, subst, arith, inl, inr, length-drop, length-append}
 use Rattle.std.specs.List.{list_all}
-use Rattle.std.proofs.lemmas.List.{take_rest, take_at, drop_at, drop-drop, take-append-drop, take-take, length-replicate, get_or_append_left}
-use Rattle.std.proofs.lemmas.Bool.{and_parts, and_from, leb-true, le-leb, eqb-true, eq-eqb, cases_Bool, cond-true, cond-false, false_from_ne_true, both_ways, ne_eqb}
+use Rattle.std.proofs.lemmas.List.{take_rest, take_at, drop_at, drop-drop, take-append-drop, take-take, length-replicate, length-take-le, get_or_append_left, replicate-append-replicate}
+use Rattle.std.proofs.Math.Seq.{take-append_seam}
+use Rattle.std.proofs.lemmas.Bool.{and_parts, and_from, leb-true, le-leb, eqb-true, eq-eqb, cases_Bool, cond-true, cond-false, false_from_ne_true, ne_eqb}
 use Rattle.std.specs.Cmp.Lexicographic.{pointwise, bytes_decides}
 use Rattle.byteorder.specs.Endian.{big_number, big_bytes}
 use Rattle.byteorder.specs.Numbers.{big_number-reads_back, length-bytes_high_first}
 use Rattle.torn_block.specs.Numbers.{AreBytes}
 use Rattle.torn_block.proofs.NumberLaws.{AreBytes-drop, spelled_8, spelled_4}
-use Rattle.torn_block.specs.Block.{number_bytes}
-use Rattle.torn_block.specs.declared.layout.TheConstants.{VALUE_LENGTH, HEADING_LENGTH}
-use Rattle.paxos_block.specs.declared.block.TheConstants.{VOTE_LENGTH, BALLOTS_LENGTH, VOTED_START, MARKED_START, BLANK_START}
+use Rattle.torn_block.specs.layouts.Block.{number_bytes}
+use Rattle.torn_block.specs.declared.layout.TheConstants.{HEADING_LENGTH}
+use Rattle.paxos_block.specs.declared.block.TheConstants.{BALLOTS_LENGTH, VERSION_PLACE, VOTED, MARKED}
 use Rattle.paxos_block.specs.declared.number.TheConstants.{NUMBER_LENGTH}
-use Rattle.paxos_block.specs.declared.block.PBlock.{PBlock}
-use Rattle.paxos_block.specs.Ballot.{IsBallotOf, is_ballot_of, may_vote, may_promise, owner_of}
-use Rattle.paxos_block.specs.Headers.{short_at}
-use Rattle.paxos_block.specs.Saying.{zeros, MaySay, IsVoteOf, IsMarkOf, flag_of, heading, value_bytes, body_saying, number_at, claim_of, may_mark, may_say, is_said, said_by}
+use Rattle.paxos_block.specs.layouts.Saying.{Said, said_as}
+use Rattle.paxos_block.specs.layouts.Ballot.{IsBallotOf, is_ballot_of, may_vote, may_promise, owner_of}
+use Rattle.paxos_block.specs.layouts.Headers.{short_at}
+use Rattle.paxos_block.specs.layouts.Saying.{zeros, MaySay, IsVoteOf, IsMarkOf, flag_of, heading, value_bytes, body_saying, number_at, value_at, claim_of, may_mark, may_say, is_said, said_by}
+use Rattle.torn_block.specs.Layout.{Version, Version1, Version2, body_length, value_length, padding, number_of}
 
 and-true : (b : Bool) → (b && true) ≡ b
 and-true true = refl
@@ -24,28 +26,28 @@ and-true false = refl
 
 -- ---- the tests decide the facts
 
-pub is_ballot_tells : (host ballot : ℕ) → is_ballot_of host ballot ≡ true → IsBallotOf host ballot
-is_ballot_tells host ballot t =
-    let a = and_parts (nat_le 1 ballot && nat_le ballot (2 ^ 62)) (owner_of ballot == host) t in
+pub is_ballot_tells : (v : Version) → (host ballot : ℕ) → is_ballot_of v host ballot ≡ true → IsBallotOf v host ballot
+is_ballot_tells v host ballot t =
+    let a = and_parts (nat_le 1 ballot && nat_le ballot (2 ^ 62)) (owner_of v ballot == host) t in
     let b = and_parts (nat_le 1 ballot) (nat_le ballot (2 ^ 62)) a.0 in
-    record { positive = leb-true 1 ballot b.0; within = leb-true ballot (2 ^ 62) b.1; owned = eqb-true (owner_of ballot) host a.1 }
+    record { positive = leb-true 1 ballot b.0; within = leb-true ballot (2 ^ 62) b.1; owned = eqb-true (owner_of v ballot) host a.1 }
 
-pub is_ballot_since : (host ballot : ℕ) → IsBallotOf host ballot → is_ballot_of host ballot ≡ true
-is_ballot_since host ballot p =
-    and_from (nat_le 1 ballot && nat_le ballot (2 ^ 62)) (owner_of ballot == host)
+pub is_ballot_since : (v : Version) → (host ballot : ℕ) → IsBallotOf v host ballot → is_ballot_of v host ballot ≡ true
+is_ballot_since v host ballot p =
+    and_from (nat_le 1 ballot && nat_le ballot (2 ^ 62)) (owner_of v ballot == host)
     (and_from (nat_le 1 ballot) (nat_le ballot (2 ^ 62)) (le-leb 1 ballot p.positive) (le-leb ballot (2 ^ 62) p.within))
-    (eq-eqb (owner_of ballot) host p.owned)
+    (eq-eqb (owner_of v ballot) host p.owned)
 
-vote_tells : (host mbal bal : ℕ) (inp : Option (List ℕ)) → may_vote host mbal bal (is_some inp) ≡ true → IsVoteOf host mbal bal inp
-vote_tells host mbal bal None t = eqb-true bal 0 t
-vote_tells host mbal bal (Some value) t =
-    let a = and_parts (is_ballot_of host bal) (nat_le bal mbal) t in
-    (is_ballot_tells host bal a.0, leb-true bal mbal a.1)
+vote_tells : (v : Version) → (host mbal bal : ℕ) (inp : Option (List ℕ)) → may_vote v host mbal bal (is_some inp) ≡ true → IsVoteOf v host mbal bal inp
+vote_tells v host mbal bal None t = eqb-true bal 0 t
+vote_tells v host mbal bal (Some value) t =
+    let a = and_parts (is_ballot_of v host bal) (nat_le bal mbal) t in
+    (is_ballot_tells v host bal a.0, leb-true bal mbal a.1)
 
-vote_since : (host mbal bal : ℕ) (inp : Option (List ℕ)) → IsVoteOf host mbal bal inp → may_vote host mbal bal (is_some inp) ≡ true
-vote_since host mbal bal None vote = eq-eqb bal 0 vote
-vote_since host mbal bal (Some value) vote =
-    and_from (is_ballot_of host bal) (nat_le bal mbal) (is_ballot_since host bal vote.0) (le-leb bal mbal vote.1)
+vote_since : (v : Version) → (host mbal bal : ℕ) (inp : Option (List ℕ)) → IsVoteOf v host mbal bal inp → may_vote v host mbal bal (is_some inp) ≡ true
+vote_since v host mbal bal None vote = eq-eqb bal 0 vote
+vote_since v host mbal bal (Some value) vote =
+    and_from (is_ballot_of v host bal) (nat_le bal mbal) (is_ballot_since v host bal vote.0) (le-leb bal mbal vote.1)
 
 mark_tells : (mark : Bool) (inp : Option (List ℕ)) → may_mark mark (is_some inp) ≡ true → IsMarkOf mark inp
 mark_tells false inp t = tt
@@ -55,23 +57,23 @@ mark_since : (mark : Bool) (inp : Option (List ℕ)) → IsMarkOf mark inp → m
 mark_since false inp is = refl
 mark_since true inp is = is
 
-pub may_say_tells : (host : ℕ) (says : PBlock) → may_say host says ≡ true → MaySay host says
-may_say_tells host says t =
-    let both = and_parts (may_promise host says.mbal says.bal (is_some says.inp)) (may_mark says.mark (is_some says.inp)) t in
-    let a = and_parts (is_ballot_of host says.mbal) (may_vote host says.mbal says.bal (is_some says.inp)) both.0 in
-    record { mbal = is_ballot_tells host says.mbal a.0; vote = vote_tells host says.mbal says.bal says.inp a.1; mark = mark_tells says.mark says.inp both.1 }
+pub may_say_tells : (v : Version) → (host : ℕ) (says : Said) → may_say v host says ≡ true → MaySay v host says
+may_say_tells v host says t =
+    let both = and_parts (may_promise v host says.mbal says.bal (is_some says.inp)) (may_mark says.mark (is_some says.inp)) t in
+    let a = and_parts (is_ballot_of v host says.mbal) (may_vote v host says.mbal says.bal (is_some says.inp)) both.0 in
+    record { mbal = is_ballot_tells v host says.mbal a.0; vote = vote_tells v host says.mbal says.bal says.inp a.1; mark = mark_tells says.mark says.inp both.1 }
 
-pub may_say_since : (host : ℕ) (says : PBlock) → MaySay host says → may_say host says ≡ true
-may_say_since host says may =
-    and_from (may_promise host says.mbal says.bal (is_some says.inp)) (may_mark says.mark (is_some says.inp))
-    (and_from (is_ballot_of host says.mbal) (may_vote host says.mbal says.bal (is_some says.inp)) (is_ballot_since host says.mbal may.mbal) (vote_since host says.mbal says.bal says.inp may.vote))
+pub may_say_since : (v : Version) → (host : ℕ) (says : Said) → MaySay v host says → may_say v host says ≡ true
+may_say_since v host says may =
+    and_from (may_promise v host says.mbal says.bal (is_some says.inp)) (may_mark says.mark (is_some says.inp))
+    (and_from (is_ballot_of v host says.mbal) (may_vote v host says.mbal says.bal (is_some says.inp)) (is_ballot_since v host says.mbal may.mbal) (vote_since v host says.mbal says.bal says.inp may.vote))
     (mark_since says.mark says.inp may.mark)
 
 -- ---- what a host may say has numbers of eight bytes
 
-bal_within : (host mbal bal : ℕ) (inp : Option (List ℕ)) → IsVoteOf host mbal bal inp → bal ≤ 2 ^ 62
-bal_within host mbal bal None vote = omega (arith, vote)
-bal_within host mbal bal (Some value) vote = vote.0.within
+bal_within : (v : Version) → (host mbal bal : ℕ) (inp : Option (List ℕ)) → IsVoteOf v host mbal bal inp → bal ≤ 2 ^ 62
+bal_within v host mbal bal None vote = omega (arith, vote)
+bal_within v host mbal bal (Some value) vote = vote.0.within
 
 -- ---- a body reads as what was spelled
 
@@ -79,21 +81,21 @@ pub length-number : (n : ℕ) → length (number_bytes n) ≡ NUMBER_LENGTH
 unfolding number_bytes
 length-number n = length-bytes_high_first 8 n
 
-length-heading : (voted marked : Bool) → length (heading voted marked) ≡ HEADING_LENGTH
+length-heading : (v : Version) → (voted marked : Bool) → length (heading v voted marked) ≡ HEADING_LENGTH
 unfolding heading
-length-heading voted marked = refl
+length-heading v voted marked = refl
 
 pub length-zeros : (n : ℕ) → length (zeros n) ≡ n
 unfolding zeros
 length-zeros n = length-replicate n 0
 
-flag_in_heading : (voted marked : Bool) (rest : List ℕ) → slice_index (heading voted marked ++ rest) 1 ≡ flag_of voted
+flag_in_heading : (v : Version) → (voted marked : Bool) (rest : List ℕ) → slice_index (heading v voted marked ++ rest) 1 ≡ flag_of voted
 unfolding heading
-flag_in_heading voted marked rest = refl
+flag_in_heading v voted marked rest = refl
 
-mark_in_heading : (voted marked : Bool) (rest : List ℕ) → slice_index (heading voted marked ++ rest) 2 ≡ flag_of marked
+mark_in_heading : (v : Version) → (voted marked : Bool) (rest : List ℕ) → slice_index (heading v voted marked ++ rest) 2 ≡ flag_of marked
 unfolding heading
-mark_in_heading voted marked rest = refl
+mark_in_heading v voted marked rest = refl
 
 flag_tells : (voted : Bool) → (flag_of voted == 1) ≡ voted
 flag_tells true = refl
@@ -104,91 +106,106 @@ unfolding number_bytes
 number_reads_back n rest fits = let below : n < 2 ^ 64 = omega arith in big_number-reads_back 8 n rest below
 
 -- the parts of a body that says this
-module _ (says : PBlock) where
+module _ (v : Version) (says : Said) where
+  end_part : List ℕ
+  end_part = value_bytes v says.inp ++ zeros (padding v)
+
   behind : List ℕ
-  behind = number_bytes says.mbal ++ (number_bytes says.bal ++ value_bytes says.inp)
+  behind = number_bytes says.mbal ++ (number_bytes says.bal ++ end_part)
 
   behind_bal : List ℕ
-  behind_bal = number_bytes says.bal ++ value_bytes says.inp
+  behind_bal = number_bytes says.bal ++ end_part
 
-  behind_heading : drop HEADING_LENGTH (body_saying says) ≡ behind
-  unfolding body_saying behind
-  behind_heading = drop_at (heading (is_some says.inp) says.mark) behind 7 (length-heading (is_some says.inp) says.mark)
+  behind_heading : drop HEADING_LENGTH (body_saying v says) ≡ behind
+  unfolding body_saying behind end_part
+  behind_heading = drop_at (heading v (is_some says.inp) says.mark) behind 7 (length-heading v (is_some says.inp) says.mark)
 
-  behind_mbal : drop (HEADING_LENGTH + NUMBER_LENGTH) (body_saying says) ≡ behind_bal
+  behind_mbal : drop (HEADING_LENGTH + NUMBER_LENGTH) (body_saying v says) ≡ behind_bal
   unfolding behind behind_bal
   behind_mbal =
-      sym (drop-drop NUMBER_LENGTH 7 (body_saying says)) ∙ ap (drop NUMBER_LENGTH) behind_heading ∙ drop_at (number_bytes says.mbal) behind_bal 8 (length-number says.mbal)
+      sym (drop-drop NUMBER_LENGTH 7 (body_saying v says)) ∙ ap (drop NUMBER_LENGTH) behind_heading ∙ drop_at (number_bytes says.mbal) behind_bal 8 (length-number says.mbal)
 
-  behind_ballots : drop (HEADING_LENGTH + BALLOTS_LENGTH) (body_saying says) ≡ value_bytes says.inp
+  behind_ballots : drop (HEADING_LENGTH + BALLOTS_LENGTH) (body_saying v says) ≡ end_part
   unfolding behind_bal
   behind_ballots =
-      sym (drop-drop NUMBER_LENGTH 15 (body_saying says)) ∙ ap (drop NUMBER_LENGTH) behind_mbal ∙ drop_at (number_bytes says.bal) (value_bytes says.inp) 8 (length-number says.bal)
+      sym (drop-drop NUMBER_LENGTH 15 (body_saying v says)) ∙ ap (drop NUMBER_LENGTH) behind_mbal ∙ drop_at (number_bytes says.bal) end_part 8 (length-number says.bal)
 
-  reads_mbal : says.mbal ≤ 2 ^ 62 → number_at HEADING_LENGTH (body_saying says) ≡ says.mbal
+  reads_mbal : says.mbal ≤ 2 ^ 62 → number_at HEADING_LENGTH (body_saying v says) ≡ says.mbal
   unfolding number_at behind behind_bal
   reads_mbal fits = ap (big_number 8) behind_heading ∙ number_reads_back says.mbal behind_bal fits
 
-  reads_bal : says.bal ≤ 2 ^ 62 → number_at (HEADING_LENGTH + NUMBER_LENGTH) (body_saying says) ≡ says.bal
+  reads_bal : says.bal ≤ 2 ^ 62 → number_at (HEADING_LENGTH + NUMBER_LENGTH) (body_saying v says) ≡ says.bal
   unfolding number_at behind_bal
-  reads_bal fits = ap (big_number 8) behind_mbal ∙ number_reads_back says.bal (value_bytes says.inp) fits
+  reads_bal fits = ap (big_number 8) behind_mbal ∙ number_reads_back says.bal end_part fits
 
-  reads_flag : slice_index (body_saying says) 1 ≡ flag_of (is_some says.inp)
-  unfolding body_saying behind
-  reads_flag = flag_in_heading (is_some says.inp) says.mark behind
+  reads_flag : slice_index (body_saying v says) 1 ≡ flag_of (is_some says.inp)
+  unfolding body_saying behind end_part
+  reads_flag = flag_in_heading v (is_some says.inp) says.mark behind
 
-  reads_mark : (slice_index (body_saying says) 2 == 1) ≡ says.mark
-  unfolding body_saying behind
-  reads_mark = ap (λ (n : ℕ). n == 1) (mark_in_heading (is_some says.inp) says.mark behind) ∙ flag_tells says.mark
+  reads_mark : (slice_index (body_saying v says) 2 == 1) ≡ says.mark
+  unfolding body_saying behind end_part
+  reads_mark = ap (λ (n : ℕ). n == 1) (mark_in_heading v (is_some says.inp) says.mark behind) ∙ flag_tells says.mark
 
-  input_by : (inp : Option (List ℕ)) → (if is_some inp then Some (value_bytes inp) else None) ≡ inp
+  input_by : (inp : Option (List ℕ)) → (if is_some inp then Some (value_bytes v inp) else None) ≡ inp
   input_by None = refl
   input_by (Some value) = refl
 
-  reads_input : (if slice_index (body_saying says) 1 == 1 then Some (drop (HEADING_LENGTH + BALLOTS_LENGTH) (body_saying says)) else None) ≡ says.inp
+  -- the bytes of the input, or as many zeros
+  reads_value : value_at v (body_saying v says) ≡ value_bytes v says.inp
+  unfolding end_part
+  reads_value =
+      let end_ = value_bytes v says.inp ++ zeros (padding v) in
+      let long : length (body_saying v says) - (HEADING_LENGTH + BALLOTS_LENGTH) ≡ length end_ = sym (length-drop 23 (body_saying v says)) ∙ ap length behind_ballots in
+      let many : length (body_saying v says) - (HEADING_LENGTH + BALLOTS_LENGTH + padding v) ≡ length (value_bytes v says.inp) =
+      omega (arith, long, length-append (value_bytes v says.inp) (zeros (padding v)), length-zeros (padding v)) in
+      ap (λ (n : ℕ). take n (drop (HEADING_LENGTH + BALLOTS_LENGTH) (body_saying v says))) many
+      ∙ ap (take (length (value_bytes v says.inp))) behind_ballots
+      ∙ take-append_seam (value_bytes v says.inp) (zeros (padding v))
+
+  reads_input : (if slice_index (body_saying v says) 1 == 1 then Some (value_at v (body_saying v says)) else None) ≡ says.inp
   reads_input =
-      ap (λ (b : Bool). if b then Some (drop (HEADING_LENGTH + BALLOTS_LENGTH) (body_saying says)) else None) (ap (λ (n : ℕ). n == 1) reads_flag ∙ flag_tells (is_some says.inp))
-      ∙ ap (λ (l : List ℕ). if is_some says.inp then Some l else None) behind_ballots
+      ap (λ (b : Bool). if b then Some (value_at v (body_saying v says)) else None) (ap (λ (n : ℕ). n == 1) reads_flag ∙ flag_tells (is_some says.inp))
+      ∙ ap (λ (l : List ℕ). if is_some says.inp then Some l else None) reads_value
       ∙ input_by says.inp
 
   -- what was spelled is claimed
-  pub claims_back : (host : ℕ) → MaySay host says → claim_of (body_saying says) ≡ says
+  pub claims_back : (host : ℕ) → MaySay v host says → claim_of v (body_saying v says) ≡ says
   unfolding claim_of
   claims_back host may =
       λ i. record {
         mbal = reads_mbal may.mbal.within i;
-        bal = reads_bal (bal_within host says.mbal says.bal says.inp may.vote) i;
+        bal = reads_bal (bal_within v host says.mbal says.bal says.inp may.vote) i;
         inp = reads_input i;
         mark = reads_mark i;
       }
 
 -- what was spelled is said
-pub said_back : (host : ℕ) (says : PBlock) → MaySay host says → is_said host (body_saying says) ≡ true
+pub said_back : (v : Version) → (host : ℕ) (says : Said) → MaySay v host says → is_said v host (body_saying v says) ≡ true
 unfolding is_said
-said_back host says may =
-    let back = claims_back says host may in
-    and_from _ _ (ap (may_say host) back ∙ may_say_since host says may) ((bytes_decides (body_saying (claim_of (body_saying says))) (body_saying says)).1 (ap body_saying back))
+said_back v host says may =
+    let back = claims_back v says host may in
+    and_from _ _ (ap (may_say v host) back ∙ may_say_since v host says may) ((bytes_decides (body_saying v (claim_of v (body_saying v says))) (body_saying v says)).1 (ap (body_saying v) back))
 
 -- what is said is spelled so, and the host may say it
-pub said_spelled : (host : ℕ) (body : List ℕ) → is_said host body ≡ true → MaySay host (claim_of body) × (body ≡ body_saying (claim_of body))
+pub said_spelled : (v : Version) → (host : ℕ) (body : List ℕ) → is_said v host body ≡ true → MaySay v host (claim_of v body) × (body ≡ body_saying v (claim_of v body))
 unfolding is_said
-said_spelled host body t =
-    let a = and_parts (may_say host (claim_of body)) (pointwise nat_eq (body_saying (claim_of body)) body) t in
-    (may_say_tells host (claim_of body) a.0, sym ((bytes_decides (body_saying (claim_of body)) body).0 a.1))
+said_spelled v host body t =
+    let a = and_parts (may_say v host (claim_of v body)) (pointwise nat_eq (body_saying v (claim_of v body)) body) t in
+    (may_say_tells v host (claim_of v body) a.0, sym ((bytes_decides (body_saying v (claim_of v body)) body).0 a.1))
 
 -- both ways: a body says exactly what it is the one spelling of
-pub said_found : (host : ℕ) (body : List ℕ) → IfSome (said_by host body) (λ says. MaySay host says × (body ≡ body_saying says))
-said_found host body =
-    elim (cases_Bool (is_said host body)) [
-      | inl is ↦ subst (λ (o : Option PBlock). IfSome o (λ says. MaySay host says × (body ≡ body_saying says))) (sym (cond-true (is_said host body) (Some (claim_of body)) None is)) (said_spelled host body is)
-      | inr isnt ↦ subst (λ (o : Option PBlock). IfSome o (λ says. MaySay host says × (body ≡ body_saying says))) (sym (cond-false (is_said host body) (Some (claim_of body)) None isnt)) tt
+pub said_found : (v : Version) → (host : ℕ) (body : List ℕ) → IfSome (said_by v host body) (λ says. MaySay v host says × (body ≡ body_saying v says))
+said_found v host body =
+    elim (cases_Bool (is_said v host body)) [
+      | inl is ↦ subst (λ (o : Option Said). IfSome o (λ says. MaySay v host says × (body ≡ body_saying v says))) (sym (cond-true (is_said v host body) (Some (claim_of v body)) None is)) (said_spelled v host body is)
+      | inr isnt ↦ subst (λ (o : Option Said). IfSome o (λ says. MaySay v host says × (body ≡ body_saying v says))) (sym (cond-false (is_said v host body) (Some (claim_of v body)) None isnt)) tt
     ]
 
-pub said_only : (host : ℕ) (body : List ℕ) (says : PBlock) → MaySay host says → body ≡ body_saying says → said_by host body ≡ Some says
-said_only host body says may is =
-    ap (said_by host) is
-    ∙ cond-true (is_said host (body_saying says)) (Some (claim_of (body_saying says))) None (said_back host says may)
-    ∙ ap (λ (p : PBlock). Some p) (claims_back says host may)
+pub said_only : (v : Version) → (host : ℕ) (body : List ℕ) (says : Said) → MaySay v host says → body ≡ body_saying v says → said_by v host body ≡ Some says
+said_only v host body says may is =
+    ap (said_by v host) is
+    ∙ cond-true (is_said v host (body_saying v says)) (Some (claim_of v (body_saying v says))) None (said_back v host says may)
+    ∙ ap (λ (p : Said). Some p) (claims_back v says host may)
 
 -- all of them are zero
 pub zero_tells : (bytes : List ℕ) → list_all (λ b. b == 0) bytes ≡ true → bytes ≡ zeros (length bytes)
@@ -210,24 +227,37 @@ same_tests true b there back = sym (there refl)
 same_tests false true there back = back refl
 same_tests false false there back = refl
 
--- a value is compared with zeros, or each byte of it is
-pub no_value_tells : (bytes : List ℕ) → length bytes ≡ VALUE_LENGTH → pointwise nat_eq bytes (zeros VALUE_LENGTH) ≡ list_all (λ b. b == 0) bytes
-no_value_tells bytes long =
-    same_tests (pointwise nat_eq bytes (zeros VALUE_LENGTH)) (list_all (λ b. b == 0) bytes)
-    (λ t. ap (list_all (λ b. b == 0)) ((bytes_decides bytes (zeros VALUE_LENGTH)).0 t) ∙ zero_since VALUE_LENGTH)
-    (λ t. (bytes_decides bytes (zeros VALUE_LENGTH)).1 (zero_tells bytes t ∙ ap zeros long))
+-- ---- the tests of a reader that has the heading, the ballots and the rest apart
 
--- ---- the tests of a reader that has the heading, the ballots and the value apart
+pub body_parts : (v : Version) → body_length v ≡ 23 + value_length v + padding v
+body_parts Version1 = refl
+body_parts Version2 = refl
 
-module _ (front back : List ℕ) (seven : length front ≡ HEADING_LENGTH) (rest : length back ≡ VOTE_LENGTH) (fits : AreBytes back) where
+pub zeros_joined : (m n : ℕ) → zeros (m + n) ≡ zeros m ++ zeros n
+unfolding zeros
+zeros_joined m n = sym (replicate-append-replicate m n 0)
+
+module _ (v : Version) (front back : List ℕ) (seven : length front ≡ HEADING_LENGTH) (rest : length back + HEADING_LENGTH ≡ body_length v) (fits : AreBytes back) where
+  -- what stands behind the ballots
+  abbrev pub end_ : List ℕ
+  end_ = drop BALLOTS_LENGTH back
+
+  abbrev pub claim_apart : Said
+  claim_apart = record { mbal = number_at 0 back; bal = number_at NUMBER_LENGTH back; inp = if slice_index front 1 == 1 then Some (take (value_length v) end_) else None; mark = slice_index front 2 == 1 }
+
   rest_at_heading : drop HEADING_LENGTH (front ++ back) ≡ back
   rest_at_heading = drop_at front back 7 seven
 
   rest_at_bal : drop (HEADING_LENGTH + NUMBER_LENGTH) (front ++ back) ≡ drop NUMBER_LENGTH back
   rest_at_bal = sym (drop-drop NUMBER_LENGTH 7 (front ++ back)) ∙ ap (drop NUMBER_LENGTH) rest_at_heading
 
-  rest_at_value : drop (HEADING_LENGTH + BALLOTS_LENGTH) (front ++ back) ≡ drop BALLOTS_LENGTH back
+  rest_at_value : drop (HEADING_LENGTH + BALLOTS_LENGTH) (front ++ back) ≡ end_
   rest_at_value = sym (drop-drop BALLOTS_LENGTH 7 (front ++ back)) ∙ ap (drop BALLOTS_LENGTH) rest_at_heading
+
+  value_here : value_at v (front ++ back) ≡ take (value_length v) end_
+  value_here =
+      let many : length (front ++ back) - (HEADING_LENGTH + BALLOTS_LENGTH + padding v) ≡ value_length v = omega (arith, length-append front back, seven, rest, body_parts v) in
+      ap (λ (n : ℕ). take n (drop (HEADING_LENGTH + BALLOTS_LENGTH) (front ++ back))) many ∙ ap (take (value_length v)) rest_at_value
 
   flag_in_front : slice_index (front ++ back) 1 ≡ slice_index front 1
   flag_in_front = get_or_append_left front back 0 1 (omega arith)
@@ -235,199 +265,217 @@ module _ (front back : List ℕ) (seven : length front ≡ HEADING_LENGTH) (rest
   mark_in_front : slice_index (front ++ back) 2 ≡ slice_index front 2
   mark_in_front = get_or_append_left front back 0 2 (omega arith)
 
-  abbrev pub claim_apart : PBlock
-  claim_apart = record { mbal = number_at 0 back; bal = number_at NUMBER_LENGTH back; inp = if slice_index front 1 == 1 then Some (drop BALLOTS_LENGTH back) else None; mark = slice_index front 2 == 1 }
-
-  pub claim_of-parts : claim_of (front ++ back) ≡ claim_apart
+  pub claim_of-parts : claim_of v (front ++ back) ≡ claim_apart
   unfolding claim_of number_at
   claim_of-parts =
       λ i. record {
         mbal = big_number 8 (rest_at_heading i);
         bal = big_number 8 (rest_at_bal i);
-        inp = if flag_in_front i == 1 then Some (rest_at_value i) else None;
+        inp = if flag_in_front i == 1 then Some (value_here i) else None;
         mark = mark_in_front i == 1;
       }
 
   -- the numbers are spelled as they stand
-  spelled_at : (place : ℕ) → place + 8 ≤ VOTE_LENGTH → number_bytes (number_at place back) ≡ take 8 (drop place back)
+  spelled_at : (place : ℕ) → place + 8 ≤ 16 → number_bytes (number_at place back) ≡ take 8 (drop place back)
   unfolding number_bytes number_at
-  spelled_at place within = spelled_8 (drop place back) (AreBytes-drop place back fits) (omega (arith, length-drop place back))
+  spelled_at place within = spelled_8 (drop place back) (AreBytes-drop place back fits) (omega (arith, length-drop place back, rest, body_parts v))
 
-  numbers_stand : number_bytes (number_at 0 back) ++ (number_bytes (number_at NUMBER_LENGTH back) ++ drop BALLOTS_LENGTH back) ≡ back
+  numbers_stand : number_bytes (number_at 0 back) ++ (number_bytes (number_at NUMBER_LENGTH back) ++ end_) ≡ back
   numbers_stand =
-      let inner : number_bytes (number_at NUMBER_LENGTH back) ++ drop BALLOTS_LENGTH back ≡ drop NUMBER_LENGTH back =
-      ap (λ (l : List ℕ). l ++ drop BALLOTS_LENGTH back) (spelled_at 8 (omega arith))
+      let inner : number_bytes (number_at NUMBER_LENGTH back) ++ end_ ≡ drop NUMBER_LENGTH back =
+      ap (λ (l : List ℕ). l ++ end_) (spelled_at 8 (omega arith))
       ∙ ap (λ (l : List ℕ). take 8 (drop NUMBER_LENGTH back) ++ l) (sym (drop-drop NUMBER_LENGTH 8 back))
       ∙ take-append-drop NUMBER_LENGTH (drop NUMBER_LENGTH back) in
       ap (λ (l : List ℕ). number_bytes (number_at 0 back) ++ l) inner
       ∙ ap (λ (l : List ℕ). l ++ drop NUMBER_LENGTH back) (spelled_at 0 (omega arith))
       ∙ take-append-drop NUMBER_LENGTH back
 
-  -- what is claimed is spelled as it stands but for the heading, and the value where there is none
+  -- the input, by the flag
+  abbrev pub chosen : Bool → Option (List ℕ)
+  chosen true = Some (take (value_length v) end_)
+  chosen false = None
+
   inp : Option (List ℕ)
-  inp = if slice_index front 1 == 1 then Some (drop BALLOTS_LENGTH back) else None
+  inp = if slice_index front 1 == 1 then Some (take (value_length v) end_) else None
+
+  inp_by : (voted : Bool) → (if voted then Some (take (value_length v) end_) else None) ≡ chosen voted
+  inp_by true = refl
+  inp_by false = refl
 
   mark : Bool
   mark = slice_index front 2 == 1
 
-  spelled_apart : body_saying claim_apart ≡ heading (is_some inp) mark ++ (number_bytes (number_at 0 back) ++ (number_bytes (number_at NUMBER_LENGTH back) ++ value_bytes inp))
-  unfolding body_saying inp mark
-  spelled_apart = refl
-
-  with_input : slice_index front 1 ≡ 1 → inp ≡ Some (drop BALLOTS_LENGTH back)
-  unfolding inp
-  with_input is = cond-true (slice_index front 1 == 1) (Some (drop BALLOTS_LENGTH back)) None (eq-eqb (slice_index front 1) 1 is)
-
-  without_input : (slice_index front 1 == 1) ≡ false → inp ≡ None
-  unfolding inp
-  without_input is = cond-false (slice_index front 1 == 1) (Some (drop BALLOTS_LENGTH back)) None is
-
-  abbrev stands_by : Option (List ℕ) → List ℕ
-  stands_by o = heading (is_some o) mark ++ (number_bytes (number_at 0 back) ++ (number_bytes (number_at NUMBER_LENGTH back) ++ value_bytes o))
-
-  voted_stands : slice_index front 1 ≡ 1 → body_saying claim_apart ≡ heading true mark ++ back
-  voted_stands is =
-      spelled_apart ∙ ap stands_by (with_input is) ∙ ap (λ (l : List ℕ). heading true mark ++ l) numbers_stand
-
-  blank_stands : (slice_index front 1 == 1) ≡ false → drop BALLOTS_LENGTH back ≡ zeros VALUE_LENGTH → body_saying claim_apart ≡ heading false mark ++ back
-  blank_stands is zero_value =
-      spelled_apart
-      ∙ ap stands_by (without_input is)
-      ∙ ap (λ (l : List ℕ). heading false mark ++ (number_bytes (number_at 0 back) ++ (number_bytes (number_at NUMBER_LENGTH back) ++ l))) (sym zero_value)
-      ∙ ap (λ (l : List ℕ). heading false mark ++ l) numbers_stand
-
-  -- ---- so a reader that tests the heading, the value and the ballots tests what is said
-
-  body_is : body_saying (claim_of (front ++ back)) ≡ body_saying claim_apart
-  body_is = ap body_saying claim_of-parts
-
-  said_if_it_stands : (host : ℕ) (voted marked : Bool) → may_mark marked voted ≡ true → is_some inp ≡ voted → mark ≡ marked → front ≡ heading voted marked → body_saying claim_apart ≡ heading voted mark ++ back → is_said host (front ++ back) ≡ may_promise host (number_at 0 back) (number_at NUMBER_LENGTH back) voted
-  unfolding is_said inp mark
-  said_if_it_stands host voted marked may flag mark_is is stands =
-      let same = (bytes_decides (body_saying (claim_of (front ++ back))) (front ++ back)).1 (body_is ∙ stands ∙ ap (λ (b : Bool). heading voted b ++ back) mark_is ∙ ap (λ (l : List ℕ). l ++ back) (sym is)) in
-      ap (λ (b : Bool). may_say host (claim_of (front ++ back)) && b) same
-      ∙ and-true (may_say host (claim_of (front ++ back)))
-      ∙ ap (may_say host) claim_of-parts
-      ∙ ap (λ (b : Bool). may_promise host (number_at 0 back) (number_at NUMBER_LENGTH back) b && may_mark (slice_index front 2 == 1) b) flag
-      ∙ ap (λ (b : Bool). may_promise host (number_at 0 back) (number_at NUMBER_LENGTH back) voted && b) (ap (λ (b : Bool). may_mark b voted) mark_is ∙ may)
-      ∙ and-true (may_promise host (number_at 0 back) (number_at NUMBER_LENGTH back) voted)
-
-  heading_flag : (voted marked : Bool) → front ≡ heading voted marked → slice_index front 1 ≡ flag_of voted
+  heading_flag : (voted marked : Bool) → front ≡ heading v voted marked → slice_index front 1 ≡ flag_of voted
   unfolding heading
   heading_flag voted marked is = ap (λ (l : List ℕ). slice_index l 1) is
 
-  heading_mark : (voted marked : Bool) → front ≡ heading voted marked → mark ≡ marked
+  mark_is : (voted marked : Bool) → front ≡ heading v voted marked → mark ≡ marked
   unfolding heading mark
-  heading_mark voted marked is = ap (λ (l : List ℕ). slice_index l 2 == 1) is ∙ flag_tells marked
+  mark_is voted marked is = ap (λ (l : List ℕ). slice_index l 2 == 1) is ∙ flag_tells marked
 
-  pub said_voted : (host : ℕ) (marked : Bool) → may_mark marked true ≡ true → front ≡ heading true marked → is_said host (front ++ back) ≡ may_promise host (number_at 0 back) (number_at NUMBER_LENGTH back) true
-  said_voted host marked may is =
-      let one = heading_flag true marked is in
-      said_if_it_stands host true marked may (ap is_some (with_input one)) (heading_mark true marked is) is (voted_stands one)
+  inp_is : (voted marked : Bool) → front ≡ heading v voted marked → inp ≡ chosen voted
+  unfolding inp
+  inp_is voted marked is =
+      ap (λ (b : Bool). if b then Some (take (value_length v) end_) else None) (ap (λ (n : ℕ). n == 1) (heading_flag voted marked is) ∙ flag_tells voted) ∙ inp_by voted
 
-  no_flag : (marked : Bool) → front ≡ heading false marked → (slice_index front 1 == 1) ≡ false
-  no_flag marked is = ap (λ (n : ℕ). n == 1) (heading_flag false marked is)
+  -- what the bytes behind the ballots have to be
+  abbrev pub AreFilled : Bool → Type 0
+  AreFilled voted = value_bytes v (chosen voted) ++ zeros (padding v) ≡ end_
 
-  pub said_blank : (host : ℕ) (marked : Bool) → may_mark marked false ≡ true → front ≡ heading false marked → drop BALLOTS_LENGTH back ≡ zeros VALUE_LENGTH → is_said host (front ++ back) ≡ may_promise host (number_at 0 back) (number_at NUMBER_LENGTH back) false
-  said_blank host marked may is zero_value =
-      said_if_it_stands host false marked may (ap is_some (without_input (no_flag marked is))) (heading_mark false marked is) is (blank_stands (no_flag marked is) zero_value)
+  abbrev stands_by : Option (List ℕ) → Bool → List ℕ
+  stands_by o m = heading v (is_some o) m ++ (number_bytes (number_at 0 back) ++ (number_bytes (number_at NUMBER_LENGTH back) ++ (value_bytes v o ++ zeros (padding v))))
+
+  spelled_apart : body_saying v claim_apart ≡ stands_by inp mark
+  unfolding body_saying inp mark
+  spelled_apart = refl
+
+  some_chosen : (voted : Bool) → is_some (chosen voted) ≡ voted
+  some_chosen true = refl
+  some_chosen false = refl
+
+  stands : (voted marked : Bool) → front ≡ heading v voted marked → AreFilled voted → body_saying v claim_apart ≡ front ++ back
+  stands voted marked is filled =
+      spelled_apart
+      ∙ ap (λ (o : Option (List ℕ)). stands_by o mark) (inp_is voted marked is)
+      ∙ ap (stands_by (chosen voted)) (mark_is voted marked is)
+      ∙ ap (λ (l : List ℕ). heading v (is_some (chosen voted)) marked ++ (number_bytes (number_at 0 back) ++ (number_bytes (number_at NUMBER_LENGTH back) ++ l))) filled
+      ∙ ap (λ (l : List ℕ). heading v (is_some (chosen voted)) marked ++ l) numbers_stand
+      ∙ ap (λ (b : Bool). heading v b marked ++ back) (some_chosen voted)
+      ∙ ap (λ (l : List ℕ). l ++ back) (sym is)
+
+  -- ---- so a reader that tests the heading, the rest and the ballots tests what is said
+
+  body_is : body_saying v (claim_of v (front ++ back)) ≡ body_saying v claim_apart
+  body_is = ap (body_saying v) claim_of-parts
+
+  pub said_filled : (host : ℕ) (voted marked : Bool) → may_mark marked voted ≡ true → front ≡ heading v voted marked → AreFilled voted → is_said v host (front ++ back) ≡ may_promise v host (number_at 0 back) (number_at NUMBER_LENGTH back) voted
+  unfolding is_said inp mark
+  said_filled host voted marked may is filled =
+      let same = (bytes_decides (body_saying v (claim_of v (front ++ back))) (front ++ back)).1 (body_is ∙ stands voted marked is filled) in
+      ap (λ (b : Bool). may_say v host (claim_of v (front ++ back)) && b) same
+      ∙ and-true (may_say v host (claim_of v (front ++ back)))
+      ∙ ap (may_say v host) claim_of-parts
+      ∙ ap (λ (b : Bool). may_promise v host (number_at 0 back) (number_at NUMBER_LENGTH back) b && may_mark (slice_index front 2 == 1) b) (ap is_some (inp_is voted marked is) ∙ some_chosen voted)
+      ∙ ap (λ (b : Bool). may_promise v host (number_at 0 back) (number_at NUMBER_LENGTH back) voted && b) (ap (λ (b : Bool). may_mark b voted) (mark_is voted marked is) ∙ may)
+      ∙ and-true (may_promise v host (number_at 0 back) (number_at NUMBER_LENGTH back) voted)
 
   -- what is said stands as it is spelled
-  stands_if_said : (host : ℕ) → is_said host (front ++ back) ≡ true → body_saying claim_apart ≡ front ++ back
+  stands_if_said : (host : ℕ) → is_said v host (front ++ back) ≡ true → body_saying v claim_apart ≡ front ++ back
   unfolding is_said
   stands_if_said host t =
-      sym body_is ∙ (bytes_decides (body_saying (claim_of (front ++ back))) (front ++ back)).0 (and_parts (may_say host (claim_of (front ++ back))) (pointwise nat_eq (body_saying (claim_of (front ++ back))) (front ++ back)) t).1
+      sym body_is ∙ (bytes_decides (body_saying v (claim_of v (front ++ back))) (front ++ back)).0 (and_parts (may_say v host (claim_of v (front ++ back))) (pointwise nat_eq (body_saying v (claim_of v (front ++ back))) (front ++ back)) t).1
 
   -- and its mark may be there
-  may_be_marked : (host : ℕ) → is_said host (front ++ back) ≡ true → may_mark mark (is_some inp) ≡ true
+  may_be_marked : (host : ℕ) → is_said v host (front ++ back) ≡ true → may_mark mark (is_some inp) ≡ true
   unfolding is_said mark inp
   may_be_marked host t =
-      let may = (and_parts (may_say host (claim_of (front ++ back))) (pointwise nat_eq (body_saying (claim_of (front ++ back))) (front ++ back)) t).0 in
-      (and_parts (may_promise host (number_at 0 back) (number_at NUMBER_LENGTH back) (is_some inp)) (may_mark mark (is_some inp)) (ap (may_say host) (sym claim_of-parts) ∙ may)).1
+      let may = (and_parts (may_say v host (claim_of v (front ++ back))) (pointwise nat_eq (body_saying v (claim_of v (front ++ back))) (front ++ back)) t).0 in
+      (and_parts (may_promise v host (number_at 0 back) (number_at NUMBER_LENGTH back) (is_some inp)) (may_mark mark (is_some inp)) (ap (may_say v host) (sym claim_of-parts) ∙ may)).1
 
-  pub not_said_unheaded : (host : ℕ) → ((voted marked : Bool) → may_mark marked voted ≡ true → front ≢ heading voted marked) → is_said host (front ++ back) ≡ false
+  pub not_said_unheaded : (host : ℕ) → ((voted marked : Bool) → may_mark marked voted ≡ true → front ≢ heading v voted marked) → is_said v host (front ++ back) ≡ false
   not_said_unheaded host unheaded =
-      false_from_ne_true (is_said host (front ++ back)) (λ t.
-      let stands = stands_if_said host t in
-      let headed : heading (is_some inp) mark ≡ front =
-      sym (take_at (heading (is_some inp) mark) (number_bytes (number_at 0 back) ++ (number_bytes (number_at NUMBER_LENGTH back) ++ value_bytes inp)) 7 (length-heading (is_some inp) mark))
-      ∙ ap (take 7) (sym spelled_apart ∙ stands)
+      false_from_ne_true (is_said v host (front ++ back)) (λ t.
+      let stand = stands_if_said host t in
+      let headed : heading v (is_some inp) mark ≡ front =
+      sym (take_at (heading v (is_some inp) mark) (number_bytes (number_at 0 back) ++ (number_bytes (number_at NUMBER_LENGTH back) ++ (value_bytes v inp ++ zeros (padding v)))) 7 (length-heading v (is_some inp) mark))
+      ∙ ap (take 7) (sym spelled_apart ∙ stand)
       ∙ take_at front back 7 seven in
       unheaded (is_some inp) mark (may_be_marked host t) (sym headed))
 
-  pub not_said_with_a_tail : (host : ℕ) (marked : Bool) → front ≡ heading false marked → drop BALLOTS_LENGTH back ≢ zeros VALUE_LENGTH → is_said host (front ++ back) ≡ false
-  unfolding inp
-  not_said_with_a_tail host marked is tail =
-      false_from_ne_true (is_said host (front ++ back)) (λ t.
-      let stands = stands_if_said host t in
-      let value : value_bytes inp ≡ drop BALLOTS_LENGTH back = sym (behind_ballots claim_apart) ∙ ap (drop (HEADING_LENGTH + BALLOTS_LENGTH)) stands ∙ rest_at_value in
-      tail (sym value ∙ ap value_bytes (without_input (no_flag marked is))))
+  pub not_said_unfilled : (host : ℕ) (voted marked : Bool) → front ≡ heading v voted marked → ¬ AreFilled voted → is_said v host (front ++ back) ≡ false
+  unfolding inp mark end_part
+  not_said_unfilled host voted marked is unfilled =
+      false_from_ne_true (is_said v host (front ++ back)) (λ t.
+      let stand = stands_if_said host t in
+      let filled : value_bytes v inp ++ zeros (padding v) ≡ end_ = sym (behind_ballots v claim_apart) ∙ ap (drop (HEADING_LENGTH + BALLOTS_LENGTH)) stand ∙ rest_at_value in
+      unfilled (ap (λ (o : Option (List ℕ)). value_bytes v o ++ zeros (padding v)) (sym (inp_is voted marked is)) ∙ filled))
+
+  -- ---- the test of the rest
+
+  abbrev pub tail_of : Bool → List ℕ
+  tail_of voted = if voted then drop (value_length v) end_ else end_
+
+  length-end : length end_ ≡ value_length v + padding v
+  length-end = omega (arith, length-drop BALLOTS_LENGTH back, rest, body_parts v)
+
+  pub filled_tells : (voted : Bool) → list_all (λ b. b == 0) (tail_of voted) ≡ true → AreFilled voted
+  filled_tells true t =
+      let many : length (drop (value_length v) end_) ≡ padding v = omega (arith, length-drop (value_length v) end_, length-end) in
+      let tail = zero_tells (drop (value_length v) end_) t ∙ ap zeros many in
+      ap (λ (l : List ℕ). take (value_length v) end_ ++ l) (sym tail) ∙ take-append-drop (value_length v) end_
+  filled_tells false t =
+      sym (zeros_joined (value_length v) (padding v)) ∙ ap zeros (sym length-end) ∙ sym (zero_tells end_ t)
+
+  pub filled_since : (voted : Bool) → AreFilled voted → list_all (λ b. b == 0) (tail_of voted) ≡ true
+  filled_since true filled =
+      let long : length (take (value_length v) end_) ≡ value_length v = length-take-le (value_length v) end_ (omega (arith, length-end)) in
+      let tail : drop (value_length v) end_ ≡ zeros (padding v) = ap (drop (value_length v)) (sym filled) ∙ drop_at (take (value_length v) end_) (zeros (padding v)) (value_length v) long in
+      ap (list_all (λ b. b == 0)) tail ∙ zero_since (padding v)
+  filled_since false filled =
+      ap (list_all (λ b. b == 0)) (sym filled ∙ sym (zeros_joined (value_length v) (padding v))) ∙ zero_since (value_length v + padding v)
 
   -- ---- as the code has the parts
 
-  abbrev claimed : ℕ → ℕ → Option (List ℕ) → PBlock
-  claimed m b i = record { mbal = m; bal = b; inp = i; mark = slice_index front 2 == 1 }
+  by_flag : Bool → Said
+  by_flag t = record { mbal = number_at 0 back; bal = number_at NUMBER_LENGTH back; inp = if t then Some (take (value_length v) end_) else None; mark = slice_index front 2 == 1 }
 
-  pub claim_voted : (m b : ℕ) (value : List ℕ) → slice_index front 1 ≡ 1 → m ≡ number_at 0 back → b ≡ number_at 0 (take (length back - NUMBER_LENGTH) (drop NUMBER_LENGTH back)) → value ≡ take (length back - BALLOTS_LENGTH) (drop BALLOTS_LENGTH back) → claimed m b (Some value) ≡ claim_of (front ++ back)
-  unfolding inp number_at
-  claim_voted m b value one m-is b-is value-is =
-      let bal = b-is ∙ ap (big_number 8) (take_rest back 8) in
-      let some_value : Some value ≡ inp = ap (λ (l : List ℕ). Some l) (value-is ∙ take_rest back 16) ∙ sym (with_input one) in
-      let all : claimed m b (Some value) ≡ claim_apart = λ i. claimed (m-is i) (bal i) (some_value i) in
-      all ∙ sym claim_of-parts
+  pub claim_voted : {V : Type 0} (spelled : V → List ℕ) (m b : ℕ) (value : V) → slice_index front 1 ≡ 1 → m ≡ number_at 0 back → b ≡ number_at NUMBER_LENGTH back → spelled value ≡ take (value_length v) end_ → said_as spelled (record { mbal = m; bal = b; inp = Some value; mark = slice_index front 2 == 1 }) ≡ claim_of v (front ++ back)
+  unfolding by_flag
+  claim_voted spelled m b value one m-is b-is value-is =
+      let flag : (slice_index front 1 == 1) ≡ true = eq-eqb (slice_index front 1) 1 one in
+      let all : said_as spelled (record { mbal = m; bal = b; inp = Some value; mark = slice_index front 2 == 1 }) ≡ by_flag true =
+      λ i. record { mbal = m-is i; bal = b-is i; inp = Some (value-is i); mark = slice_index front 2 == 1 } in
+      all ∙ ap by_flag (sym flag) ∙ sym claim_of-parts
 
-  pub claim_blank : (m b : ℕ) → slice_index front 1 ≢ 1 → m ≡ number_at 0 back → b ≡ number_at 0 (take (length back - NUMBER_LENGTH) (drop NUMBER_LENGTH back)) → claimed m b None ≡ claim_of (front ++ back)
-  unfolding inp number_at
-  claim_blank m b other m-is b-is =
-      let bal = b-is ∙ ap (big_number 8) (take_rest back 8) in
-      let no_value : None ≡ inp = sym (without_input (ne_eqb (slice_index front 1) 1 other)) in
-      let all : claimed m b None ≡ claim_apart = λ i. claimed (m-is i) (bal i) (no_value i) in
-      all ∙ sym claim_of-parts
+  pub claim_blank : {V : Type 0} (spelled : V → List ℕ) (m b : ℕ) → slice_index front 1 ≢ 1 → m ≡ number_at 0 back → b ≡ number_at NUMBER_LENGTH back → said_as spelled (record { mbal = m; bal = b; inp = None; mark = slice_index front 2 == 1 }) ≡ claim_of v (front ++ back)
+  unfolding by_flag
+  claim_blank spelled m b other m-is b-is =
+      let flag : (slice_index front 1 == 1) ≡ false = ne_eqb (slice_index front 1) 1 other in
+      let all : said_as spelled (record { mbal = m; bal = b; inp = None; mark = slice_index front 2 == 1 }) ≡ by_flag false =
+      λ i. record { mbal = m-is i; bal = b-is i; inp = None; mark = slice_index front 2 == 1 } in
+      all ∙ ap by_flag (sym flag) ∙ sym claim_of-parts
 
   pub number_behind : number_at 0 (take (length back - NUMBER_LENGTH) (drop NUMBER_LENGTH back)) ≡ number_at NUMBER_LENGTH back
   unfolding number_at
   number_behind = ap (big_number 8) (take_rest back 8)
 
-  abbrev zero_behind : Bool
-  zero_behind = list_all (λ b. b == 0) (take (length back - BALLOTS_LENGTH) (drop BALLOTS_LENGTH back))
-
-  pub zero_value_tells : zero_behind ≡ true → drop BALLOTS_LENGTH back ≡ zeros VALUE_LENGTH
-  zero_value_tells t =
-      let whole = take_rest back 16 in
-      zero_tells (drop BALLOTS_LENGTH back) (ap (list_all (λ b. b == 0)) (sym whole) ∙ t) ∙ ap zeros (omega (arith, length-drop BALLOTS_LENGTH back))
-
-  pub zero_value_fails : zero_behind ≡ false → drop BALLOTS_LENGTH back ≢ zeros VALUE_LENGTH
-  zero_value_fails t is =
-      both_ways zero_behind t (ap (list_all (λ b. b == 0)) (take_rest back 16 ∙ is) ∙ zero_since VALUE_LENGTH)
-
 -- ---- a heading by the numbers in its first and in its last four bytes
 
-pub heading_ends : (voted marked : Bool) → short_at 0 (drop 3 (heading voted marked)) ≡ 0
+pub heading_ends : (v : Version) (voted marked : Bool) → short_at 0 (drop 3 (heading v voted marked)) ≡ 0
 unfolding heading short_at
-heading_ends voted marked = refl
+heading_ends v voted marked = refl
 
-abbrev pub start_of : Bool → Bool → ℕ
-start_of voted marked = if voted then (if marked then MARKED_START else VOTED_START) else BLANK_START
+abbrev pub start_of : Version → Bool → Bool → ℕ
+start_of v false marked = number_of v * VERSION_PLACE
+start_of v true false = number_of v * VERSION_PLACE + VOTED
+start_of v true true = number_of v * VERSION_PLACE + MARKED
 
-pub heading_starts : (voted marked : Bool) → may_mark marked voted ≡ true → short_at 0 (heading voted marked) ≡ start_of voted marked
+pub heading_starts : (v : Version) (voted marked : Bool) → may_mark marked voted ≡ true → short_at 0 (heading v voted marked) ≡ start_of v voted marked
 unfolding heading short_at
-heading_starts true true may = refl
-heading_starts true false may = refl
-heading_starts false false may = refl
-heading_starts false true may = absurd (true≢false (sym may))
+heading_starts Version1 true true may = refl
+heading_starts Version1 true false may = refl
+heading_starts Version1 false false may = refl
+heading_starts Version2 true true may = refl
+heading_starts Version2 true false may = refl
+heading_starts Version2 false false may = refl
+heading_starts v false true may = absurd (true≢false (sym may))
 
-heading_joined : (voted marked : Bool) → take 3 (take 4 (heading voted marked)) ++ big_bytes 4 0 ≡ heading voted marked
+heading_joined : (v : Version) (voted marked : Bool) → take 3 (take 4 (heading v voted marked)) ++ big_bytes 4 0 ≡ heading v voted marked
 unfolding heading
-heading_joined voted marked = refl
+heading_joined v voted marked = refl
 
-heading_start_stands : (voted marked : Bool) → big_bytes 4 (short_at 0 (heading voted marked)) ≡ take 4 (heading voted marked)
+heading_start_stands : (v : Version) (voted marked : Bool) → big_bytes 4 (short_at 0 (heading v voted marked)) ≡ take 4 (heading v voted marked)
 unfolding heading short_at
-heading_start_stands true true = refl
-heading_start_stands true false = refl
-heading_start_stands false true = refl
-heading_start_stands false false = refl
+heading_start_stands Version1 true true = refl
+heading_start_stands Version1 true false = refl
+heading_start_stands Version1 false true = refl
+heading_start_stands Version1 false false = refl
+heading_start_stands Version2 true true = refl
+heading_start_stands Version2 true false = refl
+heading_start_stands Version2 false true = refl
+heading_start_stands Version2 false false = refl
 
-module _ (front : List ℕ) (seven : length front ≡ HEADING_LENGTH) (fits : AreBytes front) where
+module _ (v : Version) (front : List ℕ) (seven : length front ≡ HEADING_LENGTH) (fits : AreBytes front) where
   start_stands : big_bytes 4 (short_at 0 front) ≡ take 4 front
   unfolding short_at
   start_stands = spelled_4 front fits (omega arith)
@@ -441,10 +489,10 @@ module _ (front : List ℕ) (seven : length front ≡ HEADING_LENGTH) (fits : Ar
       ∙ take_rest front 3
 
   -- what starts and ends as a heading is that heading
-  pub headed : (voted marked : Bool) → may_mark marked voted ≡ true → short_at 0 front ≡ start_of voted marked → short_at 0 (drop 3 front) ≡ 0 → front ≡ heading voted marked
+  pub headed : (voted marked : Bool) → may_mark marked voted ≡ true → short_at 0 front ≡ start_of v voted marked → short_at 0 (drop 3 front) ≡ 0 → front ≡ heading v voted marked
   headed voted marked may start end =
-      let first = sym start_stands ∙ ap (big_bytes 4) (start ∙ sym (heading_starts voted marked may)) ∙ heading_start_stands voted marked in
+      let first = sym start_stands ∙ ap (big_bytes 4) (start ∙ sym (heading_starts v voted marked may)) ∙ heading_start_stands v voted marked in
       sym (take-append-drop 3 front)
       ∙ ap (λ (l : List ℕ). l ++ drop 3 front) (sym (take-take 3 4 front (omega arith)) ∙ ap (take 3) first)
-      ∙ ap (λ (l : List ℕ). take 3 (take 4 (heading voted marked)) ++ l) (sym end_stands ∙ ap (big_bytes 4) end)
-      ∙ heading_joined voted marked
+      ∙ ap (λ (l : List ℕ). take 3 (take 4 (heading v voted marked)) ++ l) (sym end_stands ∙ ap (big_bytes 4) end)
+      ∙ heading_joined v voted marked

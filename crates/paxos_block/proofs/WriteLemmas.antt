@@ -10,17 +10,18 @@ use Rattle.torn_block.specs.declared.block.Half.{Half}
 use Rattle.torn_block.specs.declared.block.Half.TheVariants.{First, Second}
 use Rattle.torn_block.specs.declared.write_steps.WriteCall.{WriteCall}
 use Rattle.torn_block.specs.declared.write_steps.WriteCall.TheVariants.{CloseGate, SyncClosed, PutBody, SyncBody, OpenGate, SyncOpened}
-use Rattle.torn_block.specs.declared.layout.TheConstants.{COPY_LENGTH, BLOCK_LENGTH, BODY_LENGTH}
-use Rattle.torn_block.specs.Block.{is_open, sequence_of, tail_with, other, copy_of, choice, value_at, target_at, target_of, next_sequence_at, next_sequence, value_of}
-use Rattle.torn_block.specs.Damage.{IsSoundBlock, first_of, second_of}
-use Rattle.torn_block.specs.Place.{block_in, copy_in}
+use Rattle.torn_block.specs.layouts.Block.{is_open, sequence_of, tail_with, other, copy_of, choice, value_at, target_at, target_of, next_sequence_at, next_sequence, value_of}
+use Rattle.torn_block.specs.layouts.Damage.{IsSoundBlock, first_of, second_of}
+use Rattle.torn_block.specs.layouts.Place.{block_in, copy_in}
 use Rattle.torn_block.proofs.PlaceLaws.{offset_fits, length-copy_in, length-tail_with, reads_sequence}
 use Rattle.torn_block.specs.Stage.{Write128, MayBe, IsWritten, Copies, IsDue, IsDone, IsPlaced, Stands, gate_of, closing, new_tail, call_of, next_call}
 use Rattle.torn_block.proofs.StageLaws.{done_leads_on}
 use Rattle.torn_block.specs.declared.block.TheConstants.{OPEN_GATE}
-use Rattle.paxos_block.specs.declared.block.PBlock.{PBlock}
-use Rattle.paxos_block.specs.Row.{copy_saying, IsSound}
-use Rattle.paxos_block.specs.Places.{IsSoundAt, IsWriteOf}
+use Rattle.paxos_block.specs.layouts.Saying.{Said, said_as}
+use Rattle.paxos_block.specs.layouts.Row.{copy_saying, IsSound}
+use Rattle.paxos_block.specs.layouts.Places.{IsSoundAt, IsWriteOf}
+use Rattle.torn_block.specs.Layout.{Version, hosts_in, copy_length, block_length, body_length, row_length, value_length, padding, number_of, area_place}
+use Rattle.torn_block.proofs.LayoutLaws.{long_copy, long_value, some_hosts, few_hosts, blocks_follow, row_holds, rows_follow}
 
 -- ---- the copy that a write keeps is the current one, where it is open
 
@@ -37,9 +38,9 @@ kept_first true true false a b is opened = refl
 kept_first true false z a b is opened = refl
 kept_first false q z a b is opened = cc
 
-kept_at : (half : Half) (block : List ℕ) → target_of block ≡ half → is_open (copy_of (other half) block) ≡ true → next_sequence block ≡ sequence_of (copy_of (other half) block) + 1
-kept_at First block is opened = kept_second (is_open (first_of block)) (is_open (second_of block)) _ (first_of block) (second_of block) is opened
-kept_at Second block is opened = kept_first (is_open (first_of block)) (is_open (second_of block)) _ (first_of block) (second_of block) is opened
+kept_at : (v : Version) (half : Half) (block : List ℕ) → target_of v block ≡ half → is_open (copy_of v (other half) block) ≡ true → next_sequence v block ≡ sequence_of (copy_of v (other half) block) + 1
+kept_at v First block is opened = kept_second (is_open (first_of v block)) (is_open (second_of v block)) _ (first_of v block) (second_of v block) is opened
+kept_at v Second block is opened = kept_first (is_open (first_of v block)) (is_open (second_of v block)) _ (first_of v block) (second_of v block) is opened
 
 next_from_one : (value : Option (ℕ × List ℕ)) → 1 ≤ next_sequence_at value
 next_from_one None = omega arith
@@ -47,20 +48,20 @@ next_from_one (Some value) = omega arith
 
 -- ---- a block by one of its copies and the other
 
-module _ (P : List ℕ → Type 0) where
-  by_copies : (half : Half) (block : List ℕ) → (is_open (copy_of half block) ≡ true → P (copy_of half block)) → (is_open (copy_of (other half) block) ≡ true → P (copy_of (other half) block)) → (is_open (copy_of half block) ≡ true → is_open (copy_of (other half) block) ≡ true → sequence_of (copy_of half block) ≢ sequence_of (copy_of (other half) block)) → IsSoundBlock P block
+module _ (v : Version) (P : List ℕ → Type 0) where
+  by_copies : (half : Half) (block : List ℕ) → (is_open (copy_of v half block) ≡ true → P (copy_of v half block)) → (is_open (copy_of v (other half) block) ≡ true → P (copy_of v (other half) block)) → (is_open (copy_of v half block) ≡ true → is_open (copy_of v (other half) block) ≡ true → sequence_of (copy_of v half block) ≢ sequence_of (copy_of v (other half) block)) → IsSoundBlock v P block
   by_copies First block f s differ = record { copies = λ half. each half; apart = differ }
     where
-      each : (half : Half) → is_open (copy_of half block) ≡ true → P (copy_of half block)
+      each : (half : Half) → is_open (copy_of v half block) ≡ true → P (copy_of v half block)
       each First = f
       each Second = s
   by_copies Second block f s differ = record { copies = λ half. each half; apart = λ o p same. differ p o (sym same) }
     where
-      each : (half : Half) → is_open (copy_of half block) ≡ true → P (copy_of half block)
+      each : (half : Half) → is_open (copy_of v half block) ≡ true → P (copy_of v half block)
       each First = s
       each Second = f
 
-  apart_by : (half : Half) (block : List ℕ) → IsSoundBlock P block → is_open (copy_of half block) ≡ true → is_open (copy_of (other half) block) ≡ true → sequence_of (copy_of half block) ≢ sequence_of (copy_of (other half) block)
+  apart_by : (half : Half) (block : List ℕ) → IsSoundBlock v P block → is_open (copy_of v half block) ≡ true → is_open (copy_of v (other half) block) ≡ true → sequence_of (copy_of v half block) ≢ sequence_of (copy_of v (other half) block)
   apart_by First block sound o p same = sound.apart o p same
   apart_by Second block sound o p same = sound.apart p o (sym same)
 
@@ -68,7 +69,7 @@ module _ (P : List ℕ → Type 0) where
 
 -- the copy to be written is as it was, or closed, or it has the new tail
 abbrev Target : Write128 → List ℕ → Type 0
-Target w copy = (copy ≡ copy_of (target_of w.block) w.block) ⊎ ((is_open copy ≡ false) ⊎ (drop 1 copy ≡ new_tail w))
+Target w copy = (copy ≡ copy_of w.version (target_of w.version w.block) w.block) ⊎ ((is_open copy ≡ false) ⊎ (drop 1 copy ≡ new_tail w))
 
 target_is : (call : WriteCall) (w : Write128) (copy : List ℕ) → MayBe call w copy → Target w copy
 target_is CloseGate w copy may = inl may
@@ -79,66 +80,66 @@ target_is SyncBody w copy may = inr (inl may)
 target_is OpenGate w copy may = inr (inl may.0)
 target_is SyncOpened w copy may = inr (inr may)
 
-module _ (host : ℕ) (w : Write128) (says : PBlock) (is : IsWriteOf host says w) (bytes : List ℕ) (room : w.place + BLOCK_LENGTH ≤ length bytes) (long : length w.body ≡ BODY_LENGTH) where
+module _ (host : ℕ) (w : Write128) (says : Said) (is : IsWriteOf host says w) (bytes : List ℕ) (room : w.place + block_length w.version ≤ length bytes) (long : length w.body ≡ body_length w.version) where
   abbrev half : Half
-  half = target_of w.block
+  half = target_of w.version w.block
 
   abbrev target : List ℕ
-  target = copy_of half (block_in w.place bytes)
+  target = copy_of w.version half (block_in w.version w.place bytes)
 
   abbrev kept : List ℕ
-  kept = copy_of (other half) (block_in w.place bytes)
+  kept = copy_of w.version (other half) (block_in w.version w.place bytes)
 
-  long_copy : length target ≡ COPY_LENGTH
+  long_target : length target ≡ copy_length w.version
   unfolding copy_in
-  long_copy = length-copy_in half w.place bytes room
+  long_target = length-copy_in w.version half w.place bytes room
 
-  new_number : drop 1 target ≡ new_tail w → sequence_of target ≡ next_sequence w.block
-  new_number tail = reads_sequence (next_sequence w.block) w.body long target (let most = is.number in omega arith) tail
+  new_number : drop 1 target ≡ new_tail w → sequence_of target ≡ next_sequence w.version w.block
+  new_number tail = reads_sequence w.version (next_sequence w.version w.block) w.body long target (let most = is.number in omega arith) tail
 
-  new_sound : drop 1 target ≡ new_tail w → is_open target ≡ true → IsSound host target
+  new_sound : drop 1 target ≡ new_tail w → is_open target ≡ true → IsSound w.version host target
   new_sound tail opened =
       let gate : slice_index target 0 ≡ OPEN_GATE = eqb-true (slice_index target 0) OPEN_GATE opened in
-      let spelled : target ≡ copy_saying (next_sequence w.block) says =
-      drop_more target 0 0 (omega (arith, long_copy))
+      let spelled : target ≡ copy_saying w.version (next_sequence w.version w.block) says =
+      drop_more target 0 0 (omega (arith, long_target, long_copy w.version))
       ∙ ap (λ (g : ℕ). g ∷ drop 1 target) gate
-      ∙ ap (λ (l : List ℕ). OPEN_GATE ∷ l) (tail ∙ ap (tail_with (next_sequence w.block)) is.body) in
+      ∙ ap (λ (l : List ℕ). OPEN_GATE ∷ l) (tail ∙ ap (tail_with (next_sequence w.version w.block)) is.body) in
       record {
-        sequence = next_sequence w.block;
+        sequence = next_sequence w.version w.block;
         says = says;
         so = record {
-          is_sequence = record { from_one = next_from_one (value_of w.block); within = is.number };
+          is_sequence = record { from_one = next_from_one (value_of w.version w.block); within = is.number };
           may_say = is.may_say;
           spelled = spelled;
         };
       }
 
-  kept_sound : kept ≡ copy_of (other half) w.block → is_open kept ≡ true → IsSound host kept
-  kept_sound same opened = subst (IsSound host) (sym same) (is.sound.copies (other half) (ap is_open (sym same) ∙ opened))
+  kept_sound : kept ≡ copy_of w.version (other half) w.block → is_open kept ≡ true → IsSound w.version host kept
+  kept_sound same opened = subst (IsSound w.version host) (sym same) (is.sound.copies (other half) (ap is_open (sym same) ∙ opened))
 
-  new_apart : drop 1 target ≡ new_tail w → kept ≡ copy_of (other half) w.block → is_open kept ≡ true → sequence_of target ≢ sequence_of kept
+  new_apart : drop 1 target ≡ new_tail w → kept ≡ copy_of w.version (other half) w.block → is_open kept ≡ true → sequence_of target ≢ sequence_of kept
   new_apart tail same opened equal =
-      let next = kept_at half w.block refl (ap is_open (sym same) ∙ opened) in
+      let next = kept_at w.version half w.block refl (ap is_open (sym same) ∙ opened) in
       let number = new_number tail in
       let old = ap sequence_of same in
       absurd (omega arith)
 
-  stays : Target w target → kept ≡ copy_of (other half) w.block → IsSoundBlock (IsSound host) (block_in w.place bytes)
+  stays : Target w target → kept ≡ copy_of w.version (other half) w.block → IsSoundBlock w.version (IsSound w.version host) (block_in w.version w.place bytes)
   stays (inl as_before) same =
-      by_copies (IsSound host) half (block_in w.place bytes)
-      (λ o. subst (IsSound host) (sym as_before) (is.sound.copies half (ap is_open (sym as_before) ∙ o)))
+      by_copies w.version (IsSound w.version host) half (block_in w.version w.place bytes)
+      (λ o. subst (IsSound w.version host) (sym as_before) (is.sound.copies half (ap is_open (sym as_before) ∙ o)))
       (kept_sound same)
-      (λ o p equal. apart_by (IsSound host) half w.block is.sound (ap is_open (sym as_before) ∙ o) (ap is_open (sym same) ∙ p) (ap sequence_of (sym as_before) ∙ equal ∙ ap sequence_of same))
+      (λ o p equal. apart_by w.version (IsSound w.version host) half w.block is.sound (ap is_open (sym as_before) ∙ o) (ap is_open (sym same) ∙ p) (ap sequence_of (sym as_before) ∙ equal ∙ ap sequence_of same))
   stays (inr (inl closed)) same =
-      by_copies (IsSound host) half (block_in w.place bytes) (λ o. absurd (both_ways (is_open target) closed o)) (kept_sound same) (λ o p. absurd (both_ways (is_open target) closed o))
+      by_copies w.version (IsSound w.version host) half (block_in w.version w.place bytes) (λ o. absurd (both_ways (is_open target) closed o)) (kept_sound same) (λ o p. absurd (both_ways (is_open target) closed o))
   stays (inr (inr tail)) same =
-      by_copies (IsSound host) half (block_in w.place bytes) (new_sound tail) (kept_sound same) (λ o p. new_apart tail same p)
+      by_copies w.version (IsSound w.version host) half (block_in w.version w.place bytes) (new_sound tail) (kept_sound same) (λ o p. new_apart tail same p)
 
-  pub due_is_sound : (call : WriteCall) → Copies w (MayBe call w) bytes → IsSoundBlock (IsSound host) (block_in w.place bytes)
+  pub due_is_sound : (call : WriteCall) → Copies w (MayBe call w) bytes → IsSoundBlock w.version (IsSound w.version host) (block_in w.version w.place bytes)
   unfolding copy_in
   due_is_sound call c = stays (target_is call w target c.target) c.kept
 
-  pub done_is_sound : Copies w (IsWritten w) bytes → IsSoundBlock (IsSound host) (block_in w.place bytes)
+  pub done_is_sound : Copies w (IsWritten w) bytes → IsSoundBlock w.version (IsSound w.version host) (block_in w.version w.place bytes)
   unfolding copy_in
   done_is_sound c = stays (inr (inr c.target.1)) c.kept
 
@@ -184,12 +185,12 @@ closing_fits : (opened : Bool) → length {A = ℕ} (if opened then 0 ∷ [] els
 closing_fits true = omega arith
 closing_fits false = omega arith
 
-module _ (host : ℕ) (w : Write128) (says : PBlock) (disk : DiskState) (placed : IsPlaced w disk) (is : IsWriteOf host says w) where
-  pub sound_while_due : (call : WriteCall) → IsDue call w disk → IsSoundAt host w.place disk
+module _ (host : ℕ) (w : Write128) (says : Said) (disk : DiskState) (placed : IsPlaced w disk) (is : IsWriteOf host says w) where
+  pub sound_while_due : (call : WriteCall) → IsDue call w disk → IsSoundAt w.version host w.place disk
   sound_while_due call due bytes left =
       due_is_sound host w says is bytes (omega (arith, left.as_many, placed.within)) placed.body call (due.left bytes left)
 
-  pub sound_when_done : IsDone w disk → IsSoundAt host w.place disk
+  pub sound_when_done : IsDone w disk → IsSoundAt w.version host w.place disk
   sound_when_done done bytes left =
       done_is_sound host w says is bytes (omega (arith, left.as_many, placed.within)) placed.body (done.left bytes left)
 
@@ -203,21 +204,21 @@ module _ (host : ℕ) (w : Write128) (says : PBlock) (disk : DiskState) (placed 
       (record { whole = placed.whole; within = placed.within; block = placed.block; body = placed.body; fits = placed.fits })
       call disk.boot (done_by here (call_of call w disk.boot)) (record { now = due.now; left = due.left }) step
 
-  torn_sound : (next : WriteCall) (at : ℕ) (from : List ℕ) (new : DiskState) → at + length from ≤ length disk.bytes → IsDue next w (written here at from) → Torn at (length from) disk new → IsSoundAt host w.place new
+  torn_sound : (next : WriteCall) (at : ℕ) (from : List ℕ) (new : DiskState) → at + length from ≤ length disk.bytes → IsDue next w (written here at from) → Torn at (length from) disk new → IsSoundAt w.version host w.place new
   torn_sound next at from new fits due torn bytes left =
       let may = torn_left disk at from torn.left bytes placed.whole fits torn.as_many (subst (λ (d : DiskState). MayLeave d bytes) torn.leaves left) in
       due_is_sound host w says is bytes (omega (arith, may.as_many, length-put disk.bytes at from fits 0, placed.within)) placed.body next (due.left bytes may)
 
-  gate_fits : gate_of w + COPY_LENGTH ≤ length disk.bytes
-  gate_fits = omega (arith, offset_fits (target_of w.block), placed.within)
+  gate_fits : gate_of w + copy_length w.version ≤ length disk.bytes
+  gate_fits = omega (arith, offset_fits w.version (target_of w.version w.block), placed.within)
 
-  pub sound_when_failed : (call : WriteCall) (boot : ℕ) (new : DiskState) → IsDue call w disk → FailureLeaves (call_of call w boot) disk new → IsSoundAt host w.place new
+  pub sound_when_failed : (call : WriteCall) (boot : ℕ) (new : DiskState) → IsDue call w disk → FailureLeaves (call_of call w boot) disk new → IsSoundAt w.version host w.place new
   sound_when_failed CloseGate boot new due torn =
-      torn_sound SyncClosed (gate_of w) (closing w) new (omega (arith, gate_fits, closing_fits (is_open (copy_of (target_of w.block) w.block)))) (leads CloseGate due (refl, refl, (refl, refl))) torn
-  sound_when_failed SyncClosed boot new due same = subst (IsSoundAt host w.place) (sym same) (sound_while_due SyncClosed due)
+      torn_sound SyncClosed (gate_of w) (closing w) new (omega (arith, gate_fits, long_copy w.version, closing_fits (is_open (copy_of w.version (target_of w.version w.block) w.block)))) (leads CloseGate due (refl, refl, (refl, refl))) torn
+  sound_when_failed SyncClosed boot new due same = subst (IsSoundAt w.version host w.place) (sym same) (sound_while_due SyncClosed due)
   sound_when_failed PutBody boot new due torn =
-      torn_sound SyncBody (gate_of w + 1) (new_tail w) new (omega (arith, gate_fits, length-tail_with (next_sequence w.block) w.body placed.body)) (leads PutBody due (refl, refl, (refl, refl))) torn
-  sound_when_failed SyncBody boot new due same = subst (IsSoundAt host w.place) (sym same) (sound_while_due SyncBody due)
+      torn_sound SyncBody (gate_of w + 1) (new_tail w) new (omega (arith, gate_fits, long_copy w.version, length-tail_with w.version (next_sequence w.version w.block) w.body placed.body)) (leads PutBody due (refl, refl, (refl, refl))) torn
+  sound_when_failed SyncBody boot new due same = subst (IsSoundAt w.version host w.place) (sym same) (sound_while_due SyncBody due)
   sound_when_failed OpenGate boot new due torn =
-      torn_sound SyncOpened (gate_of w) (165 ∷ []) new (omega (arith, gate_fits)) (leads OpenGate due (refl, refl, (refl, refl))) torn
-  sound_when_failed SyncOpened boot new due same = subst (IsSoundAt host w.place) (sym same) (sound_while_due SyncOpened due)
+      torn_sound SyncOpened (gate_of w) (165 ∷ []) new (omega (arith, gate_fits, long_copy w.version)) (leads OpenGate due (refl, refl, (refl, refl))) torn
+  sound_when_failed SyncOpened boot new due same = subst (IsSoundAt w.version host w.place) (sym same) (sound_while_due SyncOpened due)

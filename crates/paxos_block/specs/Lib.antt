@@ -5,3 +5,4 @@ pub mod Places
 pub mod Row
 pub mod Saying
 pub mod Votes
+pub mod layouts

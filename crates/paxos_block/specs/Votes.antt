@@ -1,52 +1,22 @@
--- What a row shows of ballots and votes, and the ballot that a host takes above them.
-use Rattle.std.specs.Prelude.{◌+◌, ◌-◌, ◌*◌, ◌/◌, ◌==◌, ℕ, zero, suc, List, max, nat_lt, Option, None, if◌then◌else◌}
-use Rattle.std.specs.Option.{option_or}
-use Rattle.torn_block.specs.declared.layout.TheConstants.{HOSTS}
-use Rattle.paxos_block.specs.declared.block.PBlock.{PBlock}
-use Rattle.paxos_block.specs.Row.{SeenBlock, seen_at}
+-- What a row shows of ballots and votes, and the ballot that a host takes above them, in the cluster's layout.
+use Rattle.std.specs.Prelude.{ℕ, List, Option}
+use Rattle.torn_block.specs.Layout.{cluster_version}
+use Rattle.paxos_block.specs.layouts.Saying.{Said}
+use Rattle.paxos_block.specs.layouts.Row.{SeenBlock}
+use Rattle.paxos_block.specs.layouts.Votes as by
+pub use Rattle.paxos_block.specs.layouts.Votes.{says_in, greatest, later_of, latest_below, marked, marked_below}
 
--- what a host's block in a row says
-abbrev pub says_in : List SeenBlock → ℕ → PBlock
-says_in row host = (seen_at row host).says
-
--- the greatest of the first n values
-abbrev pub greatest : ℕ → (ℕ → ℕ) → ℕ
-greatest zero f = 0
-greatest (suc n) f = max (greatest n f) (f n)
-
--- the greatest mbal of a row
 abbrev pub top_of : List SeenBlock → ℕ
-top_of row = greatest HOSTS (λ g. (says_in row g).mbal)
+top_of = by.top_of cluster_version
 
--- the same without the host's own block
 abbrev pub others_top_of : ℕ → List SeenBlock → ℕ
-others_top_of host row = greatest HOSTS (λ g. if g == host then 0 else (says_in row g).mbal)
+others_top_of = by.others_top_of cluster_version
 
--- the later of two votes: the one with the greater bal, or else the first
-abbrev pub later_of : PBlock → PBlock → PBlock
-later_of best says = if nat_lt best.bal says.bal then says else best
-
--- the latest among a vote and those of the other hosts in a row, of the first n hosts
-abbrev pub latest_below : ℕ → List SeenBlock → ℕ → PBlock → PBlock
-latest_below host row zero best = best
-latest_below host row (suc g) best =
-    if g == host then latest_below host row g best else later_of (latest_below host row g best) (says_in row g)
-
-abbrev pub latest_in : ℕ → List SeenBlock → PBlock → PBlock
-latest_in host row best = latest_below host row HOSTS best
-
--- the input of a marked block
-abbrev pub marked : PBlock → Option (List ℕ)
-marked says = if says.mark then says.inp else None
-
--- that of the first marked block among those of the first n hosts in a row
-abbrev pub marked_below : List SeenBlock → ℕ → Option (List ℕ)
-marked_below row zero = None
-marked_below row (suc g) = option_or (marked_below row g) (marked (says_in row g))
+abbrev pub latest_in : ℕ → List SeenBlock → Said → Said
+latest_in = by.latest_in cluster_version
 
 abbrev pub marked_in : List SeenBlock → Option (List ℕ)
-marked_in row = marked_below row HOSTS
+marked_in = by.marked_in cluster_version
 
--- the least ballot of the host above n: host h owns h + 1, and every eighth from there on
 abbrev pub ballot_above : ℕ → ℕ → ℕ
-ballot_above host n = if nat_lt n (host + 1) then host + 1 else host + 1 + HOSTS * ((n - host - 1) / HOSTS + 1)
+ballot_above = by.ballot_above cluster_version

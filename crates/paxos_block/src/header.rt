@@ -1,14 +1,14 @@
 ghost use Rattle.std.specs.Prelude.{◌≡◌, ◌≢◌, ◌⊎◌, ◌≤◌, ◌<◌, ◌↔◌, IsTrue, length, IfOk, Err, Ok};
-ghost use Rattle.paxos_block.specs.Headers;
-ghost use Rattle.paxos_block.specs.Places;
-ghost use Rattle.paxos_block.specs.Headers.{IsHeader, IsFormatted, IsRight, HasNoHeader, header_saying, header_in};
+ghost use Rattle.paxos_block.specs.layouts.Headers;
+ghost use Rattle.paxos_block.specs.layouts.Places;
+ghost use Rattle.paxos_block.specs.layouts.Headers.{IsHeader, IsFormatted, IsRight, HasNoHeader, header_saying, header_in};
 
 use crate::number::{
     NUMBER_LENGTH, SHORT_LENGTH, is_zero, number_in, put_short, put_zeros, short_in,
 };
 use crate::place::image_length;
 use disk::ImageFault;
-use torn_block::{DISKS, HEADER_LENGTH, OPEN_GATE, SLOTS, VERSION, put_number};
+use torn_block::{DISKS, HEADER_LENGTH, Layout, OPEN_GATE, SLOTS, put_number};
 
 // Where the fields stand, and the zeros behind them.
 const GATE_AT: usize = 0;
@@ -51,15 +51,19 @@ pub fn is_header(header: &Header) -> bool
 
 /// The header of an image, by the disk that it is named as, its length in bytes, and its first
 /// bytes. Where the image is shorter than those, they are not looked at: hand in any.
-pub fn decode_header(disk: u8, long: u64, bytes: &[u8; HEADER_LENGTH]) -> Result<Header, ImageFault>
+pub fn decode_header<L: Layout>(
+    disk: u8,
+    long: u64,
+    bytes: &[u8; HEADER_LENGTH],
+) -> Result<Header, ImageFault>
     // What is read is right, and what is right is read.
-    ensures right { IfOk result (IsRight disk long bytes.now) }
-    ensures only { (header : Header) → IsRight disk long bytes.now header → result ≡ Ok header }
+    ensures right { IfOk result (IsRight L.version disk long bytes.now) }
+    ensures only { (header : Header) → IsRight L.version disk long bytes.now header → result ≡ Ok header }
     // The length is looked at first, then the gate, and then all else.
     ensures not_formatted { (result ≡ Err ImageFault.NotFormatted) ↔
         ((HEADER_LENGTH ≤ long) × ¬ IsFormatted bytes.now) }
     ensures wrong_header { (result ≡ Err ImageFault.WrongHeader) ↔
-        ((long < HEADER_LENGTH) ⊎ HasNoHeader disk long bytes.now) }
+        ((long < HEADER_LENGTH) ⊎ HasNoHeader L.version disk long bytes.now) }
     // That fault is of those who read the bytes.
     ensures readable { result ≢ Err ImageFault.Unreadable }
 {
@@ -69,17 +73,17 @@ pub fn decode_header(disk: u8, long: u64, bytes: &[u8; HEADER_LENGTH]) -> Result
     if bytes[GATE_AT] != OPEN_GATE {
         return Err(ImageFault::NotFormatted);
     }
-    if !is_right(disk, long, bytes) {
+    if !is_right::<L>(disk, long, bytes) {
         return Err(ImageFault::WrongHeader);
     }
     Ok(header_in(bytes))
 }
 
 /// How long an image is by its first bytes, whether they are right or not.
-pub fn told_length(bytes: &[u8; HEADER_LENGTH]) -> u64
-    ensures { result ≡ Places.image_length (header_in bytes.now).slots }
+pub fn told_length<L: Layout>(bytes: &[u8; HEADER_LENGTH]) -> u64
+    ensures { result ≡ Places.image_length L.version (header_in bytes.now).slots }
 {
-    image_length(header_in(bytes).slots)
+    image_length::<L>(header_in(bytes).slots)
 }
 
 /// Whether an image with these first bytes was formatted to the end: its gate is open.
@@ -89,15 +93,15 @@ pub fn is_formatted(bytes: &[u8; HEADER_LENGTH]) -> bool
     bytes[GATE_AT] == OPEN_GATE
 }
 
-fn is_right(disk: u8, long: u64, bytes: &[u8]) -> bool
+fn is_right<L: Layout>(disk: u8, long: u64, bytes: &[u8]) -> bool
     requires { length bytes.now ≡ HEADER_LENGTH }
-    ensures { result ≡ Headers.is_right disk long bytes.now }
+    ensures { result ≡ Headers.is_right L.version disk long bytes.now }
 {
     let header = header_in(bytes);
-    bytes[VERSION_AT] == VERSION
+    bytes[VERSION_AT] == L::VERSION
         && is_header(&header)
         && header.disk == disk
-        && image_length(header.slots) == long
+        && image_length::<L>(header.slots) == long
         && is_zero(&bytes[ZEROS_AT..])
 }
 
@@ -114,23 +118,23 @@ fn header_in(bytes: &[u8]) -> Header
 }
 
 /// The first bytes of an image with this header, which has `image_length(header.slots)` bytes.
-pub fn encode_header(header: &Header) -> [u8; HEADER_LENGTH]
+pub fn encode_header<L: Layout>(header: &Header) -> [u8; HEADER_LENGTH]
     requires { IsHeader header.now }
-    ensures { result ≡ header_saying header.now }
+    ensures { result ≡ header_saying L.version header.now }
 {
     let mut bytes = [0; HEADER_LENGTH];
-    put_header(&mut bytes, header);
+    put_header::<L>(&mut bytes, header);
     bytes
 }
 
-fn put_header(bytes: &mut [u8], header: &Header)
+fn put_header<L: Layout>(bytes: &mut [u8], header: &Header)
     requires { length bytes.old ≡ HEADER_LENGTH }
-    ensures { bytes.new ≡ header_saying header.now }
+    ensures { bytes.new ≡ header_saying L.version header.now }
 {
     let (front, back) = bytes.split_at_mut(SLOTS_AT);
     let (slots, rest) = back.split_at_mut(SHORT_LENGTH);
     let (cluster, end) = rest.split_at_mut(NUMBER_LENGTH);
-    front.copy_from_slice(&[OPEN_GATE, VERSION, header.disk, header.disks]);
+    front.copy_from_slice(&[OPEN_GATE, L::VERSION, header.disk, header.disks]);
     put_short(slots, header.slots);
     put_number(cluster, header.cluster);
     put_zeros(end);

@@ -12,10 +12,10 @@ mod place;
 mod row;
 
 pub use ballot::{LAST_BALLOT, ballot_above, is_ballot_of, majority};
-pub use block::{PBlock, VOTE_LENGTH, Value, decode, encode, may_say};
+pub use block::{PBlock, Value, decode, encode, may_say};
 pub use cell::Cell;
 pub use damaged::Damaged;
 pub use header::{Header, decode_header, encode_header, is_formatted, is_header, told_length};
 pub use law::{ballots_and_majorities, blocks_apart, blocks_say, rows_say, writes_stay_sound};
 pub use place::{AREA_PLACE, beat_place, block_place, image_length, row_place};
-pub use row::{Row, damaged_hosts, decode_row};
+pub use row::{Row, damaged_hosts, decode_row, read_row};

@@ -6,13 +6,13 @@ use Rattle.std.proofs.lemmas.List.{get_or-set_same, get_or-set_other}
 use Rattle.disk.specs.declared.boot.Boot.{Boot}
 use Rattle.torn_block.specs.declared.write_steps.WriteCall.{WriteCall}
 use Rattle.torn_block.specs.declared.write_steps.WriteCall.TheVariants.{CloseGate, SyncClosed, PutBody, SyncBody, OpenGate, SyncOpened}
-use Rattle.torn_block.specs.Plan.{Plan, IsReading, plan_by, next_after}
-use Rattle.paxos_block.specs.declared.block.PBlock.{PBlock}
+use Rattle.torn_block.specs.layouts.Plan.{Plan, IsReading, plan_by, next_after}
+use Rattle.paxos_block.specs.layouts.Saying.{Said}
 use Rattle.paxos_block.specs.declared.cell.Cell.{Cell}
-use Rattle.paxos_block.specs.Row.{SeenBlock, seen_at, row_said, IsSeenAs, AreSeenAs}
+use Rattle.paxos_block.specs.layouts.Row.{SeenBlock, seen_at, row_said, IsSeenAs, AreSeenAs}
 use Rattle.paxos_block.specs.declared.row.Row.{Row}
 use Rattle.std.specs.Option.{IsSomeAnd}
-use Rattle.paxos_block.specs.Saying.{body_saying}
+use Rattle.paxos_block.specs.layouts.Saying.{body_saying}
 use Rattle.attempt.specs.Calls.{Phase, Opening, One, Two, start, goal}
 use Rattle.attempt.specs.Answers.{Heard, Booted, Done, Told, Answers, more, is_bad, all_good, row_in, boot_of, last_row, seen_block}
 use Rattle.attempt.specs.Setup.{Setup}
@@ -27,7 +27,8 @@ use Rattle.phases.specs.declared.phase.Stage.{Stage}
 use Rattle.phases.specs.declared.phase.Stage.TheVariants as stage
 use Rattle.phases.specs.declared.heard.Heard.TheVariants as answer
 use Rattle.phases.specs.declared.visit.Visit.{Visit}
-use Rattle.phases.specs.Calls.{phase_in}
+use Rattle.phases.specs.layouts.Calls.{phase_in}
+use Rattle.torn_block.specs.Layout.{Version}
 use Rattle.phases.specs.Notes.{Notes, no_visit, visit_at}
 use Rattle.phases.specs.Steps.{made, answered, Suits, FitsStage, write_then, stage_then}
 use Rattle.phases.specs.Kept.{Remembers, KeepsRows, IsVisiting, IsWriting, Writes, Stands, Follows}
@@ -36,12 +37,12 @@ use Rattle.phases.proofs.Visiting.{no_answers}
 use Rattle.phases.proofs.Hearing.{IsDue, Stays, Ending, Dropped, Read, left_now, same_not_outrun, same_rows_kept, follows, opened_stays, remembers_more, due_there, remembers_now, boot_stays, stays_there, passes}
 
 -- what a row was read as
-reads_by : (bytes : List ℕ) (row : Row) (o : Option (List SeenBlock)) → row_said bytes ≡ o → IsSomeAnd o (λ seen. AreSeenAs seen row) → ReadsAs bytes row
-reads_by bytes row None is some = absurd some
-reads_by bytes row (Some seen) is so = record { seen = seen; said = is; so = so }
+reads_by : {V : Type 0} (v : Version) (spelled : V → List ℕ) (bytes : List ℕ) (row : Row V) (o : Option (List SeenBlock)) → row_said v bytes ≡ o → IsSomeAnd o (λ seen. AreSeenAs v spelled seen row) → ReadsAs v spelled bytes row
+reads_by v spelled bytes row None is some = absurd some
+reads_by v spelled bytes row (Some seen) is so = record { seen = seen; said = is; so = so }
 
-pub reads_as : (bytes : List ℕ) (row : Row) → IsSomeAnd (row_said bytes) (λ seen. AreSeenAs seen row) → ReadsAs bytes row
-reads_as bytes row so = reads_by bytes row (row_said bytes) refl so
+pub reads_as : {V : Type 0} (v : Version) (spelled : V → List ℕ) (bytes : List ℕ) (row : Row V) → IsSomeAnd (row_said v bytes) (λ seen. AreSeenAs v spelled seen row) → ReadsAs v spelled bytes row
+reads_as v spelled bytes row so = reads_by v spelled bytes row (row_said v bytes) refl so
 
 -- what is known where a call is due, of an attempt that goes on
 pub visiting : (f : Answers) (n : Notes) → n.end ≡ None → Follows f n → IsVisiting n.phase f n
@@ -87,24 +88,24 @@ module _ (q : code_phase.Phase) (f : Answers) (n : Notes) (v : IsVisiting q f n)
             (omega arith)
             (others new)
             (ap (λ (w : Visit). w.left) (set_is room new))
-            (subst (Remembers s.host (f d ++ Booted boot.number ∷ [])) (sym (set_is room new))
-            (remembers_more s.host (f d) (Booted boot.number) visit new refl (ap (λ (a : List Heard). boot_of (a ++ Booted boot.number ∷ [])) (no_answers (f d) none)) refl (remembers_now q f n v order)))
+            (subst (Remembers s.version s.host (f d ++ Booted boot.number ∷ [])) (sym (set_is room new))
+            (remembers_more s.version s.host (f d) (Booted boot.number) visit new refl (ap (λ (a : List Heard). boot_of (a ++ Booted boot.number ∷ [])) (no_answers (f d) none)) refl (remembers_now q f n v order)))
             tt,
       )
 
   -- A SYNC, OR A CALL OF A WRITE, SUCCEEDED
 
   -- behind the first answer a success changes nothing of what is kept of the disk
-  does : (st : Stage) → 1 ≤ length (f d) → length (f d) + 1 < goal p → Suits q st → length (f d) + 1 ≡ answered p st → Writes st n.says visit
+  does : (st : Stage) → 1 ≤ length (f d) → length (f d) + 1 < goal p → Suits q st → length (f d) + 1 ≡ answered p st → Writes n.of.version st n.says visit
       → Stays p (f d) Done × IsVisiting q (more f d Done) (record n { stage = st })
   does st some less suits so writes =
       let stays : Stays p (f d) Done = record { good = refl; rowless = refl; short = less } in (
         stays,
         stays_there q f n v order Done stays n.visits st suits so (λ e off. refl) refl
-            (remembers_more s.host (f d) Done visit visit refl (boot_stays q f n v order Done some) refl (remembers_now q f n v order)) writes,
+            (remembers_more s.version s.host (f d) Done visit visit refl (boot_stays q f n v order Done some) refl (remembers_now q f n v order)) writes,
       )
 
-  module _ (plan : Plan) (later : 3 ≤ start p) (seven : goal p ≡ start p + 7) (suits : (due : Option WriteCall) → Suits q (write_then plan due)) (plan_is : plan ≡ record (plan_by visit.block (body_saying n.says)) { due = plan.due }) where
+  module _ (plan : Plan) (later : 3 ≤ start p) (seven : goal p ≡ start p + 7) (suits : (due : Option WriteCall) → Suits q (write_then plan due)) (plan_is : plan ≡ record (plan_by s.version visit.block (body_saying n.of.version n.says)) { due = plan.due }) where
     -- another call of the write is due
     wrote : (next : WriteCall) → made (Some next) ≤ 5 → length (f d) + 1 ≡ start p + made (Some next)
         → Stays p (f d) Done × IsVisiting q (more f d Done) (record n { stage = write_then plan (Some next) })
@@ -122,12 +123,12 @@ module _ (q : code_phase.Phase) (f : Answers) (n : Notes) (v : IsVisiting q f n)
     step OpenGate so = wrote SyncOpened (omega arith) (omega arith)
     step SyncOpened so = does stage.Reading (omega arith) (omega arith) (suits None) (let six : pred (goal p) ≡ start p + 6 = ap pred seven ∙ omega arith in omega (arith, so, six)) tt
 
-  wrote_by : (plan : Plan) → 3 ≤ start p → goal p ≡ start p + 7 → ((due : Option WriteCall) → Suits q (write_then plan due)) → length (f d) ≡ start p + made plan.due → IsWriting n.says visit plan
+  wrote_by : (plan : Plan) → 3 ≤ start p → goal p ≡ start p + 7 → ((due : Option WriteCall) → Suits q (write_then plan due)) → length (f d) ≡ start p + made plan.due → IsWriting s.version n.says visit plan
       → Stays p (f d) Done × IsVisiting q (more f d Done) (record n { stage = write_then plan (next_after plan.due) })
   wrote_by plan later seven suits so is =
       let due_is : plan.due ≡ Some is.call = ap (λ (x : Plan). x.due) is.is in
       subst (λ (due : Option WriteCall). Stays p (f d) Done × IsVisiting q (more f d Done) (record n { stage = write_then plan (next_after due) })) (sym due_is)
-      (step plan later seven suits (is.is ∙ ap (λ (due : Option WriteCall). record (plan_by visit.block (body_saying n.says)) { due = due }) (sym due_is)) is.call (so ∙ ap (λ (due : Option WriteCall). start p + made due) due_is))
+      (step plan later seven suits (is.is ∙ ap (λ (due : Option WriteCall). record (plan_by s.version visit.block (body_saying n.of.version n.says)) { due = due }) (sym due_is)) is.call (so ∙ ap (λ (due : Option WriteCall). start p + made due) due_is))
 
   -- THE DISK IS DROPPED
 
@@ -174,18 +175,18 @@ module _ (q : code_phase.Phase) (f : Answers) (n : Notes) (v : IsVisiting q f n)
     some_answers Two e = omega arith
 
     -- the disk is done with
-    pub reads : d < length n.visits → (cell : Cell) → IsSeenAs (seen_at row s.host) cell → (top : ℕ) (vote : PBlock) (told : Option (List ℕ))
+    pub reads : d < length n.visits → (V : Type 0) (spelled : V → List ℕ) (cell : Cell V) → IsSeenAs s.version spelled (seen_at row s.host) cell → (top : ℕ) (vote : Said) (told : Option (List ℕ))
         → KeepsRows s (more f d (Told (Some row))) top vote told → NotOutrun s p (more f d (Told (Some row)))
         → ArePassed s q (more f d (Told (Some row))) top vote told n.says (with_visit (record visit { block = cell.block })) (d + 1)
-    reads room cell shows top vote told rows below =
+    reads room V spelled cell shows top vote told rows below =
         let new : Visit = record visit { block = cell.block } in
         let row_is : last_row (f d ++ Told (Some row) ∷ []) ≡ Some row = last_more (f d) (Told (Some row)) in
         passes q f n v order (Told (Some row)) is_read top vote told (with_visit new) rows below
         (others new)
         (ap (λ (w : Visit). w.left) (set_is room new) ∙ left_now q f n v order)
-        (λ kept. subst (Remembers s.host (f d ++ Told (Some row) ∷ [])) (sym (set_is room new)) (record {
+        (λ kept. subst (Remembers s.version s.host (f d ++ Told (Some row) ∷ [])) (sym (set_is room new)) (record {
           boot = boot_stays q f n v order (Told (Some row)) (some_answers p last);
-          read = subst (λ (o : Option (List SeenBlock)). IsReading (seen_block o s.host).bytes cell.block) (sym row_is) shows.read;
+          read = subst (λ (o : Option (List SeenBlock)). IsReading s.version (seen_block o s.host).bytes cell.block) (sym row_is) shows.read;
           sequence = shows.sequence ∙ ap (λ (o : Option (List SeenBlock)). (seen_block o s.host).sequence) (sym row_is);
         }))
 
@@ -196,7 +197,7 @@ starts_opening phase.One suits = absurd suits
 starts_opening phase.Two suits = absurd suits
 
 -- a success, by where the disk stands
-succeeds : (q : code_phase.Phase) (f : Answers) (n : Notes) (v : IsVisiting q f n) (order : IsInOrder n.of (phase_in q) n.disk f) (st : Stage) → FitsStage st answer.Done → Suits q st → length (f n.disk) ≡ answered (phase_in q) st → Writes st n.says (visit_at n.visits n.disk)
+succeeds : (q : code_phase.Phase) (f : Answers) (n : Notes) (v : IsVisiting q f n) (order : IsInOrder n.of (phase_in q) n.disk f) (st : Stage) → FitsStage {R = List ℕ} st answer.Done → Suits q st → length (f n.disk) ≡ answered (phase_in q) st → Writes n.of.version st n.says (visit_at n.visits n.disk)
     → Stays (phase_in q) (f n.disk) Done × IsVisiting q (more f n.disk Done) (record n { stage = stage_then st })
 succeeds q f n v order stage.Attaching fits suits so writes = absurd fits
 succeeds q f n v order stage.Reading fits suits so writes = absurd fits
@@ -225,7 +226,7 @@ takes_boot n going at room boot f order is =
     let new : List Visit = slice_set n.visits n.disk (record (visit_at n.visits n.disk) { boot = boot }) in
     follows (more f n.disk (Booted boot.number)) (record n { visits = new; stage = stage.Syncing }) going (opened_stays n.of (phase_in n.phase) n.disk f (Booted boot.number) (due_there n.phase f n v order) so.0) so.1
 
-pub takes_done : (n : Notes) → n.end ≡ None → FitsStage n.stage answer.Done → Takes Done n (record n { stage = stage_then n.stage })
+pub takes_done : (n : Notes) → n.end ≡ None → FitsStage {R = List ℕ} n.stage answer.Done → Takes Done n (record n { stage = stage_then n.stage })
 takes_done n going fits f order is =
     let v = visiting f n going is in
     let so = succeeds n.phase f n v order n.stage fits v.suits v.answers v.writes in

@@ -3,8 +3,8 @@ use Rattle.std.specs.Prelude.{nat_lt, nat_le, if◌then◌else◌}
 use Rattle.std.proofs.Common.{◌≡◌, ◌<◌, ◌≤◌, ◌&&◌, not, ℕ, zero, suc, Bool, true, false, Option, Some, None, List, length, refl, sym, subst, ap, ap₂, ◌∙◌, arith}
 use Rattle.std.proofs.lemmas.Bool.{le-ltb, lt-ltb, and_from, le-leb}
 use Rattle.paxos_block.specs.declared.ballot.TheConstants.{LAST_BALLOT}
-use Rattle.paxos_block.specs.declared.block.PBlock.{PBlock}
-use Rattle.paxos_block.specs.Votes.{greatest, ballot_above}
+use Rattle.paxos_block.specs.layouts.Saying.{Said}
+use Rattle.paxos_block.specs.layouts.Votes.{greatest, ballot_above}
 use Rattle.paxos_block.proofs.VoteLemmas.{greatest_same}
 use Rattle.attempt.specs.Calls.{Phase, Opening, One, Two, start, goal}
 use Rattle.attempt.specs.Answers.{Answers, all_good, row_in}
@@ -20,7 +20,7 @@ use Rattle.attempt.proofs.Statuses as statuses
 use Rattle.phases.specs.declared.end.End.TheVariants as end
 use Rattle.phases.specs.declared.phase.Phase as code_phase
 use Rattle.phases.specs.declared.phase.Phase.TheVariants as phase
-use Rattle.phases.specs.Calls.{phase_in}
+use Rattle.phases.specs.layouts.Calls.{phase_in}
 use Rattle.phases.specs.Notes.{Notes}
 use Rattle.phases.specs.Kept.{KeepsVisits, Follows}
 use Rattle.phases.specs.Moves.{IsPassed, IsOver}
@@ -35,7 +35,7 @@ greatest_zero (suc n) = let before : greatest n (λ e. 0) ≡ 0 = greatest_zero 
 
 not_above : (s : Setup) (p : Phase) (f : Answers) → ((e : ℕ) → row_in p (f e) ≡ None) → nat_lt (ballot s f) (others_mbal s p f) ≡ false
 not_above s p f none =
-    ap (nat_lt (ballot s f)) (greatest_same s.disks (λ e. others_top s.host (row_in p (f e))) (λ e. 0) (λ e l. ap (others_top s.host) (none e)) ∙ greatest_zero s.disks)
+    ap (nat_lt (ballot s f)) (greatest_same s.disks (λ e. others_top s.version s.host (row_in p (f e))) (λ e. 0) (λ e l. ap (others_top s.version s.host) (none e)) ∙ greatest_zero s.disks)
     ∙ le-ltb (ballot s f) 0 (omega arith)
 
 -- THE DISKS OF THE NEXT PHASE
@@ -93,27 +93,27 @@ module _ (f : Answers) (n : Notes) (is : IsOver phase.Opening f n) where
   taken_is : n.decided ≡ None → taken s f ≡ (if nat_lt LAST_BALLOT (ballot s f) then 0 else ballot s f)
   taken_is none = ap (λ (o : Option (List ℕ)). if_open o (taken_by (ballot s f) (visited s Opening f) (are_enough s (is_opened f)))) (told_is None none) ∙ ap₂ (taken_by (ballot s f)) over (statuses.enough_more s (is_left s Opening f) (is_opened f) left_opened is.enough)
 
-  ballot_is : ballot_above s.host n.highest ≡ ballot s f
-  ballot_is = ap (ballot_above s.host) is.passed.rows.highest
+  ballot_is : ballot_above s.version s.host n.highest ≡ ballot s f
+  ballot_is = ap (ballot_above s.version s.host) is.passed.rows.highest
 
   -- a marked block tells the value
   pub ends_decided : (value : List ℕ) → n.decided ≡ Some value → Follows f (record n { end = Some (end.Decided value) })
   ends_decided value some = record {
-    ballot = ap (λ (x : PBlock). x.mbal) is.passed.says_is ∙ sym (ap (λ (o : Option (List ℕ)). if_open o (taken_by (ballot s f) (visited s Opening f) (are_enough s (is_opened f)))) (told_is (Some value) some));
+    ballot = ap (λ (x : Said). x.mbal) is.passed.says_is ∙ sym (ap (λ (o : Option (List ℕ)). if_open o (taken_by (ballot s f) (visited s Opening f) (are_enough s (is_opened f)))) (told_is (Some value) some));
     stands = statuses.decides s f value (record { over = record { come = tt; not_outrun = tt; visits = over; enough = is.enough }; decided_is = told_is (Some value) some });
   }
 
   -- there is no ballot
-  pub ends_spent : n.decided ≡ None → LAST_BALLOT < ballot_above s.host n.highest → Follows f (record n { end = Some end.BallotsSpent })
+  pub ends_spent : n.decided ≡ None → LAST_BALLOT < ballot_above s.version s.host n.highest → Follows f (record n { end = Some end.BallotsSpent })
   ends_spent none above =
       let high : nat_lt LAST_BALLOT (ballot s f) ≡ true = lt-ltb LAST_BALLOT (ballot s f) (omega (arith, above, ballot_is)) in
       record {
-        ballot = ap (λ (x : PBlock). x.mbal) is.passed.says_is ∙ sym (taken_is none ∙ ap (λ (t : Bool). if t then 0 else ballot s f) high);
+        ballot = ap (λ (x : Said). x.mbal) is.passed.says_is ∙ sym (taken_is none ∙ ap (λ (t : Bool). if t then 0 else ballot s f) high);
         stands = statuses.spent s f (record { over = record { come = tt; not_outrun = tt; visits = over; enough = is.enough }; undecided = told_is None none; spent = high });
       }
 
   -- phase 1 begins with the ballot
-  pub begins_one : n.decided ≡ None → (b : ℕ) → b ≡ ballot_above s.host n.highest → b ≤ LAST_BALLOT
+  pub begins_one : n.decided ≡ None → (b : ℕ) → b ≡ ballot_above s.version s.host n.highest → b ≤ LAST_BALLOT
       → IsPassed phase.One f (record n { phase = phase.One; says = record { mbal = b; bal = n.best.bal; inp = n.best.inp; mark = false } }) 0
   begins_one undecided b b_is low =
       let fits : nat_lt LAST_BALLOT (ballot s f) ≡ false = le-ltb LAST_BALLOT (ballot s f) (omega (arith, b_is, ballot_is)) in
@@ -135,12 +135,12 @@ module _ (f : Answers) (n : Notes) (is : IsOver phase.Opening f n) where
 
 module _ (f : Answers) (n : Notes) (is : IsOver phase.One f n) where
   proposal_is : or_else n.best.inp n.of.input ≡ proposal n.of f
-  proposal_is = ap (λ (x : PBlock). or_else x.inp n.of.input) is.passed.rows.best
+  proposal_is = ap (λ (x : Said). or_else x.inp n.of.input) is.passed.rows.best
 
   -- there is no proposal
   pub ends_empty : or_else n.best.inp n.of.input ≡ None → Follows f (record n { end = Some end.Empty })
   ends_empty without = record {
-    ballot = ap (λ (x : PBlock). x.mbal) is.passed.says_is ∙ sym is.passed.opened;
+    ballot = ap (λ (x : Said). x.mbal) is.passed.says_is ∙ sym is.passed.opened;
     stands = statuses.empty n.of f (record {
       over = record { come = is.passed.come; not_outrun = is.passed.not_outrun; visits = none_waits phase.One f n is.passed; enough = is.enough };
       none = sym proposal_is ∙ without;
@@ -153,7 +153,7 @@ module _ (f : Answers) (n : Notes) (is : IsOver phase.One f n) where
   begins_two value value_is =
       let s = n.of in
       let proposed : proposal s f ≡ Some value = sym proposal_is ∙ value_is in
-      let b : n.says.mbal ≡ ballot s f = ap (λ (x : PBlock). x.mbal) is.passed.says_is in
+      let b : n.says.mbal ≡ ballot s f = ap (λ (x : Said). x.mbal) is.passed.says_is in
       let some : value ≡ some_value (proposal s f) = sym (ap some_value proposed) in
       record {
         rows = is.passed.rows;
@@ -173,9 +173,9 @@ module _ (f : Answers) (n : Notes) (is : IsOver phase.One f n) where
 pub ends_committed : (f : Answers) (n : Notes) → IsOver phase.Two f n → (value : List ℕ) → n.says.inp ≡ Some value → Follows f (record n { end = Some (end.Committed value) })
 ends_committed f n is value value_is =
     let proposed = is.passed.come.1.is in
-    let same : Some value ≡ Some (some_value (proposal n.of f)) = sym value_is ∙ ap (λ (x : PBlock). x.inp) is.passed.says_is in
+    let same : Some value ≡ Some (some_value (proposal n.of f)) = sym value_is ∙ ap (λ (x : Said). x.inp) is.passed.says_is in
     record {
-      ballot = ap (λ (x : PBlock). x.mbal) is.passed.says_is ∙ sym is.passed.opened;
+      ballot = ap (λ (x : Said). x.mbal) is.passed.says_is ∙ sym is.passed.opened;
       stands = statuses.committed n.of f value (record {
         over = record { come = is.passed.come; not_outrun = is.passed.not_outrun; visits = none_waits phase.Two f n is.passed; enough = is.enough };
         proposal_is = proposed ∙ ap Some (sym (ap some_value proposed)) ∙ sym same;

@@ -2,7 +2,7 @@
 use Rattle.std.specs.Prelude.{nat_lt, nat_le}
 use Rattle.std.proofs.Common.{◌≡◌, ◌*◌, ◌<◌, ◌≤◌, ◌&&◌, not, ℕ, Bool, true, false, Option, Some, None, length, refl, sym, ap, ◌∙◌, arith}
 use Rattle.std.proofs.lemmas.Bool.{lt-ltb, and_parts, leb-true}
-use Rattle.paxos_block.specs.declared.block.PBlock.{PBlock}
+use Rattle.paxos_block.specs.layouts.Saying.{Said}
 use Rattle.attempt.specs.Calls.{Phase, Opening, One, Two}
 use Rattle.attempt.specs.Answers.{Answers, all_good}
 use Rattle.attempt.specs.Setup.{Setup}
@@ -15,7 +15,7 @@ use Rattle.attempt.proofs.Visitors.{waiting_is, left_if, part_if, not_stuck}
 use Rattle.attempt.proofs.Statuses as statuses
 use Rattle.phases.specs.declared.end.End.TheVariants as end
 use Rattle.phases.specs.declared.phase.Phase as code_phase
-use Rattle.phases.specs.Calls.{phase_in}
+use Rattle.phases.specs.layouts.Calls.{phase_in}
 use Rattle.phases.specs.Notes.{Notes, visit_at}
 use Rattle.phases.specs.Kept.{Follows}
 use Rattle.phases.specs.Moves.{IsOpenedIn, IsPassed, IsBegun, IsOver, keeps_majority}
@@ -76,13 +76,13 @@ none_taken b None true few = absurd (cc)
 none_taken b None false few = refl
 
 -- where too few are left
-ballot_few : (s : Setup) (f : Answers) (p : Phase) (says : PBlock) → says ≡ says_for s p f → IsOpenedIn s p f → are_enough s (is_left s p f) ≡ false → says.mbal ≡ taken s f
+ballot_few : (s : Setup) (f : Answers) (p : Phase) (says : Said) → says ≡ says_for s p f → IsOpenedIn s p f → are_enough s (is_left s p f) ≡ false → says.mbal ≡ taken s f
 ballot_few s f Opening says is opened few =
-    ap (λ (x : PBlock). x.mbal) is
+    ap (λ (x : Said). x.mbal) is
     ∙ sym (none_if (decided s f) (taken_by (ballot s f) (visited s Opening f) (are_enough s (is_opened f))) (none_taken (ballot s f) (visited s Opening f) (are_enough s (is_opened f))
     (few_by (are_enough s (is_opened f)) (are_enough s (is_left s Opening f)) (statuses.enough_more s (is_opened f) (is_left s Opening f) (λ e l o. opened_left s f (visited s Opening f) e (opened e) o)) few)))
-ballot_few s f One says is opened few = ap (λ (x : PBlock). x.mbal) is ∙ sym opened
-ballot_few s f Two says is opened few = ap (λ (x : PBlock). x.mbal) is ∙ sym opened
+ballot_few s f One says is opened few = ap (λ (x : Said). x.mbal) is ∙ sym opened
+ballot_few s f Two says is opened few = ap (λ (x : Said). x.mbal) is ∙ sym opened
 
 -- WHAT FOLLOWS
 

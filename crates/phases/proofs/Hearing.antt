@@ -2,10 +2,11 @@
 use Rattle.std.specs.Prelude.{nat_lt, nat_le}
 use Rattle.std.proofs.Common.{◌≡◌, ◌≢◌, ◌+◌, ◌*◌, ◌<◌, ◌≤◌, ◌&&◌, not, ℕ, Bool, true, false, Option, Some, None, List, [], ◌∷◌, ◌++◌, length, is_some, inl, inr, refl, sym, subst, ap, ap₂, ◌∙◌, arith}
 use Rattle.std.proofs.lemmas.Bool.{cases_eq, and_from, and_left, and_right, le-leb, lt-leb}
-use Rattle.paxos_block.specs.declared.block.PBlock.{PBlock}
-use Rattle.paxos_block.specs.Row.{SeenBlock, sequence_or_zero}
+use Rattle.paxos_block.specs.layouts.Saying.{Said}
+use Rattle.paxos_block.specs.layouts.Row.{SeenBlock, number_or_zero}
+use Rattle.torn_block.specs.Layout.{Version}
 use Rattle.torn_block.specs.declared.block.Block128.{Block128}
-use Rattle.torn_block.specs.Plan.{IsReading, told_value}
+use Rattle.torn_block.specs.layouts.Plan.{IsReading, told_number}
 use Rattle.attempt.specs.Calls.{Phase, Opening, One, Two, start, goal}
 use Rattle.attempt.specs.Answers.{Heard, Told, Answers, more, is_bad, all_good, told, row_in, last_row, later_row, seen_block, boot_of}
 use Rattle.attempt.specs.Setup.{Setup}
@@ -23,7 +24,7 @@ use Rattle.attempt.proofs.Statuses as statuses
 use Rattle.phases.specs.declared.phase.Phase as code_phase
 use Rattle.phases.specs.declared.phase.Stage.{Stage}
 use Rattle.phases.specs.declared.visit.Visit.{Visit}
-use Rattle.phases.specs.Calls.{phase_in}
+use Rattle.phases.specs.layouts.Calls.{phase_in}
 use Rattle.phases.specs.Notes.{Notes, visit_at}
 use Rattle.phases.specs.Steps.{answered, Suits}
 use Rattle.phases.specs.Kept.{Remembers, KeepsRows, Writes, IsVisiting, Stands, Follows}
@@ -54,7 +55,7 @@ same_not_outrun s f g One opening rows is = ap₂ nat_lt (ballot_same s g f open
 same_not_outrun s f g Two opening rows is = ap₂ nat_lt (ballot_same s g f opening) (others_same s g f Two rows) ∙ is
 
 -- the ballot and the proposal go by the same
-pub same_rows_kept : (s : Setup) (f g : Answers) (top : ℕ) (vote : PBlock) (told : Option (List ℕ)) → AreSameRows Opening g f → AreSameRows One g f → KeepsRows s f top vote told → KeepsRows s g top vote told
+pub same_rows_kept : (s : Setup) (f g : Answers) (top : ℕ) (vote : Said) (told : Option (List ℕ)) → AreSameRows Opening g f → AreSameRows One g f → KeepsRows s f top vote told → KeepsRows s g top vote told
 same_rows_kept s f g top vote told opening one is = record {
   highest = is.highest ∙ sym (highest_same s g f opening);
   best = is.best ∙ sym (best_same s g f opening one s.disks);
@@ -86,12 +87,12 @@ none_if None b none = none
 none_if (Some value) b none = refl
 
 -- while a call of the phase is due
-pub ballot_visiting : (s : Setup) (f : Answers) (p : Phase) (d : ℕ) (says : PBlock) → says ≡ says_for s p f → IsOpenedIn s p f → visited s p f ≡ Some d → says.mbal ≡ taken s f
+pub ballot_visiting : (s : Setup) (f : Answers) (p : Phase) (d : ℕ) (says : Said) → says ≡ says_for s p f → IsOpenedIn s p f → visited s p f ≡ Some d → says.mbal ≡ taken s f
 ballot_visiting s f Opening d says is opened visits =
-    ap (λ (x : PBlock). x.mbal) is
+    ap (λ (x : Said). x.mbal) is
     ∙ sym (none_if (decided s f) (taken_by (ballot s f) (visited s Opening f) (are_enough s (is_opened f))) (ap (λ (o : Option ℕ). taken_by (ballot s f) o (are_enough s (is_opened f))) visits ∙ not_taken (ballot s f) d (are_enough s (is_opened f))))
-ballot_visiting s f One d says is opened visits = ap (λ (x : PBlock). x.mbal) is ∙ sym opened
-ballot_visiting s f Two d says is opened visits = ap (λ (x : PBlock). x.mbal) is ∙ sym opened
+ballot_visiting s f One d says is opened visits = ap (λ (x : Said). x.mbal) is ∙ sym opened
+ballot_visiting s f Two d says is opened visits = ap (λ (x : Said). x.mbal) is ∙ sym opened
 
 -- where a call is due, no more is asked
 pub follows : (f : Answers) (n : Notes) → n.end ≡ None → IsOpenedIn n.of (phase_in n.phase) f → IsVisiting n.phase f n → Follows f n
@@ -282,13 +283,13 @@ module _ (s : Setup) (p : Phase) (d : ℕ) (f : Answers) (x : Heard) (due : IsDu
 -- WHAT IS KEPT
 
 -- an answer that tells no row leaves what is kept of the block
-pub remembers_more : (host : ℕ) (a : List Heard) (x : Heard) (old new : Visit) → told x ≡ None → boot_of (a ++ x ∷ []) ≡ new.boot.number → old.block ≡ new.block → Remembers host a old → Remembers host (a ++ x ∷ []) new
-remembers_more host a x old new none boot same is =
+pub remembers_more : (v : Version) (host : ℕ) (a : List Heard) (x : Heard) (old new : Visit) → told x ≡ None → boot_of (a ++ x ∷ []) ≡ new.boot.number → old.block ≡ new.block → Remembers v host a old → Remembers v host (a ++ x ∷ []) new
+remembers_more v host a x old new none boot same is =
     let last : last_row (a ++ x ∷ []) ≡ last_row a = last_more a x ∙ ap (later_row (last_row a)) none in
     record {
       boot = boot;
-      read = subst (IsReading (seen_block (last_row (a ++ x ∷ [])) host).bytes) same (subst (λ (o : Option (List SeenBlock)). IsReading (seen_block o host).bytes old.block) (sym last) is.read);
-      sequence = ap (λ (b : Block128). sequence_or_zero (told_value b)) (sym same) ∙ is.sequence ∙ ap (λ (o : Option (List SeenBlock)). (seen_block o host).sequence) (sym last);
+      read = subst (IsReading v (seen_block (last_row (a ++ x ∷ [])) host).bytes) same (subst (λ (o : Option (List SeenBlock)). IsReading v (seen_block o host).bytes old.block) (sym last) is.read);
+      sequence = ap (λ (b : Block128). number_or_zero (told_number b)) (sym same) ∙ is.sequence ∙ ap (λ (o : Option (List SeenBlock)). (seen_block o host).sequence) (sym last);
     }
 
 module _ (q : code_phase.Phase) (f : Answers) (n : Notes) (v : IsVisiting q f n) (order : IsInOrder n.of (phase_in q) n.disk f) where
@@ -310,7 +311,7 @@ module _ (q : code_phase.Phase) (f : Answers) (n : Notes) (v : IsVisiting q f n)
   left_there_now : is_left s p f d ≡ true
   left_there_now = ap (λ (o : Option ℕ). is_left_at o s p f d) due_there.at.visits ∙ left_here s p f d ∙ part_if p (f d) due_there.waiting.part
 
-  pub remembers_now : Remembers s.host (f d) visit
+  pub remembers_now : Remembers s.version s.host (f d) visit
   remembers_now = v.visits.each d due_there.first.below left_there_now
 
   pub left_now : visit.left ≡ true
@@ -324,8 +325,8 @@ module _ (q : code_phase.Phase) (f : Answers) (n : Notes) (v : IsVisiting q f n)
       → Suits q stage → length (f d) + 1 ≡ answered p stage
       → ((e : ℕ) → e ≢ d → visit_at visits e ≡ visit_at n.visits e)
       → (visit_at visits d).left ≡ visit.left
-      → Remembers s.host (f d ++ x ∷ []) (visit_at visits d)
-      → Writes stage n.says (visit_at visits d)
+      → Remembers s.version s.host (f d ++ x ∷ []) (visit_at visits d)
+      → Writes s.version stage n.says (visit_at visits d)
       → IsVisiting q (more f d x) (record n { visits = visits; stage = stage })
   stays_there x stays visits stage suits answers others left here writes =
       let due = due_there in
@@ -340,19 +341,19 @@ module _ (q : code_phase.Phase) (f : Answers) (n : Notes) (v : IsVisiting q f n)
             | inl same ↦ ap (λ (k : ℕ). (visit_at visits k).left) same ∙ left ∙ v.visits.left d due.first.below ∙ sym (ap (is_left s p (more f d x)) same ∙ left_still s p d f x due stays d)
             | inr off ↦ ap (λ (w : Visit). w.left) (others e off) ∙ v.visits.left e l ∙ sym (left_still s p d f x due stays e)
           ];
-          each = λ e l kept. by_disk f d x (λ k a. k < s.disks → is_left s p f k ≡ true → Remembers s.host a (visit_at visits k))
+          each = λ e l kept. by_disk f d x (λ k a. k < s.disks → is_left s p f k ≡ true → Remembers s.version s.host a (visit_at visits k))
               (λ u still. here)
-              (λ k off u still. subst (Remembers s.host (f k)) (sym (others k off)) (v.visits.each k u still))
+              (λ k off u still. subst (Remembers s.version s.host (f k)) (sym (others k off)) (v.visits.each k u still))
               e l (sym (left_still s p d f x due stays e) ∙ kept);
         };
         writes = writes;
       }
 
-  pub passes : (x : Heard) (ending : Ending p (f d) x) (top : ℕ) (vote : PBlock) (told : Option (List ℕ)) (visits : List Visit)
+  pub passes : (x : Heard) (ending : Ending p (f d) x) (top : ℕ) (vote : Said) (told : Option (List ℕ)) (visits : List Visit)
       → KeepsRows s (more f d x) top vote told → NotOutrun s p (more f d x)
       → ((e : ℕ) → e ≢ d → visit_at visits e ≡ visit_at n.visits e)
       → (visit_at visits d).left ≡ keeps_it p (f d) x ending
-      → (keeps_it p (f d) x ending ≡ true → Remembers s.host (f d ++ x ∷ []) (visit_at visits d))
+      → (keeps_it p (f d) x ending ≡ true → Remembers s.version s.host (f d ++ x ∷ []) (visit_at visits d))
       → ArePassed s q (more f d x) top vote told n.says visits (d + 1)
   passes x ending top vote told visits rows below others left here =
       let due = due_there in
@@ -371,9 +372,9 @@ module _ (q : code_phase.Phase) (f : Answers) (n : Notes) (v : IsVisiting q f n)
             | inl at ↦ ap (λ (k : ℕ). (visit_at visits k).left) at ∙ left ∙ sym (ap (is_left_at (Some (d + 1)) s p (more f d x)) at ∙ left_then_here s p d f x due ending)
             | inr off ↦ ap (λ (w : Visit). w.left) (others e off) ∙ v.visits.left e l ∙ there e off
           ];
-          each = λ e l. by_disk f d x (λ k a. k < s.disks → is_left_at (Some (d + 1)) s p (more f d x) k ≡ true → Remembers s.host a (visit_at visits k))
+          each = λ e l. by_disk f d x (λ k a. k < s.disks → is_left_at (Some (d + 1)) s p (more f d x) k ≡ true → Remembers s.version s.host a (visit_at visits k))
               (λ u is. here (sym (left_then_here s p d f x due ending) ∙ is))
-              (λ k off u is. subst (Remembers s.host (f k)) (sym (others k off)) (v.visits.each k u (there k off ∙ is)))
+              (λ k off u is. subst (Remembers s.version s.host (f k)) (sym (others k off)) (v.visits.each k u (there k off ∙ is)))
               e l;
         };
       }

@@ -1,9 +1,9 @@
 -- What an attempt keeps that has heard nothing.
 use Rattle.std.proofs.Common.{◌≡◌, ◌*◌, ◌<◌, ℕ, zero, suc, true, Option, None, List, [], refl, sym, subst, ap, ◌∙◌, arith}
 use Rattle.std.proofs.lemmas.Bool.{lt-ltb}
-use Rattle.paxos_block.specs.Saying.{zeros}
-use Rattle.paxos_block.specs.Row.{blank}
-use Rattle.paxos_block.specs.Votes.{greatest}
+use Rattle.paxos_block.specs.layouts.Saying.{Said}
+use Rattle.paxos_block.specs.layouts.Row.{blank}
+use Rattle.paxos_block.specs.layouts.Votes.{greatest}
 use Rattle.attempt.specs.Calls.{Opening}
 use Rattle.attempt.specs.Answers.{Answers}
 use Rattle.attempt.specs.Numbers.{count}
@@ -17,6 +17,8 @@ use Rattle.phases.specs.declared.phase.Phase.TheVariants as phase
 use Rattle.phases.specs.declared.phase.Stage.TheVariants as stage
 use Rattle.phases.specs.declared.visit.Visit.{Visit}
 use Rattle.phases.specs.declared.visit.TheConstants.{UNSEEN}
+use Rattle.torn_block.specs.Layout.{Version}
+use Rattle.paxos_block.proofs.RowLemmas.{blank_reads}
 use Rattle.phases.specs.Notes.{Notes, visit_at}
 use Rattle.phases.specs.Kept.{Remembers, LeadsTo}
 use Rattle.phases.proofs.Beginning.{greatest_zero}
@@ -27,13 +29,8 @@ abbrev nothing : Answers
 nothing d = []
 
 -- an unseen disk is remembered as one that has answered nothing
-unseen : (host : ℕ) → Remembers host [] UNSEEN
-unfolding zeros
-unseen host = record {
-  boot = refl;
-  read = record { current = refl; value = refl; next_is_open = refl; blank_number = λ e. refl; blank_body = λ e. refl };
-  sequence = refl;
-}
+unseen : (v : Version) (host : ℕ) → Remembers v host [] UNSEEN
+unseen v host = record { boot = refl; read = blank_reads v; sequence = refl }
 
 own_none : (s : Setup) (n : ℕ) → own_below s nothing n ≡ blank
 own_none s zero = refl
@@ -47,7 +44,7 @@ all_count : (n : ℕ) → count n (λ d. true) ≡ n
 all_count zero = refl
 all_count (suc n) = let before : count n (λ d. true) ≡ n = all_count n in omega arith
 
-pub starts : (s : Setup) (visits : List Visit) → 0 < s.disks → ((e : ℕ) → e < s.disks → visit_at visits e ≡ UNSEEN)
+starts : (s : Setup) (visits : List Visit) → 0 < s.disks → ((e : ℕ) → e < s.disks → visit_at visits e ≡ UNSEEN)
     → LeadsTo s [] (record {
       of = s;
       highest = s.floor;
@@ -82,8 +79,26 @@ starts s visits some unseen_all =
         says = refl;
         visits = record {
           left = λ e l. ap (λ (v : Visit). v.left) (unseen_all e l);
-          each = λ e l left. subst (Remembers s.host []) (sym (unseen_all e l)) (unseen s.host);
+          each = λ e l left. subst (Remembers s.version s.host []) (sym (unseen_all e l)) (unseen s.version s.host);
         };
         writes = tt;
       });
     }
+
+-- so it is however what it says and found is known to be blank
+pub starts_with : (s : Setup) (visits : List Visit) (best says : Said) → best ≡ blank → says ≡ blank → 0 < s.disks → ((e : ℕ) → e < s.disks → visit_at visits e ≡ UNSEEN)
+    → LeadsTo s [] (record {
+      of = s;
+      highest = s.floor;
+      best = best;
+      decided = None;
+      says = says;
+      visits = visits;
+      phase = phase.Opening;
+      disk = 0;
+      stage = stage.Attaching;
+      end = None;
+    })
+starts_with s visits best says best_is says_is some unseen_all =
+    let with : Said → Said → Notes = λ x y. record { of = s; highest = s.floor; best = x; decided = None; says = y; visits = visits; phase = phase.Opening; disk = 0; stage = stage.Attaching; end = None } in
+    subst (λ (x : Said). LeadsTo s [] (with x says)) (sym best_is) (subst (λ (y : Said). LeadsTo s [] (with blank y)) (sym says_is) (starts s visits some unseen_all))

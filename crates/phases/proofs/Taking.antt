@@ -1,14 +1,14 @@
 -- What follows from the row of each phase.
 use Rattle.std.specs.Prelude.{nat_lt, slice_set, if◌then◌else◌}
-use Rattle.std.proofs.Common.{◌≡◌, ◌+◌, ◌<◌, ◌≤◌, max, ℕ, Bool, true, false, Option, Some, None, List, [], ◌∷◌, ◌++◌, length, refl, sym, subst, ap, ◌∙◌, arith}
+use Rattle.std.proofs.Common.{◌≡◌, ◌≢◌, ◌+◌, ◌<◌, ◌≤◌, max, ℕ, Bool, true, false, Option, Some, None, List, [], ◌∷◌, ◌++◌, length, refl, sym, subst, ap, ◌∙◌, arith}
 use Rattle.std.proofs.lemmas.Bool.{le-ltb, lt-ltb, ltb-false, ltb-true}
-use Rattle.torn_block.specs.declared.layout.TheConstants.{HOSTS}
-use Rattle.torn_block.specs.Block.{value_of}
-use Rattle.paxos_block.specs.declared.block.PBlock.{PBlock}
+use Rattle.torn_block.specs.Layout.{Version, hosts_in}
+use Rattle.torn_block.specs.layouts.Block.{value_of}
+use Rattle.paxos_block.specs.layouts.Saying.{Said}
 use Rattle.paxos_block.specs.declared.cell.Cell.{Cell}
-use Rattle.paxos_block.specs.Row.{SeenBlock, seen_at, row_said, IsSeenAs}
-use Rattle.paxos_block.specs.Saying.{IsVoteOf}
-use Rattle.paxos_block.specs.Votes.{says_in, top_of, others_top_of, later_of, latest_in, marked_in}
+use Rattle.paxos_block.specs.layouts.Row.{SeenBlock, seen_at, row_said, IsSeenAs}
+use Rattle.paxos_block.specs.layouts.Saying.{IsVoteOf}
+use Rattle.paxos_block.specs.layouts.Votes.{says_in, top_of, others_top_of, later_of, latest_in, marked_in}
 use Rattle.paxos_block.proofs.RowLemmas.{said_is_said}
 use Rattle.paxos_block.proofs.VoteLemmas.{greatest_is_greatest, vote_at, vote_in, later_vote}
 use Rattle.attempt.specs.Calls.{Phase, Opening, One, start, goal}
@@ -28,7 +28,7 @@ use Rattle.phases.specs.declared.end.End.TheVariants as end
 use Rattle.phases.specs.declared.phase.Phase as code_phase
 use Rattle.phases.specs.declared.phase.Phase.TheVariants as phase
 use Rattle.phases.specs.declared.phase.Stage.TheVariants as stage
-use Rattle.phases.specs.Calls.{phase_in}
+use Rattle.phases.specs.layouts.Calls.{phase_in}
 use Rattle.phases.specs.Notes.{Notes, IsSound, SaysWell, visit_at}
 use Rattle.phases.specs.Kept.{IsVisiting, Follows}
 use Rattle.phases.specs.Moves.{IsOpenedIn, IsInOrder, IsPassed, above, outruns, noted}
@@ -38,18 +38,18 @@ use Rattle.phases.proofs.Answering.{is_last, is_read, reads}
 -- WHAT A ROW SAYS OF ITS HOST
 
 -- the later of the own vote and the row's is one up to the highest number seen
-own_vote : (bytes : List ℕ) (seen : List SeenBlock) (host : ℕ) (n : ℕ) (vote : PBlock) → host < HOSTS → row_said bytes ≡ Some seen → IsVoteOf host n vote.bal vote.inp
-    → IsVoteOf host (max n (top_of seen)) (later_of vote (says_in seen host)).bal (later_of vote (says_in seen host)).inp
-own_vote bytes seen host n vote below said voted =
+own_vote : (v : Version) (bytes : List ℕ) (seen : List SeenBlock) (host : ℕ) (n : ℕ) (vote : Said) → host < hosts_in v → row_said v bytes ≡ Some seen → IsVoteOf v host n vote.bal vote.inp
+    → IsVoteOf v host (max n (top_of v seen)) (later_of vote (says_in seen host)).bal (later_of vote (says_in seen host)).inp
+own_vote v bytes seen host n vote below said voted =
     let in_row = says_in seen host in
-    let m = max n (top_of seen) in
-    let most = greatest_is_greatest HOSTS (λ g. (says_in seen g).mbal) host below in
+    let m = max n (top_of v seen) in
+    let most = greatest_is_greatest (hosts_in v) (λ g. (says_in seen g).mbal) host below in
     let low : in_row.mbal ≤ m = omega (arith, most) in
-    let own : IsVoteOf host m in_row.bal in_row.inp = vote_at host in_row.mbal m in_row.bal in_row.inp low (vote_in host (value_of (seen_at seen host).bytes) in_row (said_is_said bytes seen host below said)) in
-    later_vote host m vote in_row (vote_at host n m vote.bal vote.inp (omega arith) voted) own
+    let own : IsVoteOf v host m in_row.bal in_row.inp = vote_at v host in_row.mbal m in_row.bal in_row.inp low (vote_in v host (value_of v (seen_at seen host).bytes) in_row (said_is_said v bytes seen host below said)) in
+    later_vote v host m vote in_row (vote_at v host n m vote.bal vote.inp (omega arith) voted) own
 
 -- so what is kept in the opening stays sound
-pub opening_sound : (bytes : List ℕ) (seen : List SeenBlock) (n : Notes) (h : ℕ) (b says : PBlock) (told : Option (List ℕ)) → IsSound n → n.phase ≡ phase.Opening → row_said bytes ≡ Some seen → h ≡ max n.highest (top_of seen) → b ≡ later_of n.best says → says ≡ says_in seen n.of.host
+pub opening_sound : (bytes : List ℕ) (seen : List SeenBlock) (n : Notes) (h : ℕ) (b says : Said) (told : Option (List ℕ)) → IsSound n → n.phase ≡ phase.Opening → row_said n.of.version bytes ≡ Some seen → h ≡ max n.highest (top_of n.of.version seen) → b ≡ later_of n.best says → says ≡ says_in seen n.of.host
     → IsSound (record n { highest = h; best = b; decided = told })
 opening_sound bytes seen n h b says told is first said h_is b_is says_is = record {
   is_host = is.is_host;
@@ -57,11 +57,35 @@ opening_sound bytes seen n h b says told is first said h_is b_is says_is = recor
   few = is.few;
   said = subst (λ (q : code_phase.Phase). SaysWell q (record n { highest = h; best = b; decided = told })) (sym first) (
       let best_is : later_of n.best (says_in seen n.of.host) ≡ b = ap (later_of n.best) (sym says_is) ∙ sym b_is in
-      subst (λ (k : ℕ). IsVoteOf n.of.host k b.bal b.inp) (sym h_is)
-      (subst (λ (x : PBlock). IsVoteOf n.of.host (max n.highest (top_of seen)) x.bal x.inp) best_is
-      (own_vote bytes seen n.of.host n.highest n.best is.is_host said (subst (λ (q : code_phase.Phase). SaysWell q n) first is.said))));
+      subst (λ (k : ℕ). IsVoteOf n.of.version n.of.host k b.bal b.inp) (sym h_is)
+      (subst (λ (x : Said). IsVoteOf n.of.version n.of.host (max n.highest (top_of n.of.version seen)) x.bal x.inp) best_is
+      (own_vote n.of.version bytes seen n.of.host n.highest n.best is.is_host said (subst (λ (q : code_phase.Phase). SaysWell q n) first is.said))));
   due = is.due;
 }
+
+above_some : (mbal others : ℕ) → mbal < others → Some others ≡ above mbal others
+above_some mbal others high = sym (ap (λ (t : Bool). if t then Some others else None) (lt-ltb mbal others high))
+
+above_none : (mbal others : ℕ) → others ≤ mbal → None ≡ above mbal others
+above_none mbal others low = sym (ap (λ (t : Bool). if t then Some others else None) (le-ltb mbal others low))
+
+-- what is noted then
+pub opens : (n : Notes) (seen : List SeenBlock) (h : ℕ) (b : Said) (told : Option (List ℕ)) → n.phase ≡ phase.Opening → h ≡ max n.highest (top_of n.of.version seen) → b ≡ later_of n.best (says_in seen n.of.host) → told ≡ or_else n.decided (marked_in n.of.version seen)
+    → record n { highest = h; best = b; decided = told } ≡ noted n.phase n seen
+opens n seen h b told first h_is b_is told_is =
+    subst (λ (q : code_phase.Phase). record n { highest = h; best = b; decided = told } ≡ noted q n seen) (sym first)
+    (λ i. record n { highest = h_is i; best = b_is i; decided = told_is i })
+
+-- another host's greater ballot outruns the one that was taken, and no other does
+pub outruns_some : (q : code_phase.Phase) (n : Notes) (seen : List SeenBlock) (others : ℕ) → q ≢ phase.Opening → others ≡ others_top_of n.of.version n.of.host seen → n.says.mbal < others → Some others ≡ outruns q n seen
+outruns_some phase.Opening n seen others later is high = absurd (later refl)
+outruns_some phase.One n seen others later is high = above_some n.says.mbal others high ∙ ap (above n.says.mbal) is
+outruns_some phase.Two n seen others later is high = above_some n.says.mbal others high ∙ ap (above n.says.mbal) is
+
+pub outruns_none : (q : code_phase.Phase) (n : Notes) (seen : List SeenBlock) (others : ℕ) → q ≢ phase.Opening → others ≡ others_top_of n.of.version n.of.host seen → others ≤ n.says.mbal → None ≡ outruns q n seen
+outruns_none phase.Opening n seen others later is low = absurd (later refl)
+outruns_none phase.One n seen others later is low = above_none n.says.mbal others low ∙ ap (above n.says.mbal) is
+outruns_none phase.Two n seen others later is low = above_none n.says.mbal others low ∙ ap (above n.says.mbal) is
 
 -- THE ROW OF EACH PHASE
 
@@ -97,13 +121,13 @@ module _ (q : code_phase.Phase) (f : Answers) (n : Notes) (v : IsVisiting q f n)
   kept r l = rows_kept f d (Told (Some row)) r (let come = due.waiting.part.come in omega arith)
 
   mbal_is : ((says_for s p f).mbal ≡ ballot s f) → n.says.mbal ≡ ballot s f
-  mbal_is b = ap (λ (x : PBlock). x.mbal) v.says ∙ b
+  mbal_is b = ap (λ (x : Said). x.mbal) v.says ∙ b
 
   -- no other host is faster
-  runs : 3 ≤ start p → ((says_for s p f).mbal ≡ ballot s f) → (NotOutrun s p f → nat_lt (ballot s f) (others_mbal s p f) ≡ false) → above n.says.mbal (others_top_of s.host row) ≡ None
+  runs : 3 ≤ start p → ((says_for s p f).mbal ≡ ballot s f) → (NotOutrun s p f → nat_lt (ballot s f) (others_mbal s p f) ≡ false) → above n.says.mbal (others_top_of s.version s.host row) ≡ None
       → nat_lt (ballot s f') (others_mbal s p f') ≡ false
   runs later b run none =
-      let low = ltb-false n.says.mbal (others_top_of s.host row) (none_above (others_top_of s.host row) (nat_lt n.says.mbal (others_top_of s.host row)) none) in
+      let low = ltb-false n.says.mbal (others_top_of s.version s.host row) (none_above (others_top_of s.version s.host row) (nat_lt n.says.mbal (others_top_of s.version s.host row)) none) in
       let before = ltb-false (ballot s f) (others_mbal s p f) (run due.at.not_outrun) in
       let takes = others_takes s f d row p last in
       let same = ballot_same s f' f (kept Opening later) in
@@ -113,17 +137,17 @@ module _ (q : code_phase.Phase) (f : Answers) (n : Notes) (v : IsVisiting q f n)
   -- one is
   outrun_by : 3 ≤ start p → ((says_for s p f).mbal ≡ ballot s f) → ((says_for s p f').mbal ≡ ballot s f') → (IsOpenedIn s p f' → taken s f' ≡ ballot s f') → (NotOutrun s p f → nat_lt (ballot s f) (others_mbal s p f) ≡ false)
       → (IsIn s p f' → statuses.EnoughBefore s p f' → nat_lt (ballot s f') (others_mbal s p f') ≡ true → status s f' ≡ Ended (Outrun (others_mbal s p f')))
-      → (k : ℕ) → above n.says.mbal (others_top_of s.host row) ≡ Some k → Follows f' (record n { end = Some (end.Outrun k) })
+      → (k : ℕ) → above n.says.mbal (others_top_of s.version s.host row) ≡ Some k → Follows f' (record n { end = Some (end.Outrun k) })
   outrun_by later b b' opened run ends k some =
-      let is = some_above (others_top_of s.host row) k (nat_lt n.says.mbal (others_top_of s.host row)) some in
-      let high = ltb-true n.says.mbal (others_top_of s.host row) is.0 in
+      let is = some_above (others_top_of s.version s.host row) k (nat_lt n.says.mbal (others_top_of s.version s.host row)) some in
+      let high = ltb-true n.says.mbal (others_top_of s.version s.host row) is.0 in
       let before = ltb-false (ballot s f) (others_mbal s p f) (run due.at.not_outrun) in
       let takes = others_takes s f d row p last in
       let same = ballot_same s f' f (kept Opening later) in
       let mbal = mbal_is b in
       let top : others_mbal s p f' ≡ k = omega (arith, before, takes, same, high, mbal, is.1) in
       record {
-        ballot = ap (λ (x : PBlock). x.mbal) (v.says ∙ sym (says_kept s p d f (Told (Some row)) due)) ∙ b' ∙ sym (opened (opened_then s p d f (Told (Some row)) due (is_read q f n v order at row)));
+        ballot = ap (λ (x : Said). x.mbal) (v.says ∙ sym (says_kept s p d f (Told (Some row)) due)) ∙ b' ∙ sym (opened (opened_then s p d f (Told (Some row)) due (is_read q f n v order at row)));
         stands =
             ends (come_kept s p d f (Told (Some row)) due) enough (lt-ltb (ballot s f') (others_mbal s p f') (omega (arith, before, takes, same, high, mbal)))
             ∙ ap (λ (m : ℕ). Ended (Outrun m)) top;
@@ -139,29 +163,29 @@ module _ (q : code_phase.Phase) (f : Answers) (n : Notes) (v : IsVisiting q f n)
           (statuses.enough_part s p f due.at.enough))
 
 -- the row ends the phase on its disk
-pub row_passes : (q : code_phase.Phase) (f : Answers) (n : Notes) (v : IsVisiting q f n) (order : IsInOrder n.of (phase_in q) n.disk f) → n.stage ≡ stage.Reading → (row : List SeenBlock) → n.disk < length n.visits → (cell : Cell)
-    → IsSeenAs (seen_at row n.of.host) cell → outruns q n row ≡ None
+pub row_passes : (q : code_phase.Phase) (f : Answers) (n : Notes) (v : IsVisiting q f n) (order : IsInOrder n.of (phase_in q) n.disk f) → n.stage ≡ stage.Reading → (row : List SeenBlock) → n.disk < length n.visits → (V : Type 0) (spelled : V → List ℕ) (cell : Cell V)
+    → IsSeenAs n.of.version spelled (seen_at row n.of.host) cell → outruns q n row ≡ None
     → IsPassed q (more f n.disk (Told (Some row))) (record (noted q n row) { visits = slice_set n.visits n.disk (record (visit_at n.visits n.disk) { block = cell.block }) }) (n.disk + 1)
-row_passes phase.Opening f n v order at row room cell shows none =
+row_passes phase.Opening f n v order at row room V spelled cell shows none =
     let last = is_last phase.Opening f n v order at row in
-    reads phase.Opening f n v order at row room cell shows _ _ _ (record {
-      highest = ap (λ (k : ℕ). max k (top_of row)) v.rows.highest ∙ sym (highest_takes n.of f n.disk row last);
+    reads phase.Opening f n v order at row room V spelled cell shows _ _ _ (record {
+      highest = ap (λ (k : ℕ). max k (top_of n.of.version row)) v.rows.highest ∙ sym (highest_takes n.of f n.disk row last);
       best =
-          ap (λ (x : PBlock). later_of x (says_in row n.of.host)) v.rows.best
+          ap (λ (x : Said). later_of x (says_in row n.of.host)) v.rows.best
           ∙ sym (best_opens n.of f n.disk row last (λ e l. row_none One (f e) (let most = order.behind e in omega arith)));
-      decided = ap (λ (o : Option (List ℕ)). or_else o (marked_in row)) v.rows.decided ∙ sym (decided_takes n.of f n.disk row last);
+      decided = ap (λ (o : Option (List ℕ)). or_else o (marked_in n.of.version row)) v.rows.decided ∙ sym (decided_takes n.of f n.disk row last);
     }) tt
-row_passes phase.One f n v order at row room cell shows none =
+row_passes phase.One f n v order at row room V spelled cell shows none =
     let g = more f n.disk (Told (Some row)) in
     let opening : AreSameRows Opening g f = kept phase.One f n v order at row Opening (omega arith) in
-    reads phase.One f n v order at row room cell shows _ _ _ (record {
+    reads phase.One f n v order at row room V spelled cell shows _ _ _ (record {
       highest = v.rows.highest ∙ sym (highest_same n.of g f opening);
-      best = ap (latest_in n.of.host row) v.rows.best ∙ sym (best_takes n.of f n.disk row (is_last phase.One f n v order at row));
+      best = ap (latest_in n.of.version n.of.host row) v.rows.best ∙ sym (best_takes n.of f n.disk row (is_last phase.One f n v order at row));
       decided = v.rows.decided ∙ sym (decided_same n.of g f opening);
     }) (runs phase.One f n v order at row (omega arith) refl (λ run. run) none)
-row_passes phase.Two f n v order at row room cell shows none =
+row_passes phase.Two f n v order at row room V spelled cell shows none =
     let g = more f n.disk (Told (Some row)) in
-    reads phase.Two f n v order at row room cell shows _ _ _ (same_rows_kept n.of f g n.highest n.best n.decided (kept phase.Two f n v order at row Opening (omega arith)) (kept phase.Two f n v order at row One (omega arith)) v.rows)
+    reads phase.Two f n v order at row room V spelled cell shows _ _ _ (same_rows_kept n.of f g n.highest n.best n.decided (kept phase.Two f n v order at row Opening (omega arith)) (kept phase.Two f n v order at row One (omega arith)) v.rows)
     (runs phase.Two f n v order at row (omega arith) refl (λ run. run) none)
 
 -- or the attempt

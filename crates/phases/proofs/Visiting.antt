@@ -5,9 +5,9 @@ use Rattle.std.proofs.lemmas.Bool.{cases_eq, cases_lt, le-ltb, lt-ltb, and_left,
 use Rattle.std.proofs.lemmas.List.{get_or-set_same, get_or-set_other}
 use Rattle.torn_block.specs.declared.layout.TheConstants.{LAST_SEQUENCE}
 use Rattle.torn_block.specs.declared.write_steps.WriteCall.TheVariants.{CloseGate}
-use Rattle.torn_block.specs.Block.{next_sequence_at}
-use Rattle.torn_block.specs.Plan.{plan_by, told_value}
-use Rattle.paxos_block.specs.Saying.{body_saying}
+use Rattle.torn_block.specs.layouts.Block.{next_number}
+use Rattle.torn_block.specs.layouts.Plan.{plan_by, told_number}
+use Rattle.paxos_block.specs.layouts.Saying.{body_saying}
 use Rattle.paxos_block.proofs.VoteLemmas.{spent, unspent}
 use Rattle.attempt.specs.Calls.{Phase, Opening, start, goal}
 use Rattle.attempt.specs.Answers.{Heard, Answers, last_row, seen_block}
@@ -19,7 +19,7 @@ use Rattle.phases.specs.declared.phase.Phase.TheVariants as phase
 use Rattle.phases.specs.declared.phase.Stage.{Stage}
 use Rattle.phases.specs.declared.phase.Stage.TheVariants as stage
 use Rattle.phases.specs.declared.visit.Visit.{Visit}
-use Rattle.phases.specs.Calls.{phase_in}
+use Rattle.phases.specs.layouts.Calls.{phase_in}
 use Rattle.phases.specs.Notes.{Notes, no_visit, visit_at}
 use Rattle.phases.specs.Steps.{answered, Suits}
 use Rattle.phases.specs.Kept.{Remembers, Writes}
@@ -98,7 +98,7 @@ module _ (q : code_phase.Phase) (f : Answers) (n : Notes) (d : ℕ) (there : d <
       ];
       each = λ e l left. elim (cases_eq e d) [
         | inl here ↦ (let out : is_left_at (Some (d + 1)) s p f e ≡ false = ap (is_left_at (Some (d + 1)) s p f) here ∙ gone in absurd (cc))
-        | inr off ↦ subst (Remembers s.host (f e)) (sym (others e off)) (is.kept.each e l (sym (left_there s p f d e off) ∙ left))
+        | inr off ↦ subst (Remembers s.version s.host (f e)) (sym (others e off)) (is.kept.each e l (sym (left_there s p f d e off) ∙ left))
       ];
     };
   }
@@ -121,17 +121,17 @@ module _ (q : code_phase.Phase) (f : Answers) (n : Notes) (d : ℕ) (there : d <
     begins : length (f d) ≡ start p
     begins = is.ahead d (omega arith) takes
 
-    remembers : Remembers s.host (f d) visit
+    remembers : Remembers s.version s.host (f d) visit
     remembers = is.kept.each d there here
 
     stuck_is : is_stuck s p (f d) ≡ nat_le LAST_SEQUENCE (seen_block (last_row (f d)) s.host).sequence
     stuck_is = ap (λ (t : Bool). t && nat_le LAST_SEQUENCE (seen_block (last_row (f d)) s.host).sequence) (eq-eqb (length (f d)) (start p) begins)
 
     -- its write is due to a spent block, so it is dropped
-    pub passes_spent : ¬ (next_sequence_at (told_value visit.block) ≤ LAST_SEQUENCE) → d < length n.visits
+    pub passes_spent : ¬ (next_number (told_number visit.block) ≤ LAST_SEQUENCE) → d < length n.visits
         → IsPassed q f (record n { visits = slice_set n.visits d (record visit { left = false }) }) (d + 1)
     passes_spent over room =
-        let stuck : is_stuck s p (f d) ≡ true = stuck_is ∙ spent (told_value visit.block) (seen_block (last_row (f d)) s.host).sequence remembers.sequence over in
+        let stuck : is_stuck s p (f d) ≡ true = stuck_is ∙ spent (told_number visit.block) (seen_block (last_row (f d)) s.host).sequence remembers.sequence over in
         let new : Visit = record visit { left = false } in
         goes_by (left_then s p f d ∙ and_right (takes_part p (f d)) (not (is_stuck s p (f d))) (ap not stuck)) (slice_set n.visits d new)
         (λ e off. get_or-set_other n.visits d e new no_visit off) (ap (λ (v : Visit). v.left) (get_or-set_same n.visits d new no_visit room))
@@ -142,7 +142,7 @@ module _ (q : code_phase.Phase) (f : Answers) (n : Notes) (d : ℕ) (there : d <
     short phase.Two = omega arith
 
     -- the phase begins on it
-    begins_on : is_stuck s p (f d) ≡ false → (st : Stage) → Suits q st → answered p st ≡ start p → Writes st n.says visit → IsBegun q f (record n { disk = d; stage = st })
+    begins_on : is_stuck s p (f d) ≡ false → (st : Stage) → Suits q st → answered p st ≡ start p → Writes n.of.version st n.says visit → IsBegun q f (record n { disk = d; stage = st })
     begins_on free st suits first writes = record {
       passed = is;
       there = there;
@@ -153,13 +153,13 @@ module _ (q : code_phase.Phase) (f : Answers) (n : Notes) (d : ℕ) (there : d <
     }
 
     -- with its write
-    pub begins_write : q ≢ phase.Opening → next_sequence_at (told_value visit.block) ≤ LAST_SEQUENCE
-        → IsBegun q f (record n { disk = d; stage = stage.Writing (plan_by visit.block (body_saying n.says)) })
+    pub begins_write : q ≢ phase.Opening → next_number (told_number visit.block) ≤ LAST_SEQUENCE
+        → IsBegun q f (record n { disk = d; stage = stage.Writing (plan_by n.of.version visit.block (body_saying n.of.version n.says)) })
     begins_write later room =
-        begins_on (stuck_is ∙ unspent (told_value visit.block) (seen_block (last_row (f d)) s.host).sequence remembers.sequence room)
-        (stage.Writing (plan_by visit.block (body_saying n.says))) (suits q later) (omega arith) (record { call = CloseGate; is = refl })
+        begins_on (stuck_is ∙ unspent (told_number visit.block) (seen_block (last_row (f d)) s.host).sequence remembers.sequence room)
+        (stage.Writing (plan_by n.of.version visit.block (body_saying n.of.version n.says))) (suits q later) (omega arith) (record { call = CloseGate; is = refl })
       where
-        suits : (r : code_phase.Phase) → r ≢ phase.Opening → Suits r (stage.Writing (plan_by visit.block (body_saying n.says)))
+        suits : (r : code_phase.Phase) → r ≢ phase.Opening → Suits r (stage.Writing (plan_by n.of.version visit.block (body_saying n.of.version n.says)))
         suits phase.Opening other = other refl
         suits phase.One other = tt
         suits phase.Two other = tt

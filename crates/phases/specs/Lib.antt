@@ -3,4 +3,6 @@ pub mod Inside
 pub mod Kept
 pub mod Moves
 pub mod Notes
+pub mod Room
 pub mod Steps
+pub mod layouts

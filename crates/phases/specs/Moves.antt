@@ -1,10 +1,10 @@
 -- What one answer more makes of what is kept, and between an answer and the next call how far an attempt is with the
 -- disks of its phase.
 use Rattle.std.specs.Prelude.{◌≡◌, ◌<◌, ◌≤◌, ◌*◌, ◌&&◌, ℕ, Bool, true, false, max, List, length, nat_lt, nat_le, slice_get, Option, Some, None, if◌then◌else◌}
-use Rattle.paxos_block.specs.declared.block.PBlock.{PBlock}
+use Rattle.paxos_block.specs.layouts.Saying.{Said}
 use Rattle.paxos_block.specs.declared.row.Row.{Row}
-use Rattle.paxos_block.specs.Row.{SeenBlock, AreSeenAs, row_said}
-use Rattle.paxos_block.specs.Votes.{says_in, top_of, others_top_of, later_of, latest_in, marked_in}
+use Rattle.paxos_block.specs.layouts.Row.{SeenBlock, AreSeenAs, row_said}
+use Rattle.paxos_block.specs.layouts.Votes.{says_in, top_of, others_top_of, later_of, latest_in, marked_in}
 use Rattle.attempt.specs.Calls.{Phase, Opening, One, Two, start, goal}
 use Rattle.attempt.specs.Answers.{Heard, Booted, Answers, more, all_good, row_in}
 use Rattle.attempt.specs.Numbers.{count}
@@ -17,7 +17,8 @@ use Rattle.attempt.specs.NextCall.{says_for}
 use Rattle.phases.specs.declared.phase.Phase as code_phase
 use Rattle.phases.specs.declared.phase.Phase.TheVariants as phase
 use Rattle.phases.specs.declared.visit.Visit.{Visit}
-use Rattle.phases.specs.Calls.{phase_in}
+use Rattle.torn_block.specs.Layout.{Version}
+use Rattle.phases.specs.layouts.Calls.{phase_in}
 use Rattle.phases.specs.Notes.{Notes, visit_at}
 use Rattle.phases.specs.Steps.{answered, Suits}
 use Rattle.phases.specs.Kept.{KeepsRows, KeepsVisits, Writes, Follows}
@@ -43,10 +44,10 @@ abbrev pub Takes : Heard → Notes → Notes → Type 0
 Takes x old new = (f : Answers) → IsInOrder old.of (phase_in old.phase) old.disk f → Follows f old → Follows (more f old.disk x) new
 
 -- the bytes are a sound row, and this is what was made of it
-pub record ReadsAs (bytes : List ℕ) (row : Row) : Type 0 where
+pub record ReadsAs {V : Type 0} (v : Version) (spelled : V → List ℕ) (bytes : List ℕ) (row : Row V) : Type 0 where
   pub seen : List SeenBlock
-  pub said : row_said bytes ≡ Some seen
-  pub so : AreSeenAs seen row
+  pub said : row_said v bytes ≡ Some seen
+  pub so : AreSeenAs v spelled seen row
 
 -- from phase 1 on another host's greater ballot ends the attempt
 abbrev pub above : ℕ → ℕ → Option ℕ
@@ -54,30 +55,30 @@ above mbal others = if nat_lt mbal others then Some others else None
 
 abbrev pub outruns : code_phase.Phase → Notes → List SeenBlock → Option ℕ
 outruns phase.Opening n seen = None
-outruns phase.One n seen = above n.says.mbal (others_top_of n.of.host seen)
-outruns phase.Two n seen = above n.says.mbal (others_top_of n.of.host seen)
+outruns phase.One n seen = above n.says.mbal (others_top_of n.of.version n.of.host seen)
+outruns phase.Two n seen = above n.says.mbal (others_top_of n.of.version n.of.host seen)
 
 -- the opening takes a row's ballots, the own vote and what is marked there, and phase 1 the other hosts' votes
-abbrev pub top_then : code_phase.Phase → ℕ → List SeenBlock → ℕ
-top_then phase.Opening top seen = max top (top_of seen)
-top_then other top seen = top
+abbrev pub top_then : code_phase.Phase → Version → ℕ → List SeenBlock → ℕ
+top_then phase.Opening v top seen = max top (top_of v seen)
+top_then other v top seen = top
 
-abbrev pub vote_then : code_phase.Phase → ℕ → PBlock → List SeenBlock → PBlock
-vote_then phase.Opening host vote seen = later_of vote (says_in seen host)
-vote_then phase.One host vote seen = latest_in host seen vote
-vote_then phase.Two host vote seen = vote
+abbrev pub vote_then : code_phase.Phase → Version → ℕ → Said → List SeenBlock → Said
+vote_then phase.Opening v host vote seen = later_of vote (says_in seen host)
+vote_then phase.One v host vote seen = latest_in v host seen vote
+vote_then phase.Two v host vote seen = vote
 
-abbrev pub decided_then : code_phase.Phase → Option (List ℕ) → List SeenBlock → Option (List ℕ)
-decided_then phase.Opening told seen = or_else told (marked_in seen)
-decided_then other told seen = told
+abbrev pub decided_then : code_phase.Phase → Version → Option (List ℕ) → List SeenBlock → Option (List ℕ)
+decided_then phase.Opening v told seen = or_else told (marked_in v seen)
+decided_then other v told seen = told
 
 abbrev pub noted : code_phase.Phase → Notes → List SeenBlock → Notes
-noted q n seen = record n { highest = top_then q n.highest seen; best = vote_then q n.of.host n.best seen; decided = decided_then q n.decided seen }
+noted q n seen = record n { highest = top_then q n.of.version n.highest seen; best = vote_then q n.of.version n.of.host n.best seen; decided = decided_then q n.of.version n.decided seen }
 
 -- BETWEEN AN ANSWER AND THE NEXT CALL
 
 -- the disks below `from` are done with in the phase, and those from there on still wait for it
-pub record ArePassed (s : Setup) (q : code_phase.Phase) (f : Answers) (top : ℕ) (vote : PBlock) (told : Option (List ℕ)) (says : PBlock) (visits : List Visit) (from : ℕ) : Type 0 where
+pub record ArePassed (s : Setup) (q : code_phase.Phase) (f : Answers) (top : ℕ) (vote : Said) (told : Option (List ℕ)) (says : Said) (visits : List Visit) (from : ℕ) : Type 0 where
   pub rows : KeepsRows s f top vote told
   pub come : IsIn s (phase_in q) f
   pub not_outrun : NotOutrun s (phase_in q) f
@@ -98,7 +99,7 @@ pub record IsBegun (q : code_phase.Phase) (f : Answers) (n : Notes) : Type 0 whe
   pub waiting : waits n.of (phase_in q) (f n.disk) ≡ true
   pub suits : Suits q n.stage
   pub answers : answered (phase_in q) n.stage ≡ start (phase_in q)
-  pub writes : Writes n.stage n.says (visit_at n.visits n.disk)
+  pub writes : Writes n.of.version n.stage n.says (visit_at n.visits n.disk)
 
 -- all disks are done with in the phase, and a majority is left
 pub record IsOver (q : code_phase.Phase) (f : Answers) (n : Notes) : Type 0 where

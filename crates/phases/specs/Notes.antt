@@ -1,10 +1,12 @@
 -- What an attempt keeps, as its contracts see it.
-use Rattle.std.specs.Prelude.{◌≡◌, ◌<◌, ◌≤◌, ℕ, true, false, is_some, List, [], slice_index_or, Option, None}
-use Rattle.torn_block.specs.declared.layout.TheConstants.{HOSTS, DISKS}
-use Rattle.paxos_block.specs.declared.block.PBlock.{PBlock}
-use Rattle.paxos_block.specs.Saying.{IsVoteOf, MaySay}
+use Rattle.std.specs.Prelude.{◌≡◌, ◌<◌, ◌≤◌, ℕ, true, false, is_some, List, slice_index_or, Option, None}
+use Rattle.std.specs.Option.{option_map}
+use Rattle.torn_block.specs.declared.layout.TheConstants.{DISKS}
+use Rattle.torn_block.specs.Layout.{Version, hosts_in}
+use Rattle.paxos_block.specs.layouts.Saying.{Said}
+use Rattle.paxos_block.specs.layouts.Saying.{IsVoteOf, MaySay}
 use Rattle.attempt.specs.Setup.{Setup}
-use Rattle.phases.specs.declared.end.End as code_end
+use Rattle.phases.specs.layouts.Calls.{Ending}
 use Rattle.phases.specs.declared.phase.Phase.{Phase}
 use Rattle.phases.specs.declared.phase.Phase.TheVariants.{Opening, One, Two}
 use Rattle.phases.specs.declared.phase.Stage.{Stage}
@@ -12,27 +14,27 @@ use Rattle.phases.specs.declared.setup.Setup as code_setup
 use Rattle.phases.specs.declared.visit.Visit.{Visit}
 use Rattle.phases.specs.Steps.{IsDueIn}
 
-abbrev pub setup_in : code_setup.Setup → Setup
-setup_in of = record { host = of.host; slot = of.slot; disks = of.disks; floor = of.floor; input = of.input }
+abbrev pub setup_in : {V : Type 0} → Version → (V → List ℕ) → code_setup.Setup V → Setup
+setup_in v spelled of = record { version = v; host = of.host; slot = of.slot; disks = of.disks; floor = of.floor; input = option_map spelled of.input }
 
 -- what it is of; what its ballot and its proposal go by; what was decided; what it says; each disk's visit; and the call that is due, or
 -- the end
 pub record Notes : Type 0 where
   pub of : Setup
   pub highest : ℕ
-  pub best : PBlock
+  pub best : Said
   pub decided : Option (List ℕ)
-  pub says : PBlock
+  pub says : Said
   pub visits : List Visit
   pub phase : Phase
   pub disk : ℕ
   pub stage : Stage
-  pub end : Option code_end.End
+  pub end : Option Ending
 
 -- past the last disk
 abbrev pub no_visit : Visit
 no_visit =
-    record { left = false; boot = record { number = 0 }; block = record { current = None; sequence = 0; body = record { bytes = [] }; next_is_open = false } }
+    record { left = false; boot = record { number = 0 }; block = record { current = None; sequence = 0; next_is_open = false } }
 
 -- what is kept of a disk
 abbrev pub visit_at : List Visit → ℕ → Visit
@@ -40,14 +42,14 @@ visit_at visits disk = slice_index_or visits disk no_visit
 
 -- what may be written: a vote up to the highest number that was seen, and from phase 1 on what is said
 abbrev pub SaysWell : Phase → Notes → Type 0
-SaysWell Opening n = IsVoteOf n.of.host n.highest n.best.bal n.best.inp
-SaysWell One n = MaySay n.of.host n.says
-SaysWell Two n = MaySay n.of.host n.says × (is_some n.says.inp ≡ true)
+SaysWell Opening n = IsVoteOf n.of.version n.of.host n.highest n.best.bal n.best.inp
+SaysWell One n = MaySay n.of.version n.of.host n.says
+SaysWell Two n = MaySay n.of.version n.of.host n.says × (is_some n.says.inp ≡ true)
 
 -- so it is at any time
 pub record IsSound (n : Notes) : Type 0 where
-  pub is_host : n.of.host < HOSTS
+  pub is_host : n.of.host < hosts_in n.of.version
   pub visits_one : n.disk < n.of.disks
   pub few : n.of.disks ≤ DISKS
   pub said : SaysWell n.phase n
-  pub due : IsDueIn n.stage
+  pub due : IsDueIn n.of.version n.stage

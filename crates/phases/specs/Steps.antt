@@ -3,7 +3,8 @@ use Rattle.std.specs.Prelude.{◌≡◌, ◌+◌, ℕ, pred, true, Option, Some,
 use Rattle.disk.specs.Disk as device
 use Rattle.torn_block.specs.declared.write_steps.WriteCall.{WriteCall}
 use Rattle.torn_block.specs.declared.write_steps.WriteCall.TheVariants.{CloseGate, SyncClosed, PutBody, SyncBody, OpenGate, SyncOpened}
-use Rattle.torn_block.specs.Plan.{Plan, next_after, need_at, device_call}
+use Rattle.torn_block.specs.layouts.Plan.{Plan, next_after, need_at, device_call}
+use Rattle.torn_block.specs.Layout.{Version, copy_length}
 use Rattle.attempt.specs.Calls.{Phase, start, goal}
 use Rattle.phases.specs.declared.heard.Heard as code_heard
 use Rattle.phases.specs.declared.heard.Heard.TheVariants as answer
@@ -38,13 +39,13 @@ Suits phase.Two stage.Attaching = ⊥
 Suits phase.Two stage.Syncing = ⊥
 Suits p other = Unit {0}
 
--- of a write under way a call is due
-abbrev pub IsDueIn : Stage → Type 0
-IsDueIn (stage.Writing plan) = is_some plan.due ≡ true
-IsDueIn other = Unit {0}
+-- of a write under way a call is due, and its copies have their length
+abbrev pub IsDueIn : Version → Stage → Type 0
+IsDueIn v (stage.Writing plan) = (is_some plan.due ≡ true) × (plan.size ≡ copy_length v)
+IsDueIn v other = Unit {0}
 
 -- an answer of the kind that the call may get
-abbrev pub FitsStage : Stage → code_heard.Heard → Type 0
+abbrev pub FitsStage : {R : Type 0} → Stage → code_heard.Heard R → Type 0
 FitsStage stage (answer.Fault fault) = Unit {0}
 FitsStage stage.Attaching (answer.Booted boot) = Unit {0}
 FitsStage stage.Syncing answer.Done = Unit {0}

@@ -1,12 +1,10 @@
-use paxos_block::Value;
-
 /// How an attempt ends.
 #[derive(Clone, Copy, Debug, PartialEq, Eq)]
-pub enum End {
+pub enum End<V> {
     /// This value is chosen for the slot.
-    Committed(Value),
+    Committed(V),
     /// A marked block says that this value is chosen for the slot.
-    Decided(Value),
+    Decided(V),
     /// No input was found, and the attempt has none. Nothing had been chosen for the slot when it began.
     Empty,
     /// Another host has this ballot, which is greater.

@@ -14,7 +14,7 @@ pub enum DeviceCall<'a> {
     Sync {
         boot: Boot,
     },
-    /// A read of a slot's row, `ROW_LENGTH` bytes from `at` on.
+    /// A read of a slot's row, all its bytes, from `at` on.
     Read {
         boot: Boot,
         at: u64,

@@ -1,8 +1,9 @@
-ghost use Rattle.std.specs.Prelude.{◌≡◌, ◌≢◌, ◌<◌, ◌≤◌, ◌+◌, ◌*◌, ◌++◌, ◌∷◌, ◌^◌, [], ℕ, List, Some, None, IfSome, length, true, is_some, slice_set, max};
+ghost use Rattle.std.specs.Prelude.{◌≡◌, ◌≢◌, ◌<◌, ◌≤◌, ◌+◌, ◌*◌, ◌++◌, ◌∷◌, ◌^◌, [], ℕ, List, Some, None, IfSome, length, true, is_some, slice_set, max, option_map};
 ghost use Rattle.std.specs.Bool.{OnTrue, OnFalse};
-ghost use Rattle.torn_block.specs.declared.layout.TheConstants.{BLOCK_LENGTH, HOSTS, DISKS, ROW_LENGTH};
-ghost use Rattle.paxos_block.specs.Places.{place_of, row_place, VoteOf};
-ghost use Rattle.paxos_block.specs.Row.{row_said};
+ghost use Rattle.torn_block.specs.declared.layout.TheConstants.{COPY_ROOM, DISKS};
+ghost use Rattle.torn_block.specs.Layout.{Version, hosts_in, row_length};
+ghost use Rattle.paxos_block.specs.layouts.Places.{place_of, row_place, VoteOf};
+ghost use Rattle.paxos_block.specs.layouts.Row.{row_said};
 ghost use Rattle.attempt.specs.Answers as answers;
 ghost use Rattle.attempt.specs.Answers.{Answers, Answered, on};
 ghost use Rattle.attempt.specs.History.{Fits};
@@ -10,10 +11,11 @@ ghost use Rattle.attempt.specs.Laws.{IsServedAlone};
 ghost use Rattle.attempt.specs.NextCall.{next_call};
 ghost use Rattle.attempt.specs.Setup as attempt;
 ghost use Rattle.attempt.specs.Status.{status, taken};
-ghost use Rattle.phases.specs.Calls.{call_of_need, device_call_of, heard_of, end_in, IsWithin};
+ghost use Rattle.phases.specs.layouts.Calls.{call_of_need, device_call_of, heard_of, end_as, end_in, IsWithin};
 ghost use Rattle.phases.specs.Kept.{answer_of, IsSameAttempt, LeadsTo, Follows, call_due, end_of_status};
 ghost use Rattle.phases.specs.Moves.{Takes, ReadsAs, IsPassed, IsBegun, IsOver, outruns, noted, phases_left, keeps_majority};
 ghost use Rattle.phases.specs.Notes.{visit_at};
+ghost use Rattle.phases.specs.Room.{RowFits};
 ghost use Rattle.phases.specs.Steps.{FitsStage, write_due};
 
 use crate::end::End;
@@ -23,9 +25,9 @@ use crate::phase::{Phase, Stage};
 use crate::setup::Setup;
 use crate::visit::{UNSEEN, Visit};
 use disk::Boot;
-use paxos_block::{PBlock, Row, Value, ballot_above, block_place, encode, row_place};
+use paxos_block::{PBlock, Row, ballot_above, block_place, encode, read_row, row_place};
 use std::marker::Model;
-use torn_block::{BlockNeed, DISKS, ROW_LENGTH, WriteSteps};
+use torn_block::{BlockNeed, DISKS, Layout, WriteSteps};
 
 /// As many as there may be disks.
 const PLACES: usize = DISKS as usize;
@@ -35,46 +37,46 @@ const PLACES: usize = DISKS as usize;
 /// It asks for one device call at a time, hears the answer, and takes no memory. It visits the disks by rising number,
 /// three times: it opens each and reads the slot's row, then it promises a ballot there, then it votes for a value.
 #[derive(Drop)]
-pub struct Attempt {
-    of: Setup,
+pub struct Attempt<L: Layout> {
+    of: Setup<L::Value>,
     /// The greatest of the floor and of every mbal in the opening's rows.
     highest: u64,
     /// The latest vote that was found: the host's own in the opening, and then any host's.
-    best: PBlock,
+    best: PBlock<L::Value>,
     /// The input of the first marked block in the opening's rows.
-    decided: Option<Value>,
+    decided: Option<L::Value>,
     /// What is written in the phase; blank in the opening.
-    says: PBlock,
+    says: PBlock<L::Value>,
     /// By the disks' numbers.
     visits: [Visit; PLACES],
     phase: Phase,
     /// The disk that is visited.
     disk: u8,
     stage: Stage,
-    end: Option<End>,
+    end: Option<End<L::Value>>,
 }
 
-impl Model for Attempt {
+impl<L: Layout> Model for Attempt<L> {
     ghost use Rattle.phases.specs.Notes.{Notes, IsSound};
 
     ghost Value = { Notes };
 
     ghost use Rattle.phases.specs.Inside.{notes_in};
 
-    ghost view = { notes_in };
+    ghost view = { notes_in L.version L.spelled };
 
-    ghost invariant = { λ a. IsSound (notes_in a) };
+    ghost invariant = { λ a. IsSound (notes_in L.version L.spelled a) };
 }
 
-impl Attempt {
+impl<L: Layout> Attempt<L> {
     /// An attempt that has heard nothing, over the disks below `disks`, with a ballot above `floor`.
-    pub fn new(host: u8, slot: u16, disks: u8, floor: u64, input: Option<Value>) -> Attempt
-        requires host { host < HOSTS }
+    pub fn new(host: u8, slot: u16, disks: u8, floor: u64, input: Option<L::Value>) -> Attempt<L>
+        requires host { host < hosts_in L.version }
         requires some { 0 < disks }
         requires few { disks ≤ DISKS }
-        ensures leads { LeadsTo (record { host = host; slot = slot; disks = disks; floor = floor; input = input }) [] result }
+        ensures leads { LeadsTo (record { version = L.version; host = host; slot = slot; disks = disks; floor = floor; input = option_map L.spelled input }) [] result }
         ensures going { result.end ≡ None }
-        ensures of { result.of ≡ record { host = host; slot = slot; disks = disks; floor = floor; input = input } }
+        ensures of { result.of ≡ record { version = L.version; host = host; slot = slot; disks = disks; floor = floor; input = option_map L.spelled input } }
     {
         Attempt {
             of: Setup {
@@ -85,9 +87,9 @@ impl Attempt {
                 input,
             },
             highest: floor,
-            best: PBlock::BLANK,
+            best: PBlock::blank(),
             decided: None,
-            says: PBlock::BLANK,
+            says: PBlock::blank(),
             visits: [UNSEEN; PLACES],
             phase: Phase::Opening,
             disk: 0,
@@ -101,9 +103,9 @@ impl Attempt {
         requires { self.now.end ≡ None }
         // By the answers that lead here, with its boot number and its bytes.
         ensures next { (s : attempt.Setup) (heard : List Answered) → LeadsTo s heard self.now →
-            next_call s (on heard) ≡ Some (call_of_need result) }
-        ensures due { call_of_need result ≡ call_due self.now }
-        ensures range { IsWithin (row_place self.now.of.slot + ROW_LENGTH) result.call }
+            next_call s (on heard) ≡ Some (call_of_need L.version result) }
+        ensures due { call_of_need L.version result ≡ call_due self.now }
+        ensures range { IsWithin L.version (row_place L.version self.now.of.slot + row_length L.version) result.call }
         ensures disk { result.disk < self.now.of.disks }
     {
         Need {
@@ -114,25 +116,26 @@ impl Attempt {
 
     /// Hears the answer to the call that is due.
     #[inline(always)]
-    pub fn hear(&mut self, heard: &Heard<'_>)
+    pub fn hear(&mut self, heard: &Heard<'_, L::Row>)
         requires going { self.old.end ≡ None }
-        requires fits { Fits (call_due self.old).1 (heard_of heard.now) }
+        requires fits { Fits (call_due self.old).1 (heard_of L.version L.row_bytes heard.now) }
+        requires room { RowFits L.Value.row }
         ensures leads { (s : attempt.Setup) (answers : List Answered) → LeadsTo s answers self.old →
-            LeadsTo s (answers ++ answer_of self.old heard.now ∷ []) self.new }
+            LeadsTo s (answers ++ answer_of self.old (heard_of L.version L.row_bytes heard.now) ∷ []) self.new }
         ensures bound { (s : attempt.Setup) (answers : List Answered) → LeadsTo s answers self.old →
-            length (answers ++ answer_of self.old heard.now ∷ []) ≤ 17 * s.disks }
+            length (answers ++ answer_of self.old (heard_of L.version L.row_bytes heard.now) ∷ []) ≤ 17 * s.disks }
         ensures alone { (s : attempt.Setup) (answers : List Answered) → LeadsTo s answers self.old →
-            IsServedAlone s (answers ++ answer_of self.old heard.now ∷ []) }
+            IsServedAlone s (answers ++ answer_of self.old (heard_of L.version L.row_bytes heard.now) ∷ []) }
         ensures same { IsSameAttempt self.old self.new }
     {
         self.take(heard);
     }
 
     /// How it has ended, if it has.
-    pub fn end(&self) -> Option<End>
+    pub fn end(&self) -> Option<End<L::Value>>
         ensures end { (s : attempt.Setup) (heard : List Answered) → LeadsTo s heard self.now →
-            end_in result ≡ end_of_status (status s (on heard)) }
-        ensures told { result ≡ self.now.end }
+            end_in (option_map (end_as L.spelled) result) ≡ end_of_status (status s (on heard)) }
+        ensures told { option_map (end_as L.spelled) result ≡ self.now.end }
     {
         self.end
     }
@@ -147,36 +150,37 @@ impl Attempt {
 }
 
 // What each answer changes.
-impl Attempt {
+impl<L: Layout> Attempt<L> {
     // The call that is due, on the disk that is visited.
     fn device_call(&self) -> DeviceCall<'_>
-        ensures due { device_call_of result ≡ (call_due self.now).1 }
-        ensures range { IsWithin (row_place self.now.of.slot + ROW_LENGTH) result }
+        ensures due { device_call_of L.version result ≡ (call_due self.now).1 }
+        ensures range { IsWithin L.version (row_place L.version self.now.of.slot + row_length L.version) result }
     {
         let boot = self.visits[usize::from(self.disk)].boot;
         let slot = u32::from(self.of.slot);
         match &self.stage {
             Stage::Attaching => DeviceCall::Attach,
             Stage::Syncing => DeviceCall::Sync { boot },
-            Stage::Writing(steps) => write_call(steps, block_place(slot, self.of.host), boot),
+            Stage::Writing(steps) => write_call(steps, block_place::<L>(slot, self.of.host), boot),
             Stage::Reading => DeviceCall::Read {
                 boot,
-                at: row_place(slot),
+                at: row_place::<L>(slot),
             },
         }
     }
 
     #[inline(always)]
-    fn take(&mut self, heard: &Heard<'_>)
+    fn take(&mut self, heard: &Heard<'_, L::Row>)
         requires going { self.old.end ≡ None }
         requires fits { FitsStage self.old.stage heard.now }
+        requires room { RowFits L.Value.row }
         ensures of { self.new.of ≡ self.old.of }
-        ensures follows { Takes (heard_of heard.now) self.old self.new }
+        ensures follows { Takes (heard_of L.version L.row_bytes heard.now) self.old self.new }
     {
         match heard {
             Heard::Booted(boot) => self.attach(*boot),
             Heard::Done => self.succeed(),
-            Heard::Told(bytes) => self.hear_row(bytes),
+            Heard::Told(row) => self.hear_row(L::bytes_in(row)),
             Heard::Fault(_) => self.drop_disk(),
         }
     }
@@ -195,7 +199,7 @@ impl Attempt {
     // A sync, or a call of a write, succeeded. Behind the last of a write the row is read.
     fn succeed(&mut self)
         requires going { self.old.end ≡ None }
-        requires stage { FitsStage self.old.stage Heard.Done }
+        requires stage { FitsStage {R = List ℕ} self.old.stage Heard.Done }
         ensures of { self.new.of ≡ self.old.of }
         ensures follows { Takes answers.Done self.old self.new }
     {
@@ -205,14 +209,16 @@ impl Attempt {
     // The bytes of a row were read. A function pays for the room of its row at its start, so that room is here and not
     // in `hear`, to which most answers bring no row.
     #[inline(never)]
-    fn hear_row(&mut self, bytes: &[u8; ROW_LENGTH])
+    fn hear_row(&mut self, bytes: &[u8])
+        requires room { RowFits L.Value.row }
+        requires long { length bytes.now ≡ row_length L.version }
         requires going { self.old.end ≡ None }
         requires stage { self.old.stage ≡ Stage.Reading }
         ensures of { self.new.of ≡ self.old.of }
-        ensures follows { Takes (answers.Told (row_said bytes.now)) self.old self.new }
+        ensures follows { Takes (answers.Told (row_said L.version bytes.now)) self.old self.new }
     {
-        let mut row = Row::BLANK;
-        match row.read(bytes) {
+        let mut row = Row::blank();
+        match read_row::<L>(&mut row, bytes) {
             Ok(()) => self.take_row(&row),
             Err(_) => self.drop_disk(),
         }
@@ -230,13 +236,13 @@ impl Attempt {
     }
 
     // The row of the phase was read.
-    fn take_row(&mut self, row: &Row)
+    fn take_row(&mut self, row: &Row<L::Value>)
         requires going { self.old.end ≡ None }
         requires stage { self.old.stage ≡ Stage.Reading }
-        requires row { (bytes : List ℕ) × ReadsAs bytes row.now }
+        requires row { (bytes : List ℕ) × ReadsAs L.version L.spelled bytes row.now }
         ensures of { self.new.of ≡ self.old.of }
-        ensures follows { (bytes : List ℕ) → ReadsAs bytes row.now →
-            Takes (answers.Told (row_said bytes)) self.old self.new }
+        ensures follows { (bytes : List ℕ) → ReadsAs L.version L.spelled bytes row.now →
+            Takes (answers.Told (row_said L.version bytes)) self.old self.new }
     {
         if let Some(mbal) = self.faster(row) {
             self.end = Some(End::Outrun(mbal));
@@ -249,8 +255,8 @@ impl Attempt {
     }
 
     // Another host's ballot in the row, where it outruns the one that was taken.
-    fn faster(&self, row: &Row) -> Option<u64>
-        ensures { (bytes : List ℕ) (reads : ReadsAs bytes row.now) → result ≡ outruns self.now.phase self.now reads.seen }
+    fn faster(&self, row: &Row<L::Value>) -> Option<u64>
+        ensures { (bytes : List ℕ) (reads : ReadsAs L.version L.spelled bytes row.now) → result ≡ outruns self.now.phase self.now reads.seen }
     {
         if self.phase == Phase::Opening {
             return None;
@@ -264,9 +270,9 @@ impl Attempt {
     }
 
     // What the row says of ballots and votes.
-    fn note(&mut self, row: &Row)
-        requires { (bytes : List ℕ) × ReadsAs bytes row.now }
-        ensures { (bytes : List ℕ) (reads : ReadsAs bytes row.now) → self.new ≡ noted self.old.phase self.old reads.seen }
+    fn note(&mut self, row: &Row<L::Value>)
+        requires { (bytes : List ℕ) × ReadsAs L.version L.spelled bytes row.now }
+        ensures { (bytes : List ℕ) (reads : ReadsAs L.version L.spelled bytes row.now) → self.new ≡ noted self.old.phase self.old reads.seen }
     {
         let host = self.of.host;
         match self.phase {
@@ -282,7 +288,7 @@ impl Attempt {
 }
 
 // What follows once a disk is done with.
-impl Attempt {
+impl<L: Layout> Attempt<L> {
     // The disks below this one are done with in the phase. Where all are, the next phase begins, or the attempt ends.
     fn go_on(&mut self, from: u8)
         requires going { self.old.end ≡ None }
@@ -334,7 +340,7 @@ impl Attempt {
             self.end = Some(End::Decided(value));
             return false;
         }
-        let Some(ballot) = ballot_above(self.of.host, self.highest) else {
+        let Some(ballot) = ballot_above::<L>(self.of.host, self.highest) else {
             self.end = Some(End::BallotsSpent);
             return false;
         };
@@ -446,8 +452,8 @@ impl Attempt {
         ensures passed { OnFalse result ((f : Answers) → IsPassed self.old.phase f self.old disk →
             IsPassed self.old.phase f self.new (disk + 1)) }
     {
-        let body = encode(self.of.host, &self.says);
-        let Ok(steps) = WriteSteps::new(&self.visits[usize::from(disk)].block, &body) else {
+        let body = encode::<L>(self.of.host, &self.says);
+        let Ok(steps) = WriteSteps::new::<L>(&self.visits[usize::from(disk)].block, &body) else {
             self.visits[usize::from(disk)].left = false;
             return false;
         };
@@ -479,9 +485,10 @@ impl Attempt {
 // The call of a write that is due.
 fn write_call(steps: &WriteSteps, place: u64, boot: Boot) -> DeviceCall<'_>
     requires due { is_some steps.now.due ≡ true }
-    requires place { place + BLOCK_LENGTH < 2 ^ 63 }
-    ensures due { device_call_of result ≡ write_due place boot.number steps.now steps.now.due }
-    ensures range { IsWithin (place + BLOCK_LENGTH) result }
+    requires size { steps.now.size ≤ COPY_ROOM }
+    requires place { place + 2 * COPY_ROOM < 2 ^ 63 }
+    ensures due { (v : Version) → device_call_of v result ≡ write_due place boot.number steps.now steps.now.due }
+    ensures range { (v : Version) → IsWithin v (place + 2 * steps.now.size) result }
 {
     match steps.next() {
         Some(BlockNeed::Write { at, bytes }) => DeviceCall::Write {

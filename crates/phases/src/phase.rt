@@ -1,4 +1,4 @@
-ghost use Rattle.std.specs.Prelude.{◌≡◌};
+ghost use Rattle.std.specs.Prelude.{◌≡◌, ℕ, List};
 ghost use Rattle.phases.specs.declared.heard.Heard.TheVariants.{Done};
 ghost use Rattle.phases.specs.Steps.{FitsStage, stage_then};
 
@@ -26,7 +26,7 @@ pub enum Stage {
 impl Stage {
     /// What comes next where a sync, or a call of a write, succeeded.
     pub fn succeed(&mut self)
-        requires { FitsStage self.old Done }
+        requires { FitsStage {R = List ℕ} self.old Done }
         ensures { self.new ≡ stage_then self.old }
     {
         match self {

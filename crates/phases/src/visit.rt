@@ -1,5 +1,5 @@
 use disk::Boot;
-use torn_block::{BODY_LENGTH, Block128, Body};
+use torn_block::Block128;
 
 /// What is kept of a disk: whether it is left, the boot number it was attached under, and the own block as it was read last.
 #[derive(Clone, Copy)]
@@ -13,12 +13,5 @@ pub struct Visit {
 pub const UNSEEN: Visit = Visit {
     left: true,
     boot: Boot { number: 0 },
-    block: Block128 {
-        current: None,
-        sequence: 0,
-        body: Body {
-            bytes: [0; BODY_LENGTH],
-        },
-        next_is_open: false,
-    },
+    block: Block128::BLANK,
 };

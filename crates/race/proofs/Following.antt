@@ -20,11 +20,11 @@ use Rattle.race.specs.declared.answer.Answer.TheVariants.{Acknowledged}
 
 -- BYTES
 
-pub first_bid : spelling (bid_of 0) ≡ (1 ∷ 0 ∷ 0 ∷ 5 ∷ 0 ∷ 2 ∷ 0 ∷ 1 ∷ 0 ∷ 0 ∷ 0 ∷ 0 ∷ 0 ∷ 0 ∷ 0 ∷ 1 ∷ 0 ∷ 100 ∷ 98 ∷ replicate 13 0)
+pub first_bid : spelling (bid_of 0) ≡ (1 ∷ 0 ∷ 0 ∷ 5 ∷ 0 ∷ 2 ∷ 0 ∷ 1 ∷ 0 ∷ 0 ∷ 0 ∷ 0 ∷ 0 ∷ 0 ∷ 0 ∷ 1 ∷ 0 ∷ 100 ∷ 98 ∷ replicate 29 0)
 unfolding number
 first_bid = refl
 
-pub third_bid : spelling (bid_of 2) ≡ (1 ∷ 2 ∷ 2 ∷ 5 ∷ 0 ∷ 2 ∷ 0 ∷ 3 ∷ 0 ∷ 0 ∷ 0 ∷ 0 ∷ 0 ∷ 0 ∷ 0 ∷ 1 ∷ 0 ∷ 100 ∷ 98 ∷ replicate 13 0)
+pub third_bid : spelling (bid_of 2) ≡ (1 ∷ 2 ∷ 2 ∷ 5 ∷ 0 ∷ 2 ∷ 0 ∷ 3 ∷ 0 ∷ 0 ∷ 0 ∷ 0 ∷ 0 ∷ 0 ∷ 0 ∷ 1 ∷ 0 ∷ 100 ∷ 98 ∷ replicate 29 0)
 unfolding number
 third_bid = refl
 

@@ -10,9 +10,9 @@ ghost use Rattle.race.specs.declared.answer.Answer.TheVariants.{Acknowledged};
 /// The bytes that the first host's bid takes in the log, and those of the third's.
 pub fn bids_are_spelled()
     ensures first { spelling (bid_of 0) ≡
-        (1 ∷ 0 ∷ 0 ∷ 5 ∷ 0 ∷ 2 ∷ 0 ∷ 1 ∷ 0 ∷ 0 ∷ 0 ∷ 0 ∷ 0 ∷ 0 ∷ 0 ∷ 1 ∷ 0 ∷ 100 ∷ 98 ∷ replicate 13 0) }
+        (1 ∷ 0 ∷ 0 ∷ 5 ∷ 0 ∷ 2 ∷ 0 ∷ 1 ∷ 0 ∷ 0 ∷ 0 ∷ 0 ∷ 0 ∷ 0 ∷ 0 ∷ 1 ∷ 0 ∷ 100 ∷ 98 ∷ replicate 29 0) }
     ensures third { spelling (bid_of 2) ≡
-        (1 ∷ 2 ∷ 2 ∷ 5 ∷ 0 ∷ 2 ∷ 0 ∷ 3 ∷ 0 ∷ 0 ∷ 0 ∷ 0 ∷ 0 ∷ 0 ∷ 0 ∷ 1 ∷ 0 ∷ 100 ∷ 98 ∷ replicate 13 0) }
+        (1 ∷ 2 ∷ 2 ∷ 5 ∷ 0 ∷ 2 ∷ 0 ∷ 3 ∷ 0 ∷ 0 ∷ 0 ∷ 0 ∷ 0 ∷ 0 ∷ 0 ∷ 1 ∷ 0 ∷ 100 ∷ 98 ∷ replicate 29 0) }
 {}
 
 /// Whatever its threads did, the hosts of a race agree, and no two bids were acknowledged at one slot.

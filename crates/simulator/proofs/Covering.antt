@@ -1,6 +1,6 @@
 -- A recovery that answers has learned all that was answered by then, or more; and so all of a report goes by it.
-use Rattle.std.specs.Prelude.{All, Contains, IfSome, take, drop, replicate, ◌*◌}
-use Rattle.std.proofs.Common.{ℕ, ◌+◌, ◌<◌, ◌≤◌, ◌≡◌, ◌⊎◌, inl, inr, true, Option, Some, None, List, [], ◌∷◌, ◌++◌, length, map, get_or, refl, sym, ap, ◌∙◌, subst, arith, append_assoc, length-append}
+use Rattle.std.specs.Prelude.{All, Contains, IfSome, take, replicate, ◌*◌}
+use Rattle.std.proofs.Common.{ℕ, ◌+◌, ◌-◌, ◌<◌, ◌≤◌, ◌≡◌, ◌⊎◌, inl, inr, true, Option, Some, None, List, [], ◌∷◌, ◌++◌, length, map, get_or, refl, sym, ap, ◌∙◌, subst, arith, append_assoc, length-append}
 use Rattle.std.specs.Option.{option_map}
 use Rattle.std.proofs.Math.Seq.{take-append_seam, take-length}
 use Rattle.std.proofs.lemmas.List.{length-map, length-take, take-append-le, get_or-map}
@@ -23,7 +23,7 @@ use Rattle.simulator.specs.declared.parts.Said.{Said}
 use Rattle.simulator.specs.Answers.{line_of, IsPicturedIn}
 use Rattle.simulator.specs.Judging.{AllGoBy}
 use Rattle.simulator.specs.Kept.{IsHost}
-use Rattle.simulator.specs.OneLog.{IsOneLog, GoesBy}
+use Rattle.simulator.specs.OneLog.{IsOneLog}
 use Rattle.simulator.specs.Past.{Past, world_of, answers_of}
 use Rattle.simulator.specs.Replayed.{GoesOn, Says, HasLearned, HasKept, IsListed, Lists}
 use Rattle.simulator.specs.Sweeping.{recovery, stops}
@@ -209,16 +209,16 @@ learned_is c h x k is = let r = running_by c h x k is in r.2.prefix ∙ sym (ap 
 
 -- Behind the stops the first host has recovered, and then the last: the longer of what they learned bears out all that was answered.
 pub ended_right : (q0 q1 q2 q3 : Past) (first last longest : List Command) (report : List Answer)
-    → GoesOn q0 q1 stops → GoesOn q1 q2 (recovery q1.shape 0) → GoesOn q2 q3 (recovery q2.shape 7) → HasLearned q1 q2 first → HasLearned q2 q3 last → Lists q3 report
+    → GoesOn q0 q1 stops → GoesOn q1 q2 (recovery q1.shape 0) → GoesOn q2 q3 (recovery q2.shape (HOSTS - 1)) → HasLearned q1 q2 first → HasLearned q2 q3 last → Lists q3 report
     → ((longest ≡ first) × (length last ≤ length first)) ⊎ (longest ≡ last) → AllGoBy longest report
 ended_right q0 q1 q2 q3 first last longest report stopped one two has_first has_last lists is_longest =
-    let rests : is_stopped ((world_of q2).host 7) ≡ true =
-    ap is_stopped (stays_behind q1 q2 0 7 one (λ same. absurd (omega (arith, same)))) ∙ stopped_behind q0 q1 7 7 stopped refl in
-    let eighth : 7 < 8 = omega arith in
-    let covered = recovery_covers q2 q3 7 last eighth rests two has_last in
+    let rests : is_stopped ((world_of q2).host (HOSTS - 1)) ≡ true =
+    ap is_stopped (stays_behind q1 q2 0 (HOSTS - 1) one (λ same. absurd (omega (arith, same)))) ∙ stopped_behind q0 q1 (HOSTS - 1) (HOSTS - 1) stopped refl in
+    let is_host : HOSTS - 1 < HOSTS = omega arith in
+    let covered = recovery_covers q2 q3 (HOSTS - 1) last is_host rests two has_last in
     elim is_longest [
       | inl is ↦ subst (λ (l : List Command). AllGoBy l report) (sym is.0)
-          (all_by q3 report first (length last) lists covered is.1 (begins_log q1 q3 first (learned_still q1 q2 q3 (recovery q2.shape 7) first two has_first)))
+          (all_by q3 report first (length last) lists covered is.1 (begins_log q1 q3 first (learned_still q1 q2 q3 (recovery q2.shape (HOSTS - 1)) first two has_first)))
       | inr is ↦ subst (λ (l : List Command). AllGoBy l report) (sym is) (all_by q3 report last (length last) lists covered (omega arith) (begins_log q2 q3 last has_last))
     ]
 

@@ -1,163 +1,24 @@
--- A learner of the log: what follows from its operations and the answers that it has heard since its start.
-use Rattle.std.specs.Prelude.{◌-◌, ℕ, Bool, true, false, List, [], ◌∷◌, ◌++◌, length, max, nat_lt, nat_le, Option, Some, None, if◌then◌else◌, bytes_eq}
+-- A learner of the log, in the cluster's layout.
+use Rattle.std.specs.Prelude.{ℕ, Bool, List, Option}
 use Rattle.disk.specs.Disk as device
-use Rattle.paxos_block.specs.declared.ballot.TheConstants.{LAST_BALLOT}
-use Rattle.attempt.specs.Answers.{Answered, on}
+use Rattle.attempt.specs.Answers.{Answered}
 use Rattle.attempt.specs.Setup.{Setup}
-use Rattle.attempt.specs.Status.{Status, Due, Ended, End, status, taken}
-use Rattle.attempt.specs.Status as attempt
-use Rattle.attempt.specs.NextCall.{next_call}
+use Rattle.torn_block.specs.Layout.{cluster_version}
 use Rattle.slot_log.specs.Shape.{Shape}
-use Rattle.slot_log.specs.declared.operation.Operation.{Operation}
-use Rattle.slot_log.specs.declared.operation.Operation.TheVariants.{Placing, Recovering, Looking}
-use Rattle.slot_log.specs.declared.outcome.Outcome.{Outcome}
-use Rattle.slot_log.specs.declared.outcome.Outcome.TheVariants.{Placed, Recovered, Looked, Refused}
-use Rattle.slot_log.specs.declared.outcome.Refusal.TheVariants as refusal
+use Rattle.slot_log.specs.layouts.Learning as by
+pub use Rattle.slot_log.specs.layouts.Learning.{Operation, operation_as, Doing, Memory, fresh, says, does, with_floor, learns, input_of, floor_for, begins, full_outcome, spent_outcome, goes_on, tries_again, ended, by_status, with_heard, goes_by, is_placed, after_learning, judged, offered_by, judges, is_idle_in}
 
--- WHAT A LEARNER KNOWS
-
--- an operation under way: its tries left, and what its attempt on the next slot has heard
-pub record Doing : Type 0 where
-  pub operation : Operation
-  pub tries : ℕ
-  pub heard : List Answered
-
--- the values learned, by slot; the floor on the next slot; and how an operation ended, where the last step ended one
-pub record Memory : Type 0 where
-  pub learned : List (List ℕ)
-  pub floor : ℕ
-  pub doing : Option Doing
-  pub said : Option Outcome
-
--- at its start a learner knows nothing
-abbrev pub fresh : Memory
-fresh = record { learned = []; floor = 0; doing = None; said = None }
-
-abbrev pub says : Memory → Outcome → Memory
-says m said = record { learned = m.learned; floor = m.floor; doing = None; said = Some said }
-
-abbrev pub does : Memory → Doing → Memory
-does m t = record { learned = m.learned; floor = m.floor; doing = Some t; said = None }
-
--- a ballot of the next slot counts from now on
-abbrev pub with_floor : Memory → ℕ → Memory
-with_floor m ballot = record { learned = m.learned; floor = max m.floor ballot; doing = None; said = None }
-
-abbrev pub learns : Memory → List ℕ → Memory
-learns m value = record { learned = m.learned ++ value ∷ []; floor = 0; doing = None; said = None }
-
--- AN OPERATION GOES ON
-
--- what an operation's attempts propose
-abbrev pub input_of : Operation → Option (List ℕ)
-input_of (Placing value) = Some value
-input_of Recovering = None
-input_of Looking = None
-
--- above what they take their ballots; those of a look have none to take, and so end with their opening
-abbrev pub floor_for : Operation → ℕ → ℕ
-floor_for (Placing value) floor = floor
-floor_for Recovering floor = floor
-floor_for Looking floor = max floor LAST_BALLOT
-
--- the attempt on the next slot
 abbrev pub setup_of : Shape → ℕ → Memory → Operation → Setup
-setup_of c h m operation = record { host = h; slot = length m.learned; disks = c.disks; floor = floor_for operation m.floor; input = input_of operation }
+setup_of = by.setup_of cluster_version
 
--- an attempt on the next slot begins
-abbrev pub begins : Memory → Operation → ℕ → Memory
-begins m operation tries = does m (record { operation = operation; tries = tries; heard = [] })
-
--- how an operation ends once all slots are learned
-abbrev pub full_outcome : Operation → ℕ → Outcome
-full_outcome (Placing value) learned = Refused refusal.LogFull
-full_outcome Recovering learned = Recovered learned
-full_outcome Looking learned = Looked learned
-
--- and once an attempt has no ballot: a look has seen that no mark tells the next slot
-abbrev pub spent_outcome : Operation → ℕ → Outcome
-spent_outcome (Placing value) learned = Refused refusal.BallotsSpent
-spent_outcome Recovering learned = Refused refusal.BallotsSpent
-spent_outcome Looking learned = Looked learned
-
--- the next slot is tried, where there is one
-abbrev pub goes_on : Shape → Memory → Operation → ℕ → Memory
-goes_on c m operation tries =
-    if nat_lt (length m.learned) c.slots then begins m operation tries else says m (full_outcome operation (length m.learned))
-
--- an outrun attempt uses one of the tries
-abbrev pub tries_again : Memory → Operation → ℕ → Memory
-tries_again m operation tries = if nat_le tries 1 then says m (Refused refusal.Outrun) else begins m operation (tries - 1)
-
--- an attempt has ended, and its ballot counts; a committed or decided value waits until it is judged
-abbrev pub ended : Memory → Doing → ℕ → End → Memory
-ended m t ballot (attempt.Committed value) = does m t
-ended m t ballot (attempt.Decided value) = does m t
-ended m t ballot attempt.Empty = says (with_floor m ballot) (Recovered (length m.learned))
-ended m t ballot (attempt.Outrun mbal) = tries_again (with_floor (with_floor m ballot) mbal) t.operation t.tries
-ended m t ballot attempt.NoMajority = says (with_floor m ballot) (Refused refusal.NoMajority)
-ended m t ballot attempt.BallotsSpent = says (with_floor m ballot) (spent_outcome t.operation (length m.learned))
-
-abbrev pub by_status : Memory → Doing → ℕ → Status → Memory
-by_status m t ballot (Due phase disk) = does m t
-by_status m t ballot (Ended end) = ended m t ballot end
-
-abbrev pub with_heard : Doing → Answered → Doing
-with_heard t x = record { operation = t.operation; tries = t.tries; heard = t.heard ++ x ∷ [] }
-
-abbrev pub goes_by : Memory → Doing → Setup → Memory
-goes_by m t s = by_status m t (taken s (on t.heard)) (status s (on t.heard))
-
--- the attempt under way hears one more answer
 abbrev pub hears : Shape → ℕ → Memory → Option Doing → Answered → Memory
-hears c h m None x = m
-hears c h m (Some t) x = goes_by m (with_heard t x) (setup_of c h m t.operation)
-
--- A VALUE IS JUDGED
-
--- whether this is the value that was to be placed
-abbrev pub is_placed : Operation → List ℕ → Bool
-is_placed (Placing wanted) value = bytes_eq wanted value
-is_placed Recovering value = false
-is_placed Looking value = false
-
--- a value that was to be placed is, once it is learned; else the next slot is tried
-abbrev pub after_learning : Shape → Memory → Doing → List ℕ → Memory
-after_learning c m t value =
-    if is_placed t.operation value then says (learns m value) (Placed (length m.learned)) else goes_on c (learns m value) t.operation t.tries
-
--- a value that is no command is not learned
-abbrev pub judged : Shape → Memory → Doing → ℕ → List ℕ → Bool → Memory
-judged c m t ballot value true = after_learning c m t value
-judged c m t ballot value false = says (with_floor m ballot) (Refused refusal.NotACommand)
-
--- the value that waits to be judged
-abbrev pub offered_by : Status → Option (List ℕ)
-offered_by (Ended (attempt.Committed value)) = Some value
-offered_by (Ended (attempt.Decided value)) = Some value
-offered_by other = None
+hears = by.hears cluster_version
 
 abbrev pub offered_in : Shape → ℕ → Memory → Option Doing → Option (List ℕ)
-offered_in c h m None = None
-offered_in c h m (Some t) = offered_by (status (setup_of c h m t.operation) (on t.heard))
+offered_in = by.offered_in cluster_version
 
-abbrev pub judges : Shape → Memory → Doing → ℕ → Option (List ℕ) → Bool → Memory
-judges c m t ballot None is_command = m
-judges c m t ballot (Some value) is_command = judged c m t ballot value is_command
-
--- it is said whether the value that waits is a command
 abbrev pub takes : Shape → ℕ → Memory → Option Doing → Bool → Memory
-takes c h m None is_command = m
-takes c h m (Some t) is_command = let s = setup_of c h m t.operation in
-    judges c m t (taken s (on t.heard)) (offered_by (status s (on t.heard))) is_command
+takes = by.takes cluster_version
 
--- WHAT A LEARNER DOES NEXT
-
-abbrev pub is_idle_in : Option Doing → Bool
-is_idle_in None = true
-is_idle_in (Some t) = false
-
--- the disk and the device call that are due; none where it is idle or a value waits
 abbrev pub next_in : Shape → ℕ → Memory → Option Doing → Option (ℕ × device.Call)
-next_in c h m None = None
-next_in c h m (Some t) = next_call (setup_of c h m t.operation) (on t.heard)
+next_in = by.next_in cluster_version

@@ -2,3 +2,4 @@ pub mod Alone
 pub mod Kept
 pub mod Learning
 pub mod Shape
+pub mod layouts

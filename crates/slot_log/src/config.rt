@@ -5,7 +5,7 @@ ghost use Rattle.paxos_block.specs.Places;
 
 use paxos_block::image_length;
 use std::marker::Model;
-use torn_block::{DISKS, SLOTS};
+use torn_block::{ClusterLayout, DISKS, SLOTS};
 
 /// How many disks a cluster has, and how many slots its log.
 #[derive(Clone, Copy, Debug, PartialEq, Eq)]
@@ -58,6 +58,6 @@ impl Config {
     pub fn image_length(self) -> u64
         ensures { result ≡ Places.image_length self.slots }
     {
-        image_length(u32::from(self.slots))
+        image_length::<ClusterLayout>(u32::from(self.slots))
     }
 }

@@ -1,73 +1,58 @@
-ghost use Rattle.std.specs.Prelude.{◌≡◌, ◌≤◌, ◌<◌, ◌+◌, ◌++◌, ◌∷◌, [], ℕ, true, false, IsTrue, ◌↔◌, IsSome, IfOk, IfSome, Option, Some, None, length, max, if◌then◌else◌};
-ghost use Rattle.torn_block.specs.declared.layout.TheConstants.{HOSTS, ROW_LENGTH};
-ghost use Rattle.paxos_block.specs.Places.{image_length};
+ghost use Rattle.std.specs.Prelude.{◌≡◌, ◌≤◌, ◌<◌, ◌+◌, ◌++◌, ◌∷◌, [], ℕ, List, true, false, IsTrue, ◌↔◌, IsSome, IfOk, IfSome, Option, Some, None, length, map, max, option_map, if◌then◌else◌};
+ghost use Rattle.torn_block.specs.Layout.{hosts_in};
+ghost use Rattle.paxos_block.specs.layouts.Places.{image_length};
 ghost use Rattle.attempt.specs.History.{Fits};
-ghost use Rattle.phases.specs.Calls.{call_of_need, heard_of, end_of, IsWithin};
-ghost use Rattle.slot_log.specs.Alone.{IsAnsweredAlone};
-ghost use Rattle.slot_log.specs.Kept.{Kept, LeadsTo, IsSameLog, is_idle, offered_of, due_call, IsOf, IsOver, KeepsLearned};
-ghost use Rattle.slot_log.specs.Learning.{Memory, Doing, fresh, says, does, begins, goes_on, tries_again, ended, hears, takes, with_floor, learns, after_learning, is_idle_in, next_in, offered_in};
+ghost use Rattle.phases.specs.layouts.Calls.{call_of_need, heard_of, end_as, end_of, IsWithin};
+ghost use Rattle.phases.specs.Room.{RowFits};
+ghost use Rattle.slot_log.specs.layouts.Alone.{IsAnsweredAlone};
+ghost use Rattle.slot_log.specs.layouts.Kept.{Kept, task_as, chosen_in, LeadsTo, IsSameLog, is_idle, offered_of, due_call, IsOf, IsOver, KeepsLearned};
+ghost use Rattle.slot_log.specs.layouts.Learning.{Memory, operation_as, Doing, fresh, says, does, begins, goes_on, tries_again, ended, hears, takes, with_floor, learns, after_learning, is_idle_in, next_in, offered_in};
 ghost use Rattle.slot_log.specs.Shape.{Shape};
 
 use crate::config::Config;
-use crate::operation::{Operation, Task};
+use crate::operation::{Operation, Task, is_placed_by};
 use crate::outcome::{Outcome, Refusal};
 use disk::NoMemory;
-use paxos_block::Value;
 use phases::{Attempt, End, Heard, Need};
 use std::alloc::Global;
 use std::marker::Model;
+use torn_block::Layout;
 
 /// What one host learns of the log: the values of its first slots, none left out.
 ///
 /// An operation makes one attempt after the other, each on the next slot. Where an attempt committed a value, no call is
 /// due until its caller has said whether the value is a command.
 #[derive(Drop)]
-pub struct Learner {
+pub struct Learner<L: Layout> {
     host: u8,
     config: Config,
-    learned: Vec<Value>,
+    learned: Vec<L::Value>,
     floor: u64,
-    task: Option<Task>,
+    task: Option<Task<L::Value>>,
     /// The attempt of the operation under way.
-    attempt: Attempt,
+    attempt: Attempt<L>,
     said: Option<Outcome>,
 }
 
-impl Model for Learner {
+impl<L: Layout> Model for Learner<L> {
     ghost use Rattle.std.specs.Prelude.{◌≤◌, vec_capacity};
-    ghost use Rattle.slot_log.specs.Kept.{Kept, IsSound};
+    ghost use Rattle.slot_log.specs.layouts.Kept.{Kept, kept_of, IsSound};
 
     ghost Value = { Kept };
 
-    ghost view = { λ l. record {
-      host = l.host;
-      shape = l.config;
-      learned = l.learned.items;
-      floor = l.floor;
-      task = l.task;
-      attempt = l.attempt;
-      said = l.said;
-    } };
+    ghost view = { λ l. kept_of L.spelled l.host l.config l.learned.items l.floor l.task l.attempt l.said };
 
     ghost invariant = { λ l. record {
-      sound : IsSound (record {
-        host = l.host;
-        shape = l.config;
-        learned = l.learned.items;
-        floor = l.floor;
-        task = l.task;
-        attempt = l.attempt;
-        said = l.said;
-      });
+      sound : IsSound L.version (kept_of L.spelled l.host l.config l.learned.items l.floor l.task l.attempt l.said);
       room : l.config.slots ≤ vec_capacity l.learned;
     } };
 }
 
-impl Learner {
+impl<L: Layout> Learner<L> {
     /// A learner that has learned nothing, with room for all slots.
-    pub fn new(alloc: Global, host: u8, config: Config) -> Result<Learner, NoMemory>
-        requires { host < HOSTS }
-        ensures { IfOk result (λ learner. LeadsTo config host fresh learner) }
+    pub fn new(alloc: Global, host: u8, config: Config) -> Result<Learner<L>, NoMemory>
+        requires { host < hosts_in L.version }
+        ensures { IfOk result (λ learner. LeadsTo L.version config host fresh learner) }
     {
         let slots = usize::from(config.slots());
         Ok(Learner {
@@ -83,7 +68,7 @@ impl Learner {
 
     /// Whether an operation may begin.
     pub fn idle(&self) -> bool
-        ensures known { (c : Shape) (h : ℕ) (m : Memory) → LeadsTo c h m self.now →
+        ensures known { (c : Shape) (h : ℕ) (m : Memory) → LeadsTo L.version c h m self.now →
             result ≡ is_idle_in m.doing }
         ensures idle { result ≡ is_idle self.now }
     {
@@ -91,10 +76,10 @@ impl Learner {
     }
 
     /// The values of the first slots.
-    pub fn learned(&self) -> &[Value]
-        ensures known { (c : Shape) (h : ℕ) (m : Memory) → LeadsTo c h m self.now →
-            result.now ≡ m.learned }
-        ensures learned { result.now ≡ self.now.learned }
+    pub fn learned(&self) -> &[L::Value]
+        ensures known { (c : Shape) (h : ℕ) (m : Memory) → LeadsTo L.version c h m self.now →
+            map L.spelled result.now ≡ m.learned }
+        ensures learned { map L.spelled result.now ≡ self.now.learned }
         ensures few { length result.now ≤ self.now.shape.slots }
     {
         &self.learned
@@ -102,7 +87,7 @@ impl Learner {
 
     /// How an operation ended, where the last call ended one.
     pub fn said(&self) -> Option<Outcome>
-        ensures known { (c : Shape) (h : ℕ) (m : Memory) → LeadsTo c h m self.now →
+        ensures known { (c : Shape) (h : ℕ) (m : Memory) → LeadsTo L.version c h m self.now →
             result ≡ m.said }
         ensures said { result ≡ self.now.said }
     {
@@ -113,8 +98,8 @@ impl Learner {
     pub fn recover(&mut self, tries: u8)
         requires idle { is_idle self.old ≡ true }
         requires tries { 1 ≤ tries }
-        ensures leads { (c : Shape) (h : ℕ) (m : Memory) → LeadsTo c h m self.old →
-            LeadsTo c h (goes_on c m Operation.Recovering tries) self.new }
+        ensures leads { (c : Shape) (h : ℕ) (m : Memory) → LeadsTo L.version c h m self.old →
+            LeadsTo L.version c h (goes_on c m Operation.Recovering tries) self.new }
         ensures same { IsSameLog self.old self.new }
         ensures judged { offered_of self.new ≡ None }
     {
@@ -125,8 +110,8 @@ impl Learner {
     /// so no host is outrun by it.
     pub fn look(&mut self)
         requires idle { is_idle self.old ≡ true }
-        ensures leads { (c : Shape) (h : ℕ) (m : Memory) → LeadsTo c h m self.old →
-            LeadsTo c h (goes_on c m Operation.Looking 1) self.new }
+        ensures leads { (c : Shape) (h : ℕ) (m : Memory) → LeadsTo L.version c h m self.old →
+            LeadsTo L.version c h (goes_on c m Operation.Looking 1) self.new }
         ensures same { IsSameLog self.old self.new }
         ensures judged { offered_of self.new ≡ None }
     {
@@ -134,11 +119,11 @@ impl Learner {
     }
 
     /// Begins to put a value into the log. Up to `tries` attempts may be outrun, the last of which ends the operation.
-    pub fn place(&mut self, value: Value, tries: u8)
+    pub fn place(&mut self, value: L::Value, tries: u8)
         requires idle { is_idle self.old ≡ true }
         requires tries { 1 ≤ tries }
-        ensures leads { (c : Shape) (h : ℕ) (m : Memory) → LeadsTo c h m self.old →
-            LeadsTo c h (goes_on c m (Operation.Placing value) tries) self.new }
+        ensures leads { (c : Shape) (h : ℕ) (m : Memory) → LeadsTo L.version c h m self.old →
+            LeadsTo L.version c h (goes_on c m (Operation.Placing (L.spelled value)) tries) self.new }
         ensures same { IsSameLog self.old self.new }
         ensures judged { offered_of self.new ≡ None }
     {
@@ -149,10 +134,10 @@ impl Learner {
     pub fn call(&self) -> Need<'_>
         requires busy { is_idle self.now ≡ false }
         requires judged { offered_of self.now ≡ None }
-        ensures next { (c : Shape) (h : ℕ) (m : Memory) → LeadsTo c h m self.now →
-            next_in c h m m.doing ≡ Some (call_of_need result) }
-        ensures due { call_of_need result ≡ due_call self.now }
-        ensures range { IsWithin (image_length self.now.shape.slots) result.call }
+        ensures next { (c : Shape) (h : ℕ) (m : Memory) → LeadsTo L.version c h m self.now →
+            next_in L.version c h m m.doing ≡ Some (call_of_need L.version result) }
+        ensures due { call_of_need L.version result ≡ due_call self.now }
+        ensures range { IsWithin L.version (image_length L.version self.now.shape.slots) result.call }
         ensures disk { result.disk < self.now.shape.disks }
     {
         self.attempt.call()
@@ -160,15 +145,16 @@ impl Learner {
 
     /// Hears the answer to the call that is due.
     #[inline(always)]
-    pub fn hear(&mut self, heard: &Heard<'_>)
+    pub fn hear(&mut self, heard: &Heard<'_, L::Row>)
         requires busy { is_idle self.old ≡ false }
         requires judged { offered_of self.old ≡ None }
-        requires fits { Fits (due_call self.old).1 (heard_of heard.now) }
-        ensures leads { (c : Shape) (h : ℕ) (m : Memory) → LeadsTo c h m self.old →
-            LeadsTo c h (hears c h m m.doing (record { disk = (due_call self.old).0; heard = heard_of heard.now })) self.new }
+        requires room { RowFits L.Value.row }
+        requires fits { Fits (due_call self.old).1 (heard_of L.version L.row_bytes heard.now) }
+        ensures leads { (c : Shape) (h : ℕ) (m : Memory) → LeadsTo L.version c h m self.old →
+            LeadsTo L.version c h (hears L.version c h m m.doing (record { disk = (due_call self.old).0; heard = heard_of L.version L.row_bytes heard.now })) self.new }
         // By Committed, Decided, Empty or BallotsSpent within 17 calls a disk, if no other host makes a call on the slot meanwhile.
-        ensures alone { (c : Shape) (h : ℕ) (m : Memory) → LeadsTo c h m self.old →
-            IsAnsweredAlone c h m m.doing (record { disk = (due_call self.old).0; heard = heard_of heard.now }) }
+        ensures alone { (c : Shape) (h : ℕ) (m : Memory) → LeadsTo L.version c h m self.old →
+            IsAnsweredAlone L.version c h m m.doing (record { disk = (due_call self.old).0; heard = heard_of L.version L.row_bytes heard.now }) }
         ensures same { IsSameLog self.old self.new }
     {
         self.attempt.hear(heard);
@@ -192,28 +178,24 @@ impl Learner {
     }
 
     /// The value that an attempt committed, or was told to be decided, until it is judged.
-    pub fn offered(&self) -> Option<Value>
-        ensures value { (c : Shape) (h : ℕ) (m : Memory) → LeadsTo c h m self.now →
-            result ≡ offered_in c h m m.doing }
-        ensures waits { result ≡ offered_of self.now }
+    pub fn offered(&self) -> Option<L::Value>
+        ensures value { (c : Shape) (h : ℕ) (m : Memory) → LeadsTo L.version c h m self.now →
+            option_map L.spelled result ≡ offered_in L.version c h m m.doing }
+        ensures waits { option_map L.spelled result ≡ offered_of self.now }
         ensures room { IsSome result → length self.now.learned < self.now.shape.slots }
     {
         if self.task.is_none() {
             return None;
         }
-        match self.attempt.end() {
-            Some(End::Committed(value)) => Some(value),
-            Some(End::Decided(value)) => Some(value),
-            _ => None,
-        }
+        chosen(self.attempt.end())
     }
 
     /// Says whether the value that is offered is a command. If so it is learned, and the operation goes on or has placed
     /// its value; else the operation ends.
     pub fn take(&mut self, is_command: bool)
         requires { IsSome (offered_of self.old) }
-        ensures leads { (c : Shape) (h : ℕ) (m : Memory) → LeadsTo c h m self.old →
-            LeadsTo c h (takes c h m m.doing is_command) self.new }
+        ensures leads { (c : Shape) (h : ℕ) (m : Memory) → LeadsTo L.version c h m self.old →
+            LeadsTo L.version c h (takes L.version c h m m.doing is_command) self.new }
         ensures learned { IfSome (offered_of self.old) (λ value.
             self.new.learned ≡ self.old.learned ++ (if is_command then value ∷ [] else [])) }
         ensures same { (self.new.host ≡ self.old.host) × (self.new.shape ≡ self.old.shape) }
@@ -235,13 +217,13 @@ impl Learner {
     }
 }
 
-impl Learner {
+impl<L: Layout> Learner<L> {
     // Tries the next slot, where there is one.
-    fn go_on(&mut self, operation: Operation, tries: u8)
+    fn go_on(&mut self, operation: Operation<L::Value>, tries: u8)
         requires idle { is_idle self.old ≡ true }
         requires tries { 1 ≤ tries }
-        ensures leads { (c : Shape) (h : ℕ) (m : Memory) → LeadsTo c h m self.old →
-            LeadsTo c h (goes_on c m operation tries) self.new }
+        ensures leads { (c : Shape) (h : ℕ) (m : Memory) → LeadsTo L.version c h m self.old →
+            LeadsTo L.version c h (goes_on c m (operation_as L.spelled operation) tries) self.new }
         ensures same { IsSameLog self.old self.new }
         ensures judged { offered_of self.new ≡ None }
     {
@@ -254,11 +236,11 @@ impl Learner {
     }
 
     // Begins an attempt on the next slot.
-    fn begin(&mut self, operation: Operation, tries: u8)
+    fn begin(&mut self, operation: Operation<L::Value>, tries: u8)
         requires slot { length self.old.learned < self.old.shape.slots }
         requires tries { 1 ≤ tries }
-        ensures leads { (c : Shape) (h : ℕ) (m : Memory) → LeadsTo c h m self.old →
-            LeadsTo c h (begins m operation tries) self.new }
+        ensures leads { (c : Shape) (h : ℕ) (m : Memory) → LeadsTo L.version c h m self.old →
+            LeadsTo L.version c h (begins m (operation_as L.spelled operation) tries) self.new }
         ensures same { IsSameLog self.old self.new }
         ensures judged { offered_of self.new ≡ None }
     {
@@ -289,13 +271,13 @@ impl Learner {
 
     // An attempt has ended, without a value. Few answers end one, so this is out of the way of the others.
     #[inline(never)]
-    fn end(&mut self, end: End, task: Task)
+    fn end(&mut self, end: End<L::Value>, task: Task<L::Value>)
         requires idle { is_idle self.old ≡ true }
         requires tries { 1 ≤ task.tries }
         requires slot { length self.old.learned < self.old.shape.slots }
-        requires over { IsOver end }
-        ensures leads { (c : Shape) (h : ℕ) (m : Memory) (t : Doing) (ballot : ℕ) → IsOf t task →
-            LeadsTo c h (with_floor m ballot) self.old → LeadsTo c h (ended m t ballot (end_of end)) self.new }
+        requires over { IsOver (end_as L.spelled end) }
+        ensures leads { (c : Shape) (h : ℕ) (m : Memory) (t : Doing) (ballot : ℕ) → IsOf t (task_as L.spelled task) →
+            LeadsTo L.version c h (with_floor m ballot) self.old → LeadsTo L.version c h (ended m t ballot (end_of (end_as L.spelled end))) self.new }
         ensures same { IsSameLog self.old self.new }
     {
         match end {
@@ -321,13 +303,13 @@ impl Learner {
     }
 
     // Learns the next slot's value.
-    fn learn(&mut self, value: Value, task: Task)
+    fn learn(&mut self, value: L::Value, task: Task<L::Value>)
         requires idle { is_idle self.old ≡ true }
         requires tries { 1 ≤ task.tries }
         requires slot { length self.old.learned < self.old.shape.slots }
-        ensures leads { (c : Shape) (h : ℕ) (m : Memory) (t : Doing) → IsOf t task → KeepsLearned c h m self.old →
-            LeadsTo c h (after_learning c m t value) self.new }
-        ensures learned { self.new.learned ≡ self.old.learned ++ value ∷ [] }
+        ensures leads { (c : Shape) (h : ℕ) (m : Memory) (t : Doing) → IsOf t (task_as L.spelled task) → KeepsLearned c h m self.old →
+            LeadsTo L.version c h (after_learning c m t (L.spelled value)) self.new }
+        ensures learned { self.new.learned ≡ self.old.learned ++ L.spelled value ∷ [] }
         ensures same { (self.new.host ≡ self.old.host) × (self.new.shape ≡ self.old.shape) }
         ensures judged { offered_of self.new ≡ None }
     {
@@ -335,11 +317,25 @@ impl Learner {
         self.learned.push_reserved(value);
         self.floor = 0;
         self.said = None;
-        if task.operation.is_placed_by(&value) {
+        if is_placed_by::<L>(&task.operation, &value) {
             self.finish(Outcome::Placed { slot });
         } else {
             self.go_on(task.operation, task.tries);
         }
+    }
+}
+
+// The value that an end tells, of those that wait to be judged.
+fn chosen<V: Copy>(end: Option<End<V>>) -> Option<V>
+    ensures { (spelled : V → List ℕ) → option_map spelled result ≡ chosen_in (option_map (end_as spelled) end) }
+{
+    match end? {
+        End::Committed(value) => Some(value),
+        End::Decided(value) => Some(value),
+        End::Empty => None,
+        End::Outrun(_) => None,
+        End::NoMajority => None,
+        End::BallotsSpent => None,
     }
 }
 

@@ -1,11 +1,15 @@
+ghost use Rattle.std.specs.Prelude.{◌≡◌};
+ghost use Rattle.slot_log.specs.layouts.Learning.{operation_as, is_placed};
+
 use crate::outcome::{Outcome, Refusal};
-use paxos_block::{LAST_BALLOT, Value};
+use paxos_block::LAST_BALLOT;
+use torn_block::Layout;
 
 /// What a learner is asked to do.
 #[derive(Clone, Copy, Debug, PartialEq, Eq)]
-pub enum Operation {
+pub enum Operation<V> {
     /// To put this value into the log.
-    Placing(Value),
+    Placing(V),
     /// To learn all that is in the log.
     Recovering,
     /// To learn what marks tell, and to write nothing.
@@ -14,19 +18,19 @@ pub enum Operation {
 
 /// An operation under way.
 #[derive(Clone, Copy, Debug)]
-pub struct Task {
-    pub operation: Operation,
+pub struct Task<V> {
+    pub operation: Operation<V>,
     /// How many attempts may be outrun from now on, the last of which ends the operation.
     pub tries: u8,
 }
 
-impl Operation {
-    ghost use Rattle.std.specs.Prelude.{◌≡◌};
-    ghost use Rattle.slot_log.specs.Learning.{input_of, floor_for, is_placed, full_outcome, spent_outcome};
+impl<V: Copy> Operation<V> {
+    ghost use Rattle.std.specs.Prelude.{◌≡◌, ℕ, List, option_map};
+    ghost use Rattle.slot_log.specs.layouts.Learning.{operation_as, input_of, floor_for, full_outcome, spent_outcome};
 
     /// What its attempts propose.
-    pub fn input(&self) -> Option<Value>
-        ensures { result ≡ input_of self.now }
+    pub fn input(&self) -> Option<V>
+        ensures { (spelled : V → List ℕ) → option_map spelled result ≡ input_of (operation_as spelled self.now) }
     {
         match self {
             Operation::Placing(value) => Some(*value),
@@ -37,7 +41,7 @@ impl Operation {
 
     /// The number above which its attempts take their ballots. A look has none to take, so that it ends with the opening.
     pub fn floor(&self, floor: u64) -> u64
-        ensures { result ≡ floor_for self.now floor }
+        ensures { (spelled : V → List ℕ) → result ≡ floor_for (operation_as spelled self.now) floor }
     {
         match self {
             Operation::Placing(_) => floor,
@@ -46,20 +50,9 @@ impl Operation {
         }
     }
 
-    /// Whether this is the value that was to be placed.
-    pub fn is_placed_by(&self, value: &Value) -> bool
-        ensures { result ≡ is_placed self.now value.now }
-    {
-        match self {
-            Operation::Placing(wanted) => *wanted == *value,
-            Operation::Recovering => false,
-            Operation::Looking => false,
-        }
-    }
-
     /// How it ends where so many slots are learned, and they are all.
     pub fn outcome_when_full(&self, learned: u16) -> Outcome
-        ensures { result ≡ full_outcome self.now learned }
+        ensures { (spelled : V → List ℕ) → result ≡ full_outcome (operation_as spelled self.now) learned }
     {
         match self {
             Operation::Placing(_) => Outcome::Refused(Refusal::LogFull),
@@ -70,12 +63,23 @@ impl Operation {
 
     /// How it ends where so many slots are learned, and the attempt on the next one has no ballot.
     pub fn outcome_without_ballot(&self, length: u16) -> Outcome
-        ensures { result ≡ spent_outcome self.now length }
+        ensures { (spelled : V → List ℕ) → result ≡ spent_outcome (operation_as spelled self.now) length }
     {
         match self {
             Operation::Placing(_) => Outcome::Refused(Refusal::BallotsSpent),
             Operation::Recovering => Outcome::Refused(Refusal::BallotsSpent),
             Operation::Looking => Outcome::Looked { length },
         }
+    }
+}
+
+/// Whether this is the value that was to be placed.
+pub fn is_placed_by<L: Layout>(operation: &Operation<L::Value>, value: &L::Value) -> bool
+    ensures { result ≡ is_placed (operation_as L.spelled operation.now) (L.spelled value.now) }
+{
+    match operation {
+        Operation::Placing(wanted) => L::is_same(wanted, value),
+        Operation::Recovering => false,
+        Operation::Looking => false,
     }
 }

@@ -659,6 +659,9 @@ fn harms<N: Named, R: Wait + Clock>(rt: &R, cluster: &Cluster<'_, N, SimDisk>) -
     Some(())
 }
 
+// How many hosts crowd the disks.
+const CROWD: usize = 8;
+
 // Eight hosts over five disks, with a thread that does harm to the disks.
 fn crowded<N: Named + Send + Sync, R: Threads + Wait + Clock + Sync>(
     rt: &R,
@@ -675,15 +678,14 @@ fn crowded<N: Named + Send + Sync, R: Threads + Wait + Clock + Sync>(
     let left = map_indices(
         rt,
         alloc,
-        9,
+        CROWD + 1,
         &|i: usize| -> Option<HostSeat<N>> {
-            match u8::try_from(i).ok().and_then(HostNumber::new) {
-                Some(host) => works(rt, alloc, shared, host, rounds),
-                None => {
-                    let _ = harms(rt, shared);
-                    None
-                }
+            if i == CROWD {
+                let _ = harms(rt, shared);
+                return None;
             }
+            let host = u8::try_from(i).ok().and_then(HostNumber::new)?;
+            works(rt, alloc, shared, host, rounds)
         },
     )
     .ok()?;

@@ -17,7 +17,7 @@ step 0 7
 # Host 1 votes at ballot 2, and nobody has passed it: its command has the slot.
 step 1 7
 
-# Host 0 tries the slot again, with ballot 9. It finds two votes, its own at 1 and host 1's at 2. It has to propose the one
+# Host 0 tries the slot again, with ballot 17. It finds two votes, its own at 1 and host 1's at 2. It has to propose the one
 # of the greater ballot, and learns that command.
 step 0 17
 

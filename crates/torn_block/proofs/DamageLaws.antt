@@ -3,15 +3,16 @@ use Rattle.std.specs.Prelude.{◌≡◌, ◌==◌, ◌&&◌, ◌||◌, ◌^◌, 
 use Rattle.std.proofs.Common.{sym, ap, ◌∙◌, arith, inl, inr, length-append, length-drop, append_assoc}
 use Rattle.std.proofs.lemmas.List.{take_at, drop_at, drop-drop, take-append-drop, length-take-le, drop_more}
 use Rattle.std.proofs.lemmas.Bool.{and_parts, and_from, leb-true, le-leb, eqb-true, eq-eqb, or_cases, or_parts, not-true, not-false, both_ways}
-use Rattle.torn_block.specs.declared.layout.TheConstants.{BLOCK_LENGTH, BODY_LENGTH, COPY_LENGTH, TAIL_LENGTH}
+use Rattle.torn_block.specs.Layout.{Version, block_length, body_length, copy_length, tail_length}
+use Rattle.torn_block.proofs.LayoutLaws.{long_copy}
 use Rattle.torn_block.specs.declared.block.Half.{Half}
 use Rattle.torn_block.specs.declared.block.Half.TheVariants.{First, Second}
-use Rattle.torn_block.specs.Block.{is_open, sequence_of, body_of, tail_with, number_bytes, copy_of}
+use Rattle.torn_block.specs.layouts.Block.{is_open, sequence_of, body_of, tail_with, number_bytes, copy_of}
 use Rattle.byteorder.specs.Numbers.{length-bytes_high_first}
 use Rattle.std.proofs.lemmas.List.{length-take}
 use Rattle.torn_block.specs.Numbers.{AreBytes}
 use Rattle.torn_block.proofs.NumberLaws.{AreBytes-drop, AreBytes-take, spelled_8}
-use Rattle.torn_block.specs.Damage.{first_of, second_of, IsSequence, IsSoundBlock, HasTwins, IsDamagedBlock, is_sequence, has_fault, has_twins, is_damaged}
+use Rattle.torn_block.specs.layouts.Damage.{first_of, second_of, IsSequence, IsSoundBlock, HasTwins, IsDamagedBlock, is_sequence, has_fault, has_twins, is_damaged}
 
 pub is_sequence_tells : (number : ℕ) → is_sequence number ≡ true → IsSequence number
 is_sequence_tells number t =
@@ -24,17 +25,17 @@ is_sequence_since number is =
 
 -- ---- an open copy is spelled by its sequence number and its body
 
-module _ (copy : List ℕ) (long : length copy ≡ COPY_LENGTH) where
+module _ (v : Version) (copy : List ℕ) (long : length copy ≡ copy_length v) where
   front : length (take 7 (drop 1 copy)) ≡ 7
-  front = length-take-le 7 (drop 1 copy) (omega (arith, length-drop 1 copy))
+  front = length-take-le 7 (drop 1 copy) (omega (arith, long_copy v, length-drop 1 copy))
 
-  pub length-body_of : length (body_of copy) ≡ BODY_LENGTH
+  pub length-body_of : length (body_of copy) ≡ body_length v
   unfolding body_of
-  length-body_of = omega (arith, length-append (take 7 (drop 1 copy)) (drop 16 copy), length-drop 16 copy, front)
+  length-body_of = omega (arith, long_copy v, length-append (take 7 (drop 1 copy)) (drop 16 copy), length-drop 16 copy, front)
 
   number_stands : AreBytes copy → number_bytes (sequence_of copy) ≡ take 8 (drop 8 copy)
   unfolding sequence_of number_bytes
-  number_stands fits = spelled_8 (drop 8 copy) (AreBytes-drop 8 copy fits) (omega (arith, length-drop 8 copy))
+  number_stands fits = spelled_8 (drop 8 copy) (AreBytes-drop 8 copy fits) (omega (arith, long_copy v, length-drop 8 copy))
 
   body_front : take 7 (body_of copy) ≡ take 7 (drop 1 copy)
   unfolding body_of
@@ -62,69 +63,69 @@ module _ (copy : List ℕ) (long : length copy ≡ COPY_LENGTH) where
   pub open_copy_spelled : AreBytes copy → is_open copy ≡ true → copy ≡ 165 ∷ tail_with (sequence_of copy) (body_of copy)
   open_copy_spelled fits opened =
       let gate : slice_index copy 0 ≡ 165 = eqb-true (slice_index copy 0) 165 opened in
-      drop_more copy 0 0 (omega arith) ∙ ap (λ (g : ℕ). g ∷ drop 1 copy) gate ∙ ap (λ (l : List ℕ). 165 ∷ l) (sym (tail_spelled fits))
+      drop_more copy 0 0 (omega (arith, long_copy v)) ∙ ap (λ (g : ℕ). g ∷ drop 1 copy) gate ∙ ap (λ (l : List ℕ). 165 ∷ l) (sym (tail_spelled fits))
 
 -- a body is as long as the tail that it spells, but for the number
-pub long_body : (sequence : ℕ) (body : List ℕ) → length (tail_with sequence body) ≡ TAIL_LENGTH → length body ≡ BODY_LENGTH
+pub long_body : (v : Version) → (sequence : ℕ) (body : List ℕ) → length (tail_with sequence body) ≡ tail_length v → length body ≡ body_length v
 unfolding tail_with number_bytes
-long_body sequence body long =
-    omega (arith, long, length-append (take 7 body ++ number_bytes sequence) (drop 7 body), length-append (take 7 body) (number_bytes sequence), length-bytes_high_first 8 sequence, length-take 7 body, length-drop 7 body)
+long_body v sequence body long =
+    omega (arith, long, long_copy v, length-append (take 7 body ++ number_bytes sequence) (drop 7 body), length-append (take 7 body) (number_bytes sequence), length-bytes_high_first 8 sequence, length-take 7 body, length-drop 7 body)
 
 -- ---- blocks
 
-module _ (IsSound : List ℕ → Type 0) (is_sound : List ℕ → Bool) where
+module _ (v : Version) (IsSound : List ℕ → Type 0) (is_sound : List ℕ → Bool) where
   -- the test holds of what is sound
   abbrev pub Since : Type 0
-  Since = (copy : List ℕ) → length copy ≡ COPY_LENGTH → IsSound copy → is_sound copy ≡ true
+  Since = (copy : List ℕ) → length copy ≡ copy_length v → IsSound copy → is_sound copy ≡ true
 
   -- an open copy of which it holds is sound
   abbrev pub Tells : Type 0
-  Tells = (copy : List ℕ) → length copy ≡ COPY_LENGTH → AreBytes copy → is_open copy ≡ true → is_sound copy ≡ true → IsSound copy
+  Tells = (copy : List ℕ) → length copy ≡ copy_length v → AreBytes copy → is_open copy ≡ true → is_sound copy ≡ true → IsSound copy
 
-  fault_tells : Since → (copy : List ℕ) → length copy ≡ COPY_LENGTH → has_fault is_sound copy ≡ true → (is_open copy ≡ true) × ¬ IsSound copy
+  fault_tells : Since → (copy : List ℕ) → length copy ≡ copy_length v → has_fault is_sound copy ≡ true → (is_open copy ≡ true) × ¬ IsSound copy
   fault_tells since copy long t =
       let a = and_parts (is_open copy) (not (is_sound copy)) t in
       (a.0, λ sound. both_ways (is_sound copy) (not-true (is_sound copy) a.1) (since copy long sound))
 
-  twins_tell : (block : List ℕ) → has_twins (first_of block) (second_of block) ≡ true → HasTwins block
+  twins_tell : (block : List ℕ) → has_twins (first_of v block) (second_of v block) ≡ true → HasTwins v block
   twins_tell block t =
-      let a = and_parts (is_open (first_of block) && is_open (second_of block)) (sequence_of (first_of block) == sequence_of (second_of block)) t in
-      let b = and_parts (is_open (first_of block)) (is_open (second_of block)) a.0 in
-      (b.0, b.1, eqb-true (sequence_of (first_of block)) (sequence_of (second_of block)) a.1)
+      let a = and_parts (is_open (first_of v block) && is_open (second_of v block)) (sequence_of (first_of v block) == sequence_of (second_of v block)) t in
+      let b = and_parts (is_open (first_of v block)) (is_open (second_of v block)) a.0 in
+      (b.0, b.1, eqb-true (sequence_of (first_of v block)) (sequence_of (second_of v block)) a.1)
 
-  pub damaged_tells : Since → (block : List ℕ) → length block ≡ BLOCK_LENGTH → is_damaged is_sound (first_of block) (second_of block) ≡ true → IsDamagedBlock IsSound block
+  pub damaged_tells : Since → (block : List ℕ) → length block ≡ block_length v → is_damaged is_sound (first_of v block) (second_of v block) ≡ true → IsDamagedBlock v IsSound block
   damaged_tells since block long t =
-      elim (or_cases (has_fault is_sound (first_of block) || has_fault is_sound (second_of block)) (has_twins (first_of block) (second_of block)) t) [
+      elim (or_cases (has_fault is_sound (first_of v block) || has_fault is_sound (second_of v block)) (has_twins (first_of v block) (second_of v block)) t) [
         | inl fault ↦
-            elim (or_cases (has_fault is_sound (first_of block)) (has_fault is_sound (second_of block)) fault) [
-              | inl f ↦ (let told = fault_tells since (take COPY_LENGTH block) (length-take-le COPY_LENGTH block (omega arith)) f in inl (First, told.0, told.1))
-              | inr f ↦ (let told = fault_tells since (drop COPY_LENGTH block) (omega (arith, length-drop COPY_LENGTH block)) f in inl (Second, told.0, told.1))
+            elim (or_cases (has_fault is_sound (first_of v block)) (has_fault is_sound (second_of v block)) fault) [
+              | inl f ↦ (let told = fault_tells since (take (copy_length v) block) (length-take-le (copy_length v) block (omega arith)) f in inl (First, told.0, told.1))
+              | inr f ↦ (let told = fault_tells since (drop (copy_length v) block) (omega (arith, length-drop (copy_length v) block)) f in inl (Second, told.0, told.1))
             ]
         | inr twins ↦ inr (twins_tell block twins)
       ]
 
-  no_fault_tells : Tells → (copy : List ℕ) → length copy ≡ COPY_LENGTH → AreBytes copy → has_fault is_sound copy ≡ false → is_open copy ≡ true → IsSound copy
+  no_fault_tells : Tells → (copy : List ℕ) → length copy ≡ copy_length v → AreBytes copy → has_fault is_sound copy ≡ false → is_open copy ≡ true → IsSound copy
   no_fault_tells tells copy long fits t opened =
       tells copy long fits opened (not-false (is_sound copy) (ap (λ (b : Bool). b && not (is_sound copy)) (sym opened) ∙ t))
 
-  sound_copies : Tells → (block : List ℕ) → length block ≡ BLOCK_LENGTH → AreBytes block → has_fault is_sound (first_of block) ≡ false → has_fault is_sound (second_of block) ≡ false → (half : Half) → is_open (copy_of half block) ≡ true → IsSound (copy_of half block)
+  sound_copies : Tells → (block : List ℕ) → length block ≡ block_length v → AreBytes block → has_fault is_sound (first_of v block) ≡ false → has_fault is_sound (second_of v block) ≡ false → (half : Half) → is_open (copy_of v half block) ≡ true → IsSound (copy_of v half block)
   sound_copies tells block long fits f s First opened =
-      no_fault_tells tells (take COPY_LENGTH block) (length-take-le COPY_LENGTH block (omega arith)) (AreBytes-take COPY_LENGTH block fits) f opened
+      no_fault_tells tells (take (copy_length v) block) (length-take-le (copy_length v) block (omega arith)) (AreBytes-take (copy_length v) block fits) f opened
   sound_copies tells block long fits f s Second opened =
-      no_fault_tells tells (drop COPY_LENGTH block) (omega (arith, length-drop COPY_LENGTH block)) (AreBytes-drop COPY_LENGTH block fits) s opened
+      no_fault_tells tells (drop (copy_length v) block) (omega (arith, length-drop (copy_length v) block)) (AreBytes-drop (copy_length v) block fits) s opened
 
-  pub sound_block_tells : Tells → (block : List ℕ) → length block ≡ BLOCK_LENGTH → AreBytes block → is_damaged is_sound (first_of block) (second_of block) ≡ false → IsSoundBlock IsSound block
+  pub sound_block_tells : Tells → (block : List ℕ) → length block ≡ block_length v → AreBytes block → is_damaged is_sound (first_of v block) (second_of v block) ≡ false → IsSoundBlock v IsSound block
   sound_block_tells tells block long fits t =
-      let a = or_parts (has_fault is_sound (first_of block) || has_fault is_sound (second_of block)) (has_twins (first_of block) (second_of block)) t in
-      let b = or_parts (has_fault is_sound (first_of block)) (has_fault is_sound (second_of block)) a.0 in
+      let a = or_parts (has_fault is_sound (first_of v block) || has_fault is_sound (second_of v block)) (has_twins (first_of v block) (second_of v block)) t in
+      let b = or_parts (has_fault is_sound (first_of v block)) (has_fault is_sound (second_of v block)) a.0 in
       record {
         copies = sound_copies tells block long fits b.0 b.1;
         apart =
             λ o p same.
-            both_ways (has_twins (first_of block) (second_of block)) a.1 (and_from (is_open (first_of block) && is_open (second_of block)) (sequence_of (first_of block) == sequence_of (second_of block)) (and_from (is_open (first_of block)) (is_open (second_of block)) o p) (eq-eqb (sequence_of (first_of block)) (sequence_of (second_of block)) same));
+            both_ways (has_twins (first_of v block) (second_of v block)) a.1 (and_from (is_open (first_of v block) && is_open (second_of v block)) (sequence_of (first_of v block) == sequence_of (second_of v block)) (and_from (is_open (first_of v block)) (is_open (second_of v block)) o p) (eq-eqb (sequence_of (first_of v block)) (sequence_of (second_of v block)) same));
       }
 
   -- not both
-  pub sound_is_not_damaged : (block : List ℕ) → IsSoundBlock IsSound block → IsDamagedBlock IsSound block → ⊥
+  pub sound_is_not_damaged : (block : List ℕ) → IsSoundBlock v IsSound block → IsDamagedBlock v IsSound block → ⊥
   sound_is_not_damaged block sound (inl fault) = fault.2 (sound.copies fault.0 fault.1)
   sound_is_not_damaged block sound (inr twins) = sound.apart twins.0 twins.1 twins.2

@@ -1,17 +1,14 @@
--- A block at its place among the bytes of a disk.
-use Rattle.std.specs.Prelude.{◌+◌, ℕ, List, slice_range}
-use Rattle.torn_block.specs.declared.layout.TheConstants.{BLOCK_LENGTH, COPY_LENGTH}
+-- A block at its place among the bytes of a disk, in the cluster's layout.
+use Rattle.std.specs.Prelude.{ℕ, List}
 use Rattle.torn_block.specs.declared.block.Half.{Half}
-use Rattle.torn_block.specs.declared.block.Half.TheVariants.{First, Second}
-use Rattle.torn_block.specs.Block.{copy_of}
+use Rattle.torn_block.specs.Layout.{cluster_version}
+use Rattle.torn_block.specs.layouts.Place as by
 
--- the block's bytes
 abbrev pub block_in : ℕ → List ℕ → List ℕ
-block_in place bytes = slice_range bytes place (place + BLOCK_LENGTH)
+block_in = by.block_in cluster_version
 
 abbrev pub offset_of : Half → ℕ
-offset_of First = 0
-offset_of Second = COPY_LENGTH
+offset_of = by.offset_of cluster_version
 
-unfoldable pub copy_in : Half → ℕ → List ℕ → List ℕ
-copy_in half place bytes = copy_of half (block_in place bytes)
+abbrev pub copy_in : Half → ℕ → List ℕ → List ℕ
+copy_in = by.copy_in cluster_version

@@ -2,29 +2,30 @@
 use Rattle.std.specs.Prelude.{◌≡◌, ◌⊎◌, ◌+◌, ◌<◌, ◌^◌, ℕ, true, false, List, [], ◌∷◌, length, drop, Option, Some, None, if◌then◌else◌}
 use Rattle.disk.specs.Disk.{DiskState, Call, Write, Sync}
 use Rattle.disk.specs.Crash.{MayLeave, IsWhole}
-use Rattle.torn_block.specs.declared.layout.TheConstants.{BLOCK_LENGTH, BODY_LENGTH}
+use Rattle.torn_block.specs.Layout.{Version, body_length, block_length}
 use Rattle.torn_block.specs.declared.write_steps.WriteCall.{WriteCall}
 use Rattle.torn_block.specs.declared.write_steps.WriteCall.TheVariants.{CloseGate, SyncClosed, PutBody, SyncBody, OpenGate, SyncOpened}
-use Rattle.torn_block.specs.Block.{is_open, tail_with, other, copy_of, value_of, target_of, next_sequence}
-use Rattle.torn_block.specs.Place.{block_in, copy_in, offset_of}
-use Rattle.torn_block.specs.Register.{Value, Register, LiesOn}
+use Rattle.torn_block.specs.layouts.Block.{is_open, tail_with, other, copy_of, value_of, target_of, next_sequence}
+use Rattle.torn_block.specs.layouts.Place.{block_in, copy_in, offset_of}
+use Rattle.torn_block.specs.layouts.Register.{Value, Register, LiesOn}
 
--- A block that is written: its place, its bytes as its owner read them, and the new body.
+-- A block that is written: its layout and its place, its bytes as its owner read them, and the new body.
 pub record Write128 : Type 0 where
+  pub version : Version
   pub place : ℕ
   pub block : List ℕ
   pub body : List ℕ
 
 -- where the gate of the copy to be written stands
 abbrev pub gate_of : Write128 → ℕ
-gate_of w = w.place + offset_of (target_of w.block)
+gate_of w = w.place + offset_of w.version (target_of w.version w.block)
 
 -- 0x00 closes an open gate; a closed one is not touched
 abbrev pub closing : Write128 → List ℕ
-closing w = if is_open (copy_of (target_of w.block) w.block) then 0 ∷ [] else []
+closing w = if is_open (copy_of w.version (target_of w.version w.block) w.block) then 0 ∷ [] else []
 
 abbrev pub new_tail : Write128 → List ℕ
-new_tail w = tail_with (next_sequence w.block) w.body
+new_tail w = tail_with (next_sequence w.version w.block) w.body
 
 -- the device calls under a boot number
 abbrev pub call_of : WriteCall → Write128 → ℕ → Call
@@ -45,10 +46,10 @@ next_call SyncOpened = None
 
 -- the value as its owner read it, the new one, and the register that has both
 abbrev pub old_value : Write128 → Value
-old_value w = value_of w.block
+old_value w = value_of w.version w.block
 
 abbrev pub new_value : Write128 → Value
-new_value w = Some (next_sequence w.block, w.body)
+new_value w = Some (next_sequence w.version w.block, w.body)
 
 -- while it is written
 abbrev pub in_writing : Write128 → Register
@@ -56,8 +57,8 @@ in_writing w = record { confirmed = old_value w; writing = Some (new_value w) }
 
 -- what the block may be among the bytes that a crash leaves while this call is due: the other copy is as it was, and ..
 abbrev pub MayBe : WriteCall → Write128 → List ℕ → Type 0
-MayBe CloseGate w target = target ≡ copy_of (target_of w.block) w.block
-MayBe SyncClosed w target = (target ≡ copy_of (target_of w.block) w.block) ⊎ (is_open target ≡ false)
+MayBe CloseGate w target = target ≡ copy_of w.version (target_of w.version w.block) w.block
+MayBe SyncClosed w target = (target ≡ copy_of w.version (target_of w.version w.block) w.block) ⊎ (is_open target ≡ false)
 MayBe PutBody w target = is_open target ≡ false
 MayBe SyncBody w target = is_open target ≡ false
 MayBe OpenGate w target = (is_open target ≡ false) × (drop 1 target ≡ new_tail w)
@@ -78,8 +79,8 @@ IsNow SyncOpened w target = IsWritten w target
 
 -- among these bytes the other copy is as it was, and the copy to be written has P
 pub record Copies (w : Write128) (P : List ℕ → Type 0) (bytes : List ℕ) : Type 0 where
-  pub kept : copy_in (other (target_of w.block)) w.place bytes ≡ copy_of (other (target_of w.block)) w.block
-  pub target : P (copy_in (target_of w.block) w.place bytes)
+  pub kept : copy_in w.version (other (target_of w.version w.block)) w.place bytes ≡ copy_of w.version (other (target_of w.version w.block)) w.block
+  pub target : P (copy_in w.version (target_of w.version w.block) w.place bytes)
 
 -- this call is due
 pub record IsDue (call : WriteCall) (w : Write128) (disk : DiskState) : Type 0 where
@@ -95,14 +96,14 @@ abbrev pub Stands : Option WriteCall → Write128 → DiskState → Type 0
 Stands None w disk = IsDone w disk
 Stands (Some call) w disk = IsDue call w disk
 
--- the block lies within a disk, and its write is of a body of 55 bytes
+-- the block lies within a disk, and its write is of a body of its layout
 pub record IsPlaced (w : Write128) (disk : DiskState) : Type 0 where
   pub whole : IsWhole disk
-  pub within : LiesOn w.place disk
-  pub block : length w.block ≡ BLOCK_LENGTH
-  pub body : length w.body ≡ BODY_LENGTH
-  pub fits : next_sequence w.block < 2 ^ 64
+  pub within : LiesOn w.version w.place disk
+  pub block : length w.block ≡ block_length w.version
+  pub body : length w.body ≡ body_length w.version
+  pub fits : next_sequence w.version w.block < 2 ^ 64
 
 -- each outcome of a crash now has this block
 abbrev pub IsDurable : Write128 → DiskState → Type 0
-IsDurable w disk = (bytes : List ℕ) → MayLeave disk bytes → block_in w.place bytes ≡ w.block
+IsDurable w disk = (bytes : List ℕ) → MayLeave disk bytes → block_in w.version w.place bytes ≡ w.block

@@ -1,11 +1,11 @@
-ghost use Rattle.std.specs.Prelude.{◌≡◌, ◌↔◌, ℕ, IsTrue, length};
-ghost use Rattle.torn_block.specs.Block;
-ghost use Rattle.torn_block.specs.Block.{sequence_of};
-ghost use Rattle.torn_block.specs.Damage;
-ghost use Rattle.torn_block.specs.Damage.{IsSequence};
+ghost use Rattle.std.specs.Prelude.{◌≡◌, ◌≤◌, ◌↔◌, ℕ, IsTrue, length};
+ghost use Rattle.torn_block.specs.layouts.Block;
+ghost use Rattle.torn_block.specs.layouts.Block.{sequence_of};
+ghost use Rattle.torn_block.specs.layouts.Damage;
+ghost use Rattle.torn_block.specs.layouts.Damage.{IsSequence};
 
 use crate::block::{is_open, sequence_in};
-use crate::layout::{COPY_LENGTH, LAST_SEQUENCE};
+use crate::layout::LAST_SEQUENCE;
 
 /// That a copy may have this sequence number.
 pub fn is_sequence(number: u64) -> bool
@@ -17,8 +17,8 @@ pub fn is_sequence(number: u64) -> bool
 
 /// That both copies are open, with one sequence number.
 pub fn has_twins(first: &[u8], second: &[u8]) -> bool
-    requires first { length first.now ≡ COPY_LENGTH }
-    requires second { length second.now ≡ COPY_LENGTH }
+    requires first { 16 ≤ length first.now }
+    requires second { 16 ≤ length second.now }
     ensures twins { IsTrue result ↔ (IsTrue (Block.is_open first.now) × IsTrue (Block.is_open second.now) × (sequence_of first.now ≡ sequence_of second.now)) }
     ensures exact { result ≡ Damage.has_twins first.now second.now }
 {

@@ -7,12 +7,13 @@ mod law;
 mod layout;
 mod write_steps;
 
-pub use block::{Block128, Body, Half, OPEN_GATE, block_from, is_open, read_block, sequence_in};
+pub use block::{Block128, Body, Half, OPEN_GATE, is_open, read_block, sequence_in};
 pub use damage::{has_twins, is_sequence};
 pub use law::{registers, six_calls};
 pub use layout::{
-    BLOCK_LENGTH, BODY_LENGTH, COPY_LENGTH, DISKS, HEADER_LENGTH, HEADING_LENGTH, HOSTS,
-    LAST_SEQUENCE, ROW_LENGTH, SLOTS, TAIL_LENGTH, VALUE_LENGTH, VERSION,
+    BLOCK_LENGTH, BODY_LENGTH, BODY_ROOM, COPY_LENGTH, COPY_ROOM, ClusterLayout, DISKS,
+    HEADER_LENGTH, HEADING_LENGTH, HOSTS, HOSTS_ROOM, LAST_SEQUENCE, Layout, Layout1, Layout2,
+    ROW_LENGTH, SLOTS, TAIL_LENGTH, VALUE_LENGTH, VERSION,
 };
 pub use write_steps::{BlockNeed, SequenceSpent, WriteCall, WriteSteps, put_number};
 

@@ -2,18 +2,20 @@
 ghost use Rattle.std.specs.Prelude.{◌≡◌, ◌≤◌, ◌<◌, ◌^◌, OnOk, length};
 
 use crate::{
-    BLOCK_LENGTH, BODY_LENGTH, BlockNeed, Body, COPY_LENGTH, Half, LAST_SEQUENCE, OPEN_GATE,
-    WriteSteps, read_block, registers, six_calls,
+    BODY_ROOM, BlockNeed, Body, COPY_ROOM, HEADING_LENGTH, Half, LAST_SEQUENCE, Layout1, Layout2,
+    OPEN_GATE, WriteSteps, read_block, registers, six_calls,
 };
 use disk::{Boot, Disk, DiskFault, SimDisk};
 use std::test::Fail;
 
+const BLOCK_LENGTH: usize = 2 * COPY_ROOM;
+
 const A: Body = Body {
-    bytes: [1; BODY_LENGTH],
+    bytes: [1; BODY_ROOM],
 };
 
 const B: Body = Body {
-    bytes: [2; BODY_LENGTH],
+    bytes: [2; BODY_ROOM],
 };
 
 // Attach, sync and read, and what was read.
@@ -36,7 +38,7 @@ fn write(disk: &mut SimDisk, body: &Body, calls: usize) -> Result<(), DiskFault>
     ensures boot { disk.new.disk.boot ≡ disk.old.disk.boot }
 {
     let (boot, block) = opened(disk)?;
-    if let Ok(mut steps) = WriteSteps::new(&read_block(&block), body) {
+    if let Ok(mut steps) = WriteSteps::new::<Layout2>(&read_block::<Layout2>(&block), body) {
         for _ in 0..calls {
             match steps.next() {
                 None => {}
@@ -49,12 +51,26 @@ fn write(disk: &mut SimDisk, body: &Body, calls: usize) -> Result<(), DiskFault>
     Ok(())
 }
 
+// The body of a copy: all but its gate and its sequence number.
+fn body_in(copy: &[u8]) -> Body
+    requires { length copy.now ≡ COPY_ROOM }
+{
+    let mut bytes = [0; BODY_ROOM];
+    bytes[..HEADING_LENGTH].copy_from_slice(&copy[1..8]);
+    bytes[HEADING_LENGTH..].copy_from_slice(&copy[16..]);
+    Body { bytes }
+}
+
 fn value(disk: &mut SimDisk) -> Result<Option<Body>, DiskFault>
     requires { length disk.old.disk.bytes ≡ BLOCK_LENGTH }
 {
     let (_, bytes) = opened(disk)?;
-    let block = read_block(&bytes);
-    Ok(block.current.map(|_| block.body))
+    let (first, second) = bytes.split_at(COPY_ROOM);
+    Ok(match read_block::<Layout2>(&bytes).current {
+        None => None,
+        Some(Half::First) => Some(body_in(first)),
+        Some(Half::Second) => Some(body_in(second)),
+    })
 }
 
 #[test]
@@ -89,9 +105,9 @@ fn old_or_new_after_a_crash(rt: HostRuntime) -> Result<(), Fail> {
 fn torn_body_then_torn_gate(rt: HostRuntime) -> Result<(), Fail> {
     let mut disk = SimDisk::new(rt.alloc(), BLOCK_LENGTH as u64)?;
     write(&mut disk, &A, 2)?;
-    disk.tear(1, COPY_LENGTH as u64 - 1, &[0xFF]);
+    disk.tear(1, COPY_ROOM as u64 - 1, &[0xFF]);
     let (_, block) = opened(&mut disk)?;
-    if let Ok(steps) = WriteSteps::new(&read_block(&block), &A)
+    if let Ok(steps) = WriteSteps::new::<Layout2>(&read_block::<Layout2>(&block), &A)
         && let Some(BlockNeed::Write { at, bytes }) = steps.next()
     {
         // The gate stands closed, so there is nothing to be torn.
@@ -108,29 +124,35 @@ const COUNTED: Body = Body {
     bytes: [
         1, 2, 3, 4, 5, 6, 7, 8, 9, 10, 11, 12, 13, 14, 15, 16, 17, 18, 19, 20, 21, 22, 23, 24, 25,
         26, 27, 28, 29, 30, 31, 32, 33, 34, 35, 36, 37, 38, 39, 40, 41, 42, 43, 44, 45, 46, 47, 48,
-        49, 50, 51, 52, 53, 54, 55,
+        49, 50, 51, 52, 53, 54, 55, 56, 57, 58, 59, 60, 61, 62, 63, 64, 65, 66, 67, 68, 69, 70, 71,
+        72, 73, 74, 75, 76, 77, 78, 79, 80, 81, 82, 83, 84, 85, 86, 87, 88, 89, 90, 91, 92, 93, 94,
+        95, 96, 97, 98, 99, 100, 101, 102, 103, 104, 105, 106, 107, 108, 109, 110, 111, 112, 113,
+        114, 115, 116, 117, 118, 119,
     ],
 };
 
 // The copy of this body with sequence number 1: gate, seven bytes, the number, and the rest.
-const COUNTED_COPY: [u8; COPY_LENGTH] = [
+const COUNTED_COPY: [u8; COPY_ROOM] = [
     0xA5, 1, 2, 3, 4, 5, 6, 7, 0, 0, 0, 0, 0, 0, 0, 1, 8, 9, 10, 11, 12, 13, 14, 15, 16, 17, 18,
     19, 20, 21, 22, 23, 24, 25, 26, 27, 28, 29, 30, 31, 32, 33, 34, 35, 36, 37, 38, 39, 40, 41, 42,
-    43, 44, 45, 46, 47, 48, 49, 50, 51, 52, 53, 54, 55,
+    43, 44, 45, 46, 47, 48, 49, 50, 51, 52, 53, 54, 55, 56, 57, 58, 59, 60, 61, 62, 63, 64, 65, 66,
+    67, 68, 69, 70, 71, 72, 73, 74, 75, 76, 77, 78, 79, 80, 81, 82, 83, 84, 85, 86, 87, 88, 89, 90,
+    91, 92, 93, 94, 95, 96, 97, 98, 99, 100, 101, 102, 103, 104, 105, 106, 107, 108, 109, 110, 111,
+    112, 113, 114, 115, 116, 117, 118, 119,
 ];
 
 // An open copy with this byte throughout its body.
-fn copy_of(byte: u8, sequence: u64) -> [u8; COPY_LENGTH] {
-    let mut copy = [byte; COPY_LENGTH];
+fn copy_of(byte: u8, sequence: u64) -> [u8; COPY_ROOM] {
+    let mut copy = [byte; COPY_ROOM];
     copy[0] = OPEN_GATE;
     copy[8..16].copy_from_slice(&sequence.to_be_bytes());
     copy
 }
 
-fn block_of(first: &[u8; COPY_LENGTH], second: &[u8; COPY_LENGTH]) -> [u8; BLOCK_LENGTH] {
+fn block_of(first: &[u8; COPY_ROOM], second: &[u8; COPY_ROOM]) -> [u8; BLOCK_LENGTH] {
     let mut block = [0; BLOCK_LENGTH];
-    block[..COPY_LENGTH].copy_from_slice(first);
-    block[COPY_LENGTH..].copy_from_slice(second);
+    block[..COPY_ROOM].copy_from_slice(first);
+    block[COPY_ROOM..].copy_from_slice(second);
     block
 }
 
@@ -139,7 +161,7 @@ fn bytes_of_a_copy(rt: HostRuntime) -> Result<(), Fail> {
     let mut disk = SimDisk::new(rt.alloc(), BLOCK_LENGTH as u64)?;
     write(&mut disk, &COUNTED, 6)?;
     let (_, bytes) = opened(&mut disk)?;
-    assert_eq!(rt; bytes, block_of(&COUNTED_COPY, &[0; COPY_LENGTH]));
+    assert_eq!(rt; bytes, block_of(&COUNTED_COPY, &[0; COPY_ROOM]));
     assert_eq!(rt; value(&mut disk)?, Some(COUNTED));
     Ok(())
 }
@@ -155,22 +177,22 @@ fn which_copy_counts(rt: HostRuntime) {
         (LAST_SEQUENCE, 1, Half::First),
     ];
     for (first, second, counts) in rows {
-        let block = read_block(&block_of(&copy_of(1, first), &copy_of(2, second)));
+        let block = read_block::<Layout2>(&block_of(&copy_of(1, first), &copy_of(2, second)));
         assert_eq!(rt; block.current, Some(counts), "{first}, {second}");
     }
 }
 
 #[test]
 fn spent_sequence_number(rt: HostRuntime) {
-    let blank = [0; COPY_LENGTH];
+    let blank = [0; COPY_ROOM];
     for (sequence, is_spent) in [
         (1, false),
         (LAST_SEQUENCE - 1, false),
         (LAST_SEQUENCE, true),
     ] {
-        let block = read_block(&block_of(&copy_of(1, sequence), &blank));
+        let block = read_block::<Layout2>(&block_of(&copy_of(1, sequence), &blank));
         assert_eq!(rt;
-            WriteSteps::new(&block, &B).is_err(),
+            WriteSteps::new::<Layout2>(&block, &B).is_err(),
             is_spent,
             "{sequence}"
         );
@@ -179,8 +201,8 @@ fn spent_sequence_number(rt: HostRuntime) {
 
 #[test]
 fn done_with_the_sixth_call(rt: HostRuntime) {
-    let blank = read_block(&[0; BLOCK_LENGTH]);
-    if let Ok(mut steps) = WriteSteps::new(&blank, &A) {
+    let blank = read_block::<Layout2>(&[0; BLOCK_LENGTH]);
+    if let Ok(mut steps) = WriteSteps::new::<Layout2>(&blank, &A) {
         for call in 0..6 {
             assert!(rt; !steps.is_done(), "{call}");
             assert!(rt; steps.next().is_some(), "{call}");
@@ -189,6 +211,43 @@ fn done_with_the_sixth_call(rt: HostRuntime) {
         assert!(rt; steps.is_done());
         assert!(rt; steps.next().is_none());
     }
+}
+
+// All calls of a write of the first layout.
+fn make(disk: &mut SimDisk, steps: &mut WriteSteps) -> Result<(), DiskFault>
+    requires disk { length disk.old.disk.bytes ≡ BLOCK_LENGTH }
+    requires steps { steps.old.size ≡ 64 }
+    ensures { length disk.new.disk.bytes ≡ BLOCK_LENGTH }
+{
+    let boot = disk.attach()?;
+    for _ in 0..6 {
+        match steps.next() {
+            None => {}
+            Some(BlockNeed::Write { at, bytes }) => disk.write(boot, at, bytes)?,
+            Some(BlockNeed::Sync) => disk.sync(boot)?,
+        }
+        steps.done();
+    }
+    Ok(())
+}
+
+// Whether the first 64 bytes are the copy, and are read as the current one.
+fn has_short_copy(bytes: &[u8; BLOCK_LENGTH]) -> bool {
+    let block = read_block::<Layout1>(&bytes[..128]);
+    bytes[..64] == COUNTED_COPY[..64] && block.current == Some(Half::First)
+}
+
+// The first 64 bytes alone are of a copy of the first layout.
+#[test]
+fn shorter_copies(rt: HostRuntime) -> Result<(), Fail> {
+    let mut disk = SimDisk::new(rt.alloc(), BLOCK_LENGTH as u64)?;
+    let blank = read_block::<Layout1>(&[0; 128]);
+    if let Ok(mut steps) = WriteSteps::new::<Layout1>(&blank, &COUNTED) {
+        make(&mut disk, &mut steps)?;
+    }
+    let (_, bytes) = opened(&mut disk)?;
+    assert!(rt; has_short_copy(&bytes));
+    Ok(())
 }
 
 // Their contracts are what they are for.

@@ -1,10 +1,11 @@
-ghost use Rattle.std.specs.Prelude.{◌≡◌, ◌+◌, ◌≤◌, ◌^◌, ◌∷◌, ◌↔◌, length, IfOk, IsOk, IsTrue, None};
+ghost use Rattle.std.specs.Prelude.{◌≡◌, ◌+◌, ◌*◌, ◌≤◌, ◌^◌, ◌∷◌, ◌↔◌, length, take, IfOk, IsOk, IsTrue, None};
 ghost use Rattle.std.specs.Option.{option_map};
-ghost use Rattle.torn_block.specs.Block.{number_bytes, tail_with, next_sequence_at};
-ghost use Rattle.torn_block.specs.Plan.{told_value, plan_by, seen_need, LiesWithin, need_of, next_after};
+ghost use Rattle.torn_block.specs.layouts.Block.{number_bytes, tail_with, next_number};
+ghost use Rattle.torn_block.specs.Layout.{copy_length, body_length};
+ghost use Rattle.torn_block.specs.layouts.Plan.{told_number, body_in, plan_by, seen_need, LiesWithin, need_of, next_after};
 
 use crate::block::{Block128, Body, Half, OPEN_GATE};
-use crate::layout::{BODY_LENGTH, COPY_LENGTH, HEADING_LENGTH, LAST_SEQUENCE};
+use crate::layout::{COPY_ROOM, HEADING_LENGTH, LAST_SEQUENCE, Layout};
 use byteorder::{BigEndian, ByteOrder};
 use std::marker::Model;
 use thiserror::Error;
@@ -39,28 +40,32 @@ pub enum BlockNeed<'a> {
 /// behind it. The write is then of no bytes.
 #[derive(Drop)]
 pub struct WriteSteps {
-    copy: [u8; COPY_LENGTH],
+    /// As many bytes as the longest copy has.
+    copy: [u8; COPY_ROOM],
+    /// How many of them the copy has.
+    size: usize,
     target: Half,
     closes: bool,
     due: Option<WriteCall>,
 }
 
 impl Model for WriteSteps {
-    ghost use Rattle.std.specs.Prelude.{◌≡◌, drop, slice_index};
-    ghost use Rattle.torn_block.specs.Plan.{Plan};
+    ghost use Rattle.std.specs.Prelude.{◌≡◌, ◌≤◌, slice_range, slice_index};
+    ghost use Rattle.torn_block.specs.declared.layout.TheConstants.{COPY_ROOM};
+    ghost use Rattle.torn_block.specs.layouts.Plan.{Plan};
 
     ghost Value = { Plan };
 
-    ghost view = { λ s. record { target = s.target; closes = s.closes; tail = drop 1 s.copy; due = s.due } };
+    ghost view = { λ s. record { size = s.size; target = s.target; closes = s.closes; tail = slice_range s.copy 1 s.size; due = s.due } };
 
-    ghost invariant = { λ s. slice_index s.copy 0 ≡ 165 };
+    ghost invariant = { λ s. (slice_index s.copy 0 ≡ 165) × (1 ≤ s.size) × (s.size ≤ COPY_ROOM) };
 }
 
 impl WriteSteps {
     /// The calls that write `body` over a block as its owner read it.
-    pub fn new(read: &Block128, body: &Body) -> Result<WriteSteps, SequenceSpent>
-        ensures steps { IfOk result (λ s. s ≡ plan_by read.now body.now.bytes) }
-        ensures spent { IsOk result ↔ (next_sequence_at (told_value read.now) ≤ 2 ^ 62) }
+    pub fn new<L: Layout>(read: &Block128, body: &Body) -> Result<WriteSteps, SequenceSpent>
+        ensures steps { IfOk result (λ s. s ≡ plan_by L.version read.now (body_in L.version body.now)) }
+        ensures spent { IsOk result ↔ (next_number (told_number read.now) ≤ 2 ^ 62) }
     {
         let sequence = match read.current {
             None => 1,
@@ -72,7 +77,8 @@ impl WriteSteps {
             }
         };
         Ok(WriteSteps {
-            copy: copy_with(sequence, body),
+            copy: copy_with::<L>(sequence, body),
+            size: L::COPY_LENGTH,
             target: match read.current {
                 Some(Half::First) => Half::Second,
                 _ => Half::First,
@@ -85,11 +91,11 @@ impl WriteSteps {
     /// What the call that is due needs. After the sixth there is none.
     pub fn next(&self) -> Option<BlockNeed<'_>>
         ensures need { option_map seen_need result ≡ need_of self.now }
-        ensures within { LiesWithin result }
+        ensures within { LiesWithin (2 * self.now.size) result }
     {
         let gate = match self.target {
             Half::First => 0,
-            Half::Second => COPY_LENGTH as u64,
+            Half::Second => self.size as u64,
         };
         match self.due? {
             WriteCall::CloseGate => Some(BlockNeed::Write {
@@ -98,7 +104,7 @@ impl WriteSteps {
             }),
             WriteCall::PutBody => Some(BlockNeed::Write {
                 at: gate + 1,
-                bytes: &self.copy[1..],
+                bytes: &self.copy[1..self.size],
             }),
             WriteCall::OpenGate => Some(BlockNeed::Write {
                 at: gate,
@@ -133,17 +139,21 @@ impl WriteSteps {
 }
 
 // An open copy with this sequence number and body.
-fn copy_with(sequence: u64, body: &Body) -> [u8; COPY_LENGTH]
-    ensures { result ≡ 165 ∷ tail_with sequence body.now.bytes }
+fn copy_with<L: Layout>(sequence: u64, body: &Body) -> [u8; COPY_ROOM]
+    ensures { take (copy_length L.version) result ≡ 165 ∷ tail_with sequence (body_in L.version body.now) }
 {
-    let mut copy = [0; COPY_LENGTH];
-    put_copy(&mut copy, sequence, &body.bytes);
+    let mut copy = [0; COPY_ROOM];
+    put_copy(
+        &mut copy[..L::COPY_LENGTH],
+        sequence,
+        &body.bytes[..L::COPY_LENGTH - 9],
+    );
     copy
 }
 
 fn put_copy(copy: &mut [u8], sequence: u64, body: &[u8])
-    requires copy { length copy.old ≡ COPY_LENGTH }
-    requires body { length body.now ≡ BODY_LENGTH }
+    requires copy { length copy.old ≡ length body.now + 9 }
+    requires body { HEADING_LENGTH ≤ length body.now }
     ensures { copy.new ≡ 165 ∷ tail_with sequence body.now }
 {
     let (gate, tail) = copy.split_at_mut(1);

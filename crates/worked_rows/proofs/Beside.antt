@@ -9,11 +9,11 @@ use Rattle.world.specs.Entry.{Filled, Start, Stop, Submit, Recover, Look, Beat, 
 use Rattle.world.specs.World.{World, world}
 use Rattle.world.specs.Happens.{Event, Line, entry_of, host_of, happens, happen, with_entry, lines_after, lines_at, answers_from, answers}
 use Rattle.disk.specs.Simulated.{fresh_disk}
-use Rattle.torn_block.specs.Block.{sequence_of, body_of, number_bytes, tail_with}
-use Rattle.torn_block.specs.Place.{copy_in}
-use Rattle.paxos_block.specs.Row.{row_said}
+use Rattle.torn_block.specs.layouts.Block.{sequence_of, body_of, number_bytes, tail_with}
+use Rattle.torn_block.specs.layouts.Place.{copy_in}
+use Rattle.paxos_block.specs.layouts.Row.{row_said}
 use Rattle.heartbeat.specs.Beat.{area_said, beat_body}
-use Rattle.paxos_block.specs.Saying.{zeros, heading, body_saying, number_at, claim_of, is_said}
+use Rattle.paxos_block.specs.layouts.Saying.{zeros, heading, body_saying, number_at, claim_of, is_said}
 use Rattle.lock_command.specs.Command.{number}
 use Rattle.lock_command.specs.Reading.{lock_at, request_at, mode_of, name_at, enqueue_at, convert_at, action_at, command_at}
 use Rattle.lock_table.specs.Apply.{applied}

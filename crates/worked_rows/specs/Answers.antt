@@ -7,7 +7,7 @@ use Rattle.lock_table.specs.declared.record.LockState.TheVariants.{Granted}
 use Rattle.lock_table.specs.declared.reply.Reply.{Reply}
 use Rattle.lock_table.specs.declared.reply.Reply.TheVariants as reply
 use Rattle.lock_table.specs.Apply.{table_after}
-use Rattle.paxos_block.specs.declared.block.PBlock.{PBlock}
+use Rattle.paxos_block.specs.Saying.{Said as PBlock}
 use Rattle.paxos_block.specs.Places.{row_of}
 use Rattle.paxos_block.specs.Row.{row_said}
 use Rattle.paxos_block.specs.Votes.{says_in}

@@ -1,6 +1,8 @@
 -- Attempts by themselves: what they end with over disks that answer in some plain way, and after how many answers.
 use Rattle.std.specs.Prelude.{false, ◌-◌, ◌^◌, ℕ, zero, suc, List, [], ◌∷◌, ◌++◌, map, replicate, length, nat_lt, Option, Some, None, slice_get, if◌then◌else◌}
 use Rattle.disk.specs.declared.fault.DiskFault.TheVariants.{Gone}
+use Rattle.torn_block.specs.declared.layout.TheConstants.{HOSTS}
+use Rattle.torn_block.specs.Layout.{cluster_version}
 use Rattle.paxos_block.specs.Row.{SeenBlock, blank_seen}
 use Rattle.lock_command.specs.declared.command.Command.{Command}
 use Rattle.slot_log.specs.Shape.{Shape}
@@ -31,7 +33,7 @@ showing row heard d = well row (slice_get seventeen (length (on heard d)))
 
 -- a row in which nothing was written
 abbrev pub blank_row : List SeenBlock
-blank_row = replicate 8 blank_seen
+blank_row = replicate HOSTS blank_seen
 
 abbrev pub blanks : Disks
 blanks = showing blank_row
@@ -61,7 +63,7 @@ showing_then first later heard d = if nat_lt (length (on heard d)) 3 then showin
 
 -- an attempt for slot 0 with this input, over so many disks
 abbrev pub attempt_of : (host disks : ℕ) → Option (List ℕ) → Setup
-attempt_of host disks input = record { host = host; slot = 0; disks = disks; floor = 0; input = input }
+attempt_of host disks input = record { version = cluster_version; host = host; slot = 0; disks = disks; floor = 0; input = input }
 
 -- an attempt's end, and after how many answers
 pub record Ending : Type 0 where
@@ -102,25 +104,25 @@ ballot_seeing row s = ballot s (on (map (λ heard. record { disk = 0; heard = he
 abbrev pub saying : (sequence mbal bal : ℕ) → Option (List ℕ) → SeenBlock
 saying sequence mbal bal inp = record { bytes = blank_seen.bytes; sequence = sequence; says = record { mbal = mbal; bal = bal; inp = inp; mark = false } }
 
--- host 0 has promised ballot 9 and voted for 1 at ballot 1; host 1 has voted for 2 at ballot 2
+-- host 0 has promised ballot 17 and voted for 1 at ballot 1; host 1 has voted for 2 at ballot 2
 abbrev pub two_votes : List SeenBlock
-two_votes = saying 2 9 1 (Some (1 ∷ [])) ∷ saying 2 2 2 (Some (2 ∷ [])) ∷ replicate 6 blank_seen
+two_votes = saying 2 17 1 (Some (1 ∷ [])) ∷ saying 2 2 2 (Some (2 ∷ [])) ∷ replicate (HOSTS - 2) blank_seen
 
 -- hosts 0 and 1 have voted at the same ballot, which no run shows
 abbrev pub equal_votes : List SeenBlock
-equal_votes = saying 2 2 2 (Some (1 ∷ [])) ∷ saying 2 2 2 (Some (2 ∷ [])) ∷ replicate 6 blank_seen
+equal_votes = saying 2 2 2 (Some (1 ∷ [])) ∷ saying 2 2 2 (Some (2 ∷ [])) ∷ replicate (HOSTS - 2) blank_seen
 
 -- host 0 has promised ballot 17
 abbrev pub promise_of_17 : List SeenBlock
-promise_of_17 = saying 2 17 0 None ∷ replicate 7 blank_seen
+promise_of_17 = saying 2 17 0 None ∷ replicate (HOSTS - 1) blank_seen
 
 -- the block of host 0 can be written no more
 abbrev pub spent_row : List SeenBlock
-spent_row = saying (2 ^ 62) 1 0 None ∷ replicate 7 blank_seen
+spent_row = saying (2 ^ 62) 1 0 None ∷ replicate (HOSTS - 1) blank_seen
 
--- host 0 has promised the last ballot that it may take, 2 to the 62 less 7
+-- host 0 has promised the last ballot that it may take, 2 to the 62 less 15
 abbrev pub last_of_host_0 : List SeenBlock
-last_of_host_0 = saying 2 (2 ^ 62 - 7) 0 None ∷ replicate 7 blank_seen
+last_of_host_0 = saying 2 (2 ^ 62 - 15) 0 None ∷ replicate (HOSTS - 1) blank_seen
 
 -- A HOST
 

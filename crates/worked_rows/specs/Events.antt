@@ -158,11 +158,15 @@ abbrev pub held_mode_of_a_queued_conversion_counts : List Event
 held_mode_of_a_queued_conversion_counts = Start 0 ∷ in_turn (asks 0 1 1 (on_a 1 ProtectedRead) ∷ asks 0 2 1 (on_a 2 ProtectedRead) ∷ asks 0 3 1 (on_a 3 Null)
     ∷ asks 0 1 2 (changed 1 Exclusive) ∷ asks 0 3 2 (Convert 3 ConcurrentWrite true) ∷ asks 0 3 3 (Convert 3 ProtectedRead true) ∷ [])
 
--- conversions of no lock, of others' locks, of one that waits and of one that converts
+-- conversions of no lock, of others' locks, and of one that waits
 abbrev pub refused_conversions : List Event
 refused_conversions = Start 0 ∷ in_turn (asks 0 1 1 (on_a 1 ProtectedRead) ∷ asks 0 2 1 (on_a 2 ProtectedRead) ∷ asks 0 3 1 (on_a 3 Exclusive)
-    ∷ asks 0 1 2 (changed 9 ProtectedRead) ∷ asks 0 1 3 (changed 2 ProtectedRead) ∷ asks 0 1 4 (changed 3 ProtectedRead) ∷ asks 0 3 2 (changed 3 ProtectedRead)
-    ∷ asks 0 1 5 (changed 1 Exclusive) ∷ asks 0 1 6 (changed 1 ProtectedRead) ∷ asks 0 2 2 (changed 1 ProtectedRead) ∷ [])
+    ∷ asks 0 1 2 (changed 9 ProtectedRead) ∷ asks 0 1 3 (changed 2 ProtectedRead) ∷ asks 0 1 4 (changed 3 ProtectedRead) ∷ asks 0 3 2 (changed 3 ProtectedRead) ∷ [])
+
+-- conversions of one that converts, by its owner and by another client
+abbrev pub refused_while_converting : List Event
+refused_while_converting = Start 0 ∷ in_turn (asks 0 1 1 (on_a 1 ProtectedRead) ∷ asks 0 2 1 (on_a 2 ProtectedRead)
+    ∷ asks 0 1 2 (changed 1 Exclusive) ∷ asks 0 1 3 (changed 1 ProtectedRead) ∷ asks 0 2 2 (changed 1 ProtectedRead) ∷ [])
 
 -- cancels of no lock, of others' locks, and of one that is granted
 abbrev pub refused_cancels : List Event
@@ -307,7 +311,7 @@ slot_that_is_not_learned = Start 0 ∷ Mark 0 1 ∷ Mark 0 2 ∷ []
 
 -- to a stopped host, a host or a disk that there is not, or without bytes
 abbrev pub before_a_start : List Event
-before_a_start = Stop 0 ∷ Submit 0 (takes_db 0) 1 ∷ Recover 0 1 ∷ Step 0 ∷ Tear 0 (0 ∷ []) ∷ FailCall 0 (0 ∷ []) ∷ Start 8 ∷ DiskCrash 1 (0 ∷ []) ∷ DiskGone 1 ∷ DiskCrash 0 [] ∷ []
+before_a_start = Stop 0 ∷ Submit 0 (takes_db 0) 1 ∷ Recover 0 1 ∷ Step 0 ∷ Tear 0 (0 ∷ []) ∷ FailCall 0 (0 ∷ []) ∷ Start 16 ∷ DiskCrash 1 (0 ∷ []) ∷ DiskGone 1 ∷ DiskCrash 0 [] ∷ []
 
 -- to a running host that is idle: a second start, a call, a command of another host or without a try
 abbrev pub while_idle : List Event

@@ -39,10 +39,10 @@ pub fn damaged_rows()
     ensures two { ending (damaged_below 2) (attempt_of 0 3 (Some (7 ∷ []))) ≡ ends 6 NoMajority }
 {}
 
-/// Host 2 sees ballot 9, promised by host 0 with a vote for 1 at ballot 1, and a vote of host 1
-/// for 2 at ballot 2. It takes ballot 11, and proposes the later vote's value in place of its own.
+/// Host 2 sees ballot 17, promised by host 0 with a vote for 1 at ballot 1, and a vote of host 1
+/// for 2 at ballot 2. It takes ballot 19, and proposes the later vote's value in place of its own.
 pub fn adopted_value()
-    ensures ballot { ballot_seeing two_votes (attempt_of 2 1 (Some (3 ∷ []))) ≡ 11 }
+    ensures ballot { ballot_seeing two_votes (attempt_of 2 1 (Some (3 ∷ []))) ≡ 19 }
     ensures end { ending (showing two_votes) (attempt_of 2 1 (Some (3 ∷ []))) ≡
         ends 17 (Committed (2 ∷ [])) }
 {}
@@ -72,13 +72,13 @@ pub fn spent_blocks()
         (attempt_of 0 3 (Some (7 ∷ []))) ≡ ends 16 NoMajority }
 {}
 
-/// Ballots end at 2 to the 62. Host 0, whose last one is promised, has no other; host 7 takes the
+/// Ballots end at 2 to the 62. Host 0, whose last one is promised, has no other; host 15 takes the
 /// very last.
 pub fn last_ballots()
     ensures spent { ending (showing last_of_host_0) (attempt_of 0 1 (Some (7 ∷ []))) ≡
         ends 3 BallotsSpent }
-    ensures last { ballot_seeing last_of_host_0 (attempt_of 7 1 (Some (7 ∷ []))) ≡ 2 ^ 62 }
-    ensures taken { ending (showing last_of_host_0) (attempt_of 7 1 (Some (7 ∷ []))) ≡
+    ensures last { ballot_seeing last_of_host_0 (attempt_of 15 1 (Some (7 ∷ []))) ≡ 2 ^ 62 }
+    ensures taken { ending (showing last_of_host_0) (attempt_of 15 1 (Some (7 ∷ []))) ≡
         ends 17 (Committed (7 ∷ [])) }
 {}
 
@@ -96,7 +96,7 @@ pub fn chosen_before_the_end()
 pub fn value_that_is_no_command()
     ensures { knows_then 2 (takes_db 2) two_votes ≡ record {
       learned = [];
-      floor = 11;
+      floor = 19;
       doing = None;
       said = Some (Refused refusal.NotACommand);
       beats = record { readings = None; heard = None };

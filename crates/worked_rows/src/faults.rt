@@ -44,7 +44,7 @@ pub fn crash_between_two_calls()
 {}
 
 /// A ballot that was taken counts, though it was written nowhere: the host's next one is greater.
-/// The first is 1, and host 0's next is 9. On the next slot it counts no more.
+/// The first is 1, and host 0's next is 17. On the next slot it counts no more.
 ///
 /// `cluster 3 2 | start 0 | submit 0 1 enqueue 1 1 1 EX db | step 0 9 | fail 0 00 | fail 0 00 |`
 /// `submit 0 1 enqueue 1 1 1 EX db | step 0 51`
@@ -53,10 +53,10 @@ pub fn floor_of_a_ballot_never_written()
         Some (record { mbal = 0; bal = 0; inp = None; mark = false }) }
     ensures kept { floor_of (world_over 3 2 events.loses_its_majority) 0 ≡ 1 }
     ensures promised { vote_on (world_over 3 2 (events.tries_again 15)) 0 0 0 ≡
-        Some (record { mbal = 9; bal = 0; inp = None; mark = false }) }
+        Some (record { mbal = 17; bal = 0; inp = None; mark = false }) }
     ensures next_slot { floor_of (world_over 3 2 (events.tries_again 51)) 0 ≡ 0 }
     ensures voted { vote_on (world_over 3 2 (events.tries_again 51)) 0 0 0 ≡
-        Some (record { mbal = 9; bal = 9; inp = Some (spelling (events.takes_db 0)); mark = false }) }
+        Some (record { mbal = 17; bal = 17; inp = Some (spelling (events.takes_db 0)); mark = false }) }
     ensures answers { said_over 3 2 (events.tries_again 51) ≡
         refused 12 0 refusal.NoMajority ∷ granted 64 0 0 ∷ [] }
 {}
@@ -73,7 +73,7 @@ pub fn no_floor_without_a_ballot()
 {}
 
 /// The ballot that outran a host counts for it, also where the disk that showed it is lost: host 0
-/// was outrun by ballot 10, and takes 17.
+/// was outrun by ballot 18, and takes 33.
 ///
 /// `cluster 3 2 | start 0 | start 1 | submit 0 2 enqueue 1 1 1 EX db | step 0 9 |`
 /// `submit 1 1 enqueue 1 1 1 EX db | step 1 9 | fail 1 00 | fail 1 00 |`
@@ -82,9 +82,9 @@ pub fn floor_of_an_outrun()
     ensures answers { said_over 3 2 events.outrun_on_a_lost_disk ≡
         refused 23 1 refusal.NoMajority ∷ [] }
     ensures outran { vote_on (world_over 3 2 events.outrun_on_a_lost_disk) 0 0 1 ≡
-        Some (record { mbal = 10; bal = 0; inp = None; mark = false }) }
+        Some (record { mbal = 18; bal = 0; inp = None; mark = false }) }
     ensures unseen { vote_on (world_over 3 2 events.outrun_on_a_lost_disk) 1 0 1 ≡
         Some (record { mbal = 0; bal = 0; inp = None; mark = false }) }
     ensures promised { vote_on (world_over 3 2 events.outrun_on_a_lost_disk) 1 0 0 ≡
-        Some (record { mbal = 17; bal = 0; inp = None; mark = false }) }
+        Some (record { mbal = 33; bal = 0; inp = None; mark = false }) }
 {}

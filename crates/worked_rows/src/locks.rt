@@ -146,24 +146,32 @@ pub fn held_mode_of_a_queued_conversion_counts()
         ∷ replied 90 0 4 (reply.Refused refusal.NotQueued) ∷ granted 108 0 5 ∷ [] }
 {}
 
-/// A conversion is refused for no lock, another owner, a lock that waits and one that converts; whose
-/// lock it is comes first.
+/// A conversion is refused for no lock, another owner and a lock that waits; whose lock it is comes
+/// first.
 ///
-/// `cluster 1 10 | start 0 | submit 0 1 enqueue 1 1 1 PR a | step 0 17 |`
+/// `cluster 1 7 | start 0 | submit 0 1 enqueue 1 1 1 PR a | step 0 17 |`
 /// `submit 0 1 enqueue 2 1 2 PR a | step 0 17 | submit 0 1 enqueue 3 1 3 EX a | step 0 17 |`
 /// `submit 0 1 convert 1 2 9 PR | step 0 17 | submit 0 1 convert 1 3 2 PR | step 0 17 |`
-/// `submit 0 1 convert 1 4 3 PR | step 0 17 | submit 0 1 convert 3 2 3 PR | step 0 17 |`
-/// `submit 0 1 convert 1 5 1 EX | step 0 17 | submit 0 1 convert 1 6 1 PR | step 0 17 |`
-/// `submit 0 1 convert 2 2 1 PR | step 0 17`
+/// `submit 0 1 convert 1 4 3 PR | step 0 17 | submit 0 1 convert 3 2 3 PR | step 0 17`
 pub fn refused_conversions()
-    ensures { said_over 1 10 events.refused_conversions ≡
+    ensures { said_over 1 7 events.refused_conversions ≡
         granted 18 0 0 ∷ granted 36 0 1 ∷ queued 54 0 2
         ∷ replied 72 0 3 (reply.Refused refusal.NoSuchLock)
         ∷ replied 90 0 4 (reply.Refused refusal.NotOwner)
         ∷ replied 108 0 5 (reply.Refused refusal.NotOwner)
-        ∷ replied 126 0 6 (reply.Refused refusal.StillWaiting) ∷ queued 144 0 7
-        ∷ replied 162 0 8 (reply.Refused refusal.AlreadyConverting)
-        ∷ replied 180 0 9 (reply.Refused refusal.NotOwner) ∷ [] }
+        ∷ replied 126 0 6 (reply.Refused refusal.StillWaiting) ∷ [] }
+{}
+
+/// So it is for a lock that converts, and there too whose lock it is comes first.
+///
+/// `cluster 1 5 | start 0 | submit 0 1 enqueue 1 1 1 PR a | step 0 17 |`
+/// `submit 0 1 enqueue 2 1 2 PR a | step 0 17 | submit 0 1 convert 1 2 1 EX | step 0 17 |`
+/// `submit 0 1 convert 1 3 1 PR | step 0 17 | submit 0 1 convert 2 2 1 PR | step 0 17`
+pub fn refused_while_converting()
+    ensures { said_over 1 5 events.refused_while_converting ≡
+        granted 18 0 0 ∷ granted 36 0 1 ∷ queued 54 0 2
+        ∷ replied 72 0 3 (reply.Refused refusal.AlreadyConverting)
+        ∷ replied 90 0 4 (reply.Refused refusal.NotOwner) ∷ [] }
 {}
 
 /// A cancel is refused for no lock, another owner, and a lock that is granted.

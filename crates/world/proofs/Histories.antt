@@ -22,6 +22,7 @@ use Rattle.attempt.proofs.Moments.{get_some}
 use Rattle.attempt.proofs.Statuses.{due_is, due_if, HasChosen, told_by, enough_more}
 use Rattle.attempt.proofs.Visitors.{waiting_is, left_is, left_over}
 use Rattle.attempt.proofs.Histories.{visit, history_reached}
+use Rattle.torn_block.specs.Layout.{Version}
 use Rattle.paxos_block.specs.Row.{SeenBlock}
 use Rattle.paxos_block.proofs.VoteLemmas.{greatest_is_greatest}
 use Rattle.lock_command.specs.declared.command.Command.{Command}
@@ -266,9 +267,9 @@ module _ (c : Shape) (log : List Filled) (i : ℕ) (s : Setup) (heard : List Ans
 -- WHAT IS COMMITTED
 
 -- a row in which nobody else is above the ballot accepts it
-accepted_row : (host ballot : ℕ) (o : Option (List SeenBlock)) → is_some o ≡ true → others_top host o ≤ ballot → accepts_in host ballot o ≡ true
-accepted_row host ballot None read below = absurd (cc)
-accepted_row host ballot (Some row) read below = ap not (le-ltb ballot (others_top host (Some row)) below)
+accepted_row : (v : Version) (host ballot : ℕ) (o : Option (List SeenBlock)) → is_some o ≡ true → others_top v host o ≤ ballot → accepts_in v host ballot o ≡ true
+accepted_row v host ballot None read below = absurd (cc)
+accepted_row v host ballot (Some row) read below = ap not (le-ltb ballot (others_top v host (Some row)) below)
 
 module _ (s : Setup) (heard : List Answered) (value : List ℕ) (is : IsHistory s heard) (ended : status s (on heard) ≡ Ended (Committed value)) where
   chosen : HasChosen s value (on heard)
@@ -284,9 +285,9 @@ module _ (s : Setup) (heard : List Answered) (value : List ℕ) (is : IsHistory 
   accepted_on d l left =
       let good = (left_is s Two (visited s Two (on heard)) (on heard) d left).good in
       let read = ((history_reached s heard is).disk d).read Two good (left_over s Two (on heard) d chosen.over.visits l left) in
-      let most = greatest_is_greatest s.disks (λ e. others_top s.host (row_in Two (on heard e))) d l in
+      let most = greatest_is_greatest s.disks (λ e. others_top s.version s.host (row_in Two (on heard e))) d l in
       let calm = ltb-false (ballot s (on heard)) (others_mbal s Two (on heard)) chosen.over.not_outrun in
-      accepted_row s.host (ballot s (on heard)) (row_in Two (on heard d)) read (omega (arith, most, calm))
+      accepted_row s.version s.host (ballot s (on heard)) (row_in Two (on heard d)) read (omega (arith, most, calm))
 
   -- a committed value is chosen
   pub committed_chooses : Chooses s (on heard) value

@@ -3,6 +3,7 @@ use Rattle.std.proofs.Common.{ℕ, ◌<◌, ◌≡◌, ◌==◌, true, List, sym
 use Rattle.std.proofs.lemmas.Bool.{eqb-true}
 use Rattle.disk.specs.declared.fault.DiskFault.TheVariants.{Failed}
 use Rattle.disk.specs.Disk.{DiskState, Fault, Crashes}
+use Rattle.torn_block.specs.Layout.{cluster_version}
 use Rattle.torn_block.specs.declared.layout.TheConstants.{HOSTS}
 use Rattle.torn_block.proofs.RegisterLaws.{rests_crashed}
 use Rattle.paxos_block.specs.Places.{VoteOf, place_of}
@@ -32,7 +33,7 @@ module _ (c : Shape) (w : World) (ms : Moves) (tied : Tied c w ms) (K : ℕ → 
   crashed : (k : ℕ) (left : List ℕ) → Crashes (w.disk k) (disk_step (w.disk k) (Crashed k left)) → IsSo (w.disk k) → IsSo (disk_step (w.disk k) (Crashed k left))
   crashed k left crash is =
       let new = disk_step (w.disk k) (Crashed k left) in
-      let outcomes : Outcomes (w.disk k) (place_of (VoteOf slot host)) new = λ bytes may. (left, crash.bytes, rests_crashed (place_of (VoteOf slot host)) (w.disk k) new crash bytes may) in
+      let outcomes : Outcomes cluster_version (w.disk k) (place_of (VoteOf slot host)) new = λ bytes may. (left, crash.bytes, rests_crashed cluster_version (place_of (VoteOf slot host)) (w.disk k) new crash bytes may) in
       all_say_by HasMark (place_of (VoteOf slot host)) (w.disk k) new outcomes is
 
   step_keeps : (e : Filled) → MayFollow c w e → is_on d e ≡ true → IsSo (disk_step (w.disk d) e)

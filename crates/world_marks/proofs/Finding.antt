@@ -2,8 +2,9 @@
 use Rattle.std.specs.Prelude.{IsTrue, ◌*◌, if◌then◌else◌}
 use Rattle.std.proofs.Common.{ℕ, zero, suc, ◌+◌, ◌<◌, ◌≤◌, ◌≡◌, inl, inr, Bool, true, false, cond, Option, Some, None, List, length, refl, sym, subst, ap, ◌∙◌, arith}
 use Rattle.std.proofs.lemmas.Bool.{cases_lt, ltb-true, both_ways}
+use Rattle.torn_block.specs.Layout.{hosts_in}
 use Rattle.torn_block.specs.declared.layout.TheConstants.{HOSTS}
-use Rattle.paxos_block.specs.declared.block.PBlock.{PBlock}
+use Rattle.paxos_block.specs.Saying.{Said as PBlock}
 use Rattle.paxos_block.specs.Row.{SeenBlock}
 use Rattle.paxos_block.specs.Votes.{says_in, marked}
 use Rattle.attempt.specs.Answers.{Answered, Answers, on, heard_as, row_in}
@@ -67,7 +68,7 @@ shown_marked says is none = by says.mark is.mark none
 
 -- AN ATTEMPT THAT IS SHOWN A MARK ON MORE THAN HALF OF THE DISKS
 
-module _ (s : Setup) (heard : List Answered) (is : IsHistory s heard) (g n : ℕ) (below : g < HOSTS) (those : ℕ → Bool) (many : count s.disks those ≡ n) (most : s.disks < 2 * n)
+module _ (s : Setup) (heard : List Answered) (is : IsHistory s heard) (g n : ℕ) (below : g < hosts_in s.version) (those : ℕ → Bool) (many : count s.disks those ≡ n) (most : s.disks < 2 * n)
     (shown : (d : ℕ) → d < s.disks → those d ≡ true → (row : List SeenBlock) → row_in Opening (on heard d) ≡ Some row → IsMarkShown (says_in row g)) where
   abbrev f : Answers
   f = on heard
@@ -119,9 +120,10 @@ module _ (c : Shape) (log : List Filled) (run : IsRun c log) where
       λ d inside those. stays_marked c log run (marked.to + 1) i s.slot g d (let before = marked.before in omega arith) slot_below below (many.each d inside those) in
       let on_slot : length m.learned ≡ s.slot = ap (λ (q : Setup). q.slot) (sym hears.is_setup) in
       let disks : s.disks ≡ c.disks = ap (λ (q : Setup). q.disks) hears.is_setup in
+      let within : g < hosts_in s.version = omega (arith, below, ap (λ (q : Setup). hosts_in q.version) hears.is_setup) in
       let before = tries_at (Shown c log run i s.slot g slot_below below h) ((at c log j).host h) m t (shown_at c log run i s.slot g slot_below below h nothing j later) hears.running hears.does in
       let behind = shown_more c log run i s.slot g slot_below below h j later m t hears.running hears.does hears.disk hears.call hears.answer hears.left hears.entry before in
-      finds s heard (heard_then c log j s heard run hears) g marked.n below many.those (ap (λ (q : ℕ). count q many.those) disks ∙ many.many) (let most = marked.most in omega (arith, most, disks))
+      finds s heard (heard_then c log j s heard run hears) g marked.n within many.those (ap (λ (q : ℕ). count q many.those) disks ∙ many.many) (let most = marked.most in omega (arith, most, disks))
       (λ d inside those row read. behind on_slot d (firm d (omega (arith, inside, disks)) those) row (ap (λ (xs : List Answered). row_in Opening (on xs d)) (sym hears.is_heard) ∙ read))
 
   -- LOOKS

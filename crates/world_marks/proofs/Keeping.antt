@@ -5,6 +5,7 @@ use Rattle.std.proofs.lemmas.Bool.{and_parts, cases_eq}
 use Rattle.disk.specs.declared.fault.DiskFault.TheVariants.{Reset, Failed, Gone}
 use Rattle.disk.specs.Disk.{DiskState, Call, Attach, Sync, Answer, Booted, Told, Done, Fault, IsUnder, Step}
 use Rattle.disk.proofs.CrashLemmas.{may_leave_now}
+use Rattle.torn_block.specs.Layout.{cluster_version, hosts_in}
 use Rattle.torn_block.specs.declared.layout.TheConstants.{HOSTS}
 use Rattle.torn_block.specs.declared.write_steps.WriteCall.{WriteCall}
 use Rattle.torn_block.specs.declared.write_steps.WriteCall.TheVariants.{CloseGate, SyncClosed, PutBody, SyncBody, OpenGate, SyncOpened}
@@ -13,7 +14,7 @@ use Rattle.torn_block.specs.Place.{block_in}
 use Rattle.torn_block.specs.Register.{Value}
 use Rattle.torn_block.specs.Stage.{old_value}
 use Rattle.torn_block.proofs.StageLaws.{reads_closed}
-use Rattle.paxos_block.specs.declared.block.PBlock.{PBlock}
+use Rattle.paxos_block.specs.Saying.{Said as PBlock}
 use Rattle.paxos_block.specs.Places.{BeatOf, VoteOf, place_of}
 use Rattle.paxos_block.specs.Row.{SeenBlock, says_of}
 use Rattle.paxos_block.specs.Votes.{says_in, marked, marked_below}
@@ -51,12 +52,12 @@ none_of None second is = (refl, is)
 none_of (Some value) second is = absurd (cc)
 
 -- no row of the opening shows a marked input,
-row_undecided : (s : Setup) (f : Answers) (n d : ℕ) → d < n → decided_below s f n ≡ None → decided_in (row_in Opening (f d)) ≡ None
+row_undecided : (s : Setup) (f : Answers) (n d : ℕ) → d < n → decided_below s f n ≡ None → decided_in s.version (row_in Opening (f d)) ≡ None
 row_undecided s f zero d less none = absurd (omega arith)
 row_undecided s f (suc n) d less none =
-    let both = none_of (decided_below s f n) (decided_in (row_in Opening (f n))) none in
+    let both = none_of (decided_below s f n) (decided_in s.version (row_in Opening (f n))) none in
     elim (cases_eq d n) [
-      | inl same ↦ ap (λ (e : ℕ). decided_in (row_in Opening (f e))) same ∙ both.1
+      | inl same ↦ ap (λ (e : ℕ). decided_in s.version (row_in Opening (f e))) same ∙ both.1
       | inr off ↦ row_undecided s f n d (omega (arith, less, off)) both.0
     ]
 
@@ -79,23 +80,23 @@ mark_undecided K says true_mark none = by says.mark refl none
     by false is none = is
 
 -- no block of a row that was read has a marked input
-pub undecided_block : (s : Setup) (f : Answers) → decided s f ≡ None → (d : ℕ) → d < s.disks → (row : List SeenBlock) → row_in Opening (f d) ≡ Some row → (g : ℕ) → g < HOSTS → marked (says_in row g) ≡ None
-undecided_block s f none d inside row read g below = block_undecided row HOSTS g below (ap decided_in (sym read) ∙ row_undecided s f s.disks d inside none)
+pub undecided_block : (s : Setup) (f : Answers) → decided s f ≡ None → (d : ℕ) → d < s.disks → (row : List SeenBlock) → row_in Opening (f d) ≡ Some row → (g : ℕ) → g < hosts_in s.version → marked (says_in row g) ≡ None
+undecided_block s f none d inside row read g below = block_undecided row (hosts_in s.version) g below (ap (decided_in s.version) (sym read) ∙ row_undecided s f s.disks d inside none)
 
-shows_no_mark : (K : List ℕ → Type 0) (s : Setup) (f : Answers) → ((d : ℕ) → TellsTrueMarks K (f d)) → decided s f ≡ None → (d : ℕ) → d < s.disks → (row : List SeenBlock) → row_in Opening (f d) ≡ Some row → (g : ℕ) → g < HOSTS → (says_in row g).mark ≡ false
-shows_no_mark K s f tells none d inside row read g below =
-    mark_undecided K (says_in row g) (tells d 2 row (told_is (slice_get (f d) 2) row read) g below) (undecided_block s f none d inside row read g below)
+shows_no_mark : (K : List ℕ → Type 0) (s : Setup) (f : Answers) → ((d : ℕ) → TellsTrueMarks K (f d)) → decided s f ≡ None → (d : ℕ) → d < s.disks → (row : List SeenBlock) → row_in Opening (f d) ≡ Some row → (g : ℕ) → g < HOSTS → g < hosts_in s.version → (says_in row g).mark ≡ false
+shows_no_mark K s f tells none d inside row read g below within =
+    mark_undecided K (says_in row g) (tells d 2 row (told_is (slice_get (f d) 2) row read) g below) (undecided_block s f none d inside row read g within)
 
 -- A CALL OF A WRITE THAT THE DISK REFUSES
 
 -- a call that cannot be made under the disk's boot number leaves the block
-refused_stays : (call : Call) (answer : Answer) (place : ℕ) (disk new : DiskState) → Step disk call answer new → (IsUnder call disk.boot → ⊥) → Outcomes disk place new
+refused_stays : (call : Call) (answer : Answer) (place : ℕ) (disk new : DiskState) → Step disk call answer new → (IsUnder call disk.boot → ⊥) → Outcomes cluster_version disk place new
 refused_stays call (Booted number) place disk new step never = absurd (never step.1)
 refused_stays call (Told bytes) place disk new step never = absurd (never step.1)
 refused_stays call Done place disk new step never = absurd (never step.1)
 refused_stays call (Fault Failed) place disk new step never = absurd (never step.1)
-refused_stays call (Fault Reset) place disk new step never = same_outcomes disk new place step.2
-refused_stays call (Fault Gone) place disk new step never = same_outcomes disk new place step.1
+refused_stays call (Fault Reset) place disk new step never = same_outcomes cluster_version disk new place step.2
+refused_stays call (Fault Gone) place disk new step never = same_outcomes cluster_version disk new place step.1
 
 -- a write's calls come behind the read
 put_late : (n : ℕ) (p : Phase) (put : WriteCall) → slice_get seventeen n ≡ Some (Putting p put) → 3 ≤ n
@@ -167,7 +168,7 @@ module _ (c : Shape) (w : World) (ms : Moves) (tied : Tied c w ms) (h k : ℕ) (
         let none = undecided_in known.is.phase known.due_at.come later in
         let inside = (visit s known.is.phase k f known.due_at).below in
         unmarked k (record { good = good; boot = under_is put (write_on s p k f) (boot_of (f k)) disk.boot under }) read.0 read.1
-        (shows_no_mark K s f tells none k inside read.0 read.1 h known.run.below)
+        (shows_no_mark K s f tells none k inside read.0 read.1 h known.run.below known.run.below)
 
     attempt_own : AllSay HasMark place disk → AllSay HasMark place new
     attempt_own marked_before = by known.is.kind refl
@@ -176,9 +177,9 @@ module _ (c : Shape) (w : World) (ms : Moves) (tied : Tied c w ms) (h k : ℕ) (
         step_as kind same = subst (λ (q : Kind). Step disk (call_by s k f q) answer new) same known.step_by
 
         by : (kind : Kind) → known.is.kind ≡ kind → AllSay HasMark place new
-        by Attaching same = all_say_by HasMark place disk new (calm_outcomes disk new place (call_by s k f Attaching) answer tt (step_as Attaching same)) marked_before
-        by Syncing same = all_say_by HasMark place disk new (calm_outcomes disk new place (call_by s k f Syncing) answer tt (step_as Syncing same)) marked_before
-        by Reading same = all_say_by HasMark place disk new (calm_outcomes disk new place (call_by s k f Reading) answer tt (step_as Reading same)) marked_before
+        by Attaching same = all_say_by HasMark place disk new (calm_outcomes cluster_version disk new place (call_by s k f Attaching) answer tt (step_as Attaching same)) marked_before
+        by Syncing same = all_say_by HasMark place disk new (calm_outcomes cluster_version disk new place (call_by s k f Syncing) answer tt (step_as Syncing same)) marked_before
+        by Reading same = all_say_by HasMark place disk new (calm_outcomes cluster_version disk new place (call_by s k f Reading) answer tt (step_as Reading same)) marked_before
         by (Putting p put) same =
             all_say_by HasMark place disk new
             (refused_stays (call_by s k f (Putting p put)) answer place disk new (step_as (Putting p put) same)
@@ -244,7 +245,7 @@ module _ (c : Shape) (w : World) (ms : Moves) (tied : Tied c w ms) (h k : ℕ) (
     marking_own : AllSay HasMark mark_place disk → AllSay HasMark mark_place new
     marking_own before = by due.kind refl
       where
-        calm : Outcomes disk mark_place new → AllSay HasMark mark_place new
+        calm : Outcomes cluster_version disk mark_place new → AllSay HasMark mark_place new
         calm o = all_say_by HasMark mark_place disk new o before
 
         -- a write is not due there
@@ -258,20 +259,20 @@ module _ (c : Shape) (w : World) (ms : Moves) (tied : Tied c w ms) (h k : ℕ) (
         by_put : (p : Phase) (put : WriteCall) → due.kind ≡ Putting p put → AllSay HasMark mark_place new
         by_put p CloseGate same =
             writes p CloseGate same (λ boot. ap (λ (b : SeenBlock). b.says.mark) (mark_known (Putting p CloseGate) same boot disk.bytes (may_leave_now disk)) ∙ free p CloseGate same)
-        by_put p SyncClosed same = calm (calm_outcomes disk new mark_place (Sync (boot_of a)) answer tt (mark_step (Putting p SyncClosed) same))
+        by_put p SyncClosed same = calm (calm_outcomes cluster_version disk new mark_place (Sync (boot_of a)) answer tt (mark_step (Putting p SyncClosed) same))
         by_put p PutBody same =
             writes p PutBody same (λ boot. (let it : IsMarking q a PutBody disk = mark_known (Putting p PutBody) same boot in writing_free p PutBody same it.old (reads_closed (mark.write_on q a) disk.bytes it.due.now)))
-        by_put p SyncBody same = calm (calm_outcomes disk new mark_place (Sync (boot_of a)) answer tt (mark_step (Putting p SyncBody) same))
+        by_put p SyncBody same = calm (calm_outcomes cluster_version disk new mark_place (Sync (boot_of a)) answer tt (mark_step (Putting p SyncBody) same))
         by_put p OpenGate same =
             writes p OpenGate same
             (λ boot. (let it : IsMarking q a OpenGate disk = mark_known (Putting p OpenGate) same boot in
             writing_free p OpenGate same it.old (reads_closed (mark.write_on q a) disk.bytes (record { kept = it.due.now.kept; target = it.due.now.target.0 }))))
-        by_put p SyncOpened same = calm (calm_outcomes disk new mark_place (Sync (boot_of a)) answer tt (mark_step (Putting p SyncOpened) same))
+        by_put p SyncOpened same = calm (calm_outcomes cluster_version disk new mark_place (Sync (boot_of a)) answer tt (mark_step (Putting p SyncOpened) same))
 
         by : (kind : Kind) → due.kind ≡ kind → AllSay HasMark mark_place new
-        by Attaching same = calm (calm_outcomes disk new mark_place Attach answer tt (mark_step Attaching same))
-        by Syncing same = calm (calm_outcomes disk new mark_place (Sync (boot_of a)) answer tt (mark_step Syncing same))
-        by Reading same = calm (calm_outcomes disk new mark_place (mark.call_by q a Reading) answer tt (mark_step Reading same))
+        by Attaching same = calm (calm_outcomes cluster_version disk new mark_place Attach answer tt (mark_step Attaching same))
+        by Syncing same = calm (calm_outcomes cluster_version disk new mark_place (Sync (boot_of a)) answer tt (mark_step Syncing same))
+        by Reading same = calm (calm_outcomes cluster_version disk new mark_place (mark.call_by q a Reading) answer tt (mark_step Reading same))
         by (Putting p put) same = by_put p put same
 
     marking_keeps : (slot host : ℕ) → Keeps slot host

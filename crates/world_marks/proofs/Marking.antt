@@ -4,6 +4,7 @@ use Rattle.std.proofs.Common.{ℕ, ◌<◌, ◌≤◌, ◌≡◌, ◌⊎◌, inl
 use Rattle.std.proofs.lemmas.Bool.{and_parts, cases_lt, ltb-true, eq-eqb}
 use Rattle.disk.specs.Crash.{MayLeave}
 use Rattle.disk.specs.Disk.{DiskState, Call, Answer, Booted, Told, Done, Fault, Step}
+use Rattle.torn_block.specs.Layout.{cluster_version}
 use Rattle.torn_block.specs.declared.layout.TheConstants.{HOSTS, ROW_LENGTH}
 use Rattle.torn_block.specs.declared.write_steps.WriteCall.TheVariants.{SyncOpened}
 use Rattle.torn_block.specs.Block.{value_of}
@@ -11,7 +12,7 @@ use Rattle.torn_block.specs.Place.{block_in}
 use Rattle.torn_block.specs.Register.{Value, IsAtRest}
 use Rattle.torn_block.specs.Stage.{call_of}
 use Rattle.torn_block.proofs.StageLaws.{done_leads_on, done_reads}
-use Rattle.paxos_block.specs.declared.block.PBlock.{PBlock}
+use Rattle.paxos_block.specs.Saying.{Said as PBlock}
 use Rattle.paxos_block.specs.Places.{VoteOf, place_of, row_of, row_place}
 use Rattle.paxos_block.specs.Row.{SeenBlock, says_of, seen_at, seen_in}
 use Rattle.paxos_block.proofs.PlaceLemmas.{block_of-row_of, stays_image}
@@ -117,7 +118,7 @@ module _ (c : Shape) (w : World) (ms : Moves) (tied : Tied c w ms) (h k : ℕ) (
         let leaves : new ≡ disk = read_leaves disk new (boot_of a) (row_place s.slot) ROW_LENGTH answer go in
         let before : MayLeave disk bytes = subst (λ (q : DiskState). MayLeave q bytes) leaves may in
         let seen : seen_at row.0 h ≡ seen_in (block_in place disk.bytes) =
-        said_sees (row_of s.slot disk.bytes) row.0 h run.below (row_told disk new (boot_of a) s.slot answer row.0 go row.1) ∙ ap seen_in (block_of-row_of s.slot h disk.bytes run.below) in
+        said_sees cluster_version (row_of s.slot disk.bytes) row.0 h run.below (row_told disk new (boot_of a) s.slot answer row.0 go row.1) ∙ ap seen_in (block_of-row_of cluster_version s.slot h disk.bytes run.below) in
         ap (λ (block : List ℕ). (says_of (value_of block)).mark) (rests bytes before) ∙ ap (λ (b : SeenBlock). b.says.mark) (sym seen) ∙ ap (λ (y : Heard). (seen_block (told y) h).says.mark) (sym row.1) ∙ shown
 
     -- the write is over
@@ -128,12 +129,12 @@ module _ (c : Shape) (w : World) (ms : Moves) (tied : Tied c w ms) (h k : ℕ) (
         let known : IsMarking s a SyncOpened disk = mark_known c w ms tied h k call answer left next step it (Putting One SyncOpened) same (boot_is (Putting One SyncOpened) same (inr refl)) in
         let inside = mark_inside c w ms tied h k call it (Called h k call answer left) answer step in
         let image = tied.images k in
-        let image_then = stays_image c.slots (VoteOf it.marking.slot h) (inside.0, run.below) disk image call answer new inside.1 step in
+        let image_then = stays_image cluster_version c.slots (VoteOf it.marking.slot h) (inside.0, run.below) disk image call answer new inside.1 step in
         let placed = mark_placed c.slots s a disk image inside.0 run.below known.can in
         let placed_then = mark_placed c.slots s a new image_then inside.0 run.below known.can in
         let over = done_leads_on (mark.write_on s a) disk placed SyncOpened (boot_of a) new known.due (done_step answer go fine) in
         ap (λ (v : Value). (says_of v).mark) (done_reads (mark.write_on s a) new placed_then over bytes may)
-        ∙ ap (λ (q : PBlock). q.mark) (claims_back (mark.with_mark (mark.own_block s a).says) h known.can.is_write.may_say)
+        ∙ ap (λ (q : PBlock). q.mark) (claims_back cluster_version (mark.with_mark (mark.own_block s a).says) h known.can.is_write.may_say)
       where
         done_step : (b : Answer) → Step disk (call_of SyncOpened (mark.write_on s a) (boot_of a)) b new → is_bad (heard_as b) ≡ false → Step disk (call_of SyncOpened (mark.write_on s a) (boot_of a)) Done new
         done_step Done go well = go

@@ -6,7 +6,7 @@ use Rattle.disk.specs.declared.fault.DiskFault.TheVariants.{Reset, Failed, Gone}
 use Rattle.disk.specs.Disk.{DiskState, Call, Attach, Read, Write, Sync, Answer, Booted, Told, Done, Fault, done_by}
 use Rattle.torn_block.specs.Block.{value_of}
 use Rattle.torn_block.specs.Place.{block_in}
-use Rattle.paxos_block.specs.declared.block.PBlock.{PBlock}
+use Rattle.paxos_block.specs.Saying.{Said as PBlock}
 use Rattle.paxos_block.specs.Places.{VoteOf, place_of}
 use Rattle.paxos_block.specs.Row.{SeenBlock, says_of}
 use Rattle.paxos_block.specs.Votes.{says_in}

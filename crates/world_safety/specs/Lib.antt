@@ -1,3 +1,4 @@
+pub mod Cluster
 pub mod Acks
 pub mod Blocks
 pub mod Claims

@@ -5,7 +5,7 @@ use Rattle.disk.specs.Disk.{DiskState}
 use Rattle.torn_block.specs.Block.{value_of}
 use Rattle.torn_block.specs.Place.{block_in}
 use Rattle.torn_block.specs.declared.layout.TheConstants.{HOSTS}
-use Rattle.paxos_block.specs.declared.block.PBlock.{PBlock}
+use Rattle.paxos_block.specs.Saying.{Said as PBlock}
 use Rattle.paxos_block.specs.Places.{VoteOf, place_of}
 use Rattle.paxos_block.specs.Row.{SeenBlock, says_of}
 use Rattle.paxos_block.specs.Votes.{says_in}

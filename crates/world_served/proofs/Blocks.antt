@@ -7,6 +7,7 @@ use Rattle.std.proofs.lemmas.List.FromFn.{get_or-map-range_with_len}
 use Rattle.disk.specs.Disk.{DiskState, Call, Answer, Step, put_at}
 use Rattle.disk.proofs.CrashLemmas.{length-put, put-below, put-above}
 use Rattle.disk.proofs.StepLemmas.{step_keeps}
+use Rattle.torn_block.specs.Layout.{cluster_version}
 use Rattle.torn_block.specs.declared.layout.TheConstants.{HOSTS}
 use Rattle.torn_block.specs.Block.{value_of}
 use Rattle.torn_block.specs.Damage.{block_of}
@@ -14,8 +15,9 @@ use Rattle.torn_block.specs.Place.{block_in}
 use Rattle.torn_block.proofs.PlaceLaws.{block_elsewhere}
 use Rattle.torn_block.specs.Register.{LiesOn}
 use Rattle.torn_block.proofs.RegisterLaws.{ranges}
-use Rattle.paxos_block.specs.declared.block.PBlock.{PBlock}
+use Rattle.paxos_block.specs.Saying.{Said as PBlock}
 use Rattle.paxos_block.specs.Places.{Spot, VoteOf, place_of, IsSpot, IsImage, IsWithin, row_of}
+use Rattle.paxos_block.specs.layouts.Row as by_layout
 use Rattle.paxos_block.specs.Row.{SeenBlock, blank_seen, hosts, is_damaged_block, seen_in, seen_at, says_of, row_seen, row_said}
 use Rattle.paxos_block.specs.Votes.{says_in}
 use Rattle.paxos_block.proofs.PlaceLemmas.{spot_fits, writes_on, leaves_other, block_of-row_of}
@@ -24,14 +26,14 @@ use Rattle.paxos_block.proofs.PlaceLemmas.{spot_fits, writes_on, leaves_other, b
 pub block_kept : (slots : ℕ) (mine other : Spot) (disk new : DiskState) (call : Call) (answer : Answer) → IsSpot slots mine → IsSpot slots other → mine ≢ other → IsImage slots disk → IsWithin mine call → Step disk call answer new
     → block_in (place_of other) new.bytes ≡ block_in (place_of other) disk.bytes
 block_kept slots mine other disk new call answer is_mine is_other differ image within step =
-    let lies : LiesOn (place_of other) disk = omega (arith, spot_fits slots other is_other, image.long) in
-    let fits = writes_on slots mine is_mine disk image call within in
-    let leaves = leaves_other slots mine is_mine disk image other is_other differ call within in
+    let lies : LiesOn (place_of other) disk = omega (arith, spot_fits cluster_version slots other is_other, image.long) in
+    let fits = writes_on cluster_version slots mine is_mine disk image call within in
+    let leaves = leaves_other cluster_version slots mine is_mine disk image other is_other differ call within in
     step_keeps (λ (d : DiskState). block_in (place_of other) d.bytes ≡ block_in (place_of other) disk.bytes) disk new call answer
     (record {
       writes = λ boot at from left is as_many.
-          (let range = ranges (place_of other) disk image.whole lies call answer new fits leaves step boot at from left is as_many in
-          block_elsewhere (place_of other) at (length left) disk.bytes (put_at disk.bytes at left) lies
+          (let range = ranges cluster_version (place_of other) disk image.whole lies call answer new fits leaves step boot at from left is as_many in
+          block_elsewhere cluster_version (place_of other) at (length left) disk.bytes (put_at disk.bytes at left) lies
           (record { as_many = length-put disk.bytes at left range.0 0; below = put-below disk.bytes at left range.0 0; above = put-above disk.bytes at left range.0 0 })
           range.1);
       syncs = refl;
@@ -43,7 +45,7 @@ block_kept slots mine other disk new call answer is_mine is_other differ image w
 
 -- a sound row is its blocks
 pub row_is_seen : (bytes : List ℕ) (row : List SeenBlock) → row_said bytes ≡ Some row → row ≡ row_seen bytes
-unfolding row_said
+unfolding by_layout.row_said
 row_is_seen bytes row is = go (list_any (λ host. is_damaged_block host (block_of host bytes)) hosts) is
   where
     go : (b : Bool) → (if b then None else Some (row_seen bytes)) ≡ Some row → row ≡ row_seen bytes
@@ -66,7 +68,7 @@ shown disk slot g = says_in (row_seen (row_of slot disk.bytes)) g
 
 -- of a host it shows what its block says
 pub shown_is : (slot g : ℕ) (disk : DiskState) → g < HOSTS → shown disk slot g ≡ says_of (value_of (block_in (place_of (VoteOf slot g)) disk.bytes))
-shown_is slot g disk below = ap (λ (b : SeenBlock). b.says) (seen_at-row_seen (row_of slot disk.bytes) g below ∙ ap seen_in (block_of-row_of slot g disk.bytes below))
+shown_is slot g disk below = ap (λ (b : SeenBlock). b.says) (seen_at-row_seen (row_of slot disk.bytes) g below ∙ ap seen_in (block_of-row_of cluster_version slot g disk.bytes below))
 
 -- so what it shows of a host, whose block is another than the call's, is as before
 pub shown_beside : (slots slot g : ℕ) (mine : Spot) (disk new : DiskState) (call : Call) (answer : Answer) → slot < slots → IsSpot slots mine → mine ≢ VoteOf slot g → IsImage slots disk → IsWithin mine call → Step disk call answer new
@@ -77,9 +79,9 @@ shown_beside slots slot g mine disk new call answer slot_below is_mine differ im
           ap (λ (b : SeenBlock). b.says)
           (seen_at-row_seen (row_of slot new.bytes) g below
           ∙ ap seen_in
-          (block_of-row_of slot g new.bytes below
+          (block_of-row_of cluster_version slot g new.bytes below
           ∙ block_kept slots mine (VoteOf slot g) disk new call answer is_mine (slot_below, below) differ image within step
-          ∙ sym (block_of-row_of slot g disk.bytes below))
+          ∙ sym (block_of-row_of cluster_version slot g disk.bytes below))
           ∙ sym (seen_at-row_seen (row_of slot disk.bytes) g below))
       | inr over ↦ ap (λ (b : SeenBlock). b.says) (beyond (row_seen (row_of slot new.bytes)) g over ∙ sym (beyond (row_seen (row_of slot disk.bytes)) g over))
     ]

@@ -1,4 +1,5 @@
 -- One host that makes calls over one disk, each of which is answered: what its host and its disk come to, and that the premises of being served hold.
+use Rattle.torn_block.specs.Layout.{cluster_version}
 use Rattle.std.specs.Prelude.{not, ◌&&◌, cond, nat_le, take, drop, slice_get, option_map, option_and_then}
 use Rattle.std.proofs.Common.{ℕ, zero, suc, ◌+◌, ◌<◌, ◌≤◌, ◌≡◌, ◌==◌, inl, inr, Bool, true, false, Option, Some, None, List, [], ◌∷◌, ◌++◌, length, length-append, refl, sym, subst, ap, ◌∙◌, arith}
 use Rattle.std.proofs.lemmas.Bool.{cases_lt, eqb-true, leb-true}
@@ -42,7 +43,7 @@ well_answers : (s : Setup) (f : Answers) → s.disks ≡ 1 → is_well s (f 0) �
 well_answers s f one well =
     record {
       those = λ d. true;
-      most = subst (λ (n : ℕ). are_enough (record { host = s.host; slot = s.slot; disks = n; floor = s.floor; input = s.input }) (λ d. true) ≡ true) (sym one) refl;
+      most = subst (λ (n : ℕ). are_enough (record { version = cluster_version; host = s.host; slot = s.slot; disks = n; floor = s.floor; input = s.input }) (λ d. true) ≡ true) (sym one) refl;
       each = λ d below is. (let first : 0 ≡ d = omega arith in subst (λ (k : ℕ). AnswersEach s f k) first here);
     }
   where

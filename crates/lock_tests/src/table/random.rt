@@ -2,7 +2,7 @@ ghost use Rattle.std.specs.Prelude.{◌<◌};
 
 use crate::table::flat::FlatTable;
 use lock_command::{
-    Action, ClientNumber, Command, HostNumber, LockName, LockNumber, RequestNumber,
+    Action, ClientNumber, Command, HOSTS, HostNumber, LockName, LockNumber, RequestNumber,
 };
 use lock_modes::Mode;
 use lock_table::{KnownClient, LockRecord, LockState, Table};
@@ -80,7 +80,7 @@ impl Random {
     }
 
     fn host(&mut self) -> Result<HostNumber, Fail> {
-        Ok(HostNumber::new(self.below(8) as u8).ok_or("host")?)
+        Ok(HostNumber::new(self.below(HOSTS as u64) as u8).ok_or("host")?)
     }
 
     fn action(&mut self, range: &Range) -> Result<Action, Fail> {

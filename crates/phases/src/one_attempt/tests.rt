@@ -1,7 +1,9 @@
-// Attempts on slot 0, driven over simulated disks call by call.
-ghost use Rattle.std.specs.Prelude.{◌≡◌, length};
+// Attempts on slot 0, driven over simulated disks call by call: in the cluster's layout, and once in each.
+ghost use Rattle.std.specs.Prelude.{◌≡◌, ◌≤◌, ℕ, List, length};
+ghost use Rattle.torn_block.specs.Layout.{Version, row_length};
 ghost use Rattle.attempt.specs.History.{Fits};
-ghost use Rattle.phases.specs.Calls.{IsWithin, device_call_of, heard_of};
+ghost use Rattle.phases.specs.layouts.Calls.{IsWithin, device_call_of, heard_of};
+ghost use Rattle.phases.specs.Room.{RowFits};
 
 use super::Attempt;
 use crate::end::End;
@@ -11,45 +13,85 @@ use disk::{Disk, NoMemory, SimDisk};
 use paxos_block::{LAST_BALLOT, Value, block_place, image_length};
 use std::alloc::{AllocError, Global};
 use std::test::Fail;
-use torn_block::{COPY_LENGTH, ROW_LENGTH};
-
-const V: Value = [0x56; 32];
-
-const W: Value = [0x57; 32];
-
-const X: Value = [0x58; 32];
+use torn_block::{
+    COPY_LENGTH, ClusterLayout, HOSTS, Layout, Layout1, Layout2, ROW_LENGTH, VALUE_LENGTH, VERSION,
+};
 
 /// More calls than any attempt makes.
 const ENOUGH: usize = 1000;
 
+/// From one ballot of a host to its next.
+const STEP: u64 = HOSTS as u64;
+
+/// The bytes of a copy in front of its input.
+const HEAD_LENGTH: usize = 32;
+
 /// Host 0 promised ballot 1, under the last sequence number.
-const SPENT: [u8; COPY_LENGTH] = [
-    0xA5, 1, 0, 0, 0, 0, 0, 0, 0x40, 0, 0, 0, 0, 0, 0, 0, 0, 0, 0, 0, 0, 0, 0, 1, 0, 0, 0, 0, 0, 0,
-    0, 0, 0, 0, 0, 0, 0, 0, 0, 0, 0, 0, 0, 0, 0, 0, 0, 0, 0, 0, 0, 0, 0, 0, 0, 0, 0, 0, 0, 0, 0, 0,
-    0, 0,
+const SPENT: [u8; HEAD_LENGTH] = [
+    0xA5, VERSION, 0, 0, 0, 0, 0, 0, 0x40, 0, 0, 0, 0, 0, 0, 0, 0, 0, 0, 0, 0, 0, 0, 1, 0, 0, 0, 0,
+    0, 0, 0, 0,
 ];
 
-/// Host 0 promised ballot 9 and had voted for V at ballot 1.
-const VOTED_FOR_V: [u8; COPY_LENGTH] = [
-    0xA5, 1, 1, 0, 0, 0, 0, 0, 0, 0, 0, 0, 0, 0, 0, 1, 0, 0, 0, 0, 0, 0, 0, 9, 0, 0, 0, 0, 0, 0, 0,
-    1, 0x56, 0x56, 0x56, 0x56, 0x56, 0x56, 0x56, 0x56, 0x56, 0x56, 0x56, 0x56, 0x56, 0x56, 0x56,
-    0x56, 0x56, 0x56, 0x56, 0x56, 0x56, 0x56, 0x56, 0x56, 0x56, 0x56, 0x56, 0x56, 0x56, 0x56, 0x56,
-    0x56,
+/// Host 0 promised its second ballot and had voted at ballot 1.
+const HOST_0_VOTED: [u8; HEAD_LENGTH] = [
+    0xA5,
+    VERSION,
+    1,
+    0,
+    0,
+    0,
+    0,
+    0,
+    0,
+    0,
+    0,
+    0,
+    0,
+    0,
+    0,
+    1,
+    0,
+    0,
+    0,
+    0,
+    0,
+    0,
+    0,
+    1 + HOSTS as u8,
+    0,
+    0,
+    0,
+    0,
+    0,
+    0,
+    0,
+    1,
 ];
 
-/// Host 1 voted for W at ballot 2.
-const VOTED_FOR_W: [u8; COPY_LENGTH] = [
-    0xA5, 1, 1, 0, 0, 0, 0, 0, 0, 0, 0, 0, 0, 0, 0, 1, 0, 0, 0, 0, 0, 0, 0, 2, 0, 0, 0, 0, 0, 0, 0,
-    2, 0x57, 0x57, 0x57, 0x57, 0x57, 0x57, 0x57, 0x57, 0x57, 0x57, 0x57, 0x57, 0x57, 0x57, 0x57,
-    0x57, 0x57, 0x57, 0x57, 0x57, 0x57, 0x57, 0x57, 0x57, 0x57, 0x57, 0x57, 0x57, 0x57, 0x57, 0x57,
-    0x57,
+/// Host 1 voted at ballot 2.
+const HOST_1_VOTED: [u8; HEAD_LENGTH] = [
+    0xA5, VERSION, 1, 0, 0, 0, 0, 0, 0, 0, 0, 0, 0, 0, 0, 1, 0, 0, 0, 0, 0, 0, 0, 2, 0, 0, 0, 0, 0,
+    0, 0, 2,
 ];
 
-fn blank_disks(alloc: Global, count: usize) -> Result<Vec<SimDisk>, NoMemory> {
+// An input of this byte alone.
+fn value(byte: u8) -> Value {
+    [byte; VALUE_LENGTH]
+}
+
+// A copy with this byte throughout its input.
+fn copy_of(head: &[u8; HEAD_LENGTH], byte: u8) -> [u8; COPY_LENGTH] {
+    let mut copy = [0; COPY_LENGTH];
+    copy[..HEAD_LENGTH].copy_from_slice(head);
+    copy[HEAD_LENGTH..HEAD_LENGTH + VALUE_LENGTH].fill(byte);
+    copy
+}
+
+fn blank_disks(alloc: Global, count: usize, length: u64) -> Result<Vec<SimDisk>, NoMemory> {
     let mut disks = Vec::new(alloc);
     for _ in 0..count {
         disks
-            .push(SimDisk::new(alloc, image_length(1))?)
+            .push(SimDisk::new(alloc, length)?)
             .map_err(|failed| NoMemory::from(AllocError::from(failed)))?;
     }
     Ok(disks)
@@ -59,7 +101,7 @@ fn blank_disks(alloc: Global, count: usize) -> Result<Vec<SimDisk>, NoMemory> {
 fn put(disk: Option<&mut SimDisk>, host: u8, copy: &[u8; COPY_LENGTH]) -> Result<(), Fail> {
     let disk = disk.ok_or("disk")?;
     let boot = disk.attach()?;
-    let at = block_place(0, host);
+    let at = block_place::<ClusterLayout>(0, host);
     if at + COPY_LENGTH as u64 > disk.size() {
         return Err("place".into());
     }
@@ -76,9 +118,13 @@ fn crash(disk: Option<&mut SimDisk>) -> Result<(), Fail> {
     Ok(())
 }
 
-fn answer<'a>(disk: &mut SimDisk, call: &DeviceCall<'_>, row: &'a mut [u8; ROW_LENGTH]) -> Heard<'a>
-    requires { IsWithin (length disk.old.disk.bytes) call.now }
-    ensures { Fits (device_call_of call.now) (heard_of result) }
+fn answer<'a, const N: usize>(
+    disk: &mut SimDisk,
+    call: &DeviceCall<'_>,
+    row: &'a mut [u8; N],
+) -> Heard<'a, [u8; N]>
+    requires { (v : Version) × (N ≡ row_length v) × IsWithin v (length disk.old.disk.bytes) call.now }
+    ensures { (v : Version) (bytes_of : List ℕ → List ℕ) → Fits (device_call_of v call.now) (heard_of v bytes_of result) }
 {
     let done = match call {
         DeviceCall::Attach => match disk.attach() {
@@ -99,11 +145,17 @@ fn answer<'a>(disk: &mut SimDisk, call: &DeviceCall<'_>, row: &'a mut [u8; ROW_L
 }
 
 // Makes so many calls, or fewer where the attempt ends, and counts them.
-fn drive(attempt: &mut Attempt, disks: &mut [SimDisk], calls: usize) -> usize
-    requires { attempt.old.of.slot ≡ 0 }
+fn drive<const N: usize, L: Layout<Row = [u8; N]>>(
+    attempt: &mut Attempt<L>,
+    disks: &mut [SimDisk],
+    calls: usize,
+) -> usize
+    requires slot { attempt.old.of.slot ≡ 0 }
+    requires row { N ≡ row_length L.version }
+    requires room { RowFits L.Value.row }
     ensures { attempt.new.of.slot ≡ 0 }
 {
-    let mut row = [0; ROW_LENGTH];
+    let mut row = [0; N];
     for made in 0..calls {
         if attempt.end().is_some() {
             return made;
@@ -112,7 +164,7 @@ fn drive(attempt: &mut Attempt, disks: &mut [SimDisk], calls: usize) -> usize
         let Some(disk) = disks.get_mut(usize::from(need.disk)) else {
             return made;
         };
-        if disk.size() < image_length(1) {
+        if disk.size() < image_length::<L>(1) {
             return made;
         }
         let heard = answer(disk, &need.call, &mut row);
@@ -123,10 +175,13 @@ fn drive(attempt: &mut Attempt, disks: &mut [SimDisk], calls: usize) -> usize
 
 #[test]
 fn seven_blank_disks(rt: HostRuntime) -> Result<(), Fail> {
-    let rows = [(Some(V), 119, End::Committed(V)), (None, 70, End::Empty)];
+    let rows = [
+        (Some(value(b'V')), 119, End::Committed(value(b'V'))),
+        (None, 70, End::Empty),
+    ];
     for (input, calls, end) in rows {
-        let mut disks = blank_disks(rt.alloc(), 7)?;
-        let mut attempt = Attempt::new(0, 0, 7, 0, input);
+        let mut disks = blank_disks(rt.alloc(), 7, image_length::<ClusterLayout>(1))?;
+        let mut attempt = Attempt::<ClusterLayout>::new(0, 0, 7, 0, input);
         assert_eq!(rt; drive(&mut attempt, &mut disks, ENOUGH), calls);
         assert_eq!(rt; attempt.end(), Some(end));
         assert_eq!(rt; attempt.ballot(), 1);
@@ -136,13 +191,16 @@ fn seven_blank_disks(rt: HostRuntime) -> Result<(), Fail> {
 
 #[test]
 fn disks_gone_from_the_start(rt: HostRuntime) -> Result<(), Fail> {
-    let rows = [(3, 71, End::Committed(V)), (4, 4, End::NoMajority)];
+    let rows = [
+        (3, 71, End::Committed(value(b'V'))),
+        (4, 4, End::NoMajority),
+    ];
     for (gone, calls, end) in rows {
-        let mut disks = blank_disks(rt.alloc(), 7)?;
+        let mut disks = blank_disks(rt.alloc(), 7, image_length::<ClusterLayout>(1))?;
         for disk in disks.iter_mut().take(gone) {
             disk.lose();
         }
-        let mut attempt = Attempt::new(0, 0, 7, 0, Some(V));
+        let mut attempt = Attempt::<ClusterLayout>::new(0, 0, 7, 0, Some(value(b'V')));
         assert_eq!(rt; drive(&mut attempt, &mut disks, ENOUGH), calls);
         assert_eq!(rt; attempt.end(), Some(end));
     }
@@ -151,13 +209,13 @@ fn disks_gone_from_the_start(rt: HostRuntime) -> Result<(), Fail> {
 
 #[test]
 fn latest_vote_is_adopted(rt: HostRuntime) -> Result<(), Fail> {
-    let mut disks = blank_disks(rt.alloc(), 1)?;
-    put(disks.get_mut(0), 0, &VOTED_FOR_V)?;
-    put(disks.get_mut(0), 1, &VOTED_FOR_W)?;
-    let mut attempt = Attempt::new(2, 0, 1, 0, Some(X));
+    let mut disks = blank_disks(rt.alloc(), 1, image_length::<ClusterLayout>(1))?;
+    put(disks.get_mut(0), 0, &copy_of(&HOST_0_VOTED, b'V'))?;
+    put(disks.get_mut(0), 1, &copy_of(&HOST_1_VOTED, b'W'))?;
+    let mut attempt = Attempt::<ClusterLayout>::new(2, 0, 1, 0, Some(value(b'X')));
     assert_eq!(rt; drive(&mut attempt, &mut disks, ENOUGH), 17);
-    assert_eq!(rt; attempt.ballot(), 11);
-    assert_eq!(rt; attempt.end(), Some(End::Committed(W)));
+    assert_eq!(rt; attempt.ballot(), STEP + 3);
+    assert_eq!(rt; attempt.end(), Some(End::Committed(value(b'W'))));
     Ok(())
 }
 
@@ -165,46 +223,46 @@ fn latest_vote_is_adopted(rt: HostRuntime) -> Result<(), Fail> {
 fn damaged_row_drops_its_disk(rt: HostRuntime) -> Result<(), Fail> {
     // The version, the flag, the zeros behind it, and a ballot of host 1.
     for (at, byte) in [(1, 3), (2, 2), (4, 1), (23, 2)] {
-        let mut damaged = VOTED_FOR_V;
+        let mut damaged = copy_of(&HOST_0_VOTED, b'V');
         damaged[at] = byte;
-        let mut disks = blank_disks(rt.alloc(), 3)?;
+        let mut disks = blank_disks(rt.alloc(), 3, image_length::<ClusterLayout>(1))?;
         put(disks.get_mut(1), 0, &damaged)?;
-        let mut attempt = Attempt::new(0, 0, 3, 0, Some(W));
+        let mut attempt = Attempt::<ClusterLayout>::new(0, 0, 3, 0, Some(value(b'W')));
         // Three openings, and two disks for the rest.
         assert_eq!(rt; drive(&mut attempt, &mut disks, ENOUGH), 37);
-        assert_eq!(rt; attempt.end(), Some(End::Committed(W)));
+        assert_eq!(rt; attempt.end(), Some(End::Committed(value(b'W'))));
     }
     Ok(())
 }
 
 #[test]
 fn crash_between_two_calls_of_a_write(rt: HostRuntime) -> Result<(), Fail> {
-    let mut disks = blank_disks(rt.alloc(), 3)?;
-    let mut attempt = Attempt::new(0, 0, 3, 0, Some(V));
+    let mut disks = blank_disks(rt.alloc(), 3, image_length::<ClusterLayout>(1))?;
+    let mut attempt = Attempt::<ClusterLayout>::new(0, 0, 3, 0, Some(value(b'V')));
     assert_eq!(rt; drive(&mut attempt, &mut disks, 12), 12);
     crash(disks.get_mut(0))?;
     // The write's fourth call is refused, and two disks are left.
     assert_eq!(rt; drive(&mut attempt, &mut disks, ENOUGH), 29);
-    assert_eq!(rt; attempt.end(), Some(End::Committed(V)));
+    assert_eq!(rt; attempt.end(), Some(End::Committed(value(b'V'))));
     Ok(())
 }
 
 #[test]
 fn spent_blocks_are_not_written(rt: HostRuntime) -> Result<(), Fail> {
     let rows = [
-        (&[1].as_slice(), 37, End::Committed(V)),
+        (&[1].as_slice(), 37, End::Committed(value(b'V'))),
         (&[0, 1].as_slice(), 9, End::NoMajority),
         (&[1, 2].as_slice(), 16, End::NoMajority),
     ];
     for (spent, calls, end) in rows {
-        let mut disks = blank_disks(rt.alloc(), 3)?;
+        let mut disks = blank_disks(rt.alloc(), 3, image_length::<ClusterLayout>(1))?;
         for disk in spent.iter() {
-            put(disks.get_mut(*disk), 0, &SPENT)?;
+            put(disks.get_mut(*disk), 0, &copy_of(&SPENT, 0))?;
         }
-        let mut attempt = Attempt::new(0, 0, 3, 0, Some(V));
+        let mut attempt = Attempt::<ClusterLayout>::new(0, 0, 3, 0, Some(value(b'V')));
         assert_eq!(rt; drive(&mut attempt, &mut disks, ENOUGH), calls);
         assert_eq!(rt; attempt.end(), Some(end));
-        assert_eq!(rt; attempt.ballot(), 9);
+        assert_eq!(rt; attempt.ballot(), STEP + 1);
     }
     Ok(())
 }
@@ -212,12 +270,16 @@ fn spent_blocks_are_not_written(rt: HostRuntime) -> Result<(), Fail> {
 #[test]
 fn ballots_come_to_an_end(rt: HostRuntime) -> Result<(), Fail> {
     let rows = [
-        (LAST_BALLOT - 8, LAST_BALLOT - 7, End::Committed(V)),
-        (LAST_BALLOT - 7, 0, End::BallotsSpent),
+        (
+            LAST_BALLOT - STEP,
+            LAST_BALLOT - STEP + 1,
+            End::Committed(value(b'V')),
+        ),
+        (LAST_BALLOT - STEP + 1, 0, End::BallotsSpent),
     ];
     for (floor, ballot, end) in rows {
-        let mut disks = blank_disks(rt.alloc(), 1)?;
-        let mut attempt = Attempt::new(0, 0, 1, floor, Some(V));
+        let mut disks = blank_disks(rt.alloc(), 1, image_length::<ClusterLayout>(1))?;
+        let mut attempt = Attempt::<ClusterLayout>::new(0, 0, 1, floor, Some(value(b'V')));
         drive(&mut attempt, &mut disks, ENOUGH);
         assert_eq!(rt; attempt.ballot(), ballot);
         assert_eq!(rt; attempt.end(), Some(end));
@@ -227,13 +289,13 @@ fn ballots_come_to_an_end(rt: HostRuntime) -> Result<(), Fail> {
 
 #[test]
 fn faster_host_ends_an_attempt(rt: HostRuntime) -> Result<(), Fail> {
-    let mut disks = blank_disks(rt.alloc(), 1)?;
-    let mut slow = Attempt::new(0, 0, 1, 0, Some(V));
+    let mut disks = blank_disks(rt.alloc(), 1, image_length::<ClusterLayout>(1))?;
+    let mut slow = Attempt::<ClusterLayout>::new(0, 0, 1, 0, Some(value(b'V')));
     assert_eq!(rt; drive(&mut slow, &mut disks, 16), 16);
-    let mut fast = Attempt::new(1, 0, 1, 0, Some(W));
+    let mut fast = Attempt::<ClusterLayout>::new(1, 0, 1, 0, Some(value(b'W')));
     // The slow host's vote stands, so the faster one takes it over.
     assert_eq!(rt; drive(&mut fast, &mut disks, ENOUGH), 17);
-    assert_eq!(rt; fast.end(), Some(End::Committed(V)));
+    assert_eq!(rt; fast.end(), Some(End::Committed(value(b'V'))));
     assert_eq!(rt; drive(&mut slow, &mut disks, ENOUGH), 1);
     assert_eq!(rt; slow.end(), Some(End::Outrun(2)));
     Ok(())
@@ -241,16 +303,16 @@ fn faster_host_ends_an_attempt(rt: HostRuntime) -> Result<(), Fail> {
 
 #[test]
 fn marked_block_ends_an_attempt(rt: HostRuntime) -> Result<(), Fail> {
-    let mut marked = VOTED_FOR_W;
+    let mut marked = copy_of(&HOST_1_VOTED, b'W');
     marked[3] = 1;
     // A spent ballot is not looked at then.
     for (floor, on, calls) in [(0, 0, 9), (0, 2, 9), (LAST_BALLOT, 1, 9)] {
-        let mut disks = blank_disks(rt.alloc(), 3)?;
-        put(disks.get_mut(0), 0, &VOTED_FOR_V)?;
+        let mut disks = blank_disks(rt.alloc(), 3, image_length::<ClusterLayout>(1))?;
+        put(disks.get_mut(0), 0, &copy_of(&HOST_0_VOTED, b'V'))?;
         put(disks.get_mut(on), 1, &marked)?;
-        let mut attempt = Attempt::new(2, 0, 3, floor, Some(X));
+        let mut attempt = Attempt::<ClusterLayout>::new(2, 0, 3, floor, Some(value(b'X')));
         assert_eq!(rt; drive(&mut attempt, &mut disks, ENOUGH), calls);
-        assert_eq!(rt; attempt.end(), Some(End::Decided(W)));
+        assert_eq!(rt; attempt.end(), Some(End::Decided(value(b'W'))));
         assert_eq!(rt; attempt.ballot(), 0);
     }
     Ok(())
@@ -259,16 +321,44 @@ fn marked_block_ends_an_attempt(rt: HostRuntime) -> Result<(), Fail> {
 #[test]
 fn other_marks_are_damage(rt: HostRuntime) -> Result<(), Fail> {
     // A mark of 2, and one without an input.
-    let mut twice = VOTED_FOR_V;
+    let mut twice = copy_of(&HOST_0_VOTED, b'V');
     twice[3] = 2;
-    let mut bare = SPENT;
+    let mut bare = copy_of(&SPENT, 0);
     bare[3] = 1;
     for damaged in [twice, bare] {
-        let mut disks = blank_disks(rt.alloc(), 1)?;
+        let mut disks = blank_disks(rt.alloc(), 1, image_length::<ClusterLayout>(1))?;
         put(disks.get_mut(0), 0, &damaged)?;
-        let mut attempt = Attempt::new(0, 0, 1, 0, Some(W));
+        let mut attempt = Attempt::<ClusterLayout>::new(0, 0, 1, 0, Some(value(b'W')));
         assert_eq!(rt; drive(&mut attempt, &mut disks, ENOUGH), 3);
         assert_eq!(rt; attempt.end(), Some(End::NoMajority));
     }
+    Ok(())
+}
+
+// The last of eight hosts commits, and host 0, with the next ballot, finds what it voted for.
+#[test]
+fn eight_hosts_of_layout_1(rt: HostRuntime) -> Result<(), Fail> {
+    let mut disks = blank_disks(rt.alloc(), 1, image_length::<Layout1>(1))?;
+    let mut last = Attempt::<Layout1>::new(7, 0, 1, 0, Some([0x56; 32]));
+    assert_eq!(rt; drive(&mut last, &mut disks, ENOUGH), 17);
+    assert_eq!(rt; last.ballot(), 8);
+    let mut first = Attempt::<Layout1>::new(0, 0, 1, 0, Some([0x57; 32]));
+    assert_eq!(rt; drive(&mut first, &mut disks, ENOUGH), 17);
+    assert_eq!(rt; first.ballot(), 9);
+    assert_eq!(rt; first.end(), Some(End::Committed([0x56; 32])));
+    Ok(())
+}
+
+// The same of sixteen.
+#[test]
+fn sixteen_hosts_of_layout_2(rt: HostRuntime) -> Result<(), Fail> {
+    let mut disks = blank_disks(rt.alloc(), 1, image_length::<Layout2>(1))?;
+    let mut last = Attempt::<Layout2>::new(15, 0, 1, 0, Some([0x56; 48]));
+    assert_eq!(rt; drive(&mut last, &mut disks, ENOUGH), 17);
+    assert_eq!(rt; last.ballot(), 16);
+    let mut first = Attempt::<Layout2>::new(0, 0, 1, 0, Some([0x57; 48]));
+    assert_eq!(rt; drive(&mut first, &mut disks, ENOUGH), 17);
+    assert_eq!(rt; first.ballot(), 17);
+    assert_eq!(rt; first.end(), Some(End::Committed([0x56; 48])));
     Ok(())
 }

@@ -1,28 +1,31 @@
-// Learners driven over simulated disks, call by call.
-ghost use Rattle.std.specs.Prelude.{◌≡◌, ◌≤◌, ◌+◌, length};
+// Learners driven over simulated disks, call by call: in the cluster's layout, and once in each.
+ghost use Rattle.std.specs.Prelude.{◌≤◌, ◌+◌, ℕ, List, length};
 ghost use Rattle.std.specs.Bool.{OnTrue};
+ghost use Rattle.torn_block.specs.Layout.{Version};
 ghost use Rattle.attempt.specs.History.{Fits};
-ghost use Rattle.phases.specs.Calls.{device_call_of, heard_of};
+ghost use Rattle.phases.specs.layouts.Calls.{device_call_of, heard_of};
+ghost use Rattle.phases.specs.Room.{RowFits};
 
 use super::Learner;
 use crate::config::Config;
 use crate::outcome::{Outcome, Refusal};
 use disk::{Disk, DiskFault, NoMemory, SimDisk};
-use paxos_block::Value;
+use paxos_block::{Value, image_length};
 use phases::{DeviceCall, Heard};
 use std::alloc::{AllocError, Global};
 use std::test::Fail;
-use torn_block::ROW_LENGTH;
+use torn_block::{ClusterLayout, Layout, Layout1, Layout2, VALUE_LENGTH};
 
-const V: Value = [0x56; 32];
+// An input of this byte alone.
+fn value(byte: u8) -> Value {
+    [byte; VALUE_LENGTH]
+}
 
-const W: Value = [0x57; 32];
-
-fn blank_disks(alloc: Global, config: Config) -> Result<Vec<SimDisk>, NoMemory> {
+fn blank_disks(alloc: Global, count: u8, length: u64) -> Result<Vec<SimDisk>, NoMemory> {
     let mut disks = Vec::new(alloc);
-    for _ in 0..config.disks() {
+    for _ in 0..count {
         disks
-            .push(SimDisk::new(alloc, config.image_length())?)
+            .push(SimDisk::new(alloc, length)?)
             .map_err(|failed| NoMemory::from(AllocError::from(failed)))?;
     }
     Ok(disks)
@@ -36,8 +39,12 @@ fn has_range(disk: &SimDisk, at: u64, len: u64) -> bool
     at <= size && len <= size - at
 }
 
-fn answer<'a>(disk: &mut SimDisk, call: &DeviceCall<'_>, row: &'a mut [u8; ROW_LENGTH]) -> Heard<'a>
-    ensures { Fits (device_call_of call.now) (heard_of result) }
+fn answer<'a, const N: usize>(
+    disk: &mut SimDisk,
+    call: &DeviceCall<'_>,
+    row: &'a mut [u8; N],
+) -> Heard<'a, [u8; N]>
+    ensures { (v : Version) (bytes_of : List ℕ → List ℕ) → Fits (device_call_of v call.now) (heard_of v bytes_of result) }
 {
     match call {
         DeviceCall::Attach => match disk.attach() {
@@ -58,7 +65,7 @@ fn answer<'a>(disk: &mut SimDisk, call: &DeviceCall<'_>, row: &'a mut [u8; ROW_L
             }
         }
         DeviceCall::Read { boot, at } => {
-            if !has_range(disk, *at, ROW_LENGTH as u64) {
+            if !has_range(disk, *at, N as u64) {
                 return Heard::Fault(DiskFault::Failed);
             }
             match disk.read(*boot, *at, row) {
@@ -70,8 +77,14 @@ fn answer<'a>(disk: &mut SimDisk, call: &DeviceCall<'_>, row: &'a mut [u8; ROW_L
 }
 
 // Makes so many calls, or fewer where the operation ends or a value waits, and counts them.
-fn drive(learner: &mut Learner, disks: &mut [SimDisk], calls: usize) -> usize {
-    let mut row = [0; ROW_LENGTH];
+fn drive<const N: usize, L: Layout<Row = [u8; N]>>(
+    learner: &mut Learner<L>,
+    disks: &mut [SimDisk],
+    calls: usize,
+) -> usize
+    requires { RowFits L.Value.row }
+{
+    let mut row = [0; N];
     for made in 0..calls {
         if learner.idle() || learner.offered().is_some() {
             return made;
@@ -89,8 +102,8 @@ fn drive(learner: &mut Learner, disks: &mut [SimDisk], calls: usize) -> usize {
 #[test]
 fn recovery_of_blank_disks(rt: HostRuntime) -> Result<(), Fail> {
     let config = Config::new(3, 4).ok_or("config")?;
-    let mut disks = blank_disks(rt.alloc(), config)?;
-    let mut learner = Learner::new(rt.alloc(), 0, config)?;
+    let mut disks = blank_disks(rt.alloc(), config.disks(), config.image_length())?;
+    let mut learner = Learner::<ClusterLayout>::new(rt.alloc(), 0, config)?;
     assert!(rt; learner.idle());
     learner.recover(1);
     assert_eq!(rt; drive(&mut learner, &mut disks, 1000), 30);
@@ -102,27 +115,58 @@ fn recovery_of_blank_disks(rt: HostRuntime) -> Result<(), Fail> {
 #[test]
 fn placed_and_judged(rt: HostRuntime) -> Result<(), Fail> {
     let config = Config::new(1, 2).ok_or("config")?;
-    let mut disks = blank_disks(rt.alloc(), config)?;
-    let mut learner = Learner::new(rt.alloc(), 0, config)?;
-    learner.place(V, 1);
+    let mut disks = blank_disks(rt.alloc(), config.disks(), config.image_length())?;
+    let mut learner = Learner::<ClusterLayout>::new(rt.alloc(), 0, config)?;
+    learner.place(value(b'V'), 1);
     assert_eq!(rt; drive(&mut learner, &mut disks, 1000), 17);
-    assert_eq!(rt; learner.offered(), Some(V));
+    assert_eq!(rt; learner.offered(), Some(value(b'V')));
     assert_eq!(rt; learner.said(), None);
     if learner.offered().is_some() {
         learner.take(true);
     }
     assert_eq!(rt; learner.said(), Some(Outcome::Placed { slot: 0 }));
-    assert!(rt; learner.learned() == [V].as_slice());
+    assert!(rt; learner.learned() == [value(b'V')].as_slice());
     if learner.idle() {
-        learner.place(W, 1);
+        learner.place(value(b'W'), 1);
     }
     assert_eq!(rt; drive(&mut learner, &mut disks, 1000), 17);
-    assert_eq!(rt; learner.offered(), Some(W));
+    assert_eq!(rt; learner.offered(), Some(value(b'W')));
     if learner.offered().is_some() {
         learner.take(false);
     }
     let refusal = Refusal::NotACommand;
     assert_eq!(rt; learner.said(), Some(Outcome::Refused(refusal)));
-    assert!(rt; learner.learned() == [V].as_slice());
+    assert!(rt; learner.learned() == [value(b'V')].as_slice());
+    Ok(())
+}
+
+// The last host of each layout learns the value that it puts.
+#[test]
+fn placed_in_layout_1(rt: HostRuntime) -> Result<(), Fail> {
+    let config = Config::new(1, 1).ok_or("config")?;
+    let mut disks = blank_disks(rt.alloc(), 1, image_length::<Layout1>(1))?;
+    let mut learner = Learner::<Layout1>::new(rt.alloc(), 7, config)?;
+    learner.place([0x56; 32], 1);
+    assert_eq!(rt; drive(&mut learner, &mut disks, 1000), 17);
+    if learner.offered().is_some() {
+        learner.take(true);
+    }
+    assert_eq!(rt; learner.said(), Some(Outcome::Placed { slot: 0 }));
+    assert!(rt; learner.learned() == [[0x56; 32]].as_slice());
+    Ok(())
+}
+
+#[test]
+fn placed_in_layout_2(rt: HostRuntime) -> Result<(), Fail> {
+    let config = Config::new(1, 1).ok_or("config")?;
+    let mut disks = blank_disks(rt.alloc(), 1, image_length::<Layout2>(1))?;
+    let mut learner = Learner::<Layout2>::new(rt.alloc(), 15, config)?;
+    learner.place([0x56; 48], 1);
+    assert_eq!(rt; drive(&mut learner, &mut disks, 1000), 17);
+    if learner.offered().is_some() {
+        learner.take(true);
+    }
+    assert_eq!(rt; learner.said(), Some(Outcome::Placed { slot: 0 }));
+    assert!(rt; learner.learned() == [[0x56; 48]].as_slice());
     Ok(())
 }

@@ -1,14 +1,16 @@
 -- What an attempt knows of its block on a disk stays, whatever others do there, and whatever the attempt does elsewhere.
+use Rattle.world_safety.specs.Cluster.{at_cluster}
 use Rattle.std.proofs.Common.{ℕ, ◌<◌, ◌≤◌, ◌≡◌, ◌≢◌, true, List, length, refl, sym, subst, ap, ap₂, ◌∙◌, arith}
 use Rattle.disk.specs.Disk.{DiskState, Call, Answer, Step, Crashes, lost}
 use Rattle.disk.specs.Crash.{MayLeave}
+use Rattle.torn_block.specs.Layout.{cluster_version}
 use Rattle.torn_block.specs.declared.layout.TheConstants.{HOSTS}
 use Rattle.torn_block.specs.declared.write_steps.WriteCall.{WriteCall}
 use Rattle.torn_block.specs.declared.write_steps.WriteCall.TheVariants.{CloseGate, SyncClosed, PutBody, SyncBody, OpenGate, SyncOpened}
 use Rattle.torn_block.specs.Place.{block_in}
 use Rattle.torn_block.specs.Register.{IsAtRest}
 use Rattle.torn_block.specs.Stage.{Write128, IsDue, IsPlaced}
-use Rattle.paxos_block.specs.declared.block.PBlock.{PBlock}
+use Rattle.paxos_block.specs.Saying.{Said as PBlock}
 use Rattle.paxos_block.specs.Places.{Spot, place_of, IsSpot, IsImage, IsWithin}
 use Rattle.paxos_block.specs.Row.{seen_in}
 use Rattle.paxos_block.specs.Saying.{body_saying}
@@ -30,10 +32,13 @@ use Rattle.attempt.proofs.Votes.{says_same}
 
 -- BY THE CALL THAT IS NEXT
 
-module _ (s : Setup) (f g : Answers) (d : ℕ) (disk new : DiskState) (old cell : Cell (List ℕ))
-    (rests : IsAtRest (own_place s) disk → IsAtRest (own_place s) new)
-    (settled : ((bytes : List ℕ) → MayLeave disk bytes → seen_in (block_in (own_place s) bytes) ≡ seen_block (last_row (f d)) s.host) → (bytes : List ℕ) → MayLeave new bytes → seen_in (block_in (own_place s) bytes) ≡ seen_block (last_row (g d)) s.host)
-    (writes : (p : Phase) (call : WriteCall) → call ≢ CloseGate → IsNext (f d) (Putting p call) → Writes s p d f call disk old → Writes s p d g call new cell) where
+module _ (any : Setup) (f g : Answers) (d : ℕ) (disk new : DiskState) (old cell : Cell (List ℕ))
+    (rests : IsAtRest (own_place (at_cluster any)) disk → IsAtRest (own_place (at_cluster any)) new)
+    (settled : ((bytes : List ℕ) → MayLeave disk bytes → seen_in (block_in (own_place (at_cluster any)) bytes) ≡ seen_block (last_row (f d)) (at_cluster any).host) → (bytes : List ℕ) → MayLeave new bytes → seen_in (block_in (own_place (at_cluster any)) bytes) ≡ seen_block (last_row (g d)) (at_cluster any).host)
+    (writes : (p : Phase) (call : WriteCall) → call ≢ CloseGate → IsNext (f d) (Putting p call) → Writes (at_cluster any) p d f call disk old → Writes (at_cluster any) p d g call new cell) where
+  abbrev s : Setup
+  s = at_cluster any
+
   pub knows_for : (kind : Kind) → IsNext (f d) kind → KnowsFor kind disk s f d old → KnowsFor kind new s g d cell
   knows_for Attaching is known = tt
   knows_for Syncing is known = tt
@@ -54,8 +59,8 @@ writing_same host says w call disk new old cell same due is =
 -- whatever happened there, it was not to this block
 pub record Spares (place : ℕ) (disk new : DiskState) : Type 0 where
   pub boot : new.boot ≡ disk.boot
-  pub outcomes : Outcomes disk place new
-  pub due : (w : Write128) (call : WriteCall) → w.place ≡ place → IsPlaced w disk → IsDue call w disk → IsDue call w new
+  pub outcomes : Outcomes cluster_version disk place new
+  pub due : (w : Write128) (call : WriteCall) → w.version ≡ cluster_version → w.place ≡ place → IsPlaced w disk → IsDue call w disk → IsDue call w new
 
 -- a call within another block
 pub spares_others : (slots : ℕ) (mine other : Spot) (disk new : DiskState) (call : Call) (answer : Answer) → IsSpot slots mine → IsSpot slots other → mine ≢ other → IsImage slots disk → IsWithin mine call → Step disk call answer new
@@ -63,36 +68,36 @@ pub spares_others : (slots : ℕ) (mine other : Spot) (disk new : DiskState) (ca
 spares_others slots mine other disk new call answer is_mine is_other differ image within step =
     record {
       boot = boot_kept disk new call answer step;
-      outcomes = others_outcomes slots mine is_mine disk image other is_other differ call answer new within step;
-      due = λ w due_call at_other placed due. others_stay_due slots mine is_mine disk image other is_other differ w due_call call answer new at_other placed within step due;
+      outcomes = others_outcomes cluster_version slots mine is_mine disk image other is_other differ call answer new within step;
+      due = λ w due_call by at_other placed due. others_stay_due cluster_version slots mine is_mine disk image other is_other differ w due_call call answer new by at_other placed within step due;
     }
 
 -- nothing
 pub spares_same : (place : ℕ) (disk : DiskState) → Spares place disk disk
-spares_same place disk = record { boot = refl; outcomes = same_outcomes disk disk place refl; due = λ w call at placed due. due }
+spares_same place disk = record { boot = refl; outcomes = same_outcomes cluster_version disk disk place refl; due = λ w call by at placed due. due }
 
 -- the loss of a disk
 pub spares_lost : (place : ℕ) (disk : DiskState) → Spares place disk (lost disk)
 spares_lost place disk =
-    record { boot = refl; outcomes = λ bytes may. (bytes, record { as_many = may.as_many; same = may.same }, refl); due = λ w call at placed due. record { now = due.now; left = due.left } }
+    record { boot = refl; outcomes = λ bytes may. (bytes, record { as_many = may.as_many; same = may.same }, refl); due = λ w call by at placed due. record { now = due.now; left = due.left } }
 
-pub knows_spared : (slots : ℕ) (s : Setup) (f : Answers) (d : ℕ) (disk new : DiskState) (old cell : Cell (List ℕ)) → IsImage slots disk → s.slot < slots → s.host < HOSTS → Spares (own_place s) disk new → IsSameBlock old cell
-    → Knows disk s f d old → Knows new s f d cell
+pub knows_spared : (slots : ℕ) (any : Setup) (f : Answers) (d : ℕ) (disk new : DiskState) (old cell : Cell (List ℕ)) → IsImage slots disk → (at_cluster any).slot < slots → (at_cluster any).host < HOSTS → Spares (own_place (at_cluster any)) disk new → IsSameBlock old cell
+    → Knows disk (at_cluster any) f d old → Knows new (at_cluster any) f d cell
 knows_spared slots s f d disk new old cell image slot_below host_below spares same known =
     record {
       boot = (let kept = spares.boot in let before = known.boot in omega arith);
       next = λ current kind is.
-          knows_for s f f d disk new old cell
-          (rests_by disk new (own_place s) spares.outcomes)
+          knows_for (at_cluster s) f f d disk new old cell
+          (rests_by cluster_version disk new (own_place (at_cluster s)) spares.outcomes)
           (λ settled bytes may. (let b = spares.outcomes bytes may in ap seen_in b.2 ∙ settled b.0 b.1))
-          (λ p call later at writes. writing_same s.host (says_for s p f) (write_on s p d f) call disk new old cell same
-          (spares.due (write_on s p d f) call refl (placed slots s p d f disk image slot_below host_below writes.can)) writes)
+          (λ p call later at writes. writing_same (at_cluster s).host (says_for (at_cluster s) p f) (write_on (at_cluster s) p d f) call disk new old cell same
+          (spares.due (write_on (at_cluster s) p d f) call refl refl (placed slots (at_cluster s) p d f disk image slot_below host_below writes.can)) writes)
           kind is
           (known.next (record { good = current.good; boot = current.boot ∙ spares.boot }) kind is);
     }
 
 -- A crash ends what was known.
-pub knows_crashed : (s : Setup) (f : Answers) (d : ℕ) (disk new : DiskState) (old cell : Cell (List ℕ)) → Crashes disk new → Knows disk s f d old → Knows new s f d cell
+pub knows_crashed : (any : Setup) (f : Answers) (d : ℕ) (disk new : DiskState) (old cell : Cell (List ℕ)) → Crashes disk new → Knows disk (at_cluster any) f d old → Knows new (at_cluster any) f d cell
 knows_crashed s f d disk new old cell crash known =
     record {
       boot = (let rises = crash.boot in let before = known.boot in omega arith);
@@ -112,7 +117,10 @@ not_before Two Opening l = absurd (omega arith)
 not_before Two One l = absurd (omega arith)
 not_before Two Two l = omega arith
 
-module _ (s : Setup) (f : Answers) (k : ℕ) (x : Heard) (p : Phase) (come : start p ≤ length (f k)) (d : ℕ) (off : d ≢ k) (behind : length (f d) ≤ goal p) where
+module _ (any : Setup) (f : Answers) (k : ℕ) (x : Heard) (p : Phase) (come : start p ≤ length (f k)) (d : ℕ) (off : d ≢ k) (behind : length (f d) ≤ goal p) where
+  abbrev there_s : Setup
+  there_s = at_cluster any
+
   abbrev g : Answers
   g = more f k x
 
@@ -120,27 +128,27 @@ module _ (s : Setup) (f : Answers) (k : ℕ) (x : Heard) (p : Phase) (come : sta
   there = more_there f k x d off
 
   -- what is written on the disk is as before
-  writes_there : (q : Phase) → start q < length (f d) → (says_for s q g ≡ says_for s q f) × (write_on s q d g ≡ write_on s q d f)
+  writes_there : (q : Phase) → start q < length (f d) → (says_for there_s q g ≡ says_for there_s q f) × (write_on there_s q d g ≡ write_on there_s q d f)
   writes_there q begun =
       let first = not_before q p (omega arith) in
-      let says : says_for s q g ≡ says_for s q f = says_same s g f q (λ r before. rows_kept f k x r (omega (arith, before, come, first))) in (
+      let says : says_for there_s q g ≡ says_for there_s q f = says_same there_s g f q (λ r before. rows_kept f k x r (omega (arith, before, come, first))) in (
         says,
-        ap₂ (λ (a : List Heard) (b : PBlock). record { place = own_place s; block = (seen_block (last_row a) s.host).bytes; body = body_saying b }) there says,
+        ap₂ (λ (a : List Heard) (b : PBlock). record { version = cluster_version; place = own_place there_s; block = (seen_block (last_row a) there_s.host).bytes; body = body_saying b }) there says,
       )
 
-  pub knows_elsewhere : (disk : DiskState) (old cell : Cell (List ℕ)) → IsSameBlock old cell → Knows disk s f d old → Knows disk s g d cell
+  pub knows_elsewhere : (disk : DiskState) (old cell : Cell (List ℕ)) → IsSameBlock old cell → Knows disk there_s f d old → Knows disk there_s g d cell
   knows_elsewhere disk old cell same known =
       record {
         boot = (let is = ap boot_of there in let before = known.boot in omega arith);
         next = λ current kind is.
             (let is_then : IsNext (f d) kind = subst (λ (a : List Heard). IsNext a kind) there is in
-            knows_for s f g d disk disk old cell (λ rests. rests)
-            (λ settled bytes may. settled bytes may ∙ ap (λ (a : List Heard). seen_block (last_row a) s.host) (sym there))
+            knows_for there_s f g d disk disk old cell (λ rests. rests)
+            (λ settled bytes may. settled bytes may ∙ ap (λ (a : List Heard). seen_block (last_row a) there_s.host) (sym there))
             (λ q call later at writes.
             (let both = writes_there q (later_number q call (length (f d)) later at) in
-            subst (λ (says : PBlock). IsWriting s.host says (write_on s q d g) call disk cell) (sym both.0)
-            (subst (λ (w : Write128). IsWriting s.host (says_for s q f) w call disk cell) (sym both.1)
-            (writing_same s.host (says_for s q f) (write_on s q d f) call disk disk old cell same (λ due. due) writes))))
+            subst (λ (says : PBlock). IsWriting there_s.host says (write_on there_s q d g) call disk cell) (sym both.0)
+            (subst (λ (w : Write128). IsWriting there_s.host (says_for there_s q f) w call disk cell) (sym both.1)
+            (writing_same there_s.host (says_for there_s q f) (write_on there_s q d f) call disk disk old cell same (λ due. due) writes))))
             kind is_then
             (known.next (record { good = subst (λ (a : List Heard). all_good a ≡ true) there current.good; boot = ap boot_of (sym there) ∙ current.boot }) kind is_then));
       }

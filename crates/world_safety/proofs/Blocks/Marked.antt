@@ -7,6 +7,7 @@ use Rattle.disk.specs.declared.fault.DiskFault.TheVariants.{Reset, Failed, Gone}
 use Rattle.disk.specs.Crash.{MayLeave}
 use Rattle.disk.specs.Disk.{DiskState, Attach, Sync, Answer, Booted, Told, Done, Fault, IsUnder, Step, Crashes}
 use Rattle.disk.proofs.CrashLemmas.{may_leave_now}
+use Rattle.torn_block.specs.Layout.{cluster_version}
 use Rattle.torn_block.specs.declared.layout.TheConstants.{HOSTS, BLOCK_LENGTH, ROW_LENGTH, LAST_SEQUENCE}
 use Rattle.torn_block.specs.declared.write_steps.WriteCall.{WriteCall}
 use Rattle.torn_block.specs.declared.write_steps.WriteCall.TheVariants.{CloseGate, SyncClosed, PutBody, SyncBody, OpenGate, SyncOpened}
@@ -18,7 +19,7 @@ use Rattle.torn_block.specs.Stage.{Write128, call_of, next_call, old_value, new_
 use Rattle.torn_block.proofs.PlaceLaws.{length-block_in}
 use Rattle.torn_block.proofs.RegisterLaws.{known_synced}
 use Rattle.torn_block.proofs.StageLaws.{done_leads_on, settled_begins}
-use Rattle.paxos_block.specs.declared.block.PBlock.{PBlock}
+use Rattle.paxos_block.specs.Saying.{Said as PBlock}
 use Rattle.paxos_block.specs.Places.{VoteOf, row_place, row_of, IsImage, IsSoundAt}
 use Rattle.paxos_block.specs.Row.{IsSound, IsSaid, SeenBlock, seen_in, says_of, sequence_or_zero}
 use Rattle.paxos_block.specs.Saying.{MaySay, body_saying}
@@ -56,7 +57,7 @@ pub mark_placed : (slots : ℕ) (s : mark.Setup) (a : List Heard) (disk : DiskSt
 mark_placed slots s a disk image slot_below host_below can =
     record {
       whole = image.whole;
-      within = omega (arith, image.long, spot_fits slots (VoteOf s.slot s.host) (slot_below, host_below));
+      within = omega (arith, image.long, spot_fits cluster_version slots (VoteOf s.slot s.host) (slot_below, host_below));
       block = can.long;
       body = can.full;
       fits = (let number = can.is_write.number in omega (arith, number));
@@ -73,12 +74,12 @@ mark_spared slots s a disk new image slot_below host_below spares known =
     }
   where
     writing : (call : WriteCall) → IsMarking s a call disk → IsMarking s a call new
-    writing call now = record { due = spares.due (write_on s a) call refl (mark_placed slots s a disk image slot_below host_below now.can) now.due; can = now.can; old = now.old }
+    writing call now = record { due = spares.due (write_on s a) call refl refl (mark_placed slots s a disk image slot_below host_below now.can) now.due; can = now.can; old = now.old }
 
     by_kind : (kind : Kind) → KnowsMarkFor kind disk s a → KnowsMarkFor kind new s a
     by_kind Attaching now = tt
     by_kind Syncing now = tt
-    by_kind Reading now = rests_by disk new (marked_place s) spares.outcomes now
+    by_kind Reading now = rests_by cluster_version disk new (marked_place s) spares.outcomes now
     by_kind (Putting p CloseGate) now = λ bytes may. (let b = spares.outcomes bytes may in ap seen_in b.2 ∙ now b.0 b.1)
     by_kind (Putting p SyncClosed) now = writing SyncClosed now
     by_kind (Putting p PutBody) now = writing PutBody now
@@ -195,7 +196,7 @@ module _ (slots : ℕ) (s : mark.Setup) (a : List Heard) (kind : Kind) (disk new
   knows_none bad = knows_by (λ current. absurd (true≢false (sym bad ∙ good_by current.good)))
 
   -- a call that writes nothing
-  calm : new.bytes ≡ disk.bytes → Outcomes disk place new → KnowsMark new s b → AfterMark s b disk new cell
+  calm : new.bytes ≡ disk.bytes → Outcomes cluster_version disk place new → KnowsMark new s b → AfterMark s b disk new cell
   calm bytes o known =
       record {
         stands = stands_by disk new s.slot s.host cell o stands;
@@ -214,12 +215,12 @@ module _ (slots : ℕ) (s : mark.Setup) (a : List Heard) (kind : Kind) (disk new
 
   attached : kind ≡ Attaching → AfterMark s b disk new cell
   attached same =
-      calm (bytes_left disk new Attach answer tt (step_as Attaching same)) (calm_outcomes disk new place Attach answer tt (step_as Attaching same))
+      calm (bytes_left disk new Attach answer tt (step_as Attaching same)) (calm_outcomes cluster_version disk new place Attach answer tt (step_as Attaching same))
       (knows_by (λ current next at. subst (λ (k : Kind). KnowsMarkFor k new s b) (sym (then_as Attaching next same at)) tt))
 
   synced : kind ≡ Syncing → AfterMark s b disk new cell
   synced same =
-      calm (bytes_left disk new (Sync (boot_of a)) answer tt (step_as Syncing same)) (calm_outcomes disk new place (Sync (boot_of a)) answer tt (step_as Syncing same))
+      calm (bytes_left disk new (Sync (boot_of a)) answer tt (step_as Syncing same)) (calm_outcomes cluster_version disk new place (Sync (boot_of a)) answer tt (step_as Syncing same))
       (knows_by (λ current next at. subst (λ (k : Kind). KnowsMarkFor k new s b) (sym (then_as Syncing next same at))
       (sync_rests place disk new (boot_of a) answer (step_as Syncing same) (good_by current.good))))
 
@@ -246,13 +247,13 @@ module _ (slots : ℕ) (s : mark.Setup) (a : List Heard) (kind : Kind) (disk new
       let said_so = row_told disk new (boot_of a) s.slot answer row go tells in
       let number : length a + 1 ≡ goal Opening = omega (arith, third same) in
       ap seen_in (rests bytes before)
-      ∙ ap seen_in (sym (block_of-row_of s.slot s.host disk.bytes host_below))
-      ∙ sym (said_sees (row_of s.slot disk.bytes) row s.host host_below said_so)
+      ∙ ap seen_in (sym (block_of-row_of cluster_version s.slot s.host disk.bytes host_below))
+      ∙ sym (said_sees cluster_version (row_of s.slot disk.bytes) row s.host host_below said_so)
       ∙ ap (λ (r : Option (List SeenBlock)). seen_block r s.host) (sym (row_last Opening a x number ∙ ap told tells))
 
   is_read : kind ≡ Reading → AfterMark s b disk new cell
   is_read same =
-      calm (bytes_left disk new (call_by s a Reading) answer tt (step_as Reading same)) (calm_outcomes disk new place (call_by s a Reading) answer tt (step_as Reading same))
+      calm (bytes_left disk new (call_by s a Reading) answer tt (step_as Reading same)) (calm_outcomes cluster_version disk new place (call_by s a Reading) answer tt (step_as Reading same))
       (knows_by (λ current next at.
       (let row = reading_tells (boot_of a) (row_place s.slot) ROW_LENGTH x (fits_as Reading same) (good_by current.good) in
       let rests : IsAtRest place disk = subst (λ (k : Kind). KnowsMarkFor k disk s a) same (knows.next (current_before (λ e. absurd (let no : Reading ≡ Attaching = sym same ∙ e in cc)) current) kind is) in
@@ -272,10 +273,10 @@ module _ (slots : ℕ) (s : mark.Setup) (a : List Heard) (kind : Kind) (disk new
     -- the write goes on
     goes_on : (next : WriteCall) → IsMarking s a next new → IsMarking s b next new
     goes_on next it =
-        let write : write_on s b ≡ w = ap (λ (o : SeenBlock). record { place = place; block = o.bytes; body = body_saying (with_mark o.says) }) own_then in
+        let write : write_on s b ≡ w = ap (λ (o : SeenBlock). record { version = cluster_version; place = place; block = o.bytes; body = body_saying (with_mark o.says) }) own_then in
         record {
           due = subst (λ (v : Write128). IsDue next v new) (sym write) it.due;
-          can = subst (λ (o : SeenBlock). CanWrite s.host (with_mark o.says) (record { place = place; block = o.bytes; body = body_saying (with_mark o.says) })) (sym own_then) it.can;
+          can = subst (λ (o : SeenBlock). CanWrite s.host (with_mark o.says) (record { version = cluster_version; place = place; block = o.bytes; body = body_saying (with_mark o.says) })) (sym own_then) it.can;
           old = subst (λ (o : SeenBlock). says_of (value_of o.bytes) ≡ o.says) (sym own_then) it.old;
         }
 
@@ -299,10 +300,10 @@ module _ (slots : ℕ) (s : mark.Setup) (a : List Heard) (kind : Kind) (disk new
       sound_now = stands.sound disk.bytes (may_leave_now disk)
 
       block_long : length (block_in place disk.bytes) ≡ BLOCK_LENGTH
-      block_long = length-block_in place disk.bytes (omega (arith, image.long, spot_fits slots (VoteOf s.slot s.host) (slot_below, host_below)))
+      block_long = length-block_in cluster_version place disk.bytes (omega (arith, image.long, spot_fits cluster_version slots (VoteOf s.slot s.host) (slot_below, host_below)))
 
       says_so : IsSaid s.host (value_of (block_in place disk.bytes)) (own_block s a).says
-      says_so = subst (IsSaid s.host (value_of (block_in place disk.bytes))) same_says (sound_says s.host (block_in place disk.bytes) block_long sound_now)
+      says_so = subst (IsSaid s.host (value_of (block_in place disk.bytes))) same_says (sound_says cluster_version s.host (block_in place disk.bytes) block_long sound_now)
 
       begins : IsMarking s a CloseGate disk
       begins =
@@ -314,7 +315,7 @@ module _ (slots : ℕ) (s : mark.Setup) (a : List Heard) (kind : Kind) (disk new
               number = number_fits (value_of w.block) (own_block s a).sequence (ap (λ (l : List ℕ). sequence_or_zero (value_of l)) (sym same_bytes) ∙ ap (λ (o : SeenBlock). o.sequence) seen_now) fresh;
             };
             long = ap length (sym same_bytes) ∙ block_long;
-            full = fills (with_mark (own_block s a).says) (said_long s.host (block_in place disk.bytes) (own_block s a).says (value_of (block_in place disk.bytes)) block_long refl says_so);
+            full = fills cluster_version (with_mark (own_block s a).says) (said_long cluster_version s.host (block_in place disk.bytes) (own_block s a).says (value_of (block_in place disk.bytes)) block_long refl says_so);
           } in
           record {
             due = settled_begins w disk (mark_placed slots s a disk image slot_below host_below can) (λ bytes left. ap (λ (o : SeenBlock). o.bytes) (settled bytes left));
@@ -332,7 +333,7 @@ module _ (slots : ℕ) (s : mark.Setup) (a : List Heard) (kind : Kind) (disk new
       placed_then = mark_placed slots s a new image_then slot_below host_below it.can
 
       new_says : says_of (new_value w) ≡ with_mark (own_block s a).says
-      new_says = claims_back (with_mark (own_block s a).says) s.host it.can.is_write.may_say
+      new_says = claims_back cluster_version (with_mark (own_block s a).says) s.host it.can.is_write.may_say
 
       -- what it says then, but for the mark, is what it said
       same_said : said (new_value w) ≡ said (old_value w)
@@ -384,8 +385,8 @@ module _ (slots : ℕ) (s : mark.Setup) (a : List Heard) (kind : Kind) (disk new
       -- and the sixth
       marked : (p : Phase) → kind ≡ Putting p SyncOpened → answer ≡ Done → Step disk (Sync (boot_of a)) Done new → AfterMark s b disk new cell
       marked p same e step' =
-          calm (bytes_left disk new (Sync (boot_of a)) Done tt step') (calm_outcomes disk new place (Sync (boot_of a)) Done tt step')
-          (knows_by (λ current k at. subst (λ (q : Kind). KnowsMarkFor q new s b) (sym (then_as (Putting p SyncOpened) k same at)) (known_synced place disk new (boot_of a) step').0))
+          calm (bytes_left disk new (Sync (boot_of a)) Done tt step') (calm_outcomes cluster_version disk new place (Sync (boot_of a)) Done tt step')
+          (knows_by (λ current k at. subst (λ (q : Kind). KnowsMarkFor q new s b) (sym (then_as (Putting p SyncOpened) k same at)) (known_synced cluster_version place disk new (boot_of a) step').0))
 
     -- its calls come behind the read
     behind : (p : Phase) (call : WriteCall) → kind ≡ Putting p call → 3 ≤ length a
@@ -421,8 +422,8 @@ module _ (slots : ℕ) (s : mark.Setup) (a : List Heard) (kind : Kind) (disk new
         by (Booted number) e = absurd (let step' = go (Booted number) e in let one = step'.2.0 in let two = done_is call w (boot_of a) disk in cc)
         by (Told bytes) e = absurd (let step' = go (Told bytes) e in let one = step'.2.0 in let two = done_is call w (boot_of a) disk in cc)
         by Done e = done (it_is p call same (go Done e).1) e go
-        by (Fault Reset) e = calm (ap (λ (d : DiskState). d.bytes) (go (Fault Reset) e).2) (same_outcomes disk new place (go (Fault Reset) e).2) (knows_none (ap (λ (q : Answer). is_bad (heard_as q)) e))
-        by (Fault Gone) e = calm (ap (λ (d : DiskState). d.bytes) (go (Fault Gone) e).1) (same_outcomes disk new place (go (Fault Gone) e).1) (knows_none (ap (λ (q : Answer). is_bad (heard_as q)) e))
+        by (Fault Reset) e = calm (ap (λ (d : DiskState). d.bytes) (go (Fault Reset) e).2) (same_outcomes cluster_version disk new place (go (Fault Reset) e).2) (knows_none (ap (λ (q : Answer). is_bad (heard_as q)) e))
+        by (Fault Gone) e = calm (ap (λ (d : DiskState). d.bytes) (go (Fault Gone) e).1) (same_outcomes cluster_version disk new place (go (Fault Gone) e).1) (knows_none (ap (λ (q : Answer). is_bad (heard_as q)) e))
         by (Fault Failed) e = failed call (it_is p call same (go (Fault Failed) e).1) go e
 
     called : (p : Phase) (call : WriteCall) → kind ≡ Putting p call → AfterMark s b disk new cell

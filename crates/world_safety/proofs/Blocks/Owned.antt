@@ -1,14 +1,16 @@
 -- A call of an attempt is answered: what its own block there stands for then, and what it knows of it, where the call writes nothing.
+use Rattle.world_safety.specs.Cluster.{at_cluster}
 use Rattle.std.proofs.Common.{ℕ, ◌<◌, ◌≤◌, ◌≡◌, ◌≢◌, true, false, true≢false, Bool, not, Option, Some, None, List, length, refl, sym, subst, ap, ap₂, ◌∙◌, arith}
 use Rattle.std.proofs.lemmas.Bool.{and_parts}
 use Rattle.disk.specs.declared.fault.DiskFault.TheVariants.{Reset, Failed, Gone}
 use Rattle.disk.specs.Disk.{DiskState, Call, Attach, Read, Sync, Answer, Booted, Told, Done, Fault, Step}
 use Rattle.disk.specs.Crash.{MayLeave}
+use Rattle.torn_block.specs.Layout.{cluster_version}
 use Rattle.torn_block.specs.declared.layout.TheConstants.{HOSTS, ROW_LENGTH}
 use Rattle.torn_block.specs.Place.{block_in}
 use Rattle.torn_block.specs.Register.{IsAtRest}
 use Rattle.torn_block.proofs.RegisterLaws.{known_synced}
-use Rattle.paxos_block.specs.declared.block.PBlock.{PBlock}
+use Rattle.paxos_block.specs.Saying.{Said as PBlock}
 use Rattle.paxos_block.specs.Places.{row_place, row_of, IsImage}
 use Rattle.paxos_block.specs.Row.{SeenBlock, seen_in}
 use Rattle.paxos_block.specs.Saying.{body_saying}
@@ -57,7 +59,7 @@ read_leaves disk new boot at len (Fault Gone) step = step.1
 pub sync_rests : (place : ℕ) (disk new : DiskState) (boot : ℕ) (answer : Answer) → Step disk (Sync boot) answer new → is_bad (heard_as answer) ≡ false → IsAtRest place new
 sync_rests place disk new boot (Booted number) step good = absurd (let all = step.2.0 in cc)
 sync_rests place disk new boot (Told bytes) step good = absurd (let all = step.2.0 in cc)
-sync_rests place disk new boot Done step good = (known_synced place disk new boot step).0
+sync_rests place disk new boot Done step good = (known_synced cluster_version place disk new boot step).0
 sync_rests place disk new boot (Fault fault) step good = absurd (true≢false good)
 
 -- A call of a phase of the attempt, on a disk: what holds before it, and that the disk is an image then.
@@ -72,7 +74,10 @@ pub record IsOwnCall (slots : ℕ) (s : Setup) (p : Phase) (d : ℕ) (f : Answer
   pub stands : Stands disk s.slot s.host old
   pub knows : Knows disk s f d old
 
-module _ (slots : ℕ) (s : Setup) (p : Phase) (d : ℕ) (f : Answers) (disk new : DiskState) (answer : Answer) (old cell : Cell (List ℕ)) (own : IsOwnCall slots s p d f disk new old) where
+module _ (slots : ℕ) (any : Setup) (p : Phase) (d : ℕ) (f : Answers) (disk new : DiskState) (answer : Answer) (old cell : Cell (List ℕ)) (own : IsOwnCall slots (at_cluster any) p d f disk new old) where
+  abbrev s : Setup
+  s = at_cluster any
+
   open own use {host_below, is_disk, good, come, stands, knows}
 
   abbrev x : Heard
@@ -107,7 +112,7 @@ module _ (slots : ℕ) (s : Setup) (p : Phase) (d : ℕ) (f : Answers) (disk new
 
   pub write_then : told x ≡ None → write_on s p d g ≡ write_on s p d f
   write_then none =
-      ap₂ (λ (r : Option (List SeenBlock)) (b : PBlock). record { place = own_place s; block = (seen_block r s.host).bytes; body = body_saying b }) (last_then None none) says_then
+      ap₂ (λ (r : Option (List SeenBlock)) (b : PBlock). record { version = cluster_version; place = own_place s; block = (seen_block r s.host).bytes; body = body_saying b }) (last_then None none) says_then
 
   -- a bad answer leaves nothing to know
   pub knows_none : (call : Call) → Step disk call answer new → is_bad x ≡ true → Knows new s g d cell
@@ -117,7 +122,7 @@ module _ (slots : ℕ) (s : Setup) (p : Phase) (d : ℕ) (f : Answers) (disk new
 
   pub calm_stands : (call : Call) → IsCalm call → Step disk call answer new → IsSameBlock old cell → Stands new s.slot s.host cell
   calm_stands call calm step same =
-      stands_same new s.slot s.host old cell same (stands_by disk new s.slot s.host old (calm_outcomes disk new (own_place s) call answer calm step) stands)
+      stands_same new s.slot s.host old cell same (stands_by disk new s.slot s.host old (calm_outcomes cluster_version disk new (own_place s) call answer calm step) stands)
 
   pub attached : IsNext (f d) Attaching → Step disk Attach answer new → IsSameBlock old cell → After s d g new cell
   attached is step same =
@@ -146,8 +151,8 @@ module _ (slots : ℕ) (s : Setup) (p : Phase) (d : ℕ) (f : Answers) (disk new
       let before : MayLeave disk bytes = subst (λ (k : DiskState). MayLeave k bytes) (read_leaves disk new boot (row_place s.slot) ROW_LENGTH answer step) left in
       let said_so = row_told disk new boot s.slot answer row step is in
       ap seen_in (rests bytes before)
-      ∙ ap seen_in (sym (block_of-row_of s.slot s.host disk.bytes host_below))
-      ∙ sym (said_sees (row_of s.slot disk.bytes) row s.host host_below said_so)
+      ∙ ap seen_in (sym (block_of-row_of cluster_version s.slot s.host disk.bytes host_below))
+      ∙ sym (said_sees cluster_version (row_of s.slot disk.bytes) row s.host host_below said_so)
       ∙ ap (λ (r : Option (List SeenBlock)). seen_block r s.host) (sym (last_then (Some row) (ap told is)))
 
   pub read : IsNext (f d) Reading → Fits (call_by s d f Reading) x → Step disk (call_by s d f Reading) answer new → IsSameBlock old cell → After s d g new cell

@@ -1,4 +1,5 @@
 -- What an answer to an attempt's call makes of its own block on that disk, and of what it knows of it.
+use Rattle.world_safety.specs.Cluster.{at_cluster}
 use Rattle.std.specs.Prelude.{nat_le, ◌^◌}
 use Rattle.std.proofs.Common.{ℕ, ◌+◌, ◌<◌, ◌≤◌, ◌≡◌, inl, inr, false, true≢false, Option, Some, None, List, [], ◌∷◌, ◌++◌, length, refl, sym, subst, ap, ◌∙◌, arith}
 use Rattle.std.proofs.lemmas.Bool.Decides.{nat_tests}
@@ -6,6 +7,7 @@ use Rattle.disk.specs.declared.fault.DiskFault.TheVariants.{Failed}
 use Rattle.disk.specs.Disk.{DiskState, Call, Attach, Read, Write, Sync, Answer, Booted, Told, Done, Fault, IsUnder, success_of, Step}
 use Rattle.disk.proofs.CrashLemmas.{may_leave_now}
 use Rattle.disk.proofs.StepLemmas.{step_keeps}
+use Rattle.torn_block.specs.Layout.{cluster_version}
 use Rattle.torn_block.specs.declared.layout.TheConstants.{HOSTS, BLOCK_LENGTH, BODY_LENGTH, ROW_LENGTH, LAST_SEQUENCE}
 use Rattle.torn_block.specs.declared.write_steps.WriteCall.{WriteCall}
 use Rattle.torn_block.specs.declared.write_steps.WriteCall.TheVariants.{CloseGate, SyncClosed, PutBody, SyncBody, OpenGate, SyncOpened}
@@ -119,12 +121,15 @@ some_is value other is = cc
 
 -- THE OWN BLOCK
 
-module _ (slots : ℕ) (s : Setup) (p : Phase) (d : ℕ) (f : Answers) (disk : DiskState) (image : IsImage slots disk) (slot_below : s.slot < slots) (host_below : s.host < HOSTS) where
+module _ (slots : ℕ) (any : Setup) (p : Phase) (d : ℕ) (f : Answers) (disk : DiskState) (image : IsImage slots disk) (slot_below : (at_cluster any).slot < slots) (host_below : (at_cluster any).host < HOSTS) where
+  abbrev s : Setup
+  s = at_cluster any
+
   abbrev w : Write128
   w = write_on s p d f
 
   lies : own_place s + BLOCK_LENGTH ≤ length disk.bytes
-  lies = omega (arith, image.long, spot_fits slots (VoteOf s.slot s.host) (slot_below, host_below))
+  lies = omega (arith, image.long, spot_fits cluster_version slots (VoteOf s.slot s.host) (slot_below, host_below))
 
   -- the write lies on the disk
   pub placed : CanWrite s.host (says_for s p f) w → IsPlaced w disk
@@ -133,7 +138,7 @@ module _ (slots : ℕ) (s : Setup) (p : Phase) (d : ℕ) (f : Answers) (disk : D
 
   -- what is in writing says what the attempt writes
   pub new_says : MaySay s.host (says_for s p f) → said (new_value w) ≡ block_said (says_for s p f)
-  new_says may = ap block_said (claims_back (says_for s p f) s.host may)
+  new_says may = ap block_said (claims_back cluster_version (says_for s p f) s.host may)
 
   stands_writing : (new : DiskState) (cell : Cell (List ℕ)) → StandsFor (own_place s) (in_writing w) new → IsSoundAt s.host (own_place s) new → cell.confirmed ≡ said (old_value w) → cell.writing ≡ Some (said (new_value w)) → Stands new s.slot s.host cell
   stands_writing new cell holds sound confirmed writing =
@@ -175,7 +180,7 @@ module _ (slots : ℕ) (s : Setup) (p : Phase) (d : ℕ) (f : Answers) (disk : D
             body = refl;
             number = number_fits (value_of w.block) (seen_block (last_row (f d)) s.host).sequence (ap (λ (b : List ℕ). sequence_or_zero (value_of b)) (sym same_bytes) ∙ ap (λ (b : SeenBlock). b.sequence) now) unspent;
           };
-          long = ap length (sym same_bytes) ∙ length-block_in (own_place s) disk.bytes lies;
+          long = ap length (sym same_bytes) ∙ length-block_in cluster_version (own_place s) disk.bytes lies;
           full = full;
         }
 

@@ -1,15 +1,17 @@
 -- A call of an attempt's write is answered: what its own block stands for then, and what it knows of it; and so of any call.
+use Rattle.world_safety.specs.Cluster.{at_cluster}
 use Rattle.std.proofs.Common.{ℕ, ◌≤◌, ◌≡◌, inl, true, false, Some, None, List, length, refl, sym, subst, ap, ◌∙◌}
 use Rattle.std.specs.Prelude.{nat_le}
 use Rattle.disk.specs.declared.fault.DiskFault.TheVariants.{Reset, Failed, Gone}
 use Rattle.disk.specs.Disk.{DiskState, Call, Sync, Answer, Booted, Told, Done, Fault, IsUnder, Step}
+use Rattle.torn_block.specs.Layout.{cluster_version}
 use Rattle.torn_block.specs.declared.layout.TheConstants.{BODY_LENGTH, LAST_SEQUENCE}
 use Rattle.torn_block.specs.declared.write_steps.WriteCall.{WriteCall}
 use Rattle.torn_block.specs.declared.write_steps.WriteCall.TheVariants.{CloseGate, SyncClosed, PutBody, SyncBody, OpenGate, SyncOpened}
 use Rattle.torn_block.proofs.RegisterLaws.{known_synced}
 use Rattle.torn_block.specs.Stage.{Write128, call_of, next_call, old_value, new_value, IsDue, Stands as Next}
 use Rattle.torn_block.proofs.StageLaws.{done_reads, done_leads_on}
-use Rattle.paxos_block.specs.declared.block.PBlock.{PBlock}
+use Rattle.paxos_block.specs.Saying.{Said as PBlock}
 use Rattle.paxos_block.specs.Saying.{MaySay, body_saying}
 use Rattle.paxos_block.proofs.WriteLemmas.{sound_when_done}
 use Rattle.attempt.specs.Calls.{Phase, Kind, Attaching, Syncing, Reading, Putting}
@@ -29,7 +31,10 @@ use Rattle.world_safety.proofs.Blocks.Standing.{stands_same}
 use Rattle.world_safety.proofs.Blocks.Owned.{After, IsOwnCall, then_is, boot_then, knows_none, says_then, write_then, attached, synced, read}
 use Rattle.world_safety.proofs.Blocks.Owning.{done_is, under_is, stands_more, placed, new_says, due_stands, failed_stands, can_begin, begins_due, old_is}
 
-module _ (slots : ℕ) (s : Setup) (p : Phase) (d : ℕ) (f : Answers) (disk new : DiskState) (answer : Answer) (old cell : Cell (List ℕ)) (own : IsOwnCall slots s p d f disk new old) where
+module _ (slots : ℕ) (any : Setup) (p : Phase) (d : ℕ) (f : Answers) (disk new : DiskState) (answer : Answer) (old cell : Cell (List ℕ)) (own : IsOwnCall slots (at_cluster any) p d f disk new old) where
+  abbrev s : Setup
+  s = at_cluster any
+
   open own use {image, image_then, slot_below, host_below, good, stands, knows}
 
   abbrev x : Heard
@@ -219,7 +224,7 @@ module _ (slots : ℕ) (s : Setup) (p : Phase) (d : ℕ) (f : Answers) (disk new
         };
         knows = record {
           boot = boot_behind (Sync boot) step;
-          next = λ current kind then. subst (λ (k : Kind). KnowsFor k new s g d cell) (sym (then_behind (Putting p SyncOpened) kind is then)) (known_synced (own_place s) disk new boot done).0;
+          next = λ current kind then. subst (λ (k : Kind). KnowsFor k new s g d cell) (sym (then_behind (Putting p SyncOpened) kind is then)) (known_synced cluster_version (own_place s) disk new boot done).0;
         };
       }
 

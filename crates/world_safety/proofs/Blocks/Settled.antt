@@ -1,8 +1,10 @@
 -- Before a row is told, the own block settles to what is read of it; then the registers allow the answer.
+use Rattle.world_safety.specs.Cluster.{at_cluster}
 use Rattle.std.specs.Prelude.{IsSome}
 use Rattle.std.proofs.Common.{ℕ, ◌<◌, ◌≡◌, ◌≢◌, ◌⊎◌, inl, inr, true, Option, Some, None, List, refl, sym, subst, ap, ◌∙◌}
 use Rattle.disk.specs.Disk.{DiskState, Answer, Step}
 use Rattle.disk.proofs.CrashLemmas.{may_leave_now}
+use Rattle.torn_block.specs.Layout.{cluster_version}
 use Rattle.torn_block.specs.declared.layout.TheConstants.{HOSTS}
 use Rattle.torn_block.specs.declared.write_steps.WriteCall.TheVariants.{SyncOpened}
 use Rattle.torn_block.specs.Block.{value_of}
@@ -39,8 +41,11 @@ some_writing : (o : Option (Block (List ℕ))) (x : Block (List ℕ)) → o ≡ 
 some_writing None x is = absurd (cc)
 some_writing (Some y) x is = refl
 
-module _ (s : Setup) (f : Answers) (k : ℕ) (disk new : DiskState) (answer : Answer) (kind : Kind) (good : all_good (f k) ≡ true) (is : IsNext (f k) kind) (fits : Fits (call_by s k f kind) (heard_as answer))
-    (step : Step disk (call_by s k f kind) answer new) where
+module _ (any : Setup) (f : Answers) (k : ℕ) (disk new : DiskState) (answer : Answer) (kind : Kind) (good : all_good (f k) ≡ true) (is : IsNext (f k) kind) (fits : Fits (call_by (at_cluster any) k f kind) (heard_as answer))
+    (step : Step disk (call_by (at_cluster any) k f kind) answer new) where
+  abbrev s : Setup
+  s = at_cluster any
+
   -- WHERE NO ROW IS TOLD
 
   module _ (m : Machine) (none : (row : List SeenBlock) → heard_as answer ≡ answers.Told (Some row) → ⊥) (knows : Knows disk s f k (m.cell s.host k)) where
@@ -88,7 +93,7 @@ module _ (s : Setup) (f : Answers) (k : ℕ) (disk new : DiskState) (answer : An
     value_read = value_of (block_in (own_place s) disk.bytes)
 
     pub seen_is : (g : ℕ) → g < HOSTS → seen_at row g ≡ seen_in (block_in (place_of (VoteOf s.slot g)) disk.bytes)
-    seen_is g below = said_sees (row_of s.slot disk.bytes) row g below row_is ∙ ap seen_in (block_of-row_of s.slot g disk.bytes below)
+    seen_is g below = said_sees cluster_version (row_of s.slot disk.bytes) row g below row_is ∙ ap seen_in (block_of-row_of cluster_version s.slot g disk.bytes below)
 
     other_reads : (g : ℕ) (cell : Cell (List ℕ)) → g < HOSTS → Stands disk s.slot g cell → IsReading cell (blocks_said row g)
     other_reads g cell below stands = subst (IsReading cell) (ap (λ (b : SeenBlock). block_said b.says) (sym (seen_is g below))) (stands.reads disk.bytes (may_leave_now disk))

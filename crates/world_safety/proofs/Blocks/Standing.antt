@@ -3,6 +3,7 @@ use Rattle.std.specs.Prelude.{nat_lt}
 use Rattle.std.proofs.Common.{ℕ, ◌≡◌, Bool, true, false, true≢false, None, List, inl, inr, refl, sym, subst, ap, ◌∙◌}
 use Rattle.disk.specs.Disk.{DiskState, Crashes, lost}
 use Rattle.disk.specs.Simulated.{fresh_disk}
+use Rattle.torn_block.specs.Layout.{cluster_version}
 use Rattle.torn_block.specs.declared.block.Half.{Half}
 use Rattle.torn_block.specs.declared.block.Half.TheVariants.{First, Second}
 use Rattle.torn_block.specs.Block.{is_open, sequence_of, copy_of, choice, value_at, value_of}
@@ -22,7 +23,7 @@ use Rattle.world_safety.specs.Marks.{AllSay}
 -- WHAT A BLOCK STANDS FOR
 
 -- it stays, where there are no other outcomes
-pub stands_by : (disk new : DiskState) (slot host : ℕ) (cell : Cell (List ℕ)) → Outcomes disk (place_of (VoteOf slot host)) new → Stands disk slot host cell → Stands new slot host cell
+pub stands_by : (disk new : DiskState) (slot host : ℕ) (cell : Cell (List ℕ)) → Outcomes cluster_version disk (place_of (VoteOf slot host)) new → Stands disk slot host cell → Stands new slot host cell
 stands_by disk new slot host cell o is =
     record {
       reads = λ bytes may. (let b = o bytes may in subst (λ (block : List ℕ). IsReading cell (said (value_of block))) (sym b.2) (is.reads b.0 b.1));
@@ -50,8 +51,8 @@ pub stands_crashed : (disk new : DiskState) (slot host : ℕ) (old cell : Cell (
 stands_crashed disk new slot host old cell crash is confirmed =
     let place = place_of (VoteOf slot host) in
     record {
-      reads = λ bytes may. inl (ap (λ (block : List ℕ). said (value_of block)) (rests_crashed place disk new crash bytes may) ∙ sym confirmed);
-      sound = λ bytes may. subst (IsSoundBlock (IsSound host)) (sym (rests_crashed place disk new crash bytes may)) (is.sound new.bytes crash.bytes);
+      reads = λ bytes may. inl (ap (λ (block : List ℕ). said (value_of block)) (rests_crashed cluster_version place disk new crash bytes may) ∙ sym confirmed);
+      sound = λ bytes may. subst (IsSoundBlock (IsSound host)) (sym (rests_crashed cluster_version place disk new crash bytes may)) (is.sound new.bytes crash.bytes);
     }
 
 -- a lost disk has the same bytes
@@ -91,7 +92,7 @@ reads_blank value (inr e) = absurd (cc)
 pub stands_fresh : (size slot host : ℕ) → Stands (fresh_disk size) slot host (record { confirmed = blank; writing = None; stage = away })
 stands_fresh size slot host =
     let place = place_of (VoteOf slot host) in
-    let rests = fresh_rests place size in
+    let rests = fresh_rests cluster_version place size in
     record {
       reads = λ bytes may. inl (ap said (reads_blank (value_of (block_in place bytes)) (rests.0 bytes may)));
       sound = λ bytes may. blank_sound host (block_in place bytes) (reads_blank (value_of (block_in place bytes)) (rests.0 bytes may));
@@ -100,5 +101,5 @@ stands_fresh size slot host =
 -- so none is marked
 pub fresh_unmarked : (size slot host : ℕ) → AllSay (λ says. says.mark ≡ true → ⊥) (place_of (VoteOf slot host)) (fresh_disk size)
 fresh_unmarked size slot host bytes may marked =
-    let blank_value = reads_blank (value_of (block_in (place_of (VoteOf slot host)) bytes)) ((fresh_rests (place_of (VoteOf slot host)) size).0 bytes may) in
+    let blank_value = reads_blank (value_of (block_in (place_of (VoteOf slot host)) bytes)) ((fresh_rests cluster_version (place_of (VoteOf slot host)) size).0 bytes may) in
     true≢false (sym marked ∙ ap (λ (v : Value). (says_of v).mark) blank_value)

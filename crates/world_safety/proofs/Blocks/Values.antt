@@ -5,6 +5,7 @@ use Rattle.disk.specs.Crash.{MayLeave}
 use Rattle.disk.specs.Disk.{DiskState, Call, Sync, Answer, Booted, Told, Done, Fault, Step}
 use Rattle.disk.proofs.CrashLemmas.{may_leave_now}
 use Rattle.disk.proofs.StepLemmas.{step_keeps}
+use Rattle.torn_block.specs.Layout.{cluster_version}
 use Rattle.torn_block.specs.declared.write_steps.WriteCall.{WriteCall}
 use Rattle.torn_block.specs.declared.write_steps.WriteCall.TheVariants.{CloseGate, SyncClosed, PutBody, SyncBody, OpenGate, SyncOpened}
 use Rattle.torn_block.specs.Block.{value_of}
@@ -12,7 +13,7 @@ use Rattle.torn_block.specs.Place.{block_in}
 use Rattle.torn_block.specs.Register.{Value, StandsFor}
 use Rattle.torn_block.specs.Stage.{Write128, call_of, next_call, old_value, new_value, in_writing, IsDue, IsPlaced, Stands as Next}
 use Rattle.torn_block.proofs.StageLaws.{reads_closed, reads_same, due_reads, failure_reads, done_leads_on}
-use Rattle.paxos_block.specs.declared.block.PBlock.{PBlock}
+use Rattle.paxos_block.specs.Saying.{Said as PBlock}
 use Rattle.paxos_block.specs.Row.{says_of}
 use Rattle.paxos_block.proofs.Outcomes.{Outcomes, same_outcomes, calm_outcomes}
 use Rattle.attempt.specs.Looking.{OnlyReads}
@@ -28,10 +29,10 @@ Adds old value place disk new =
     ⊎ ((value_of (block_in place bytes) ≡ value) × (value_of (block_in place disk.bytes) ≡ old))
 
 -- where there are no other outcomes, no value is added
-pub adds_none : (old value : Value) (place : ℕ) (disk new : DiskState) → Outcomes disk place new → Adds old value place disk new
+pub adds_none : (old value : Value) (place : ℕ) (disk new : DiskState) → Outcomes cluster_version disk place new → Adds old value place disk new
 adds_none old value place disk new o bytes left = let b = o bytes left in inl (b.0, b.1, ap value_of b.2)
 
-pub all_say_by : (P : PBlock → Type 0) (place : ℕ) (disk new : DiskState) → Outcomes disk place new → AllSay P place disk → AllSay P place new
+pub all_say_by : (P : PBlock → Type 0) (place : ℕ) (disk new : DiskState) → Outcomes cluster_version disk place new → AllSay P place disk → AllSay P place new
 all_say_by P place disk new o all bytes left = let b = o bytes left in subst (λ (block : List ℕ). P (says_of (value_of block))) (sym b.2) (all b.0 b.1)
 
 pub all_say_added : (P : PBlock → Type 0) (old value : Value) (place : ℕ) (disk new : DiskState) → Adds old value place disk new → (P (says_of old) → P (says_of value)) → AllSay P place disk → AllSay P place new
@@ -47,15 +48,18 @@ bytes_left old new call answer reads step =
     (record { writes = λ boot at from left is as_many. absurd (subst OnlyReads is reads); syncs = refl; stays = refl })
     step
 
-module _ (w : Write128) (disk : DiskState) (placed : IsPlaced w disk) (boot : ℕ) (new : DiskState) (placed_then : IsPlaced w new) where
+module _ (any : Write128) (disk : DiskState) (placed : IsPlaced (record any { version = cluster_version }) disk) (boot : ℕ) (new : DiskState) (placed_then : IsPlaced (record any { version = cluster_version }) new) where
+  abbrev w : Write128
+  w = record any { version = cluster_version }
+
   -- a call of the write leaves the block as it was; or the block reads as its owner read it, and then as that or the new value
   data IsPut : Type 0 where
-    Leaves : (bytes : new.bytes ≡ disk.bytes) → (outcomes : Outcomes disk w.place new) → IsPut
+    Leaves : (bytes : new.bytes ≡ disk.bytes) → (outcomes : Outcomes cluster_version disk w.place new) → IsPut
     Puts : (now : value_of (block_in w.place disk.bytes) ≡ old_value w) → (reads : StandsFor w.place (in_writing w) new) → IsPut
 
   -- a sync
   syncs : (answer : Answer) → Step disk (Sync boot) answer new → IsPut
-  syncs answer step = Leaves (bytes_left disk new (Sync boot) answer tt step) (calm_outcomes disk new w.place (Sync boot) answer tt step)
+  syncs answer step = Leaves (bytes_left disk new (Sync boot) answer tt step) (calm_outcomes cluster_version disk new w.place (Sync boot) answer tt step)
 
   -- a write
   module _ (call next : WriteCall) (due : IsDue call w disk) (leads : Next (next_call call) w new → IsDue next w new) (now : value_of (block_in w.place disk.bytes) ≡ old_value w) where
@@ -63,8 +67,8 @@ module _ (w : Write128) (disk : DiskState) (placed : IsPlaced w disk) (boot : �
     writes Done step = Puts now (due_reads next w new placed_then (leads (done_leads_on w disk placed call boot new due step)))
     writes (Booted number) step = absurd (let one = step.2.0 in let two = done_is call w boot disk in cc)
     writes (Told bytes) step = absurd (let one = step.2.0 in let two = done_is call w boot disk in cc)
-    writes (Fault Reset) step = Leaves (ap (λ (d : DiskState). d.bytes) step.2) (same_outcomes disk new w.place step.2)
-    writes (Fault Gone) step = Leaves (ap (λ (d : DiskState). d.bytes) step.1) (same_outcomes disk new w.place step.1)
+    writes (Fault Reset) step = Leaves (ap (λ (d : DiskState). d.bytes) step.2) (same_outcomes cluster_version disk new w.place step.2)
+    writes (Fault Gone) step = Leaves (ap (λ (d : DiskState). d.bytes) step.1) (same_outcomes cluster_version disk new w.place step.1)
     writes (Fault Failed) step = Puts now (failure_reads w disk placed call boot new due step.2)
 
   put_is : (call : WriteCall) (answer : Answer) → IsDue call w disk → Step disk (call_of call w boot) answer new → IsPut

@@ -1,6 +1,8 @@
 -- Each call of an attempt is within its own block.
+use Rattle.world_safety.specs.Cluster.{at_cluster}
 use Rattle.std.specs.Prelude.{if◌then◌else◌}
 use Rattle.std.proofs.Common.{ℕ, ◌<◌, ◌≤◌, ◌≡◌, Bool, true, false, Some, List, [], ◌∷◌, length, arith}
+use Rattle.torn_block.specs.Layout.{cluster_version}
 use Rattle.torn_block.specs.declared.layout.TheConstants.{HOSTS, BODY_LENGTH}
 use Rattle.torn_block.specs.declared.write_steps.WriteCall.{WriteCall}
 use Rattle.torn_block.specs.declared.write_steps.WriteCall.TheVariants.{CloseGate, SyncClosed, PutBody, SyncBody, OpenGate, SyncOpened}
@@ -25,39 +27,39 @@ closing_short : (opened : Bool) → length {A = ℕ} (if opened then 0 ∷ [] el
 closing_short true = omega arith
 closing_short false = omega arith
 
-put_within : (s : Setup) (p : Phase) (d boot : ℕ) (f : Answers) (call : WriteCall) → length (body_saying (says_for s p f)) ≡ BODY_LENGTH → IsWithin (VoteOf s.slot s.host) (call_of call (write_on s p d f) boot)
+put_within : (any : Setup) (p : Phase) (d boot : ℕ) (f : Answers) (call : WriteCall) → length (body_saying (says_for (at_cluster any) p f)) ≡ BODY_LENGTH → IsWithin (VoteOf (at_cluster any).slot (at_cluster any).host) (call_of call (write_on (at_cluster any) p d f) boot)
 put_within s p d boot f CloseGate full =
-    let w = write_on s p d f in
-    let a = offset_fits (target_of w.block) in
+    let w = write_on (at_cluster s) p d f in
+    let a = offset_fits cluster_version (target_of w.block) in
     let b = closing_short (is_open (copy_of (target_of w.block) w.block)) in
     (omega arith, omega (arith, a, b))
 put_within s p d boot f SyncClosed full = tt
 put_within s p d boot f PutBody full =
-    let w = write_on s p d f in
-    let a = offset_fits (target_of w.block) in
-    let b = length-tail_with (next_sequence w.block) w.body full in
+    let w = write_on (at_cluster s) p d f in
+    let a = offset_fits cluster_version (target_of w.block) in
+    let b = length-tail_with cluster_version (next_sequence w.block) w.body full in
     (omega arith, omega (arith, a, b))
 put_within s p d boot f SyncBody full = tt
 put_within s p d boot f OpenGate full =
-    let w = write_on s p d f in
-    let a = offset_fits (target_of w.block) in
+    let w = write_on (at_cluster s) p d f in
+    let a = offset_fits cluster_version (target_of w.block) in
     (omega arith, omega (arith, a))
 put_within s p d boot f SyncOpened full = tt
 
-pub within : (s : Setup) (d : ℕ) (f : Answers) (kind : Kind) → ((p : Phase) (call : WriteCall) → kind ≡ Putting p call → length (body_saying (says_for s p f)) ≡ BODY_LENGTH) → IsWithin (VoteOf s.slot s.host) (call_by s d f kind)
+pub within : (any : Setup) (d : ℕ) (f : Answers) (kind : Kind) → ((p : Phase) (call : WriteCall) → kind ≡ Putting p call → length (body_saying (says_for (at_cluster any) p f)) ≡ BODY_LENGTH) → IsWithin (VoteOf (at_cluster any).slot (at_cluster any).host) (call_by (at_cluster any) d f kind)
 within s d f Attaching full = tt
 within s d f Syncing full = tt
 within s d f Reading full = tt
-within s d f (Putting p call) full = put_within s p d _ f call (full p call (λ i. Putting p call))
+within s d f (Putting p call) full = put_within (at_cluster s) p d _ f call (full p call (λ i. Putting p call))
 
 -- in a phase with a write the attempt may write
-pub may_write : (s : Setup) (f : Answers) (host_below : s.host < HOSTS) (votes : (d : ℕ) → TellsVotes (f d)) (p : Phase) (d : ℕ) (call : WriteCall) → IsLong s.input → IsIn s p f → IsNext (f d) (Putting p call) → MayWrite s f host_below votes p
+pub may_write : (any : Setup) (f : Answers) (host_below : (at_cluster any).host < HOSTS) (votes : (d : ℕ) → TellsVotes (f d)) (p : Phase) (d : ℕ) (call : WriteCall) → IsLong (at_cluster any).input → IsIn (at_cluster any) p f → IsNext (f d) (Putting p call) → MayWrite (at_cluster any) f host_below votes p
 may_write s f host_below votes Opening d call input come is = absurd (writing Opening call (length (f d)) is).0
-may_write s f host_below votes One d call input come is = may_write_one s f host_below votes come
-may_write s f host_below votes Two d call input come is = may_write_two s f host_below votes input come
+may_write s f host_below votes One d call input come is = may_write_one (at_cluster s) f host_below votes come
+may_write s f host_below votes Two d call input come is = may_write_two (at_cluster s) f host_below votes input come
 
 -- a row is told only to a read
-pub reading_kind : (s : Setup) (f : Answers) (d : ℕ) (kind : Kind) (row : List SeenBlock) → Fits (call_by s d f kind) (Told (Some row)) → kind ≡ Reading
+pub reading_kind : (any : Setup) (f : Answers) (d : ℕ) (kind : Kind) (row : List SeenBlock) → Fits (call_by (at_cluster any) d f kind) (Told (Some row)) → kind ≡ Reading
 reading_kind s f d Attaching row fits = absurd fits
 reading_kind s f d Syncing row fits = absurd fits
 reading_kind s f d Reading row fits = λ i. Reading

@@ -1,5 +1,6 @@
 -- What is chosen in a ballot binds the proposals of it and of greater ones; a ballot has one proposal; and slots get theirs in order.
-use Rattle.std.proofs.Common.{ℕ, suc, ◌+◌, ◌<◌, ◌≡◌, List, length, sym, subst, ap, ◌∙◌, arith}
+use Rattle.std.proofs.Common.{◌%◌, ◌-◌, ℕ, suc, ◌+◌, ◌<◌, ◌≡◌, List, length, sym, subst, ap, ◌∙◌, arith}
+use Rattle.torn_block.specs.Layout.{Version, cluster_version, hosts_in}
 use Rattle.torn_block.specs.declared.layout.TheConstants.{HOSTS}
 use Rattle.paxos_block.proofs.VoteLemmas.{owned}
 use Rattle.attempt.specs.Answers.{on}
@@ -51,7 +52,12 @@ module _ (c : Shape) (log : List Filled) (run : IsRun c log) where
     ballot_owned =
         let host : is.setup.host ≡ is.hears.host = ap (λ (s : Setup). s.host) is.hears.is_setup in
         let below = host_below in
-        ap owner_of (sym is.in_ballot) ∙ owned is.setup.host (highest is.setup (on is.heard)) (omega arith) ∙ host
+        let version : is.setup.version ≡ cluster_version = ap (λ (s : Setup). s.version) is.hears.is_setup in
+        let low : is.setup.host < hosts_in cluster_version = omega arith in
+        ap owner_of (sym is.in_ballot)
+        ∙ ap (λ (v : Version). (ballot is.setup (on is.heard) - 1) % hosts_in v) (sym version)
+        ∙ owned is.setup.version is.setup.host (highest is.setup (on is.heard)) (subst (λ (v : Version). is.setup.host < hosts_in v) (sym version) low)
+        ∙ host
 
     -- all slots before have chosen values
     chosen_below : (k : ℕ) → k < slot → (u : List ℕ) × IsChosenBefore c log i k u

@@ -4,6 +4,7 @@ use Rattle.std.proofs.Common.{ℕ, ◌<◌, ◌≤◌, ◌≡◌, ◌≢◌, ◌
 use Rattle.std.specs.Option.{option_map}
 use Rattle.disk.specs.declared.fault.DiskFault.TheVariants.{Failed}
 use Rattle.disk.specs.Disk.{DiskState, Call, Answer, Fault, Step}
+use Rattle.torn_block.specs.Layout.{cluster_version}
 use Rattle.torn_block.specs.declared.layout.TheConstants.{HOSTS, BODY_LENGTH}
 use Rattle.torn_block.specs.declared.write_steps.WriteCall.{WriteCall}
 use Rattle.torn_block.specs.declared.write_steps.WriteCall.TheVariants.{CloseGate, SyncClosed, PutBody, SyncBody, OpenGate, SyncOpened}
@@ -52,19 +53,19 @@ full = refl
 put_within : (s : beat.Setup) (a : List beat_answers.Heard) (boot : ℕ) (call : WriteCall) → IsWithin (BeatOf s.host) (call_of call (beat.write_on s a) boot)
 put_within s a boot CloseGate =
     let w = beat.write_on s a in
-    let at = offset_fits (target_of w.block) in
+    let at = offset_fits cluster_version (target_of w.block) in
     let short = closing_short (is_open (copy_of (target_of w.block) w.block)) in
     (omega arith, omega (arith, at, short))
 put_within s a boot SyncClosed = tt
 put_within s a boot PutBody =
     let w = beat.write_on s a in
-    let at = offset_fits (target_of w.block) in
-    let long = length-tail_with (next_sequence w.block) w.body full in
+    let at = offset_fits cluster_version (target_of w.block) in
+    let long = length-tail_with cluster_version (next_sequence w.block) w.body full in
     (omega arith, omega (arith, at, long))
 put_within s a boot SyncBody = tt
 put_within s a boot OpenGate =
     let w = beat.write_on s a in
-    let at = offset_fits (target_of w.block) in
+    let at = offset_fits cluster_version (target_of w.block) in
     (omega arith, omega (arith, at))
 put_within s a boot SyncOpened = tt
 
@@ -179,7 +180,7 @@ module _ (c : Shape) (w : World) (ms : Moves) (tied : Tied c w ms) where
     pub beat_but : TiedBut c (with_disks w disks) ms h
     beat_but =
         but_one c w disks ms ms c.slots h k (tied_but c w ms h tied) tied.history
-        (at_disk (λ d disk. IsImage c.slots disk) (stays_image c.slots (BeatOf h) run.below (w.disk k) (tied.images k) call answer (disk_step (w.disk k) e) inside step) tied.images)
+        (at_disk (λ d disk. IsImage c.slots disk) (stays_image cluster_version c.slots (BeatOf h) run.below (w.disk k) (tied.images k) call answer (disk_step (w.disk k) e) inside step) tied.images)
         (λ g. refl)
         (λ g off j. same_host g (machine ms j))
         (λ j g d other. block_same ((machine ms j).cell g d))

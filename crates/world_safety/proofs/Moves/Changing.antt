@@ -6,7 +6,7 @@ use Rattle.disk.specs.Disk.{DiskState, Call, Answer}
 use Rattle.torn_block.specs.declared.layout.TheConstants.{HOSTS, LAST_SEQUENCE}
 use Rattle.torn_block.specs.declared.write_steps.WriteCall.TheVariants.{CloseGate}
 use Rattle.paxos_block.specs.Places.{VoteOf, place_of, IsImage}
-use Rattle.paxos_block.specs.declared.block.PBlock.{PBlock}
+use Rattle.paxos_block.specs.Saying.{Said as PBlock}
 use Rattle.attempt.specs.Calls.{Phase, Opening, One, Two, Kind, Putting, start}
 use Rattle.attempt.specs.Answers.{Answers, on, heard_as, more, last_row, seen_block}
 use Rattle.attempt.specs.Setup.{Setup}

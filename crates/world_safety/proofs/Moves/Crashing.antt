@@ -4,6 +4,7 @@ use Rattle.std.proofs.Common.{ℕ, ◌<◌, ◌≡◌, ◌≢◌, ◌==◌, inl,
 use Rattle.std.proofs.lemmas.Bool.{ltb-true, lt-ltb, and_from, and_parts, cond-true}
 use Rattle.std.proofs.lemmas.List.{length-replicate}
 use Rattle.disk.specs.Disk.{DiskState, Crashes, lost}
+use Rattle.torn_block.specs.Layout.{cluster_version}
 use Rattle.torn_block.specs.declared.layout.TheConstants.{HOSTS}
 use Rattle.torn_block.specs.Block.{value_of}
 use Rattle.torn_block.specs.Place.{block_in}
@@ -101,8 +102,8 @@ module _ (c : Shape) (w : World) (ms : Moves) (tied : Tied c w ms) where
         record { whole = length-replicate (length (w.disk k).bytes) false ∙ sym crash.bytes.as_many; long = crash.bytes.as_many ∙ (tied.images k).long }
 
     -- what a crash left, it might have left before
-    outcomes_then : (place d : ℕ) → Outcomes (w.disk d) place (crash_disks d)
-    outcomes_then place d = at_crash (λ i disk. Outcomes (w.disk i) place disk) (λ bytes may. (left, crash.bytes, rests_crashed place (w.disk k) crashed crash bytes may)) (λ i off. same_outcomes (w.disk i) (w.disk i) place refl) d
+    outcomes_then : (place d : ℕ) → Outcomes cluster_version (w.disk d) place (crash_disks d)
+    outcomes_then place d = at_crash (λ i disk. Outcomes cluster_version (w.disk i) place disk) (λ bytes may. (left, crash.bytes, rests_crashed cluster_version place (w.disk k) crashed crash bytes may)) (λ i off. same_outcomes cluster_version (w.disk i) (w.disk i) place refl) d
 
     marking_then : (g : ℕ) → KeepsMarking c w (with_disks w crash_disks) g
     marking_then g s a d is_host slot_below below known = at_crash (λ i disk. KnowsMark (w.disk i) s a → KnowsMark disk s a) (mark_crashed s a (w.disk k) crashed crash) (λ i off now. now) d known

@@ -4,6 +4,7 @@ use Rattle.std.proofs.Common.{ℕ, ◌+◌, ◌≡◌, ◌⊎◌, inl, inr, Opti
 use Rattle.std.proofs.Common.{length-drop}
 use Rattle.std.proofs.lemmas.List.{length-take-le}
 use Rattle.disk.specs.Disk.{DiskState, Call, Answer, Step}
+use Rattle.torn_block.specs.Layout.{cluster_version}
 use Rattle.torn_block.specs.declared.layout.TheConstants.{BODY_LENGTH, ROW_LENGTH}
 use Rattle.torn_block.specs.declared.write_steps.WriteCall.{WriteCall}
 use Rattle.paxos_block.specs.Places.{VoteOf, row_of, row_place, IsImage, IsWithin}
@@ -160,7 +161,7 @@ module _ (c : Shape) (w : World) (ms : Moves) (h k : ℕ) (call : Call) (answer 
   image = tied.images k
 
   image_then : IsImage c.slots new
-  image_then = stays_image c.slots (VoteOf slot h) (trying.fits, run.below) (w.disk k) image (call_by s k f is.kind) answer new inside step_by
+  image_then = stays_image cluster_version c.slots (VoteOf slot h) (trying.fits, run.below) (w.disk k) image (call_by s k f is.kind) answer new inside step_by
 
   row_long : length (row_of slot (w.disk k).bytes) ≡ ROW_LENGTH
   row_long =
@@ -169,7 +170,7 @@ module _ (c : Shape) (w : World) (ms : Moves) (h k : ℕ) (call : Call) (answer 
       ∙ length-take-le ROW_LENGTH (drop (row_place slot) (w.disk k).bytes) (let size = image.long in let below = trying.fits in omega (arith, length-drop (row_place slot) (w.disk k).bytes))
 
   shows : (row : List SeenBlock) → heard_as answer ≡ answers.Told (Some row) → ShowsVotes row
-  shows row tells = row_shows (row_of slot (w.disk k).bytes) row row_long (row_is s f k (w.disk k) new answer is.kind waiting.part.good is.kind_is is.fits step_by row tells run.below)
+  shows row tells = row_shows cluster_version (row_of slot (w.disk k).bytes) row row_long (row_is s f k (w.disk k) new answer is.kind waiting.part.good is.kind_is is.fits step_by row tells run.below)
 
   -- ALL OF IT
 

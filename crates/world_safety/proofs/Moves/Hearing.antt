@@ -1,7 +1,8 @@
 -- An answer to a device call: the events of the attempt, and where all stands behind them.
+use Rattle.torn_block.specs.Layout.{cluster_version}
 use Rattle.std.specs.Prelude.{map}
 use Rattle.std.specs.List.{All}
-use Rattle.std.proofs.Common.{ℕ, ◌≡◌, ◌==◌, inl, inr, cond, Some, List, [], ◌∷◌, ◌++◌, length, append_assoc, sym, subst, ap, ◌∙◌}
+use Rattle.std.proofs.Common.{ℕ, ◌≡◌, ◌==◌, inl, inr, cond, Some, List, [], ◌∷◌, ◌++◌, length, append_assoc, refl, sym, subst, ap, ◌∙◌}
 use Rattle.std.proofs.lemmas.List.{length-map}
 use Rattle.std.proofs.lemmas.List.Elements.{All-head, All-tail}
 use Rattle.disk.specs.Disk.{DiskState, Call, Answer}
@@ -86,7 +87,7 @@ module _ (c : Shape) (w : World) (ms : Moves) (h k : ℕ) (call : Call) (answer 
     ms1 = ms ++ r.pre
 
     lead : Leads s (events_of_slot slot ms1) t.heard x
-    lead = leads s (events_of_slot slot ms1) t.heard x run.below (machine_runs c.disks ms1 slot r.tied.history) r.trying.follows answered r.allows
+    lead = leads s (events_of_slot slot ms1) t.heard x (record { version = refl; is_host = run.below }) (machine_runs c.disks ms1 slot r.tied.history) r.trying.follows answered r.allows
 
     abbrev ms2 : Moves
     ms2 = ms1 ++ in_slot slot lead.events
@@ -104,7 +105,7 @@ module _ (c : Shape) (w : World) (ms : Moves) (h k : ℕ) (call : Call) (answer 
     changes = record { history = history_then; others = arrives.others; block = arrives.block }
 
     votes_then : (d : ℕ) → TellsVotes (more f k (heard_as answer) d)
-    votes_then = by_disk f k (heard_as answer) (λ d a. TellsVotes a) (votes_more (f k) (heard_as answer) (trying.votes k) shows) (λ d off. trying.votes d)
+    votes_then = by_disk f k (heard_as answer) (λ d a. TellsVotes a) (votes_more cluster_version (f k) (heard_as answer) (trying.votes k) shows) (λ d off. trying.votes d)
 
     abbrev early : Moves
     early = r.pre ++ in_slot slot lead.events

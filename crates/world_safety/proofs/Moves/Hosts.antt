@@ -3,6 +3,7 @@ use Rattle.std.specs.Prelude.{nat_lt, map, if◌then◌else◌}
 use Rattle.std.proofs.Common.{ℕ, ◌<◌, ◌≤◌, ◌≡◌, ◌≢◌, ◌==◌, ◌⊎◌, inl, inr, Bool, true, false, cond, Option, Some, None, List, [], ◌∷◌, ◌++◌, length, append-nil, append_assoc, refl, sym, subst, ap, ◌∙◌, arith}
 use Rattle.std.proofs.lemmas.Bool.{cases_eq, ltb-true, ltb-false}
 use Rattle.std.proofs.lemmas.List.{length-map, map-append}
+use Rattle.torn_block.specs.Layout.{cluster_version}
 use Rattle.torn_block.specs.declared.layout.TheConstants.{HOSTS}
 use Rattle.paxos_block.specs.Places.{IsImage}
 use Rattle.attempt.specs.Answers.{Heard, Answers, on}
@@ -147,7 +148,7 @@ begins_trying c w ms h m operation tries fits long alone =
       fits = fits;
       follows = subst (λ (es : List (Event (List ℕ))). Follows s [] (state_after es)) (sym (events_here (length m.learned) ms (Starts h ∷ []))) (follows_first s (events_of_slot (length m.learned) ms));
       knows = λ d. record { boot = omega arith; next = λ current kind is. first_kind kind (λ k. KnowsFor k (w.disk d) s (on []) d ((machine (ms ++ At (length m.learned) (Starts h) ∷ []) (length m.learned)).cell h d)) is tt };
-      votes = λ d. votes_none;
+      votes = λ d. votes_none cluster_version;
       input = long;
       alone = alone;
     }

@@ -5,13 +5,14 @@ use Rattle.std.proofs.Common.{ℕ, zero, suc, ◌+◌, ◌<◌, ◌≤◌, ◌�
 use Rattle.std.proofs.lemmas.Bool.{and_parts, ltb-true, eq-eqb}
 use Rattle.disk.specs.declared.fault.DiskFault.TheVariants.{Failed}
 use Rattle.disk.specs.Disk.{DiskState, Call, Answer, Fault, Step}
+use Rattle.torn_block.specs.Layout.{cluster_version}
 use Rattle.torn_block.specs.declared.layout.TheConstants.{HOSTS, BODY_LENGTH, ROW_LENGTH, LAST_SEQUENCE}
 use Rattle.torn_block.specs.declared.write_steps.WriteCall.{WriteCall}
 use Rattle.torn_block.specs.declared.write_steps.WriteCall.TheVariants.{CloseGate, SyncClosed, PutBody, SyncBody, OpenGate, SyncOpened}
 use Rattle.torn_block.specs.Block.{is_open, copy_of, target_of, next_sequence}
 use Rattle.torn_block.specs.Stage.{call_of}
 use Rattle.torn_block.proofs.PlaceLaws.{offset_fits, length-tail_with}
-use Rattle.paxos_block.specs.declared.block.PBlock.{PBlock}
+use Rattle.paxos_block.specs.Saying.{Said as PBlock}
 use Rattle.paxos_block.specs.Places.{VoteOf, place_of, row_of, row_place, IsImage, IsWithin}
 use Rattle.paxos_block.specs.Row.{SeenBlock}
 use Rattle.paxos_block.specs.Saying.{body_saying}
@@ -160,25 +161,25 @@ own_long s a below votes = by (row_in Opening a) refl
   where
     by : (o : Option (List SeenBlock)) → row_in Opening a ≡ o → IsLong (seen_block o s.host).says.inp
     by None is = tt
-    by (Some row) is = (votes_told Opening a row votes is s.host below).long
+    by (Some row) is = (votes_told cluster_version Opening a row votes is s.host below).long
 
 module _ (s : mark.Setup) (a : List Heard) (full : length (body_saying (mark.with_mark (mark.own_block s a).says)) ≡ BODY_LENGTH) where
   put_within : (boot : ℕ) (call : WriteCall) → IsWithin (VoteOf s.slot s.host) (call_of call (mark.write_on s a) boot)
   put_within boot CloseGate =
       let w = mark.write_on s a in
-      let at = offset_fits (target_of w.block) in
+      let at = offset_fits cluster_version (target_of w.block) in
       let short = closing_short (is_open (copy_of (target_of w.block) w.block)) in
       (omega arith, omega (arith, at, short))
   put_within boot SyncClosed = tt
   put_within boot PutBody =
       let w = mark.write_on s a in
-      let at = offset_fits (target_of w.block) in
-      let long = length-tail_with (next_sequence w.block) w.body full in
+      let at = offset_fits cluster_version (target_of w.block) in
+      let long = length-tail_with cluster_version (next_sequence w.block) w.body full in
       (omega arith, omega (arith, at, long))
   put_within boot SyncBody = tt
   put_within boot OpenGate =
       let w = mark.write_on s a in
-      let at = offset_fits (target_of w.block) in
+      let at = offset_fits cluster_version (target_of w.block) in
       (omega arith, omega (arith, at))
   put_within boot SyncOpened = tt
 
@@ -243,7 +244,7 @@ module _ (c : Shape) (w : World) (ms : Moves) (tied : Tied c w ms) where
           record {
             below = run.below;
             learned = run.learned;
-            doing = record { learned = ltb-true slot (length m.learned) is; fits = fits; knows = λ d. knows_first (w.disk d) (marking_of c h m slot); votes = λ d. votes_none };
+            doing = record { learned = ltb-true slot (length m.learned) is; fits = fits; knows = λ d. knows_first (w.disk d) (marking_of c h m slot); votes = λ d. votes_none cluster_version };
           }
       by false is =
           record { below = run.below; learned = run.learned; doing = subst (IsMarkingIf c w h (with_marking m m.marking (Some (Refused refusal.NotLearned)))) (sym none) tt }
@@ -302,10 +303,10 @@ module _ (c : Shape) (w : World) (ms : Moves) (tied : Tied c w ms) where
     fits = step_fits (w.disk k) new (mark.call_by s a due.kind) answer step_by
 
     inside : IsWithin (VoteOf t.slot h) (mark.call_by s a due.kind)
-    inside = mark_within s a (fills (mark.with_mark (mark.own_block s a).says) (own_long s a run.below (marking.votes k))) due.kind
+    inside = mark_within s a (fills cluster_version (mark.with_mark (mark.own_block s a).says) (own_long s a run.below (marking.votes k))) due.kind
 
     image_then : IsImage c.slots new
-    image_then = stays_image c.slots (VoteOf t.slot h) (marking.fits, run.below) (w.disk k) (tied.images k) (mark.call_by s a due.kind) answer new inside step_by
+    image_then = stays_image cluster_version c.slots (VoteOf t.slot h) (marking.fits, run.below) (w.disk k) (tied.images k) (mark.call_by s a due.kind) answer new inside step_by
 
     behind : AfterMark s (a ++ heard_as answer ∷ []) (w.disk k) new ((machine ms t.slot).cell h k)
     behind =
@@ -396,7 +397,7 @@ module _ (c : Shape) (w : World) (ms : Moves) (tied : Tied c w ms) where
     told_by row tells = by due.kind step_by fits
       where
         by : (kind : Kind) → Step (w.disk k) (mark.call_by s a kind) answer new → Fits (mark.call_by s a kind) (heard_as answer) → ShowsVotes row
-        by Reading go fit = row_shows (row_of t.slot (w.disk k).bytes) row row_long (row_told (w.disk k) new _ t.slot answer row go tells)
+        by Reading go fit = row_shows cluster_version (row_of t.slot (w.disk k).bytes) row row_long (row_told (w.disk k) new _ t.slot answer row go tells)
         by Attaching go fit = absurd (subst (Fits (mark.call_by s a Attaching)) tells fit)
         by Syncing go fit = absurd (subst (Fits (mark.call_by s a Syncing)) tells fit)
         by (Putting p CloseGate) go fit = absurd (subst (Fits (mark.call_by s a (Putting p CloseGate))) tells fit)
@@ -416,7 +417,7 @@ module _ (c : Shape) (w : World) (ms : Moves) (tied : Tied c w ms) where
     votes_then : (d : ℕ) → TellsVotes (on (t.heard ++ x ∷ []) d)
     votes_then =
         subst (λ (f : Answers). (d : ℕ) → TellsVotes (f d)) (sym (on_more t.heard x))
-        (by_disk (on t.heard) k (heard_as answer) (λ d b. TellsVotes b) (votes_more a (heard_as answer) (marking.votes k) told_by) (λ d off. marking.votes d))
+        (by_disk (on t.heard) k (heard_as answer) (λ d b. TellsVotes b) (votes_more cluster_version a (heard_as answer) (marking.votes k) told_by) (λ d off. marking.votes d))
 
     abbrev w2 : World
     w2 = with_disks w disks

@@ -3,6 +3,7 @@ use Rattle.std.proofs.Common.{ℕ, ◌≤◌, ◌≡◌, ◌==◌, ◌⊎◌, in
 use Rattle.std.specs.Prelude.{IsTrue}
 use Rattle.std.proofs.lemmas.Bool.{eqb-true, and_parts}
 use Rattle.disk.specs.Disk.{DiskState}
+use Rattle.torn_block.specs.Layout.{cluster_version}
 use Rattle.torn_block.specs.Block.{value_of}
 use Rattle.paxos_block.specs.Places.{VoteOf, place_of}
 use Rattle.paxos_block.specs.Row.{says_of}
@@ -141,6 +142,6 @@ marks_stay c w e off slot host d slot_below below =
     (λ bytes left marked. inl (bytes, left, refl))
 
 -- and so does one that leaves a block no other outcome
-pub marks_by : (w : World) (slot host : ℕ) (disk new : DiskState) → Outcomes disk (place_of (VoteOf slot host)) new
+pub marks_by : (w : World) (slot host : ℕ) (disk new : DiskState) → Outcomes cluster_version disk (place_of (VoteOf slot host)) new
     → AllSay (λ says. says.mark ≡ true → MaySayOn (place_of (VoteOf slot host)) disk says ⊎ HasLearned w host slot says) (place_of (VoteOf slot host)) new
 marks_by w slot host disk new o bytes left marked = let b = o bytes left in inl (b.0, b.1, ap (λ (block : List ℕ). says_of (value_of block)) (sym b.2))

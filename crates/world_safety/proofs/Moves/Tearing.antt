@@ -1,5 +1,5 @@
 -- A write that is torn: its host hears no answer, so the machine makes the event of the call alone, and puts nothing in.
-use Rattle.std.proofs.Common.{ℕ, ◌≡◌, ◌==◌, ◌⊎◌, inl, inr, cond, Some, List, ◌++◌, length, append_assoc, sym, subst, ap, ◌∙◌}
+use Rattle.std.proofs.Common.{ℕ, ◌≡◌, ◌==◌, ◌⊎◌, inl, inr, cond, Some, List, ◌++◌, length, append_assoc, refl, sym, subst, ap, ◌∙◌}
 use Rattle.std.proofs.lemmas.List.{length-map}
 use Rattle.disk.specs.Disk.{DiskState, Call, Answer}
 use Rattle.paxos_block.specs.Row.{SeenBlock}
@@ -72,7 +72,7 @@ module _ (c : Shape) (w : World) (ms : Moves) (h k : ℕ) (call : Call) (answer 
   one : attempt.Moves s is.phase f k (heard_as answer) (machine ms1 slot)
   one =
       no_faster
-      (attempt.answered s f k (machine ms1 slot) (holds_reached c.disks (events_of_slot slot ms1) (machine_runs c.disks ms1 slot r.tied.history)) run.below reached is.phase due_at stood (heard_as answer) is r.allows)
+      (attempt.answered s f k (machine ms1 slot) (holds_reached c.disks (events_of_slot slot ms1) (machine_runs c.disks ms1 slot r.tied.history)) (record { version = refl; is_host = run.below }) reached is.phase due_at stood (heard_as answer) is r.allows)
 
   torn_now : machine (ms1 ++ in_slot slot one.events) slot ≡ agreement.run (machine ms1 slot) one.events
   torn_now = machine_here slot ms1 one.events

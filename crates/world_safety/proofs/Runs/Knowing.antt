@@ -216,7 +216,7 @@ module _ (c : Shape) (log : List Filled) where
         let s = setup_of c h m t.operation in
         let x : Answered = record { disk = k; heard = heard_as answer } in
         status_true (suc i) h m (with_heard t x) known.learned (known.begun t does) (taken s (on (t.heard ++ x ∷ []))) (status s (on (t.heard ++ x ∷ []))) (told_then k call answer left is m t running does known) (commits k call answer left is m t running does)
-        (λ value ended. decided_known (IsChosenBefore c log (suc i) (length m.learned)) s (on (t.heard ++ x ∷ [])) value (told_then k call answer left is m t running does known) ended)
+        (λ value ended. decided_known (IsChosenBefore c log (suc i) (length m.learned)) s (on (t.heard ++ x ∷ [])) value (told_then k call answer left is m t running does known) refl ended)
 
     called_true : (k : ℕ) (call : Call) (answer : Answer) (left : List ℕ) → slice_get log i ≡ Some (Called h k call answer left) → (host : Host) → (at c log i).host h ≡ host → IsTrueOf c log (suc i) h host
         → IsTrueOf c log (suc i) h (host_step c h host (Called h k call answer left))

@@ -1,6 +1,7 @@
 -- What marked blocks tell: true marks on the disks are true marks in the rows that are read, and in what an attempt takes as decided.
+use Rattle.torn_block.specs.Layout.{Version, cluster_version, hosts_in}
 use Rattle.std.specs.Prelude.{slice_get, pred}
-use Rattle.std.proofs.Common.{ℕ, ◌≡◌, inl, inr, Some, None, List, [], ◌∷◌, ◌++◌, length, sym, subst, ap, ◌∙◌, arith}
+use Rattle.std.proofs.Common.{ℕ, ◌≡◌, ◌<◌, inl, inr, Some, None, List, [], ◌∷◌, ◌++◌, length, sym, subst, ap, ◌∙◌, arith}
 use Rattle.std.proofs.lemmas.Bool.{cases_lt, cases_eq}
 use Rattle.disk.specs.Disk.{Call, Answer}
 use Rattle.disk.proofs.CrashLemmas.{may_leave_now}
@@ -43,11 +44,11 @@ tells_more K a x before last n row is = elim (cases_lt n (length a)) [
 ]
 
 -- what a marked block tells at the opening's end is known
-pub decided_known : (K : List ℕ → Type 0) (s : Setup) (f : Answers) (value : List ℕ) → ((d : ℕ) → TellsTrueMarks K (f d)) → status s f ≡ Ended (Decided value) → K value
-decided_known K s f value tells ended =
+pub decided_known : (K : List ℕ → Type 0) (s : Setup) (f : Answers) (value : List ℕ) → ((d : ℕ) → TellsTrueMarks K (f d)) → s.version ≡ cluster_version → status s f ≡ Ended (Decided value) → K value
+decided_known K s f value tells of_cluster ended =
     let has : HasDecided s value f = told_by s f (Ended (Decided value)) ended in
     let seen : IsMarkSeen s f value = mark_seen s f value s.disks (omega arith) has.decided_is in
-    let known = tells seen.disk (pred (goal Opening)) seen.row (told_is (slice_get (f seen.disk) (pred (goal Opening))) seen.row seen.read) seen.host seen.below seen.mark in
+    let known = tells seen.disk (pred (goal Opening)) seen.row (told_is (slice_get (f seen.disk) (pred (goal Opening))) seen.row seen.read) seen.host (subst (λ (v : Version). seen.host < hosts_in v) of_cluster seen.below) seen.mark in
     let both : Some known.0 ≡ Some value = sym known.1 ∙ seen.inp in
     let same : known.0 ≡ value = cc in
     subst K same known.2

@@ -89,7 +89,7 @@ module _ (c : Shape) (log : List Filled) (run : IsRun c log) where
         (by_disk (on t.heard) k (heard_as answer) (λ d a. TellsTrueMarks K a)
         (tells_more K (on t.heard k) (heard_as answer) (known.told t does k) (λ row told. shows_by h k call answer left is m t running does row told))
         (λ d off. known.told t does d)) in
-        decided_known K (setup_of c h m t.operation) (on (t.heard ++ x ∷ [])) v tells ended
+        decided_known K (setup_of c h m t.operation) (on (t.heard ++ x ∷ [])) v tells refl ended
 
     decides_by : (e : Filled) → slice_get log i ≡ Some e → DecidesChosen c (at c log i) ms e
     decides_by (Called h k call answer left) is = λ m t v running does ended. sound.chosen (length m.learned) v (decided_by h k call answer left is m t v running does ended)

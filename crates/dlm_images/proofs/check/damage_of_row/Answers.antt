@@ -1,4 +1,5 @@
 use Rattle.std.proofs.Common.{List, subst, ap, ◌∙◌, ◌+◌, ℕ, slice_range}
+use Rattle.torn_block.specs.Layout.{cluster_version, row_length}
 use Rattle.paxos_block.specs.Damage as rows
 use Rattle.paxos_block.specs.Row.{IsDamagedRow}
 use Rattle.std.specs.Prelude.{◌↔◌, Contains, true}
@@ -7,19 +8,19 @@ use Rattle.dlm_images.proofs.check.damage_of_row.Goals as goal
 
 pub returns-clause-unchanged : goal.returns-clause-unchanged
 returns-clause-unchanged g c = λ tells.
-    read_keeps (g.D.Disk.state c.args.device.now) (g.D.Disk.state c.read.new.self) c.args.boot.number c.row_place.result 1024 c.read.result c.read.new.into (c.read.ensures.step tells)
+    read_keeps (g.D.Disk.state c.args.device.now) (g.D.Disk.state c.read.new.self) c.args.boot.number c.row_place.result (row_length cluster_version) c.read.result c.read.new.into (c.read.ensures.step tells)
 
 pub returns-clause-damaged : goal.returns-clause-damaged
 returns-clause-damaged g c = λ tells.
     let old = g.D.Disk.state c.args.device.now in
     c.damaged_hosts.ensures.exact
-    ∙ ap rows.damaged_in (read_tells old (g.D.Disk.state c.read.new.self) c.args.boot.number c.row_place.result 1024 c.in_ok-read.field-0 c.read.new.into (c.in_ok-read.ensures.step tells))
-    ∙ ap (λ (at : ℕ). rows.damaged_in (slice_range old.bytes at (at + 1024))) c.row_place.ensures
+    ∙ ap rows.damaged_in (read_tells old (g.D.Disk.state c.read.new.self) c.args.boot.number c.row_place.result (row_length cluster_version) c.in_ok-read.field-0 c.read.new.into (c.in_ok-read.ensures.step tells))
+    ∙ ap (λ (at : ℕ). rows.damaged_in (slice_range old.bytes at (at + row_length cluster_version))) c.row_place.ensures
 
 pub returns-clause-some : goal.returns-clause-some
 returns-clause-some g c = λ tells.
     let old = g.D.Disk.state c.args.device.now in
     subst (λ (l : List ℕ). Contains c.damaged_hosts.result true ↔ IsDamagedRow l)
-    (read_tells old (g.D.Disk.state c.read.new.self) c.args.boot.number c.row_place.result 1024 c.in_ok-read.field-0 c.read.new.into (c.in_ok-read.ensures.step tells)
-    ∙ ap (λ (at : ℕ). slice_range old.bytes at (at + 1024)) c.row_place.ensures)
+    (read_tells old (g.D.Disk.state c.read.new.self) c.args.boot.number c.row_place.result (row_length cluster_version) c.in_ok-read.field-0 c.read.new.into (c.in_ok-read.ensures.step tells)
+    ∙ ap (λ (at : ℕ). slice_range old.bytes at (at + row_length cluster_version)) c.row_place.ensures)
     c.damaged_hosts.ensures.row

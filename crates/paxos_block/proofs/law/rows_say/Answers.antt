@@ -2,7 +2,7 @@ use Rattle.paxos_block.proofs.RowLemmas.{damaged_row, unsaid_row, sound_row, sai
 use Rattle.paxos_block.proofs.law.rows_say.Goals as goal
 
 pub returns-clause-damaged : goal.returns-clause-damaged
-returns-clause-damaged c = λ row long fits. (unsaid_row row long, damaged_row row long fits)
+returns-clause-damaged c = λ v row long fits. (unsaid_row v row long, damaged_row v row long fits)
 
 pub returns-clause-sound : goal.returns-clause-sound
 returns-clause-sound c = sound_row

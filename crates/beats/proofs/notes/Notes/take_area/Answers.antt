@@ -1,5 +1,5 @@
 use Rattle.std.proofs.Common.{◌≡◌, ◌+◌, ◌<◌, ◌∙◌, ℕ, List, Some, sym, ap, subst, length, slice_set, refl, arith}
-use Rattle.torn_block.specs.Plan.{plan_by}
+use Rattle.torn_block.specs.Plan.{Plan, plan_by}
 use Rattle.heartbeat.specs.Beat.{counters_in, beat_body}
 use Rattle.beats.specs.Answers.{Told, more}
 use Rattle.beats.specs.Kept.{Follows, IsPassed}
@@ -30,3 +30,12 @@ returns-in-Err-clause-follows c s f is =
     (subst (λ (k : ℕ). IsPassed s (more f n.disk (Told (Some area))) (record n { readings = slice_set n.readings k (Some (counters_in area)) }) (n.disk + 1) lost) at
     (is_spent s f n is c.requires.going c.requires.stage area room c.own_block-block.result c.own_block-block.ensures (λ few. absurd (let no = c.in-Err.ensures.spent.1 few in cc)) lost refl)) in
     c.go_on.ensures.follows s (more f n.disk (Told (Some area))) passed (ahead s f n is c.requires.going (Told (Some area)))
+
+pub returns-in-Ok-clause-sound : goal.returns-in-Ok-clause-sound
+returns-in-Ok-clause-sound c = record {
+  is_host = c.requires.sound.is_host;
+  visits_one = c.requires.sound.visits_one;
+  few = c.requires.sound.few;
+  lost = c.requires.sound.lost;
+  size = ap (λ (p : Plan). p.size) c.in-Ok.ensures.steps;
+}

@@ -1,4 +1,4 @@
-use Rattle.std.proofs.Common.{◌≡◌, ◌∙◌, ap, sym, subst, ℕ, Option, Some, None, ◌++◌, ◌∷◌, [], refl, arith}
+use Rattle.std.proofs.Common.{◌≡◌, ◌∙◌, ap, sym, subst, ℕ, List, Option, Some, None, ◌++◌, ◌∷◌, [], refl, arith}
 use Rattle.disk.specs.Disk as device
 use Rattle.attempt.specs.History.{Fits}
 use Rattle.phases.specs.Calls.{heard_of}
@@ -18,7 +18,7 @@ use Rattle.beats.proofs.Histories.{bound, fits_too}
 use Rattle.beats.proofs.one_beat.Beat.hear.Goals as goal
 
 -- an answer of the kind that a call may get is so for a beat too
-fits_it : (call : device.Call) (heard : code_heard.Heard) → Fits call (heard_of heard) → histories.Fits call (beat_calls.heard_of heard)
+fits_it : (call : device.Call) (heard : code_heard.Heard (List ℕ)) → Fits call (heard_of heard) → histories.Fits call (beat_calls.heard_of heard)
 fits_it call (answer.Booted boot) fits = fits_too call (device.Booted boot.number) fits
 fits_it call answer.Done fits = fits_too call device.Done fits
 fits_it call (answer.Told area) fits = fits_too call (device.Told area.now) fits

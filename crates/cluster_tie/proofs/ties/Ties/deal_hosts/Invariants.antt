@@ -1,5 +1,6 @@
 use Rattle.std.proofs.Common.{◌≡◌, ◌++◌, [], ℕ, ◌+◌, ◌-◌, ◌≤◌, true, false, vec_len}
 use Rattle.std.specs.Vec.{vec_capacity}
+use Rattle.torn_block.specs.declared.layout.TheConstants.{HOSTS}
 use Rattle.cluster_tie.specs.Parts.{AreFresh}
 use Rattle.cluster_tie.specs.View.{keeper, parts_from, host_parts}
 use Rattle.cluster_tie.proofs.ties.Ties.deal_hosts.Given as goal
@@ -7,7 +8,7 @@ use Rattle.cluster_tie.proofs.ties.Ties.deal_hosts.Given as goal
 abbrev pub invariant-loop-k : goal.invariant-loop-k
 invariant-loop-k g l = record {
   same_table : l.seat.table_id ≡ l.initial.seat.table_id;
-  left : l.seat.me ≡ (keeper [] (parts_from false l._k (8 - l._k) ++ []), []);
+  left : l.seat.me ≡ (keeper [] (parts_from false l._k (HOSTS - l._k) ++ []), []);
   dealt : AreFresh l._k l.tokens.items;
-  room : vec_len l.tokens + (8 - l._k) ≤ vec_capacity l.tokens;
+  room : vec_len l.tokens + (HOSTS - l._k) ≤ vec_capacity l.tokens;
 }

@@ -1,4 +1,4 @@
-use Rattle.std.proofs.Common.{◌≡◌, List, ◌++◌, Option, None, sym, ◌∙◌, ap, subst}
+use Rattle.std.proofs.Common.{◌≡◌, ℕ, List, ◌++◌, Option, None, sym, ◌∙◌, ap, subst}
 use Rattle.std.specs.Option.{option_map}
 use Rattle.std.specs.Prelude.{is_some}
 use Rattle.attempt.specs.Answers.{Answered}
@@ -24,7 +24,7 @@ returns-in_default-clause-leads c c' h m leads =
     let before = values_with s.learner.said m in
     let l = log.hears c' h before before.doing x in
     let leads' = c.hear.ensures.leads c' h before known.learner in
-    let after = heard_none c' h s.learner.said m busy.0 x busy.1 (sym (c.offered.ensures.value c' h l leads') ∙ c.in_default.is) in
+    let after = heard_none c' h s.learner.said m busy.0 x busy.1 (sym (c.offered.ensures.value c' h l leads') ∙ ap (option_map (λ (value : List ℕ). value)) c.in_default.is) in
     let stays = none_marked c' h m (hears c' h m m.doing x) s.marking (unmarked c' h m c.self.inside _ c.self.view_is c.requires.resting c.requires.unmarking c.requires.busy leads) (marking_heard c' h m m.doing x) known.marking in
     let kept = beats_kept c' h m (hears c' h m m.doing x) s.readings s.beat (beats-hears c' h m x) known.readings known.beat in
     attempt_due c' h m c.self.inside _ c.self.view_is c.requires.resting c.requires.unmarking c.requires.busy leads (λ d. LeadsTo c' h (hears c' h m m.doing (record { disk = d; heard = answer })) new)
@@ -45,7 +45,7 @@ returns-clause-leads c c' h m leads =
     let before = values_with s.learner.said m in
     let l = log.hears c' h before before.doing x in
     let leads' = c.hear.ensures.leads c' h before known.learner in
-    let after = heard_value c' h s.learner.said m busy.0 x busy.1 value (sym (c.offered.ensures.value c' h l leads') ∙ c.in-Some.is) in
+    let after = heard_value c' h s.learner.said m busy.0 x busy.1 value (sym (c.offered.ensures.value c' h l leads') ∙ ap (option_map (λ (value : List ℕ). value)) c.in-Some.is) in
     let reply : c.judge-reply.result ≡ option_map (reply_after m.learned) (decoded value) =
     c.judge-reply.ensures.reply ∙ ap (λ (before : List Command). option_map (reply_after before) (decoded value)) known.prefix in
     let stays = none_marked c' h m (hears c' h m m.doing x) s.marking (unmarked c' h m c.self.inside _ c.self.view_is c.requires.resting c.requires.unmarking c.requires.busy leads) (marking_heard c' h m m.doing x) known.marking in

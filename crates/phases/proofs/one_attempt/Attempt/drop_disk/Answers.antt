@@ -7,8 +7,8 @@ use Rattle.phases.proofs.Answering.{visiting, drops}
 use Rattle.phases.proofs.one_attempt.Attempt.drop_disk.Goals as goal
 
 pub returns-clause-follows : goal.returns-clause-follows
-returns-clause-follows c =
-    let n = notes_in c.self.inside in
+returns-clause-follows g c =
+    let n = notes_in g.L.Layout.version g.L.Layout.spelled c.self.inside in
     let going : n.end ≡ None = ap (λ (m : Notes). m.end) c.self.view_is ∙ c.requires in
     let room : n.disk < length n.visits = omega arith in
     let at : n.disk ≡ c.from.result = omega arith in

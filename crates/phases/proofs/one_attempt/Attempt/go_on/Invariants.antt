@@ -4,7 +4,7 @@ use Rattle.phases.specs.Moves.{IsPassed, phases_left}
 use Rattle.phases.proofs.one_attempt.Attempt.go_on.Given as goal
 
 abbrev pub invariant-loop-self : goal.invariant-loop-self
-invariant-loop-self l = record {
+invariant-loop-self g l = record {
   of : l.self.of ≡ l.initial.self.of;
   going : l.self.end ≡ None;
   from : l.from ≤ l.self.of.disks;
@@ -12,4 +12,4 @@ invariant-loop-self l = record {
 }
 
 abbrev pub decreases-loop-self : goal.decreases-loop-self
-decreases-loop-self l = phases_left l.self.phase
+decreases-loop-self g l = phases_left l.self.phase

@@ -17,19 +17,19 @@ not_false true e = refl
 not_false false e = sym e
 
 pub returns-then-not-has_majority-clause-visits : goal.returns-then-not-has_majority-clause-visits
-returns-then-not-has_majority-clause-visits c f is =
+returns-then-not-has_majority-clause-visits g c f is =
     let v = c.visit_next-visits_one in
     subst (λ (m : Notes). Follows f (record m { end = Some end.NoMajority })) (sym c.self.view_is)
     (few_left c.args.self.now.phase f v.new.self v.result (λ begun. OnTrue_at begun v.ensures.begun f is) (λ none. OnFalse_at none v.ensures.none f is) (sym c.has_majority.ensures ∙ c.if-not-has_majority.true))
 
 pub returns-clause-over : goal.returns-clause-over
-returns-clause-over c =
+returns-clause-over g c =
     let v = c.visit_next-visits_one in
     OnTrue_from (not v.result) _ (λ none f is.
     is_over c.args.self.now.phase f v.new.self (OnFalse_at (not_true v.result none) v.ensures.none f is) (sym c.has_majority.ensures ∙ c.if-not-has_majority.false))
 
 pub returns-clause-visits : goal.returns-clause-visits
-returns-clause-visits c =
+returns-clause-visits g c =
     let v = c.visit_next-visits_one in
     OnFalse_from (not v.result) _ (λ some f is.
     let begun = OnTrue_at (not_false v.result some) v.ensures.begun f is in

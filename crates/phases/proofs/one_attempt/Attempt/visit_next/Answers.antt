@@ -5,7 +5,7 @@ use Rattle.phases.specs.Notes.{Notes}
 use Rattle.phases.proofs.one_attempt.Attempt.visit_next.Goals as goal
 
 pub returns-clause-none : goal.returns-clause-none
-returns-clause-none c f is =
+returns-clause-none g c f is =
     let same = ap (λ (s : Setup). s.disks) c.loop-disk.invariant.of in
     let opened = ap (λ (n : Notes). n.of.disks) c.self.view_is in
     let all : c.loop-disk.disk ≡ c.loop-disk.self.of.disks = omega arith in

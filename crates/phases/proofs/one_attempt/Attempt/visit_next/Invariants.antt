@@ -4,7 +4,7 @@ use Rattle.phases.specs.Moves.{IsPassed}
 use Rattle.phases.proofs.one_attempt.Attempt.visit_next.Given as goal
 
 abbrev pub invariant-loop-disk : goal.invariant-loop-disk
-invariant-loop-disk l = record {
+invariant-loop-disk g l = record {
   of : l.self.of ≡ l.initial.self.of;
   phase : l.self.phase ≡ l.initial.self.phase;
   end : l.self.end ≡ l.initial.self.end;

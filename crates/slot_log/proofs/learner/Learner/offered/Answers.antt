@@ -1,25 +1,15 @@
-use Rattle.std.proofs.Common.{◌≡◌, true, false, not, Some, sym, ap, ◌∙◌}
-use Rattle.slot_log.specs.Kept.{Kept, chosen_in}
-use Rattle.slot_log.proofs.Learners.{offered_is}
+use Rattle.std.proofs.Common.{◌≡◌, not, ap, ◌∙◌}
+use Rattle.std.specs.Option.{option_map}
+use Rattle.phases.specs.layouts.Calls.{end_as}
+use Rattle.slot_log.specs.layouts.Kept.{kept_of, task_as, Kept}
+use Rattle.slot_log.proofs.Learners.{offered_is, some_mapped}
 use Rattle.slot_log.proofs.learner.Learner.offered.Goals as goal
 
-pub returns-in-Some-Committed-clause-value : goal.returns-in-Some-Committed-clause-value
-returns-in-Some-Committed-clause-value c c' h m leads =
+pub returns-clause-value : goal.returns-clause-value
+returns-clause-value g c c' h m leads =
+    let v = g.L.Layout.version in
+    let spelled = g.L.Layout.spelled in
     let s = c.self.inside in
-    let k : Kept = record { host = s.host; shape = s.config; learned = s.learned.items; floor = s.floor; task = s.task; attempt = s.attempt; said = s.said } in
-    sym (ap chosen_in (c.in-Some-Committed.is ∙ ap Some c.in-Some-Committed.field-0-is))
-    ∙ offered_is c' h m k c.args.self.now c.end.result c.self.view_is leads (c.is_none.ensures ∙ ap not c.if-is_none.false) c.end.ensures.end
-
-pub returns-in-Some-Decided-clause-value : goal.returns-in-Some-Decided-clause-value
-returns-in-Some-Decided-clause-value c c' h m leads =
-    let s = c.self.inside in
-    let k : Kept = record { host = s.host; shape = s.config; learned = s.learned.items; floor = s.floor; task = s.task; attempt = s.attempt; said = s.said } in
-    sym (ap chosen_in (c.in-Some-Decided.is ∙ ap Some c.in-Some-Decided.field-0-is))
-    ∙ offered_is c' h m k c.args.self.now c.end.result c.self.view_is leads (c.is_none.ensures ∙ ap not c.if-is_none.false) c.end.ensures.end
-
-pub returns-in_default-2-clause-value : goal.returns-in_default-2-clause-value
-returns-in_default-2-clause-value c c' h m leads =
-    let s = c.self.inside in
-    let k : Kept = record { host = s.host; shape = s.config; learned = s.learned.items; floor = s.floor; task = s.task; attempt = s.attempt; said = s.said } in
-    sym (ap chosen_in c.in_default.is)
-    ∙ offered_is c' h m k c.args.self.now c.end.result c.self.view_is leads (c.is_none.ensures ∙ ap not c.if-is_none.false) c.end.ensures.end
+    let k : Kept = kept_of spelled s.host s.config s.learned.items s.floor s.task s.attempt s.said in
+    c.chosen.ensures spelled
+    ∙ offered_is v c' h m k c.args.self.now (option_map (end_as spelled) c.end.result) c.self.view_is leads (some_mapped (task_as spelled) s.task ∙ c.is_none.ensures ∙ ap not c.if-is_none.false) c.end.ensures.end

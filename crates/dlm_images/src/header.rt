@@ -1,0 +1,45 @@
+ghost use Rattle.std.specs.Prelude.{◌≡◌, ◌≢◌, ◌⊎◌, ◌≤◌, ◌<◌, ◌↔◌, ℕ, IfOk, Err, Ok};
+ghost use Rattle.paxos_block.specs.Headers.{IsFormatted, IsRight};
+ghost use Rattle.dlm_images.specs.Headers as headers;
+ghost use Rattle.dlm_images.specs.Headers.{IsOld, HasWrongHeader};
+
+use disk::ImageFault;
+use paxos_block::{Header, decode_header, told_length};
+use torn_block::{ClusterLayout, HEADER_LENGTH, Layout, Layout1};
+
+// Where the number of an image's layout stands.
+const VERSION_AT: usize = 1;
+
+/// The header of an image, by the disk that it is named as, its length in bytes, and its first bytes. An image that is right by the
+/// layout that images had before has a fault of its own.
+pub fn image_header(disk: u8, long: u64, bytes: &[u8; HEADER_LENGTH]) -> Result<Header, ImageFault>
+    // What is read is right, and what is right is read.
+    ensures right { IfOk result (IsRight disk long bytes.now) }
+    ensures only { (header : Header) → IsRight disk long bytes.now header → result ≡ Ok header }
+    ensures not_formatted { (result ≡ Err ImageFault.NotFormatted) ↔
+        ((HEADER_LENGTH ≤ long) × ¬ IsFormatted bytes.now) }
+    ensures wrong_header { (result ≡ Err ImageFault.WrongHeader) ↔
+        ((long < HEADER_LENGTH) ⊎ HasWrongHeader disk long bytes.now) }
+    // It passes all checks of that layout.
+    ensures old_layout { (result ≡ Err ImageFault.OldLayout) ↔ IsOld disk long bytes.now }
+    ensures readable { result ≢ Err ImageFault.Unreadable }
+{
+    match decode_header::<Layout1>(disk, long, bytes) {
+        Ok(_) => Err(ImageFault::OldLayout),
+        Err(_) => decode_header::<ClusterLayout>(disk, long, bytes),
+    }
+}
+
+/// How long an image is by its first bytes, whether they are right or not, in the layout whose number stands in them.
+pub fn long_as_told(bytes: &[u8; HEADER_LENGTH]) -> u64
+    ensures told { result ≡ headers.told_length bytes.now }
+    // An image that is right by either layout is that long.
+    ensures right { (disk long : ℕ) (header : Header) → IsRight disk long bytes.now header → result ≡ long }
+    ensures old { (disk long : ℕ) → IsOld disk long bytes.now → result ≡ long }
+{
+    if bytes[VERSION_AT] == Layout1::VERSION {
+        told_length::<Layout1>(bytes)
+    } else {
+        told_length::<ClusterLayout>(bytes)
+    }
+}

@@ -1,0 +1,6 @@
+pub mod Ballot
+pub mod Headers
+pub mod Places
+pub mod Row
+pub mod Saying
+pub mod Votes

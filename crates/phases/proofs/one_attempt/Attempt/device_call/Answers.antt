@@ -1,0 +1,17 @@
+use Rattle.std.proofs.Common.{◌≡◌, ◌*◌, ◌+◌, ◌≤◌, ◌∙◌, ℕ, subst, ap, arith}
+use Rattle.torn_block.specs.Layout.{copy_length, block_length, row_length}
+use Rattle.torn_block.proofs.LayoutLaws.{row_holds}
+use Rattle.paxos_block.specs.layouts.Places.{row_place}
+use Rattle.phases.specs.Notes.{Notes}
+use Rattle.phases.specs.Steps.{IsDueIn}
+use Rattle.phases.proofs.Calling.{within_more, block_within}
+use Rattle.phases.proofs.one_attempt.Attempt.device_call.Goals as goal
+
+pub returns-in-Writing-clause-range : goal.returns-in-Writing-clause-range
+returns-in-Writing-clause-range g c =
+    let v = g.L.Layout.version in
+    let due = subst (IsDueIn v) c.in-Writing.is c.self.invariant.due in
+    let slot = c.from-slot.ensures ∙ ap (λ (m : Notes). m.of.slot) c.self.view_is in
+    within_more v _ _ c.write_call.result
+    (block_within v c.from-slot.result c.args.self.now.of.slot c.self.inside.of.host c.in-Writing.steps.size c.block_place.result slot c.self.invariant.is_host due.1 c.block_place.ensures)
+    (c.write_call.ensures.range v)

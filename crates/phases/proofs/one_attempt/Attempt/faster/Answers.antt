@@ -1,0 +1,21 @@
+use Rattle.std.proofs.Common.{rules, ◌≡◌, ◌≢◌, ◌<◌, ◌≤◌, ◌∙◌, Some, None, sym, ap, arith}
+use Rattle.phases.specs.declared.phase.Phase.TheVariants as phase
+use Rattle.phases.specs.Inside.{notes_in}
+use Rattle.phases.specs.Moves.{outruns}
+use Rattle.phases.specs.Notes.{Notes}
+use Rattle.phases.proofs.Taking.{outruns_some, outruns_none}
+use Rattle.phases.proofs.one_attempt.Attempt.faster.Goals as goal
+
+pub returns-then-self-others : goal.returns-then-self-others
+returns-then-self-others g c bytes reads =
+    let n = notes_in g.L.Layout.version g.L.Layout.spelled c.self.inside in
+    let later : n.phase ≢ phase.Opening = search rules in
+    outruns_some n.phase n reads.seen c.others_mbal-others.result later (c.others_mbal-others.ensures g.L.Layout.version g.L.Layout.spelled reads.seen reads.so) c.if-self-others.true
+    ∙ ap (λ (m : Notes). outruns m.phase m reads.seen) c.self.view_is
+
+pub returns-else-self-others : goal.returns-else-self-others
+returns-else-self-others g c bytes reads =
+    let n = notes_in g.L.Layout.version g.L.Layout.spelled c.self.inside in
+    let later : n.phase ≢ phase.Opening = search rules in
+    outruns_none n.phase n reads.seen c.others_mbal-others.result later (c.others_mbal-others.ensures g.L.Layout.version g.L.Layout.spelled reads.seen reads.so) c.if-self-others.false
+    ∙ ap (λ (m : Notes). outruns m.phase m reads.seen) c.self.view_is

@@ -1,0 +1,5 @@
+pub mod Block
+pub mod Damage
+pub mod Place
+pub mod Plan
+pub mod Register

@@ -1,0 +1,7 @@
+use Rattle.std.proofs.Common.{refl}
+use Rattle.worked_rows.proofs.Beside.{played, said_by}
+use Rattle.worked_rows.proofs.locks.refused_while_converting.Goals as goal
+
+pub returns : goal.returns
+unfolding played
+returns c = said_by _ _ _ _ refl
