@@ -40,10 +40,15 @@ fn run(alloc: Global, events: &[MigrationEvent]) -> Result<Vec<SimDisk>, Fail> {
 
 fn steps(alloc: Global, count: usize) -> Result<Vec<MigrationEvent>, Fail> {
     let mut events = Vec::new(alloc);
+    step_on(&mut events, count)?;
+    Ok(events)
+}
+
+fn step_on(events: &mut Vec<MigrationEvent>, count: usize) -> Result<(), Fail> {
     for _ in 0..count {
         events.push(MigrationEvent::Step)?;
     }
-    Ok(events)
+    Ok(())
 }
 
 // All disks crash, and whatever is unsynced becomes an open gate.
@@ -60,6 +65,15 @@ fn bytes_of(alloc: Global, disk: &mut SimDisk) -> Result<Vec<u8>, Fail> {
     let mut bytes = vec![in alloc; 0u8; disk.size() as usize]?;
     disk.read(boot, 0, &mut bytes)?;
     Ok(bytes)
+}
+
+// How many gates were opened by so many calls.
+fn gates_opened(made: usize) -> usize {
+    if made <= FIRST_GATE {
+        0
+    } else {
+        (made - FIRST_GATE).div_ceil(2)
+    }
 }
 
 // How many gates stand open. Where one does, all images are complete but for the gate.
@@ -90,12 +104,11 @@ fn stopped_before_each_call(rt: HostRuntime) -> Result<(), Fail> {
         let mut events = steps(alloc, made)?;
         crash_all(alloc, &mut events)?;
         let disks = run(alloc, &events)?;
-        let open = if made <= FIRST_GATE {
-            0
-        } else {
-            (made - FIRST_GATE).div_ceil(2)
-        };
-        assert_eq!(rt; open_gates(&rt, alloc, disks)?, open, "{made} calls");
+        assert_eq!(rt;
+            open_gates(&rt, alloc, disks)?,
+            gates_opened(made),
+            "{made} calls"
+        );
     }
     Ok(())
 }
@@ -108,15 +121,14 @@ fn stopped_within_each_write(rt: HostRuntime) -> Result<(), Fail> {
         events.push(MigrationEvent::Tear {
             given: [0xA5].to_vec(alloc)?,
         })?;
-        events.push(MigrationEvent::Step)?;
+        step_on(&mut events, CALLS)?;
         crash_all(alloc, &mut events)?;
         let disks = run(alloc, &events)?;
-        let open = if made < FIRST_GATE {
-            0
-        } else {
-            (made - FIRST_GATE) / 2 + 1
-        };
-        assert_eq!(rt; open_gates(&rt, alloc, disks)?, open, "{made} calls");
+        assert_eq!(rt;
+            open_gates(&rt, alloc, disks)?,
+            gates_opened(made + 1),
+            "{made} calls"
+        );
     }
     Ok(())
 }
@@ -130,21 +142,13 @@ fn each_call_fails(rt: HostRuntime) -> Result<(), Fail> {
         events.push(MigrationEvent::FailCall {
             given: [0].to_vec(alloc)?,
         })?;
-        for _ in 0..CALLS {
-            events.push(MigrationEvent::Step)?;
-        }
+        step_on(&mut events, CALLS)?;
         let disks = run(alloc, &events)?;
-        let open = if made <= FIRST_GATE {
-            0
-        } else {
-            (made - FIRST_GATE) / 2
-        };
-        let open = if made > FIRST_GATE && made % 2 == 0 {
-            open + 1
-        } else {
-            open
-        };
-        assert_eq!(rt; open_gates(&rt, alloc, disks)?, open, "{made} calls");
+        assert_eq!(rt;
+            open_gates(&rt, alloc, disks)?,
+            gates_opened(made),
+            "{made} calls"
+        );
     }
     Ok(())
 }
@@ -154,9 +158,7 @@ fn lost_disk(rt: HostRuntime) -> Result<(), Fail> {
     let alloc = rt.alloc();
     let mut events = steps(alloc, 6)?;
     events.push(MigrationEvent::DiskGone(1))?;
-    for _ in 0..CALLS {
-        events.push(MigrationEvent::Step)?;
-    }
+    step_on(&mut events, CALLS)?;
     let mut disks = run(alloc, &events)?;
     assert_eq!(rt; disks.len(), 3);
     assert!(rt; disks[1].is_lost());
