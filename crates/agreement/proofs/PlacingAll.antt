@@ -4,7 +4,7 @@ use Rattle.std.proofs.Common.{ℕ, zero, suc, ◌+◌, ◌≤◌, ◌≡◌, ◌
 use Rattle.std.proofs.lemmas.Bool.{cases_eq, cases_lt, eqb-true, ne_eqb, cond-true, cond-false, lt-ltb, le-ltb}
 use Rattle.std.proofs.lemmas.List.{length_push}
 use Rattle.agreement.specs.State.{put, Block, blank, Cell, away, seen, read_one, read_two, State, start}
-use Rattle.agreement.specs.Event.{Event, after, at_rest, at_stage, is_at, proposal_of}
+use Rattle.agreement.specs.Event.{Event, after, at_rest, at_stage, proposal_of}
 use Rattle.agreement.specs.Event.Event.{Stops, Takes, Proposes}
 use Rattle.agreement.specs.Chosen.{IsInput, IsChosenBy}
 use Rattle.agreement.specs.Log.{Slots, Move, IsNextSlot, MayMove, moved, none_learned, moves, AllMayMove, events_at, events_of_slot}
@@ -12,7 +12,7 @@ use Rattle.agreement.specs.Log.Move.{At, Learn, Restart}
 use Rattle.agreement.specs.Placed.{over, asked, looks, asks_on, tells_on, placing, placed_from, placed, voted, ArePlaced}
 use Rattle.agreement.proofs.Puts.{put_same, put_other}
 use Rattle.agreement.proofs.Steps.{state_by-append, may_both}
-use Rattle.agreement.proofs.Placing.{until, until_below, until_from, put_twice, all_majority, none_accepted, none_proposed, Reaches, alone, come_to, entered, voting, all_seen, all_asked, proposes_v, accepted_to, untouched, telling, stage_at, places}
+use Rattle.agreement.proofs.Placing.{until, until_below, until_from, put_twice, all_majority, none_accepted, none_proposed, Reaches, alone, come_to, entered, voting, all_seen, all_asked, proposes_v, accepted_to, untouched, telling, places}
 
 -- INPUTS
 

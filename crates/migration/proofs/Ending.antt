@@ -1,23 +1,23 @@
 -- A migration in which nothing fails: it makes all its calls, and leaves complete images.
 use Rattle.std.specs.Prelude.{if◌then◌else◌}
-use Rattle.std.proofs.Common.{ℕ, zero, suc, ◌+◌, ◌≤◌, ◌<◌, ◌≡◌, ◌==◌, inl, inr, Bool, true, false, Option, Some, None, List, [], ◌∷◌, ◌++◌, length, map, replicate, append_assoc, refl, sym, subst, ap, ap₂, ◌∙◌, arith}
+use Rattle.std.proofs.Common.{ℕ, zero, suc, ◌+◌, ◌≤◌, ◌<◌, ◌≡◌, ◌==◌, inl, inr, Bool, true, false, Option, None, List, [], ◌∷◌, ◌++◌, length, map, replicate, append_assoc, refl, sym, subst, ap, ap₂, ◌∙◌, arith}
 use Rattle.std.proofs.lemmas.Grind.{common_steps}
 use Rattle.std.proofs.lemmas.List.{append-nil}
-use Rattle.std.proofs.lemmas.Bool.{cases_eq, cases_lt, cond-true, cond-false, eq-eqb, ne_eqb, eqb-true}
+use Rattle.std.proofs.lemmas.Bool.{cases_eq, cond-true, cond-false, eq-eqb, ne_eqb, eqb-true}
 use Rattle.disk.specs.declared.fault.DiskFault.{DiskFault}
-use Rattle.disk.specs.Disk.{DiskState, Call, Attach, Read, Write, Sync, Booted, success_of, done_by}
+use Rattle.disk.specs.Disk.{DiskState, Booted, done_by}
 use Rattle.disk.specs.Simulated.{fresh_disk, refusal_of, refusal_under}
 use Rattle.torn_block.specs.declared.block.TheConstants.{OPEN_GATE}
 use Rattle.paxos_block.specs.Places.{image_length}
 use Rattle.paxos_block.specs.layouts.Saying.{zeros}
-use Rattle.migration.specs.Events.{Step, answered_by, happens, happen, run, after_any}
+use Rattle.migration.specs.Events.{Step, answered_by, happens, happen, run}
 use Rattle.migration.specs.Fits.{Fits}
 use Rattle.migration.specs.Heard.{with_boot}
 use Rattle.migration.specs.Image.{Setup, image_of}
 use Rattle.migration.specs.Plan.{Put, Kind, Attaching, Putting, Syncing, Opening, Due, on, blocks_from, heading, fills, opens, filling, opening, each, schedule, call_of}
-use Rattle.migration.specs.Run.{Migration, Entry, Called, with_disk, after, begun, IsMigrated, HasEnded}
+use Rattle.migration.specs.Run.{Migration, with_disk, after, IsMigrated, HasEnded}
 use Rattle.migration.proofs.Puts.{puts}
-use Rattle.migration.proofs.Reading.{made, header_puts}
+use Rattle.migration.proofs.Reading.{made}
 
 -- CALLS ON ONE DISK
 

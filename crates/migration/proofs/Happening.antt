@@ -1,8 +1,7 @@
 -- Each event brings an entry that may happen, or none.
 use Rattle.std.proofs.Common.{ℕ, ◌≡◌, Bool, true, false, Option, Some, None, List, [], ◌∷◌, length, inl, inr, refl, sym, subst, ◌∙◌, arith}
-use Rattle.std.specs.Prelude.{option_map, option_and_then, if◌then◌else◌}
+use Rattle.std.specs.Prelude.{option_map, option_and_then}
 use Rattle.std.proofs.lemmas.Grind.{common_steps}
-use Rattle.std.proofs.lemmas.List.{length-replicate}
 use Rattle.disk.specs.declared.fault.DiskFault.{DiskFault}
 use Rattle.disk.specs.declared.fault.DiskFault.TheVariants.{Reset, Failed, Gone}
 use Rattle.disk.specs.Disk.{DiskState, Call, Attach, Read, Write, Sync, Fault, Step as StepOf, IsUnder, Torn, Crashes, success_of, done_by}
@@ -14,7 +13,7 @@ use Rattle.disk.proofs.RefusalLemmas.{admitted}
 use Rattle.migration.specs.Heard.{next}
 use Rattle.migration.specs.Image.{Setup}
 use Rattle.migration.specs.Events.{Event, Step, Tear, FailCall, DiskCrash, DiskGone, answered_by, stepped, failed_call, failed, torn_call, torn, brings_if, entry_of, after_any, happens, happen, run}
-use Rattle.migration.specs.Run.{Migration, Entry, Called, Stopped, Crashed, Lost, Tears, MayHappen, after, begun, IsAllOrNothing}
+use Rattle.migration.specs.Run.{Migration, Entry, Called, Stopped, Crashed, Lost, MayHappen, begun, IsAllOrNothing}
 use Rattle.migration.specs.Fits.{Fits}
 use Rattle.migration.proofs.Fitting.{fits_images}
 use Rattle.migration.proofs.Puts.{tails_are}

@@ -1,5 +1,5 @@
 -- How long blocks and headers are.
-use Rattle.std.proofs.Common.{ℕ, ◌+◌, ◌≡◌, List, ◌++◌, length, arith, length-append}
+use Rattle.std.proofs.Common.{ℕ, ◌≡◌, List, ◌++◌, length, arith, length-append}
 use Rattle.byteorder.specs.Numbers.{length-bytes_high_first}
 use Rattle.torn_block.specs.declared.layout.TheConstants.{VALUE_LENGTH, BODY_LENGTH, BLOCK_LENGTH, COPY_LENGTH, HEADER_LENGTH}
 use Rattle.torn_block.specs.layouts.Block.{number_bytes, tail_with}

@@ -19,7 +19,7 @@ use Rattle.migration.specs.Fits.{Fits}
 use Rattle.migration.specs.Image.{Setup, header_of, block_for, row_for, rows_for, image_of, HoldsLog, HoldsNoMore, HasHeader}
 use Rattle.migration.specs.Plan.{Put, blocks_from, heading}
 use Rattle.migration.proofs.Lengths.{length-block, length-header}
-use Rattle.migration.proofs.Puts.{puts, puts-append, filled, completes}
+use Rattle.migration.proofs.Puts.{puts, puts-append, completes}
 
 -- A BLOCK, AND WRITES
 

@@ -1,6 +1,6 @@
 -- A migrator over simulated disks, event by event.
 use Rattle.std.specs.Prelude.{slice_index_or, option_map, option_and_then, is_some, nat_lt, not, ◌&&◌, ◌^◌, if◌then◌else◌}
-use Rattle.std.proofs.Common.{ℕ, ◌+◌, ◌≤◌, ◌<◌, ◌≡◌, ◌==◌, inl, inr, Bool, true, false, Option, Some, None, List, [], ◌∷◌, ◌++◌, length, drop, refl, sym, subst, ap, ap₂, ◌∙◌, arith}
+use Rattle.std.proofs.Common.{ℕ, ◌<◌, ◌≡◌, ◌==◌, inl, inr, Bool, true, false, Option, Some, None, List, [], ◌∷◌, ◌++◌, length, drop, refl, sym, subst, ap, ap₂, ◌∙◌, arith}
 use Rattle.std.proofs.lemmas.Bool.{cases_eq, cond-true, cond-false, eq-eqb, ne_eqb, eqb-true, eqb-false, lt-ltb, ltb-true, and_parts, and_from}
 use Rattle.std.proofs.lemmas.List.{get_or-set_same, get_or-set_other, length-set}
 use Rattle.std.proofs.Math.ListN.{set}
@@ -18,7 +18,7 @@ use Rattle.migration.specs.Plan.{Due}
 use Rattle.migration.specs.Run.{Migration, Entry, Called, Stopped, Crashed, Lost, with_disk, after, begun, IsAllOrNothing}
 use Rattle.migration.specs.Running.{is_write, calm, disk_in, AreDisks, HasHeard, HasCome, LeadsTo}
 use Rattle.migration.specs.declared.end.End.{End}
-use Rattle.migration.specs.declared.end.End.TheVariants.{Migrated, MigrationFailed}
+use Rattle.migration.specs.declared.end.End.TheVariants.{MigrationFailed}
 use Rattle.migration.specs.declared.notes.Notes.{Notes}
 use Rattle.paxos_block.specs.Headers.{IsFormatted}
 use Rattle.paxos_block.specs.Places.{image_length}

@@ -1,20 +1,17 @@
 -- What a migration keeps, and when that is what follows from a list of answers.
-use Rattle.std.specs.Prelude.{◌≡◌, ◌<◌, ◌≤◌, ◌-◌, ◌+◌, ◌^◌, ℕ, Bool, true, false, List, [], ◌∷◌, ◌++◌, map, drop, length, All, Option, Some, None, slice_get, slice_index_or, if◌then◌else◌}
+use Rattle.std.specs.Prelude.{◌≡◌, ◌<◌, ◌-◌, ◌+◌, ℕ, Bool, true, false, List, [], ◌∷◌, ◌++◌, map, drop, Option, Some, None, slice_get, slice_index_or, if◌then◌else◌}
 use Rattle.disk.specs.Disk as device
 use Rattle.disk.specs.declared.boot.Boot.{Boot}
-use Rattle.torn_block.specs.declared.layout.TheConstants.{DISKS, SLOTS, VALUE_LENGTH}
 use Rattle.paxos_block.specs.Headers.{header_saying}
 use Rattle.paxos_block.specs.Places.{place_of, VoteOf}
-use Rattle.attempt.specs.Heard.{Fits}
-use Rattle.phases.specs.Calls.{heard_of}
 use Rattle.phases.specs.declared.heard.Heard as code_heard
 use Rattle.phases.specs.declared.heard.Heard.TheVariants as answer
 use Rattle.slot_log.specs.Shape.{Shape}
 use Rattle.migration.specs.Fits.{HasRoom}
-use Rattle.migration.specs.Heard.{Progress, at_first, hears, heard, next}
+use Rattle.migration.specs.Heard.{Progress, at_first, heard}
 use Rattle.migration.specs.History.{IsHistory}
 use Rattle.migration.specs.Image.{Setup, header_of, block_for}
-use Rattle.migration.specs.Plan.{Kind, Attaching, Putting, Syncing, Opening, Due, on, blocks_from, heading, header_calls, fills, opens, filling, opening, each, call_of}
+use Rattle.migration.specs.Plan.{Kind, Attaching, Putting, Syncing, Opening, Due, on, blocks_from, header_calls, opens, filling, opening, each, call_of}
 use Rattle.migration.specs.declared.end.End.{End}
 use Rattle.migration.specs.declared.end.End.TheVariants.{Migrated, MigrationFailed}
 use Rattle.migration.specs.declared.notes.Notes.{Notes}

@@ -1,5 +1,5 @@
 -- A migration over disks that may fail, crash and be lost: what may happen, and what is claimed of the disks then.
-use Rattle.std.specs.Prelude.{◌≡◌, ◌⊎◌, ◌<◌, ◌==◌, ℕ, false, List, [], ◌∷◌, drop, Some, None, length, replicate, if◌then◌else◌}
+use Rattle.std.specs.Prelude.{◌≡◌, ◌⊎◌, ◌<◌, ◌==◌, ℕ, false, List, [], ◌∷◌, drop, Some, length, replicate, if◌then◌else◌}
 use Rattle.disk.specs.Disk.{DiskState, Call, Attach, Read, Write, Sync, Answer, Step, Torn, Crashes, lost}
 use Rattle.disk.specs.Simulated.{fresh_disk}
 use Rattle.paxos_block.specs.Headers.{IsFormatted}

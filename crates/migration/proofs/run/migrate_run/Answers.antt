@@ -1,7 +1,6 @@
-use Rattle.std.proofs.Common.{◌≡◌, ◌∙◌, ◌++◌, ◌∷◌, [], ℕ, ◌+◌, List, length, take, map, get_or, ◌<◌, sym, subst, ap}
+use Rattle.std.proofs.Common.{◌≡◌, ◌∙◌, ◌++◌, ◌∷◌, [], ℕ, ◌+◌, List, length, take, get_or, ◌<◌, sym, subst, ap}
 use Rattle.std.proofs.lemmas.List.{take_all, take_more, map-append}
 use Rattle.migration.specs.Events.{Event, run}
-use Rattle.migration.specs.Image.{Setup}
 use Rattle.migration.specs.Kept.{setup_by}
 use Rattle.migration.specs.Running.{LeadsTo, events_of, event_of}
 use Rattle.migration.specs.declared.event.MigrationEvent as code

@@ -1,4 +1,4 @@
-use Rattle.std.proofs.Common.{◌≡◌, ◌∙◌, ◌++◌, ◌∷◌, [], ℕ, List, None, length, ap, sym, subst, arith}
+use Rattle.std.proofs.Common.{◌≡◌, ◌∙◌, ◌++◌, ◌∷◌, [], None, ap, sym, subst, arith}
 use Rattle.attempt.specs.Heard.{Fits}
 use Rattle.phases.specs.Calls.{heard_of}
 use Rattle.migration.specs.Heard.{at_first}

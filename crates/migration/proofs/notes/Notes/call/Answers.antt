@@ -1,5 +1,3 @@
-use Rattle.std.proofs.Common.{ap, ◌∙◌}
-use Rattle.migration.specs.Kept.{call_due}
 use Rattle.migration.proofs.Going.{header_call}
 use Rattle.migration.proofs.notes.Notes.call.Goals as goal
 

@@ -1,13 +1,8 @@
-use Rattle.std.proofs.Common.{ℕ, ◌≡◌, ◌<◌, ◌∙◌, ◌++◌, ◌∷◌, [], Option, Some, None, List, length, inl, inr, refl, sym, subst, ap, arith, true, true≢false}
+use Rattle.std.proofs.Common.{ℕ, ◌≡◌, ◌<◌, ◌∙◌, ◌++◌, ◌∷◌, [], length, sym, subst, ap, arith, true, true≢false}
 use Rattle.std.proofs.Math.ListN.{set}
-use Rattle.disk.specs.Disk.{Answer, Call, Fault}
-use Rattle.disk.specs.Simulated.{SimState, outcome, failed_by, refusal_of, crashed}
-use Rattle.phases.specs.Calls.{device_call_of, call_of_need, IsWithin}
-use Rattle.migration.specs.Events.{Event, Step, Tear, FailCall, DiskCrash, DiskGone, run}
-use Rattle.migration.specs.Kept.{answer_of}
-use Rattle.migration.specs.Image.{Setup}
-use Rattle.migration.specs.Running.{calm, LeadsTo, HasCome}
-use Rattle.migration.specs.declared.notes.Notes.{Notes}
+use Rattle.disk.specs.Simulated.{SimState, crashed}
+use Rattle.migration.specs.Events.{DiskCrash, run}
+use Rattle.migration.specs.Running.{LeadsTo}
 use Rattle.std.proofs.lemmas.Bool.{eqb-true}
 use Rattle.migration.proofs.Stepping.{brings_none, no_crash, disk_is, some_bytes, crashes_so}
 use Rattle.migration.proofs.running.Running.crash.Goals as goal

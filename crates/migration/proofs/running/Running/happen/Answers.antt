@@ -1,5 +1,5 @@
-use Rattle.std.proofs.Common.{◌≡◌, ◌++◌, ◌∷◌, [], ℕ, List, sym, subst, ap, ◌∙◌}
-use Rattle.migration.specs.Events.{Event, Step, Tear, FailCall, DiskCrash, DiskGone}
+use Rattle.std.proofs.Common.{◌++◌, ◌∷◌, [], ℕ, List, sym, subst}
+use Rattle.migration.specs.Events.{Tear, FailCall, DiskCrash}
 use Rattle.migration.specs.Running.{LeadsTo, event_of}
 use Rattle.migration.specs.declared.event.MigrationEvent as code
 use Rattle.migration.proofs.running.Running.happen.Goals as goal

@@ -1,13 +1,10 @@
-use Rattle.std.specs.Prelude.{option_map, option_and_then}
-use Rattle.std.proofs.Common.{ℕ, ◌≡◌, ◌<◌, ◌∙◌, ◌++◌, ◌∷◌, [], Option, Some, None, List, length, inl, inr, refl, sym, subst, ap, arith}
+use Rattle.std.proofs.Common.{ℕ, ◌∙◌, ◌++◌, ◌∷◌, [], Option, Some, sym, subst, ap}
 use Rattle.std.proofs.Math.ListN.{set}
-use Rattle.disk.specs.Disk.{Answer, Call, Fault}
-use Rattle.disk.specs.Simulated.{SimState, outcome, failed_by, refusal_of, crashed}
+use Rattle.disk.specs.Simulated.{SimState, outcome}
 use Rattle.phases.specs.Calls.{device_call_of, call_of_need, IsWithin}
-use Rattle.migration.specs.Events.{Event, Step, Tear, FailCall, DiskCrash, DiskGone, run}
+use Rattle.migration.specs.Events.{Step, run}
 use Rattle.migration.specs.Kept.{answer_of}
-use Rattle.migration.specs.Image.{Setup}
-use Rattle.migration.specs.Running.{calm, LeadsTo, HasCome}
+use Rattle.migration.specs.Running.{LeadsTo}
 use Rattle.migration.specs.declared.notes.Notes.{Notes}
 use Rattle.migration.proofs.Stepping.{brings_none, none_stepped, none_due, over_due, due_next, disk_below, disk_is, long_disk, steps}
 use Rattle.migration.proofs.running.Running.step.Goals as goal
