@@ -20,3 +20,5 @@ pub mod Logging
 pub mod Guards
 pub mod Racing
 pub mod TwoSlots
+pub mod Placing
+pub mod PlacingAll

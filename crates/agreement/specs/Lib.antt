@@ -7,3 +7,4 @@ pub mod Log
 pub mod Claims
 pub mod Race
 pub mod TwoSlots
+pub mod Placed

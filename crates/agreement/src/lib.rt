@@ -1,13 +1,14 @@
 //! Disk Paxos over registers: why a slot has one value, a log no gap, and a recovery misses nothing.
 #![tactic(auto)]
 
-ghost use Rattle.std.specs.Prelude.{◌≡◌, ◌∷◌, ◌++◌, [], ℕ, suc, List, Some, None};
+ghost use Rattle.std.specs.Prelude.{◌≡◌, ◌≤◌, ◌∷◌, ◌++◌, [], ℕ, suc, List, Some, None};
 ghost use Rattle.agreement.specs.State.{HOSTS, blank, seen, writing_one};
 ghost use Rattle.agreement.specs.Event.{Event, IsRun, state_after, at_rest};
 ghost use Rattle.agreement.specs.Event.Event.{Starts};
 ghost use Rattle.agreement.specs.Chosen.{IsChosen, IsCommitted, IsEmpty};
 ghost use Rattle.agreement.specs.Log.{Move, IsHistory, slots_after, events_of_slot};
 ghost use Rattle.agreement.specs.Log.Move.{At};
+ghost use Rattle.agreement.specs.Placed.{ArePlaced};
 ghost use Rattle.agreement.specs.Race.{says, seven_proposed, eight_proposed, until_vanished, eight_chosen, race};
 ghost use Rattle.agreement.specs.TwoSlots.{begun_on_disk_2, until_crashed, until_learned, until_restarted, until_recovered, until_empty, history};
 ghost use Rattle.agreement.specs.Claims.{BindsGreater, StaysChosen, OneChosen, OnlyInputs, StaysProposed, OneProposal, CommitsChosen, Binds, NoneChosen, WritesAtRest};
@@ -100,6 +101,12 @@ pub fn no_shorter<Value>()
         IsHistory disks (early ++ At n (Starts h) ∷ late) →
         IsEmpty disks ((slots_after (early ++ At n (Starts h) ∷ late)).slot n) h →
         LearnedBelow (slots_after early) n }
+{}
+
+/// Any values can come to be chosen, slot by slot, and nobody then has anything in mind: so all of the above holds of histories
+/// that begin there.
+pub fn values_can_be_placed<Value>()
+    ensures { (disks : ℕ) (values : List Value) → 1 ≤ disks → ArePlaced disks values }
 {}
 
 /// A race of two hosts on three disks, computed. Host 0 restarts while its vote for 7 is in writing on two disks; on one

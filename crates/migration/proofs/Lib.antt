@@ -1,0 +1,10 @@
+pub mod Ending
+pub mod Filling
+pub mod Fitting
+pub mod Going
+pub mod Happening
+pub mod Lengths
+pub mod Outcomes
+pub mod Puts
+pub mod Reading
+pub mod Stepping

@@ -1,0 +1,9 @@
+pub mod Events
+pub mod Fits
+pub mod Heard
+pub mod History
+pub mod Image
+pub mod Kept
+pub mod Plan
+pub mod Run
+pub mod Running

@@ -1,0 +1,8 @@
+/// How a migration ended.
+#[derive(Clone, Copy, Debug, PartialEq, Eq)]
+pub enum End {
+    /// Every disk holds its complete image, its gate open.
+    Migrated,
+    /// A call failed, or was refused. No disk's gate stands open, or all disks are complete but perhaps for their gates.
+    MigrationFailed,
+}
