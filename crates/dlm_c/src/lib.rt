@@ -9,7 +9,7 @@ ghost use Rattle.dlm_c.specs.Images.{IsOpenedIn, MayRefuse, OpensIn};
 ghost use Rattle.dlm_c.specs.Numbers.{done, fault_number};
 ghost use Rattle.dlm_c.specs.Steps.{InHandle, Submits, Recovers, Looks, Marks, CallsNext, GoesOn};
 ghost use Rattle.dlm_c.specs.Told.{answer_told, status_told};
-ghost use Rattle.dlm_c.specs.Views.{ShowsHost, TellsLock, ShowsLocks, ShowsClients, ShowsText, Tells};
+ghost use Rattle.dlm_c.specs.Views.{ShowsHost, TellsLock, TellsValue, ShowsLocks, ShowsClients, ShowsText, Tells};
 
 mod answer;
 mod call;
@@ -37,7 +37,7 @@ use paxos_block::is_formatted;
 use request::Request;
 use session::Session;
 use std::alloc::Global;
-use view::{ClientView, HostView, LockView};
+use view::{ClientView, HostView, LockView, ValueView};
 
 /// Tells the size and the first bytes of an image that is to be made.
 #[unsafe(no_mangle)]
@@ -257,6 +257,25 @@ pub extern "C" fn dlm_c_lock(
         return CLOSED;
     };
     let outcome = session.lock(alloc, lock, into);
+    handle.keep(session);
+    number_of(outcome)
+}
+
+/// Shows the value of the name of the lock of this number.
+#[unsafe(no_mangle)]
+pub extern "C" fn dlm_c_value(
+    alloc: Global,
+    handle: &mut Handle,
+    lock: u32,
+    into: &mut ValueView,
+) -> i32
+    ensures { InHandle (λ old new. (new ≡ old) × TellsValue old.core.prefix lock into.new result)
+        handle.old.held.value handle.new.held.value result }
+{
+    let Some(session) = handle.take(alloc) else {
+        return CLOSED;
+    };
+    let outcome = session.value(alloc, lock, into);
     handle.keep(session);
     number_of(outcome)
 }

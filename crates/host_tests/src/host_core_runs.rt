@@ -4,6 +4,7 @@ ghost use Rattle.std.specs.Bool.{OnTrue};
 ghost use Rattle.attempt.specs.History.{Fits};
 ghost use Rattle.phases.specs.Calls.{device_call_of, heard_of};
 
+use crate::replies::{GRANTED, QUEUED};
 use disk::{Disk, DiskFault, SimDisk};
 use host::{HostAnswer, HostCore};
 use lock_command::{
@@ -309,7 +310,7 @@ fn a_log_of_one_slot(rt: HostRuntime) -> Result<(), Fail> {
         Step::End { at: 0, calls: 17 },
         Step::Says {
             at: 0,
-            answer: ack(0, Reply::Granted),
+            answer: ack(0, GRANTED),
         },
         Step::Knows {
             at: 0,
@@ -346,7 +347,7 @@ fn two_of_three_disks_lost(rt: HostRuntime) -> Result<(), Fail> {
         Step::End { at: 0, calls: 51 },
         Step::Says {
             at: 0,
-            answer: ack(0, Reply::Granted),
+            answer: ack(0, GRANTED),
         },
         Step::Lose { disk: 0 },
         Step::Lose { disk: 2 },
@@ -435,7 +436,7 @@ fn a_disk_fails_and_another_is_lost(rt: HostRuntime) -> Result<(), Fail> {
         Step::End { at: 0, calls: 35 },
         Step::Says {
             at: 0,
-            answer: ack(0, Reply::Granted),
+            answer: ack(0, GRANTED),
         },
         Step::Lose { disk: 2 },
         Step::Start { number: 1 },
@@ -458,13 +459,13 @@ fn the_first_command_before_the_own(rt: HostRuntime) -> Result<(), Fail> {
         Step::End { at: 0, calls: 17 },
         Step::Says {
             at: 0,
-            answer: ack(0, Reply::Granted),
+            answer: ack(0, GRANTED),
         },
         first_submission(1, 1),
         Step::End { at: 1, calls: 34 },
         Step::Says {
             at: 1,
-            answer: ack(1, Reply::Granted),
+            answer: ack(1, GRANTED),
         },
         Step::Knows {
             at: 1,
@@ -487,7 +488,7 @@ fn outrun_by_a_later_host(rt: HostRuntime) -> Result<(), Fail> {
         Step::End { at: 1, calls: 17 },
         Step::Says {
             at: 1,
-            answer: ack(0, Reply::Granted),
+            answer: ack(0, GRANTED),
         },
         Step::End { at: 0, calls: 6 },
         Step::Says {
@@ -509,12 +510,12 @@ fn outrun_once_and_tried_again(rt: HostRuntime) -> Result<(), Fail> {
         Step::End { at: 1, calls: 51 },
         Step::Says {
             at: 1,
-            answer: ack(0, Reply::Granted),
+            answer: ack(0, GRANTED),
         },
         Step::End { at: 0, calls: 109 },
         Step::Says {
             at: 0,
-            answer: ack(1, Reply::Queued),
+            answer: ack(1, QUEUED),
         },
     ];
     play(&rt, rt.alloc(), 3, 4, &steps)
