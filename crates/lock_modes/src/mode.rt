@@ -1,5 +1,5 @@
-ghost use Rattle.std.specs.Prelude.{◌≡◌, not};
-ghost use Rattle.lock_modes.specs.Mode.{conflict};
+ghost use Rattle.std.specs.Prelude.{◌≡◌, not, true};
+ghost use Rattle.lock_modes.specs.Mode.{conflict, downward, writes_alone};
 
 /// What a lock permits its holder, and what it keeps others from. The modes are those of the OpenVMS lock manager.
 #[derive(Clone, Copy, Debug, PartialEq, Eq)]
@@ -45,5 +45,24 @@ pub fn compatible(a: Mode, b: Mode) -> bool
         ProtectedRead: true true false true false false;
         ProtectedWrite: true true false false false false;
         Exclusive: true false false false false false;
+    }
+}
+
+/// Whether nobody else writes what the holder of this mode writes.
+pub fn writes_alone(mode: Mode) -> bool
+    ensures alone { result ≡ writes_alone mode }
+{
+    matches!(mode, Mode::ProtectedWrite | Mode::Exclusive)
+}
+
+/// Whether a lock that writes alone gets a mode that permits no more. Then nothing can stand against it.
+pub fn downward(held: Mode, wanted: Mode) -> bool
+    ensures value { result ≡ downward held wanted }
+    ensures no_new_conflict { (other : Mode) → downward held wanted ≡ true → conflict other wanted ≡ true → conflict other held ≡ true }
+{
+    match held {
+        Mode::Exclusive => true,
+        Mode::ProtectedWrite => wanted != Mode::Exclusive,
+        _ => false,
     }
 }

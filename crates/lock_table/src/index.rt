@@ -1,5 +1,6 @@
 ghost use Rattle.std.specs.Prelude.{◌≡◌, ◌+◌, ◌<◌, ◌≤◌, ◌↔◌, [], IfOk, IfSome, IsTrue, filter, length, not};
-ghost use Rattle.lock_table.specs.Apply.{is_through};
+ghost use Rattle.std.specs.List.Sorted.{IsSorted};
+ghost use Rattle.lock_table.specs.Locks.{is_through};
 ghost use Rattle.lock_table.specs.Locks.{lock_in, without, put, has_queue, head_of, admits, in_state, settled, settled_all, IsDistinct};
 ghost use Rattle.lock_table.specs.Picture.{printed_cmp};
 ghost use Rattle.lock_table.specs.Placed.{in_order};
@@ -50,6 +51,7 @@ impl Index {
     pub fn printed(&self) -> &Shelf
         ensures locks { result.now ≡ self.now }
         ensures distinct { IsDistinct self.now }
+        ensures sorted { IsSorted printed_cmp self.now }
     {
         &self.printed
     }

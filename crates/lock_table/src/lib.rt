@@ -17,6 +17,8 @@ mod record;
 mod reply;
 mod shelf;
 mod table;
+mod valued;
+mod values;
 
 pub use clients::CLIENTS;
 pub use laws::{
@@ -27,5 +29,5 @@ pub use locks::LOCKS;
 pub use no_memory::NoMemory;
 pub use picture::Picture;
 pub use record::{KnownClient, LockRecord, LockState};
-pub use reply::{Refusal, Reply};
+pub use reply::{Answer, LockValue, Refusal, Reply};
 pub use table::Table;

@@ -1,7 +1,7 @@
 ghost use Rattle.std.specs.Prelude.{◌≡◌, ◌+◌, ◌<◌, ◌≤◌, ℕ, IfOk, IsSome, [], length, filter, insert, remove, set, slice_index_or, nat_lt, not, true, false};
 ghost use Rattle.std.specs.List.{slice_get};
 ghost use Rattle.std.specs.List.Sorted.{IsSorted, IsPartitionPoint};
-ghost use Rattle.lock_table.specs.Apply.{is_through};
+ghost use Rattle.lock_table.specs.Locks.{is_through};
 ghost use Rattle.lock_table.specs.Indexed.{number_cmp};
 ghost use Rattle.lock_table.specs.Locks.{is_lock, lock_in, without, put, IsDistinct};
 

@@ -1,10 +1,10 @@
 ghost use Rattle.std.specs.Prelude.{◌≡◌, ◌<◌, ◌≤◌, cond, length, filter, insert, remove, not, nat_lt, true, false};
-ghost use Rattle.std.specs.List.{AllWithin};
+ghost use Rattle.std.specs.List.{AllWithin, list_any};
 ghost use Rattle.std.specs.List.Sorted.{IsSorted, IsPartitionPoint};
-ghost use Rattle.lock_table.specs.Apply.{is_through};
+ghost use Rattle.lock_table.specs.Locks.{is_through};
 ghost use Rattle.lock_table.specs.Indexed.{stands_before_rank};
 ghost use Rattle.lock_table.specs.Keys.{lock_key, HasKey};
-ghost use Rattle.lock_table.specs.Locks.{lock_in, without, head_of, admits, IsDistinct};
+ghost use Rattle.lock_table.specs.Locks.{is_on, lock_in, without, head_of, admits, IsDistinct};
 ghost use Rattle.lock_table.specs.Picture.{printed_cmp};
 ghost use Rattle.lock_table.specs.Placed.{placed};
 
@@ -12,7 +12,7 @@ use crate::keys::SpelledName;
 use crate::locks::LOCKS;
 use crate::record::LockRecord;
 use crate::shelf::Shelf;
-use lock_command::{HostNumber, LockNumber};
+use lock_command::{HostNumber, LockName, LockNumber};
 use lock_modes::Mode;
 
 /// So many where a test passes, else none: no branch, since none could be foretold.
@@ -83,6 +83,18 @@ pub fn head(printed: &Shelf, name: &SpelledName) -> Option<LockRecord>
 {
     let first = printed.lock_at(locks_before_rank(printed, name, 1))?;
     (first.name == name.name()).then_some(first)
+}
+
+/// Whether a name has locks.
+pub fn has_locks(printed: &Shelf, name: LockName) -> bool
+    requires { IsSorted printed_cmp printed.now }
+    ensures { result ≡ list_any (is_on name) printed.now }
+{
+    let name = SpelledName::new(name);
+    match printed.lock_at(locks_before_rank(printed, &name, 0)) {
+        Some(first) => first.name == name.name(),
+        None => false,
+    }
 }
 
 /// Whether no other lock of the name holds a mode that conflicts with this one. Of those that hold one the bits are

@@ -1,0 +1,66 @@
+use Rattle.std.proofs.Common.{◌≡◌, ◌≤◌, true, Bool, Some, List, length, filter, sym, ap, subst, ◌∙◌, arith}
+use Rattle.std.specs.List.{list_any}
+use Rattle.lock_table.specs.declared.locks.TheConstants.{LOCKS}
+use Rattle.lock_table.specs.declared.record.LockRecord.{LockRecord}
+use Rattle.lock_table.specs.declared.values.NamedValue.{NamedValue}
+use Rattle.lock_table.specs.Apply.{done}
+use Rattle.lock_table.specs.Locks.{is_on}
+use Rattle.lock_table.specs.Picture.{printed_cmp}
+use Rattle.lock_table.specs.Placed.{in_order}
+use Rattle.lock_table.specs.Stored.{Valued, value_in, is_locked, put_if, IsValued, spoiled_by, entry_by, asked_lock}
+use Rattle.lock_table.specs.Values.{of_locked, changed, values_after}
+use Rattle.lock_table.proofs.Behave.{same-of_locked, distinct-done}
+use Rattle.lock_table.proofs.Pictures.{same_in_order}
+use Rattle.lock_table.proofs.Stored.{room_for, entry_has, valued_if, valued_again, locked_values, stores_changed, of_locked_zeros}
+use Rattle.lock_table.proofs.valued.ValuedLocks.act.Goals as goal
+
+pub store_by-requires : goal.store_by-requires
+store_by-requires c = record {
+  room = λ e h.
+      let xs = c.printed.result.now in
+      let action = c.args.action.now in
+      let found : c.asked_lock-found.result ≡ asked_lock xs action = c.asked_lock-found.ensures.found ∙ ap (λ (v : Valued). asked_lock v.locks action) (sym c.self.view_is) ∙ ap (λ l. asked_lock l action) (sym c.printed.ensures.locks) in
+      room_for xs c.spoil_by.new.values e LOCKS c.spoil_by.ensures.few c.spoil_by.ensures.valued
+      (entry_has xs action c.act-answer.result e (ap (λ f. entry_by f action c.act-answer.result) (sym found) ∙ h));
+}
+
+pub invariant_of-self : goal.invariant_of-self
+invariant_of-self c =
+    let xs = c.printed.result.now in
+    let action = c.args.action.now in
+    let a = c.act-answer.result in
+    let now = c.act-answer.new.self in
+    let found : c.asked_lock-found.result ≡ asked_lock xs action = c.asked_lock-found.ensures.found ∙ ap (λ (v : Valued). asked_lock v.locks action) (sym c.self.view_is) ∙ ap (λ l. asked_lock l action) (sym c.printed.ensures.locks) in
+    let put : c.store_by.new.values ≡ put_if c.spoil_by.new.values (entry_by (asked_lock xs action) action a) = c.store_by.ensures ∙ ap (λ f. put_if c.spoil_by.new.values (entry_by f action a)) found in
+    let valued : IsValued xs c.store_by.new.values = subst (λ (l : List NamedValue). IsValued xs l) (sym put)
+    (valued_if xs c.spoil_by.new.values (entry_by (asked_lock xs action) action a) c.spoil_by.ensures.valued (λ e h. entry_has xs action a e h)) in
+    let kept : c.keep_locked.new.values ≡ filter (is_locked now) c.store_by.new.values = c.keep_locked.ensures ∙ ap (λ l. filter (is_locked l) c.store_by.new.values) c.printed-2.ensures.locks in
+    subst (λ (l : List NamedValue). IsValued now l) (sym kept) (valued_again now c.store_by.new.values valued.one)
+
+pub returns-clause-values : goal.returns-clause-values
+returns-clause-values c =
+    let xs = c.printed.result.now in
+    let own = c.self.inside.locks in
+    let before = c.self.inside.values in
+    let action = c.args.action.now in
+    let host = c.args.host in
+    let client = c.args.client in
+    let a = c.act-answer.result in
+    let now = c.act-answer.new.self in
+    let after = (done own host client action).locks in
+    let found : c.asked_lock-found.result ≡ asked_lock xs action = c.asked_lock-found.ensures.found ∙ ap (λ (v : Valued). asked_lock v.locks action) (sym c.self.view_is) ∙ ap (λ l. asked_lock l action) (sym c.printed.ensures.locks) in
+    let put : c.store_by.new.values ≡ put_if c.spoil_by.new.values (entry_by (asked_lock xs action) action a) = c.store_by.ensures ∙ ap (λ f. put_if c.spoil_by.new.values (entry_by f action a)) found in
+    let stored : value_in c.store_by.new.values ≡ changed (value_in before) own action a =
+    ap value_in put ∙ stores_changed before c.spoil_by.new.values xs action a c.spoil_by.ensures.values ∙ ap (λ l. changed (value_in before) l action a) c.printed.ensures.locks in
+    let kept : c.keep_locked.new.values ≡ filter (is_locked now) c.store_by.new.values = c.keep_locked.ensures ∙ ap (λ l. filter (is_locked l) c.store_by.new.values) c.printed-2.ensures.locks in
+    ap value_in kept ∙ locked_values now c.store_by.new.values ∙ ap (of_locked now) stored
+    ∙ ap (λ l. of_locked l (changed (value_in before) own action a)) c.act-answer.ensures.locks
+    ∙ same-of_locked (in_order printed_cmp after) after (changed (value_in before) own action a) (same_in_order after (distinct-done own host client action c.printed.ensures.distinct))
+    ∙ ap (λ t. of_locked after (changed (value_in before) own action t)) c.act-answer.ensures.answer
+    ∙ ap (λ (t : Valued). values_after (value_in t.entries) t.locks (done t.locks host client action).locks action (done t.locks host client action).answer) c.self.view_is
+
+pub returns-clause-zeros : goal.returns-clause-zeros
+returns-clause-zeros c = λ name none.
+    let now = c.act-answer.new.self in
+    let kept : c.keep_locked.new.values ≡ filter (is_locked now) c.store_by.new.values = c.keep_locked.ensures ∙ ap (λ l. filter (is_locked l) c.store_by.new.values) c.printed-2.ensures.locks in
+    ap (λ l. value_in l name) kept ∙ (λ i. locked_values now c.store_by.new.values i name) ∙ of_locked_zeros now (value_in c.store_by.new.values) name none

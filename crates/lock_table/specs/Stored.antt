@@ -1,0 +1,101 @@
+-- How the values of names are kept: a short list of those that were stored, for names that have locks.
+use Rattle.std.specs.Prelude.{◌≡◌, ◌≤◌, ℕ, Bool, true, not, List, [], ◌∷◌, ◌++◌, length, filter, find, Option, Some, None}
+use Rattle.std.specs.List.{list_any}
+use Rattle.lock_command.specs.Name.{same_name}
+use Rattle.lock_command.specs.declared.command.Action.{Action}
+use Rattle.lock_command.specs.declared.command.Action.TheVariants.{Enqueue, Convert, Release, Cancel, Status, Purge}
+use Rattle.lock_table.specs.declared.record.LockRecord.{LockRecord}
+use Rattle.lock_table.specs.declared.record.LockState.{LockState}
+use Rattle.lock_table.specs.declared.reply.Answer.{Answer}
+use Rattle.lock_table.specs.declared.reply.LockValue.{LockValue}
+use Rattle.lock_table.specs.declared.values.NamedValue.{NamedValue}
+use Rattle.lock_table.specs.declared.record.KnownClient.{KnownClient}
+use Rattle.lock_table.specs.Apply.{Plain}
+use Rattle.lock_table.specs.Picture.{Shown, values_beside}
+use Rattle.lock_table.specs.Locks.{is_on, lock_in}
+use Rattle.lock_table.specs.Values.{Values, zeros, is_writer, is_downward, given, spoiled, is_granted, is_released, value_of_lock}
+use Rattle.std.specs.Prelude.{if◌then◌else◌}
+
+-- an entry of the name
+abbrev pub is_of : List ℕ → NamedValue → Bool
+is_of name e = same_name e.name name
+
+-- the value of an entry, or zeros where there is none
+abbrev pub value_or_zeros : Option NamedValue → LockValue
+value_or_zeros None = zeros
+value_or_zeros (Some e) = e.value
+
+-- the value of each name
+abbrev pub value_in : List NamedValue → Values
+value_in entries name = value_or_zeros (find (is_of name) entries)
+
+-- an entry in place of that of its name
+abbrev pub put_value : List NamedValue → NamedValue → List NamedValue
+put_value entries e = filter (λ o. not (is_of e.name o)) entries ++ e ∷ []
+
+-- the name of the entry has locks
+abbrev pub is_locked : List LockRecord → NamedValue → Bool
+is_locked locks e = list_any (is_on e.name) locks
+
+-- one entry a name, and only names that have locks
+pub record IsValued (locks : List LockRecord) (entries : List NamedValue) : Type 0 where
+  pub one : (name : List ℕ) → length (filter (is_of name) entries) ≤ 1
+  pub locked : (name : List ℕ) → list_any (is_of name) entries ≡ true → list_any (is_on name) locks ≡ true
+
+-- what a purge makes invalid, before it takes locks away
+abbrev pub spoiled_by : Values → List LockRecord → Action → Values
+spoiled_by values locks (Purge host) = spoiled values locks host
+spoiled_by values locks _ = values
+
+-- what the others store, once it is known what they did: bytes that were given, where there is a lock whose state lets them be stored
+abbrev pub entry_of : (LockState → Bool) → Option LockRecord → Option (List ℕ) → Option NamedValue
+entry_of lets None value = None
+entry_of lets (Some r) None = None
+entry_of lets (Some r) (Some bytes) = if lets r.state then Some (record { name = r.name; value = record { bytes = bytes; valid = true } }) else None
+
+abbrev pub entry_by : Option LockRecord → Action → Answer → Option NamedValue
+entry_by found (Enqueue lock name mode no_queue) a = None
+entry_by found (Convert lock mode no_queue value) a = if is_granted a then entry_of (is_downward mode) found value else None
+entry_by found (Release lock value) a = if is_released a then entry_of is_writer found value else None
+entry_by found (Cancel lock) a = None
+entry_by found (Status lock) a = None
+entry_by found (Purge host) a = None
+
+-- the entry is put, where there is one
+abbrev pub put_if : List NamedValue → Option NamedValue → List NamedValue
+put_if entries None = entries
+put_if entries (Some e) = put_value entries e
+
+-- the lock that a command is about
+abbrev pub asked_lock : List LockRecord → Action → Option LockRecord
+asked_lock locks (Convert lock mode no_queue value) = lock_in locks lock
+asked_lock locks (Release lock value) = lock_in locks lock
+asked_lock locks (Status lock) = lock_in locks lock
+asked_lock locks _ = None
+
+-- the value of its name, where it may be returned
+abbrev pub asked_value_by : Values → Option LockRecord → Action → LockValue
+asked_value_by values found (Enqueue lock name mode no_queue) = values name
+asked_value_by values found (Convert lock mode no_queue value) = value_of_lock values found
+asked_value_by values found (Release lock value) = zeros
+asked_value_by values found (Cancel lock) = zeros
+asked_value_by values found (Status lock) = value_of_lock values found
+asked_value_by values found (Purge host) = zeros
+
+-- the locks, and the entries of their names
+pub record Valued : Type 0 where
+  pub locks : List LockRecord
+  pub entries : List NamedValue
+
+-- all that a table keeps
+pub record Kept : Type 0 where
+  pub locks : List LockRecord
+  pub entries : List NamedValue
+  pub clients : List KnownClient
+
+-- the plain table that it stands for, and what it shows
+abbrev pub plain_of : Kept → Plain
+plain_of kept = record { locks = kept.locks; values = value_in kept.entries; clients = kept.clients }
+
+abbrev pub shown_of : Kept → Shown
+shown_of kept = record { locks = kept.locks; values = values_beside (value_in kept.entries) kept.locks; clients = kept.clients }

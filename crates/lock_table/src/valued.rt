@@ -1,0 +1,232 @@
+ghost use Rattle.std.specs.Prelude.{◌≡◌, ◌≤◌, ◌<◌, IfOk, IfSome, [], length, filter, not, ◌&&◌, Bool, Some};
+ghost use Rattle.lock_table.specs.declared.values.NamedValue.{NamedValue};
+ghost use Rattle.lock_table.specs.Locks.{is_through};
+ghost use Rattle.lock_table.specs.declared.record.LockState.{LockState};
+ghost use Rattle.lock_table.specs.Apply.{done, replied};
+ghost use Rattle.lock_table.specs.Picture.{printed_cmp, HasZeros};
+ghost use Rattle.lock_table.specs.Placed.{in_order};
+ghost use Rattle.lock_table.specs.Stored.{is_of, value_in, put_value, put_if, IsValued, spoiled_by, entry_of, entry_by, asked_lock, asked_value_by};
+ghost use Rattle.lock_table.specs.Values.{zeros, invalid, spoiled, is_writer, is_downward, values_after, returned};
+
+use crate::locks::{LOCKS, Locks};
+use crate::record::{LockRecord, LockState};
+use crate::reply::{Answer, LockValue, Reply};
+use crate::shelf::Shelf;
+use crate::values::{NamedValue, Values, store};
+use crate::{reply, values};
+use lock_command::{Action, ClientNumber, HostNumber, LockName, ValueBytes};
+use lock_modes::{Mode, downward, writes_alone};
+use std::alloc::{AllocError, Global};
+use std::marker::Model;
+
+/// The locks, and the values of their names.
+#[derive(Drop)]
+pub struct ValuedLocks {
+    locks: Locks,
+    values: Values,
+}
+
+impl Model for ValuedLocks {
+    ghost use Rattle.lock_table.specs.Stored.{Valued, IsValued};
+
+    ghost Value = { Valued };
+
+    ghost view = { λ valued. record { locks = valued.locks; entries = valued.values } };
+
+    ghost invariant = { λ valued. IsValued valued.locks valued.values };
+}
+
+/// What is returned of a value.
+fn returned(answer: Answer, value: LockValue) -> Option<LockValue>
+    ensures { result ≡ returned answer value }
+{
+    match answer {
+        Answer::Granted | Answer::State(LockState::Granted(_) | LockState::Converting { .. }) =>
+            Some(value),
+        _ => None,
+    }
+}
+
+/// The state of a lock lets a value be stored which is released.
+fn is_writer(state: LockState) -> bool
+    ensures { result ≡ is_writer state }
+{
+    match state {
+        LockState::Granted(mode) | LockState::Converting { held: mode, .. } => writes_alone(mode),
+        LockState::Waiting(_) => false,
+    }
+}
+
+fn is_downward(wanted: Mode, state: LockState) -> bool
+    ensures { result ≡ is_downward wanted state }
+{
+    match state {
+        LockState::Granted(mode) | LockState::Converting { held: mode, .. } => {
+            downward(mode, wanted)
+        }
+        LockState::Waiting(_) => false,
+    }
+}
+
+/// Whether a lock goes with a host and writes alone.
+fn is_spoilt(lock: &LockRecord, host: HostNumber) -> bool
+    ensures { result ≡ (is_through host lock.now && is_writer lock.now.state) }
+{
+    lock.host == host && is_writer(lock.state)
+}
+
+/// Makes the value of a name invalid.
+fn invalidate(values: &mut Values, name: LockName)
+    requires { length (filter (λ o. not (is_of name o)) values.old) < LOCKS }
+    ensures { values.new ≡ put_value values.old (record { name = name; value = invalid (value_in values.old name) }) }
+{
+    let now = values::value_in(values.entries(), name);
+    let value = LockValue {
+        bytes: now.bytes,
+        valid: false,
+    };
+    store(values, NamedValue { name, value });
+}
+
+/// Makes the value of each name invalid of which a lock is purged that writes alone.
+fn spoil(values: &mut Values, locks: &Shelf, count: usize, host: HostNumber)
+    requires count { count ≡ length locks.now }
+    requires few { count ≤ LOCKS }
+    requires valued { IsValued locks.now values.old }
+    ensures values { value_in values.new ≡ spoiled (value_in values.old) locks.now host }
+    ensures valued { IsValued locks.now values.new }
+{
+    for at in 0..count {
+        let record = locks.get(at);
+        if is_spoilt(record, host) {
+            invalidate(values, record.name);
+        }
+    }
+}
+
+/// Makes invalid what a command spoils.
+fn spoil_by(values: &mut Values, locks: &Shelf, action: &Action)
+    requires valued { IsValued locks.now values.old }
+    ensures values { value_in values.new ≡ spoiled_by (value_in values.old) locks.now action.now }
+    ensures valued { IsValued locks.now values.new }
+    ensures few { length locks.now ≤ LOCKS }
+{
+    let count = locks.len();
+    if let Action::Purge(host) = action {
+        spoil(values, locks, count, *host);
+    }
+}
+
+/// The entry of given bytes, where a lock lets them be stored.
+fn entry_of(lets: bool, own: &LockRecord, value: &Option<ValueBytes>) -> Option<NamedValue>
+    ensures { (f : LockState → Bool) → lets ≡ f own.now.state → result ≡ entry_of f (Some own.now) value.now }
+{
+    let bytes = (*value)?;
+    if !lets {
+        return None;
+    }
+    Some(NamedValue {
+        name: own.name,
+        value: LockValue { bytes, valid: true },
+    })
+}
+
+/// What a command stores that was answered so.
+fn entry_by(found: &Option<LockRecord>, action: &Action, answer: &Answer) -> Option<NamedValue>
+    ensures { result ≡ entry_by found.now action.now answer.now }
+{
+    let Some(own) = found else {
+        return None;
+    };
+    match action {
+        Action::Convert { mode, value, .. } if answer.is_granted() => {
+            entry_of(is_downward(*mode, own.state), own, value)
+        }
+        Action::Release { value, .. } if answer.is_released() => {
+            entry_of(is_writer(own.state), own, value)
+        }
+        _ => None,
+    }
+}
+
+/// Stores what a command stores that was answered so.
+fn store_by(values: &mut Values, found: &Option<LockRecord>, action: &Action, answer: &Answer)
+    requires room { (e : NamedValue) → entry_by found.now action.now answer.now ≡ Some e → length (filter (λ o. not (is_of e.name o)) values.old) < LOCKS }
+    ensures { values.new ≡ put_if values.old (entry_by found.now action.now answer.now) }
+{
+    if let Some(new) = entry_by(found, action, answer) {
+        store(values, new);
+    }
+}
+
+impl ValuedLocks {
+    /// No locks, and room for the most that there may be.
+    pub fn new(alloc: Global) -> Result<Self, AllocError>
+        ensures locks { IfOk result (λ valued. valued.locks ≡ []) }
+        ensures entries { IfOk result (λ valued. valued.entries ≡ []) }
+    {
+        Ok(ValuedLocks {
+            locks: Locks::new(alloc)?,
+            values: Values::new(alloc)?,
+        })
+    }
+
+    /// The locks in printed order.
+    pub fn printed(&self) -> &Shelf
+        ensures locks { result.now ≡ self.now.locks }
+    {
+        self.locks.printed()
+    }
+
+    /// The names under which something was stored.
+    pub fn entries(&self) -> &[NamedValue]
+        ensures entries { result.now ≡ self.now.entries }
+    {
+        self.values.entries()
+    }
+
+    /// The lock that a command is about, unless it is to be a new one.
+    fn asked_lock(&self, action: &Action) -> Option<LockRecord>
+        ensures found { result ≡ asked_lock self.now.locks action.now }
+    {
+        match action {
+            Action::Convert { lock, .. } | Action::Release { lock, .. } | Action::Status(lock) => {
+                self.locks.lock_in(*lock)
+            }
+            _ => None,
+        }
+    }
+
+    /// The value of the name that a command is about, which had a lock, or is to have one.
+    fn asked_value(&self, found: &Option<LockRecord>, action: &Action) -> LockValue
+        ensures value { result ≡ asked_value_by (value_in self.now.entries) found.now action.now }
+    {
+        match action {
+            Action::Enqueue { name, .. } => values::value_in(self.values.entries(), *name),
+            Action::Convert { .. } | Action::Status(_) => match found {
+                Some(own) => values::value_in(self.values.entries(), own.name),
+                None => reply::ZEROS,
+            },
+            _ => reply::ZEROS,
+        }
+    }
+
+    /// Does what a client asks through a host.
+    pub fn act(&mut self, host: HostNumber, client: ClientNumber, action: &Action) -> Reply
+        ensures locks { self.new.locks ≡ in_order printed_cmp (done self.old.locks host client action.now).locks }
+        ensures values { value_in self.new.entries ≡ values_after (value_in self.old.entries) self.old.locks (done self.old.locks host client action.now).locks action.now (done self.old.locks host client action.now).answer }
+        ensures zeros { HasZeros self.new.locks (value_in self.new.entries) }
+        ensures reply { result ≡ replied (value_in self.new.entries) self.old.locks action.now (done self.old.locks host client action.now).answer }
+    {
+        let found = self.asked_lock(action);
+        spoil_by(&mut self.values, self.locks.printed(), action);
+        let answer = self.locks.act(host, client, action);
+        store_by(&mut self.values, &found, action, &answer);
+        values::keep_locked(&mut self.values, self.locks.printed());
+        let value = self.asked_value(&found, action);
+        Reply {
+            answer,
+            value: returned(answer, value),
+        }
+    }
+}

@@ -1,0 +1,116 @@
+ghost use Rattle.std.specs.Prelude.{◌≡◌, ◌+◌, ◌<◌, ◌≤◌, ◌++◌, ◌∷◌, [], IfOk, filter, length, not, remove, slice_index_or};
+ghost use Rattle.std.specs.List.Sorted.{IsSorted};
+ghost use Rattle.lock_table.specs.Picture.{printed_cmp};
+ghost use Rattle.lock_table.specs.Stored.{is_of, value_in, put_value, is_locked};
+
+use crate::locks::LOCKS;
+use crate::reply::LockValue;
+use crate::shelf::Shelf;
+use crate::{printed, reply};
+use lock_command::LockName;
+use std::alloc::{AllocError, Global};
+use std::marker::Model;
+
+/// A name, and the value that was stored under it last.
+#[derive(Clone, Copy, Debug)]
+pub struct NamedValue {
+    pub name: LockName,
+    pub value: LockValue,
+}
+
+/// The names under which something was stored. All others have zeros that are valid.
+#[derive(Drop)]
+pub struct Values {
+    entries: Vec<NamedValue>,
+}
+
+impl Model for Values {
+    ghost use Rattle.std.specs.Prelude.{List, ◌≤◌, vec_capacity};
+    ghost use Rattle.lock_table.specs.declared.locks.TheConstants.{LOCKS};
+    ghost use Rattle.lock_table.specs.declared.values.NamedValue.{NamedValue};
+
+    ghost Value = { List NamedValue };
+
+    ghost view = { λ values. values.entries.items };
+
+    ghost invariant = { λ values. LOCKS ≤ vec_capacity values.entries };
+}
+
+impl Values {
+    /// No names, and room for the most that there may be.
+    pub fn new(alloc: Global) -> Result<Self, AllocError>
+        ensures { IfOk result (λ values. values ≡ []) }
+    {
+        Ok(Values {
+            entries: Vec::with_capacity(alloc, LOCKS)?,
+        })
+    }
+
+    pub fn entries(&self) -> &[NamedValue]
+        ensures { result.now ≡ self.now }
+    {
+        &self.entries
+    }
+
+    fn remove(&mut self, at: usize)
+        requires { at < length self.old }
+        ensures { self.new ≡ remove self.old at }
+    {
+        let _ = self.entries.remove(at);
+    }
+
+    fn push(&mut self, new: NamedValue)
+        requires { length self.old < LOCKS }
+        ensures { self.new ≡ self.old ++ new ∷ [] }
+    {
+        let _ = self.entries.push(new);
+    }
+}
+
+/// The value of a name.
+pub fn value_in(entries: &[NamedValue], name: LockName) -> LockValue
+    ensures { result ≡ value_in entries.now name }
+{
+    for at in 0..entries.len() {
+        if entries[at].name == name {
+            return entries[at].value;
+        }
+    }
+    reply::ZEROS
+}
+
+/// Takes the entry of a name out.
+fn forget(values: &mut Values, name: LockName)
+    ensures { values.new ≡ filter (λ o. not (is_of name o)) values.old }
+{
+    let mut at = values.entries().len();
+    while at > 0 {
+        at -= 1;
+        if values.entries()[at].name == name {
+            values.remove(at);
+        }
+    }
+}
+
+/// Stores a value under a name.
+pub fn store(values: &mut Values, new: NamedValue)
+    requires { length (filter (λ o. not (is_of new.name o)) values.old) < LOCKS }
+    ensures { values.new ≡ put_value values.old new }
+{
+    forget(values, new.name);
+    values.push(new);
+}
+
+/// Takes the entries of names without locks out.
+pub fn keep_locked(values: &mut Values, locks: &Shelf)
+    requires { IsSorted printed_cmp locks.now }
+    ensures { values.new ≡ filter (is_locked locks.now) values.old }
+{
+    let mut at = values.entries().len();
+    while at > 0 {
+        at -= 1;
+        if !printed::has_locks(locks, values.entries()[at].name) {
+            values.remove(at);
+        }
+    }
+}
