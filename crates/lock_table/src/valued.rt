@@ -13,7 +13,7 @@ use crate::record::{LockRecord, LockState};
 use crate::reply::{Answer, LockValue, Reply};
 use crate::shelf::Shelf;
 use crate::values::{NamedValue, Values, store};
-use crate::{reply, values};
+use crate::values;
 use lock_command::{Action, ClientNumber, HostNumber, LockName, ValueBytes};
 use lock_modes::{Mode, downward, writes_alone};
 use std::alloc::{AllocError, Global};
@@ -205,9 +205,9 @@ impl ValuedLocks {
             Action::Enqueue { name, .. } => values::value_in(self.values.entries(), *name),
             Action::Convert { .. } | Action::Status(_) => match found {
                 Some(own) => values::value_in(self.values.entries(), own.name),
-                None => reply::ZEROS,
+                None => LockValue::ZEROS,
             },
-            _ => reply::ZEROS,
+            _ => LockValue::ZEROS,
         }
     }
 

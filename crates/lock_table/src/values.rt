@@ -6,7 +6,7 @@ ghost use Rattle.lock_table.specs.Stored.{is_of, value_in, put_value, is_locked}
 use crate::locks::LOCKS;
 use crate::reply::LockValue;
 use crate::shelf::Shelf;
-use crate::{printed, reply};
+use crate::printed;
 use lock_command::LockName;
 use std::alloc::{AllocError, Global};
 use std::marker::Model;
@@ -76,7 +76,7 @@ pub fn value_in(entries: &[NamedValue], name: LockName) -> LockValue
             return entries[at].value;
         }
     }
-    reply::ZEROS
+    LockValue::ZEROS
 }
 
 /// Takes the entry of a name out.

@@ -8,7 +8,7 @@ use crate::report::Report;
 use disk::NoMemory;
 use host::HostAnswer;
 use lock_command::Command;
-use lock_table::{KnownClient, LockRecord, Picture, Reply, Table};
+use lock_table::{KnownClient, LockRecord, LockValue, Picture, Reply, Table};
 use std::alloc::Global;
 
 /// Whether all that a report lists goes by these commands: each acknowledgement stands at a slot that they have, with the reply
@@ -104,7 +104,9 @@ fn is_same_reply(a: Reply, b: Reply) -> bool
 fn is_same(a: &Picture, b: &Picture) -> bool
     ensures { IsTrue result ↔ (a.now ≡ b.now) }
 {
-    are_same_locks(a.locks(), b.locks()) && are_same_clients(a.clients(), b.clients())
+    are_same_locks(a.locks(), b.locks())
+        && are_same_values(a.values(), b.values())
+        && are_same_clients(a.clients(), b.clients())
 }
 
 fn are_same_locks(a: &[LockRecord], b: &[LockRecord]) -> bool
@@ -129,6 +131,26 @@ fn is_same_lock(a: &LockRecord, b: &LockRecord) -> bool
         && a.host == b.host
         && a.name == b.name
         && a.state == b.state
+}
+
+fn are_same_values(a: &[LockValue], b: &[LockValue]) -> bool
+    ensures { IsTrue result ↔ (a.now ≡ b.now) }
+{
+    if a.len() != b.len() {
+        return false;
+    }
+    for at in 0..a.len() {
+        if !is_same_value(a[at], b[at]) {
+            return false;
+        }
+    }
+    true
+}
+
+fn is_same_value(a: LockValue, b: LockValue) -> bool
+    ensures { IsTrue result ↔ (a ≡ b) }
+{
+    a == b
 }
 
 fn are_same_clients(a: &[KnownClient], b: &[KnownClient]) -> bool
