@@ -74,7 +74,7 @@ if command -v fish >/dev/null; then
     asked 'dlm table ' 'images/ more images/'
     asked 'dlm submit images 0 ' 'cancel convert enqueue purge release status'
     asked 'dlm submit images 0 enqueue 1 1 1 ' 'CR CW EX NL PR PW'
-    asked 'dlm submit images 0 convert 1 2 1 PW ' 'noqueue'
+    asked 'dlm submit images 0 convert 1 2 1 PW ' 'noqueue value'
     asked 'dlm submit images 0 purge 1 2 ' '0 1 10 11 12 13 14 15 2 3 4 5 6 7 8 9'
 fi
 if command -v zsh >/dev/null; then
