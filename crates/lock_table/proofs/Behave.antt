@@ -14,9 +14,8 @@ use Rattle.lock_table.specs.declared.record.KnownClient.{KnownClient}
 use Rattle.lock_table.specs.declared.reply.Refusal.TheVariants as refusal
 use Rattle.lock_table.specs.declared.reply.Answer.{Answer}
 use Rattle.lock_table.specs.declared.reply.Answer.TheVariants as answer
-use Rattle.lock_table.specs.declared.reply.LockValue.{LockValue}
 use Rattle.lock_table.specs.declared.reply.Reply.{Reply}
-use Rattle.lock_table.specs.Values.{Values, zeros, invalid, is_writer, is_downward, given, spoiled, of_locked, is_granted, is_released, changed, values_after, value_of_lock, asked_value, returned}
+use Rattle.lock_table.specs.Values.{Values, zeros, invalid, is_writer, is_downward, given, of_locked, is_granted, is_released, changed, values_after, value_of_lock, asked_value, returned}
 use Rattle.lock_table.specs.Locks.{is_lock, is_on, in_state, lock_in, admits, has_queue, IsDistinct}
 use Rattle.lock_table.specs.Apply.{Outcome, enqueued, converted, released, cancelled, with_own, told, purged, done, Plain, Applied, is_client, kept, replied, carried_out, applied_after, applied}
 use Rattle.lock_table.specs.Locks.{is_through}

@@ -1,6 +1,7 @@
 -- The entries of a table's values, and what is done to them.
-use Rattle.std.proofs.Common.{◌≡◌, ◌≤◌, ◌<◌, ◌+◌, ℕ, zero, suc, get_or, Bool, true, false, cond, not, ◌&&◌, ◌||◌, List, [], ◌∷◌, ◌++◌, length, length-append, Option, Some, None, refl, sym, ap, subst, ◌∙◌, arith}
+use Rattle.std.proofs.Common.{◌≡◌, ◌≤◌, ◌<◌, ◌+◌, ℕ, zero, suc, get_or, Bool, true, false, cond, not, ◌&&◌, ◌||◌, List, [], ◌∷◌, ◌++◌, length, length-append, Option, Some, None, refl, sym, ap, ◌∙◌, arith}
 use Rattle.std.specs.List.{filter, find, list_any}
+use Rattle.std.specs.Prelude.{is_none}
 use Rattle.std.proofs.lemmas.List.Elements.{filter-append}
 use Rattle.std.proofs.lemmas.List.Folds.{list_any-append}
 use Rattle.lock_command.specs.Name.{same_name}
@@ -13,10 +14,10 @@ use Rattle.lock_table.specs.declared.reply.LockValue.{LockValue}
 use Rattle.lock_table.specs.declared.values.NamedValue.{NamedValue}
 use Rattle.lock_table.specs.Locks.{is_lock, is_on, is_through, lock_in}
 use Rattle.lock_table.specs.Picture.{HasZeros}
-use Rattle.lock_table.specs.Values.{Values, zeros, invalid, stored, is_writer, is_downward, given, spoiled, of_locked, is_granted, is_released, changed, asked_value}
-use Rattle.lock_table.specs.Stored.{is_of, value_or_zeros, value_in, put_value, put_if, is_locked, IsValued, spoiled_by, entry_of, entry_by, asked_lock, asked_value_by}
+use Rattle.lock_table.specs.Values.{Values, zeros, invalid, stored, is_writer, is_downward, given, spoiled, of_locked, is_granted, is_released, changed, values_after, value_of_lock, asked_value}
+use Rattle.lock_table.specs.Stored.{is_of, value_or_zeros, value_in, put_value, put_if, is_locked, IsValued, spoiled_by, entry_of, entry_by, gives_nothing, asked_lock, asked_value_by}
 use Rattle.lock_table.proofs.Apart.{name_is, same_name-itself}
-use Rattle.lock_table.proofs.Parts.{filter-filter, length_parts, any_within, any_from_filter}
+use Rattle.lock_table.proofs.Parts.{or_false, filter-filter, length_parts, any_within, any_from_filter}
 
 or_no : (b : Bool) → (b || false) ≡ b
 or_no true = refl
@@ -332,3 +333,58 @@ asked_same v locks (Purge host) = refl
 
 pub of_locked_zeros : (locks : List LockRecord) (v : Values) → HasZeros locks (of_locked locks v)
 of_locked_zeros locks v name none = ap (λ b. cond b (v name) zeros) none
+
+-- WHERE NOTHING IS STORED
+
+zeros_left : (b : Bool) → cond b zeros zeros ≡ zeros
+zeros_left true = refl
+zeros_left false = refl
+
+given_none : (v : Values) (lets : LockState → Bool) (found : Option LockRecord) (value : Option (List ℕ)) (b : Bool) → is_none value ≡ true → cond b (given v lets found value) v ≡ v
+given_none v lets None None true none = refl
+given_none v lets None None false none = refl
+given_none v lets (Some r) None true none = refl
+given_none v lets (Some r) None false none = refl
+given_none v lets found (Some bytes) b none = let impossible : ⊥ = cc in absurd impossible
+
+changed_nothing : (v : Values) (locks : List LockRecord) (action : Action) (a : Answer) → gives_nothing action ≡ true → changed v locks action a ≡ v
+changed_nothing v locks (Enqueue lock name mode no_queue) a nothing = refl
+changed_nothing v locks (Convert lock mode no_queue value) a nothing = given_none v (is_downward mode) (lock_in locks lock) value (is_granted a) nothing
+changed_nothing v locks (Release lock value) a nothing = given_none v is_writer (lock_in locks lock) value (is_released a) nothing
+changed_nothing v locks (Cancel lock) a nothing = refl
+changed_nothing v locks (Status lock) a nothing = refl
+changed_nothing v locks (Purge host) a nothing = let impossible : ⊥ = cc in absurd impossible
+
+-- nothing is stored then
+pub nothing_after : (before after : List LockRecord) (action : Action) (a : Answer) → gives_nothing action ≡ true → value_in [] ≡ values_after (value_in []) before after action a
+nothing_after before after action a nothing =
+    (λ i name. sym (zeros_left (list_any (is_on name) after)) i) ∙ ap (of_locked after) (sym (changed_nothing (value_in []) before action a nothing))
+
+asked_of_lock : (found : Option LockRecord) → value_of_lock (value_in []) found ≡ zeros
+asked_of_lock None = refl
+asked_of_lock (Some r) = refl
+
+-- and zeros are returned
+pub asked_zeros : (locks : List LockRecord) (action : Action) → zeros ≡ asked_value (value_in []) locks action
+asked_zeros locks (Enqueue lock name mode no_queue) = refl
+asked_zeros locks (Convert lock mode no_queue value) = sym (asked_of_lock (lock_in locks lock))
+asked_zeros locks (Release lock value) = refl
+asked_zeros locks (Cancel lock) = refl
+asked_zeros locks (Status lock) = sym (asked_of_lock (lock_in locks lock))
+asked_zeros locks (Purge host) = refl
+
+pub valued_none : (locks : List LockRecord) → IsValued locks []
+valued_none locks = record { one = λ name. omega arith; locked = λ name there. let impossible : ⊥ = cc in absurd impossible }
+
+none_spoils : (name : List ℕ) (host : ℕ) (locks : List LockRecord) → list_any (λ (r : LockRecord). is_writer r.state) locks ≡ false → list_any (spoils name host) locks ≡ false
+none_spoils name host [] none = refl
+none_spoils name host (r ∷ rest) none =
+    let parts = or_false (is_writer r.state) (list_any (λ (o : LockRecord). is_writer o.state) rest) none in
+    ap (λ b. is_on name r && (is_through host r && b) || list_any (spoils name host) rest) parts.0
+    ∙ ap (λ b. is_on name r && b || list_any (spoils name host) rest) (and_no (is_through host r))
+    ∙ ap (λ b. b || list_any (spoils name host) rest) (and_no (is_on name r))
+    ∙ none_spoils name host rest parts.1
+
+-- where nobody writes alone, a purge makes nothing invalid
+pub spoil_none : (v : Values) (locks : List LockRecord) (host : ℕ) → list_any (λ (r : LockRecord). is_writer r.state) locks ≡ false → v ≡ spoiled v locks host
+spoil_none v locks host none = λ i name. cond (sym (none_spoils name host locks none) i) (invalid (v name)) (v name)

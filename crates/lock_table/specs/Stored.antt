@@ -1,5 +1,5 @@
 -- How the values of names are kept: a short list of those that were stored, for names that have locks.
-use Rattle.std.specs.Prelude.{◌≡◌, ◌≤◌, ℕ, Bool, true, not, List, [], ◌∷◌, ◌++◌, length, filter, find, Option, Some, None}
+use Rattle.std.specs.Prelude.{◌≡◌, ◌≤◌, ℕ, Bool, true, false, not, is_none, List, [], ◌∷◌, ◌++◌, length, filter, find, Option, Some, None}
 use Rattle.std.specs.List.{list_any}
 use Rattle.lock_command.specs.Name.{same_name}
 use Rattle.lock_command.specs.declared.command.Action.{Action}
@@ -13,7 +13,7 @@ use Rattle.lock_table.specs.declared.record.KnownClient.{KnownClient}
 use Rattle.lock_table.specs.Apply.{Plain}
 use Rattle.lock_table.specs.Picture.{Shown, values_beside}
 use Rattle.lock_table.specs.Locks.{is_on, lock_in}
-use Rattle.lock_table.specs.Values.{Values, zeros, is_writer, is_downward, given, spoiled, is_granted, is_released, value_of_lock}
+use Rattle.lock_table.specs.Values.{Values, zeros, is_writer, is_downward, spoiled, is_granted, is_released, value_of_lock}
 use Rattle.std.specs.Prelude.{if◌then◌else◌}
 
 -- an entry of the name
@@ -60,6 +60,15 @@ entry_by found (Release lock value) a = if is_released a then entry_of is_writer
 entry_by found (Cancel lock) a = None
 entry_by found (Status lock) a = None
 entry_by found (Purge host) a = None
+
+-- an action that gives no value, and is no purge
+abbrev pub gives_nothing : Action → Bool
+gives_nothing (Enqueue lock name mode no_queue) = true
+gives_nothing (Convert lock mode no_queue value) = is_none value
+gives_nothing (Release lock value) = is_none value
+gives_nothing (Cancel lock) = true
+gives_nothing (Status lock) = true
+gives_nothing (Purge host) = false
 
 -- the entry is put, where there is one
 abbrev pub put_if : List NamedValue → Option NamedValue → List NamedValue

@@ -1,11 +1,12 @@
 ghost use Rattle.std.specs.Prelude.{◌≡◌, ◌+◌, ◌<◌, ◌≤◌, ◌==◌, ℕ, [], IfOk, IsTrue, cond, false, nat_lt, length, insert, remove, slice_index_or, vec_len, vec_capacity};
-ghost use Rattle.std.specs.List.{slice_get, AllWithin};
+ghost use Rattle.std.specs.List.{list_any, slice_get, AllWithin};
 ghost use Rattle.lock_table.specs.declared.record.LockRecord.{LockRecord};
 ghost use Rattle.lock_table.specs.State.{holds_against};
+ghost use Rattle.lock_table.specs.Values.{is_writer};
 ghost use Rattle.lock_table.specs.Keys.{lock_key, HasKey};
 ghost use Rattle.lock_table.specs.Shelved.{at_place, idle, times};
 
-use crate::bits::bits_against;
+use crate::bits::{WRITERS, bits_against};
 use crate::keys::SpelledName;
 use crate::locks::LOCKS;
 use crate::record::LockRecord;
@@ -113,6 +114,25 @@ impl Shelf {
             none &= !self.holds_against(at, wanted);
         }
         none
+    }
+
+    /// Whether a lock holds a mode under which nobody else writes.
+    pub fn is_writer(&self, at: usize) -> bool
+        requires { at < length self.now }
+        ensures { (d : LockRecord) → result ≡ is_writer (slice_index_or self.now at d).state }
+    {
+        self.held[at] & WRITERS != 0
+    }
+
+    /// Whether some lock does. All are looked at, without a branch.
+    pub fn has_writer(&self) -> bool
+        ensures { result ≡ list_any (λ r. is_writer r.state) self.now }
+    {
+        let mut any = false;
+        for at in 0..self.len() {
+            any |= self.is_writer(at);
+        }
+        any
     }
 
     /// Lists the locks.

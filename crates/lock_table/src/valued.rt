@@ -1,11 +1,11 @@
-ghost use Rattle.std.specs.Prelude.{◌≡◌, ◌≤◌, ◌<◌, IfOk, IfSome, [], length, filter, not, ◌&&◌, Bool, Some};
+ghost use Rattle.std.specs.Prelude.{◌≡◌, ◌≤◌, ◌<◌, IfOk, IfSome, [], length, filter, not, ◌&&◌, Bool, true, IsTrue, Some};
 ghost use Rattle.lock_table.specs.declared.values.NamedValue.{NamedValue};
 ghost use Rattle.lock_table.specs.Locks.{is_through};
 ghost use Rattle.lock_table.specs.declared.record.LockState.{LockState};
 ghost use Rattle.lock_table.specs.Apply.{done, replied};
 ghost use Rattle.lock_table.specs.Picture.{printed_cmp, HasZeros};
 ghost use Rattle.lock_table.specs.Placed.{in_order};
-ghost use Rattle.lock_table.specs.Stored.{is_of, value_in, put_value, put_if, IsValued, spoiled_by, entry_of, entry_by, asked_lock, asked_value_by};
+ghost use Rattle.lock_table.specs.Stored.{is_of, value_in, put_value, put_if, IsValued, spoiled_by, entry_of, entry_by, gives_nothing, asked_lock, asked_value_by};
 ghost use Rattle.lock_table.specs.Values.{zeros, invalid, spoiled, is_writer, is_downward, values_after, returned};
 
 use crate::locks::{LOCKS, Locks};
@@ -75,6 +75,17 @@ fn is_spoilt(lock: &LockRecord, host: HostNumber) -> bool
     lock.host == host && is_writer(lock.state)
 }
 
+/// Whether an action can change no value: it gives none, and is no purge.
+fn gives_nothing(action: &Action) -> bool
+    ensures { result ≡ gives_nothing action.now }
+{
+    match action {
+        Action::Convert { value, .. } | Action::Release { value, .. } => value.is_none(),
+        Action::Purge(_) => false,
+        Action::Enqueue { .. } | Action::Cancel(_) | Action::Status(_) => true,
+    }
+}
+
 /// Makes the value of a name invalid.
 fn invalidate(values: &mut Values, name: LockName)
     requires { length (filter (λ o. not (is_of name o)) values.old) < LOCKS }
@@ -96,6 +107,9 @@ fn spoil(values: &mut Values, locks: &Shelf, count: usize, host: HostNumber)
     ensures values { value_in values.new ≡ spoiled (value_in values.old) locks.now host }
     ensures valued { IsValued locks.now values.new }
 {
+    if !locks.has_writer() {
+        return;
+    }
     for at in 0..count {
         let record = locks.get(at);
         if is_spoilt(record, host) {
@@ -197,6 +211,14 @@ impl ValuedLocks {
         }
     }
 
+    /// Whether nothing is stored, and the action leaves it so.
+    fn leaves_zeros(&self, action: &Action) -> bool
+        ensures empty { IsTrue result → self.now.entries ≡ [] }
+        ensures nothing { IsTrue result → gives_nothing action.now ≡ true }
+    {
+        self.values.is_empty() && gives_nothing(action)
+    }
+
     /// The value of the name that a command is about, which had a lock, or is to have one.
     fn asked_value(&self, found: &Option<LockRecord>, action: &Action) -> LockValue
         ensures value { result ≡ asked_value_by (value_in self.now.entries) found.now action.now }
@@ -218,6 +240,13 @@ impl ValuedLocks {
         ensures zeros { HasZeros self.new.locks (value_in self.new.entries) }
         ensures reply { result ≡ replied (value_in self.new.entries) self.old.locks action.now (done self.old.locks host client action.now).answer }
     {
+        if self.leaves_zeros(action) {
+            let answer = self.locks.act(host, client, action);
+            return Reply {
+                answer,
+                value: returned(answer, reply::ZEROS),
+            };
+        }
         let found = self.asked_lock(action);
         spoil_by(&mut self.values, self.locks.printed(), action);
         let answer = self.locks.act(host, client, action);

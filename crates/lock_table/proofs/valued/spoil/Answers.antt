@@ -1,4 +1,4 @@
-use Rattle.std.proofs.Common.{◌≡◌, ◌<◌, ◌≤◌, ◌+◌, ◌&&◌, suc, true, false, Bool, List, ◌∷◌, [], ◌++◌, length, get_or, take, sym, ap, subst, ◌∙◌, arith}
+use Rattle.std.proofs.Common.{◌≡◌, ◌<◌, ◌+◌, ◌&&◌, suc, true, false, List, ◌∷◌, [], ◌++◌, length, take, sym, ap, subst, ◌∙◌, arith}
 use Rattle.std.specs.List.{list_any}
 use Rattle.std.proofs.Math.Seq.{take-suc}
 use Rattle.lock_table.specs.declared.locks.TheConstants.{LOCKS}
@@ -7,9 +7,13 @@ use Rattle.lock_table.specs.declared.values.NamedValue.{NamedValue}
 use Rattle.lock_table.specs.Locks.{is_on, is_through}
 use Rattle.lock_table.specs.Stored.{value_in, IsValued}
 use Rattle.lock_table.specs.Values.{invalid, stored, spoiled, is_writer, zeros}
-use Rattle.lock_table.proofs.Stored.{has_at, room_for, put_stores, valued_put, spoil_next, spoil_past}
+use Rattle.lock_table.proofs.Stored.{has_at, room_for, put_stores, valued_put, spoil_next, spoil_past, spoil_none}
 use Rattle.lock_table.proofs.valued.spoil.Goals as goal
 use Rattle.lock_table.proofs.valued.spoil.Goals.{then-is_spoilt, else-is_spoilt}
+
+pub returns-then-not-has_writer-clause-values : goal.returns-then-not-has_writer-clause-values
+returns-then-not-has_writer-clause-values c =
+    spoil_none (value_in c.args.values.now) c.args.locks.now c.args.host (sym c.has_writer.ensures ∙ c.if-not-has_writer.true)
 
 pub invalidate-requires : goal.invalidate-requires
 invalidate-requires c =
