@@ -244,7 +244,7 @@ impl ValuedLocks {
             let answer = self.locks.act(host, client, action);
             return Reply {
                 answer,
-                value: returned(answer, reply::ZEROS),
+                value: returned(answer, LockValue::ZEROS),
             };
         }
         let found = self.asked_lock(action);
