@@ -21,16 +21,16 @@ impl FlatTable {
         })
     }
 
-    pub fn apply(&mut self, command: &Command) -> Reply {
+    pub fn apply(&mut self, command: &Command) -> Answer {
         if let Some(last) = known(&self.clients, command.client) {
             if command.request.get() < last.request.get() {
-                return Reply::Refused(Refusal::Stale);
+                return Answer::Refused(Refusal::Stale);
             }
             if command.request == last.request {
-                return last.reply;
+                return last.reply.answer;
             }
         } else if self.clients.len() >= CLIENTS {
-            return Reply::Refused(Refusal::ClientsFull);
+            return Answer::Refused(Refusal::ClientsFull);
         }
         let reply = self.act(command.host, command.client, &command.action);
         let client = command.client;
@@ -38,7 +38,10 @@ impl FlatTable {
         let last = KnownClient {
             client,
             request: command.request,
-            reply,
+            reply: Reply {
+                answer: reply,
+                value: None,
+            },
         };
         let _ = self.clients.push(last);
         reply
@@ -54,7 +57,7 @@ impl FlatTable {
         &self.clients
     }
 
-    fn act(&mut self, host: HostNumber, client: ClientNumber, action: &Action) -> Reply {
+    fn act(&mut self, host: HostNumber, client: ClientNumber, action: &Action) -> Answer {
         match action {
             Action::Enqueue {
                 lock,
@@ -75,33 +78,34 @@ impl FlatTable {
                 lock,
                 mode,
                 no_queue,
+                ..
             } => self.convert(client, *lock, *mode, *no_queue),
-            Action::Release(lock) => self.release(client, *lock),
+            Action::Release { lock, .. } => self.release(client, *lock),
             Action::Cancel(lock) => self.cancel(client, *lock),
             Action::Status(lock) => match lock_in(&self.locks, *lock) {
-                Some(found) => Reply::State(found.state),
-                None => Reply::Refused(Refusal::NoSuchLock),
+                Some(found) => Answer::State(found.state),
+                None => Answer::Refused(Refusal::NoSuchLock),
             },
             Action::Purge(gone) => self.purge(*gone),
         }
     }
 
-    fn enqueue(&mut self, new: LockRecord, mode: Mode, no_queue: bool) -> Reply {
+    fn enqueue(&mut self, new: LockRecord, mode: Mode, no_queue: bool) -> Answer {
         if lock_in(&self.locks, new.lock).is_some() {
-            return Reply::Refused(Refusal::LockInUse);
+            return Answer::Refused(Refusal::LockInUse);
         }
         if self.locks.len() >= LOCKS {
-            return Reply::Refused(Refusal::TableFull);
+            return Answer::Refused(Refusal::TableFull);
         }
         if head(&self.locks, new.name).is_none() && admits(&self.locks, new.lock, new.name, mode) {
             put(&mut self.locks, new, LockState::Granted(mode));
-            return Reply::Granted;
+            return Answer::Granted;
         }
         if no_queue {
-            return Reply::Refused(Refusal::NotQueued);
+            return Answer::Refused(Refusal::NotQueued);
         }
         put(&mut self.locks, new, LockState::Waiting(mode));
-        Reply::Queued
+        Answer::Queued
     }
 
     fn convert(
@@ -110,63 +114,63 @@ impl FlatTable {
         lock: LockNumber,
         mode: Mode,
         no_queue: bool,
-    ) -> Reply {
+    ) -> Answer {
         let Some(own) = lock_in(&self.locks, lock) else {
-            return Reply::Refused(Refusal::NoSuchLock);
+            return Answer::Refused(Refusal::NoSuchLock);
         };
         if own.client != client {
-            return Reply::Refused(Refusal::NotOwner);
+            return Answer::Refused(Refusal::NotOwner);
         }
         match own.state {
-            LockState::Waiting(_) => Reply::Refused(Refusal::StillWaiting),
-            LockState::Converting { .. } => Reply::Refused(Refusal::AlreadyConverting),
+            LockState::Waiting(_) => Answer::Refused(Refusal::StillWaiting),
+            LockState::Converting { .. } => Answer::Refused(Refusal::AlreadyConverting),
             LockState::Granted(held) => {
                 if admits(&self.locks, own.lock, own.name, mode) {
                     put(&mut self.locks, own, LockState::Granted(mode));
                     settle(&mut self.locks, own.name);
-                    return Reply::Granted;
+                    return Answer::Granted;
                 }
                 if no_queue {
-                    return Reply::Refused(Refusal::NotQueued);
+                    return Answer::Refused(Refusal::NotQueued);
                 }
                 let converting = LockState::Converting { held, wanted: mode };
                 put(&mut self.locks, own, converting);
-                Reply::Queued
+                Answer::Queued
             }
         }
     }
 
-    fn release(&mut self, client: ClientNumber, lock: LockNumber) -> Reply {
+    fn release(&mut self, client: ClientNumber, lock: LockNumber) -> Answer {
         let Some(own) = lock_in(&self.locks, lock) else {
-            return Reply::Refused(Refusal::NoSuchLock);
+            return Answer::Refused(Refusal::NoSuchLock);
         };
         if own.client != client {
-            return Reply::Refused(Refusal::NotOwner);
+            return Answer::Refused(Refusal::NotOwner);
         }
         take_away(&mut self.locks, own.lock);
         settle(&mut self.locks, own.name);
-        Reply::Released
+        Answer::Released
     }
 
-    fn cancel(&mut self, client: ClientNumber, lock: LockNumber) -> Reply {
+    fn cancel(&mut self, client: ClientNumber, lock: LockNumber) -> Answer {
         let Some(own) = lock_in(&self.locks, lock) else {
-            return Reply::Refused(Refusal::NoSuchLock);
+            return Answer::Refused(Refusal::NoSuchLock);
         };
         if own.client != client {
-            return Reply::Refused(Refusal::NotOwner);
+            return Answer::Refused(Refusal::NotOwner);
         }
         match own.state {
-            LockState::Granted(_) => return Reply::Refused(Refusal::NothingToCancel),
+            LockState::Granted(_) => return Answer::Refused(Refusal::NothingToCancel),
             LockState::Converting { held, .. } => {
                 put(&mut self.locks, own, LockState::Granted(held));
             }
             LockState::Waiting(_) => take_away(&mut self.locks, own.lock),
         }
         settle(&mut self.locks, own.name);
-        Reply::Cancelled
+        Answer::Cancelled
     }
 
-    fn purge(&mut self, host: HostNumber) -> Reply {
+    fn purge(&mut self, host: HostNumber) -> Answer {
         self.touched.clear();
         for record in &self.locks {
             if record.host == host {
@@ -177,7 +181,7 @@ impl FlatTable {
         for name in &self.touched {
             settle(&mut self.locks, *name);
         }
-        Reply::Purged(u16::try_from(self.touched.len()).unwrap_or(u16::MAX))
+        Answer::Purged(u16::try_from(self.touched.len()).unwrap_or(u16::MAX))
     }
 }
 

@@ -98,8 +98,12 @@ impl Random {
                 lock,
                 mode: self.mode(),
                 no_queue,
+                value: None,
             },
-            65..=82 => Action::Release(lock),
+            65..=82 => Action::Release {
+                lock: lock,
+                value: None,
+            },
             83..=94 => Action::Cancel(lock),
             95..=98 => Action::Status(lock),
             _ => Action::Purge(self.host()?),
@@ -188,7 +192,7 @@ fn lists_clients(listed: &[KnownClient], flat: &[KnownClient]) -> bool {
             Some(other)
                 if other.client == known.client
                     && other.request == known.request
-                    && other.reply == known.reply => {}
+                    && other.reply.answer == known.reply.answer => {}
             _ => return false,
         }
     }
@@ -209,7 +213,7 @@ fn answer_alike(
         request: random.request(place)?,
         action: random.action(range)?,
     };
-    let reply = table.apply(&command);
+    let reply = table.apply(&command).answer;
     Ok(flat.apply(&command) == reply)
 }
 
