@@ -70,8 +70,8 @@ pub record LacksLock (learned : List Command) (number : ℕ) : Type 0 where
 pub record ShowsText (learned : List Command) (old new : List ℕ) (size : ℕ) : Type 0 where
   pub picture : Shown
   pub of_table : IsPictureOf picture (table_after learned)
-  pub sized : size ≡ length (queues_text picture.locks)
-  pub shown : new ≡ take (min size (length old)) (queues_text picture.locks) ++ drop (min size (length old)) old
+  pub sized : size ≡ length (queues_text picture)
+  pub shown : new ≡ take (min size (length old)) (queues_text picture) ++ drop (min size (length old)) old
 
 -- the first views show these records, as many as there are below this number
 abbrev pub ShowBelow : {V R : Type 0} → (V → R → Type 0) → List V → List R → ℕ → Type 0
