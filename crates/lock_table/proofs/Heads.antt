@@ -76,7 +76,7 @@ own_number a r distinct there =
     let rest : length found.0 ≡ 0 = omega (arith, distinct r.lock, ap length found.1) in
     found.1 ∙ ap (λ l. r ∷ l) (nil_from_length found.0 rest)
 
-own_on : (a : List LockRecord) (r : LockRecord) → IsDistinct a → lock_in a r.lock ≡ Some r → 1 ≤ numbered r.lock (on r.name a)
+pub own_on : (a : List LockRecord) (r : LockRecord) → IsDistinct a → lock_in a r.lock ≡ Some r → 1 ≤ numbered r.lock (on r.name a)
 own_on a r distinct there =
     let one : filter (is_lock r.lock) (on r.name a) ≡ cond true (r ∷ []) [] =
     filter-filter (is_lock r.lock) (is_on r.name) a ∙ ap (filter (is_on r.name)) (own_number a r distinct there) ∙ ap (λ t. cond t (r ∷ []) []) (same_name-itself r.name) in

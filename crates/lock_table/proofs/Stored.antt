@@ -388,3 +388,40 @@ none_spoils name host (r ∷ rest) none =
 -- where nobody writes alone, a purge makes nothing invalid
 pub spoil_none : (v : Values) (locks : List LockRecord) (host : ℕ) → list_any (λ (r : LockRecord). is_writer r.state) locks ≡ false → v ≡ spoiled v locks host
 spoil_none v locks host none = λ i name. cond (sym (none_spoils name host locks none) i) (invalid (v name)) (v name)
+
+-- WHAT IS KEPT
+
+filter_members : (P Q : NamedValue → Bool) (entries : List NamedValue) → ((e : NamedValue) → list_any (is_of e.name) entries ≡ true → P e ≡ Q e) → filter P entries ≡ filter Q entries
+filter_members P Q [] same = refl
+filter_members P Q (e ∷ rest) same =
+    let here : P e ≡ Q e = same e (ap (λ b. b || list_any (is_of e.name) rest) (same_name-itself e.name)) in
+    let tail = filter_members P Q rest (λ x there. same x (ap (λ b. is_of x.name e || b) there ∙ or_yes (is_of x.name e))) in
+    λ i. cond (here i) (e ∷ tail i) (tail i)
+
+filter_all : (entries : List NamedValue) → entries ≡ filter (λ e. true) entries
+filter_all [] = refl
+filter_all (e ∷ rest) = ap (λ l. e ∷ l) (filter_all rest)
+
+-- where all names have locks
+pub all_locked : (locks : List LockRecord) (entries : List NamedValue) → ((name : List ℕ) → list_any (is_of name) entries ≡ true → list_any (is_on name) locks ≡ true) → entries ≡ filter (is_locked locks) entries
+all_locked locks entries all = filter_all entries ∙ filter_members (λ e. true) (is_locked locks) entries (λ e there. sym (all e.name there))
+
+-- where all but one do, and that one does too
+pub own_locked : (locks : List LockRecord) (entries : List NamedValue) (own : List ℕ)
+    → ((name : List ℕ) → list_any (is_of name) entries ≡ true → same_name name own ≡ false → list_any (is_on name) locks ≡ true)
+    → list_any (is_on own) locks ≡ true → entries ≡ filter (is_locked locks) entries
+own_locked locks entries own others has = all_locked locks entries (λ name there.
+  elim (same_name name own) as (λ b. same_name name own ≡ b → list_any (is_on name) locks ≡ true) [
+    | true ↦ λ same. ap (λ n. list_any (is_on n) locks) (name_is name own same) ∙ has
+    | false ↦ λ differ. others name there differ
+  ] refl)
+
+-- or does not
+pub own_lost : (locks : List LockRecord) (entries : List NamedValue) (own : List ℕ)
+    → ((name : List ℕ) → list_any (is_of name) entries ≡ true → same_name name own ≡ false → list_any (is_on name) locks ≡ true)
+    → list_any (is_on own) locks ≡ false → filter (λ o. not (is_of own o)) entries ≡ filter (is_locked locks) entries
+own_lost locks entries own others lost = filter_members (λ o. not (is_of own o)) (is_locked locks) entries (λ e there.
+  elim (is_of own e) as (λ b. is_of own e ≡ b → not b ≡ is_locked locks e) [
+    | true ↦ λ same. sym (ap (λ n. list_any (is_on n) locks) (name_is e.name own same) ∙ lost)
+    | false ↦ λ differ. sym (others e.name there differ)
+  ] refl)

@@ -79,6 +79,7 @@ put_if entries (Some e) = put_value entries e
 abbrev pub asked_lock : List LockRecord → Action → Option LockRecord
 asked_lock locks (Convert lock mode no_queue value) = lock_in locks lock
 asked_lock locks (Release lock value) = lock_in locks lock
+asked_lock locks (Cancel lock) = lock_in locks lock
 asked_lock locks (Status lock) = lock_in locks lock
 asked_lock locks _ = None
 
@@ -108,3 +109,17 @@ plain_of kept = record { locks = kept.locks; values = value_in kept.entries; cli
 
 abbrev pub shown_of : Kept → Shown
 shown_of kept = record { locks = kept.locks; values = values_beside (value_in kept.entries) kept.locks; clients = kept.clients }
+
+-- the lock is on the name
+abbrev pub is_named : Option LockRecord → List ℕ → Bool
+is_named None name = false
+is_named (Some r) name = same_name name r.name
+
+-- a command that may take the last lock of the name away
+abbrev pub may_lose : Option LockRecord → Action → List ℕ → Bool
+may_lose found (Enqueue lock on mode no_queue) name = false
+may_lose found (Convert lock mode no_queue value) name = false
+may_lose found (Release lock value) name = is_named found name
+may_lose found (Cancel lock) name = is_named found name
+may_lose found (Status lock) name = false
+may_lose found (Purge host) name = true

@@ -1,11 +1,13 @@
-ghost use Rattle.std.specs.Prelude.{◌≡◌, ◌≤◌, ◌<◌, IfOk, IfSome, [], length, filter, not, ◌&&◌, Bool, true, IsTrue, Some};
+ghost use Rattle.std.specs.Prelude.{◌≡◌, ◌≤◌, ◌<◌, IfOk, IfSome, [], length, filter, not, ◌&&◌, Bool, true, false, ℕ, List, IsTrue, Some};
+ghost use Rattle.std.specs.List.{list_any};
+ghost use Rattle.std.specs.List.Sorted.{IsSorted};
 ghost use Rattle.lock_table.specs.declared.values.NamedValue.{NamedValue};
-ghost use Rattle.lock_table.specs.Locks.{is_through};
+ghost use Rattle.lock_table.specs.Locks.{is_on, is_through};
 ghost use Rattle.lock_table.specs.declared.record.LockState.{LockState};
 ghost use Rattle.lock_table.specs.Apply.{done, replied};
 ghost use Rattle.lock_table.specs.Picture.{printed_cmp, HasZeros};
 ghost use Rattle.lock_table.specs.Placed.{in_order};
-ghost use Rattle.lock_table.specs.Stored.{is_of, value_in, put_value, put_if, IsValued, spoiled_by, entry_of, entry_by, gives_nothing, asked_lock, asked_value_by};
+ghost use Rattle.lock_table.specs.Stored.{is_of, value_in, put_value, put_if, IsValued, spoiled_by, entry_of, entry_by, gives_nothing, is_locked, may_lose, asked_lock, asked_value_by};
 ghost use Rattle.lock_table.specs.Values.{zeros, invalid, spoiled, is_writer, is_downward, values_after, returned};
 
 use crate::locks::{LOCKS, Locks};
@@ -173,6 +175,23 @@ fn store_by(values: &mut Values, found: &Option<LockRecord>, action: &Action, an
     }
 }
 
+/// Lets the values of names go that a command took the last lock of.
+fn keep_locked(values: &mut Values, locks: &Shelf, found: &Option<LockRecord>, action: &Action)
+    requires sorted { IsSorted printed_cmp locks.now }
+    requires others { (name : List ℕ) → list_any (is_of name) values.old ≡ true → may_lose found.now action.now name ≡ false → list_any (is_on name) locks.now ≡ true }
+    ensures { values.new ≡ filter (is_locked locks.now) values.old }
+{
+    match action {
+        Action::Release { .. } | Action::Cancel(_) => {
+            if let Some(own) = found {
+                values::keep_if_locked(values, locks, own.name);
+            }
+        }
+        Action::Purge(_) => values::keep_locked(values, locks),
+        Action::Enqueue { .. } | Action::Convert { .. } | Action::Status(_) => {}
+    }
+}
+
 impl ValuedLocks {
     /// No locks, and room for the most that there may be.
     pub fn new(alloc: Global) -> Result<Self, AllocError>
@@ -204,9 +223,10 @@ impl ValuedLocks {
         ensures found { result ≡ asked_lock self.now.locks action.now }
     {
         match action {
-            Action::Convert { lock, .. } | Action::Release { lock, .. } | Action::Status(lock) => {
-                self.locks.lock_in(*lock)
-            }
+            Action::Convert { lock, .. }
+            | Action::Release { lock, .. }
+            | Action::Cancel(lock)
+            | Action::Status(lock) => self.locks.lock_in(*lock),
             _ => None,
         }
     }
@@ -251,7 +271,7 @@ impl ValuedLocks {
         spoil_by(&mut self.values, self.locks.printed(), action);
         let answer = self.locks.act(host, client, action);
         store_by(&mut self.values, &found, action, &answer);
-        values::keep_locked(&mut self.values, self.locks.printed());
+        keep_locked(&mut self.values, self.locks.printed(), &found, action);
         let value = self.asked_value(&found, action);
         Reply {
             answer,

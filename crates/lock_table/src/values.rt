@@ -1,5 +1,8 @@
-ghost use Rattle.std.specs.Prelude.{◌≡◌, ◌+◌, ◌<◌, ◌≤◌, ◌++◌, ◌∷◌, ◌↔◌, [], IfOk, IsTrue, filter, length, not, remove, slice_index_or};
+ghost use Rattle.std.specs.Prelude.{◌≡◌, ◌+◌, ◌<◌, ◌≤◌, ◌++◌, ◌∷◌, ◌↔◌, [], ℕ, List, IfOk, IsTrue, true, false, filter, length, not, remove, slice_index_or};
+ghost use Rattle.std.specs.List.{list_any};
 ghost use Rattle.std.specs.List.Sorted.{IsSorted};
+ghost use Rattle.lock_command.specs.Name.{same_name};
+ghost use Rattle.lock_table.specs.Locks.{is_on};
 ghost use Rattle.lock_table.specs.Picture.{printed_cmp};
 ghost use Rattle.lock_table.specs.Stored.{is_of, value_in, put_value, is_locked};
 
@@ -105,6 +108,17 @@ pub fn store(values: &mut Values, new: NamedValue)
 {
     forget(values, new.name);
     values.push(new);
+}
+
+/// Takes the entry of a name out, if it is without locks. It is the one name that may be.
+pub fn keep_if_locked(values: &mut Values, locks: &Shelf, name: LockName)
+    requires sorted { IsSorted printed_cmp locks.now }
+    requires others { (other : List ℕ) → list_any (is_of other) values.old ≡ true → same_name other name ≡ false → list_any (is_on other) locks.now ≡ true }
+    ensures { values.new ≡ filter (is_locked locks.now) values.old }
+{
+    if !printed::has_locks(locks, name) {
+        forget(values, name);
+    }
 }
 
 /// Takes the entries of names without locks out.
