@@ -26,7 +26,9 @@ _dlm() {
             case $COMP_CWORD:$command in
                 7:purge) words=$hosts ;;
                 8:enqueue | 8:convert) words="NL CR CW PR PW EX" ;;
-                10:enqueue | 9:convert) words="noqueue" ;;
+                10:enqueue) words="noqueue" ;;
+                9:convert) words="noqueue value" ;;
+                10:convert | 8:release) words="value" ;;
             esac
             ;;
     esac

@@ -30,4 +30,6 @@ complete -c dlm -n '__dlm_at 4 submit' -a 'enqueue convert release cancel status
 complete -c dlm -n '__dlm_command_at 7 purge' -a '(seq 0 15)' -d 'host'
 complete -c dlm -n '__dlm_command_at 8 enqueue convert' -a 'NL CR CW PR PW EX' -d 'mode'
 complete -c dlm -n '__dlm_command_at 10 enqueue' -a noqueue
-complete -c dlm -n '__dlm_command_at 9 convert' -a noqueue
+complete -c dlm -n '__dlm_command_at 9 convert' -a 'noqueue value'
+complete -c dlm -n '__dlm_command_at 10 convert' -a value
+complete -c dlm -n '__dlm_command_at 8 release' -a value

@@ -11,7 +11,8 @@ PAGES = ("README.md", "docs/TUTORIAL.md", "docs/OPERATIONS.md")
 # What a line begins with, or the language of a block of code and what its first line begins with; and what runs it.
 KNOWN = {
     ("README.md", "rt ci"): ".ci/run",
-    ("README.md", "tar xzf midgegalena-"): "tests/release.sh",
+    ("README.md", "PREFIX=$PWD/usr capi/install.sh"): "capi/check.sh does so in a folder of its own",
+    ("README.md", "mkdir from_c"): "capi/check.sh does so in a folder of its own",
     ("docs/OPERATIONS.md", "ln -s /dev/disk/"): "tests/devices.sh, with loop devices",
     ("docs/OPERATIONS.md", "dlm format images 3 64 7"): "tests/devices.sh, with loop devices",
     ("docs/OPERATIONS.md", "rust: let folder = open_folder"): "crates/host_tests/src/folders.rt makes such calls",

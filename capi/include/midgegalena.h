@@ -26,9 +26,9 @@ extern "C" {
 
 /* The library's numbers: an increase of the first breaks programs, an increase of the second adds to what there is. */
 #define MG_VERSION_MAJOR 0
-#define MG_VERSION_MINOR 2
+#define MG_VERSION_MINOR 3
 
-/* "0.2", of the library that is linked. */
+/* "0.3", of the library that is linked. */
 const char *mg_version(void);
 
 /* ---- limits ---- */
@@ -39,6 +39,7 @@ const char *mg_version(void);
 #define MG_LOCKS 256       /* at once */
 #define MG_CLIENTS 32      /* for ever */
 #define MG_NAME_LENGTH 15  /* bytes from 0x21 to 0x7E */
+#define MG_VALUE_LENGTH 16 /* bytes that are kept with a name */
 #define MG_TEXT_SIZE 16384 /* a table's text is never longer */
 
 /* ---- what a call returns: 0, or one of these ----
@@ -161,6 +162,15 @@ int mg_release(struct mg_host *host, unsigned client, uint64_t request, unsigned
 int mg_cancel(struct mg_host *host, unsigned client, uint64_t request, unsigned lock, struct mg_answer *answer);
 int mg_status(struct mg_host *host, unsigned client, uint64_t request, unsigned lock, struct mg_answer *answer);
 
+/* The same, and they give MG_VALUE_LENGTH bytes that are kept with the lock's name, for those that get a lock on it later
+ * (mg_value). A release keeps them where the lock holds MG_PW or MG_EX. A conversion keeps them where it is downward: from
+ * MG_EX, or from MG_PW to any mode but MG_EX. It is granted at once then. Elsewhere the command is carried out and the bytes
+ * are dropped. */
+int mg_convert_value(struct mg_host *host, unsigned client, uint64_t request, unsigned lock, int mode, unsigned flags,
+                     const void *value, struct mg_answer *answer);
+int mg_release_value(struct mg_host *host, unsigned client, uint64_t request, unsigned lock, const void *value,
+                     struct mg_answer *answer);
+
 /* Takes away all locks that came through a host. See first that it is stopped for good: nobody here does. */
 int mg_purge(struct mg_host *host, unsigned client, uint64_t request, unsigned purged, struct mg_answer *answer);
 
@@ -222,6 +232,17 @@ int mg_host_facts(struct mg_host *host, struct mg_host_view *into);
 
 /* The lock of this number, or MG_NO_SUCH_LOCK. */
 int mg_lock(struct mg_host *host, unsigned lock, struct mg_lock_view *into);
+
+#define MG_VALID 1u
+
+struct mg_value {
+    uint8_t bytes[MG_VALUE_LENGTH];
+    uint32_t flags; /* MG_VALID, or 0: a lock of the name that held MG_PW or MG_EX was purged, and may have been about to change what they speak of */
+};
+
+/* The value of the name of the lock of this number, or MG_NO_SUCH_LOCK. A name's value is zeros and valid from its first lock
+ * on, and goes with its last. */
+int mg_value(struct mg_host *host, unsigned lock, struct mg_value *into);
 
 /* All locks, by name, and in a name granted, converting, waiting. Fills up to `room` of them; `*count` is how many there are.
  * `into` may be NULL where `room` is 0. */

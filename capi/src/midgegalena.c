@@ -43,6 +43,9 @@ struct request {
     uint32_t mode;
     uint32_t no_queue;
     uint32_t purged;
+    uint32_t gives;
+    uint32_t unused;
+    uint8_t value[MG_VALUE_LENGTH];
 };
 
 /* Image, Images and Opened of images.rt */
@@ -102,11 +105,11 @@ struct answer {
 };
 
 /* The sizes of the structs there. That each field lies where it does there is tried by tests/calls.c. */
-typedef char sizes_are_as_there[sizeof(struct handle) == 16 && sizeof(struct request) == 32 && sizeof(struct image) == 1040 &&
+typedef char sizes_are_as_there[sizeof(struct handle) == 16 && sizeof(struct request) == 56 && sizeof(struct image) == 1040 &&
                                         sizeof(struct images) == 7280 && sizeof(struct opened) == 32 &&
                                         sizeof(struct header) == 1032 && sizeof(struct due_call) == 32 &&
                                         sizeof(struct written) == 128 && sizeof(struct row) == 4096 && sizeof(struct told_answer) == 16 &&
-                                        sizeof(struct answer) == 24 && sizeof(struct mg_lock_view) == 36 &&
+                                        sizeof(struct answer) == 24 && sizeof(struct mg_value) == 20 && sizeof(struct mg_lock_view) == 36 &&
                                         sizeof(struct mg_client_view) == 24 && sizeof(struct mg_host_view) == 32
                                     ? 1
                                     : -1];
@@ -130,6 +133,7 @@ int32_t dlm_c_next(struct handle *handle, const struct told_answer *told, const 
 int32_t dlm_c_answer(struct handle *handle, struct answer *answer);
 int32_t dlm_c_host(struct handle *handle, struct mg_host_view *into);
 int32_t dlm_c_lock(struct handle *handle, uint32_t lock, struct mg_lock_view *into);
+int32_t dlm_c_value(struct handle *handle, uint32_t lock, struct mg_value *into);
 int32_t dlm_c_locks(struct handle *handle, struct mg_lock_view *into, size_t room, size_t *count);
 int32_t dlm_c_clients(struct handle *handle, struct mg_client_view *into, size_t room, size_t *count);
 int32_t dlm_c_text(struct handle *handle, uint8_t *into, size_t room, size_t *length);
@@ -616,12 +620,24 @@ static int submit(struct mg_host *host, const struct request *request, const cha
 
 /* A mode below 0 becomes one that is none, and other flags than those that are known are refused. */
 static struct request asks(uint32_t action, unsigned client, uint64_t request, unsigned lock) {
-    struct request asked = {0, 0, 0, 0, 0, 0, 0};
+    struct request asked = {0, 0, 0, 0, 0, 0, 0, 0, 0, {0}};
     asked.request = request;
     asked.client = client;
     asked.action = action;
     asked.lock = lock;
     return asked;
+}
+
+/* The same with a value. */
+static int submit_giving(struct mg_host *host, struct request *request, const void *value, struct mg_answer *into) {
+    if (!value) {
+        if (into)
+            *into = NO_ANSWER;
+        return MG_BAD_ARGUMENT;
+    }
+    request->gives = 1;
+    memcpy(request->value, value, MG_VALUE_LENGTH);
+    return submit(host, request, "", into);
 }
 
 int mg_enqueue(struct mg_host *host, unsigned client, uint64_t request, unsigned lock, int mode, const char *name,
@@ -640,9 +656,23 @@ int mg_convert(struct mg_host *host, unsigned client, uint64_t request, unsigned
     return submit(host, &asked, "", answer);
 }
 
+int mg_convert_value(struct mg_host *host, unsigned client, uint64_t request, unsigned lock, int mode, unsigned flags,
+                     const void *value, struct mg_answer *answer) {
+    struct request asked = asks(CONVERT, client, request, lock);
+    asked.mode = (uint32_t)mode;
+    asked.no_queue = flags;
+    return submit_giving(host, &asked, value, answer);
+}
+
 int mg_release(struct mg_host *host, unsigned client, uint64_t request, unsigned lock, struct mg_answer *answer) {
     struct request asked = asks(RELEASE, client, request, lock);
     return submit(host, &asked, "", answer);
+}
+
+int mg_release_value(struct mg_host *host, unsigned client, uint64_t request, unsigned lock, const void *value,
+                     struct mg_answer *answer) {
+    struct request asked = asks(RELEASE, client, request, lock);
+    return submit_giving(host, &asked, value, answer);
 }
 
 int mg_cancel(struct mg_host *host, unsigned client, uint64_t request, unsigned lock, struct mg_answer *answer) {
@@ -778,6 +808,13 @@ int mg_lock(struct mg_host *host, unsigned lock, struct mg_lock_view *into) {
         return MG_BAD_ARGUMENT;
     memset(into, 0, sizeof *into);
     return status_of(dlm_c_lock(&host->handle, lock, into));
+}
+
+int mg_value(struct mg_host *host, unsigned lock, struct mg_value *into) {
+    if (!host || !into)
+        return MG_BAD_ARGUMENT;
+    memset(into, 0, sizeof *into);
+    return status_of(dlm_c_value(&host->handle, lock, into));
 }
 
 /* A slice of no elements still has a place, and each element is initialized before it is handed on. */

@@ -7,12 +7,13 @@
 import ctypes
 import os
 from contextlib import contextmanager
-from ctypes import POINTER, Structure, byref, c_char_p, c_int, c_int32, c_size_t, c_uint, c_uint32, c_uint64, c_void_p
+from ctypes import POINTER, Structure, byref, c_char_p, c_int, c_int32, c_size_t, c_uint, c_uint8, c_uint32, c_uint64, c_void_p
 
 NL, CR, CW, PR, PW, EX = range(6)
 OK, OUTRUN, TIMED_OUT, NOT_QUEUED, NO_SUCH_LOCK = 0, 6, -2, 16, 12
 NO_QUEUE = 1
 GRANTED = 1
+VALID = 1
 
 
 class Answer(Structure):
@@ -30,6 +31,10 @@ class ClientView(Structure):
     _fields_ = [("request", c_uint64), ("client", c_uint32), ("reply", c_int32), ("refusal", c_int32), ("unused", c_int32)]
 
 
+class Value(Structure):
+    _fields_ = [("bytes", c_uint8 * 16), ("flags", c_uint32)]
+
+
 def load(path=None):
     """The library, with what its calls take and return."""
     lib = ctypes.CDLL(path or os.environ.get("MIDGEGALENA", "libmidgegalena.so.0"))
@@ -39,6 +44,8 @@ def load(path=None):
     lib.mg_close.argtypes, lib.mg_close.restype = [c_void_p], None
     lib.mg_enqueue.argtypes = [c_void_p, c_uint, c_uint64, c_uint, c_int, c_char_p, c_uint, POINTER(Answer)]
     lib.mg_release.argtypes = [c_void_p, c_uint, c_uint64, c_uint, POINTER(Answer)]
+    lib.mg_release_value.argtypes = [c_void_p, c_uint, c_uint64, c_uint, c_char_p, POINTER(Answer)]
+    lib.mg_value.argtypes = [c_void_p, c_uint, POINTER(Value)]
     lib.mg_wait.argtypes = [c_void_p, c_uint, c_int, c_int, POINTER(c_int)]
     lib.mg_refresh.argtypes = [c_void_p, POINTER(c_uint64)]
     lib.mg_locks.argtypes = [c_void_p, POINTER(LockView), c_size_t, POINTER(c_size_t)]
@@ -61,6 +68,7 @@ class Cluster:
     def __init__(self, folder, host, client, library=None):
         self.lib = load(library)
         self.client = client
+        self.left = {}
         self.handle = c_void_p()
         self._check(self.lib.mg_open(os.fsencode(folder), host, byref(self.handle), None))
         # Go on above the client's last request number, and above its lock numbers.
@@ -99,6 +107,17 @@ class Cluster:
     def locks(self):
         return [(v.name.decode(), v.lock, v.client, v.held, v.wanted) for v in self._views(self.lib.mg_locks, LockView, 256)]
 
+    def value(self, lock):
+        """The 16 bytes that are kept with the lock's name, and whether they are valid."""
+        value = Value()
+        self._check(self.lib.mg_value(self.handle, lock, byref(value)))
+        return bytes(value.bytes), bool(value.flags & VALID)
+
+    def leave(self, lock, value):
+        """Has 16 bytes kept with the lock's name once it is released. The lock has to hold PW or EX then."""
+        assert len(value) == 16
+        self.left[lock] = value
+
     def _next_request(self):
         self.request += 1
         return self.request
@@ -109,9 +128,12 @@ class Cluster:
         return next(n for n in range(1 + 200 * self.client, 201 + 200 * self.client) if n not in taken)
 
     def _release(self, lock):
-        request = self._next_request()
+        request, value = self._next_request(), self.left.pop(lock, None)
         try:
-            self._until_done(lambda: self.lib.mg_release(self.handle, self.client, request, lock, None))
+            if value is None:
+                self._until_done(lambda: self.lib.mg_release(self.handle, self.client, request, lock, None))
+            else:
+                self._until_done(lambda: self.lib.mg_release_value(self.handle, self.client, request, lock, value, None))
         except Refused as why:
             if why.status != NO_SUCH_LOCK:
                 raise

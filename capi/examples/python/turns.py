@@ -1,11 +1,12 @@
-"""Two hosts take turns at a lock: one holds it, the other runs into its timeout, and then gets it.
+"""Two hosts take turns at a lock: one holds it, the other runs into its timeout, and then gets it. Then they pass a counter to
+one another.
 
     turns.py LIBRARY FOLDER      an empty folder
 """
 import os
 import sys
 
-from midgegalena import EX, PR, Cluster, Refused, load
+from midgegalena import EX, NL, PR, Cluster, Refused, load
 
 library, folder = sys.argv[1:]
 status = load(library).mg_format(os.fsencode(folder), 3, 64, 7, None)
@@ -25,6 +26,15 @@ with Cluster(folder, host=0, client=1, library=library) as first, Cluster(folder
         with first.lock("db", PR):
             print("both hold", first.locks())
     print("left", second.locks())
+    # The null lock keeps the name, and with it the value.
+    with first.lock("seats", NL):
+        for seller in (first, second, first):
+            with seller.lock("seats", EX) as lock:
+                sold, valid = seller.value(lock)
+                seller.leave(lock, (int.from_bytes(sold, "big") + 1).to_bytes(16, "big"))
+        with second.lock("seats", PR) as lock:
+            sold, valid = second.value(lock)
+            print("sold", int.from_bytes(sold, "big"), "valid" if valid else "perhaps")
     try:
         Cluster(folder, host=1, client=3, library=library)
     except Refused as why:

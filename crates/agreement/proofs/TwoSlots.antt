@@ -2,128 +2,34 @@
 use Rattle.std.proofs.Common.{ℕ, ◌+◌, ◌≡◌, Option, Some, None, List, [], ◌∷◌, ◌++◌, slice_get, refl, subst, ap, inl, lit<, arith}
 use Rattle.agreement.specs.State.{HOSTS}
 use Rattle.agreement.specs.Chosen.{IsChosen, IsEmpty}
-use Rattle.agreement.specs.Log.{Move, MayMove, AllMayMove, IsHistory, moved, none_learned, slots_after}
+use Rattle.agreement.specs.Log.{Move, MayMove, IsHistory, moved, none_learned, slots_after}
 use Rattle.agreement.specs.Log.Move.{At, Crash, Restart}
 use Rattle.agreement.specs.Event.Event.{Starts}
 use Rattle.agreement.specs.Claims.{IsLog}
-use Rattle.agreement.specs.TwoSlots.{confirmed_on, begun_on_disk_2, until_crashed, has_7_chosen, until_learned, until_restarted, recovers_7, until_recovered, finds_nothing, until_empty, has_9_chosen, history}
+use Rattle.agreement.specs.TwoSlots.{confirmed_on, begun_on_disk_2, until_crashed, has_7_chosen, recovers_7, until_recovered, finds_nothing, until_empty, has_9_chosen, history}
 use Rattle.agreement.proofs.Steps.{may_both}
-use Rattle.agreement.proofs.Guards.{reads, keeps, finds_that_of, sees_no_vote, ◌⨟◌}
+use Rattle.agreement.proofs.Guards.{moves_looked_at}
 use Rattle.agreement.proofs.Slots.{no_shorter}
 use Rattle.agreement.proofs.Logging.{log_reached}
 
--- THE PARTS
-
-begun_allowed : AllMayMove 3 none_learned begun_on_disk_2
-begun_allowed =
-    (tt, tt)
-    ⨟ ((refl, sees_no_vote _ _ _ refl refl refl refl refl), tt)
-    ⨟ ((refl, sees_no_vote _ _ _ refl refl refl refl refl), tt)
-    ⨟ ((refl, sees_no_vote _ _ _ refl refl refl refl refl), tt)
-    ⨟ ((refl, refl, lit< tt, lit< tt), tt)
-    ⨟ ((refl, refl, refl), tt)
-    ⨟ tt
-
-seven_allowed : AllMayMove 3 (slots_after until_crashed) has_7_chosen
-seven_allowed =
-    (tt, tt)
-    ⨟ ((refl, refl, refl), tt)
-    ⨟ ((refl, refl, refl), tt)
-    ⨟ ((refl, refl, reads _ _ _ _ _ refl refl, keeps _ _ _ refl), tt)
-    ⨟ ((refl, refl, refl), tt)
-    ⨟ ((refl, refl, refl), tt)
-    ⨟ ((refl, refl, reads _ _ _ _ _ refl refl, keeps _ _ _ refl), tt)
-    ⨟ ((record { asking = refl; majority = lit< tt }, tt), refl)
-    ⨟ ((refl, refl, refl), tt)
-    ⨟ ((refl, refl, refl), tt)
-    ⨟ ((refl, refl, reads _ _ _ _ _ refl refl), tt)
-    ⨟ ((refl, refl, refl), tt)
-    ⨟ ((refl, refl, refl), tt)
-    ⨟ ((refl, refl, reads _ _ _ _ _ refl refl), tt)
-    ⨟ (refl, record { proposed = record { proposal = _; is = refl; value = refl }; majority = lit< tt })
-    ⨟ tt
-
-recovery_allowed : AllMayMove 3 (slots_after until_restarted) recovers_7
-recovery_allowed =
-    (tt, tt)
-    ⨟ ((refl, sees_no_vote _ _ _ refl refl refl refl refl), tt)
-    ⨟ ((refl, sees_no_vote _ _ _ refl refl refl refl refl), tt)
-    ⨟ ((refl, refl, lit< tt, lit< tt), tt)
-    ⨟ ((refl, refl, refl), tt)
-    ⨟ ((refl, refl, refl), tt)
-    ⨟ ((refl, refl, reads _ _ _ _ _ refl refl, finds_that_of 0 _ _ _ (lit< tt) refl refl refl), tt)
-    ⨟ ((refl, refl, refl), tt)
-    ⨟ ((refl, refl, refl), tt)
-    ⨟ ((refl, refl, reads _ _ _ _ _ refl refl, keeps _ _ _ refl), tt)
-    ⨟ ((record { asking = refl; majority = lit< tt }, refl), refl)
-    ⨟ ((refl, refl, refl), tt)
-    ⨟ ((refl, refl, refl), tt)
-    ⨟ ((refl, refl, reads _ _ _ _ _ refl refl), tt)
-    ⨟ ((refl, refl, refl), tt)
-    ⨟ ((refl, refl, refl), tt)
-    ⨟ ((refl, refl, reads _ _ _ _ _ refl refl), tt)
-    ⨟ (refl, record { proposed = record { proposal = _; is = refl; value = refl }; majority = lit< tt })
-    ⨟ tt
-
-empty_allowed : AllMayMove 3 (slots_after until_recovered) (At 1 (Starts 1) ∷ finds_nothing)
-empty_allowed =
-    (tt, tt)
-    ⨟ ((refl, sees_no_vote _ _ _ refl refl refl refl refl), tt)
-    ⨟ ((refl, sees_no_vote _ _ _ refl refl refl refl refl), tt)
-    ⨟ ((refl, refl, lit< tt, lit< tt), tt)
-    ⨟ ((refl, refl, refl), tt)
-    ⨟ ((refl, refl, refl), tt)
-    ⨟ ((refl, refl, reads _ _ _ _ _ refl refl, keeps _ _ _ refl), tt)
-    ⨟ ((refl, refl, refl), tt)
-    ⨟ ((refl, refl, refl), tt)
-    ⨟ ((refl, refl, reads _ _ _ _ _ refl refl, keeps _ _ _ refl), tt)
-    ⨟ tt
-
-nine_allowed : AllMayMove 3 (slots_after until_empty) has_9_chosen
-nine_allowed =
-    (tt, tt)
-    ⨟ ((refl, sees_no_vote _ _ _ refl refl refl refl refl), tt)
-    ⨟ ((refl, sees_no_vote _ _ _ refl refl refl refl refl), tt)
-    ⨟ ((refl, refl, lit< tt, lit< tt), tt)
-    ⨟ ((refl, refl, refl), tt)
-    ⨟ ((refl, refl, refl), tt)
-    ⨟ ((refl, refl, reads _ _ _ _ _ refl refl, keeps _ _ _ refl), tt)
-    ⨟ ((refl, refl, refl), tt)
-    ⨟ ((refl, refl, refl), tt)
-    ⨟ ((refl, refl, reads _ _ _ _ _ refl refl, keeps _ _ _ refl), tt)
-    ⨟ ((record { asking = refl; majority = lit< tt }, tt), refl)
-    ⨟ ((refl, refl, refl), tt)
-    ⨟ ((refl, refl, refl), tt)
-    ⨟ ((refl, refl, reads _ _ _ _ _ refl refl), tt)
-    ⨟ ((refl, refl, refl), tt)
-    ⨟ ((refl, refl, refl), tt)
-    ⨟ ((refl, refl, reads _ _ _ _ _ refl refl), tt)
-    ⨟ (refl, record { proposed = record { proposal = _; is = refl; value = refl }; majority = lit< tt })
-    ⨟ tt
-
--- ONE BEHIND THE OTHER
-
-both : (early late : List (Move ℕ)) → AllMayMove 3 none_learned early → AllMayMove 3 (slots_after early) late → AllMayMove 3 none_learned (early ++ late)
-both = may_both moved (MayMove 3) none_learned
+-- THE HISTORY
 
 -- a crash may leave what is confirmed
 is_crashed : IsHistory 3 until_crashed
-is_crashed = both begun_on_disk_2 crash begun_allowed leaves
+is_crashed = may_both moved (MayMove 3) none_learned begun_on_disk_2 crash (moves_looked_at 3 [] begun_on_disk_2 tt refl) (λ k h. inl refl, tt)
   where
     crash : List (Move ℕ)
     crash = Crash 2 (confirmed_on 2 (slots_after begun_on_disk_2)) ∷ []
 
-    leaves : AllMayMove 3 (slots_after begun_on_disk_2) crash
-    leaves = (λ k h. inl refl, tt)
-
+-- and each other move is looked at
 is_recovered : IsHistory 3 until_recovered
-is_recovered = both until_restarted recovers_7 (both until_learned (Restart 0 ∷ []) (both until_crashed has_7_chosen is_crashed seven_allowed) (tt ⨟ tt)) recovery_allowed
+is_recovered = moves_looked_at 3 until_crashed (has_7_chosen ++ Restart 0 ∷ recovers_7) is_crashed refl
 
 is_empty : IsHistory 3 until_empty
-is_empty = both until_recovered (At 1 (Starts 1) ∷ finds_nothing) is_recovered empty_allowed
+is_empty = moves_looked_at 3 until_recovered (At 1 (Starts 1) ∷ finds_nothing) is_recovered refl
 
 pub is_history : IsHistory 3 history
-is_history = both until_empty has_9_chosen is_empty nine_allowed
+is_history = moves_looked_at 3 until_empty has_9_chosen is_empty refl
 
 -- THE LOG
 

@@ -40,7 +40,7 @@ pub fn submit_in_turn(
     })
 }
 
-/// How a submission ended, and the disks behind it.
+/// How a submission ended, and the disks after it.
 #[derive(Drop)]
 struct Turn {
     done: Result<Acknowledgement, Refusal>,

@@ -1,4 +1,4 @@
-// What hosts over the same images make, each of whose device calls is made at once.
+// What hosts over the same images make together, if each of their device calls takes effect at one moment.
 ghost use Rattle.at_once.specs.AtOnce.{AtOnceMakesARun, RunsAreAtOnce};
 ghost use Rattle.at_once.specs.Deeds.{Marks, Operates, Starts};
 ghost use Rattle.at_once.specs.Disks.{EachGave, GivingServes, SimulatedSteps};
@@ -9,8 +9,8 @@ ghost use Rattle.at_once.specs.Power.{LossesAreCrashes, LossesAreJoined};
 
 use disk::Disk;
 
-/// Where each host does by itself what it may, and each image by itself serves what is done to it, all of it in one order is a run of
-/// the world. So it has one log, and what hosts acknowledge and recover goes by that.
+/// If each host, by itself, does what a host may do, and each image, by itself, serves what is done to it, then all of it in one
+/// order is a run of the world. So it has one log, and what hosts acknowledge and recover agrees with that log.
 ///
 /// An image has a header, and may be longer than its slots need.
 pub fn calls_made_at_once_make_a_run()
@@ -28,27 +28,27 @@ pub fn operations_are_deeds<D: Disk>()
     ensures marks { Marks D.gives }
 {}
 
-/// Each disk of a host by itself gave the answers to the calls on it. Where it made a step of the disk model with each, it has served
-/// them.
+/// Each disk of a host, by itself, gave the answers to the calls on it. If it made a step of the disk model with each answer, it has
+/// served the calls.
 pub fn disks_serve_alone<D: Disk>()
     ensures each { EachGave D.gives }
     ensures serves { GivingServes D.gives D.state }
     ensures simulated { SimulatedSteps }
 {}
 
-/// What hosts have learned and acknowledged, each by its own operations, goes by the one log of what they did at once.
+/// What hosts have learned and acknowledged, each by its own operations, agrees with the one log of all that they did at once.
 pub fn deeds_join_one_log()
     ensures { DeedsAreJoined }
 {}
 
-/// So it goes over losses of power. Each stops all hosts, and keeps of each image what was synced; an image tells the same boot number
-/// after it as before.
+/// The same holds over losses of power. Each stops all hosts, and keeps of each image what was synced. An image has the same boot
+/// number after it as before.
 pub fn losses_of_power_are_crashes()
     ensures crashes { LossesAreCrashes }
     ensures joins { LossesAreJoined }
 {}
 
-/// All of that, of two hosts that work in turn over the same simulated disks: no two commands are acknowledged at one slot.
+/// All of that for two hosts that work in turn over the same simulated disks: no two commands are acknowledged at one slot.
 pub fn hosts_in_turn_agree()
     ensures { TurnsAgree }
 {}

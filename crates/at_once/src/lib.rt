@@ -1,4 +1,4 @@
-//! Hosts over the same images, each of whose device calls is made at once: a run of the world.
+//! Hosts over the same images, whose device calls each take effect at one moment: a run of the world.
 #![tactic(auto)]
 
 mod in_turn;

@@ -24,7 +24,7 @@ ghost use Rattle.attempt_safety.specs.Registers.{IsNext, RegistersAllow};
 ghost use Rattle.attempt_safety.specs.Leads.{IsSameBlock, LeavesOthers, Leads};
 ghost use Rattle.attempt_safety.specs.Slots.{in_slot};
 
-/// Behind any run of the machine an attempt may begin, and with its start the machine follows it.
+/// After any run of the machine an attempt may begin, and from its start on the machine follows it.
 pub fn attempt_begins()
     ensures runs { (s : Setup) (early : List (Event (List ℕ))) →
         IsRun s.disks early → IsRun s.disks (early ++ Starts s.host ∷ []) }
@@ -32,8 +32,8 @@ pub fn attempt_begins()
         Follows s [] (state_after (early ++ Starts s.host ∷ [])) }
 {}
 
-/// Whatever is answered to the call due, where the registers allow it, is at most two events of the
-/// machine, each of them allowed, behind which the machine follows the attempt with that answer.
+/// Any answer to the call that is due, if the registers allow it, is at most two events of the machine.
+/// Each of them is allowed, and after them the machine follows the attempt with that answer.
 pub fn answers_lead()
     ensures { (s : Setup) (early : List (Event (List ℕ))) (heard : List Answered) (x : Answered) →
         IsOfCluster s → IsRun s.disks early → Follows s heard (state_after early) →
@@ -42,7 +42,7 @@ pub fn answers_lead()
         Leads s early heard x }
 {}
 
-/// Where a host stops in the first call of a write, which then has no answer, the write may begin.
+/// If a host stops in the first call of a write, that call has no answer, but the write may begin.
 pub fn torn_writes_begin()
     ensures { (s : Setup) (early : List (Event (List ℕ))) (heard : List Answered)
         (p : Phase) (d : ℕ) → IsRun s.disks early → Follows s heard (state_after early) →

@@ -23,7 +23,7 @@ use torn_block::{
     WriteSteps, read_block,
 };
 
-/// As many as there may be disks.
+/// The most disks of a cluster.
 pub const PLACES: usize = DISKS as usize;
 
 /// What was read of the heartbeat areas, by the disks' numbers.
@@ -57,7 +57,7 @@ pub struct Notes {
 }
 
 impl Notes {
-    /// Of a beat that has heard nothing.
+    /// The notes of a beat that has heard nothing.
     pub fn new(host: u8, disks: u8) -> Notes
         requires host { host < HOSTS }
         requires some { 0 < disks }
@@ -168,7 +168,7 @@ impl Notes {
         }
     }
 
-    // A call of the write succeeded. Behind the last of them the disk is done with.
+    // A call of the write succeeded. After the last one the disk is done.
     fn go_on_writing(&mut self)
         requires sound { IsSound self.old }
         requires going { self.old.end ≡ None }
@@ -184,7 +184,7 @@ impl Notes {
         }
     }
 
-    // The area was read. The counters stay, also where the disk is dropped later.
+    // The area was read. Its counters are kept, even if the disk is dropped later.
     fn take_area(&mut self, area: &[u8; ROW_LENGTH], counters: [u64; HOSTS])
         requires sound { IsSound self.old }
         requires going { self.old.end ≡ None }
@@ -249,7 +249,7 @@ fn own_block(host: u8, area: &[u8; ROW_LENGTH]) -> Block128
     read_block::<ClusterLayout>(&area[place..place + BLOCK_LENGTH])
 }
 
-// What stands where no write is under way: it is put in its place before it is gone by.
+// A placeholder while no write is under way. Each write replaces it before it is used.
 fn no_steps() -> WriteSteps
     ensures { result.size ≡ COPY_LENGTH }
 {

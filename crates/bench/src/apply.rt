@@ -4,7 +4,7 @@ use lock_command::{
     Action, ClientNumber, Command, HostNumber, LockName, LockNumber, RequestNumber,
 };
 use lock_modes::Mode;
-use lock_table::{Reply, Table};
+use lock_table::{Answer, Table};
 use std::alloc::Global;
 
 /// How many clients there are. Each has a lock of its own.
@@ -32,7 +32,7 @@ impl Benchmark for Apply {
             let Some(command) = command_at(place) else {
                 return Err(Failure::Wrong);
             };
-            if let Reply::Refused(_) = self.table.apply(&command) {
+            if let Answer::Refused(_) = self.table.apply(&command).answer {
                 return Err(Failure::Wrong);
             }
         }
@@ -46,7 +46,7 @@ fn stand_all(table: &mut Table) -> Result<(), Failure> {
         let Some(command) = standing_at(place) else {
             return Err(Failure::Wrong);
         };
-        if table.apply(&command) != Reply::Granted {
+        if table.apply(&command).answer != Answer::Granted {
             return Err(Failure::Wrong);
         }
     }
@@ -94,8 +94,9 @@ fn action_at(client: u16, round: u32) -> Option<Action> {
             lock,
             mode: mode_of(client),
             no_queue: false,
+            value: None,
         }),
-        _ => Some(Action::Release(lock)),
+        _ => Some(Action::Release { lock, value: None }),
     }
 }
 

@@ -6,6 +6,6 @@ pub trait Benchmark: Sized + Drop {
     /// All that the work needs.
     fn new(alloc: Global) -> Result<Self, Failure>;
 
-    /// Does it so many times. An operation with a wrong outcome ends it.
+    /// Does the work so many times. An operation with a wrong outcome ends it.
     fn run(&mut self, count: u32) -> Result<(), Failure>;
 }

@@ -5,7 +5,7 @@ use disk::SimDisk;
 use dlm_images::DiskHost;
 use host::Config;
 use lock_command::HostNumber;
-use lock_table::Reply;
+use lock_table::Answer;
 use std::alloc::{AllocError, Global};
 
 /// The submissions of the first path to a host that calls its disk itself: with no lock, no journal and no token.
@@ -34,7 +34,7 @@ impl Benchmark for Direct {
                 return Err(Failure::Wrong);
             };
             match self.host.submit(command, 1) {
-                Ok(done) if !matches!(done.reply, Reply::Refused(_)) => {}
+                Ok(done) if !matches!(done.reply.answer, Answer::Refused(_)) => {}
                 _ => return Err(Failure::Wrong),
             }
         }

@@ -8,7 +8,7 @@ use cluster::{Cluster, Config, HostSeat, Named, OpenGate, Opening};
 use disk::SimDisk;
 use lock_command::{Action, ClientNumber, Command, HostNumber, LockNumber, RequestNumber};
 use lock_modes::Mode;
-use lock_table::Reply;
+use lock_table::Answer;
 use std::alloc::{AllocGlobal, Global};
 use std::marker::Brand;
 use std::sync::Wait;
@@ -110,8 +110,8 @@ fn submit_at<N: Named>(
         return Err(Failure::Wrong);
     }
     let receipt = cluster.submit(rt, seat, &mut OpenGate, command, 1)?;
-    match receipt.reply {
-        Reply::Refused(_) => Err(Failure::Wrong),
+    match receipt.reply.answer {
+        Answer::Refused(_) => Err(Failure::Wrong),
         _ => Ok(()),
     }
 }
@@ -130,7 +130,7 @@ pub fn command_at(host: HostNumber, place: u32) -> Option<Command>
             no_queue: false,
         }
     } else {
-        Action::Release(lock)
+        Action::Release { lock, value: None }
     };
     Some(Command {
         host,

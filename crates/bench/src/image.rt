@@ -4,9 +4,9 @@ ghost use Rattle.paxos_block.specs.Places;
 ghost use Rattle.attempt.specs.History.{Fits};
 ghost use Rattle.phases.specs.Calls.{IsWithin, device_call_of, heard_of};
 
-use disk::{Disk, NoMemory, SimDisk};
+use disk::{NoMemory, SimDisk};
 use paxos_block::image_length;
-use phases::{DeviceCall, Heard};
+use phases::{DeviceCall, Heard, answer_of};
 use std::alloc::Global;
 use torn_block::{ClusterLayout, ROW_LENGTH, SLOTS};
 
@@ -30,23 +30,6 @@ impl Image {
         requires { IsWithin (Places.image_length SLOTS) call.now }
         ensures { Fits (device_call_of call.now) (heard_of result) }
     {
-        match call {
-            DeviceCall::Attach => match self.disk.attach() {
-                Ok(boot) => Heard::Booted(boot),
-                Err(fault) => Heard::Fault(fault),
-            },
-            DeviceCall::Sync { boot } => match self.disk.sync(*boot) {
-                Ok(()) => Heard::Done,
-                Err(fault) => Heard::Fault(fault),
-            },
-            DeviceCall::Read { boot, at } => match self.disk.read(*boot, *at, row) {
-                Ok(()) => Heard::Told(row),
-                Err(fault) => Heard::Fault(fault),
-            },
-            DeviceCall::Write { boot, at, bytes } => match self.disk.write(*boot, *at, bytes) {
-                Ok(()) => Heard::Done,
-                Err(fault) => Heard::Fault(fault),
-            },
-        }
+        answer_of(&mut self.disk, call, row)
     }
 }

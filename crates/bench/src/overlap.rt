@@ -93,7 +93,7 @@ fn time_both<N: Named + Send + Sync, R: Threads + Wait + Clock + Sync>(
     Ok((both(alloc, one, other)?, spent?))
 }
 
-// Asked without a `?` while seats are held, which would have to be dropped there.
+// The callers hold seats. A `?` there would have to drop them, so the `?` is in here.
 fn spent_since<R: Clock>(rt: &R, start: io::Result<Instant>) -> Result<u64, Failure> {
     let spent = start?.elapsed(rt)?;
     Ok(u64::try_from(spent.as_nanos()).unwrap_or(u64::MAX))

@@ -6,7 +6,7 @@ use crate::first_path::command_at;
 use cluster::{Cluster, Config, HostFault, HostSeat, Named, OpenGate, Opening, Receipt, Resumed};
 use disk::SimDisk;
 use lock_command::HostNumber;
-use lock_table::Reply;
+use lock_table::Answer;
 use std::alloc::{AllocError, AllocGlobal, Global};
 use std::marker::Brand;
 use std::sync::Wait;
@@ -99,7 +99,7 @@ fn try_once<R: Wait + AllocGlobal>(
     let before = 1 + recovered + 2 * usize::from(trial.restarts);
     let receipt = came.receipt;
     if receipt.slot != 0
-        || receipt.reply != Reply::Granted
+        || receipt.reply.answer != Answer::Granted
         || receipt.place != before + 51
         || came.marked != DISKS
         || entries != before + 52 + 28 + 2

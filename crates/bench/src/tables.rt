@@ -3,7 +3,7 @@ use lock_command::{
     Action, ClientNumber, Command, HostNumber, LockName, LockNumber, RequestNumber,
 };
 use lock_modes::Mode;
-use lock_table::{Reply, Table};
+use lock_table::{Answer, Table};
 use std::alloc::{AllocGlobal, Global};
 use std::time::{Clock, Instant};
 
@@ -115,7 +115,7 @@ fn stand_all(table: &mut Table, shape: Shape) -> Result<(), Failure> {
         let Some(command) = command_at(shape, Kind::Enqueue, client, place, u64::from(place)) else {
             return Err(Failure::Wrong);
         };
-        if table.apply(&command) != Reply::Granted {
+        if table.apply(&command).answer != Answer::Granted {
             return Err(Failure::Wrong);
         }
     }
@@ -144,7 +144,7 @@ fn together<R: Clock>(
     let few = if kind == Kind::Purge { 1 } else { CLIENTS };
     let start = Instant::now(rt)?;
     for command in &commands[..few] {
-        if let Reply::Refused(_) = table.apply(command) {
+        if let Answer::Refused(_) = table.apply(command).answer {
             return Err(Failure::Wrong);
         }
     }
@@ -179,9 +179,10 @@ fn action_at(shape: Shape, kind: Kind, place: u16) -> Option<Action> {
             lock,
             mode: Mode::ConcurrentWrite,
             no_queue: false,
+            value: None,
         }),
         Kind::Status => Some(Action::Status(lock)),
-        Kind::Release => Some(Action::Release(lock)),
+        Kind::Release => Some(Action::Release { lock, value: None }),
         Kind::Cancel => Some(Action::Cancel(lock)),
         Kind::Purge => Some(Action::Purge(HostNumber::new(1)?)),
     }

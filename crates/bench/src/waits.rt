@@ -5,7 +5,7 @@ use lock_command::{
     Action, ClientNumber, Command, HostNumber, LockName, LockNumber, RequestNumber,
 };
 use lock_modes::Mode;
-use lock_table::{Picture, Reply, Table};
+use lock_table::{Answer, Picture, Table};
 use std::alloc::Global;
 
 /// The names, a letter each.
@@ -47,7 +47,7 @@ fn enqueue_all(table: &mut Table) -> Result<(), Failure> {
         let Some(command) = enqueue_at(place) else {
             return Err(Failure::Wrong);
         };
-        if let Reply::Refused(_) = table.apply(&command) {
+        if let Answer::Refused(_) = table.apply(&command).answer {
             return Err(Failure::Wrong);
         }
     }

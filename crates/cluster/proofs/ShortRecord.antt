@@ -12,8 +12,7 @@ use Rattle.paxos_block.specs.layouts.Saying.{zeros, heading, body_saying, number
 use Rattle.lock_command.specs.declared.command.Command.{Command}
 use Rattle.lock_command.specs.Command.{number}
 use Rattle.lock_command.specs.Reading.{lock_at, request_at, mode_of, name_at, enqueue_at, action_at, command_at}
-use Rattle.lock_table.specs.Apply.{applied}
-use Rattle.lock_table.specs.declared.reply.Reply.TheVariants.{Granted}
+use Rattle.lock_table.specs.Apply.{applied, granted}
 use Rattle.host.specs.Host.{learned_of, reply_after}
 use Rattle.world.specs.Entry.{Filled, Start, Stop, Submit, Recover, Look, Beat, Mark, Called, Torn, Crashed, Lost, is_of}
 use Rattle.world.specs.World.{IsRun}
@@ -60,7 +59,7 @@ all_its : are_of 0 submission ≡ true
 unfolding submission fresh_disk sequence_of body_of number_bytes tail_with copy_in row_said zeros heading body_saying number_at claim_of is_said number lock_at request_at mode_of name_at enqueue_at action_at command_at applied
 all_its = refl
 
-replied : Granted ≡ reply_after [] takes_db
+replied : granted ≡ reply_after [] takes_db
 unfolding submission fresh_disk sequence_of body_of number_bytes tail_with copy_in row_said zeros heading body_saying number_at claim_of is_said number lock_at request_at mode_of name_at enqueue_at action_at command_at applied
 replied = refl
 

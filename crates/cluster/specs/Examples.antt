@@ -1,5 +1,5 @@
 -- What is left of a short cluster: one host over one disk, which submits one command.
-use Rattle.lock_table.specs.declared.reply.Reply.TheVariants.{Granted}
+use Rattle.lock_table.specs.Apply.{granted}
 use Rattle.world.specs.Examples.{takes_db, submission}
 use Rattle.cluster_tie.specs.Parts.{Own, own_of, of_host}
 use Rattle.cluster.specs.declared.receipt.Receipt.{Receipt}
@@ -10,4 +10,4 @@ first_seat = own_of 0 (of_host 0 submission)
 
 -- and the receipt there
 abbrev pub first_receipt : Receipt
-first_receipt = record { host = 0; command = takes_db; slot = 0; reply = Granted; place = 18 }
+first_receipt = record { host = 0; command = takes_db; slot = 0; reply = granted; place = 18 }

@@ -51,7 +51,7 @@ impl<'a, N: Named> Journal<'a, N> {
         ensures causes { IfErr result (λ fault. (fault ≡ HostFault.JournalFull) ⊎ (fault ≡ HostFault.NoMemory)) }
     {
         has_room(&mut self.entries, self.promised)?;
-        // The spelling tells that the numbers of the command are in their ranges.
+        // Called for its contract only: the command's numbers are in their ranges.
         let _spelling = command.encode();
         let host = seat.core.host();
         self.ties.append_host::<E>(&mut self.tie, &mut seat.tie);

@@ -16,8 +16,8 @@ use phases::DeviceCall;
 use std::marker::Model;
 use torn_block::ROW_LENGTH;
 
-/// A disk, and the call on it that the journal does not have yet, where there is one. Of a disk that is larger than an image
-/// contracts see the image, which stands at its start.
+/// A disk, and the call on it that is not in the journal yet, if there is one. If the disk is larger than an image, contracts
+/// see only the image, at its start.
 #[derive(Drop)]
 pub struct DiskBook<N: Named, D: Disk> {
     pub(crate) number: u8,
@@ -84,7 +84,7 @@ impl<N: Named, D: Disk> DiskBook<N, D> {
         requires closed { self.old.open_call ≡ None }
         requires busy { idles (host_in N.shape seat.now) ≡ false }
         requires disk { (due_in N.shape seat.now).0 ≡ self.old.own.number }
-        // From the disk as its entries leave it, by this call and with this answer, to the disk as it is now.
+        // Before the call the disk was what its entries leave. This call, with this answer, made it what it is now.
         ensures made { Makes N.shape seat.now self.new.own.number (answer_in result.outcome self.new.row) (disk_in N.shape self.new.own) self.new.disk }
         ensures was { self.old.disk ≡ disk_in N.shape self.old.own }
         // It is one call of the disk.

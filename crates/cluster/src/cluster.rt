@@ -37,8 +37,8 @@ pub struct Cluster<'a, N: Named, D: Disk> {
 }
 
 impl<'a, N: Named, D: Disk + Drop> Cluster<'a, N, D> {
-    /// Hosts that have not started, over fresh disks: each begins with as many zeros as an image takes, none of them unsynced, and its boot
-    /// number is 1. What stands behind them is not looked at.
+    /// Hosts that have not started, over fresh disks. Each disk begins with as many zeros as an image takes, all of them synced,
+    /// and its boot number is 1. Bytes after those are not looked at.
     pub fn new(
         alloc: Global,
         disks: Vec<D>,

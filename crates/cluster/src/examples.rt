@@ -1,4 +1,4 @@
-// A short record, and what is none: so that what is claimed of every record speaks of something.
+// A short record, and lists that are no record. So what is claimed of every record is not claimed of nothing.
 ghost use Rattle.std.specs.Prelude.{◌≡◌, [], ◌∷◌, ℕ, List, take, slice_get, Some};
 ghost use Rattle.lock_command.specs.declared.command.Command.{Command};
 ghost use Rattle.world.specs.Examples.{one_disk, takes_db, submission};
@@ -23,8 +23,8 @@ pub fn first_record()
     one_log_and_nothing_lost();
 }
 
-/// In that run there is one receipt and no other. Its seat goes by the commands that begin with the one acknowledged, and by
-/// no others.
+/// In that run there is one receipt and no other. The seat agrees with a log if the log begins with the acknowledged command,
+/// and with no other log.
 pub fn first_receipt_stands()
     ensures receipts { receipts_of one_disk first_seat ≡ first_receipt ∷ [] }
     ensures receipt { IsReceipt one_disk submission 0 first_receipt }

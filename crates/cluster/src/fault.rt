@@ -4,7 +4,7 @@ use thiserror::Error;
 /// Why a call on a cluster was refused.
 #[derive(Clone, Copy, Debug, PartialEq, Eq, Error)]
 pub enum HostFault {
-    /// The operation ended so.
+    /// The host's operation was refused, for this reason.
     #[error(transparent)]
     Refused(Refusal),
     /// Memory was refused.

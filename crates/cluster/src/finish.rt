@@ -28,7 +28,8 @@ impl<'a, N: Named, D: Disk + Drop> Cluster<'a, N, D> {
         ensures same { IfOk result (λ r. r.seats.items ≡ seats.items) }
         ensures record { IfOk result (λ r. IsRecord N.shape r.entries.items r.seats.items) }
         ensures cause { IfErr result (λ fault. fault ≡ HostFault.SeatsMissing) }
-        // As far as can be said of what a lock guards: never where all hosts have a seat here.
+        // A clause cannot speak of what a lock guards. So it says that some run has these seats' lists and a started host without a
+        // seat here. That is impossible if all hosts have a seat here.
         ensures missing { IfErr result (λ _. AreNotAll N.shape seats.items) }
     {
         let Cluster {

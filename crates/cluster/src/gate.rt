@@ -4,7 +4,7 @@ pub trait Gate {
     fn before_call(&mut self, call: u64);
 }
 
-/// A gate that stands open.
+/// A gate that does nothing: no call waits.
 #[derive(Drop)]
 pub struct OpenGate;
 

@@ -12,7 +12,7 @@ use std::alloc::Global;
 use std::marker::Model;
 use std::sync::ledger::Blank;
 
-/// The parts of the ledger of promises: more than there can be promises.
+/// How many parts the ledger of promises has: more than can ever be promised at once.
 const PARTS: u64 = 1 << 32;
 
 /// A cluster that has no name yet.
@@ -40,7 +40,7 @@ impl Model for Opening {
     ghost invariant = { λ o. (o.table.disks ≡ o.config.disks) × (MOST < o.promises.parts) };
 }
 
-/// What a cluster needs beside its disks. It is of one name.
+/// What a cluster needs beside its disks, made for the cluster of one name.
 #[derive(Drop)]
 pub struct Foundation<N: Named> {
     pub(crate) config: Config,

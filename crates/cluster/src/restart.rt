@@ -39,7 +39,7 @@ impl<'a, N: Named> Journal<'a, N> {
     {
         has_room_for_two(&mut self.entries, self.promised)?;
         let host = seat.core.host();
-        // Asked for its range alone.
+        // Called for its contract only: it tells the checker the range of the host's number.
         let _number = host.get();
         let (core, acks) = start(alloc, host, self.config)?;
         self.ties.append_host::<S>(&mut self.tie, &mut seat.tie);

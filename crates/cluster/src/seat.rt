@@ -16,7 +16,7 @@ use crate::named::Named;
 use crate::receipt::Receipt;
 use cluster_tie::HostTie;
 use host::{HostAnswer, HostCore};
-use lock_command::{Command, HostNumber};
+use lock_command::{Command, HostNumber, ValueBytes};
 use lock_table::Table;
 use phases::{Heard, Need};
 use std::marker::Model;
@@ -111,7 +111,7 @@ impl<N: Named> HostSeat<N> {
     }
 }
 
-// Hears the answer to the call that is due, which stands in the journal at a place.
+// Hears the answer to the call that is due. Its entry has this place in the journal.
 pub(crate) fn hear(
     core: &mut HostCore,
     acks: &mut Vec<Receipt>,
@@ -131,8 +131,9 @@ pub(crate) fn hear(
     let host = core.host();
     core.hear(heard);
     if let (Some(command), Some(HostAnswer::Ack { slot, reply })) = (submitting, core.answer()) {
-        // The check looks for the types within a command only where one of them is used.
+        // These two lines do nothing when they run. Without them the checker does not load the types inside `Command`, and the proof fails.
         let _action = &command.action;
+        let _no_value: Option<ValueBytes> = None;
         acks.push_reserved(Receipt {
             host,
             command,

@@ -1,5 +1,5 @@
 -- An entry of a part stands in the whole list, at its place.
-use Rattle.std.proofs.Common.{◌≡◌, ℕ, zero, suc, ◌+◌, ◌-◌, ◌≤◌, Bool, true, false, List, [], ◌∷◌, cond, Some, None, slice_get, filter, refl, sym, ap, ◌∙◌, subst, arith}
+use Rattle.std.proofs.Common.{◌≡◌, ℕ, zero, suc, ◌+◌, ◌-◌, ◌≤◌, Bool, true, false, List, [], ◌∷◌, cond, Some, slice_get, filter, refl, ap, ◌∙◌, subst, arith}
 use Rattle.world.specs.Entry.{Filled}
 use Rattle.cluster_tie.specs.Parts.{Placed, belongs, placed, entries}
 

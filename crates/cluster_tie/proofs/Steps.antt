@@ -1,18 +1,18 @@
 -- Each step of a token keeps the rule.
-use Rattle.std.proofs.Common.{◌≡◌, ◌≢◌, ◌⊎◌, ℕ, zero, suc, ◌+◌, ◌-◌, ◌<◌, ◌==◌, List, [], ◌∷◌, ◌++◌, length, map, take, drop, set, cond, Bool, true, false, ◌&&◌, true≢false, refl, sym, ap, ◌∙◌, subst, ⊎_elim, inl, inr, arith, rules, get_or, length-append}
-use Rattle.std.specs.Prelude.{Option, Some, None, slice_index}
+use Rattle.std.proofs.Common.{◌≡◌, ◌≢◌, ◌⊎◌, ℕ, zero, suc, ◌+◌, ◌-◌, ◌<◌, ◌==◌, List, [], ◌∷◌, ◌++◌, length, map, take, drop, set, cond, Bool, true, false, true≢false, refl, sym, ap, ◌∙◌, subst, ⊎_elim, inl, inr, arith, get_or, length-append}
+use Rattle.std.specs.Prelude.{Option, Some, None}
 use mathlib.Core.Option.{some, none, some-ne-none, some-injective}
 use lib.ListN.{get_elem?}
 use Rattle.std.proofs.lemmas.Bool.Decides.{nat_tests}
 use Rattle.std.proofs.lemmas.List.{get_or_push, get_or_append_left}
 use native.Mathlib.Decide.{dec_lt}
-use Rattle.atomic_table.specs.Table.{State, Act, keeps, Me, step, Allows, Splits, Joins}
+use Rattle.atomic_table.specs.Table.{keeps, Me, step, Allows, Splits, Joins}
 use Rattle.atomic_table.proofs.Lists.{at_set, set_again}
 use Rattle.torn_block.specs.declared.layout.TheConstants.{HOSTS}
-use Rattle.world.specs.Entry.{Filled, Start, Stop, Submit, Recover, Look, Beat, Mark, Called, Torn, Crashed, Lost, is_on, is_of}
+use Rattle.world.specs.Entry.{Filled, Lost}
 use Rattle.cluster_tie.specs.Parts.{Placed, belongs, placed, disk_of, host_of, Own, own_of, AreFresh}
 use Rattle.cluster_tie.specs.View.{Part, Known, part, keeper, holder, kept_back, handed, lent, own, parts_from, host_parts, all_parts}
-use Rattle.cluster_tie.specs.Rules.{same_role, Each, IsPartOf, Fits, Kept, Tied, grown, Agrees, Appended, appended, seen}
+use Rattle.cluster_tie.specs.Rules.{same_role, Each, IsPartOf, Fits, Kept, Tied, grown, Agrees, appended, seen}
 
 off : false ≡ true → ⊥
 off e = true≢false (sym e)
@@ -226,102 +226,36 @@ abbrev named : ℕ → Option ℕ → Bool
 named n None = false
 named n (Some k) = k == n
 
-on_named : (n : ℕ) (e : Filled) → is_on n e ≡ named n (disk_of e)
-on_named n (Start h) = refl
-on_named n (Stop h) = refl
-on_named n (Submit h command tries) = refl
-on_named n (Recover h tries) = refl
-on_named n (Look h) = refl
-on_named n (Beat h) = refl
-on_named n (Mark h slot) = refl
-on_named n (Called h k call answer left) = refl
-on_named n (Torn h k call left) = refl
-on_named n (Crashed k left) = refl
-on_named n (Lost k) = refl
+-- the number of the disk, or of the host, that an entry names
+abbrev number_of : Bool → Filled → Option ℕ
+number_of true e = disk_of e
+number_of false e = host_of e
 
-of_named : (n : ℕ) (e : Filled) → is_of n e ≡ named n (host_of e)
-of_named n (Start h) = refl
-of_named n (Stop h) = refl
-of_named n (Submit h command tries) = refl
-of_named n (Recover h tries) = refl
-of_named n (Look h) = refl
-of_named n (Beat h) = refl
-of_named n (Mark h slot) = refl
-of_named n (Called h k call answer left) = refl
-of_named n (Torn h k call left) = refl
-of_named n (Crashed k left) = refl
-of_named n (Lost k) = refl
+-- it belongs there, and nowhere else
+belongs_named : (kind : Bool) (n : ℕ) (e : Filled) → belongs kind n e ≡ named n (number_of kind e)
+belongs_named true n (Lost k) = refl
+belongs_named true n other = refl
+belongs_named false n (Lost k) = refl
+belongs_named false n other = refl
 
-number_of_some : (n k : ℕ) → named n (Some k) ≡ true → k ≡ n
-number_of_some n k e = same_number k n e
+belongs_to : (kind : Bool) {k : ℕ} {xs : List Placed} {o : Own} (n : ℕ) (e : Filled) → own_of k xs ≡ o → number_of kind e ≡ Some o.number → belongs kind n e ≡ true → (kind ≡ kind) × (k ≡ n)
+belongs_to kind {k} n e own is b = (refl, same_number k n (sym (belongs_named kind n e ∙ ap (named n) (is ∙ ap (λ (z : Own). Some z.number) (sym own))) ∙ b))
 
-disk_covered : (e : Filled) (k : ℕ) (xs : List Placed) (ps : List Part) → disk_of e ≡ Some k → (n : ℕ) → belongs true n e ≡ true → HasRole true n (part true k xs ∷ ps)
-disk_covered e k xs ps is n b = inl (refl, number_of_some n k (sym (on_named n e ∙ ap (named n) is) ∙ b))
+belongs_to_none : (kind : Bool) (n : ℕ) (e : Filled) → number_of kind e ≡ None → belongs kind n e ≡ true → ⊥
+belongs_to_none kind n e is b = off (sym (belongs_named kind n e ∙ ap (named n) is) ∙ b)
 
-host_covered : (e : Filled) (h : ℕ) (xs : List Placed) (ps : List Part) → host_of e ≡ Some h → (n : ℕ) → belongs false n e ≡ true → HasRole false n (part false h xs ∷ ps)
-host_covered e h xs ps is n b = inl (refl, number_of_some n h (sym (of_named n e ∙ ap (named n) is) ∙ b))
+-- So the part of this disk and that of this host are all to which an entry of the two belongs; or the one, where it is of one alone.
+pub covers_two : {k h : ℕ} {xs zs : List Placed} {d o : Own} (e : Filled) → own_of k xs ≡ d → own_of h zs ≡ o → (disk_of e ≡ Some d.number) × (host_of e ≡ Some o.number) → Covers e (part true k xs ∷ part false h zs ∷ [])
+covers_two e disk host is true n b = inl (belongs_to true n e disk is.0 b)
+covers_two e disk host is false n b = inr (inl (belongs_to false n e host is.1 b))
 
--- an entry of this disk and this host
-pub covers_two : (e : Filled) (k h : ℕ) (xs zs : List Placed) → disk_of e ≡ Some k → host_of e ≡ Some h → Covers e (part true k xs ∷ part false h zs ∷ [])
-covers_two e k h xs zs is_k is_h true n b = disk_covered e k xs (part false h zs ∷ []) is_k n b
-covers_two e k h xs zs is_k is_h false n b = inr (host_covered e h zs [] is_h n b)
+pub covers_disk : {k : ℕ} {xs : List Placed} {d : Own} (e : Filled) → own_of k xs ≡ d → (disk_of e ≡ Some d.number) × (host_of e ≡ None) → Covers e (part true k xs ∷ [])
+covers_disk e disk is true n b = inl (belongs_to true n e disk is.0 b)
+covers_disk e disk is false n b = absurd (belongs_to_none false n e is.1 b)
 
-not_on : (n : ℕ) (e : Filled) → disk_of e ≡ None → belongs true n e ≡ true → ⊥
-not_on n e is b = off (sym (on_named n e ∙ ap (named n) is) ∙ b)
-
-not_of : (n : ℕ) (e : Filled) → host_of e ≡ None → belongs false n e ≡ true → ⊥
-not_of n e is b = off (sym (of_named n e ∙ ap (named n) is) ∙ b)
-
--- an entry of a disk alone, or of a host alone
-pub covers_disk : (e : Filled) (k : ℕ) (xs : List Placed) → disk_of e ≡ Some k → host_of e ≡ None → Covers e (part true k xs ∷ [])
-covers_disk e k xs is_k is_h true n b = disk_covered e k xs [] is_k n b
-covers_disk e k xs is_k is_h false n b = absurd (not_of n e is_h b)
-
-pub covers_host : (e : Filled) (h : ℕ) (zs : List Placed) → disk_of e ≡ None → host_of e ≡ Some h → Covers e (part false h zs ∷ [])
-covers_host e h zs is_k is_h true n b = absurd (not_on n e is_k b)
-covers_host e h zs is_k is_h false n b = host_covered e h zs [] is_h n b
-
--- its own entry belongs to a part
-grown_disk : (at : ℕ) (e : Filled) (k : ℕ) (xs : List Placed) → disk_of e ≡ Some k → grown at e (part true k xs) ≡ part true k (xs ++ (at, e) ∷ [])
-grown_disk at e k xs is = ap (λ (b : Bool). part true k (xs ++ cond b ((at, e) ∷ []) [])) (on_named k e ∙ ap (named k) is ∙ is_itself k)
-
-grown_host : (at : ℕ) (e : Filled) (h : ℕ) (xs : List Placed) → host_of e ≡ Some h → grown at e (part false h xs) ≡ part false h (xs ++ (at, e) ∷ [])
-grown_host at e h xs is = ap (λ (b : Bool). part false h (xs ++ cond b ((at, e) ∷ []) [])) (of_named h e ∙ ap (named h) is ∙ is_itself h)
-
--- what the append of an entry of a disk and a host leaves
-pub appended_two : (log : List Filled) (k h : ℕ) (xs zs : List Placed) (e : Filled) (m w : Me ℕ Known)
-    → m ≡ (keeper log (part true k xs ∷ part false h zs ∷ []), []) → disk_of e ≡ Some k → host_of e ≡ Some h
-    → Appended e m.0 w.0 × (w.1 ≡ m.1)
-    → (w ≡ (keeper (log ++ e ∷ []) (part true k (xs ++ (length log, e) ∷ []) ∷ part false h (zs ++ (length log, e) ∷ []) ∷ []), [])) × (xs ≡ placed 0 true k log) × (zs ≡ placed 0 false h log)
-appended_two log k h xs zs e m w is is_k is_h t =
-    let at : Appended e (keeper log (part true k xs ∷ part false h zs ∷ [])) w.0 × (w.1 ≡ []) = subst (λ (x : Me ℕ Known). Appended e x.0 w.0 × (w.1 ≡ x.1)) is t in
-    ((λ i. (at.0.0 i, at.1 i)) ∙ (λ i. (keeper (log ++ e ∷ []) (grown_disk (length log) e k xs is_k i ∷ grown_host (length log) e h zs is_h i ∷ []), [])), at.0.1.0, at.0.1.1.0)
-
--- what the append of an entry of a host alone leaves
-pub appended_host : (log : List Filled) (h : ℕ) (zs : List Placed) (e : Filled) (m w : Me ℕ Known)
-    → m ≡ (keeper log (part false h zs ∷ []), []) → host_of e ≡ Some h
-    → Appended e m.0 w.0 × (w.1 ≡ m.1)
-    → (w ≡ (keeper (log ++ e ∷ []) (part false h (zs ++ (length log, e) ∷ []) ∷ []), [])) × (zs ≡ placed 0 false h log)
-appended_host log h zs e m w is is_h t =
-    let at : Appended e (keeper log (part false h zs ∷ [])) w.0 × (w.1 ≡ []) = subst (λ (x : Me ℕ Known). Appended e x.0 w.0 × (w.1 ≡ x.1)) is t in
-    ((λ i. (at.0.0 i, at.1 i)) ∙ (λ i. (keeper (log ++ e ∷ []) (grown_host (length log) e h zs is_h i ∷ []), [])), at.0.1.0)
-
--- what the append of an entry on a disk alone leaves
-pub appended_disk : (log : List Filled) (k : ℕ) (xs : List Placed) (e : Filled) (m w : Me ℕ Known)
-    → m ≡ (keeper log (part true k xs ∷ []), []) → disk_of e ≡ Some k
-    → Appended e m.0 w.0 × (w.1 ≡ m.1)
-    → (w ≡ (keeper (log ++ e ∷ []) (part true k (xs ++ (length log, e) ∷ []) ∷ []), [])) × (xs ≡ placed 0 true k log)
-appended_disk log k xs e m w is is_k t =
-    let at : Appended e (keeper log (part true k xs ∷ [])) w.0 × (w.1 ≡ []) = subst (λ (x : Me ℕ Known). Appended e x.0 w.0 × (w.1 ≡ x.1)) is t in
-    ((λ i. (at.0.0 i, at.1 i)) ∙ (λ i. (keeper (log ++ e ∷ []) (grown_disk (length log) e k xs is_k i ∷ []), [])), at.0.1.0)
-
--- the journal's seat once a part was lent to it
-pub lent_part : (log : List Filled) (ps : List Part) (kind : Bool) (n : ℕ) (xs : List Placed) (jm jm' dm dm' : Me ℕ Known)
-    → jm ≡ (keeper log ps, []) → dm ≡ (own kind n xs, []) → dm' ≡ (handed dm.0, []) → jm' ≡ (lent jm.0 dm'.0, jm.1)
-    → jm' ≡ (keeper log (ps ++ part kind n xs ∷ []), [])
-lent_part log ps kind n xs jm jm' dm dm' is_j is_d is_handed is_lent =
-    let handed_is : dm' ≡ (own kind n xs, []) = is_handed ∙ ap (λ (m : Me ℕ Known). (handed m.0, [])) is_d in
-    is_lent ∙ (λ i. (lent (is_j i).0 (handed_is i).0, (is_j i).1))
+pub covers_host : {h : ℕ} {zs : List Placed} {o : Own} (e : Filled) → own_of h zs ≡ o → (disk_of e ≡ None) × (host_of e ≡ Some o.number) → Covers e (part false h zs ∷ [])
+covers_host e host is true n b = absurd (belongs_to_none true n e is.0 b)
+covers_host e host is false n b = inl (belongs_to false n e host is.1 b)
 
 each_is_part : (kind : Bool) (n count : ℕ) → Each (IsPartOf 0 (λ _ _. 0) []) (parts_from kind n count)
 each_is_part kind n zero = tt

@@ -3,7 +3,8 @@ ghost use Rattle.world.specs.Entry.{Filled};
 ghost use Rattle.world.specs.Entry as world;
 ghost use Rattle.cluster_tie.specs.Parts.{Placed, on_disk, of_host, entries};
 
-/// Each entry of a part stands in the whole list, at its place; and without their places the parts are the world's.
+/// Each entry of a part is in the whole list, at its place. Without the places a part is what the world calls the part of that
+/// disk or host.
 pub fn entries_stand()
     ensures hosts { (h : ℕ) (log : List Filled) (i : ℕ) (x : Placed) → slice_get (of_host h log) i ≡ Some x → slice_get log x.0 ≡ Some x.1 }
     ensures disks { (k : ℕ) (log : List Filled) (i : ℕ) (x : Placed) → slice_get (on_disk k log) i ≡ Some x → slice_get log x.0 ≡ Some x.1 }

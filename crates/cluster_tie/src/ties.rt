@@ -19,8 +19,8 @@ pub struct Ties<N: Naming> {
 }
 
 impl<N: Naming> Ties<N> {
-    /// Puts an entry on a disk and of a host behind the journal's list, and behind those of the disk and the host.
-    /// The three learn that these were parts of the journal's.
+    /// Appends an entry of a host on a disk to the journal's list, to the disk's and to the host's. All three then know that the
+    /// last two were parts of the journal's.
     pub fn append<E: Told>(
         &self,
         journal: &mut JournalTie<N>,
@@ -43,7 +43,7 @@ impl<N: Naming> Ties<N> {
         host.seat = table.split_seat::<Front>(&mut journal.seat);
     }
 
-    /// The same for an entry of a host that is on no disk.
+    /// Appends an entry of a host that is on no disk, in the same way.
     pub fn append_host<E: Told>(&self, journal: &mut JournalTie<N>, host: &mut HostTie<N>)
         requires { (disk_of E.entry ≡ None) × (host_of E.entry ≡ Some host.old.number) }
         ensures journal { journal.new ≡ journal.old ++ E.entry ∷ [] }
@@ -57,7 +57,7 @@ impl<N: Naming> Ties<N> {
         host.seat = shared.split_seat::<Front>(&mut journal.seat);
     }
 
-    /// The same for an entry on a disk that is of no host.
+    /// Appends an entry on a disk that is of no host, in the same way.
     pub fn append_disk<E: Told>(&self, journal: &mut JournalTie<N>, disk: &mut DiskTie<N>)
         requires { (disk_of E.entry ≡ Some disk.old.number) × (host_of E.entry ≡ None) }
         ensures journal { journal.new ≡ journal.old ++ E.entry ∷ [] }

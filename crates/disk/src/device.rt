@@ -8,7 +8,7 @@ use crate::{Boot, DiskFault};
 /// A call under an old boot number is refused `Reset`. Whether a call that is not refused succeeds is open.
 /// Positions are counted in bytes, from 0.
 pub trait Disk {
-    /// The disk, where it tells its bytes.
+    /// The disk with its bytes, if contracts can see them (`tells`).
     ghost state: { Self → DiskState };
 
     /// What is known of every disk. No call changes it.
@@ -50,7 +50,7 @@ pub trait Disk {
         ensures device { device self.new ≡ device self.old }
         ensures gives { gives self.old (Write boot.number at from.now) (done_answer result) self.new };
 
-    /// Makes sure of all that stands on the disk, whoever wrote it.
+    /// Makes all bytes on the disk survive a crash, whoever wrote them.
     fn sync(&mut self, boot: Boot) -> Result<(), DiskFault>
         ensures step { IsTrue (device self.old).tells →
             Step (state self.old) (Sync boot.number) (done_answer result) (state self.new) }
@@ -58,6 +58,6 @@ pub trait Disk {
         ensures device { device self.new ≡ device self.old }
         ensures gives { gives self.old (Sync boot.number) (done_answer result) self.new };
 
-    /// A disk that tells its bytes has the size, boot number and presence that every disk has.
+    /// If contracts can see a disk's bytes, its `state` and its `device` agree on size, boot number and presence.
     ghost told: { (disk : Self) → IsTrue (device disk).tells → device disk ≡ device_of (state disk) };
 }

@@ -27,7 +27,7 @@ pub enum ImageFault {
     /// The file could not be opened, read, made or written.
     #[error("the image cannot be read or written")]
     Unreadable,
-    /// It is right by the layout that images had before, and not by that of today.
+    /// It is a right image of the first layout, which is used no more.
     #[error("the image has the old layout")]
     OldLayout,
 }

@@ -145,7 +145,7 @@ where
     Ok((file, size))
 }
 
-/// The length in bytes. A block device tells it by its end alone.
+/// The length in bytes. For a block device a seek to its end is the only way to find it.
 fn length_of<F: OpenFile + Seek>(file: &mut F) -> io::Result<u64> {
     if is_block_device(file) {
         return file.seek(SeekFrom::End(0));
@@ -160,10 +160,10 @@ fn is_block_device<F: OpenFile>(file: &F) -> bool {
     }
 }
 
-/// Reads each part until two reads in a row tell the same bytes, and tells whether they did.
+/// Reads each part until two reads in a row give the same bytes. Returns whether they did.
 ///
-/// A read that another process's write overlaps may tell some bytes from before that write and some from after it. What two
-/// reads tell alike stood there between them.
+/// A read that overlaps another process's write may give some bytes from before that write and some from after it. Bytes
+/// that two reads agree on were there between the two reads.
 fn read_settled<F: FileExt>(file: &F, into: &mut [u8], at: u64) -> bool {
     let mut place = at;
     for part in into.chunks_mut(PART) {
@@ -200,7 +200,7 @@ impl<F: FileExt + OpenFile + Drop> Disk for FileDisk<F> {
     ghost use Rattle.disk.specs.FileStates.{FileGives, untold};
     ghost use Rattle.disk.specs.Simulated.{fresh_disk};
 
-    // A file does not tell its bytes, so this says nothing.
+    // Contracts cannot see the bytes of a file. So `tells` is false below, and this state is never looked at.
     ghost state = { λ d. fresh_disk 0 };
 
     ghost device = { λ d. record { tells = false; size = d.size; boot = 1; gone = false } };
@@ -255,7 +255,7 @@ impl<F: FileExt + OpenFile + Drop> Disk for FileDisk<F> {
         if done {
             return Ok(());
         }
-        // The system may now hold bytes for written that are not, and no later sync would tell.
+        // The system may now count bytes as written that are not, and no later sync would report it. So the file is used no more.
         self.file = None;
         Err(self.fail())
     }

@@ -11,8 +11,8 @@ pub fn calls_keep_the_shape()
         HasShape size disk → WritesOn disk call → Step disk call answer new → HasShape size new }
 {}
 
-/// What happens among the first positions of a disk happens in the same way to a disk of just these. So a disk may be larger than what is
-/// used of it.
+/// What happens among the first positions of a disk would happen in the same way to a disk that has only these. So a disk may be
+/// larger than what is used of it.
 pub fn larger_disks_serve()
     ensures fresh { (n size : ℕ) → n ≤ size → cut n (fresh_disk size) ≡ fresh_disk n }
     ensures first { (n : ℕ) (disk : DiskState) → cut n disk ≡ fresh_disk n → HasFirst n disk }

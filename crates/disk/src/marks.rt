@@ -1,6 +1,6 @@
-// Which positions of a simulated disk are unsynced, a bit for each. The bits of a word count where its stamp is the
-// present epoch. So a write changes the words of its own range, and a sync is one step of the epoch, however large the
-// disk is and however much was written.
+// Which positions of a simulated disk are unsynced, a bit for each. The bits of a word count only while its stamp is the
+// present epoch. So a write changes only the words of its own range. A sync only raises the epoch, however large the disk
+// is and however much was written.
 ghost use Rattle.std.specs.Prelude.{◌≡◌, ◌-◌, ◌*◌, ◌≤◌, ℕ, true, false, length, replicate, All};
 ghost use Rattle.disk.specs.Disk.{put_at};
 ghost use Rattle.disk.specs.Marks.{marks};
@@ -24,8 +24,8 @@ pub fn mark(words: &mut Vec<Word>, at: usize, end: usize, epoch: u64)
     }
 }
 
-/// The epoch after this one, which no stamp is: nothing is marked. Where the numbers are spent, all words are set back
-/// first: that is once in 2^64 - 2 times.
+/// The next epoch. No stamp has it, so nothing is marked. After the last number the epoch starts again, and all words are
+/// cleared: that happens once in 2^64 - 2 times.
 pub fn next_epoch(words: &mut Vec<Word>, epoch: u64) -> u64
     requires { All (λ w. w.stamp ≤ epoch) words.old.items }
     ensures none { (size : ℕ) → marks result words.new.items size ≡ replicate size false }

@@ -9,11 +9,11 @@ use crate::{Boot, Disk, DiskFault, NoMemory};
 use std::alloc::Global;
 use std::marker::Model;
 
-/// A disk whose boot number has come to this crashes no more.
+/// A disk whose boot number has reached this one crashes no more.
 const LAST_BOOT: u64 = 1 << 62;
 
-/// A disk in memory, which fails, tears, crashes and is lost when it is told to. No call after `new` takes memory, and
-/// none but `crash` does work that grows with the disk.
+/// A disk in memory, which fails, tears, crashes and is lost when a test or a script says so. No call after `new` takes
+/// memory. Only `crash` does work that grows with the disk.
 ///
 /// Where a list of bytes fills positions, the i-th of them in rising order, from 0, takes byte `i mod len` of the list.
 #[derive(Drop)]
@@ -138,7 +138,7 @@ impl SimDisk {
 }
 
 impl SimDisk {
-    // What stands in the way of a call under this boot number.
+    // Why a call under this boot number is refused, if it is.
     fn refusal(&self, boot: u64) -> Option<DiskFault>
         ensures { result ≡ refusal_under self.now.disk boot }
     {
@@ -183,7 +183,7 @@ impl Disk for SimDisk {
 
     ghost failures = { λ d. d.failures };
 
-    // Which disk is left and what is answered follow from the disk and the call.
+    // The disk and the call decide what is answered and what the disk is afterwards.
     ghost gives = { λ old call answer new. (new, answer) ≡ outcome old call };
 
     ghost told = { λ d tells. refl };

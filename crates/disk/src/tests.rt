@@ -43,7 +43,7 @@ fn failing_write_leaves_the_given_bytes(rt: HostRuntime) -> Result<(), Fail> {
     Ok(())
 }
 
-// Their contracts are what they are for.
+// These functions do nothing when they run: their contracts are theorems.
 #[test]
 fn laws(_rt: HostRuntime) {
     calls_keep_the_shape();

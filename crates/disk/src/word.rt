@@ -1,12 +1,12 @@
 ghost use Rattle.std.specs.Prelude.{◌≡◌, ◌-◌, ◌<◌, ◌≤◌, ◌^◌, ℕ, true};
 ghost use Rattle.disk.specs.Marks.{counted, is_marked_in};
 
-/// Sixty-four positions in turn. Those whose bit is set are marked where the stamp is the present epoch; where it is an
-/// earlier one, none is.
+/// Sixty-four positions in turn. If the stamp is the present epoch, the positions whose bit is set are marked. If it is an
+/// earlier epoch, none is marked.
 #[derive(Clone, Copy)]
 pub struct Word {
     pub stamp: u64,
-    /// By the place in the word, from the lowest bit on.
+    /// A bit for each position, the first position in the lowest bit.
     pub bits: u64,
 }
 

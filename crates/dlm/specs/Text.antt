@@ -1,17 +1,19 @@
 -- The printed text of what hosts answer.
-use Rattle.std.specs.Prelude.{ℕ, List, ◌++◌, codes, decimal, Option, Some, None}
+use Rattle.std.specs.Prelude.{ℕ, List, ◌++◌, codes, decimal, Option, Some, None, if◌then◌else◌}
 use Rattle.lock_modes.specs.declared.mode.Mode.{Mode}
 use Rattle.lock_table.specs.declared.record.LockState.{LockState}
 use Rattle.lock_table.specs.declared.record.LockState.TheVariants.{Granted as Holding, Converting, Waiting}
+use Rattle.lock_table.specs.declared.reply.Answer as done
+use Rattle.lock_table.specs.declared.reply.LockValue.{LockValue}
 use Rattle.lock_table.specs.declared.reply.Reply.{Reply}
-use Rattle.lock_table.specs.declared.reply.Reply.TheVariants.{Granted, Queued, Released, Cancelled, Purged, State, Refused}
+use Rattle.lock_table.specs.declared.reply.Answer.TheVariants.{Granted, Queued, Released, Cancelled, Purged, State, Refused}
 use Rattle.lock_table.specs.declared.reply.Refusal as table
 use Rattle.lock_table.specs.declared.reply.Refusal.TheVariants.{LockInUse, NoSuchLock, NotOwner, AlreadyConverting, StillWaiting, NotQueued, TableFull, Stale, ClientsFull, NothingToCancel}
 use Rattle.slot_log.specs.declared.outcome.Refusal as operation
 use Rattle.slot_log.specs.declared.outcome.Refusal.TheVariants.{Outrun, NoMajority, BallotsSpent, LogFull, NotACommand, NotLearned}
 use Rattle.host.specs.declared.answer.HostAnswer.{HostAnswer}
 use Rattle.host.specs.declared.answer.HostAnswer.TheVariants.{Ack, Recovered, Looked, Beaten, Marked, Refused as Ended}
-use Rattle.inspect.specs.Text.{mode_name}
+use Rattle.inspect.specs.Text.{mode_name, is_zeros, value_text}
 use Rattle.cluster.specs.declared.fault.HostFault.{HostFault}
 use Rattle.cluster.specs.declared.fault.HostFault.TheVariants as fault
 use Rattle.race.specs.declared.answer.Answer.{Answer}
@@ -46,15 +48,30 @@ table_refusal_text Stale = codes "18 Stale"
 table_refusal_text ClientsFull = codes "19 ClientsFull"
 table_refusal_text NothingToCancel = codes "20 NothingToCancel"
 
+-- the modes of a lock
+abbrev pub modes_text : LockState → List ℕ
+modes_text state = codes "held=" ++ mode_text (held_mode state) ++ codes ", wanted=" ++ mode_text (wanted_mode state)
+
+-- zeros that are valid are not told
+abbrev pub told_value : Option LockValue → Option LockValue
+told_value None = None
+told_value (Some value) = if is_zeros value then None else Some value
+
+-- what a command did, and the value that is told of it
+abbrev pub done_text : done.Answer → Option LockValue → List ℕ
+done_text Granted None = codes "Granted"
+done_text Granted (Some value) = codes "Granted(" ++ value_text value ++ codes ")"
+done_text Queued value = codes "Queued"
+done_text Released value = codes "Released"
+done_text Cancelled value = codes "Cancelled"
+done_text (Purged count) value = codes "Purged(" ++ decimal count ++ codes ")"
+done_text (State state) None = codes "State(" ++ modes_text state ++ codes ")"
+done_text (State state) (Some value) = codes "State(" ++ modes_text state ++ codes ", value=" ++ value_text value ++ codes ")"
+done_text (Refused refusal) value = table_refusal_text refusal
+
 -- what the lock table replies
 abbrev pub reply_text : Reply → List ℕ
-reply_text Granted = codes "Granted"
-reply_text Queued = codes "Queued"
-reply_text Released = codes "Released"
-reply_text Cancelled = codes "Cancelled"
-reply_text (Purged count) = codes "Purged(" ++ decimal count ++ codes ")"
-reply_text (State state) = codes "State(held=" ++ mode_text (held_mode state) ++ codes ", wanted=" ++ mode_text (wanted_mode state) ++ codes ")"
-reply_text (Refused refusal) = table_refusal_text refusal
+reply_text reply = done_text reply.answer (told_value reply.value)
 
 -- the numbers and names of the refusals that end an operation
 abbrev pub refusal_text : operation.Refusal → List ℕ

@@ -5,7 +5,7 @@ use crate::reply_text::ReplyText;
 use host::{HostAnswer, Refusal};
 use std::fmt;
 
-/// What a host answered, as it is printed behind the host.
+/// What a host answered, as it is printed after the host's number.
 #[derive(Clone, Copy)]
 pub struct AnswerText(pub HostAnswer);
 

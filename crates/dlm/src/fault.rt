@@ -29,7 +29,7 @@ pub enum Fault {
     /// The number of an image with another header than it should have.
     #[error("25 WrongHeader disk{0}")]
     WrongHeader(u8),
-    /// Of a script.
+    /// The script cannot be read.
     #[error("26 Unreadable")]
     Unreadable,
     /// The number of an image that cannot be opened, read, made or written.
@@ -41,15 +41,15 @@ pub enum Fault {
     SeatsMissing,
     #[error("29 AlreadyThere")]
     AlreadyThere,
-    /// The number of the first run of a sweep that went by no log, from 0.
+    /// The number of the first wrong run of a sweep, from 0: its answers do not fit the log that was recovered.
     #[error("31 WrongRun {0}")]
     WrongRun(usize),
-    /// The number of an image that is right by the layout that images had before.
+    /// The number of an image that has the first layout, and no other fault.
     #[error("32 OldLayout disk{0}")]
     OldLayout(u8),
     #[error("35 OpenCall")]
     OpenCall,
-    /// The number of a host that somebody else works under.
+    /// The number of a host under which somebody else works.
     #[error("36 HostInUse host{0}")]
     HostInUse(u8),
     /// The number of a host that could not be locked.

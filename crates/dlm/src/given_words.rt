@@ -32,7 +32,7 @@ pub fn host_of(word: &str) -> Result<HostNumber, WordsFault> {
     }
 }
 
-/// The last of so many hosts.
+/// The highest host number, where the word says how many hosts there are.
 pub fn last_host_of(word: &str) -> Result<HostNumber, WordsFault> {
     match HostNumber::new((number(word, 1, HOSTS as u64)? - 1) as u8) {
         Some(last) => Ok(last),
@@ -50,11 +50,11 @@ fn number(word: &str, least: u64, most: u64) -> Result<u64, WordsFault>
     }
 }
 
-/// The command that the words are, as behind `submit` in a script.
+/// The command that the words spell, as after `submit` in a script.
 pub fn command_of(alloc: Global, host: HostNumber, words: &[&str]) -> Result<Command, WordsFault> {
     let mut text = Vec::new(alloc);
     for (place, word) in words.iter().enumerate() {
-        // A script parts its words by spaces, so none of them has one.
+        // A script separates its words by spaces, so no word has a space in it.
         if word.as_bytes().contains(&b' ') {
             return Err(WordsFault::BadCommand);
         }

@@ -23,7 +23,7 @@ use std::time::Clock;
 /// How often an operation may be outrun.
 const TRIES: u8 = 8;
 
-/// Makes the images of a cluster in a folder, and tells so.
+/// Makes the images of a cluster in a folder, and prints that it has.
 pub fn format<R: Files + AllocGlobal, O: Write>(
     rt: &R,
     folder: &str,
@@ -42,7 +42,7 @@ where
     Ok(())
 }
 
-/// Submits a command over the images of a folder, and prints where it stands and what the lock table replied.
+/// Submits a command over the images of a folder, and prints its slot and what the lock table replied.
 pub fn submit<R: Files + Clock + RandomSource + AllocGlobal, O: Write>(
     rt: &R,
     folder: &str,
@@ -56,7 +56,7 @@ where
     match submit_patiently(rt, &mut host, command, TRIES) {
         Ok(done) => {
             print_ack(done, out)?;
-            // The command stands in the log whether or not that comes to its end.
+            // The command is in the log whether or not the marking succeeds.
             let _ = host.mark(done.slot);
             Ok(())
         }
@@ -93,7 +93,7 @@ where
     R::File: FileExt + OpenFile + TryLock + Drop,
 {
     let (mut host, _lock) = host_over(rt, folder, host)?;
-    // What marks tell need not be marked again. Where the look is refused, the recovery tells why.
+    // Look first: a slot that the look learns from a mark need not be marked again. If the look is refused, the recovery says why.
     let _ = host.look();
     match host.recover_and_mark(TRIES) {
         Ok(log) => print_marked(log, out),

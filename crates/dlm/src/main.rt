@@ -12,6 +12,7 @@ mod racing;
 mod reply_text;
 mod run;
 mod sweeping;
+mod value_text;
 mod words;
 
 use dlm_images::TryLock;

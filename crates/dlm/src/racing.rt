@@ -45,7 +45,7 @@ fn print_answer<O: Write>(host: usize, answer: Answer, out: &mut O) -> io::Resul
     writeln!(out, "host {host} {answer}")
 }
 
-/// What a host of a race is answered, as it is printed behind the host.
+/// What a host of a race is answered, as it is printed after the host's number.
 #[derive(Clone, Copy)]
 struct RaceText(Answer);
 

@@ -2,7 +2,8 @@ ghost use Rattle.std.specs.Prelude.{◌≡◌};
 ghost use Rattle.dlm.specs.Text.{held_mode, wanted_mode, table_refusal_text};
 
 use crate::mode_text::ModeText;
-use lock_table::{LockState, Refusal, Reply};
+use crate::value_text::{ValueText, told_value};
+use lock_table::{Answer, LockState, Refusal, Reply};
 use std::fmt;
 
 /// A reply of the lock table.
@@ -16,17 +17,23 @@ impl fmt::Display for ReplyText {
     ghost output = { λ r. Some (reply_text r.0) };
 
     fn fmt<W: fmt::Write>(&self, f: &mut fmt::Formatter<W>) -> fmt::Result {
-        match self.0 {
-            Reply::Granted => f.write_str("Granted"),
-            Reply::Queued => f.write_str("Queued"),
-            Reply::Released => f.write_str("Released"),
-            Reply::Cancelled => f.write_str("Cancelled"),
-            Reply::Purged(count) => write!(f, "Purged({count})"),
-            Reply::State(state) => {
+        match (self.0.answer, told_value(self.0.value)) {
+            (Answer::Granted, None) => f.write_str("Granted"),
+            (Answer::Granted, Some(value)) => write!(f, "Granted({})", ValueText(value)),
+            (Answer::Queued, _) => f.write_str("Queued"),
+            (Answer::Released, _) => f.write_str("Released"),
+            (Answer::Cancelled, _) => f.write_str("Cancelled"),
+            (Answer::Purged(count), _) => write!(f, "Purged({count})"),
+            (Answer::State(state), None) => {
                 let (held, wanted) = modes_of(state);
                 write!(f, "State(held={held}, wanted={wanted})")
             }
-            Reply::Refused(refusal) => f.write_str(refusal_text(refusal)),
+            (Answer::State(state), Some(value)) => {
+                let (held, wanted) = modes_of(state);
+                let value = ValueText(value);
+                write!(f, "State(held={held}, wanted={wanted}, value={value})")
+            }
+            (Answer::Refused(refusal), _) => f.write_str(refusal_text(refusal)),
         }
     }
 }

@@ -55,7 +55,7 @@ pub enum Task<'a> {
 #[derive(Clone, Copy, Debug, PartialEq, Eq)]
 pub enum WordsFault {
     Usage,
-    /// The words of a command are none.
+    /// The words are no command.
     BadCommand,
     NoMemory,
 }
@@ -105,7 +105,7 @@ pub fn task_of<'a>(alloc: Global, words: &'a [&'a str]) -> Result<Task<'a>, Word
     }
 }
 
-/// Whether `-` stands before a `--`: the parser would take it for a word that begins with no dash.
+/// Whether a word is `-`, before any `--`. The parser would accept it as an ordinary word.
 fn has_lone_dash(words: &[&str]) -> bool {
     words
         .iter()
@@ -130,7 +130,7 @@ fn program<'a>(alloc: Global) -> Result<clap::Command<'a>, AllocError> {
     with(program, sweep_command(alloc))
 }
 
-// The program with one subcommand more. Here alone a command is held where there is no memory for the next one.
+// The program with one subcommand more. If there was no memory for that one, `program` is dropped here and nowhere else.
 fn with<'a>(
     program: clap::Command<'a>,
     subcommand: Result<clap::Command<'a>, AllocError>,

@@ -1,12 +1,14 @@
 -- The numbers that C is told: those of the printed text, where it has one.
-use Rattle.std.specs.Prelude.{ℕ, ℤ, pos, negsuc}
+use Rattle.std.specs.Prelude.{ℕ, ℤ, pos, negsuc, if◌then◌else◌}
 use Rattle.lock_modes.specs.declared.mode.Mode.{Mode}
 use Rattle.lock_modes.specs.declared.mode.Mode.TheVariants.{Null, ConcurrentRead, ConcurrentWrite, ProtectedRead, ProtectedWrite, Exclusive}
 use Rattle.lock_table.specs.declared.record.LockState.{LockState}
 use Rattle.lock_table.specs.declared.record.LockState.TheVariants.{Granted as Holding, Converting, Waiting}
+use Rattle.lock_table.specs.declared.reply.Answer as table
+use Rattle.lock_table.specs.declared.reply.LockValue.{LockValue}
 use Rattle.lock_table.specs.declared.reply.Reply.{Reply}
-use Rattle.lock_table.specs.declared.reply.Reply.TheVariants.{Granted, Queued, Released, Cancelled, Purged, State, Refused}
-use Rattle.lock_table.specs.declared.reply.Refusal as table
+use Rattle.lock_table.specs.declared.reply.Answer.TheVariants.{Granted, Queued, Released, Cancelled, Purged, State, Refused}
+use Rattle.lock_table.specs.declared.reply.Refusal as refused
 use Rattle.lock_table.specs.declared.reply.Refusal.TheVariants.{LockInUse, NoSuchLock, NotOwner, AlreadyConverting, StillWaiting, NotQueued, TableFull, Stale, ClientsFull, NothingToCancel}
 use Rattle.slot_log.specs.declared.outcome.Refusal as operation
 use Rattle.slot_log.specs.declared.outcome.Refusal.TheVariants.{Outrun, NoMajority, BallotsSpent, LogFull, NotACommand, NotLearned}
@@ -15,6 +17,7 @@ use Rattle.disk.specs.declared.fault.ImageFault.TheVariants.{NotFormatted, Wrong
 use Rattle.dlm_c.specs.declared.answer.Answer.{Answer}
 use Rattle.dlm_c.specs.declared.fault.Fault.{Fault}
 use Rattle.dlm_c.specs.declared.fault.Fault.TheVariants as fault
+use Rattle.dlm_c.specs.declared.view.ValueView.{ValueView}
 
 -- what is done
 abbrev pub done : ℤ
@@ -54,7 +57,7 @@ operation_number NotACommand = pos 10
 operation_number NotLearned = pos 30
 
 -- a refusal of the lock table
-abbrev pub table_number : table.Refusal → ℤ
+abbrev pub table_number : refused.Refusal → ℤ
 table_number LockInUse = pos 11
 table_number NoSuchLock = pos 12
 table_number NotOwner = pos 13
@@ -96,33 +99,56 @@ wanted_number (Holding mode) = no_mode
 wanted_number (Converting held wanted) = mode_number wanted
 wanted_number (Waiting wanted) = mode_number wanted
 
+-- a value, and the flag of one that is valid
+abbrev pub value_of : LockValue → ValueView
+value_of value = record { bytes = value.bytes; flags = if value.valid then 1 else 0 }
+
 -- what is told of a command that was not acknowledged
 abbrev pub no_answer : Answer
 no_answer = record { slot = negsuc 0; reply = pos 0; purged = 0; held = no_mode; wanted = no_mode; count = 0 }
 
--- a reply that tells neither a count nor a state
-abbrev pub plain_answer : ℕ → ℤ → Answer
-plain_answer at reply = record { slot = pos at; reply = reply; purged = 0; held = no_mode; wanted = no_mode; count = 0 }
+-- the number of what a command did
+abbrev pub reply_number : table.Answer → ℤ
+reply_number Granted = pos 1
+reply_number Queued = pos 2
+reply_number Released = pos 3
+reply_number Cancelled = pos 4
+reply_number (Purged count) = pos 5
+reply_number (State state) = pos 6
+reply_number (Refused refusal) = pos 7
+
+-- how many locks a command took away
+abbrev pub purged_by : table.Answer → ℕ
+purged_by (Purged count) = count
+purged_by answer = 0
+
+-- the modes of the state that a command asked for
+abbrev pub held_by : table.Answer → ℤ
+held_by (State state) = held_number state
+held_by answer = no_mode
+
+abbrev pub wanted_by : table.Answer → ℤ
+wanted_by (State state) = wanted_number state
+wanted_by answer = no_mode
 
 -- what is told of a command that is acknowledged at this slot with this reply
 abbrev pub answer_of : ℕ → Reply → Answer
-answer_of at Granted = plain_answer at (pos 1)
-answer_of at Queued = plain_answer at (pos 2)
-answer_of at Released = plain_answer at (pos 3)
-answer_of at Cancelled = plain_answer at (pos 4)
-answer_of at (Purged count) = record { slot = pos at; reply = pos 5; purged = count; held = no_mode; wanted = no_mode; count = 0 }
-answer_of at (State state) = record { slot = pos at; reply = pos 6; purged = 0; held = held_number state; wanted = wanted_number state; count = 0 }
-answer_of at (Refused refusal) = plain_answer at (pos 7)
+answer_of at reply = record {
+  slot = pos at;
+  reply = reply_number reply.answer;
+  purged = purged_by reply.answer;
+  held = held_by reply.answer;
+  wanted = wanted_by reply.answer;
+  count = 0;
+}
 
 -- and what the call returns then
+abbrev pub refusal_number : table.Answer → ℤ
+refusal_number (Refused refusal) = table_number refusal
+refusal_number answer = done
+
 abbrev pub status_of : Reply → ℤ
-status_of Granted = done
-status_of Queued = done
-status_of Released = done
-status_of Cancelled = done
-status_of (Purged count) = done
-status_of (State state) = done
-status_of (Refused refusal) = table_number refusal
+status_of reply = refusal_number reply.answer
 
 -- a fault of an image
 abbrev pub image_number : ImageFault → ℤ

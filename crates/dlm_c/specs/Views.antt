@@ -3,14 +3,15 @@ use Rattle.std.specs.Prelude.{◌<◌, ◌-◌, ◌⊎◌, ℕ, ℤ, List, Some,
 use Rattle.lock_table.specs.declared.record.LockRecord.{LockRecord}
 use Rattle.lock_table.specs.declared.record.KnownClient.{KnownClient}
 use Rattle.lock_command.specs.declared.command.Command.{Command}
-use Rattle.lock_table.specs.Apply.{Plain, table_after}
-use Rattle.lock_table.specs.Picture.{IsPictureOf}
+use Rattle.lock_table.specs.Apply.{table_after}
+use Rattle.lock_table.specs.Picture.{IsPictureOf, Shown}
 use Rattle.inspect.specs.Text.{queues_text}
 use Rattle.dlm_c.specs.declared.session.Session.{Session}
 use Rattle.dlm_c.specs.declared.view.HostView.{HostView}
 use Rattle.dlm_c.specs.declared.view.LockView.{LockView}
 use Rattle.dlm_c.specs.declared.view.ClientView.{ClientView}
-use Rattle.dlm_c.specs.Numbers.{done, no_such_lock, no_memory, held_number, wanted_number, answer_of, status_of}
+use Rattle.dlm_c.specs.declared.view.ValueView.{ValueView}
+use Rattle.dlm_c.specs.Numbers.{done, no_such_lock, no_memory, held_number, wanted_number, answer_of, status_of, value_of}
 
 -- The view shows this host, and how much it has learned.
 pub record ShowsHost (view : HostView) (session : Session) : Type 0 where
@@ -43,25 +44,34 @@ pub record IsAt (locks : List LockRecord) (number at : ℕ) (found : LockRecord)
 
 -- The view shows the lock of this number, which is in the table after these commands.
 pub record FindsLock (learned : List Command) (number : ℕ) (view : LockView) : Type 0 where
-  pub picture : Plain
+  pub picture : Shown
   pub of_table : IsPictureOf picture (table_after learned)
   pub at : ℕ
   pub found : LockRecord
   pub is : IsAt picture.locks number at found
   pub shown : ShowsLock view found
 
+-- The view shows the value of the name of the lock of this number, in the table after these commands.
+pub record FindsValue (learned : List Command) (number : ℕ) (view : ValueView) : Type 0 where
+  pub picture : Shown
+  pub of_table : IsPictureOf picture (table_after learned)
+  pub at : ℕ
+  pub found : LockRecord
+  pub is : IsAt picture.locks number at found
+  pub shown : view ≡ value_of ((table_after learned).values found.name)
+
 -- The table after these commands has no lock of this number.
 pub record LacksLock (learned : List Command) (number : ℕ) : Type 0 where
-  pub picture : Plain
+  pub picture : Shown
   pub of_table : IsPictureOf picture (table_after learned)
   pub none : (at : ℕ) (found : LockRecord) → IsAt picture.locks number at found → ⊥
 
 -- The buffer begins with the printed text of the table after these commands, as much as it has room for, and this is how long that is.
 pub record ShowsText (learned : List Command) (old new : List ℕ) (size : ℕ) : Type 0 where
-  pub picture : Plain
+  pub picture : Shown
   pub of_table : IsPictureOf picture (table_after learned)
-  pub sized : size ≡ length (queues_text picture.locks)
-  pub shown : new ≡ take (min size (length old)) (queues_text picture.locks) ++ drop (min size (length old)) old
+  pub sized : size ≡ length (queues_text picture)
+  pub shown : new ≡ take (min size (length old)) (queues_text picture) ++ drop (min size (length old)) old
 
 -- the first views show these records, as many as there are below this number
 abbrev pub ShowBelow : {V R : Type 0} → (V → R → Type 0) → List V → List R → ℕ → Type 0
@@ -69,14 +79,14 @@ ShowBelow {V} {R} Shows views records n = (k : ℕ) (view : V) (r : R) → k < n
 
 -- The buffer begins with the locks of the table after these commands, as many as it has room for, and this is how many there are.
 pub record ShowsLocks (learned : List Command) (views : List LockView) (count : ℕ) : Type 0 where
-  pub picture : Plain
+  pub picture : Shown
   pub of_table : IsPictureOf picture (table_after learned)
   pub counted : count ≡ length picture.locks
   pub shown : ShowBelow ShowsLock views picture.locks (length views)
 
 -- The same of its clients.
 pub record ShowsClients (learned : List Command) (views : List ClientView) (count : ℕ) : Type 0 where
-  pub picture : Plain
+  pub picture : Shown
   pub of_table : IsPictureOf picture (table_after learned)
   pub counted : count ≡ length picture.clients
   pub shown : ShowBelow ShowsClient views picture.clients (length views)
@@ -86,6 +96,11 @@ abbrev pub TellsLock : List Command → ℕ → LockView → ℤ → Type 0
 TellsLock learned number view status =
     ((status ≡ done) × FindsLock learned number view) ⊎ ((status ≡ no_such_lock) × LacksLock learned number) ⊎ (status ≡ no_memory)
 
+-- Its value is shown, or the table has no such lock, or memory was refused.
+abbrev pub TellsValue : List Command → ℕ → ValueView → ℤ → Type 0
+TellsValue learned number view status =
+    ((status ≡ done) × FindsValue learned number view) ⊎ ((status ≡ no_such_lock) × LacksLock learned number) ⊎ (status ≡ no_memory)
+
 -- This is shown, or memory was refused.
 abbrev pub Tells : Type 0 → ℤ → Type 0
-Tells Shown status = ((status ≡ done) × Shown) ⊎ (status ≡ no_memory)
+Tells IsShown status = ((status ≡ done) × IsShown) ⊎ (status ≡ no_memory)

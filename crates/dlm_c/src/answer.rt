@@ -5,7 +5,7 @@ ghost use Rattle.dlm_c.specs.Told.{counted, answer_told, status_told};
 use crate::fault::{NOTHING_SAID, operation_number, table_number};
 use crate::mode_number::{NO_MODE, modes_of};
 use host::HostAnswer;
-use lock_table::Reply;
+use lock_table::{Answer as TableAnswer, Reply};
 
 /// What C is told of an operation.
 #[repr(C)]
@@ -65,12 +65,12 @@ impl Answer {
     pub fn of(slot: u16, reply: Reply) -> Answer
         ensures { result ≡ answer_of slot reply }
     {
-        let (held, wanted) = match reply {
-            Reply::State(state) => modes_of(state),
+        let (held, wanted) = match reply.answer {
+            TableAnswer::State(state) => modes_of(state),
             _ => (NO_MODE, NO_MODE),
         };
-        let purged = match reply {
-            Reply::Purged(count) => u32::from(count),
+        let purged = match reply.answer {
+            TableAnswer::Purged(count) => u32::from(count),
             _ => 0,
         };
         Answer {
@@ -88,14 +88,14 @@ impl Answer {
 pub fn reply_number(reply: Reply) -> i32
     ensures { result ≡ (answer_of 0 reply).reply }
 {
-    match reply {
-        Reply::Granted => 1,
-        Reply::Queued => 2,
-        Reply::Released => 3,
-        Reply::Cancelled => 4,
-        Reply::Purged(_) => 5,
-        Reply::State(_) => 6,
-        Reply::Refused(_) => 7,
+    match reply.answer {
+        TableAnswer::Granted => 1,
+        TableAnswer::Queued => 2,
+        TableAnswer::Released => 3,
+        TableAnswer::Cancelled => 4,
+        TableAnswer::Purged(_) => 5,
+        TableAnswer::State(_) => 6,
+        TableAnswer::Refused(_) => 7,
     }
 }
 
@@ -103,8 +103,8 @@ pub fn reply_number(reply: Reply) -> i32
 pub fn status_of(reply: Reply) -> i32
     ensures { result ≡ status_of reply }
 {
-    match reply {
-        Reply::Refused(refusal) => table_number(refusal),
+    match reply.answer {
+        TableAnswer::Refused(refusal) => table_number(refusal),
         _ => 0,
     }
 }

@@ -26,7 +26,7 @@ pub struct DueCall {
 }
 
 /// Room for what C writes: as much of it as the call's range is long.
-// Apart from the call, so that a call which writes nothing moves none of it.
+// This is apart from `DueCall`, so that a call which writes nothing copies none of these bytes.
 #[repr(C)]
 #[derive(Clone, Copy, Drop)]
 pub struct Written {

@@ -21,7 +21,7 @@ pub const NOTHING_DUE: i32 = -5;
 /// The device call that is due writes more bytes than there is room for.
 pub const NO_ROOM: i32 = -6;
 
-/// No operation has ended with the last answer.
+/// The last answer that was heard did not end an operation.
 pub const NOTHING_SAID: i32 = -7;
 
 /// Why a call from C did not do what it was asked.
@@ -34,7 +34,7 @@ pub enum Fault {
     /// The lock is not in the table.
     NoSuchLock,
     NoMemory,
-    /// The images are no set, and this is told of that one.
+    /// The images are not one set. This says which image is at fault, and why.
     Images(SetFault),
 }
 

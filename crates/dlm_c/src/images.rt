@@ -63,7 +63,8 @@ fn header_of(disk: u8, image: &Image) -> Result<Header, ImageFault>
 }
 
 impl Image {
-    /// How long it is as an image: of a device, what its first bytes say, as far as there is room.
+    /// The length to use as the image's. A device may be longer than its image: there it is what the first bytes say, if there is
+    /// room for that.
     fn long(&self) -> u64
         ensures { result ≡ long_of self.now }
     {

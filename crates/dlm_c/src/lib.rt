@@ -1,5 +1,5 @@
-//! What C calls: a host over a folder of images, kept between calls in a handle. C makes the device calls that it is told, and tells
-//! what they were answered. `capi/` has the header, and the C that sees to what is required here.
+//! What C calls: a host over a folder of images, kept between calls in a handle. The host names the device calls; C makes them and
+//! passes on their answers. `capi/` has the header, and the C code that meets the requirements stated here.
 #![tactic(auto)]
 
 ghost use Rattle.std.specs.Prelude.{◌≡◌, ◌↔◌, None, IfOk, IfErr, IsTrue};
@@ -9,7 +9,7 @@ ghost use Rattle.dlm_c.specs.Images.{IsOpenedIn, MayRefuse, OpensIn};
 ghost use Rattle.dlm_c.specs.Numbers.{done, fault_number};
 ghost use Rattle.dlm_c.specs.Steps.{InHandle, Submits, Recovers, Looks, Marks, CallsNext, GoesOn};
 ghost use Rattle.dlm_c.specs.Told.{answer_told, status_told};
-ghost use Rattle.dlm_c.specs.Views.{ShowsHost, TellsLock, ShowsLocks, ShowsClients, ShowsText, Tells};
+ghost use Rattle.dlm_c.specs.Views.{ShowsHost, TellsLock, TellsValue, ShowsLocks, ShowsClients, ShowsText, Tells};
 
 mod answer;
 mod call;
@@ -37,7 +37,7 @@ use paxos_block::is_formatted;
 use request::Request;
 use session::Session;
 use std::alloc::Global;
-use view::{ClientView, HostView, LockView};
+use view::{ClientView, HostView, LockView, ValueView};
 
 /// Tells the size and the first bytes of an image that is to be made.
 #[unsafe(no_mangle)]
@@ -175,7 +175,7 @@ pub extern "C" fn dlm_c_mark(alloc: Global, handle: &mut Handle, slot: u32) -> i
     status
 }
 
-/// Tells the device call that is due. Every disk answers an attach with this boot number, so that C is told none.
+/// Gives the device call that is due. An attach never reaches C: it is answered here, with this boot number for every disk.
 #[unsafe(no_mangle)]
 pub extern "C" fn dlm_c_call(
     alloc: Global,
@@ -261,6 +261,25 @@ pub extern "C" fn dlm_c_lock(
     number_of(outcome)
 }
 
+/// Shows the value of the name of the lock of this number.
+#[unsafe(no_mangle)]
+pub extern "C" fn dlm_c_value(
+    alloc: Global,
+    handle: &mut Handle,
+    lock: u32,
+    into: &mut ValueView,
+) -> i32
+    ensures { InHandle (λ old new. (new ≡ old) × TellsValue old.core.prefix lock into.new result)
+        handle.old.held.value handle.new.held.value result }
+{
+    let Some(session) = handle.take(alloc) else {
+        return CLOSED;
+    };
+    let outcome = session.value(alloc, lock, into);
+    handle.keep(session);
+    number_of(outcome)
+}
+
 /// Shows the locks of the table, as many as there is room for, and tells how many there are.
 #[unsafe(no_mangle)]
 pub extern "C" fn dlm_c_locks(
@@ -321,7 +340,7 @@ pub extern "C" fn dlm_c_text(
     number_of(outcome)
 }
 
-/// 0, or the number of the fault.
+/// 0 where the call was carried out, else the number of the fault.
 fn number_of(outcome: Result<(), Fault>) -> i32
     ensures ok { IfOk outcome (λ _. result ≡ done) }
     ensures err { IfErr outcome (λ fault. result ≡ fault_number fault) }

@@ -2,11 +2,11 @@ ghost use Rattle.std.specs.Prelude.{◌≡◌, ◌⊎◌, ℕ, IfOk, IfErr, Matc
 ghost use Rattle.lock_table.specs.declared.record.LockRecord.{LockRecord};
 ghost use Rattle.lock_table.specs.Apply.{table_after};
 ghost use Rattle.lock_table.specs.Picture.{IsPictureOf};
-ghost use Rattle.dlm_c.specs.Views.{ShowsHost, ShowsLock, ShowsClient, FindsLock, LacksLock, IsAt, ShowBelow, ShowsLocks, ShowsClients, ShowsText};
+ghost use Rattle.dlm_c.specs.Views.{ShowsHost, ShowsLock, ShowsClient, FindsLock, FindsValue, LacksLock, IsAt, ShowBelow, ShowsLocks, ShowsClients, ShowsText};
 
 use crate::fault::Fault;
 use crate::session::Session;
-use crate::view::{ClientView, HostView, LockView};
+use crate::view::{ClientView, HostView, LockView, ValueView};
 use inspect::queues;
 use lock_table::{KnownClient, LockRecord, Picture};
 use std::alloc::Global;
@@ -35,6 +35,21 @@ impl Session {
         match place_of(picture.locks(), lock) {
             Some(place) => {
                 *into = LockView::of(&picture.locks()[place]);
+                Ok(())
+            }
+            None => Err(Fault::NoSuchLock),
+        }
+    }
+
+    /// Shows the value of the name of the lock of this number.
+    pub fn value(&self, alloc: Global, lock: u32, into: &mut ValueView) -> Result<(), Fault>
+        ensures found { IfOk result (λ _. FindsValue self.now.core.prefix lock into.new) }
+        ensures lacks { IfErr result (λ fault. ((fault ≡ Fault.NoSuchLock) × LacksLock self.now.core.prefix lock) ⊎ (fault ≡ Fault.NoMemory)) }
+    {
+        let picture = self.picture(alloc)?;
+        match place_of(picture.locks(), lock) {
+            Some(place) => {
+                *into = ValueView::of(picture.values()[place]);
                 Ok(())
             }
             None => Err(Fault::NoSuchLock),

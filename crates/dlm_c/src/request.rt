@@ -1,14 +1,14 @@
-ghost use Rattle.std.specs.Prelude.{◌≡◌, Bool, None, IfSome};
+ghost use Rattle.std.specs.Prelude.{◌≡◌, ℕ, List, Bool, Option, None, IfSome};
 ghost use Rattle.std.specs.Option.{SomeIff};
 ghost use Rattle.lock_command.specs.declared.command.Command.{Command};
 ghost use Rattle.lock_command.specs.declared.command.Action.{Action};
-ghost use Rattle.dlm_c.specs.Requests.{AsksFor, IsAsked, flag_number};
-ghost use Rattle.lock_command.specs.Command.{Fits, FitsAction, IsLock};
+ghost use Rattle.dlm_c.specs.Requests.{AsksFor, AsksValue, IsAsked, flag_number};
+ghost use Rattle.lock_command.specs.Command.{Fits, FitsAction, IsLock, IsValue};
 
 use crate::mode_number::mode_of;
 use crate::session::host_of;
 use lock_command::{
-    Action, ClientNumber, Command, HostNumber, LockName, LockNumber, RequestNumber,
+    Action, ClientNumber, Command, HostNumber, LockName, LockNumber, RequestNumber, ValueBytes,
 };
 
 /// What a client asks, as C hands it over. A field that the action does not read may have any value.
@@ -25,6 +25,10 @@ pub struct Request {
     pub no_queue: u32,
     /// The host whose locks are purged.
     pub purged: u32,
+    /// 1 where a convert or a release gives a value, else 0.
+    pub gives: u32,
+    pub unused: u32,
+    pub value: [u8; 16],
 }
 
 impl Request {
@@ -48,7 +52,7 @@ impl Request {
         match self.action {
             1 => self.enqueue(name),
             2 => self.convert(name),
-            3 => Some(Action::Release(self.lock()?)),
+            3 => self.release(name),
             4 => Some(Action::Cancel(self.lock()?)),
             5 => Some(Action::Status(self.lock()?)),
             6 => Some(Action::Purge(host_of(self.purged)?)),
@@ -78,6 +82,18 @@ impl Request {
             lock: self.lock()?,
             mode: mode_of(self.mode)?,
             no_queue: self.no_queue()?,
+            value: self.value()?,
+        })
+    }
+
+    fn release(&self, name: &[u8]) -> Option<Action>
+        requires { self.now.action ≡ 3 }
+        ensures asked { IfSome result (AsksFor self.now name.now) }
+        ensures none { result ≡ None → (action : Action) → FitsAction action → AsksFor self.now name.now action → ⊥ }
+    {
+        Some(Action::Release {
+            lock: self.lock()?,
+            value: self.value()?,
         })
     }
 
@@ -94,6 +110,17 @@ impl Request {
         match self.no_queue {
             0 => Some(false),
             1 => Some(true),
+            _ => None,
+        }
+    }
+    // The value that is given, if any is.
+    fn value(&self) -> Option<Option<ValueBytes>>
+        ensures asked { IfSome result (AsksValue self.now) }
+        ensures none { result ≡ None → (value : Option (List ℕ)) → IsValue value → AsksValue self.now value → ⊥ }
+    {
+        match self.gives {
+            0 => Some(None),
+            1 => Some(Some(ValueBytes::new(self.value))),
             _ => None,
         }
     }

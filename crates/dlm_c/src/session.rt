@@ -106,8 +106,9 @@ impl Session {
         0
     }
 
-    /// Tells the device call that is due. An attach is answered with this boot number, and the call after it is told.
-    // Out of line each answer would pay for two functions' registers.
+    /// Gives the device call that is due. An attach never reaches C: it is answered here, with this boot number, and the call after
+    /// it is given.
+    // Inlined: else each answer would save and restore registers twice.
     #[inline(always)]
     pub fn call(&mut self, boot: u64, call: &mut DueCall, written: &mut Written) -> i32
         ensures { CallsNext boot self.old self.new call.new written.new.bytes result }
@@ -116,7 +117,7 @@ impl Session {
             *call = DueCall::none();
             return NOTHING_DUE;
         }
-        // An attach goes its own way, so that for each other call what is due is looked up once.
+        // An attach is handled apart, so that for every other call the due call is looked up only once.
         if self.is_attach_due() {
             self.attach(boot);
             return self.due(call, written);

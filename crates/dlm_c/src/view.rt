@@ -1,8 +1,10 @@
+ghost use Rattle.std.specs.Prelude.{◌≡◌};
+ghost use Rattle.dlm_c.specs.Numbers.{value_of};
 ghost use Rattle.dlm_c.specs.Views.{ShowsLock, ShowsClient};
 
 use crate::answer::{reply_number, status_of};
 use crate::mode_number::modes_of;
-use lock_table::{KnownClient, LockRecord};
+use lock_table::{KnownClient, LockRecord, LockValue};
 
 /// A host, as C is shown it.
 #[repr(C)]
@@ -73,6 +75,27 @@ impl ClientView {
             reply: reply_number(known.reply),
             refusal: status_of(known.reply),
             unused: 0,
+        }
+    }
+}
+
+/// What is stored under a name, as C is shown it.
+#[repr(C)]
+#[derive(Clone, Copy, Drop)]
+pub struct ValueView {
+    pub bytes: [u8; 16],
+    /// 1 where it is valid, else 0.
+    pub flags: u32,
+}
+
+impl ValueView {
+    pub fn of(value: LockValue) -> ValueView
+        ensures { result ≡ value_of value }
+    {
+        let bytes = value.bytes;
+        ValueView {
+            bytes,
+            flags: u32::from(value.valid),
         }
     }
 }

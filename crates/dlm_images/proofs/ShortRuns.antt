@@ -13,8 +13,7 @@ use Rattle.lock_command.specs.declared.command.Command.{Command}
 use Rattle.lock_command.specs.Command.{number}
 use Rattle.lock_command.specs.Reading.{lock_at, request_at, mode_of, name_at, enqueue_at, action_at, command_at}
 use Rattle.lock_table.specs.declared.reply.Reply.{Reply}
-use Rattle.lock_table.specs.declared.reply.Reply.TheVariants.{Granted}
-use Rattle.lock_table.specs.Apply.{applied}
+use Rattle.lock_table.specs.Apply.{applied, granted}
 use Rattle.host.specs.declared.answer.HostAnswer.TheVariants.{Ack}
 use Rattle.host.specs.Host.{Memory, Doing, Submitting, fresh, next_in, next_doing, is_idle, Marking, is_idle_in, rests, next_beside, next_marking, reply_after}
 use Rattle.host.specs.Kept.{LeadsTo}
@@ -148,7 +147,7 @@ count_first : length first_calls ≡ 17
 unfolding fresh_disk sequence_of body_of number_bytes tail_with copy_in row_said zeros heading body_saying number_at claim_of is_said number lock_at request_at mode_of name_at enqueue_at action_at command_at applied
 count_first = refl
 
-said_first : (after_made one_disk 0 begun first_calls).said ≡ Some (Ack 0 Granted)
+said_first : (after_made one_disk 0 begun first_calls).said ≡ Some (Ack 0 granted)
 unfolding fresh_disk sequence_of body_of number_bytes tail_with copy_in row_said zeros heading body_saying number_at claim_of is_said number lock_at request_at mode_of name_at enqueue_at action_at command_at applied
 said_first = refl
 
@@ -160,7 +159,7 @@ pub made : (made : List Made) × (left : DiskState) × AreDue one_disk 0 begun m
 made = (first_calls, disk_by blank first_calls, are_due 17 begun blank (next_in one_disk 0 begun) refl given_first, are_given first_calls blank 17 begun (next_in one_disk 0 begun) refl, after_first)
 
 pub only_then : (old new : Standing DiskState) → LeadsTo one_disk 0 fresh old.core → old.disks ≡ blank ∷ [] → (done : HasOperated AlwaysSucceeds (Submitting takes_db) 1 old new)
-    → (length done.made ≡ 17) × (new.core.said ≡ Some (Ack 0 Granted)) × (new.core.prefix ≡ takes_db ∷ [])
+    → (length done.made ≡ 17) × (new.core.said ≡ Some (Ack 0 granted)) × (new.core.prefix ≡ takes_db ∷ [])
 only_then old new leads disks done =
     let n = after_made one_disk 0 begun done.made in
     let leads_then : LeadsTo one_disk 0 n new.core = done.leads one_disk 0 fresh leads in
@@ -195,11 +194,11 @@ first x due =
 
 -- ACKNOWLEDGED
 
-reply_first : reply_after [] takes_db ≡ Granted
+reply_first : reply_after [] takes_db ≡ granted
 unfolding applied
 reply_first = refl
 
-pub acknowledged : IsAcknowledged takes_db 0 Granted (takes_db ∷ [])
+pub acknowledged : IsAcknowledged takes_db 0 granted (takes_db ∷ [])
 acknowledged = record { before = []; last = refl; at = refl; replied = sym reply_first }
 
 -- the last of one is that one
@@ -208,7 +207,7 @@ last_of_one x y [] is = (refl, (cc))
 last_of_one x y (z ∷ []) is = absurd (cc)
 last_of_one x y (z ∷ w ∷ before) is = absurd (cc)
 
-pub only_acknowledged : (command : Command) (slot : ℕ) (reply : Reply) → IsAcknowledged command slot reply (takes_db ∷ []) → (command ≡ takes_db) × (slot ≡ 0) × (reply ≡ Granted)
+pub only_acknowledged : (command : Command) (slot : ℕ) (reply : Reply) → IsAcknowledged command slot reply (takes_db ∷ []) → (command ≡ takes_db) × (slot ≡ 0) × (reply ≡ granted)
 only_acknowledged command slot reply is =
     let (none, same) = last_of_one takes_db command is.before is.last in
     (same, is.at ∙ ap length none, is.replied ∙ ap (λ (b : List Command). reply_after b command) none ∙ ap (λ (c : Command). reply_after [] c) same ∙ reply_first)

@@ -74,8 +74,8 @@ pub fn check_folder<F: FileExt + OpenFile + Drop, O: Write>(
     check_disks(&mut disks, &folder.found, slots, out)
 }
 
-/// Prints, disk by disk, why it is not used, or a line for each damaged block of it, and tells what was found first. Where a disk
-/// cannot be read to its end, a line says so behind those that were printed of it.
+/// For each disk, prints why it is not used, or a line for each damaged block. If a disk cannot be read to its end, one more line
+/// says so. Returns what was found first.
 fn check_disks<D: Disk, O: Write>(
     disks: &mut [D],
     found: &[Result<Header, ImageFault>; DISKS as usize],
@@ -85,7 +85,7 @@ fn check_disks<D: Disk, O: Write>(
     requires few { length disks.old ≤ DISKS }
     requires large { AreLarge D.device slots disks.old }
     ensures told { IfOk result (IsToldFirst D.device D.state slots found.now disks.old (length disks.old)) }
-    // The same, as far as what was found of each image alone tells it.
+    // What this says of images that were refused, by what was found of each image alone.
     ensures refusals { IfOk result (IsToldOfFolder found.now (length disks.old)) }
 {
     let mut first = None;

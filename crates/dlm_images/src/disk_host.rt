@@ -16,7 +16,7 @@ use lock_table::{Reply, Table};
 use std::alloc::Global;
 use std::marker::Model;
 
-/// Where an acknowledged command stands in the log, and what the lock table replied to it there.
+/// The slot of an acknowledged command, and what the lock table replied to it there.
 #[derive(Clone, Copy, Debug, PartialEq, Eq)]
 pub struct Acknowledgement {
     pub slot: u16,

@@ -1,9 +1,9 @@
-// What is made and said in one short operation, and nothing beside: so that what is said of every operation speaks of something.
+// What happens in one short operation, and that nothing else does. So what is proved of every operation is not proved of nothing.
 ghost use Rattle.std.specs.Prelude.{◌≡◌, ℕ, true, Some, List, [], ◌∷◌, length};
 ghost use Rattle.disk.specs.Disk.{DiskState, Attach};
 ghost use Rattle.lock_command.specs.declared.command.Command.{Command};
 ghost use Rattle.lock_table.specs.declared.reply.Reply.{Reply};
-ghost use Rattle.lock_table.specs.declared.reply.Reply.TheVariants.{Granted};
+ghost use Rattle.lock_table.specs.Apply.{granted};
 ghost use Rattle.host.specs.Host.{Submitting, fresh, is_idle};
 ghost use Rattle.host.specs.Kept.{LeadsTo};
 ghost use Rattle.host.specs.declared.answer.HostAnswer.TheVariants.{Ack};
@@ -18,8 +18,8 @@ pub fn first_operation_is_acknowledged()
     ensures first { (x : Made) → IsDue one_disk 0 begun x → (x.disk ≡ 0) × (x.call ≡ Attach) × IsBootOrFault x.answer }
     ensures only_then { (old new : Standing DiskState) → LeadsTo one_disk 0 fresh old.core → old.disks ≡ blank ∷ [] →
         (done : HasOperated AlwaysSucceeds (Submitting takes_db) 1 old new) →
-        (length done.made ≡ 17) × (new.core.said ≡ Some (Ack 0 Granted)) × (new.core.prefix ≡ takes_db ∷ []) }
-    ensures acknowledged { IsAcknowledged takes_db 0 Granted (takes_db ∷ []) }
+        (length done.made ≡ 17) × (new.core.said ≡ Some (Ack 0 granted)) × (new.core.prefix ≡ takes_db ∷ []) }
+    ensures acknowledged { IsAcknowledged takes_db 0 granted (takes_db ∷ []) }
     ensures only_acknowledged { (command : Command) (slot : ℕ) (reply : Reply) → IsAcknowledged command slot reply (takes_db ∷ []) →
-        (command ≡ takes_db) × (slot ≡ 0) × (reply ≡ Granted) }
+        (command ≡ takes_db) × (slot ≡ 0) × (reply ≡ granted) }
 {}

@@ -123,7 +123,7 @@ where
     }
 }
 
-/// Disks of another size are not used: those that were refused have no size yet.
+/// Replaces every disk of another size by one of this size of which every call fails. Disks that were refused have no size yet.
 fn resize<F: FileExt + OpenFile + Drop>(disks: &mut Vec<FileDisk<F>>, size: u64)
     ensures as_many { length disks.new.items ≡ length disks.old.items }
     ensures long { (k : ℕ) (d : FileState) → slice_get disks.new.items k ≡ Some d → d.size ≡ size }

@@ -57,7 +57,7 @@ where
     Ok((header, file))
 }
 
-/// Leaves what a device has behind its image out of use, where its first bytes tell of an image that it has room for.
+/// Leaves what a device has after its image out of use, if its first bytes say how long the image is and there is room for it.
 fn cut_as_told<F: FileExt + OpenFile + Drop>(device: &mut FileDisk<F>) -> Result<(), ImageFault>
     ensures cut { OnOk result (HEADER_LENGTH ≤ device.old.size → IsCutAsTold device.old device.new) }
 {

@@ -1,15 +1,12 @@
 ghost use Rattle.std.specs.Prelude.{◌≡◌, ◌≤◌, ℕ, true, Some, length, slice_get};
 ghost use Rattle.torn_block.specs.declared.layout.TheConstants.{DISKS, SLOTS};
 ghost use Rattle.paxos_block.specs.Places.{image_length};
-ghost use Rattle.attempt.specs.History.{Fits};
-ghost use Rattle.beats.specs.Calls.{device_answer};
-ghost use Rattle.phases.specs.Calls.{IsWithin, device_call_of, heard_of};
 ghost use Rattle.host.specs.Kept.{is_idle};
 ghost use Rattle.dlm_images.specs.Operations.{IsKnown, HasHeard};
 
 use disk::Disk;
 use host::HostCore;
-use phases::{DeviceCall, Heard};
+use phases::answer_of;
 use torn_block::{DISKS, ROW_LENGTH, SLOTS};
 
 /// No operation makes more calls: each of its attempts makes 17 a disk at most, and learns a slot, or uses one of at most 255 tries,
@@ -38,36 +35,5 @@ pub fn drive<D: Disk>(host: &mut HostCore, disks: &mut [D])
         let need = host.call();
         let heard = answer_of(&mut disks[usize::from(need.disk)], &need.call, &mut row);
         host.hear(&heard);
-    }
-}
-
-/// Makes one call of the disk, and tells what the disk answered. A row that is read is in `row`.
-fn answer_of<'a, D: Disk>(
-    disk: &mut D,
-    call: &DeviceCall<'_>,
-    row: &'a mut [u8; ROW_LENGTH],
-) -> Heard<'a>
-    requires { IsWithin (D.device disk.old).size call.now }
-    ensures fits { Fits (device_call_of call.now) (heard_of result) }
-    ensures gave { D.gives disk.old (device_call_of call.now) (device_answer result) disk.new }
-    ensures device { D.device disk.new ≡ D.device disk.old }
-{
-    match call {
-        DeviceCall::Attach => match disk.attach() {
-            Ok(boot) => Heard::Booted(boot),
-            Err(fault) => Heard::Fault(fault),
-        },
-        DeviceCall::Sync { boot } => match disk.sync(*boot) {
-            Ok(()) => Heard::Done,
-            Err(fault) => Heard::Fault(fault),
-        },
-        DeviceCall::Write { boot, at, bytes } => match disk.write(*boot, *at, bytes) {
-            Ok(()) => Heard::Done,
-            Err(fault) => Heard::Fault(fault),
-        },
-        DeviceCall::Read { boot, at } => match disk.read(*boot, *at, row) {
-            Ok(()) => Heard::Told(row),
-            Err(fault) => Heard::Fault(fault),
-        },
     }
 }

@@ -6,7 +6,7 @@ use crate::disk_host::DiskHost;
 use disk::Disk;
 use host::{HostAnswer, Refusal};
 
-/// How much of the log is learned, and on how many of the slots that were learned for it the host's mark stands.
+/// How many commands are learned, and how many slots the host has marked of those that it learned for this.
 #[derive(Clone, Copy, Debug, PartialEq, Eq)]
 pub struct MarkedLog {
     pub length: u16,
@@ -14,12 +14,12 @@ pub struct MarkedLog {
 }
 
 impl<D: Disk> DiskHost<D> {
-    /// Learns all that is in the log, and then marks each slot that it has learned now, so that looks pass these slots from then
-    /// on: also the slot of a command whose host died between its answer and its mark.
+    /// Learns all that is in the log, and then marks each slot that it has learned now. From then on looks pass these slots. One of
+    /// them may be the slot of a command whose host died between its answer and its mark.
     ///
-    /// Up to `tries` attempts may be outrun, the last of which ends the recovery. Where it is refused the slots that it learned
-    /// before are marked all the same. A slot that another host had marked is not counted, nor one whose marking found no majority.
-    /// Look first: what marks tell already is then neither recovered nor marked again.
+    /// Up to `tries` attempts may be outrun, the last of which ends the recovery. If it is refused, the slots that it learned before
+    /// are marked all the same. A slot that another host had marked is not counted, nor one whose marking found no majority.
+    /// Look first: slots that a look learns from marks are then neither recovered nor marked again.
     pub fn recover_and_mark(&mut self, tries: u8) -> Result<MarkedLog, Refusal>
         requires { 1 ≤ tries }
         ensures marked { IfOk result (λ log. (done : RecoversAndMarks D.gives tries log.marked self.old self.new) ×

@@ -16,7 +16,7 @@ pub struct ImageSet {
     pub cluster: u64,
 }
 
-/// Why no set of images is found, and of which image that is told.
+/// Why there is no set of images, and which image is at fault.
 #[derive(Clone, Copy, Debug, PartialEq, Eq)]
 pub struct SetFault {
     pub disk: u8,

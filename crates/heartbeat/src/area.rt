@@ -39,7 +39,7 @@ fn put_beat(bytes: &mut [u8])
 pub fn decode_area(bytes: &[u8; ROW_LENGTH]) -> Result<[u64; HOSTS], Damaged>
     ensures damaged { IsErr result ↔ IsDamagedArea bytes.now }
     ensures counters { IfOk result (AreCounters bytes.now) }
-    // The same by the one function of the bytes that the layers above go by.
+    // The result once more, as the one function of the bytes that the contracts of other crates use.
     ensures unsaid { IsErr result ↔ (area_said bytes.now ≡ None) }
     ensures said { IfOk result (λ counters. area_said bytes.now ≡ Some bytes.now) }
     ensures exact { IfOk result (λ counters. counters ≡ counters_in bytes.now) }

@@ -20,7 +20,7 @@ use crate::answer::HostAnswer;
 use beats::{Beat, End, Readings};
 use disk::NoMemory;
 use heartbeat::suggest;
-use lock_command::{Command, HostNumber, decode};
+use lock_command::{Command, HostNumber, ValueBytes, decode};
 use lock_table::{Reply, Table};
 use marks::Marking;
 use paxos_block::Value;
@@ -42,7 +42,7 @@ pub struct HostCore {
     table: Table,
     said: Option<HostAnswer>,
     beat: Option<Beat>,
-    /// Of the last beat that ended well.
+    /// The readings of the last beat that ended well.
     readings: Option<Readings>,
     marking: Option<Marking>,
 }
@@ -133,7 +133,7 @@ impl HostCore {
 
     /// What the last entry made the host say: how an operation ended, where one ended with it.
     pub fn answer(&self) -> Option<HostAnswer>
-        // Of an acknowledgement the reply is the table's at that slot, by `reply_after`.
+        // The reply of an acknowledgement is the table's reply at that slot, by `reply_after`.
         ensures known { (c : Shape) (h : ℕ) (m : Memory) → LeadsTo c h m self.now →
             result ≡ m.said }
         ensures said { result ≡ self.now.said }
@@ -204,7 +204,7 @@ impl HostCore {
     }
 
     /// The device call that is due.
-    // Out of line it would be written to memory and read back at each step.
+    // Inlined: else the call would be written to memory and read back at each step.
     #[inline(always)]
     pub fn call(&self) -> Need<'_>
         requires { is_idle self.now ≡ false }
@@ -224,21 +224,22 @@ impl HostCore {
     }
 
     /// Hears the answer to the call that is due.
-    // Out of line the answer would be written to memory and looked at again.
+    // Inlined: else the answer would be written to memory and its kind tested again.
     #[inline(always)]
     pub fn hear(&mut self, heard: &Heard<'_>)
         requires busy { is_idle self.old ≡ false }
         requires fits { Fits (due_call self.old).1 (heard_of heard.now) }
         ensures leads { (c : Shape) (h : ℕ) (m : Memory) → LeadsTo c h m self.old →
             LeadsTo c h (hears_from c h m m.doing (due_call self.old).0 (device_answer heard.now)) self.new }
-        // By Committed, Decided, Empty or BallotsSpent within 17 calls a disk, if no other host makes a call on the slot meanwhile.
+        // An attempt ends Committed, Decided, Empty or BallotsSpent, within 17 calls a disk, if most disks answer and no other host
+        // makes a call on the slot meanwhile.
         ensures alone { (c : Shape) (h : ℕ) (m : Memory) → LeadsTo c h m self.old →
             IsAnsweredAlone c h m m.doing (record { disk = (due_call self.old).0; heard = heard_of heard.now }) }
-        // With this answer a beat has heard at most nine a disk, and it acknowledges nothing.
+        // With this answer a beat has heard at most nine answers a disk. A beat acknowledges no command.
         ensures nine { (c : Shape) (h : ℕ) (m : Memory) → LeadsTo c h m self.old →
             IsWithinNine c m.beats.heard }
         ensures silent { is_some self.old.beat ≡ true → AcknowledgesNone self.new.said }
-        // So has a marking.
+        // The same holds of a marking: at most nine answers a disk, and no command acknowledged.
         ensures marked_nine { (c : Shape) (h : ℕ) (m : Memory) → LeadsTo c h m self.old →
             IsMarkedWithinNine c m.marking }
         ensures marks_silently { is_some self.old.marking ≡ true → AcknowledgesNone self.new.said }
@@ -263,7 +264,7 @@ impl HostCore {
             LeadsTo c h (hears c h m m.doing (record { disk = (due_call self.old).0; heard = heard_of heard.now })) self.new }
         ensures alone { (c : Shape) (h : ℕ) (m : Memory) → LeadsTo c h m self.old →
             IsAnsweredAlone c h m m.doing (record { disk = (due_call self.old).0; heard = heard_of heard.now }) }
-        // No beat hears it.
+        // An operation of the log is under way, not a beat.
         ensures tries { (c : Shape) (h : ℕ) (m : Memory) → LeadsTo c h m self.old → is_some m.doing ≡ true }
     {
         self.learner.hear(heard);
@@ -285,7 +286,7 @@ impl HostCore {
         ensures nine { (c : Shape) (h : ℕ) (m : Memory) → LeadsTo c h m self.old →
             IsWithinNine c m.beats.heard }
         ensures silent { AcknowledgesNone self.new.said }
-        // No attempt hears it.
+        // No attempt is under way.
         ensures rests { (c : Shape) (h : ℕ) (m : Memory) → LeadsTo c h m self.old → m.doing ≡ None }
     {
         let Some(beat) = &mut self.beat else {
@@ -319,7 +320,7 @@ impl HostCore {
         ensures nine { (c : Shape) (h : ℕ) (m : Memory) → LeadsTo c h m self.old →
             IsMarkedWithinNine c m.marking }
         ensures silent { AcknowledgesNone self.new.said }
-        // No attempt hears it.
+        // No attempt is under way.
         ensures rests { (c : Shape) (h : ℕ) (m : Memory) → LeadsTo c h m self.old → m.doing ≡ None }
     {
         let Some(marking) = &mut self.marking else {
@@ -382,8 +383,9 @@ fn judge(
         learner.take(false);
         return None;
     };
-    // The check looks for the types within a command only where one of them is used.
+    // These two lines do nothing when they run. Without them the checker does not load the types inside `Command`, and the proof fails.
     let _action = &command.action;
+    let _no_value: Option<ValueBytes> = None;
     let reply = table.apply(&command);
     prefix.push_reserved(command);
     learner.take(true);

@@ -1,5 +1,6 @@
 ghost use Rattle.std.specs.Prelude.{◌≡◌, IfSome};
 
+use crate::replies::{GRANTED, QUEUED};
 use disk::{Disk, ImageFault};
 use dlm_images::{DiskHost, FolderFault, format_folder, open_folder, open_folder_to_read};
 use host::{Config, Refusal};
@@ -103,11 +104,7 @@ fn host_that_stays_open(rt: HostRuntime) -> Result<(), Fail> {
     let (done, held) = submit_three(&rt, folder)?;
     assert_eq!(rt;
         done,
-        [
-            Some((0, Reply::Granted)),
-            Some((1, Reply::Granted)),
-            Some((2, Reply::Queued))
-        ]
+        [Some((0, GRANTED)), Some((1, GRANTED)), Some((2, QUEUED))]
     );
     assert_eq!(rt; held.as_slice(), want.as_slice());
     let (learned, same) = learn_all(&rt, folder)?;
@@ -151,7 +148,7 @@ fn look_at(rt: &HostRuntime, folder: &str) -> Result<(u16, Vec<Line>), Fail> {
 fn slot_that_is_marked(rt: HostRuntime) -> Result<(), Fail> {
     let folder = "dlm_images_marked";
     make(&rt, folder)?;
-    assert_eq!(rt; submit_one(&rt, folder)?, Some((0, Reply::Granted)));
+    assert_eq!(rt; submit_one(&rt, folder)?, Some((0, GRANTED)));
     assert_eq!(rt; mark_first(&rt, folder)?, [Err(Refusal::NotLearned), Ok(3)]);
     fs::remove_dir_all(&rt, folder)?;
     Ok(())
@@ -163,7 +160,7 @@ fn look_behind_a_mark(rt: HostRuntime) -> Result<(), Fail> {
     let folder = "dlm_images_looked";
     let want = [(1, 1, 0, LockState::Granted(Mode::ConcurrentRead))];
     make(&rt, folder)?;
-    assert_eq!(rt; submit_one(&rt, folder)?, Some((0, Reply::Granted)));
+    assert_eq!(rt; submit_one(&rt, folder)?, Some((0, GRANTED)));
     assert_eq!(rt; look_at(&rt, folder)?.0, 0);
     assert_eq!(rt; mark_first(&rt, folder)?[1], Ok(3));
     let (learned, locks) = look_at(&rt, folder)?;

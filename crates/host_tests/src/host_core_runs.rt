@@ -1,9 +1,8 @@
 // Hosts driven over simulated disks, call by call.
-ghost use Rattle.std.specs.Prelude.{◌≡◌, ◌≤◌, ◌+◌, length};
-ghost use Rattle.std.specs.Bool.{OnTrue};
 ghost use Rattle.attempt.specs.History.{Fits};
 ghost use Rattle.phases.specs.Calls.{device_call_of, heard_of};
 
+use crate::replies::{GRANTED, QUEUED};
 use disk::{Disk, DiskFault, SimDisk};
 use host::{HostAnswer, HostCore};
 use lock_command::{
@@ -11,7 +10,7 @@ use lock_command::{
 };
 use lock_modes::Mode;
 use lock_table::Reply;
-use phases::{DeviceCall, Heard};
+use phases::{DeviceCall, Heard, answer_of, is_within};
 use slot_log::{Config, Refusal};
 use std::alloc::{AllocError, Global};
 use std::process::Abort;
@@ -216,45 +215,13 @@ fn beat(host: &mut HostCore) -> Result<(), Fail> {
     Ok(())
 }
 
-// Whether so many bytes lie on the disk.
-fn has_range(disk: &SimDisk, at: u64, len: u64) -> bool
-    ensures { OnTrue result (at + len ≤ length disk.now.disk.bytes) }
-{
-    let size = disk.size();
-    at <= size && len <= size - at
-}
-
 fn answer<'a>(disk: &mut SimDisk, call: &DeviceCall<'_>, row: &'a mut [u8; ROW_LENGTH]) -> Heard<'a>
     ensures { Fits (device_call_of call.now) (heard_of result) }
 {
-    match call {
-        DeviceCall::Attach => match disk.attach() {
-            Ok(boot) => Heard::Booted(boot),
-            Err(fault) => Heard::Fault(fault),
-        },
-        DeviceCall::Sync { boot } => match disk.sync(*boot) {
-            Ok(()) => Heard::Done,
-            Err(fault) => Heard::Fault(fault),
-        },
-        DeviceCall::Write { boot, at, bytes } => {
-            if !has_range(disk, *at, bytes.len() as u64) {
-                return Heard::Fault(DiskFault::Failed);
-            }
-            match disk.write(*boot, *at, bytes) {
-                Ok(()) => Heard::Done,
-                Err(fault) => Heard::Fault(fault),
-            }
-        }
-        DeviceCall::Read { boot, at } => {
-            if !has_range(disk, *at, ROW_LENGTH as u64) {
-                return Heard::Fault(DiskFault::Failed);
-            }
-            match disk.read(*boot, *at, row) {
-                Ok(()) => Heard::Told(row),
-                Err(fault) => Heard::Fault(fault),
-            }
-        }
+    if !is_within(disk.size(), call) {
+        return Heard::Fault(DiskFault::Failed);
     }
+    answer_of(disk, call, row)
 }
 
 // Makes so many calls, or fewer where the operation ends, and counts them.
@@ -309,7 +276,7 @@ fn a_log_of_one_slot(rt: HostRuntime) -> Result<(), Fail> {
         Step::End { at: 0, calls: 17 },
         Step::Says {
             at: 0,
-            answer: ack(0, Reply::Granted),
+            answer: ack(0, GRANTED),
         },
         Step::Knows {
             at: 0,
@@ -346,7 +313,7 @@ fn two_of_three_disks_lost(rt: HostRuntime) -> Result<(), Fail> {
         Step::End { at: 0, calls: 51 },
         Step::Says {
             at: 0,
-            answer: ack(0, Reply::Granted),
+            answer: ack(0, GRANTED),
         },
         Step::Lose { disk: 0 },
         Step::Lose { disk: 2 },
@@ -435,7 +402,7 @@ fn a_disk_fails_and_another_is_lost(rt: HostRuntime) -> Result<(), Fail> {
         Step::End { at: 0, calls: 35 },
         Step::Says {
             at: 0,
-            answer: ack(0, Reply::Granted),
+            answer: ack(0, GRANTED),
         },
         Step::Lose { disk: 2 },
         Step::Start { number: 1 },
@@ -458,13 +425,13 @@ fn the_first_command_before_the_own(rt: HostRuntime) -> Result<(), Fail> {
         Step::End { at: 0, calls: 17 },
         Step::Says {
             at: 0,
-            answer: ack(0, Reply::Granted),
+            answer: ack(0, GRANTED),
         },
         first_submission(1, 1),
         Step::End { at: 1, calls: 34 },
         Step::Says {
             at: 1,
-            answer: ack(1, Reply::Granted),
+            answer: ack(1, GRANTED),
         },
         Step::Knows {
             at: 1,
@@ -487,7 +454,7 @@ fn outrun_by_a_later_host(rt: HostRuntime) -> Result<(), Fail> {
         Step::End { at: 1, calls: 17 },
         Step::Says {
             at: 1,
-            answer: ack(0, Reply::Granted),
+            answer: ack(0, GRANTED),
         },
         Step::End { at: 0, calls: 6 },
         Step::Says {
@@ -509,12 +476,12 @@ fn outrun_once_and_tried_again(rt: HostRuntime) -> Result<(), Fail> {
         Step::End { at: 1, calls: 51 },
         Step::Says {
             at: 1,
-            answer: ack(0, Reply::Granted),
+            answer: ack(0, GRANTED),
         },
         Step::End { at: 0, calls: 109 },
         Step::Says {
             at: 0,
-            answer: ack(1, Reply::Queued),
+            answer: ack(1, QUEUED),
         },
     ];
     play(&rt, rt.alloc(), 3, 4, &steps)

@@ -1,3 +1,4 @@
+use crate::replies::{GRANTED, QUEUED};
 use at_once::{Turns, submit_in_turn};
 use dlm_images::Acknowledgement;
 use host::{Config, Refusal};
@@ -5,7 +6,6 @@ use lock_command::{
     Action, ClientNumber, Command, HostNumber, LockName, LockNumber, RequestNumber,
 };
 use lock_modes::Mode;
-use lock_table::Reply;
 use std::alloc::Global;
 use std::test::Fail;
 
@@ -48,11 +48,11 @@ fn in_turn(alloc: Global, slots: u16) -> Option<Turns> {
 fn two_hosts_in_turn(rt: HostRuntime) -> Result<(), Fail> {
     let granted = Acknowledgement {
         slot: 0,
-        reply: Reply::Granted,
+        reply: GRANTED,
     };
     let queued = Acknowledgement {
         slot: 1,
-        reply: Reply::Queued,
+        reply: QUEUED,
     };
     for (slots, second) in [(1, Err(Refusal::LogFull)), (2, Ok(queued)), (8, Ok(queued))] {
         let want = Turns {

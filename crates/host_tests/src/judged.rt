@@ -1,4 +1,5 @@
 // What `judge` says of a report in which one answer was changed by hand, and of other logs.
+use crate::replies::{GRANTED, QUEUED};
 use disk::NoMemory;
 use host::HostAnswer;
 use lock_command::{Command, HostNumber};
@@ -29,12 +30,12 @@ fn judge_of_changed_reports(rt: HostRuntime) -> Result<(), Fail> {
     let other = HostNumber::new(7).ok_or("a host")?;
     for (at, change, right) in [
         (0, Change::Nothing, true),
-        (0, ack(1, Reply::Granted), false),
-        (0, ack(2, Reply::Granted), false),
-        (0, ack(0, Reply::Queued), false),
-        (1, ack(0, Reply::Queued), false),
-        (1, ack(1, Reply::Granted), false),
-        (1, ack(0, Reply::Granted), true),
+        (0, ack(1, GRANTED), false),
+        (0, ack(2, GRANTED), false),
+        (0, ack(0, QUEUED), false),
+        (1, ack(0, QUEUED), false),
+        (1, ack(1, GRANTED), false),
+        (1, ack(0, GRANTED), true),
         (1, Change::OfHost(other), true),
         (0, Change::LeftOut, true),
         (2, Change::LeftOut, true),

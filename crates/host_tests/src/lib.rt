@@ -18,4 +18,6 @@ mod old_images;
 #[cfg(test)]
 mod raced;
 #[cfg(test)]
+mod replies;
+#[cfg(test)]
 mod simulated;

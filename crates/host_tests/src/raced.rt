@@ -1,5 +1,6 @@
+use crate::replies::{GRANTED, QUEUED};
 use lock_command::{HOSTS, HostNumber};
-use lock_table::Reply;
+use lock_table::Answer as TableAnswer;
 use race::{Answer, run_race};
 use std::test::Fail;
 
@@ -12,7 +13,7 @@ fn one_host(rt: HostRuntime) -> Result<(), Fail> {
         race.answers.as_slice(),
         [Answer::Acknowledged {
             slot: 0,
-            reply: Reply::Granted
+            reply: GRANTED
         }]
         .as_slice()
     );
@@ -33,9 +34,9 @@ fn all_hosts(rt: HostRuntime) -> Result<(), Fail> {
                 let slot = usize::from(*slot);
                 assert!(rt; slot < HOSTS && !taken[slot]);
                 taken[slot] = true;
-                match reply {
-                    Reply::Granted => granted = granted.saturating_add(1),
-                    other => assert_eq!(rt; *other, Reply::Queued),
+                match reply.answer {
+                    TableAnswer::Granted => granted = granted.saturating_add(1),
+                    _ => assert_eq!(rt; *reply, QUEUED),
                 }
             }
             Answer::Refused(fault) => assert!(rt; false, "{fault}"),

@@ -1,6 +1,6 @@
 // Worked runs, through every call that may want memory.
+use crate::replies::GRANTED;
 use host::HostAnswer;
-use lock_table::Reply;
 use simulator::{Parts, Report, Sim, read_script, run, sweep};
 use std::alloc::{AllocError, Global};
 use std::test::Fail;
@@ -37,7 +37,7 @@ fn first_reply(rt: HostRuntime) -> Result<(), Fail> {
     }
     let granted = HostAnswer::Ack {
         slot: 0,
-        reply: Reply::Granted,
+        reply: GRANTED,
     };
     assert_eq!(rt; answers.as_slice(), [(18, 0, granted)].as_slice());
     let host = sim.host(0).ok_or("host 0")?;
@@ -124,7 +124,7 @@ fn sweep_of_the_first_reply(rt: HostRuntime) -> Result<(), Fail> {
 fn failing_calls(rt: HostRuntime) -> Result<(), Fail> {
     let granted = HostAnswer::Ack {
         slot: 0,
-        reply: Reply::Granted,
+        reply: GRANTED,
     };
     for calls in 0..51 {
         let said = said_with_a_failing_call(rt.alloc(), calls);

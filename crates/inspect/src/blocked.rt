@@ -41,7 +41,7 @@ fn in_one_queue(x: &LockState, y: &LockState) -> bool
 /// Whether the lock wants what it does not hold.
 pub fn wants(x: &LockRecord) -> bool
     ensures wants { result ≡ (is_converting x.now.state || is_waiting x.now.state) }
-    // So a lock that wants nothing is blocked by nobody.
+    // A lock that wants nothing is blocked by nobody.
     ensures blocked { result ≡ false → (i j : ℕ) (y : LockRecord) → is_blocked_by i x.now j y ≡ false }
 {
     !matches!(x.state, LockState::Granted(_))

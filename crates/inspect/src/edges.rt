@@ -25,7 +25,8 @@ pub fn edges_of(locks: &[LockRecord]) -> [bool; PAIRS]
     edges
 }
 
-/// Behind the locks from `start` on that have one name. In printed order these are all of that name, so that a name is compared once for many.
+/// The index after the last lock of the run of one name that begins at `start`. In printed order a run has all locks of its
+/// name, so names are compared once for each lock and not for each pair.
 fn end_of_run(locks: &[LockRecord], start: usize) -> usize
     requires { start < length locks.now }
     ensures more { start < result }

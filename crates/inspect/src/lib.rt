@@ -7,6 +7,7 @@ mod lock_text;
 mod peeling;
 mod queue_text;
 mod trail;
+mod value_text;
 mod verdict;
 mod waits;
 

@@ -62,7 +62,7 @@ fn place_of(trail: &[u8], client: u8) -> Option<usize>
     None
 }
 
-/// The same in a circle, with the least in front.
+/// The same circle, turned so that the least client comes first.
 fn turned(circle: &[u8]) -> ArrayVec<u8, CLIENT_NUMBERS>
     requires some { 0 < length circle.now }
     requires few { length circle.now ≤ CLIENT_NUMBERS }

@@ -1,30 +1,31 @@
 -- The spelling of a command that it reads as has 48 bytes.
 use Rattle.std.specs.Prelude.{nat_le, ◌-◌, replicate, slice_index, take, drop, bytes_eq, if◌then◌else◌}
-use Rattle.std.proofs.Common.{ℕ, ◌≤◌, ◌≡◌, Bool, true, false, Option, Some, None, List, ◌∷◌, ◌++◌, length, length-append, refl, ap, arith}
+use Rattle.std.proofs.Common.{ℕ, ◌≤◌, ◌≡◌, ◌==◌, Bool, true, false, Option, Some, None, List, ◌∷◌, ◌++◌, length, length-append, refl, sym, ap, ◌∙◌, arith}
 use Rattle.std.proofs.lemmas.List.{length-replicate}
-use Rattle.std.proofs.lemmas.Bool.{leb-true}
+use Rattle.std.proofs.lemmas.Bool.{leb-true, eqb-true}
 use Rattle.byteorder.specs.Numbers.{length-bytes_high_first}
 use Rattle.lock_modes.specs.declared.mode.Mode.{Mode}
 use Rattle.lock_command.specs.declared.command.Command.{Command}
 use Rattle.lock_command.specs.declared.command.Action.{Action}
 use Rattle.lock_command.specs.declared.command.Action.TheVariants.{Enqueue, Convert, Release, Cancel, Status, Purge}
-use Rattle.lock_command.specs.Command.{Fields, fields_of, number, spelled, spelling}
+use Rattle.lock_command.specs.Command.{Fields, value_bytes, fields_of, number, spelled, spelling}
 use Rattle.lock_command.specs.Name.{padded}
-use Rattle.lock_command.specs.Reading.{◌>>=◌, passed, host_of, lock_at, request_at, mode_of, name_of, name_at, flag_at, enqueue_at, action_at, command_at, checked, decoded}
+use Rattle.lock_command.specs.Reading.{◌>>=◌, passed, host_of, lock_at, request_at, mode_of, name_of, name_at, no_queue_at, value_of, value_at, enqueue_at, convert_at, action_at, command_at, checked, decoded}
 
 number_long : (n x : ℕ) → length (number n x) ≡ n
 unfolding number
 number_long n x = length-bytes_high_first n x
 
--- by the length of its name
-spelled_long : (host client request : ℕ) (f : Fields) → length f.name ≤ 15 → length (spelled host client request f) ≡ 48
-spelled_long host client request f short =
+-- by the lengths of its name and its value
+spelled_long : (host client request : ℕ) (f : Fields) → length f.name ≤ 15 → length f.value ≡ 16 → length (spelled host client request f) ≡ 48
+spelled_long host client request f short long =
     omega (
       arith,
       short,
-      length-append (number 2 f.lock) (number 8 request ++ (f.purged ∷ (padded f.name ++ replicate 16 0))),
-      length-append (number 8 request) (f.purged ∷ (padded f.name ++ replicate 16 0)),
-      length-append (padded f.name) (replicate 16 0),
+      long,
+      length-append (number 2 f.lock) (number 8 request ++ (f.purged ∷ (padded f.name ++ f.value))),
+      length-append (number 8 request) (f.purged ∷ (padded f.name ++ f.value)),
+      length-append (padded f.name) f.value,
       number_long 2 f.lock,
       number_long 8 request,
       length-append f.name (replicate (15 - length f.name) 0),
@@ -67,23 +68,63 @@ unfolding name_at
 name_short bytes found is =
     leb-true (slice_index bytes 5) 15 (if_some (nat_le (slice_index bytes 5) 15) (name_of (take (slice_index bytes 5) (drop 17 bytes))) found is)
 
+-- the value of a convert that is read, and of a release
+converted_read : (l : Option ℕ) (m : Option Mode) (flag : Bool) (v : Option (List ℕ)) (lock : ℕ) (mode : Mode) (no_queue : Bool) (value : Option (List ℕ))
+    → (l >>= λ a. m >>= λ d. Some (Convert a d flag v)) ≡ Some (Convert lock mode no_queue value) → v ≡ value
+converted_read None m flag v lock mode no_queue value is = absurd (cc)
+converted_read (Some a) None flag v lock mode no_queue value is = absurd (cc)
+converted_read (Some a) (Some d) flag v lock mode no_queue value is = cc
+
+released_read : (l : Option ℕ) (v : Option (List ℕ)) (lock : ℕ) (value : Option (List ℕ)) → (l >>= λ a. Some (Release a v)) ≡ Some (Release lock value) → v ≡ value
+released_read None v lock value is = absurd (cc)
+released_read (Some a) v lock value is = cc
+
+passed_long : (bytes found : List ℕ) → value_of bytes ≡ Some found → length found ≡ 16
+passed_long bytes found is =
+    elim (length bytes == 16) as (λ b. (length bytes == 16) ≡ b → passed b bytes ≡ Some found → length found ≡ 16) [
+      | true ↦ λ e p. let same : bytes ≡ found = cc in ap length (sym same) ∙ eqb-true (length bytes) 16 e
+      | false ↦ λ e p. absurd (let no : ⊥ = cc in no)
+    ] refl is
+
+value_long : (bytes : List ℕ) (value : Option (List ℕ)) → value_at bytes ≡ value → length (value_bytes value) ≡ 16
+unfolding value_at
+value_long bytes None is = refl
+value_long bytes (Some found) is =
+    elim (nat_le 2 (slice_index bytes 4)) as (λ b. (if b then value_of (take 16 (drop 32 bytes)) else None) ≡ Some found → length found ≡ 16) [
+      | true ↦ λ e. passed_long (take 16 (drop 32 bytes)) found e
+      | false ↦ λ e. absurd (let no : ⊥ = cc in no)
+    ] is
+
 -- SO ITS SPELLING IS LONG
 
 module _ (host client request : ℕ) where
-  long_by : (action : Action) → decoded (spelling (record { host = host; client = client; request = request; action = action })) ≡ Some (record { host = host; client = client; request = request; action = action })
-      → length (spelling (record { host = host; client = client; request = request; action = action })) ≡ 48
-  unfolding command_at action_at enqueue_at
+  whole : Action → Command
+  whole action = record { host = host; client = client; request = request; action = action }
+
+  what_is_read : (action : Action) → decoded (spelling (whole action)) ≡ Some (whole action) → action_at (spelling (whole action)) ≡ Some action
+  unfolding command_at whole
+  what_is_read action is =
+      let c = whole action in
+      action_read (host_of (slice_index (spelling c) 1)) (request_at (spelling c)) (action_at (spelling c)) (slice_index (spelling c) 2) c (checked_is (spelling c) (command_at (spelling c)) c is)
+
+  long_by : (action : Action) → decoded (spelling (whole action)) ≡ Some (whole action) → length (spelling (whole action)) ≡ 48
+  unfolding action_at enqueue_at convert_at whole
   long_by (Enqueue lock name mode no_queue) is =
-      let c : Command = record { host = host; client = client; request = request; action = Enqueue lock name mode no_queue } in
-      let read : command_at (spelling c) ≡ Some c = checked_is (spelling c) (command_at (spelling c)) c is in
-      let action = action_read (host_of (slice_index (spelling c) 1)) (request_at (spelling c)) (action_at (spelling c)) (slice_index (spelling c) 2) c read in
-      let found = name_read (lock_at (spelling c)) (name_at (spelling c)) (mode_of (slice_index (spelling c) 3)) (flag_at (spelling c)) lock name mode no_queue action in
-      spelled_long host client request (fields_of (Enqueue lock name mode no_queue)) (name_short (spelling c) found.0 found.1)
-  long_by (Convert lock mode no_queue) is = spelled_long host client request (fields_of (Convert lock mode no_queue)) (omega arith)
-  long_by (Release lock) is = spelled_long host client request (fields_of (Release lock)) (omega arith)
-  long_by (Cancel lock) is = spelled_long host client request (fields_of (Cancel lock)) (omega arith)
-  long_by (Status lock) is = spelled_long host client request (fields_of (Status lock)) (omega arith)
-  long_by (Purge purged) is = spelled_long host client request (fields_of (Purge purged)) (omega arith)
+      let c = whole (Enqueue lock name mode no_queue) in
+      let found = name_read (lock_at (spelling c)) (name_at (spelling c)) (mode_of (slice_index (spelling c) 3)) (no_queue_at (spelling c)) lock name mode no_queue (what_is_read (Enqueue lock name mode no_queue) is) in
+      spelled_long host client request (fields_of (Enqueue lock name mode no_queue)) (name_short (spelling c) found.0 found.1) refl
+  long_by (Convert lock mode no_queue value) is =
+      let c = whole (Convert lock mode no_queue value) in
+      let given = converted_read (lock_at (spelling c)) (mode_of (slice_index (spelling c) 3)) (no_queue_at (spelling c)) (value_at (spelling c)) lock mode no_queue value (what_is_read (Convert lock mode no_queue value) is) in
+      spelled_long host client request (fields_of (Convert lock mode no_queue value)) (omega arith) (value_long (spelling c) value given)
+  long_by (Release lock value) is =
+      let c = whole (Release lock value) in
+      let given = released_read (lock_at (spelling c)) (value_at (spelling c)) lock value (what_is_read (Release lock value) is) in
+      spelled_long host client request (fields_of (Release lock value)) (omega arith) (value_long (spelling c) value given)
+  long_by (Cancel lock) is = spelled_long host client request (fields_of (Cancel lock)) (omega arith) refl
+  long_by (Status lock) is = spelled_long host client request (fields_of (Status lock)) (omega arith) refl
+  long_by (Purge purged) is = spelled_long host client request (fields_of (Purge purged)) (omega arith) refl
 
 pub spelling_long : (command : Command) → decoded (spelling command) ≡ Some command → length (spelling command) ≡ 48
+unfolding whole
 spelling_long command is = long_by command.host command.client command.request command.action is

@@ -1,9 +1,9 @@
 -- Each field of a spelling reads as what was spelled.
-use Rattle.std.proofs.Common.{◌≡◌, ◌≤◌, ◌<◌, ◌-◌, ◌^◌, ℕ, Bool, true, false, cond, not, ◌&&◌, ◌==◌, nat_le, List, ◌∷◌, ◌++◌, length, take, Option, Some, None, refl, sym, ap, ◌∙◌, arith}
-use Rattle.std.specs.Prelude.{replicate}
-use Rattle.std.proofs.Math.Seq.{take-append_seam}
-use Rattle.std.proofs.lemmas.List.{append_assoc}
-use Rattle.std.proofs.lemmas.Bool.{le-leb, lt-ltb}
+use Rattle.std.proofs.Common.{◌≡◌, ◌≤◌, ◌<◌, ◌-◌, ◌^◌, ℕ, Bool, true, false, cond, ◌&&◌, ◌||◌, ◌==◌, nat_le, List, ◌∷◌, ◌++◌, length, length-append, take, drop, Option, Some, None, refl, sym, ap, ◌∙◌, arith}
+use Rattle.std.specs.Prelude.{[], replicate}
+use Rattle.std.proofs.Math.Seq.{take-append_seam, drop-append_seam}
+use Rattle.std.proofs.lemmas.List.{append_assoc, length-replicate, take_all}
+use Rattle.std.proofs.lemmas.Bool.{le-leb, lt-ltb, leb-true, eq-eqb}
 use Rattle.std.specs.Cmp.Derive.{both_true}
 use Rattle.byteorder.specs.Numbers.{big_number-reads_back}
 use Rattle.lock_modes.specs.declared.mode.Mode.{Mode}
@@ -13,8 +13,8 @@ use Rattle.lock_command.specs.declared.command.Command.{Command}
 use Rattle.lock_command.specs.declared.command.Action.{Action}
 use Rattle.lock_command.specs.declared.command.Action.TheVariants.{Enqueue, Convert, Release, Cancel, Status, Purge}
 use Rattle.lock_command.specs.Name.{IsName, padded}
-use Rattle.lock_command.specs.Command.{Fields, fields_of, number, spelled, spelling, mode_number, IsLock, FitsAction, Fits}
-use Rattle.lock_command.specs.Reading.{◌>>=◌, passed, lock_at, request_at, mode_of, name_of, name_at, enqueue_at, convert_at, action_at, command_at}
+use Rattle.lock_command.specs.Command.{Fields, flags_of, value_bytes, fields_of, number, spelled, spelling, mode_number, IsLock, IsValue, FitsAction, Fits}
+use Rattle.lock_command.specs.Reading.{◌>>=◌, passed, lock_at, request_at, mode_of, name_of, name_at, no_queue_at, value_of, value_at, enqueue_at, convert_at, action_at, command_at}
 
 passed_true : {A : Type 0} (test : Bool) (x : A) → test ≡ true → passed test x ≡ Some x
 passed_true test x h = ap (λ t. passed t x) h
@@ -25,7 +25,7 @@ both_are false b h = cc
 
 -- what stands behind the lock number, and behind the request number
 abbrev behind_lock : ℕ → Fields → List ℕ
-behind_lock request f = number 8 request ++ (f.purged ∷ (padded f.name ++ replicate 16 0))
+behind_lock request f = number 8 request ++ (f.purged ∷ (padded f.name ++ f.value))
 
 lock_at-spelled : (host client request : ℕ) (f : Fields) → IsLock f.lock → lock_at (spelled host client request f) ≡ Some f.lock
 unfolding lock_at number
@@ -40,7 +40,7 @@ request_at-spelled host client request f fits =
     let bound : request < 256 ^ 8 = omega (arith, fits.1) in
     let least : nat_le 1 request ≡ true = le-leb 1 request fits.0 in
     let most : nat_le request (2 ^ 62) ≡ true = le-leb request (2 ^ 62) fits.1 in
-    ap (λ n. passed (nat_le 1 n && nat_le n (2 ^ 62)) n) (big_number-reads_back 8 request (f.purged ∷ (padded f.name ++ replicate 16 0)) bound)
+    ap (λ n. passed (nat_le 1 n && nat_le n (2 ^ 62)) n) (big_number-reads_back 8 request (f.purged ∷ (padded f.name ++ f.value)) bound)
     ∙ passed_true _ request (both_true least most)
 
 name_at-spelled : (host client request : ℕ) (f : Fields) → IsName f.name → name_at (spelled host client request f) ≡ Some f.name
@@ -48,9 +48,9 @@ unfolding name_at number
 name_at-spelled host client request f named =
     let lengths = (both_are _ _ named).0 in
     let few : nat_le (length f.name) 15 ≡ true = (both_are _ _ lengths).1 in
-    ap (λ t. cond t (name_of (take (length f.name) (padded f.name ++ replicate 16 0))) None) few
-    ∙ ap (λ l. name_of (take (length f.name) l)) (append_assoc f.name (replicate (15 - length f.name) 0) (replicate 16 0))
-    ∙ ap name_of (take-append_seam f.name (replicate (15 - length f.name) 0 ++ replicate 16 0))
+    ap (λ t. cond t (name_of (take (length f.name) (padded f.name ++ f.value))) None) few
+    ∙ ap (λ l. name_of (take (length f.name) l)) (append_assoc f.name (replicate (15 - length f.name) 0) f.value)
+    ∙ ap name_of (take-append_seam f.name (replicate (15 - length f.name) 0 ++ f.value))
     ∙ passed_true _ f.name named
 
 mode_of-mode_number : (mode : Mode) → mode_of (mode_number mode) ≡ Some mode
@@ -62,23 +62,60 @@ mode_of-mode_number ProtectedRead = refl
 mode_of-mode_number ProtectedWrite = refl
 mode_of-mode_number Exclusive = refl
 
-flag_again : (no_queue : Bool) → not (cond no_queue 1 0 == 0) ≡ no_queue
-flag_again true = refl
-flag_again false = refl
+no_queue_again : (no_queue : Bool) (value : Option (List ℕ)) → (flags_of no_queue value == 1 || flags_of no_queue value == 3) ≡ no_queue
+no_queue_again true None = refl
+no_queue_again true (Some bytes) = refl
+no_queue_again false None = refl
+no_queue_again false (Some bytes) = refl
+
+-- a name fills its place
+padded_long : (name : List ℕ) → IsName name → length (padded name) ≡ 15
+padded_long name named =
+    let few : length name ≤ 15 = leb-true (length name) 15 (both_are _ _ (both_are _ _ named).0).1 in
+    omega (arith, few, length-append name (replicate (15 - length name) 0), length-replicate {A = ℕ} (15 - length name) 0)
+
+-- so the value stands behind it
+behind_name : (name value : List ℕ) → length (padded name) ≡ 15 → length value ≡ 16 → value_of (take 16 (drop 15 (padded name ++ value))) ≡ Some value
+behind_name name value placed long =
+    ap (λ n. value_of (take 16 (drop n (padded name ++ value)))) (sym placed)
+    ∙ ap (λ l. value_of (take 16 l)) (drop-append_seam (padded name) value)
+    ∙ ap value_of (take_all 16 value (omega (arith, long)))
+    ∙ passed_true _ value (eq-eqb (length value) 16 long)
+
+value_again : (no_queue : Bool) (value : Option (List ℕ)) (name : List ℕ) → length (padded name) ≡ 15 → IsValue value
+    → cond (nat_le 2 (flags_of no_queue value)) (value_of (take 16 (drop 15 (padded name ++ value_bytes value)))) None ≡ value
+value_again true None name placed fits = refl
+value_again false None name placed fits = refl
+value_again true (Some bytes) name placed fits = behind_name name bytes placed fits
+value_again false (Some bytes) name placed fits = behind_name name bytes placed fits
+
+value_at-converted : (host client request lock : ℕ) (mode : Mode) (no_queue : Bool) (value : Option (List ℕ)) → IsValue value
+    → value_at (spelled host client request (fields_of (Convert lock mode no_queue value))) ≡ value
+unfolding value_at number
+value_at-converted host client request lock mode no_queue value fits = value_again no_queue value [] refl fits
+
+value_at-released : (host client request lock : ℕ) (value : Option (List ℕ)) → IsValue value
+    → value_at (spelled host client request (fields_of (Release lock value))) ≡ value
+unfolding value_at number
+value_at-released host client request lock value fits = value_again false value [] refl fits
 
 action_at-spelled : (host client request : ℕ) (a : Action) → FitsAction a → action_at (spelled host client request (fields_of a)) ≡ Some a
 unfolding action_at enqueue_at convert_at number
 action_at-spelled host client request (Enqueue lock name mode no_queue) fits =
-    ap (λ (found : Option ℕ). found >>= λ l. name_at (spelled host client request (fields_of (Enqueue lock name mode no_queue))) >>= λ n. mode_of (mode_number mode) >>= λ m. Some (Enqueue l n m (not (cond no_queue 1 0 == 0)))) (lock_at-spelled host client request (fields_of (Enqueue lock name mode no_queue)) fits.0)
-    ∙ ap (λ (found : Option (List ℕ)). found >>= λ n. mode_of (mode_number mode) >>= λ m. Some (Enqueue lock n m (not (cond no_queue 1 0 == 0)))) (name_at-spelled host client request (fields_of (Enqueue lock name mode no_queue)) fits.1)
-    ∙ ap (λ (found : Option Mode). found >>= λ m. Some (Enqueue lock name m (not (cond no_queue 1 0 == 0)))) (mode_of-mode_number mode)
-    ∙ ap (λ flag. Some (Enqueue lock name mode flag)) (flag_again no_queue)
-action_at-spelled host client request (Convert lock mode no_queue) fits =
-    ap (λ (found : Option ℕ). found >>= λ l. mode_of (mode_number mode) >>= λ m. Some (Convert l m (not (cond no_queue 1 0 == 0)))) (lock_at-spelled host client request (fields_of (Convert lock mode no_queue)) fits)
-    ∙ ap (λ (found : Option Mode). found >>= λ m. Some (Convert lock m (not (cond no_queue 1 0 == 0)))) (mode_of-mode_number mode)
-    ∙ ap (λ flag. Some (Convert lock mode flag)) (flag_again no_queue)
-action_at-spelled host client request (Release lock) fits =
-    ap (λ (found : Option ℕ). found >>= λ l. Some (Release l)) (lock_at-spelled host client request (fields_of (Release lock)) fits)
+    ap (λ (found : Option ℕ). found >>= λ l. name_at (spelled host client request (fields_of (Enqueue lock name mode no_queue))) >>= λ n. mode_of (mode_number mode) >>= λ m. Some (Enqueue l n m (no_queue_at (spelled host client request (fields_of (Enqueue lock name mode no_queue)))))) (lock_at-spelled host client request (fields_of (Enqueue lock name mode no_queue)) fits.0)
+    ∙ ap (λ (found : Option (List ℕ)). found >>= λ n. mode_of (mode_number mode) >>= λ m. Some (Enqueue lock n m (no_queue_at (spelled host client request (fields_of (Enqueue lock name mode no_queue)))))) (name_at-spelled host client request (fields_of (Enqueue lock name mode no_queue)) fits.1)
+    ∙ ap (λ (found : Option Mode). found >>= λ m. Some (Enqueue lock name m (no_queue_at (spelled host client request (fields_of (Enqueue lock name mode no_queue)))))) (mode_of-mode_number mode)
+    ∙ ap (λ flag. Some (Enqueue lock name mode flag)) (no_queue_again no_queue None)
+action_at-spelled host client request (Convert lock mode no_queue value) fits =
+    let bytes = spelled host client request (fields_of (Convert lock mode no_queue value)) in
+    ap (λ (found : Option ℕ). found >>= λ l. mode_of (mode_number mode) >>= λ m. Some (Convert l m (no_queue_at bytes) (value_at bytes))) (lock_at-spelled host client request (fields_of (Convert lock mode no_queue value)) fits.0)
+    ∙ ap (λ (found : Option Mode). found >>= λ m. Some (Convert lock m (no_queue_at bytes) (value_at bytes))) (mode_of-mode_number mode)
+    ∙ ap (λ flag. Some (Convert lock mode flag (value_at bytes))) (no_queue_again no_queue value)
+    ∙ ap (λ v. Some (Convert lock mode no_queue v)) (value_at-converted host client request lock mode no_queue value fits.1)
+action_at-spelled host client request (Release lock value) fits =
+    let bytes = spelled host client request (fields_of (Release lock value)) in
+    ap (λ (found : Option ℕ). found >>= λ l. Some (Release l (value_at bytes))) (lock_at-spelled host client request (fields_of (Release lock value)) fits.0)
+    ∙ ap (λ v. Some (Release lock v)) (value_at-released host client request lock value fits.1)
 action_at-spelled host client request (Cancel lock) fits =
     ap (λ (found : Option ℕ). found >>= λ l. Some (Cancel l)) (lock_at-spelled host client request (fields_of (Cancel lock)) fits)
 action_at-spelled host client request (Status lock) fits =

@@ -1,5 +1,5 @@
 -- The one spelling of a command: 48 bytes, of each number the highest byte first.
-use Rattle.std.specs.Prelude.{ℕ, ◌<◌, ◌≤◌, ◌^◌, List, [], ◌∷◌, ◌++◌, length, replicate, if◌then◌else◌}
+use Rattle.std.specs.Prelude.{◌≡◌, ℕ, ◌+◌, ◌<◌, ◌≤◌, ◌^◌, Bool, false, List, [], ◌∷◌, ◌++◌, length, replicate, Option, Some, None, is_some, ⊤, if◌then◌else◌}
 use Rattle.byteorder.specs.Endian.{big_bytes}
 use Rattle.lock_modes.specs.declared.mode.Mode.{Mode}
 use Rattle.lock_modes.specs.declared.mode.Mode.TheVariants.{Null, ConcurrentRead, ConcurrentWrite, ProtectedRead, ProtectedWrite, Exclusive}
@@ -22,29 +22,39 @@ mode_number Exclusive = 5
 pub record Fields : Type 0 where
   pub kind : ℕ
   pub mode : ℕ
-  pub no_queue : ℕ
+  pub flags : ℕ
   pub lock : ℕ
   pub purged : ℕ
   pub name : List ℕ
+  pub value : List ℕ
+
+-- 1 where nothing is to be queued, and 2 where a value is given
+abbrev pub flags_of : Bool → Option (List ℕ) → ℕ
+flags_of no_queue value = (if no_queue then 1 else 0) + (if is_some value then 2 else 0)
+
+-- the bytes of a value, or zeros where none is given
+abbrev pub value_bytes : Option (List ℕ) → List ℕ
+value_bytes None = replicate 16 0
+value_bytes (Some bytes) = bytes
 
 -- what each kind of command puts there
 abbrev pub fields_of : Action → Fields
-fields_of (Enqueue lock name mode no_queue) = record { kind = 1; mode = mode_number mode; no_queue = if no_queue then 1 else 0; lock = lock; purged = 0; name = name }
-fields_of (Convert lock mode no_queue) = record { kind = 2; mode = mode_number mode; no_queue = if no_queue then 1 else 0; lock = lock; purged = 0; name = [] }
-fields_of (Release lock) = record { kind = 3; mode = 0; no_queue = 0; lock = lock; purged = 0; name = [] }
-fields_of (Cancel lock) = record { kind = 4; mode = 0; no_queue = 0; lock = lock; purged = 0; name = [] }
-fields_of (Status lock) = record { kind = 5; mode = 0; no_queue = 0; lock = lock; purged = 0; name = [] }
-fields_of (Purge host) = record { kind = 6; mode = 0; no_queue = 0; lock = 0; purged = host; name = [] }
+fields_of (Enqueue lock name mode no_queue) = record { kind = 1; mode = mode_number mode; flags = flags_of no_queue None; lock = lock; purged = 0; name = name; value = value_bytes None }
+fields_of (Convert lock mode no_queue value) = record { kind = 2; mode = mode_number mode; flags = flags_of no_queue value; lock = lock; purged = 0; name = []; value = value_bytes value }
+fields_of (Release lock value) = record { kind = 3; mode = 0; flags = flags_of false value; lock = lock; purged = 0; name = []; value = value_bytes value }
+fields_of (Cancel lock) = record { kind = 4; mode = 0; flags = 0; lock = lock; purged = 0; name = []; value = value_bytes None }
+fields_of (Status lock) = record { kind = 5; mode = 0; flags = 0; lock = lock; purged = 0; name = []; value = value_bytes None }
+fields_of (Purge host) = record { kind = 6; mode = 0; flags = 0; lock = 0; purged = host; name = []; value = value_bytes None }
 
 -- a number in so many bytes
 unfoldable pub number : ℕ → ℕ → List ℕ
 number n x = big_bytes n x
 
--- the fields in the order of their bytes, and 16 zeros
+-- the fields in the order of their bytes
 abbrev pub spelled : ℕ → ℕ → ℕ → Fields → List ℕ
 spelled host client request f =
-    (f.kind ∷ host ∷ client ∷ f.mode ∷ f.no_queue ∷ length f.name ∷ [])
-    ++ (number 2 f.lock ++ (number 8 request ++ (f.purged ∷ (padded f.name ++ replicate 16 0))))
+    (f.kind ∷ host ∷ client ∷ f.mode ∷ f.flags ∷ length f.name ∷ [])
+    ++ (number 2 f.lock ++ (number 8 request ++ (f.purged ∷ (padded f.name ++ f.value))))
 
 -- the one spelling of a command
 abbrev pub spelling : Command → List ℕ
@@ -54,11 +64,16 @@ spelling c = spelled c.host c.client c.request (fields_of c.action)
 abbrev pub IsLock : ℕ → Type 0
 IsLock lock = (1 ≤ lock) × (lock < 2 ^ 16)
 
--- the numbers of an action are in their ranges, and its name is one
+-- a given value has 16 bytes
+abbrev pub IsValue : Option (List ℕ) → Type 0
+IsValue None = ⊤
+IsValue (Some bytes) = length bytes ≡ 16
+
+-- the numbers of an action are in their ranges, its name is one, and so is its value
 abbrev pub FitsAction : Action → Type 0
 FitsAction (Enqueue lock name mode no_queue) = IsLock lock × IsName name
-FitsAction (Convert lock mode no_queue) = IsLock lock
-FitsAction (Release lock) = IsLock lock
+FitsAction (Convert lock mode no_queue value) = IsLock lock × IsValue value
+FitsAction (Release lock value) = IsLock lock × IsValue value
 FitsAction (Cancel lock) = IsLock lock
 FitsAction (Status lock) = IsLock lock
 FitsAction (Purge host) = host < HOSTS

@@ -1,5 +1,5 @@
 -- What the fields of 48 bytes read as, each by itself. It says nothing of the bytes that no field of the kind reads.
-use Rattle.std.specs.Prelude.{ℕ, ◌==◌, ◌^◌, nat_lt, nat_le, Bool, ◌&&◌, not, List, take, drop, slice_index, Option, Some, None, if◌then◌else◌, bytes_eq}
+use Rattle.std.specs.Prelude.{ℕ, ◌==◌, ◌^◌, nat_lt, nat_le, Bool, ◌&&◌, ◌||◌, List, length, take, drop, slice_index, Option, Some, None, if◌then◌else◌, bytes_eq}
 use Rattle.byteorder.specs.Endian.{big_number}
 use Rattle.lock_modes.specs.declared.mode.Mode.{Mode}
 use Rattle.lock_modes.specs.declared.mode.Mode.TheVariants.{Null, ConcurrentRead, ConcurrentWrite, ProtectedRead, ProtectedWrite, Exclusive}
@@ -51,9 +51,17 @@ name_of bytes = passed (is_name bytes) bytes
 unfoldable pub name_at : List ℕ → Option (List ℕ)
 name_at bytes = let n = slice_index bytes 5 in if nat_le n 15 then name_of (take n (drop 17 bytes)) else None
 
--- the flag in byte 4
-abbrev pub flag_at : List ℕ → Bool
-flag_at bytes = not (slice_index bytes 4 == 0)
+-- whether byte 4 asks for no queue
+abbrev pub no_queue_at : List ℕ → Bool
+no_queue_at bytes = let flags = slice_index bytes 4 in flags == 1 || flags == 3
+
+-- 16 bytes
+abbrev pub value_of : List ℕ → Option (List ℕ)
+value_of bytes = passed (length bytes == 16) bytes
+
+-- the value in bytes 32 to 47, where byte 4 says that one is given
+unfoldable pub value_at : List ℕ → Option (List ℕ)
+value_at bytes = if nat_le 2 (slice_index bytes 4) then value_of (take 16 (drop 32 bytes)) else None
 
 -- what an enqueue asks, and a convert, and any kind
 unfoldable pub enqueue_at : List ℕ → Option Action
@@ -61,20 +69,20 @@ enqueue_at bytes = do
   lock ← lock_at bytes
   name ← name_at bytes
   mode ← mode_of (slice_index bytes 3)
-  Some (Enqueue lock name mode (flag_at bytes))
+  Some (Enqueue lock name mode (no_queue_at bytes))
 
 unfoldable pub convert_at : List ℕ → Option Action
 convert_at bytes = do
   lock ← lock_at bytes
   mode ← mode_of (slice_index bytes 3)
-  Some (Convert lock mode (flag_at bytes))
+  Some (Convert lock mode (no_queue_at bytes) (value_at bytes))
 
 unfoldable pub action_at : List ℕ → Option Action
 action_at bytes =
     let kind = slice_index bytes 0 in
     if kind == 1 then enqueue_at bytes
     else if kind == 2 then convert_at bytes
-    else if kind == 3 then (do lock ← lock_at bytes; Some (Release lock))
+    else if kind == 3 then (do lock ← lock_at bytes; Some (Release lock (value_at bytes)))
     else if kind == 4 then (do lock ← lock_at bytes; Some (Cancel lock))
     else if kind == 5 then (do lock ← lock_at bytes; Some (Status lock))
     else if kind == 6 then (do host ← host_of (slice_index bytes 16); Some (Purge host))

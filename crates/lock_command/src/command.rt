@@ -1,5 +1,6 @@
 use crate::name::LockName;
 use crate::number::{ClientNumber, HostNumber, LockNumber, RequestNumber};
+use crate::value::ValueBytes;
 use lock_modes::Mode;
 
 /// What a client asks of the lock table, and through which host.
@@ -21,14 +22,18 @@ pub enum Action {
         mode: Mode,
         no_queue: bool,
     },
-    /// Changes the mode that a lock holds.
+    /// Changes the mode that a lock holds. A given value is stored where that is downward.
     Convert {
         lock: LockNumber,
         mode: Mode,
         no_queue: bool,
+        value: Option<ValueBytes>,
     },
-    /// Gives a lock up, in whatever state it is.
-    Release(LockNumber),
+    /// Gives a lock up, in whatever state it is. A given value is stored where the lock writes alone.
+    Release {
+        lock: LockNumber,
+        value: Option<ValueBytes>,
+    },
     /// Takes back what a lock wants and has not got.
     Cancel(LockNumber),
     /// Asks what any client's lock holds and wants.

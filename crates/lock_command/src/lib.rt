@@ -6,9 +6,11 @@ mod name;
 mod number;
 mod reading;
 mod spelling;
+mod value;
 
 pub use command::{Action, Command};
 pub use name::LockName;
 pub use number::{ClientNumber, HOSTS, HostNumber, LockNumber, RequestNumber};
 pub use reading::decode;
 pub use spelling::Value;
+pub use value::ValueBytes;

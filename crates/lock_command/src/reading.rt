@@ -1,11 +1,12 @@
 ghost use Rattle.std.specs.Prelude.{bytes_eq, ◌≡◌, ◌↔◌, slice_index, IfSome, IsTrue};
 ghost use Rattle.lock_command.specs.Command.{spelling, Fits as FitsCommand};
-ghost use Rattle.lock_command.specs.Reading.{host_of, lock_at, request_at, mode_of, name_at, enqueue_at, convert_at, action_at, command_at, decoded};
+ghost use Rattle.lock_command.specs.Reading.{host_of, lock_at, request_at, mode_of, name_at, no_queue_at, value_at, enqueue_at, convert_at, action_at, command_at, decoded};
 
 use crate::command::{Action, Command};
 use crate::name::LockName;
 use crate::number::{ClientNumber, HostNumber, LockNumber, RequestNumber};
 use crate::spelling::Value;
+use crate::value::ValueBytes;
 use byteorder::{BigEndian, ByteOrder};
 use lock_modes::Mode;
 
@@ -55,6 +56,24 @@ fn name_at(value: &Value) -> Option<LockName>
     LockName::new(&value[17..17 + len])
 }
 
+fn no_queue_at(value: &Value) -> bool
+    ensures { result ≡ no_queue_at value.now }
+{
+    value[4] == 1 || value[4] == 3
+}
+
+#[tactic(auto, unfolding(crate::specs::Reading::value_at))]
+fn value_at(value: &Value) -> Option<ValueBytes>
+    ensures { result ≡ value_at value.now }
+{
+    if value[4] < 2 {
+        return None;
+    }
+    let mut given = [0; 16];
+    given.copy_from_slice(&value[32..48]);
+    Some(ValueBytes::new(given))
+}
+
 #[tactic(auto, unfolding(crate::specs::Reading::enqueue_at))]
 fn enqueue_at(value: &Value) -> Option<Action>
     ensures { result ≡ enqueue_at value.now }
@@ -63,7 +82,7 @@ fn enqueue_at(value: &Value) -> Option<Action>
         lock: lock_at(value)?,
         name: name_at(value)?,
         mode: mode_of(value[3])?,
-        no_queue: value[4] != 0,
+        no_queue: no_queue_at(value),
     })
 }
 
@@ -74,7 +93,8 @@ fn convert_at(value: &Value) -> Option<Action>
     Some(Action::Convert {
         lock: lock_at(value)?,
         mode: mode_of(value[3])?,
-        no_queue: value[4] != 0,
+        no_queue: no_queue_at(value),
+        value: value_at(value),
     })
 }
 
@@ -85,7 +105,10 @@ fn action_at(value: &Value) -> Option<Action>
     match value[0] {
         1 => enqueue_at(value),
         2 => convert_at(value),
-        3 => Some(Action::Release(lock_at(value)?)),
+        3 => Some(Action::Release {
+            lock: lock_at(value)?,
+            value: value_at(value),
+        }),
         4 => Some(Action::Cancel(lock_at(value)?)),
         5 => Some(Action::Status(lock_at(value)?)),
         6 => Some(Action::Purge(host_of(value[16])?)),
@@ -118,11 +141,12 @@ pub fn decode(value: &Value) -> Option<Command>
     ensures found { IfSome result (λ c. FitsCommand c) }
     ensures spelled { IfSome result (λ c. value.now ≡ spelling c) }
     ensures only { (c : Command) → FitsCommand c → value.now ≡ spelling c → result ≡ Some c }
-    // The same as a function, for layers whose definitions compute.
+    // The result, once more, as a function that definitions of other crates can compute with.
     ensures exact { result ≡ decoded value.now }
 {
     let command = command_at(value)?;
-    // Bytes that no field of the kind reads, and flags above 1, are told by spelling the command again.
+    // Spelling the command again and comparing finds what reading it does not: bytes that no field of its kind uses, flags that
+    // the kind lacks, and a value without its flag.
     if is_spelled(&command, value) {
         Some(command)
     } else {

@@ -1,5 +1,5 @@
-ghost use Rattle.std.specs.Prelude.{◌≡◌, not};
-ghost use Rattle.lock_modes.specs.Mode.{conflict};
+ghost use Rattle.std.specs.Prelude.{◌≡◌, not, true};
+ghost use Rattle.lock_modes.specs.Mode.{conflict, downward, writes_alone};
 
 /// What a lock permits its holder, and what it keeps others from. The modes are those of the OpenVMS lock manager.
 #[derive(Clone, Copy, Debug, PartialEq, Eq)]
@@ -18,7 +18,7 @@ pub enum Mode {
     Exclusive,
 }
 
-/// One row for each mode that is held, and in it one answer for each mode that is wanted, in the order of `Mode`.
+/// A row for each held mode, and in it an answer for each wanted mode, in the order of `Mode`.
 macro_rules! compatibility {
     ($a:expr, $b:expr; $($held:ident: $null:literal $cr:literal $cw:literal $pr:literal $pw:literal $ex:literal;)*) => {
         match $a {
@@ -45,5 +45,25 @@ pub fn compatible(a: Mode, b: Mode) -> bool
         ProtectedRead: true true false true false false;
         ProtectedWrite: true true false false false false;
         Exclusive: true false false false false false;
+    }
+}
+
+/// Whether nobody else writes what the holder of this mode writes.
+pub fn writes_alone(mode: Mode) -> bool
+    ensures alone { result ≡ writes_alone mode }
+{
+    matches!(mode, Mode::ProtectedWrite | Mode::Exclusive)
+}
+
+/// Whether a conversion goes downward: from EX to any mode, or from PW to any but EX. No lock that is compatible with the held
+/// mode conflicts with the wanted one, so it can always be granted.
+pub fn downward(held: Mode, wanted: Mode) -> bool
+    ensures value { result ≡ downward held wanted }
+    ensures no_new_conflict { (other : Mode) → downward held wanted ≡ true → conflict other wanted ≡ true → conflict other held ≡ true }
+{
+    match held {
+        Mode::Exclusive => true,
+        Mode::ProtectedWrite => wanted != Mode::Exclusive,
+        _ => false,
     }
 }

@@ -16,7 +16,7 @@ pub record IsRead (word bytes rest : List ℕ) : Type 0 where
   pub same : hex_bytes word ≡ behind bytes (hex_bytes rest)
   pub long : length word ≡ 2 * length bytes + length rest
 
-joined : (byte : ℕ) (bytes : List ℕ) (rest : Option (List ℕ)) → behind bytes (rest >>= λ more. Some (byte ∷ more)) ≡ behind (bytes ++ byte ∷ []) rest
+pub joined : (byte : ℕ) (bytes : List ℕ) (rest : Option (List ℕ)) → behind bytes (rest >>= λ more. Some (byte ∷ more)) ≡ behind (bytes ++ byte ∷ []) rest
 joined byte bytes None = refl
 joined byte bytes (Some more) = ap Some (sym (append_assoc bytes (byte ∷ []) more))
 

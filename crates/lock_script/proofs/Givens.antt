@@ -1,11 +1,12 @@
 -- A word is read as bytes exactly where it is how they are written.
-use Rattle.std.proofs.Common.{◌≡◌, ◌≤◌, ◌<◌, ◌+◌, ◌-◌, ◌*◌, ◌/◌, ◌%◌, ◌^◌, ◌∙◌, ℕ, Bool, true, false, cond, ◌&&◌, nat_le, nat_lt, List, [], ◌∷◌, Option, Some, None, length, arith, refl, sym, ap, subst, suc, leb-true, le-leb, ltb-true, ltb-false, lt-ltb, le-ltb}
+use Rattle.std.proofs.Common.{◌≡◌, ◌≤◌, ◌<◌, ◌+◌, ◌-◌, ◌*◌, ◌/◌, ◌%◌, ◌^◌, ◌∙◌, ℕ, Bool, true, false, cond, ◌&&◌, ◌==◌, nat_le, nat_lt, List, [], ◌∷◌, Option, Some, None, length, arith, refl, sym, ap, subst, suc, leb-true, le-leb, ltb-true, ltb-false, lt-ltb, le-ltb}
 use Rattle.std.specs.Prelude.{All}
 use Rattle.std.specs.Cmp.Derive.{both_true}
 use Rattle.std.proofs.lemmas.List.Elements.{All-cons, All-nil}
 use Rattle.std.proofs.lemmas.Bool.Decides.{nat_tests}
 use Rattle.lock_command.specs.Reading.{◌>>=◌, passed}
-use Rattle.lock_script.specs.Reading.{digit_of, byte_of, hex_bytes, given_of}
+use Rattle.std.proofs.lemmas.Bool.{eqb-true, eq-eqb}
+use Rattle.lock_script.specs.Reading.{digit_of, byte_of, hex_bytes, given_of, value_of}
 use Rattle.lock_script.specs.Spelling.{hex_digit, hex_word, AreGiven}
 use Rattle.lock_script.proofs.Readings.{bound, was_passed, is_passed, both_are}
 
@@ -135,3 +136,24 @@ unfolding given_of
 given_of-only given fits =
     ap (λ (found : Option (List ℕ)). found >>= λ bytes. passed (nat_le 1 (length bytes) && nat_le (length bytes) 64) bytes) (hex_bytes-only given fits.bytes)
     ∙ is_passed (nat_le 1 (length given) && nat_le (length given) 64) given (both_true (le-leb 1 (length given) fits.some) (le-leb (length given) 64 fits.few))
+
+-- a word that spells a value
+pub record SpellsValue (word bytes : List ℕ) : Type 0 where
+  pub spelled : word ≡ hex_word bytes
+  pub long : length bytes ≡ 16
+  pub small : All (λ byte. byte < 2 ^ 8) bytes
+
+pub value_of-found : (word bytes : List ℕ) → value_of word ≡ Some bytes → SpellsValue word bytes
+unfolding value_of
+value_of-found word bytes h =
+    let found = bound (hex_bytes word) (λ b. passed (length b == 16) b) bytes h in
+    let p = was_passed (length found.0 == 16) found.0 bytes found.2 in
+    let are = hex_bytes-found word found.0 found.1 in
+    let long : length found.0 ≡ 16 = eqb-true (length found.0) 16 p.0 in
+    subst (SpellsValue word) p.1 (record { spelled = are.spelled; long = long; small = are.small })
+
+pub value_of-only : (bytes : List ℕ) → length bytes ≡ 16 → All (λ byte. byte < 2 ^ 8) bytes → value_of (hex_word bytes) ≡ Some bytes
+unfolding value_of
+value_of-only bytes long small =
+    ap (λ (found : Option (List ℕ)). found >>= λ b. passed (length b == 16) b) (hex_bytes-only bytes small)
+    ∙ is_passed (length bytes == 16) bytes (eq-eqb (length bytes) 16 long)

@@ -9,3 +9,4 @@ pub mod Refusing
 pub mod Saying
 pub mod Spoken
 pub mod WordLemmas
+pub mod ValueLemmas

@@ -15,7 +15,7 @@ use Rattle.lock_script.specs.declared.line.Line.{Line}
 use Rattle.lock_script.specs.declared.show.View.{View}
 use Rattle.lock_script.specs.declared.show.View.TheVariants.{Queues, Blocking}
 use Rattle.lock_script.specs.declared.line.Line.TheVariants.{Cluster, Once, Steps, Show}
-use Rattle.lock_script.specs.Words.{first_word, words_behind, no_words, last_word}
+use Rattle.lock_script.specs.Words.{first_word, words_behind, no_words, begins_with, behind_word, last_word}
 
 -- NUMBERS
 
@@ -92,6 +92,12 @@ given_of word = do
   bytes ← hex_bytes word
   passed (nat_le 1 (length bytes) && nat_le (length bytes) 64) bytes
 
+-- 16 bytes
+unfoldable pub value_of : List ℕ → Option (List ℕ)
+value_of word = do
+  bytes ← hex_bytes word
+  passed (length bytes == 16) bytes
+
 -- COMMANDS
 
 unfoldable pub mode_of : List ℕ → Option Mode
@@ -110,6 +116,13 @@ no_queue_at words =
     if no_words words then Some false
     else (do word ← last_word words; passed (bytes_eq word (codes "noqueue")) true)
 
+-- `value` and its bytes, or nothing
+unfoldable pub value_at : List (List ℕ) → Option (Option (List ℕ))
+value_at words =
+    if no_words words then Some None
+    else if begins_with (codes "value") words then (do bytes ← last_word (words_behind words) >>= value_of; Some (Some bytes))
+    else None
+
 unfoldable pub enqueue_at : List (List ℕ) → Option Action
 enqueue_at words = do
   lock ← first_word words >>= lock_of
@@ -122,15 +135,21 @@ unfoldable pub convert_at : List (List ℕ) → Option Action
 convert_at words = do
   lock ← first_word words >>= lock_of
   mode ← first_word (words_behind words) >>= mode_of
-  no_queue ← no_queue_at (words_behind (words_behind words))
-  Some (Convert lock mode no_queue)
+  value ← value_at (behind_word (codes "noqueue") (words_behind (words_behind words)))
+  Some (Convert lock mode (begins_with (codes "noqueue") (words_behind (words_behind words))) value)
+
+unfoldable pub release_at : List (List ℕ) → Option Action
+release_at words = do
+  lock ← first_word words >>= lock_of
+  value ← value_at (words_behind words)
+  Some (Release lock value)
 
 -- what is asked, by its word and those behind the request's number
 unfoldable pub action_at : List ℕ → List (List ℕ) → Option Action
 action_at kind words =
     if bytes_eq kind (codes "enqueue") then enqueue_at words
     else if bytes_eq kind (codes "convert") then convert_at words
-    else if bytes_eq kind (codes "release") then (do lock ← last_word words >>= lock_of; Some (Release lock))
+    else if bytes_eq kind (codes "release") then release_at words
     else if bytes_eq kind (codes "cancel") then (do lock ← last_word words >>= lock_of; Some (Cancel lock))
     else if bytes_eq kind (codes "status") then (do lock ← last_word words >>= lock_of; Some (Status lock))
     else if bytes_eq kind (codes "purge") then (do host ← last_word words >>= host_of; Some (Purge host))

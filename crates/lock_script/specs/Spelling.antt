@@ -1,5 +1,5 @@
 -- The words that say an event, and the lines of a script.
-use Rattle.std.specs.Prelude.{◌<◌, ◌≤◌, ◌+◌, ◌/◌, ◌%◌, ◌^◌, ℕ, Bool, true, false, List, [], ◌∷◌, length, codes, decimal, nat_lt, All, if◌then◌else◌}
+use Rattle.std.specs.Prelude.{◌<◌, ◌≤◌, ◌+◌, ◌/◌, ◌%◌, ◌^◌, ℕ, Bool, true, false, List, [], ◌∷◌, ◌++◌, length, codes, decimal, nat_lt, All, Option, Some, None, ⊤, if◌then◌else◌}
 use Rattle.torn_block.specs.declared.layout.TheConstants.{DISKS, SLOTS}
 use Rattle.lock_modes.specs.declared.mode.Mode.{Mode}
 use Rattle.lock_modes.specs.declared.mode.Mode.TheVariants.{Null, ConcurrentRead, ConcurrentWrite, ProtectedRead, ProtectedWrite, Exclusive}
@@ -41,12 +41,17 @@ abbrev pub no_queue_words : Bool → List (List ℕ)
 no_queue_words true = codes "noqueue" ∷ []
 no_queue_words false = []
 
+-- two last words, or none
+abbrev pub value_words : Option (List ℕ) → List (List ℕ)
+value_words None = []
+value_words (Some bytes) = codes "value" ∷ hex_word bytes ∷ []
+
 -- COMMANDS
 
 abbrev pub kind_word : Action → List ℕ
 kind_word (Enqueue lock name mode no_queue) = codes "enqueue"
-kind_word (Convert lock mode no_queue) = codes "convert"
-kind_word (Release lock) = codes "release"
+kind_word (Convert lock mode no_queue value) = codes "convert"
+kind_word (Release lock value) = codes "release"
 kind_word (Cancel lock) = codes "cancel"
 kind_word (Status lock) = codes "status"
 kind_word (Purge host) = codes "purge"
@@ -54,8 +59,8 @@ kind_word (Purge host) = codes "purge"
 -- what is asked, behind the request's number
 abbrev pub action_words : Action → List (List ℕ)
 action_words (Enqueue lock name mode no_queue) = decimal lock ∷ mode_word mode ∷ name ∷ no_queue_words no_queue
-action_words (Convert lock mode no_queue) = decimal lock ∷ mode_word mode ∷ no_queue_words no_queue
-action_words (Release lock) = decimal lock ∷ []
+action_words (Convert lock mode no_queue value) = decimal lock ∷ mode_word mode ∷ (no_queue_words no_queue ++ value_words value)
+action_words (Release lock value) = decimal lock ∷ value_words value
 action_words (Cancel lock) = decimal lock ∷ []
 action_words (Status lock) = decimal lock ∷ []
 action_words (Purge host) = decimal host ∷ []
@@ -86,6 +91,21 @@ pub record AreGiven (given : List ℕ) : Type 0 where
   pub few : length given ≤ 64
   pub bytes : All (λ byte. byte < 2 ^ 8) given
 
+-- each is a byte
+abbrev pub AreBytes : Option (List ℕ) → Type 0
+AreBytes None = ⊤
+AreBytes (Some bytes) = All (λ byte. byte < 2 ^ 8) bytes
+
+-- so are those of the value that an action gives
+abbrev pub GivesBytes : Action → Type 0
+GivesBytes (Convert lock mode no_queue value) = AreBytes value
+GivesBytes (Release lock value) = AreBytes value
+GivesBytes _ = ⊤
+
+pub record FitsSubmitted (command : Command) : Type 0 where
+  pub fits : FitsCommand command
+  pub bytes : GivesBytes command.action
+
 abbrev pub IsTries : ℕ → Type 0
 IsTries tries = (1 ≤ tries) × (tries ≤ 255)
 
@@ -93,7 +113,7 @@ IsTries tries = (1 ≤ tries) × (tries ≤ 255)
 abbrev pub FitsEvent : Shape → Event → Type 0
 FitsEvent c (Start host) = host < HOSTS
 FitsEvent c (Stop host) = host < HOSTS
-FitsEvent c (Submit command tries) = FitsCommand command × IsTries tries
+FitsEvent c (Submit command tries) = FitsSubmitted command × IsTries tries
 FitsEvent c (Recover host tries) = (host < HOSTS) × IsTries tries
 FitsEvent c (Look host) = host < HOSTS
 FitsEvent c (Beat host) = host < HOSTS

@@ -1,5 +1,5 @@
 -- The words of a line.
-use Rattle.std.specs.Prelude.{◌==◌, ℕ, Bool, true, false, List, [], ◌∷◌, Option, Some, None}
+use Rattle.std.specs.Prelude.{◌==◌, ℕ, Bool, true, false, List, [], ◌∷◌, Option, Some, None, bytes_eq, if◌then◌else◌}
 use Rattle.std.specs.List.{slice_split}
 use Rattle.lock_command.specs.Reading.{◌>>=◌, passed}
 
@@ -24,6 +24,15 @@ words_behind (word ∷ words) = words
 abbrev pub no_words : List (List ℕ) → Bool
 no_words [] = true
 no_words (word ∷ words) = false
+
+-- whether the first word is this one
+abbrev pub begins_with : List ℕ → List (List ℕ) → Bool
+begins_with wanted [] = false
+begins_with wanted (word ∷ words) = bytes_eq word wanted
+
+-- the words behind it, or all where it is not there
+abbrev pub behind_word : List ℕ → List (List ℕ) → List (List ℕ)
+behind_word wanted words = if begins_with wanted words then words_behind words else words
 
 -- the first word, where there is no other
 abbrev pub last_word : List (List ℕ) → Option (List ℕ)

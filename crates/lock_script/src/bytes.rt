@@ -1,6 +1,6 @@
 ghost use Rattle.std.specs.Prelude.{◌≡◌, ◌==◌, position, bytes_eq};
 
-/// Where the byte stands first.
+/// The index of the first such byte.
 pub fn place_of(bytes: &[u8], wanted: u8) -> Option<usize>
     ensures { result ≡ position (λ byte. byte == wanted) bytes.now }
 {

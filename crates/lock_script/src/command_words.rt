@@ -1,12 +1,13 @@
 ghost use Rattle.std.specs.Prelude.{◌≡◌};
 ghost use Rattle.lock_script.specs.Words.{words_of};
-ghost use Rattle.lock_script.specs.Reading.{no_queue_at, enqueue_at, convert_at, action_at, command_at};
+ghost use Rattle.lock_script.specs.Reading.{no_queue_at, value_at, enqueue_at, convert_at, release_at, action_at, command_at};
 
 use crate::bytes::is;
+use crate::digits::value_of;
 use crate::fields::{client_of, host_of, lock_of, request_of};
 use crate::mode_words::mode_of;
 use crate::words::Words;
-use lock_command::{Action, Command, HostNumber, LockName};
+use lock_command::{Action, Command, HostNumber, LockName, ValueBytes};
 
 /// The command that this text is, submitted through a host. Single spaces part its words.
 pub fn read_command(host: HostNumber, text: &[u8]) -> Option<Command>
@@ -42,7 +43,7 @@ fn action_at(kind: &[u8], words: &mut Words<'_>) -> Option<Action>
     } else if is(kind, b"convert") {
         convert_at(words)
     } else if is(kind, b"release") {
-        Some(Action::Release(lock_of(words.last()?)?))
+        release_at(words)
     } else if is(kind, b"cancel") {
         Some(Action::Cancel(lock_of(words.last()?)?))
     } else if is(kind, b"status") {
@@ -76,15 +77,40 @@ fn convert_at(words: &mut Words<'_>) -> Option<Action>
 {
     let lock = lock_of(words.next()?)?;
     let mode = mode_of(words.next()?)?;
-    let no_queue = no_queue_at(words)?;
+    let no_queue = words.skip(b"noqueue");
+    let value = value_at(words)?;
     Some(Action::Convert {
         lock,
         mode,
         no_queue,
+        value,
     })
 }
 
-/// Whether `noqueue` stands there, and not nothing.
+#[tactic(auto, unfolding(crate::specs::Reading::release_at))]
+fn release_at(words: &mut Words<'_>) -> Option<Action>
+    ensures { result ≡ release_at words.old }
+{
+    let lock = lock_of(words.next()?)?;
+    let value = value_at(words)?;
+    Some(Action::Release { lock, value })
+}
+
+/// Reads an optional `value` and its digits. `Some(None)` if no word is left, and `None` for any other words.
+#[tactic(auto, unfolding(crate::specs::Reading::value_at))]
+fn value_at(words: &mut Words<'_>) -> Option<Option<ValueBytes>>
+    ensures { result ≡ value_at words.old }
+{
+    if words.is_empty() {
+        return Some(None);
+    }
+    if !words.skip(b"value") {
+        return None;
+    }
+    Some(Some(value_of(words.last()?)?))
+}
+
+/// Reads an optional `noqueue`: `Some(false)` if no word is left, and `None` for any other words.
 #[tactic(auto, unfolding(crate::specs::Reading::no_queue_at))]
 fn no_queue_at(words: &mut Words<'_>) -> Option<bool>
     ensures { result ≡ no_queue_at words.old }

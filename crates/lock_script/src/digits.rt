@@ -1,7 +1,8 @@
 ghost use Rattle.std.specs.Prelude.{◌≡◌, ◌<◌, IfOk, IfSome};
-ghost use Rattle.lock_script.specs.Reading.{digit_of, byte_of, given_of};
+ghost use Rattle.lock_script.specs.Reading.{digit_of, byte_of, given_of, value_of};
 
 use crate::given::Given;
+use lock_command::ValueBytes;
 use std::alloc::{AllocError, Global};
 
 /// The most bytes that a word gives.
@@ -28,6 +29,21 @@ pub fn given_of(alloc: Global, word: &[u8]) -> Result<Option<Given>, AllocError>
     } else {
         Ok(None)
     }
+}
+
+/// The value that the word spells, if it has 32 digits.
+pub fn value_of(word: &[u8]) -> Option<ValueBytes>
+    ensures { result ≡ value_of word.now }
+{
+    if word.len() != 32 {
+        return None;
+    }
+    let mut bytes = [0; 16];
+    for at in 0..16 {
+        let byte = byte_of(word[2 * at], word[2 * at + 1])?;
+        bytes[at] = byte;
+    }
+    Some(ValueBytes::new(bytes))
 }
 
 /// The byte that two hexadecimal digits spell.

@@ -40,7 +40,7 @@ impl From<AllocError> for LineFault {
     }
 }
 
-/// What stands in a script's lines so far.
+/// What the lines of a script say, up to some line.
 #[derive(Drop)]
 pub struct Draft {
     pub config: Option<Config>,

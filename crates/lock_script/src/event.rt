@@ -34,7 +34,7 @@ pub enum Event {
 }
 
 impl Event {
-    /// The same event again.
+    /// A copy of this event.
     pub fn copy(&self) -> Result<Event, AllocError>
         ensures { IfOk result (λ copy. copy ≡ self.now) }
     {

@@ -39,7 +39,7 @@ impl Model for Events {
 }
 
 impl Events {
-    /// None.
+    /// An empty list of events.
     pub fn new(alloc: Global) -> Events
         ensures { result ≡ [] }
     {
@@ -49,7 +49,7 @@ impl Events {
         }
     }
 
-    /// How many there are.
+    /// How many events there are.
     pub fn len(&self) -> usize
         ensures len { result ≡ length self.now }
         ensures few { result ≤ MOST_EVENTS }
@@ -57,7 +57,7 @@ impl Events {
         self.len
     }
 
-    /// The runs that they come in, none left out.
+    /// The runs in their order: an event, and how often it happens in a row.
     pub fn runs(&self) -> &[Run]
         ensures runs { each_event result.now ≡ self.now }
         ensures few { length self.now ≤ MOST_EVENTS }
@@ -65,7 +65,7 @@ impl Events {
         &self.runs
     }
 
-    /// Adds an event behind them, so many times.
+    /// Adds an event at the end, so many times.
     pub fn push(&mut self, event: Event, times: usize) -> Result<(), AllocError>
         requires { length self.old + times ≤ MOST_EVENTS }
         ensures pushed { OnOk result (self.new ≡ self.old ++ replicate times event) }
@@ -78,7 +78,7 @@ impl Events {
         Ok(())
     }
 
-    /// A list of them, each by itself.
+    /// All events, one by one.
     pub fn to_vec(&self, alloc: Global) -> Result<Vec<Event>, AllocError>
         ensures { IfOk result (λ events. events.items ≡ self.now) }
     {
@@ -90,7 +90,7 @@ impl Events {
     }
 }
 
-/// Adds a run's events behind these.
+/// Adds the events of a run at the end.
 fn push_run(events: &mut Vec<Event>, run: &Run) -> Result<(), AllocError>
     ensures { OnOk result (events.new.items ≡ events.old.items ++ replicate run.now.times run.now.event) }
 {

@@ -8,10 +8,10 @@ use torn_block::{DISKS, SLOTS};
 /// Hosts are numbered from 0.
 const LAST_HOST: u64 = HOSTS as u64 - 1;
 
-/// Disks are, too. No cluster has one with a higher number.
+/// Disks are numbered from 0. No cluster has a disk with a higher number than this.
 const LAST_DISK: u64 = DISKS as u64 - 1;
 
-/// So are slots. No log has one with a higher number.
+/// Slots are numbered from 0. No log has a slot with a higher number than this.
 const LAST_SLOT: u64 = SLOTS as u64 - 1;
 
 /// The most steps that one line asks for.

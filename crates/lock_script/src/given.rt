@@ -35,7 +35,7 @@ impl Given {
         &self.bytes
     }
 
-    /// The same bytes again.
+    /// A copy of these bytes.
     pub fn copy(&self) -> Result<Given, AllocError>
         ensures { IfOk result (λ copy. copy ≡ self.now) }
     {

@@ -13,7 +13,7 @@ pub fn first_line(bytes: &[u8]) -> (&[u8], &[u8])
     cut(bytes)
 }
 
-/// What stands in front of the first line end, and what behind it.
+/// The bytes before the first line end, and those after it.
 fn cut(bytes: &[u8]) -> (&[u8], &[u8])
     requires { 0 < length bytes.now }
     ensures line { result.0.now ≡ before_first (λ byte. byte == 10) bytes.now }

@@ -1,14 +1,14 @@
 ghost use Rattle.std.specs.Prelude.{◌≡◌};
 ghost use Rattle.std.specs.Option.{option_copied};
-ghost use Rattle.lock_script.specs.Words.{words_of, first_word, words_behind, no_words, last_word};
+ghost use Rattle.lock_script.specs.Words.{words_of, first_word, words_behind, no_words, begins_with, behind_word, last_word};
 
-use crate::bytes::place_of;
+use crate::bytes::{is, place_of};
 use std::marker::Model;
 
 /// The words of a line that are left, which single spaces part. Contracts see them as a list.
 #[derive(Drop)]
 pub struct Words<'a> {
-    /// What stands behind the space that was read last.
+    /// The bytes after the last space that was read.
     rest: Option<&'a [u8]>,
 }
 
@@ -53,6 +53,21 @@ impl<'a> Words<'a> {
     {
         let word = self.next()?;
         if self.is_empty() { Some(word) } else { None }
+    }
+
+    /// Passes over the next word, if it is this one.
+    pub fn skip(&mut self, wanted: &[u8]) -> bool
+        ensures there { result ≡ begins_with wanted.now self.old }
+        ensures behind { self.new ≡ behind_word wanted.now self.old }
+    {
+        let before = self.rest;
+        if let Some(word) = self.next()
+            && is(word, wanted)
+        {
+            return true;
+        }
+        self.rest = before;
+        false
     }
 
     pub fn is_empty(&self) -> bool

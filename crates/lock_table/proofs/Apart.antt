@@ -1,9 +1,10 @@
 -- What is done on one name leaves the other names alone.
-use Rattle.std.proofs.Common.{◌≡◌, ◌≤◌, ◌+◌, ℕ, Bool, true, false, cond, not, ◌&&◌, List, [], ◌∷◌, ◌++◌, refl, sym, ap, ◌∙◌, arith}
-use Rattle.std.specs.List.{filter}
+use Rattle.std.proofs.Common.{◌≡◌, ◌≤◌, ◌+◌, ℕ, Bool, true, false, cond, not, ◌&&◌, ◌||◌, List, [], ◌∷◌, ◌++◌, refl, sym, ap, ◌∙◌, arith}
+use Rattle.std.specs.List.{filter, list_any}
 use Rattle.std.specs.Cmp.Lexicographic.{same_text}
 use Rattle.std.proofs.lemmas.Bool.{eq-eqb}
 use Rattle.std.proofs.lemmas.List.Elements.{filter-append}
+use Rattle.std.proofs.lemmas.List.Folds.{list_any-append}
 use Rattle.lock_modes.specs.declared.mode.Mode.{Mode}
 use Rattle.lock_command.specs.Name.{same_name}
 use Rattle.lock_table.specs.declared.record.LockRecord.{LockRecord}
@@ -138,3 +139,25 @@ IsDistinct-settled name a distinct = grants_distinct (queue a name) a distinct
 pub IsDistinct-settled_all : (names : List (List ℕ)) (a : List LockRecord) → IsDistinct a → IsDistinct (settled_all a names)
 IsDistinct-settled_all [] a distinct = distinct
 IsDistinct-settled_all (name ∷ names) a distinct = IsDistinct-settled_all names (settled a name) (IsDistinct-settled name a distinct)
+
+or_yes : (b : Bool) → (b || true) ≡ true
+or_yes true = refl
+or_yes false = refl
+
+-- a name of which a lock is put has one
+pub put_there : (name : List ℕ) (r : LockRecord) (a : List LockRecord) → is_on name r ≡ true → list_any (is_on name) (put a r) ≡ true
+put_there name r a own =
+    list_any-append (is_on name) (without a r.lock) (r ∷ []) ∙ ap (λ b. list_any (is_on name) (without a r.lock) || (b || false)) own ∙ or_yes (list_any (is_on name) (without a r.lock))
+
+grants_there : (name : List ℕ) (q a : List LockRecord) → Each (λ r. is_on name r ≡ true) q → list_any (is_on name) a ≡ true → list_any (is_on name) (grant_from q a) ≡ true
+grants_there name [] a each has = has
+grants_there name (r ∷ q) a each has =
+    elim (admits a r.lock r.name (goal_of r.state)) as (λ t. list_any (is_on name) (cond t (grant_from q (put a (granted r))) a) ≡ true) [
+      | true ↦ grants_there name q (put a (granted r)) each.1 (put_there name (granted r) a each.0)
+      | false ↦ has
+    ]
+
+-- a name that is settled keeps its locks
+pub settled_there : (name : List ℕ) (a : List LockRecord) → list_any (is_on name) a ≡ true → list_any (is_on name) (settled a name) ≡ true
+unfolding settled Queues
+settled_there name a has = grants_there name (queue a name) a (each_more (Queues name a) (λ r. is_on name r ≡ true) (λ r h. h.0) (queue a name) (each-queues name a)) has

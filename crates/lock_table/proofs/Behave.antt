@@ -12,11 +12,14 @@ use Rattle.lock_table.specs.declared.record.LockState.{LockState}
 use Rattle.lock_table.specs.declared.record.LockState.TheVariants.{Granted, Converting, Waiting}
 use Rattle.lock_table.specs.declared.record.KnownClient.{KnownClient}
 use Rattle.lock_table.specs.declared.reply.Refusal.TheVariants as refusal
+use Rattle.lock_table.specs.declared.reply.Answer.{Answer}
+use Rattle.lock_table.specs.declared.reply.Answer.TheVariants as answer
 use Rattle.lock_table.specs.declared.reply.Reply.{Reply}
-use Rattle.lock_table.specs.declared.reply.Reply.TheVariants as reply
+use Rattle.lock_table.specs.Values.{Values, zeros, invalid, is_writer, is_downward, given, of_locked, is_granted, is_released, changed, values_after, value_of_lock, asked_value, returned}
 use Rattle.lock_table.specs.Locks.{is_lock, is_on, in_state, lock_in, admits, has_queue, IsDistinct}
-use Rattle.lock_table.specs.Apply.{Outcome, enqueued, converted, released, cancelled, with_own, told, is_through, purged, done, Plain, Applied, is_client, kept, carried_out, applied_after, applied}
-use Rattle.lock_table.specs.Picture.{HasSameLocks, HasSameClients}
+use Rattle.lock_table.specs.Apply.{Outcome, enqueued, converted, released, cancelled, with_own, told, purged, done, Plain, Applied, is_client, kept, replied, carried_out, applied_after, applied}
+use Rattle.lock_table.specs.Locks.{is_through}
+use Rattle.lock_table.specs.Picture.{HasSameLocks, HasSameClients, HasZeros}
 use Rattle.lock_table.proofs.Parts.{find_alike, length_alike, AlikeBy-filter, AlikeBy-append}
 use Rattle.lock_table.proofs.Numbered.{IsDistinct-filter, IsDistinct-put}
 use Rattle.lock_table.proofs.Alike.{same-filter, same-put, same-any, same-lock_in, same-length, same-admits, same-has_queue, same-settled}
@@ -26,7 +29,7 @@ use Rattle.lock_table.proofs.Settled.{is_among, same-settled_all}
 -- the same locks are left, and the same is answered
 record IsSameOutcome (x y : Outcome) : Type 0 where
   pub locks : HasSameLocks x.locks y.locks
-  pub reply : x.reply ≡ y.reply
+  pub answer : x.answer ≡ y.answer
 
 by_test : (t u : Bool) (x y v w : Outcome) → t ≡ u → IsSameOutcome x v → IsSameOutcome y w → IsSameOutcome (cond t x y) (cond u v w)
 by_test true true x y v w same one other = one
@@ -34,41 +37,41 @@ by_test true false x y v w same one other = let impossible : ⊥ = cc in absurd 
 by_test false true x y v w same one other = let impossible : ⊥ = cc in absurd impossible
 by_test false false x y v w same one other = other
 
-answered : (a b : List LockRecord) (r : Reply) → HasSameLocks a b → IsSameOutcome (record { locks = a; reply = r }) (record { locks = b; reply = r })
-answered a b r s = record { locks = s; reply = refl }
+answered : (a b : List LockRecord) (r : Answer) → HasSameLocks a b → IsSameOutcome (record { locks = a; answer = r }) (record { locks = b; answer = r })
+answered a b r s = record { locks = s; answer = refl }
 
 same-enqueued : (a b : List LockRecord) (new : LockRecord) (mode : Mode) (no_queue : Bool) → HasSameLocks a b → IsSameOutcome (enqueued a new mode no_queue) (enqueued b new mode no_queue)
 same-enqueued a b new mode no_queue s =
-    by_test _ _ _ _ _ _ (ap is_some (same-lock_in new.lock a b s)) (answered a b (reply.Refused refusal.LockInUse) s)
-    (by_test _ _ _ _ _ _ (ap (nat_le LOCKS) (same-length a b s)) (answered a b (reply.Refused refusal.TableFull) s)
-    (by_test _ _ _ _ _ _ (λ i. not (same-has_queue new.name a b s i) && same-admits new.lock new.name mode a b s i) (answered _ _ reply.Granted (same-put (in_state new (Granted mode)) a b s))
-    (by_test no_queue no_queue _ _ _ _ refl (answered a b (reply.Refused refusal.NotQueued) s)
-    (answered _ _ reply.Queued (same-put (in_state new (Waiting mode)) a b s)))))
+    by_test _ _ _ _ _ _ (ap is_some (same-lock_in new.lock a b s)) (answered a b (answer.Refused refusal.LockInUse) s)
+    (by_test _ _ _ _ _ _ (ap (nat_le LOCKS) (same-length a b s)) (answered a b (answer.Refused refusal.TableFull) s)
+    (by_test _ _ _ _ _ _ (λ i. not (same-has_queue new.name a b s i) && same-admits new.lock new.name mode a b s i) (answered _ _ answer.Granted (same-put (in_state new (Granted mode)) a b s))
+    (by_test no_queue no_queue _ _ _ _ refl (answered a b (answer.Refused refusal.NotQueued) s)
+    (answered _ _ answer.Queued (same-put (in_state new (Waiting mode)) a b s)))))
 
 same-converted : (a b : List LockRecord) (r : LockRecord) (mode : Mode) (no_queue : Bool) (state : LockState) → HasSameLocks a b → IsSameOutcome (converted a r mode no_queue state) (converted b r mode no_queue state)
-same-converted a b r mode no_queue (Waiting wanted) s = answered a b (reply.Refused refusal.StillWaiting) s
-same-converted a b r mode no_queue (Converting held wanted) s = answered a b (reply.Refused refusal.AlreadyConverting) s
+same-converted a b r mode no_queue (Waiting wanted) s = answered a b (answer.Refused refusal.StillWaiting) s
+same-converted a b r mode no_queue (Converting held wanted) s = answered a b (answer.Refused refusal.AlreadyConverting) s
 same-converted a b r mode no_queue (Granted held) s =
-    by_test _ _ _ _ _ _ (same-admits r.lock r.name mode a b s) (answered _ _ reply.Granted (same-settled r.name _ _ (same-put (in_state r (Granted mode)) a b s)))
-    (by_test no_queue no_queue _ _ _ _ refl (answered a b (reply.Refused refusal.NotQueued) s)
-    (answered _ _ reply.Queued (same-put (in_state r (Converting held mode)) a b s)))
+    by_test _ _ _ _ _ _ (same-admits r.lock r.name mode a b s) (answered _ _ answer.Granted (same-settled r.name _ _ (same-put (in_state r (Granted mode)) a b s)))
+    (by_test no_queue no_queue _ _ _ _ refl (answered a b (answer.Refused refusal.NotQueued) s)
+    (answered _ _ answer.Queued (same-put (in_state r (Converting held mode)) a b s)))
 
 same-released : (a b : List LockRecord) (r : LockRecord) → HasSameLocks a b → IsSameOutcome (released a r) (released b r)
-same-released a b r s = answered _ _ reply.Released (same-settled r.name _ _ (same-filter (λ o. not (is_lock r.lock o)) a b s))
+same-released a b r s = answered _ _ answer.Released (same-settled r.name _ _ (same-filter (λ o. not (is_lock r.lock o)) a b s))
 
 same-cancelled : (a b : List LockRecord) (r : LockRecord) (state : LockState) → HasSameLocks a b → IsSameOutcome (cancelled a r state) (cancelled b r state)
-same-cancelled a b r (Granted held) s = answered a b (reply.Refused refusal.NothingToCancel) s
-same-cancelled a b r (Converting held wanted) s = answered _ _ reply.Cancelled (same-settled r.name _ _ (same-put (in_state r (Granted held)) a b s))
-same-cancelled a b r (Waiting wanted) s = answered _ _ reply.Cancelled (same-settled r.name _ _ (same-filter (λ o. not (is_lock r.lock o)) a b s))
+same-cancelled a b r (Granted held) s = answered a b (answer.Refused refusal.NothingToCancel) s
+same-cancelled a b r (Converting held wanted) s = answered _ _ answer.Cancelled (same-settled r.name _ _ (same-put (in_state r (Granted held)) a b s))
+same-cancelled a b r (Waiting wanted) s = answered _ _ answer.Cancelled (same-settled r.name _ _ (same-filter (λ o. not (is_lock r.lock o)) a b s))
 
 same-own : (a b : List LockRecord) (client : ℕ) (does also : LockRecord → Outcome) (found : Option LockRecord) → HasSameLocks a b
     → ((r : LockRecord) → IsSameOutcome (does r) (also r)) → IsSameOutcome (with_own a client does found) (with_own b client also found)
-same-own a b client does also None s each = answered a b (reply.Refused refusal.NoSuchLock) s
-same-own a b client does also (Some r) s each = by_test (r.client == client) (r.client == client) _ _ _ _ refl (each r) (answered a b (reply.Refused refusal.NotOwner) s)
+same-own a b client does also None s each = answered a b (answer.Refused refusal.NoSuchLock) s
+same-own a b client does also (Some r) s each = by_test (r.client == client) (r.client == client) _ _ _ _ refl (each r) (answered a b (answer.Refused refusal.NotOwner) s)
 
 same-told : (a b : List LockRecord) (found : Option LockRecord) → HasSameLocks a b → IsSameOutcome (told a found) (told b found)
-same-told a b None s = answered a b (reply.Refused refusal.NoSuchLock) s
-same-told a b (Some r) s = answered a b (reply.State r.state) s
+same-told a b None s = answered a b (answer.Refused refusal.NoSuchLock) s
+same-told a b (Some r) s = answered a b (answer.State r.state) s
 
 pub any-names : (name : List ℕ) (locks : List LockRecord) → is_among (map (λ (r : LockRecord). r.name) locks) name ≡ list_any (is_on name) locks
 any-names name [] = refl
@@ -80,14 +83,14 @@ same-purged a b host s distinct =
     record {
       locks = same-settled_all _ _ _ _ (same-filter (λ r. not (is_through host r)) a b s) (IsDistinct-filter (λ r. not (is_through host r)) a distinct)
           (λ name. any-names name (filter (is_through host) a) ∙ same-any (is_on name) _ _ gone ∙ sym (any-names name (filter (is_through host) b)));
-      reply = ap reply.Purged (same-length _ _ gone);
+      answer = ap answer.Purged (same-length _ _ gone);
     }
 
 same-done : (a b : List LockRecord) (host client : ℕ) (action : Action) → HasSameLocks a b → IsDistinct a → IsSameOutcome (done a host client action) (done b host client action)
 same-done a b host client (Enqueue lock name mode no_queue) s distinct = same-enqueued a b (record { lock = lock; client = client; host = host; name = name; state = Waiting mode }) mode no_queue s
-same-done a b host client (Convert lock mode no_queue) s distinct =
+same-done a b host client (Convert lock mode no_queue value) s distinct =
     rw (same-lock_in lock a b s) (same-own a b client (λ r. converted a r mode no_queue r.state) (λ r. converted b r mode no_queue r.state) (lock_in b lock) s (λ r. same-converted a b r mode no_queue r.state s))
-same-done a b host client (Release lock) s distinct =
+same-done a b host client (Release lock value) s distinct =
     rw (same-lock_in lock a b s) (same-own a b client (released a) (released b) (lock_in b lock) s (λ r. same-released a b r s))
 same-done a b host client (Cancel lock) s distinct =
     rw (same-lock_in lock a b s) (same-own a b client (λ r. cancelled a r r.state) (λ r. cancelled b r r.state) (lock_in b lock) s (λ r. same-cancelled a b r r.state s))
@@ -101,9 +104,40 @@ same-kept : (k : KnownClient) (x y : List KnownClient) → HasSameClients x y �
 unfolding client_of
 same-kept k x y s = AlikeBy-append client_of (k ∷ []) _ _ (AlikeBy-filter client_of (λ other. not (is_client k.client other)) x y s)
 
+-- the same values are stored
+same-changed : (a b : List LockRecord) (values : Values) (action : Action) (r : Answer) → HasSameLocks a b → changed values a action r ≡ changed values b action r
+same-changed a b values (Enqueue lock name mode no_queue) r s = refl
+same-changed a b values (Convert lock mode no_queue value) r s = ap (λ found. cond (is_granted r) (given values (is_downward mode) found value) values) (same-lock_in lock a b s)
+same-changed a b values (Release lock value) r s = ap (λ found. cond (is_released r) (given values is_writer found value) values) (same-lock_in lock a b s)
+same-changed a b values (Cancel lock) r s = refl
+same-changed a b values (Status lock) r s = refl
+same-changed a b values (Purge host) r s = λ i name. cond (same-any (λ r. is_on name r && (is_through host r && is_writer r.state)) a b s i) (invalid (values name)) (values name)
+
+pub same-of_locked : (a b : List LockRecord) (values : Values) → HasSameLocks a b → of_locked a values ≡ of_locked b values
+same-of_locked a b values s = λ i name. cond (same-any (is_on name) a b s i) (values name) zeros
+
+same-asked : (a b : List LockRecord) (values : Values) (action : Action) → HasSameLocks a b → asked_value values a action ≡ asked_value values b action
+same-asked a b values (Enqueue lock name mode no_queue) s = refl
+same-asked a b values (Convert lock mode no_queue value) s = ap (value_of_lock values) (same-lock_in lock a b s)
+same-asked a b values (Release lock value) s = refl
+same-asked a b values (Cancel lock) s = refl
+same-asked a b values (Status lock) s = ap (value_of_lock values) (same-lock_in lock a b s)
+same-asked a b values (Purge host) s = refl
+
+pub same-values_after : (x y p q : List LockRecord) (v w : Values) (action : Action) (r t : Answer) → v ≡ w → HasSameLocks x y → HasSameLocks p q → r ≡ t → values_after v x p action r ≡ values_after w y q action t
+same-values_after x y p q v w action r t values before after answers =
+    (λ i. of_locked p (changed (values i) x action (answers i)))
+    ∙ ap (of_locked p) (same-changed x y w action t before)
+    ∙ same-of_locked p q (changed w y action t) after
+
+pub same-replied : (x y : List LockRecord) (v w : Values) (action : Action) (r t : Answer) → v ≡ w → HasSameLocks x y → r ≡ t → replied v x action r ≡ replied w y action t
+same-replied x y v w action r t values before answers =
+    (λ i. replied (values i) x action (answers i)) ∙ ap (λ v. record { answer = t; value = returned t v }) (same-asked x y w action before)
+
 -- the same table is left, and the same is answered
 pub record IsSameApplied (x y : Applied) : Type 0 where
   pub locks : HasSameLocks x.table.locks y.table.locks
+  pub values : x.table.values ≡ y.table.values
   pub clients : HasSameClients x.table.clients y.table.clients
   pub reply : x.reply ≡ y.reply
 
@@ -113,27 +147,32 @@ by_truth true false x y v w same one other = let impossible : ⊥ = cc in absurd
 by_truth false true x y v w same one other = let impossible : ⊥ = cc in absurd impossible
 by_truth false false x y v w same one other = other
 
-same-carried_out : (x y : Plain) (c : Command) → HasSameLocks x.locks y.locks → HasSameClients x.clients y.clients → IsDistinct x.locks → IsSameApplied (carried_out x c) (carried_out y c)
-same-carried_out x y c locks clients distinct =
+same-carried_out : (x y : Plain) (c : Command) → HasSameLocks x.locks y.locks → x.values ≡ y.values → HasSameClients x.clients y.clients → IsDistinct x.locks → IsSameApplied (carried_out x c) (carried_out y c)
+same-carried_out x y c locks values clients distinct =
     let o = same-done x.locks y.locks c.host c.client c.action locks distinct in
+    let p = done x.locks c.host c.client c.action in
+    let q = done y.locks c.host c.client c.action in
+    let after = same-values_after x.locks y.locks p.locks q.locks x.values y.values c.action p.answer q.answer values locks o.locks o.answer in
+    let same = same-replied x.locks y.locks _ _ c.action p.answer q.answer after locks o.answer in
     record {
       locks = o.locks;
-      clients = λ n. same-kept _ x.clients y.clients clients n ∙ ap (λ (r : Reply). filter (is_client n) (kept y.clients (record { client = c.client; request = c.request; reply = r }))) o.reply;
-      reply = o.reply;
+      values = after;
+      clients = λ n. same-kept _ x.clients y.clients clients n ∙ ap (λ (r : Reply). filter (is_client n) (kept y.clients (record { client = c.client; request = c.request; reply = r }))) same;
+      reply = same;
     }
 
-same-after : (x y : Plain) (c : Command) (found : Option KnownClient) → HasSameLocks x.locks y.locks → HasSameClients x.clients y.clients → IsDistinct x.locks → IsSameApplied (applied_after x c found) (applied_after y c found)
+same-after : (x y : Plain) (c : Command) (found : Option KnownClient) → HasSameLocks x.locks y.locks → x.values ≡ y.values → HasSameClients x.clients y.clients → IsDistinct x.locks → IsSameApplied (applied_after x c found) (applied_after y c found)
 unfolding client_of
-same-after x y c None locks clients distinct =
-    by_truth _ _ _ _ _ _ (ap (nat_le CLIENTS) (length_alike client_of x.clients y.clients clients)) (record { locks = locks; clients = clients; reply = refl }) (same-carried_out x y c locks clients distinct)
-same-after x y c (Some k) locks clients distinct =
-    by_truth (nat_lt c.request k.request) (nat_lt c.request k.request) _ _ _ _ refl (record { locks = locks; clients = clients; reply = refl })
-    (by_truth (c.request == k.request) (c.request == k.request) _ _ _ _ refl (record { locks = locks; clients = clients; reply = refl }) (same-carried_out x y c locks clients distinct))
+same-after x y c None locks values clients distinct =
+    by_truth _ _ _ _ _ _ (ap (nat_le CLIENTS) (length_alike client_of x.clients y.clients clients)) (record { locks = locks; values = values; clients = clients; reply = refl }) (same-carried_out x y c locks values clients distinct)
+same-after x y c (Some k) locks values clients distinct =
+    by_truth (nat_lt c.request k.request) (nat_lt c.request k.request) _ _ _ _ refl (record { locks = locks; values = values; clients = clients; reply = refl })
+    (by_truth (c.request == k.request) (c.request == k.request) _ _ _ _ refl (record { locks = locks; values = values; clients = clients; reply = refl }) (same-carried_out x y c locks values clients distinct))
 
 -- the same command does and answers the same
-pub same-applied : (x y : Plain) (c : Command) → HasSameLocks x.locks y.locks → HasSameClients x.clients y.clients → IsDistinct x.locks → IsSameApplied (applied x c) (applied y c)
+pub same-applied : (x y : Plain) (c : Command) → HasSameLocks x.locks y.locks → x.values ≡ y.values → HasSameClients x.clients y.clients → IsDistinct x.locks → IsSameApplied (applied x c) (applied y c)
 unfolding applied client_of
-same-applied x y c locks clients distinct = rw (find_alike client_of c.client x.clients y.clients clients) (same-after x y c (find (is_client c.client) y.clients) locks clients distinct)
+same-applied x y c locks values clients distinct = rw (find_alike client_of c.client x.clients y.clients clients) (same-after x y c (find (is_client c.client) y.clients) locks values clients distinct)
 
 -- a command leaves no two records with one lock number
 LeavesDistinct : Outcome → Type 0
@@ -175,8 +214,8 @@ distinct-done a host client (Enqueue lock name mode no_queue) d =
     (distinct_by_test (nat_le LOCKS (length a)) _ _ d
     (distinct_by_test (not (has_queue a name) && admits a lock name mode) _ _ (IsDistinct-put a (in_state new (Granted mode)) d)
     (distinct_by_test no_queue _ _ d (IsDistinct-put a (in_state new (Waiting mode)) d))))
-distinct-done a host client (Convert lock mode no_queue) d = distinct-own a client (λ r. converted a r mode no_queue r.state) (lock_in a lock) d (λ r. distinct-converted a r mode no_queue r.state d)
-distinct-done a host client (Release lock) d = distinct-own a client (released a) (lock_in a lock) d (λ r. IsDistinct-settled r.name _ (IsDistinct-filter (λ o. not (is_lock r.lock o)) a d))
+distinct-done a host client (Convert lock mode no_queue value) d = distinct-own a client (λ r. converted a r mode no_queue r.state) (lock_in a lock) d (λ r. distinct-converted a r mode no_queue r.state d)
+distinct-done a host client (Release lock value) d = distinct-own a client (released a) (lock_in a lock) d (λ r. IsDistinct-settled r.name _ (IsDistinct-filter (λ o. not (is_lock r.lock o)) a d))
 distinct-done a host client (Cancel lock) d = distinct-own a client (λ r. cancelled a r r.state) (lock_in a lock) d (λ r. distinct-cancelled a r r.state d)
 distinct-done a host client (Status lock) d = distinct-told a (lock_in a lock) d
 distinct-done a host client (Purge gone) d = IsDistinct-settled_all (map (λ (r : LockRecord). r.name) (filter (is_through gone) a)) _ (IsDistinct-filter (λ r. not (is_through gone r)) a d)
@@ -197,3 +236,25 @@ distinct-after t c (Some k) d =
 pub distinct-applied : (t : Plain) (c : Command) → IsDistinct t.locks → IsDistinct (applied t c).table.locks
 unfolding applied LeavesTableDistinct
 distinct-applied t c d = distinct-after t c (find (is_client c.client) t.clients) d
+
+-- a command leaves zeros under names without locks
+zeros_by_truth : (P : Applied → Type 0) (t : Bool) (x y : Applied) → P x → P y → P (cond t x y)
+zeros_by_truth P true x y one other = one
+zeros_by_truth P false x y one other = other
+
+LeavesZeros : Applied → Type 0
+LeavesZeros x = HasZeros x.table.locks x.table.values
+
+zeros-carried_out : (t : Plain) (c : Command) → LeavesZeros (carried_out t c)
+unfolding LeavesZeros
+zeros-carried_out t c name none = ap (λ b. cond b (changed t.values t.locks c.action (done t.locks c.host c.client c.action).answer name) zeros) none
+
+zeros-after : (t : Plain) (c : Command) (found : Option KnownClient) → HasZeros t.locks t.values → LeavesZeros (applied_after t c found)
+unfolding LeavesZeros
+zeros-after t c None has = zeros_by_truth LeavesZeros (nat_le CLIENTS (length t.clients)) _ _ has (zeros-carried_out t c)
+zeros-after t c (Some k) has =
+    zeros_by_truth LeavesZeros (nat_lt c.request k.request) _ _ has (zeros_by_truth LeavesZeros (c.request == k.request) _ _ has (zeros-carried_out t c))
+
+pub zeros-applied : (t : Plain) (c : Command) → HasZeros t.locks t.values → HasZeros (applied t c).table.locks (applied t c).table.values
+unfolding applied LeavesZeros
+zeros-applied t c has = zeros-after t c (find (is_client c.client) t.clients) has

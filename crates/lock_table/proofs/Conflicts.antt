@@ -3,11 +3,13 @@ use Rattle.std.proofs.Common.{◌≡◌, ◌==◌, ℕ, not, List, length, get_o
 use Rattle.std.proofs.lemmas.List.{get_or-map}
 use Rattle.lock_modes.specs.declared.mode.Mode.{Mode}
 use Rattle.lock_modes.specs.declared.mode.Mode.TheVariants.{Null, ConcurrentRead, ConcurrentWrite, ProtectedRead, ProtectedWrite, Exclusive}
-use Rattle.lock_modes.specs.Mode.{conflict}
+use Rattle.lock_modes.specs.Mode.{conflict, writes_alone}
 use Rattle.lock_table.specs.declared.record.LockRecord.{LockRecord}
 use Rattle.lock_table.specs.declared.record.LockState.{LockState}
 use Rattle.lock_table.specs.declared.record.LockState.TheVariants.{Granted, Converting, Waiting}
+use Rattle.lock_table.specs.declared.bits.TheConstants.{WRITERS}
 use Rattle.lock_table.specs.State.{holds_against}
+use Rattle.lock_table.specs.Values.{is_writer}
 use Rattle.lock_table.specs.Bits.{bit_of, bits_against, held_bit, held_bits}
 
 bits_conflict : (held wanted : Mode) → not (bit_and (bit_of held) (bits_against wanted) == 0) ≡ conflict held wanted
@@ -67,3 +69,23 @@ pub bits_at : (wanted : Mode) (locks : List LockRecord) (bits : List ℕ) (i b :
 bits_at wanted locks bits i b is inside read d =
     ap (λ n. not (bit_and n (bits_against wanted) == 0)) (read ∙ ap (λ l. get_or l i b) is ∙ get_or-map (λ (r : LockRecord). held_bit r.state) locks i d b inside)
     ∙ bits_tell wanted (get_or locks i d).state
+
+writer_tell : (mode : Mode) → not (bit_and (bit_of mode) WRITERS == 0) ≡ writes_alone mode
+writer_tell Null = refl
+writer_tell ConcurrentRead = refl
+writer_tell ConcurrentWrite = refl
+writer_tell ProtectedRead = refl
+writer_tell ProtectedWrite = refl
+writer_tell Exclusive = refl
+
+-- and who writes alone
+pub writers_tell : (s : LockState) → not (bit_and (held_bit s) WRITERS == 0) ≡ is_writer s
+writers_tell (Granted held) = writer_tell held
+writers_tell (Converting held other) = writer_tell held
+writers_tell (Waiting other) = refl
+
+pub writer_at : (locks : List LockRecord) (bits : List ℕ) (i b : ℕ) → bits ≡ held_bits locks → i < length locks → b ≡ get_or bits i b
+    → (d : LockRecord) → not (bit_and b WRITERS == 0) ≡ is_writer (get_or locks i d).state
+writer_at locks bits i b is inside read d =
+    ap (λ n. not (bit_and n WRITERS == 0)) (read ∙ ap (λ l. get_or l i b) is ∙ get_or-map (λ (r : LockRecord). held_bit r.state) locks i d b inside)
+    ∙ writers_tell (get_or locks i d).state

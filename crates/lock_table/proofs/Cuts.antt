@@ -89,7 +89,7 @@ module _ {X : Type 0} (cmp : X → X → Ordering) where
   ascends_behind [] B up = up
   ascends_behind (a ∷ A) B up = ascends_behind A B up.1
 
-  placed_between : (x : X) (A B : List X) → Each cmp (λ y. lt x y ≡ false) A → Each cmp (λ y. lt x y ≡ true) B → A ++ x ∷ B ≡ placed cmp x (A ++ B)
+  pub placed_between : (x : X) (A B : List X) → Each cmp (λ y. lt x y ≡ false) A → Each cmp (λ y. lt x y ≡ true) B → A ++ x ∷ B ≡ placed cmp x (A ++ B)
   placed_between x [] [] low high = refl
   placed_between x [] (b ∷ B) low high = ap (λ t. cond t (x ∷ (b ∷ B)) (b ∷ placed cmp x B)) (sym high.0)
   placed_between x (a ∷ A) B low high =

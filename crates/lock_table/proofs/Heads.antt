@@ -16,7 +16,8 @@ use Rattle.lock_table.specs.declared.record.LockState.TheVariants.{Granted, Conv
 use Rattle.lock_table.specs.declared.record.KnownClient.{KnownClient}
 use Rattle.lock_table.specs.State.{is_converting, is_waiting, is_queued, goal_of, holds_against}
 use Rattle.lock_table.specs.Locks.{is_lock, is_on, in_state, option_or, lock_in, without, put, converts_on, waits_on, conversions, head_of, has_queue, stands_against, admits, settled, settled_all, IsDistinct}
-use Rattle.lock_table.specs.Apply.{Outcome, enqueued, converted, released, cancelled, with_own, told, is_through, purged, done, Plain, Applied, is_client, applied_after, applied, no_locks, table_after}
+use Rattle.lock_table.specs.Apply.{Outcome, enqueued, converted, released, cancelled, with_own, told, purged, done, Plain, Applied, is_client, applied_after, applied, no_locks, table_after}
+use Rattle.lock_table.specs.Locks.{is_through}
 use Rattle.lock_table.specs.Laws.{IsSettled, IsSettledEverywhere}
 use Rattle.lock_table.proofs.Parts.{first, find_is_first, filter-filter, filter_within, or_false}
 use Rattle.lock_table.proofs.Numbered.{numbered, numbered-filter, without_absent, IsDistinct-filter, IsDistinct-put}
@@ -75,7 +76,7 @@ own_number a r distinct there =
     let rest : length found.0 ≡ 0 = omega (arith, distinct r.lock, ap length found.1) in
     found.1 ∙ ap (λ l. r ∷ l) (nil_from_length found.0 rest)
 
-own_on : (a : List LockRecord) (r : LockRecord) → IsDistinct a → lock_in a r.lock ≡ Some r → 1 ≤ numbered r.lock (on r.name a)
+pub own_on : (a : List LockRecord) (r : LockRecord) → IsDistinct a → lock_in a r.lock ≡ Some r → 1 ≤ numbered r.lock (on r.name a)
 own_on a r distinct there =
     let one : filter (is_lock r.lock) (on r.name a) ≡ cond true (r ∷ []) [] =
     filter-filter (is_lock r.lock) (is_on r.name) a ∙ ap (filter (is_on r.name)) (own_number a r distinct there) ∙ ap (λ t. cond t (r ∷ []) []) (same_name-itself r.name) in
@@ -329,9 +330,9 @@ calm-purged a host distinct before name =
 calm-done : (a : List LockRecord) (host client : ℕ) (action : Action) → IsDistinct a → IsSettledEverywhere a → IsSettledEverywhere (done a host client action).locks
 unfolding HasCalm
 calm-done a host client (Enqueue lock name mode no_queue) distinct before = calm-enqueued a (record { lock = lock; client = client; host = host; name = name; state = Waiting mode }) mode no_queue distinct before
-calm-done a host client (Convert lock mode no_queue) distinct before =
+calm-done a host client (Convert lock mode no_queue value) distinct before =
     calm-own a client (λ r. converted a r mode no_queue r.state) (lock_in a lock) before (λ r found. calm-converted a r mode no_queue distinct before (found_again a lock r found) r.state refl)
-calm-done a host client (Release lock) distinct before =
+calm-done a host client (Release lock value) distinct before =
     calm-own a client (released a) (lock_in a lock) before (λ r found. calm-without_settled a r distinct before (found_again a lock r found))
 calm-done a host client (Cancel lock) distinct before =
     calm-own a client (λ r. cancelled a r r.state) (lock_in a lock) before (λ r found. calm-cancelled a r distinct before (found_again a lock r found) r.state)

@@ -1,6 +1,7 @@
 -- Who holds a mode of a name, where the locks stand in printed order.
-use Rattle.std.proofs.Common.{◌≡◌, ◌≤◌, ◌<◌, ℕ, Bool, true, false, not, ◌&&◌, ◌||◌, List, [], ◌∷◌, ◌++◌, length, get_or, take, drop, refl, sym, ap, ◌∙◌, ◌+◌, inl, inr, arith}
+use Rattle.std.proofs.Common.{◌≡◌, ◌≤◌, ◌<◌, ℕ, Bool, true, false, not, ◌&&◌, ◌||◌, List, [], ◌∷◌, ◌++◌, length, get_or, take, drop, Option, Some, None, refl, sym, ap, subst, ◌∙◌, ◌+◌, inl, inr, arith}
 use Rattle.std.specs.List.{list_any, AllWithin}
+use Rattle.std.specs.List.Sorted.{IsSorted, IsPartitionPoint}
 use Rattle.std.specs.Ordering.{is_lt, nat_cmp, ordering_then, ordering_reverse}
 use Rattle.std.specs.Cmp.Lexicographic.{slice_cmp}
 use Rattle.std.specs.declared.cmp.Ordering.{Ordering}
@@ -14,15 +15,18 @@ use Rattle.lock_table.specs.declared.record.LockState.{LockState}
 use Rattle.lock_table.specs.declared.record.LockState.TheVariants.{Granted, Converting, Waiting}
 use Rattle.lock_table.specs.State.{holds_against}
 use Rattle.lock_table.specs.Locks.{is_lock, is_on, stands_against, admits}
-use Rattle.lock_table.specs.Picture.{rank_of, printed_cmp}
+use Rattle.lock_table.specs.Picture.{rank_of, number_among, printed_cmp}
 use Rattle.lock_table.specs.Indexed.{stands_before_rank}
-use Rattle.lock_table.proofs.Ordered.{Each, each_more}
+use Rattle.lock_table.proofs.Ordered.{Each, IsAscending, each_more}
 use Rattle.lock_table.proofs.Keyed.{is_lt_nat}
-use Rattle.lock_table.proofs.Unique.{names_equal}
-use Rattle.lock_table.proofs.Queued.{tied_names}
-use Rattle.lock_table.proofs.Cuts.{each_in_front, each_behind}
+use Rattle.lock_table.proofs.Unique.{ascends, names_equal}
+use Rattle.lock_table.proofs.Parts.{first}
+use Rattle.lock_table.proofs.Apart.{name_is}
+use Rattle.lock_table.proofs.Pictures.{printed_order}
+use Rattle.lock_table.proofs.Queued.{tied_names, name_behind}
+use Rattle.lock_table.proofs.Cuts.{each_in_front, each_behind, ascends_behind}
 
-rank_not_lowest : (o : Ordering) (n : ℕ) → is_lt (ordering_then o (nat_cmp n 0)) ≡ is_lt o
+pub rank_not_lowest : (o : Ordering) (n : ℕ) → is_lt (ordering_then o (nat_cmp n 0)) ≡ is_lt o
 rank_not_lowest Less n = refl
 rank_not_lowest Equal n = is_lt_nat n 0 ∙ le-ltb n 0 (omega arith)
 rank_not_lowest Greater n = refl
@@ -126,3 +130,55 @@ module _ (name : List ℕ) (lock : ℕ) (mode : Mode) (xs : List LockRecord) (fr
   admits_not other holds =
       ap (λ l. admits l lock name mode) step
       ∙ (λ i. not ((between name (get_or xs at d) (after at d above inside) (before at d (omega arith) below) i && (not (other i) && holds i)) || list_any (stands_against lock name mode) (drop (at + 1) xs)))
+
+-- whether a name has locks: those in front are of other names, and so are all behind where the first is
+on_first : List ℕ → Option LockRecord → Bool
+on_first name None = false
+on_first name (Some r) = is_on name r
+
+front_is_elsewhere : (name : List ℕ) (r : LockRecord) → stands_before_rank name 0 r ≡ true → is_on name r ≡ false
+front_is_elsewhere name r before = elim (is_on name r) as (λ b. is_on name r ≡ b → b ≡ false) [
+  | true ↦ λ own.
+      let clash : true ≡ false = sym before ∙ rank_not_lowest (slice_cmp nat_cmp r.name name) (rank_of r.state) ∙ ap is_lt (tied_names name r own) in
+      let impossible : ⊥ = cc in absurd impossible
+  | false ↦ λ other. refl
+] refl
+
+-- what does not stand before a lock of a later name is of another name too
+later_is_elsewhere : (name : List ℕ) (b c : LockRecord) → slice_cmp nat_cmp name b.name ≡ Less → is_lt (printed_cmp c b) ≡ false → is_on name c ≡ false
+later_is_elsewhere name b c less later = elim (is_on name c) as (λ t. is_on name c ≡ t → t ≡ false) [
+  | true ↦ λ own.
+      let first_less : slice_cmp nat_cmp c.name b.name ≡ Less = ap (λ n. slice_cmp nat_cmp n b.name) (name_is c.name name own) ∙ less in
+      let clash : true ≡ false = sym (ap (λ o. is_lt (ordering_then o (ordering_then (nat_cmp (rank_of c.state) (rank_of b.state)) (nat_cmp (number_among c.state c.lock) (number_among b.state b.lock))))) first_less) ∙ later in
+      let impossible : ⊥ = cc in absurd impossible
+  | false ↦ λ other. refl
+] refl
+
+locked_behind : (name : List ℕ) (B : List LockRecord) → Each printed_cmp (λ r. stands_before_rank name 0 r ≡ false) B → IsAscending printed_cmp B → list_any (is_on name) B ≡ on_first name (first B)
+unfolding on_first
+locked_behind name [] later up = refl
+locked_behind name (b ∷ C) later up = elim (is_on name b) as (λ t. is_on name b ≡ t → (t || list_any (is_on name) C) ≡ t) [
+  | true ↦ λ own. refl
+  | false ↦ λ other.
+      let less = name_behind name b (sym (rank_not_lowest (slice_cmp nat_cmp b.name name) (rank_of b.state)) ∙ later.0) other in
+      no_any (is_on name) C (each_more printed_cmp (λ c. is_lt (printed_cmp c b) ≡ false) (λ c. is_on name c ≡ false) (λ c h. later_is_elsewhere name b c less h) C up.0)
+] refl
+
+locked_at_cut : (name : List ℕ) (xs : List LockRecord) (i : ℕ) → IsSorted printed_cmp xs → IsPartitionPoint (λ r. stands_before_rank name 0 r ≡ true) (λ r. stands_before_rank name 0 r ≡ false) xs i
+    → list_any (is_on name) xs ≡ on_first name (first (drop i xs))
+locked_at_cut name xs i up point =
+    let whole = take-append-drop i xs in
+    let rise : IsAscending printed_cmp (take i xs ++ drop i xs) = subst (λ (l : List LockRecord). IsAscending printed_cmp l) (sym whole) (ascends printed_cmp printed_order xs up) in
+    ap (list_any (is_on name)) (sym whole)
+    ∙ any_behind (is_on name) (take i xs) (drop i xs) (each_more printed_cmp (λ r. stands_before_rank name 0 r ≡ true) (λ r. is_on name r ≡ false) (λ r h. front_is_elsewhere name r h) (take i xs) (each_in_front printed_cmp (λ r. stands_before_rank name 0 r ≡ true) xs i point.0))
+    ∙ locked_behind name (drop i xs) (each_behind printed_cmp (λ r. stands_before_rank name 0 r ≡ false) xs i point.1) (ascends_behind printed_cmp (take i xs) (drop i xs) rise)
+
+pub locked_first : (name : List ℕ) (xs : List LockRecord) (i : ℕ) (r : LockRecord) → IsSorted printed_cmp xs → IsPartitionPoint (λ r. stands_before_rank name 0 r ≡ true) (λ r. stands_before_rank name 0 r ≡ false) xs i
+    → first (drop i xs) ≡ Some r → is_on name r ≡ list_any (is_on name) xs
+unfolding on_first
+locked_first name xs i r up point is = sym (locked_at_cut name xs i up point ∙ ap (on_first name) is)
+
+pub locked_none : (name : List ℕ) (xs : List LockRecord) (i : ℕ) → IsSorted printed_cmp xs → IsPartitionPoint (λ r. stands_before_rank name 0 r ≡ true) (λ r. stands_before_rank name 0 r ≡ false) xs i
+    → first (drop i xs) ≡ None → false ≡ list_any (is_on name) xs
+unfolding on_first
+locked_none name xs i up point is = sym (locked_at_cut name xs i up point ∙ ap (on_first name) is)

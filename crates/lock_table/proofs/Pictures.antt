@@ -1,5 +1,6 @@
 -- The picture of a plain table, and what a command makes of it.
-use Rattle.std.proofs.Common.{◌≡◌, ℕ, Bool, true, false, ◌&&◌, List, refl, sym, ap, ◌∙◌, arith}
+use Rattle.std.proofs.Common.{◌≡◌, ℕ, Bool, true, false, ◌&&◌, ◌||◌, List, [], ◌∷◌, refl, subst, sym, ap, ◌∙◌, arith}
+use Rattle.std.specs.List.{list_any}
 use Rattle.std.specs.Ordering.{is_lt, nat_cmp, ordering_then}
 use Rattle.std.specs.Cmp.{IsTotalOrder, IsStrictWeakOrder}
 use Rattle.std.specs.Cmp.Lexicographic.{slice_cmp}
@@ -16,11 +17,12 @@ use Rattle.lock_table.specs.declared.record.KnownClient.{KnownClient}
 use Rattle.lock_table.specs.State.{is_converting, is_waiting}
 use Rattle.lock_table.specs.Locks.{is_lock, is_on, converts_on, waits_on, IsDistinct}
 use Rattle.lock_table.specs.Apply.{Plain, is_client, no_locks, applied}
-use Rattle.lock_table.specs.Picture.{rank_of, number_among, printed_cmp, client_cmp, HasSameLocks, HasSameClients, IsPictureOf}
-use Rattle.lock_table.specs.Placed.{pictured}
-use Rattle.lock_table.proofs.Alike.{same_back, same_through}
+use Rattle.lock_table.specs.Picture.{rank_of, number_among, printed_cmp, client_cmp, HasSameLocks, HasSameClients, HasZeros, Shown, nothing_shown, values_beside, IsPictureOf}
+use Rattle.lock_table.specs.Values.{Values}
+use Rattle.lock_table.specs.Placed.{in_order, pictured}
+use Rattle.lock_table.proofs.Alike.{same_back, same_through, same-any}
 use Rattle.lock_table.proofs.Apart.{name_is}
-use Rattle.lock_table.proofs.Behave.{same-applied, distinct-applied}
+use Rattle.lock_table.proofs.Behave.{same-applied, distinct-applied, zeros-applied}
 use Rattle.lock_table.proofs.Ordered.{filter-in_order, filter-in_order_single, IsSorted-in_order}
 
 pub printed_total : IsTotalOrder printed_cmp
@@ -65,44 +67,79 @@ queue_ties : (name : List ℕ) (x z : LockRecord) → is_on name x ≡ true → 
 unfolding states_cmp
 queue_ties name x z one two states = λ i. is_lt (ordering_then (names_tie name x z one two i) (states i))
 
-pub picture_of_pictured : (plain : Plain) → IsDistinct plain.locks → IsPictureOf (pictured plain) plain
-unfolding pictured
-picture_of_pictured plain distinct = record {
-  locks = record {
-    numbers = λ lock. filter-in_order_single printed_cmp printed_order (is_lock lock) plain.locks (distinct lock);
-    conversions = λ name. filter-in_order printed_cmp printed_order (converts_on name) (λ x z one two.
-        queue_ties name x z (both_parts _ _ one).0 (both_parts _ _ two).0 (conversions_tie x.state z.state x.lock z.lock (both_parts _ _ one).1 (both_parts _ _ two).1)) plain.locks;
-    waiting = λ name. filter-in_order printed_cmp printed_order (waits_on name) (λ x z one two.
-        queue_ties name x z (both_parts _ _ one).0 (both_parts _ _ two).0 (waiting_tie x.state z.state x.lock z.lock (both_parts _ _ one).1 (both_parts _ _ two).1)) plain.locks;
-  };
-  printed = IsSorted-in_order printed_cmp printed_order plain.locks;
-  clients = λ client. filter-in_order client_cmp client_order (is_client client) (λ x z one two.
-      ap is_lt (ap (λ n. nat_cmp n z.client) (eqb-true x.client client one ∙ sym (eqb-true z.client client two)) ∙ tied_itself nat_cmp_total z.client)) plain.clients;
-  by_number = IsSorted-in_order client_cmp client_order plain.clients;
+-- locks in printed order are the same locks
+pub same_in_order : (a : List LockRecord) → IsDistinct a → HasSameLocks (in_order printed_cmp a) a
+same_in_order a distinct = record {
+  numbers = λ lock. filter-in_order_single printed_cmp printed_order (is_lock lock) a (distinct lock);
+  conversions = λ name. filter-in_order printed_cmp printed_order (converts_on name) (λ x z one two.
+      queue_ties name x z (both_parts _ _ one).0 (both_parts _ _ two).0 (conversions_tie x.state z.state x.lock z.lock (both_parts _ _ one).1 (both_parts _ _ two).1)) a;
+  waiting = λ name. filter-in_order printed_cmp printed_order (waits_on name) (λ x z one two.
+      queue_ties name x z (both_parts _ _ one).0 (both_parts _ _ two).0 (waiting_tie x.state z.state x.lock z.lock (both_parts _ _ one).1 (both_parts _ _ two).1)) a;
 }
 
--- two plain tables with one picture have the same locks and clients
-pub one_picture : (shown x y : Plain) → IsPictureOf shown x → IsPictureOf shown y → HasSameLocks x.locks y.locks × HasSameClients x.clients y.clients
-one_picture shown x y p q = (same_through x.locks shown.locks y.locks (same_back shown.locks x.locks p.locks) q.locks, λ client. sym (p.clients client) ∙ q.clients client)
+pub picture_of_pictured : (plain : Plain) → IsDistinct plain.locks → HasZeros plain.locks plain.values → IsPictureOf (pictured plain) plain
+unfolding pictured
+picture_of_pictured plain distinct has =
+    let locks : HasSameLocks (in_order printed_cmp plain.locks) plain.locks = same_in_order plain.locks distinct in
+    record {
+      locks = locks;
+      printed = IsSorted-in_order printed_cmp printed_order plain.locks;
+      values = refl;
+      unlocked = λ name none. has name (sym (same-any (is_on name) (in_order printed_cmp plain.locks) plain.locks locks) ∙ none);
+      clients = λ client. filter-in_order client_cmp client_order (is_client client) (λ x z one two.
+          ap is_lt (ap (λ n. nat_cmp n z.client) (eqb-true x.client client one ∙ sym (eqb-true z.client client two)) ∙ tied_itself nat_cmp_total z.client)) plain.clients;
+      by_number = IsSorted-in_order client_cmp client_order plain.clients;
+    }
+
+-- what is listed beside a lock is the value of its name
+beside_one : (v w : Values) (locks : List LockRecord) (name : List ℕ) → values_beside v locks ≡ values_beside w locks → list_any (is_on name) locks ≡ true → v name ≡ w name
+beside_one v w [] name same there = let impossible : ⊥ = cc in absurd impossible
+beside_one v w (r ∷ rest) name same there =
+    elim (is_on name r) as (λ b. is_on name r ≡ b → (b || list_any (is_on name) rest) ≡ true → v name ≡ w name) [
+      | true ↦ λ e t.
+          let here : v r.name ≡ w r.name = cc in
+          ap v (sym (name_is r.name name e)) ∙ here ∙ ap w (name_is r.name name e)
+      | false ↦ λ e t.
+          let tail : values_beside v rest ≡ values_beside w rest = cc in
+          beside_one v w rest name tail t
+    ] refl there
+
+-- what a picture shows of values tells the value of each name
+values_shown : (v w : Values) (locks : List LockRecord) → values_beside v locks ≡ values_beside w locks → HasZeros locks v → HasZeros locks w → v ≡ w
+values_shown v w locks same one other = λ i name.
+    (elim (list_any (is_on name) locks) as (λ b. list_any (is_on name) locks ≡ b → v name ≡ w name) [
+      | true ↦ λ e. beside_one v w locks name same e
+      | false ↦ λ e. one name e ∙ sym (other name e)
+    ] refl) i
+
+-- two plain tables with one picture have the same locks, clients and values
+pub one_picture : (shown : Shown) (x y : Plain) → IsPictureOf shown x → IsPictureOf shown y → HasSameLocks x.locks y.locks × HasSameClients x.clients y.clients × (x.values ≡ y.values)
+one_picture shown x y p q = (
+  same_through x.locks shown.locks y.locks (same_back shown.locks x.locks p.locks) q.locks,
+  λ client. sym (p.clients client) ∙ q.clients client,
+  values_shown x.values y.values shown.locks (sym p.values ∙ q.values) p.unlocked q.unlocked,
+)
 
 -- and so what is a picture of one is a picture of the other
-pub picture_of_same : (shown x y : Plain) → IsPictureOf shown x → HasSameLocks x.locks y.locks → HasSameClients x.clients y.clients → IsPictureOf shown y
-picture_of_same shown x y p locks clients = record {
+pub picture_of_same : (shown : Shown) (x y : Plain) → IsPictureOf shown x → HasSameLocks x.locks y.locks → x.values ≡ y.values → HasSameClients x.clients y.clients → IsPictureOf shown y
+picture_of_same shown x y p locks values clients = record {
   locks = same_through shown.locks x.locks y.locks p.locks locks;
   printed = p.printed;
+  values = p.values ∙ ap (λ v. values_beside v shown.locks) values;
+  unlocked = subst (λ (v : Values). HasZeros shown.locks v) values p.unlocked;
   clients = λ client. p.clients client ∙ clients client;
   by_number = p.by_number;
 }
 
 -- what a command answers and leaves is the same of every plain table with the picture
-pub picture_applied : (inner plain : Plain) (c : Command) → IsDistinct inner.locks → IsPictureOf (pictured inner) plain
+pub picture_applied : (inner plain : Plain) (c : Command) → IsDistinct inner.locks → HasZeros inner.locks inner.values → IsPictureOf (pictured inner) plain
     → ((applied inner c).reply ≡ (applied plain c).reply) × IsPictureOf (pictured (applied inner c).table) (applied plain c).table
-picture_applied inner plain c distinct shown =
-    let alike = one_picture (pictured inner) inner plain (picture_of_pictured inner distinct) shown in
-    let same = same-applied inner plain c alike.0 alike.1 distinct in
-    (same.reply, picture_of_same _ (applied inner c).table (applied plain c).table (picture_of_pictured (applied inner c).table (distinct-applied inner c distinct)) same.locks same.clients)
+picture_applied inner plain c distinct has shown =
+    let alike = one_picture (pictured inner) inner plain (picture_of_pictured inner distinct has) shown in
+    let same = same-applied inner plain c alike.0 alike.2 alike.1 distinct in
+    (same.reply, picture_of_same _ (applied inner c).table (applied plain c).table (picture_of_pictured (applied inner c).table (distinct-applied inner c distinct) (zeros-applied inner c has)) same.locks same.values same.clients)
 
 -- for callers: a fresh table's picture
-pub picture_of_none : IsPictureOf no_locks no_locks
+pub picture_of_none : IsPictureOf nothing_shown no_locks
 unfolding pictured
-picture_of_none = picture_of_pictured no_locks (λ lock. omega arith)
+picture_of_none = picture_of_pictured no_locks (λ lock. omega arith) (λ name none. refl)

@@ -13,7 +13,7 @@ use Rattle.lock_table.specs.State.{goal_of}
 use Rattle.lock_table.specs.Locks.{is_lock, option_or, converts_on, waits_on, lock_in, without, put, head_of, admits, granted, queue, settled, settled_all, IsDistinct}
 use Rattle.lock_command.specs.declared.command.Command.{Command}
 use Rattle.lock_table.specs.Apply.{Plain, is_client, kept, applied}
-use Rattle.lock_table.specs.Picture.{printed_cmp, client_cmp, HasSameLocks}
+use Rattle.lock_table.specs.Picture.{printed_cmp, client_cmp, HasSameLocks, HasZeros, values_beside}
 use Rattle.lock_table.specs.Placed.{placed, in_order, pictured}
 use Rattle.lock_table.specs.Indexed.{IsIndexed, IsShown, AreKnown, number_cmp}
 use Rattle.lock_table.proofs.Parts.{AlikeBy-filter, AlikeBy-append, find_alike, length_alike}
@@ -23,7 +23,7 @@ use Rattle.lock_table.proofs.Apart.{IsDistinct-settled, IsDistinct-settled_all}
 use Rattle.lock_table.proofs.Settled.{is_among, same-settled_all}
 use Rattle.lock_table.proofs.Turns.{settled-granted, length-queue-granted}
 use Rattle.lock_table.proofs.Behave.{distinct-applied}
-use Rattle.lock_table.proofs.Pictures.{printed_order, client_order, picture_of_pictured}
+use Rattle.lock_table.proofs.Pictures.{printed_order, client_order, same_in_order}
 use Rattle.lock_table.proofs.Ordered.{IsSorted-in_order}
 use Rattle.lock_table.proofs.Unique.{ordered_alike}
 use Rattle.lock_table.proofs.Cuts.{in_order_sorted}
@@ -39,10 +39,7 @@ abbrev pub shown : List LockRecord → List LockRecord
 shown locks = in_order printed_cmp locks
 
 pub same-shown : (a : List LockRecord) → IsDistinct a → HasSameLocks (shown a) a
-unfolding pictured
-same-shown a distinct =
-    let plain : Plain = record { locks = a; clients = [] } in
-    (picture_of_pictured plain distinct).locks
+same-shown a distinct = same_in_order a distinct
 
 pub IsDistinct-shown : (a : List LockRecord) → IsDistinct a → IsDistinct (shown a)
 IsDistinct-shown a distinct = same-distinct a (shown a) (same_back (shown a) a (same-shown a distinct)) distinct
@@ -104,18 +101,19 @@ granted_fewer now name r distinct turn =
     let same : queue (shown next) name ≡ queue next name = same-queue name (shown next) next (same-shown next (IsDistinct-put now (granted r) distinct)) in
     omega (arith, ap length same, length-queue-granted now name r distinct turn)
 
--- a table after a command, as it is shown
-pub shown_after : (t : Plain) (c : Command) → IsShown t → IsShown (pictured (applied t c).table)
-unfolding pictured
-shown_after t c is = record {
-  distinct = IsDistinct-shown (applied t c).table.locks (distinct-applied t c is.distinct);
-  printed = shown_twice (applied t c).table.locks;
-  by_number = in_order_sorted client_cmp client_order (in_order client_cmp (applied t c).table.clients) (IsSorted-in_order client_cmp client_order (applied t c).table.clients);
+-- a table after a command, as it is kept
+pub shown_after : (t : Plain) (c : Command) (next : Plain) → IsShown t → next.locks ≡ shown (applied t c).table.locks → next.clients ≡ in_order client_cmp (applied t c).table.clients → HasZeros next.locks next.values → IsShown next
+shown_after t c next is locks clients has = record {
+  distinct = subst (λ (l : List LockRecord). IsDistinct l) (sym locks) (IsDistinct-shown (applied t c).table.locks (distinct-applied t c is.distinct));
+  printed = subst (λ (l : List LockRecord). shown l ≡ l) (sym locks) (shown_twice (applied t c).table.locks);
+  by_number = subst (λ (l : List KnownClient). in_order client_cmp l ≡ l) (sym clients)
+      (in_order_sorted client_cmp client_order (in_order client_cmp (applied t c).table.clients) (IsSorted-in_order client_cmp client_order (applied t c).table.clients));
+  unlocked = has;
 }
 
-pub pictured_itself : (t : Plain) → IsShown t → pictured t ≡ t
+pub pictured_itself : (t : Plain) → IsShown t → pictured t ≡ record { locks = t.locks; values = values_beside t.values t.locks; clients = t.clients }
 unfolding pictured
-pictured_itself t is = λ i. record { locks = is.printed i; clients = is.by_number i }
+pictured_itself t is = λ i. record { locks = is.printed i; values = values_beside t.values (is.printed i); clients = is.by_number i }
 
 counted_found : (P : LockRecord → Bool) (xs : List LockRecord) (r : LockRecord) → find P xs ≡ Some r → 1 ≤ length (filter P xs)
 counted_found P [] r h = let impossible : ⊥ = cc in absurd impossible

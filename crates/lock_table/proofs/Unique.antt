@@ -23,7 +23,7 @@ use Rattle.lock_table.specs.State.{is_converting, is_waiting}
 use Rattle.lock_table.specs.Locks.{is_lock, is_on, converts_on, waits_on}
 use Rattle.lock_table.specs.Apply.{Plain, is_client}
 use Rattle.lock_table.specs.Placed.{in_order}
-use Rattle.lock_table.specs.Picture.{rank_of, number_among, printed_cmp, client_cmp, HasSameLocks, IsPictureOf}
+use Rattle.lock_table.specs.Picture.{rank_of, number_among, printed_cmp, client_cmp, HasSameLocks, Shown, values_beside, IsPictureOf}
 use Rattle.lock_table.proofs.Parts.{filter_within}
 use Rattle.lock_table.proofs.Alike.{same_back, same_through}
 use Rattle.lock_table.proofs.Apart.{same_name-itself}
@@ -189,14 +189,14 @@ client_ties a b same x =
     sym (filter_within _ (is_client x.client) stricter a) ∙ ap (filter (λ z. not (is_lt (client_cmp x z)) && not (is_lt (client_cmp z x)))) (same x.client) ∙ filter_within _ (is_client x.client) stricter b
 
 -- whatever shows a plain table is one and the same
-pub one_shown : (plain shown other : Plain) → IsPictureOf shown plain → IsPictureOf other plain → shown ≡ other
+pub one_shown : (plain : Plain) (shown other : Shown) → IsPictureOf shown plain → IsPictureOf other plain → shown ≡ other
 unfolding lock_ties
 one_shown plain shown other p q =
     let locks : shown.locks ≡ other.locks = one_sorted printed_cmp printed_order shown.locks other.locks p.printed q.printed
     (λ x. ties_alike shown.locks other.locks (same_through shown.locks plain.locks other.locks p.locks (same_back other.locks plain.locks q.locks)) x x.state refl) in
     let clients : shown.clients ≡ other.clients = one_sorted client_cmp client_order shown.clients other.clients p.by_number q.by_number
     (client_ties shown.clients other.clients (λ client. p.clients client ∙ sym (q.clients client))) in
-    λ i. record { locks = locks i; clients = clients i }
+    λ i. record { locks = locks i; values = (p.values ∙ ap (values_beside plain.values) locks ∙ sym q.values) i; clients = clients i }
 
 -- tables with the same locks are shown alike
 pub ordered_alike : (a b : List LockRecord) → HasSameLocks (in_order printed_cmp a) (in_order printed_cmp b) → in_order printed_cmp a ≡ in_order printed_cmp b

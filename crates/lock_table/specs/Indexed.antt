@@ -8,7 +8,7 @@ use Rattle.lock_table.specs.declared.record.LockRecord.{LockRecord}
 use Rattle.lock_table.specs.declared.record.KnownClient.{KnownClient}
 use Rattle.lock_table.specs.Locks.{is_lock, IsDistinct}
 use Rattle.lock_table.specs.Apply.{Plain, is_client}
-use Rattle.lock_table.specs.Picture.{rank_of, printed_cmp, client_cmp}
+use Rattle.lock_table.specs.Picture.{rank_of, printed_cmp, client_cmp, HasZeros}
 use Rattle.lock_table.specs.Placed.{in_order}
 
 -- by rising lock number
@@ -36,3 +36,4 @@ pub record IsShown (t : Plain) : Type 0 where
   pub distinct : IsDistinct t.locks
   pub printed : in_order printed_cmp t.locks ≡ t.locks
   pub by_number : in_order client_cmp t.clients ≡ t.clients
+  pub unlocked : HasZeros t.locks t.values

@@ -3,7 +3,7 @@ use Rattle.std.specs.Prelude.{List, [], ◌∷◌, fold, if◌then◌else◌}
 use Rattle.std.specs.Ordering.{is_lt}
 use Rattle.std.specs.declared.cmp.Ordering.{Ordering}
 use Rattle.lock_table.specs.Apply.{Plain}
-use Rattle.lock_table.specs.Picture.{printed_cmp, client_cmp}
+use Rattle.lock_table.specs.Picture.{printed_cmp, client_cmp, Shown, values_beside}
 
 -- the element put in front of the first that it stands before, else last
 abbrev pub placed : {X : Type 0} → (X → X → Ordering) → X → List X → List X
@@ -15,5 +15,5 @@ abbrev pub in_order : {X : Type 0} → (X → X → Ordering) → List X → Lis
 in_order cmp xs = fold (λ sorted x. placed cmp x sorted) [] xs
 
 -- the picture of a plain table
-unfoldable pub pictured : Plain → Plain
-pictured plain = record { locks = in_order printed_cmp plain.locks; clients = in_order client_cmp plain.clients }
+unfoldable pub pictured : Plain → Shown
+pictured plain = record { locks = in_order printed_cmp plain.locks; values = values_beside plain.values (in_order printed_cmp plain.locks); clients = in_order client_cmp plain.clients }

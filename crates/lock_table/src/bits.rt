@@ -3,6 +3,9 @@ ghost use Rattle.lock_table.specs.Bits.{bit_of, bits_against};
 
 use lock_modes::Mode;
 
+/// The bits of the modes under which nobody else writes.
+pub const WRITERS: u8 = 0b11_0000;
+
 /// The bit of a mode.
 pub fn bit_of(mode: Mode) -> u8
     ensures { result ≡ bit_of mode }

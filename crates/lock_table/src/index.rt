@@ -1,5 +1,6 @@
 ghost use Rattle.std.specs.Prelude.{◌≡◌, ◌+◌, ◌<◌, ◌≤◌, ◌↔◌, [], IfOk, IfSome, IsTrue, filter, length, not};
-ghost use Rattle.lock_table.specs.Apply.{is_through};
+ghost use Rattle.std.specs.List.Sorted.{IsSorted};
+ghost use Rattle.lock_table.specs.Locks.{is_through};
 ghost use Rattle.lock_table.specs.Locks.{lock_in, without, put, has_queue, head_of, admits, in_state, settled, settled_all, IsDistinct};
 ghost use Rattle.lock_table.specs.Picture.{printed_cmp};
 ghost use Rattle.lock_table.specs.Placed.{in_order};
@@ -15,8 +16,8 @@ use lock_modes::Mode;
 use std::alloc::{AllocError, Global};
 use std::marker::Model;
 
-/// The locks in printed order, in which those of a name stand together and its queues in their order; and the same
-/// records by rising lock number. So a lock, a name and the head of its queues are found by a binary search.
+/// The locks twice: in printed order, where the locks of a name are side by side and its queues are in their order, and by
+/// lock number. So a binary search finds a lock, a name, and the head of a name's queues.
 #[derive(Drop)]
 pub struct Index {
     printed: Shelf,
@@ -50,6 +51,7 @@ impl Index {
     pub fn printed(&self) -> &Shelf
         ensures locks { result.now ≡ self.now }
         ensures distinct { IsDistinct self.now }
+        ensures sorted { IsSorted printed_cmp self.now }
     {
         &self.printed
     }
@@ -106,7 +108,7 @@ impl Index {
         printed::put_in(&mut self.printed, &new, name);
     }
 
-    /// Puts a lock in another state, and so behind all others of its queue.
+    /// Changes the state of a lock. If it queues then, it comes last in its queue.
     pub fn restate(&mut self, own: LockRecord, state: LockState, name: &SpelledName)
         requires named { name.now ≡ own.name }
         requires there { lock_in self.old own.lock ≡ Some own }
@@ -137,7 +139,7 @@ impl Index {
         printed::take_through(&mut self.printed, host);
     }
 
-    /// Grants, while the lock whose turn it is may be granted.
+    /// Grants locks of the name in their turn, until one cannot be granted.
     pub fn settle(&mut self, name: &SpelledName)
         ensures { self.new ≡ in_order printed_cmp (settled self.old name.now) }
     {

@@ -5,7 +5,7 @@ ghost use Rattle.lock_table.specs.Keys.{spelled, key_of};
 use lock_command::LockName;
 use std::marker::Model;
 
-/// A name, and the number that its bytes spell, by which its locks are found. A command spells its name once.
+/// A name, and its bytes as one number, which sort keys begin with. A command computes it once.
 #[derive(Drop)]
 pub struct SpelledName {
     name: LockName,
@@ -40,7 +40,7 @@ impl SpelledName {
         self.name
     }
 
-    /// A number that rises as names do by their bytes, for one name by the rank, and for one rank by the number.
+    /// A sort key: it orders by the bytes of the name first, then by the rank, then by the number.
     pub fn key(&self, rank: u8, number: u16) -> u128
         ensures key { result ≡ key_of self.now rank number }
         ensures name { IsName self.now }
@@ -50,7 +50,7 @@ impl SpelledName {
     }
 }
 
-/// The number of which the first 15 bytes are the digits, with zeros behind the last byte.
+/// The first 15 bytes as the digits of one number to base 128, padded with zeros at the end.
 fn spelled(bytes: &[u8]) -> u128
     ensures spelled { result ≡ spelled 15 bytes.now }
     ensures small { result < 2 ^ 107 }
@@ -62,7 +62,7 @@ fn spelled(bytes: &[u8]) -> u128
     key
 }
 
-/// The byte at a place, or 0 behind the last.
+/// The byte at this index, or 0 past the last.
 fn byte_at(bytes: &[u8], at: usize) -> u8
     ensures { result ≡ slice_index bytes.now at }
 {

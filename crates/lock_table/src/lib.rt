@@ -17,15 +17,18 @@ mod record;
 mod reply;
 mod shelf;
 mod table;
+mod valued;
+mod values;
 
 pub use clients::CLIENTS;
 pub use laws::{
-    a_table_has_one_picture, heads_could_not_be_granted, held_modes_are_compatible,
-    lock_numbers_are_distinct, requests_count_once, settling_is_complete,
+    a_table_has_one_picture, downward_conversions_are_granted, heads_could_not_be_granted,
+    held_modes_are_compatible, lock_numbers_are_distinct, requests_count_once,
+    settling_is_complete, values_are_stored_last,
 };
 pub use locks::LOCKS;
 pub use no_memory::NoMemory;
 pub use picture::Picture;
 pub use record::{KnownClient, LockRecord, LockState};
-pub use reply::{Refusal, Reply};
+pub use reply::{Answer, LockValue, Refusal, Reply, is_same_reply};
 pub use table::Table;

@@ -1,7 +1,7 @@
 ghost use Rattle.std.specs.Prelude.{◌≡◌, ◌+◌, ◌<◌, ◌≤◌, ℕ, IfOk, IsSome, [], length, filter, insert, remove, set, slice_index_or, nat_lt, not, true, false};
 ghost use Rattle.std.specs.List.{slice_get};
 ghost use Rattle.std.specs.List.Sorted.{IsSorted, IsPartitionPoint};
-ghost use Rattle.lock_table.specs.Apply.{is_through};
+ghost use Rattle.lock_table.specs.Locks.{is_through};
 ghost use Rattle.lock_table.specs.Indexed.{number_cmp};
 ghost use Rattle.lock_table.specs.Locks.{is_lock, lock_in, without, put, IsDistinct};
 
@@ -12,10 +12,11 @@ use lock_command::{HostNumber, LockNumber};
 use std::alloc::{AllocError, Global};
 use std::marker::Model;
 
-/// Records in an order, each at a place that it keeps while others come and go. So no record is moved.
+/// Records in the order of their lock numbers. Each keeps its place in memory while others come and go; only the order is
+/// shifted.
 #[derive(Drop)]
 pub struct Numbers {
-    /// By place. What stands at a free place means nothing.
+    /// The records, by place. A record at a free place means nothing.
     records: Vec<LockRecord>,
     /// The places in the order of their records.
     order: Vec<u8>,
@@ -55,7 +56,7 @@ impl Numbers {
         self.order.len()
     }
 
-    /// The record that stands so far behind the first.
+    /// The record at this index, in the order of lock numbers.
     fn get(&self, at: usize) -> &LockRecord
         requires { at < length self.now }
         ensures lock { result.now ≡ slice_index_or self.now at result.now }
@@ -64,7 +65,7 @@ impl Numbers {
         &self.records[usize::from(self.order[at])]
     }
 
-    /// The same, if there is one.
+    /// The record at this index, or `None` past the last.
     fn record_at(&self, at: usize) -> Option<LockRecord>
         ensures { result ≡ slice_get self.now at }
     {
@@ -85,7 +86,7 @@ impl Numbers {
         let _ = self.order.insert(at, place);
     }
 
-    /// Puts a record in place of one.
+    /// Replaces the record at this index.
     fn set(&mut self, at: usize, new: LockRecord)
         requires { at < length self.old }
         ensures { self.new ≡ set self.old at new }
@@ -149,7 +150,7 @@ pub fn put_new(numbers: &mut Numbers, new: LockRecord)
     numbers.insert(place, new);
 }
 
-/// Puts a record in place of the one that the lock has.
+/// Replaces the record of the lock that has this number.
 pub fn replace(numbers: &mut Numbers, new: LockRecord)
     requires rising { IsSorted number_cmp numbers.old }
     requires distinct { IsDistinct numbers.old }

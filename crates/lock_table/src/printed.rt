@@ -1,10 +1,10 @@
 ghost use Rattle.std.specs.Prelude.{◌≡◌, ◌<◌, ◌≤◌, cond, length, filter, insert, remove, not, nat_lt, true, false};
-ghost use Rattle.std.specs.List.{AllWithin};
+ghost use Rattle.std.specs.List.{AllWithin, list_any};
 ghost use Rattle.std.specs.List.Sorted.{IsSorted, IsPartitionPoint};
-ghost use Rattle.lock_table.specs.Apply.{is_through};
+ghost use Rattle.lock_table.specs.Locks.{is_through};
 ghost use Rattle.lock_table.specs.Indexed.{stands_before_rank};
 ghost use Rattle.lock_table.specs.Keys.{lock_key, HasKey};
-ghost use Rattle.lock_table.specs.Locks.{lock_in, without, head_of, admits, IsDistinct};
+ghost use Rattle.lock_table.specs.Locks.{is_on, lock_in, without, head_of, admits, IsDistinct};
 ghost use Rattle.lock_table.specs.Picture.{printed_cmp};
 ghost use Rattle.lock_table.specs.Placed.{placed};
 
@@ -12,10 +12,11 @@ use crate::keys::SpelledName;
 use crate::locks::LOCKS;
 use crate::record::LockRecord;
 use crate::shelf::Shelf;
-use lock_command::{HostNumber, LockNumber};
+use lock_command::{HostNumber, LockName, LockNumber};
 use lock_modes::Mode;
 
-/// So many where a test passes, else none: no branch, since none could be foretold.
+/// Returns `many` if the test passes, else 0. It does so without a branch, because the processor would mispredict one about
+/// half of the time.
 fn passed(many: usize, passes: bool) -> usize
     ensures passed { result ≡ cond passes many 0 }
     ensures few { result ≤ many }
@@ -40,7 +41,7 @@ fn locks_below(printed: &Shelf, key: u128) -> usize
     from
 }
 
-/// Where a record joins those in printed order: behind all that it does not stand before.
+/// The index at which a new record is inserted: after all records whose key is not above its own.
 fn joining_place(printed: &Shelf, new: &LockRecord, name: &SpelledName) -> usize
     requires sorted { IsSorted printed_cmp printed.now }
     requires named { name.now ≡ new.now.name }
@@ -50,7 +51,7 @@ fn joining_place(printed: &Shelf, new: &LockRecord, name: &SpelledName) -> usize
     locks_below(printed, new.key(name) + 1)
 }
 
-/// Where the record of a lock stands. Of those that queue, all in front of it are looked at.
+/// The index of a lock's record. Records in one queue have one key, so the queue is searched from its head.
 fn place_of(printed: &Shelf, own: &LockRecord, name: &SpelledName) -> usize
     requires sorted { IsSorted printed_cmp printed.now }
     requires named { name.now ≡ own.now.name }
@@ -66,7 +67,7 @@ fn place_of(printed: &Shelf, own: &LockRecord, name: &SpelledName) -> usize
     at
 }
 
-/// How many locks are printed before those of a name that have a rank: 0 if granted, 1 if they convert, 2 if they wait.
+/// How many locks are printed before the locks of a name that have this rank: 0 granted, 1 converting, 2 waiting.
 fn locks_before_rank(printed: &Shelf, name: &SpelledName, rank: u8) -> usize
     requires sorted { IsSorted printed_cmp printed.now }
     requires rank { rank ≤ 2 }
@@ -85,8 +86,20 @@ pub fn head(printed: &Shelf, name: &SpelledName) -> Option<LockRecord>
     (first.name == name.name()).then_some(first)
 }
 
-/// Whether no other lock of the name holds a mode that conflicts with this one. Of those that hold one the bits are
-/// looked at, and their numbers where one conflicts.
+/// Whether a name has locks.
+pub fn has_locks(printed: &Shelf, name: LockName) -> bool
+    requires { IsSorted printed_cmp printed.now }
+    ensures { result ≡ list_any (is_on name) printed.now }
+{
+    let name = SpelledName::new(name);
+    match printed.lock_at(locks_before_rank(printed, &name, 0)) {
+        Some(first) => first.name == name.name(),
+        None => false,
+    }
+}
+
+/// Whether no other lock of the name holds a mode that conflicts with this one. The bits of the held modes are tested first,
+/// without a branch. Only if one conflicts are lock numbers compared, as the conflict may be with the lock itself.
 pub fn admits(printed: &Shelf, lock: LockNumber, name: &SpelledName, mode: Mode) -> bool
     requires { IsSorted printed_cmp printed.now }
     ensures { result ≡ admits printed.now lock name.now mode }

@@ -1,11 +1,12 @@
 ghost use Rattle.std.specs.Prelude.{◌≡◌, ◌+◌, ◌<◌, ◌≤◌, ◌==◌, ℕ, [], IfOk, IsTrue, cond, false, nat_lt, length, insert, remove, slice_index_or, vec_len, vec_capacity};
-ghost use Rattle.std.specs.List.{slice_get, AllWithin};
+ghost use Rattle.std.specs.List.{list_any, slice_get, AllWithin};
 ghost use Rattle.lock_table.specs.declared.record.LockRecord.{LockRecord};
 ghost use Rattle.lock_table.specs.State.{holds_against};
+ghost use Rattle.lock_table.specs.Values.{is_writer};
 ghost use Rattle.lock_table.specs.Keys.{lock_key, HasKey};
 ghost use Rattle.lock_table.specs.Shelved.{at_place, idle, times};
 
-use crate::bits::bits_against;
+use crate::bits::{WRITERS, bits_against};
 use crate::keys::SpelledName;
 use crate::locks::LOCKS;
 use crate::record::LockRecord;
@@ -13,18 +14,18 @@ use lock_modes::Mode;
 use std::alloc::{AllocError, Global};
 use std::marker::Model;
 
-/// Locks in an order, each at a place that it keeps while others come and go. So no record is moved.
+/// Locks in printed order. Each record keeps its place in memory while others come and go; only the order is shifted.
 #[derive(Drop)]
 pub struct Shelf {
-    /// By place. What stands at a free place means nothing.
+    /// The records, by place. A record at a free place means nothing.
     records: Vec<LockRecord>,
     /// The places in the order of their locks.
     order: Vec<u8>,
     /// The places that were given up.
     free: Vec<u8>,
-    /// The bits of what the locks hold, in their order.
+    /// A bit for each lock's held mode, in the order of the locks.
     held: Vec<u8>,
-    /// By place, what the locks are printed by.
+    /// The sort keys of the locks, by place.
     keys: Vec<u128>,
 }
 
@@ -65,7 +66,7 @@ impl Shelf {
         self.order.len()
     }
 
-    /// The lock that stands so far behind the first.
+    /// The lock at this index, in printed order.
     pub fn get(&self, at: usize) -> &LockRecord
         requires { at < length self.now }
         ensures lock { result.now ≡ slice_index_or self.now at result.now }
@@ -74,7 +75,7 @@ impl Shelf {
         &self.records[usize::from(self.order[at])]
     }
 
-    /// The same, if there is one.
+    /// The lock at this index, or `None` past the last.
     pub fn lock_at(&self, at: usize) -> Option<LockRecord>
         ensures { result ≡ slice_get self.now at }
     {
@@ -101,8 +102,8 @@ impl Shelf {
         self.held[at] & bits_against(wanted) != 0
     }
 
-    /// Whether none of the locks from one place up to another holds a mode that conflicts with the wanted one. All are
-    /// looked at, without a branch.
+    /// Whether none of the locks from index `from` to before `to` holds a mode that conflicts with the wanted one. It tests all
+    /// of them, without a branch.
     pub fn none_against(&self, from: usize, to: usize, wanted: Mode) -> bool
         requires { to ≤ length self.now }
         ensures clear { IsTrue result → AllWithin (λ r. holds_against wanted r.state ≡ false) self.now from to }
@@ -113,6 +114,25 @@ impl Shelf {
             none &= !self.holds_against(at, wanted);
         }
         none
+    }
+
+    /// Whether a lock holds a mode under which nobody else writes.
+    pub fn is_writer(&self, at: usize) -> bool
+        requires { at < length self.now }
+        ensures { (d : LockRecord) → result ≡ is_writer (slice_index_or self.now at d).state }
+    {
+        self.held[at] & WRITERS != 0
+    }
+
+    /// Whether some lock holds a mode under which nobody else writes. It tests all locks, without a branch.
+    pub fn has_writer(&self) -> bool
+        ensures { result ≡ list_any (λ r. is_writer r.state) self.now }
+    {
+        let mut any = false;
+        for at in 0..self.len() {
+            any |= self.is_writer(at);
+        }
+        any
     }
 
     /// Lists the locks.
@@ -153,7 +173,7 @@ impl Shelf {
     }
 }
 
-/// Puts a record at a place where none stands.
+/// Puts a record at a free place, and returns the place.
 pub fn take_place(records: &mut Vec<LockRecord>, free: &mut Vec<u8>, new: LockRecord) -> u8
     requires few { vec_len records.old ≤ LOCKS }
     requires room { vec_len records.old < LOCKS + vec_len free.old }

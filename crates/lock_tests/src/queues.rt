@@ -1,9 +1,9 @@
 use inspect::{Blocking, blocking, queues};
 use lock_command::{
-    Action, ClientNumber, Command, HostNumber, LockName, LockNumber, RequestNumber,
+    Action, ClientNumber, Command, HostNumber, LockName, LockNumber, RequestNumber, ValueBytes,
 };
 use lock_modes::Mode;
-use lock_table::{Picture, Reply, Table};
+use lock_table::{Picture, Table};
 use std::alloc::Global;
 use std::io;
 use std::io::Write;
@@ -11,7 +11,7 @@ use std::process::Abort;
 use std::test::Fail;
 
 /// Client `n` asks for its lock `n` through host `n - 1`, by its first request.
-fn enqueue(table: &mut Table, n: u8, mode: Mode, name: &[u8]) -> Result<Reply, Fail> {
+fn enqueue(table: &mut Table, n: u8, mode: Mode, name: &[u8]) -> Result<(), Fail> {
     let command = Command {
         host: HostNumber::new(n.wrapping_sub(1)).ok_or("host")?,
         client: ClientNumber::new(n),
@@ -23,7 +23,8 @@ fn enqueue(table: &mut Table, n: u8, mode: Mode, name: &[u8]) -> Result<Reply, F
             no_queue: false,
         },
     };
-    Ok(table.apply(&command))
+    table.apply(&command);
+    Ok(())
 }
 
 #[test]
@@ -73,6 +74,41 @@ fn two_names_in_all_states(rt: HostRuntime) -> Result<(), Fail> {
     let out = text_of_two_names(rt.alloc())?;
     let text =
         b"d\n  granted 4 4 3 NL\ndb\n  granted 2 2 1 PR\n  converting 1 1 0 PR EX\n  waiting 3 3 2 EX\n";
+    assert_eq!(rt; out.as_slice(), text.as_slice());
+    Ok(())
+}
+
+/// Client 1 writes alone, and what it stores is made invalid by the purge of another writer.
+fn two_values(table: &mut Table) -> Result<(), Fail> {
+    enqueue(table, 1, Mode::Exclusive, b"a")?;
+    enqueue(table, 2, Mode::Null, b"a")?;
+    release(table, 1)?;
+    enqueue(table, 3, Mode::ProtectedWrite, b"b")?;
+    enqueue(table, 4, Mode::Null, b"b")?;
+    purge(table, 5, 2)?;
+    Ok(())
+}
+
+fn values_shown_then(alloc: Global, table: &mut Table) -> Result<Picture, Fail> {
+    two_values(table)?;
+    Ok(table.picture(alloc)?)
+}
+
+fn picture_of_two_values(alloc: Global) -> Result<Picture, Fail> {
+    let mut table = Table::new(alloc)?;
+    values_shown_then(alloc, &mut table)
+}
+
+fn text_of_two_values(alloc: Global) -> Result<Vec<u8>, Fail> {
+    let picture = picture_of_two_values(alloc)?;
+    text_of(alloc, &picture)
+}
+
+#[test]
+fn values_behind_their_names(rt: HostRuntime) -> Result<(), Fail> {
+    let out = text_of_two_values(rt.alloc())?;
+    let text =
+        b"a 0123456789abcdef0123456789abcdef\n  granted 2 2 1 NL\nb 00000000000000000000000000000000 invalid\n  granted 4 4 3 NL\n";
     assert_eq!(rt; out.as_slice(), text.as_slice());
     Ok(())
 }
@@ -129,8 +165,36 @@ fn writers_that_fail_at_each_byte(rt: HostRuntime) -> Result<(), Fail> {
     Ok(())
 }
 
+/// Client `n` gives its lock `n` up, and stores a value.
+fn release(table: &mut Table, n: u8) -> Result<(), Fail> {
+    let value: u128 = 0x0123456789abcdef0123456789abcdef;
+    let command = Command {
+        host: HostNumber::new(0).ok_or("host")?,
+        client: ClientNumber::new(n),
+        request: RequestNumber::new(2).ok_or("request")?,
+        action: Action::Release {
+            lock: LockNumber::new(u16::from(n)).ok_or("lock")?,
+            value: Some(ValueBytes::new(value.to_be_bytes())),
+        },
+    };
+    table.apply(&command);
+    Ok(())
+}
+
+/// Client `n` purges a host, by its first request.
+fn purge(table: &mut Table, n: u8, host: u8) -> Result<(), Fail> {
+    let command = Command {
+        host: HostNumber::new(0).ok_or("host")?,
+        client: ClientNumber::new(n),
+        request: RequestNumber::new(1).ok_or("request")?,
+        action: Action::Purge(HostNumber::new(host).ok_or("host to purge")?),
+    };
+    table.apply(&command);
+    Ok(())
+}
+
 /// Client `n` asks for another mode of its lock `n`, by its second request.
-fn convert(table: &mut Table, n: u8, mode: Mode) -> Result<Reply, Fail> {
+fn convert(table: &mut Table, n: u8, mode: Mode) -> Result<(), Fail> {
     let command = Command {
         host: HostNumber::new(0).ok_or("host")?,
         client: ClientNumber::new(n),
@@ -139,9 +203,11 @@ fn convert(table: &mut Table, n: u8, mode: Mode) -> Result<Reply, Fail> {
             lock: LockNumber::new(u16::from(n)).ok_or("lock")?,
             mode,
             no_queue: false,
+            value: None,
         },
     };
-    Ok(table.apply(&command))
+    table.apply(&command);
+    Ok(())
 }
 
 /// Two clients share a name, and the first wants it alone.

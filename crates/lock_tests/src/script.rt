@@ -2,7 +2,7 @@ use lock_script::{Event, Run, ScriptFault, View, read_script};
 use std::test::Fail;
 
 /// Lines that may stand behind `cluster 3 16`, each with the events that it brings.
-const GOOD: [(&[u8], usize); 28] = [
+const GOOD: [(&[u8], usize); 32] = [
     (b"start 0", 1),
     (b"start 8", 1),
     (b"stop 15", 1),
@@ -15,6 +15,19 @@ const GOOD: [(&[u8], usize); 28] = [
     (b"submit 0 1 convert 1 1 1 CW", 1),
     (b"submit 0 1 convert 1 1 1 PR noqueue", 1),
     (b"submit 0 1 release 1 2 3", 1),
+    (
+        b"submit 0 1 release 1 2 3 value 0123456789abcdef0123456789abcdef",
+        1,
+    ),
+    (
+        b"submit 0 1 convert 1 1 1 PR value 0123456789abcdef0123456789abcdef",
+        1,
+    ),
+    (
+        b"submit 0 1 convert 1 1 1 PR noqueue value 0123456789abcdef0123456789abcdef",
+        1,
+    ),
+    (b"submit 0 1 enqueue 1 1 1 EX value noqueue", 1),
     (b"submit 0 1 cancel 1 2 3", 1),
     (b"submit 0 1 status 1 2 3", 1),
     (b"submit 0 1 purge 1 1 8", 1),
@@ -37,8 +50,15 @@ const GOOD: [(&[u8], usize); 28] = [
 ];
 
 /// Lines that may not stand there.
-const BAD: [&[u8]; 50] = [
+const BAD: [&[u8]; 57] = [
     b"start 16",
+    b"submit 0 1 release 1 2 3 value",
+    b"submit 0 1 release 1 2 3 value 0123456789abcdef0123456789abcde",
+    b"submit 0 1 release 1 2 3 value 0123456789abcdef0123456789abcdef0",
+    b"submit 0 1 release 1 2 3 value 0123456789ABCDEF0123456789ABCDEF",
+    b"submit 0 1 convert 1 1 1 PR value 0123456789abcdef0123456789abcdef noqueue",
+    b"submit 0 1 cancel 1 2 3 value 0123456789abcdef0123456789abcdef",
+    b"submit 0 1 enqueue 1 1 1 EX db value 0123456789abcdef0123456789abcdef",
     b"start 00",
     b"start 01",
     b"start -1",

@@ -1,12 +1,13 @@
 mod flat;
 mod random;
 mod scripts;
+mod values;
 
 use lock_command::{
-    Action, ClientNumber, Command, HostNumber, LockName, LockNumber, RequestNumber,
+    Action, ClientNumber, Command, HostNumber, LockName, LockNumber, RequestNumber, ValueBytes,
 };
 use lock_modes::Mode;
-use lock_table::{LockState, Picture, Refusal, Reply, Table, lock_numbers_are_distinct};
+use lock_table::{Answer, LockState, Picture, Refusal, Table, lock_numbers_are_distinct};
 use std::alloc::Global;
 use std::test::Fail;
 
@@ -23,7 +24,7 @@ enum Ask {
 }
 
 /// Host, client, request number, what is asked, and the reply that has to come.
-type Step = (u8, u8, u64, Ask, Reply);
+type Step = (u8, u8, u64, Ask, Answer);
 
 /// Name, lock, client, host and state of a lock in a picture.
 type Line = (u8, u16, u8, u8, LockState);
@@ -32,7 +33,8 @@ fn lock(number: u16) -> Result<LockNumber, Fail> {
     Ok(LockNumber::new(number).ok_or("lock number")?)
 }
 
-fn action(ask: Ask) -> Result<Action, Fail> {
+/// What is asked, with what a conversion or a release stores.
+fn action(ask: Ask, value: Option<ValueBytes>) -> Result<Action, Fail> {
     Ok(match ask {
         Ask::Enqueue(number, mode, name) => Action::Enqueue {
             lock: lock(number)?,
@@ -44,27 +46,32 @@ fn action(ask: Ask) -> Result<Action, Fail> {
             lock: lock(number)?,
             mode,
             no_queue: false,
+            value,
         },
         Ask::ConvertNow(number, mode) => Action::Convert {
             lock: lock(number)?,
             mode,
             no_queue: true,
+            value,
         },
-        Ask::Release(number) => Action::Release(lock(number)?),
+        Ask::Release(number) => Action::Release {
+            lock: lock(number)?,
+            value,
+        },
         Ask::Cancel(number) => Action::Cancel(lock(number)?),
         Ask::Status(number) => Action::Status(lock(number)?),
         Ask::Purge(host) => Action::Purge(HostNumber::new(host).ok_or("host to purge")?),
     })
 }
 
-fn reply_to(table: &mut Table, step: &Step) -> Result<Reply, Fail> {
+fn reply_to(table: &mut Table, step: &Step) -> Result<Answer, Fail> {
     let command = Command {
         host: HostNumber::new(step.0).ok_or("host")?,
         client: ClientNumber::new(step.1),
         request: RequestNumber::new(step.2).ok_or("request number")?,
-        action: action(step.3)?,
+        action: action(step.3, None)?,
     };
-    Ok(table.apply(&command))
+    Ok(table.apply(&command).answer)
 }
 
 /// Whether the table replies to each step as it has to.
@@ -136,9 +143,9 @@ const ALONE: Mode = Mode::Exclusive;
 #[test]
 fn three_locks_of_which_one_waits(rt: HostRuntime) -> Result<(), Fail> {
     let steps = [
-        (0, 1, 1, Ask::Enqueue(1, READ, b'a'), Reply::Granted),
-        (0, 2, 1, Ask::Enqueue(2, WRITE, b'a'), Reply::Granted),
-        (0, 3, 1, Ask::Enqueue(3, SHARED, b'a'), Reply::Queued),
+        (0, 1, 1, Ask::Enqueue(1, READ, b'a'), Answer::Granted),
+        (0, 2, 1, Ask::Enqueue(2, WRITE, b'a'), Answer::Granted),
+        (0, 3, 1, Ask::Enqueue(3, SHARED, b'a'), Answer::Queued),
     ];
     let lines = [
         (b'a', 1, 1, 0, LockState::Granted(READ)),
@@ -152,10 +159,10 @@ fn three_locks_of_which_one_waits(rt: HostRuntime) -> Result<(), Fail> {
 #[test]
 fn deadlock_of_two_conversions(rt: HostRuntime) -> Result<(), Fail> {
     let steps = [
-        (0, 1, 1, Ask::Enqueue(1, SHARED, b'a'), Reply::Granted),
-        (0, 2, 1, Ask::Enqueue(2, SHARED, b'a'), Reply::Granted),
-        (0, 1, 2, Ask::Convert(1, ALONE), Reply::Queued),
-        (0, 2, 2, Ask::Convert(2, ALONE), Reply::Queued),
+        (0, 1, 1, Ask::Enqueue(1, SHARED, b'a'), Answer::Granted),
+        (0, 2, 1, Ask::Enqueue(2, SHARED, b'a'), Answer::Granted),
+        (0, 1, 2, Ask::Convert(1, ALONE), Answer::Queued),
+        (0, 2, 2, Ask::Convert(2, ALONE), Answer::Queued),
     ];
     assert!(rt; plays(rt.alloc(), &steps)?);
     Ok(())
@@ -164,12 +171,12 @@ fn deadlock_of_two_conversions(rt: HostRuntime) -> Result<(), Fail> {
 #[test]
 fn conversion_before_waiting_locks(rt: HostRuntime) -> Result<(), Fail> {
     let steps = [
-        (0, 1, 1, Ask::Enqueue(1, NULL, b'a'), Reply::Granted),
-        (0, 2, 1, Ask::Enqueue(2, ALONE, b'a'), Reply::Granted),
-        (0, 1, 2, Ask::Convert(1, UPDATE), Reply::Queued),
-        (0, 3, 1, Ask::Enqueue(3, READ, b'a'), Reply::Queued),
-        (0, 4, 1, Ask::Enqueue(4, SHARED, b'a'), Reply::Queued),
-        (0, 2, 2, Ask::Release(2), Reply::Released),
+        (0, 1, 1, Ask::Enqueue(1, NULL, b'a'), Answer::Granted),
+        (0, 2, 1, Ask::Enqueue(2, ALONE, b'a'), Answer::Granted),
+        (0, 1, 2, Ask::Convert(1, UPDATE), Answer::Queued),
+        (0, 3, 1, Ask::Enqueue(3, READ, b'a'), Answer::Queued),
+        (0, 4, 1, Ask::Enqueue(4, SHARED, b'a'), Answer::Queued),
+        (0, 2, 2, Ask::Release(2), Answer::Released),
     ];
     let lines = [
         (b'a', 1, 1, 0, LockState::Granted(UPDATE)),
@@ -182,12 +189,12 @@ fn conversion_before_waiting_locks(rt: HostRuntime) -> Result<(), Fail> {
 
 #[test]
 fn conversion_once_the_others_are_gone(rt: HostRuntime) -> Result<(), Fail> {
-    let held = Reply::State(LockState::Granted(ALONE));
+    let held = Answer::State(LockState::Granted(ALONE));
     let steps = [
-        (0, 1, 1, Ask::Enqueue(1, READ, b'a'), Reply::Granted),
-        (0, 2, 1, Ask::Enqueue(2, READ, b'a'), Reply::Granted),
-        (0, 1, 2, Ask::Convert(1, ALONE), Reply::Queued),
-        (0, 2, 2, Ask::Release(2), Reply::Released),
+        (0, 1, 1, Ask::Enqueue(1, READ, b'a'), Answer::Granted),
+        (0, 2, 1, Ask::Enqueue(2, READ, b'a'), Answer::Granted),
+        (0, 1, 2, Ask::Convert(1, ALONE), Answer::Queued),
+        (0, 2, 2, Ask::Release(2), Answer::Released),
         (0, 2, 3, Ask::Status(1), held),
     ];
     assert!(rt; plays(rt.alloc(), &steps)?);
@@ -197,10 +204,10 @@ fn conversion_once_the_others_are_gone(rt: HostRuntime) -> Result<(), Fail> {
 #[test]
 fn later_waiters_do_not_overtake(rt: HostRuntime) -> Result<(), Fail> {
     let steps = [
-        (0, 1, 1, Ask::Enqueue(1, READ, b'a'), Reply::Granted),
-        (0, 2, 1, Ask::Enqueue(2, SHARED, b'a'), Reply::Granted),
-        (0, 3, 1, Ask::Enqueue(3, UPDATE, b'a'), Reply::Queued),
-        (0, 4, 1, Ask::Enqueue(4, READ, b'a'), Reply::Queued),
+        (0, 1, 1, Ask::Enqueue(1, READ, b'a'), Answer::Granted),
+        (0, 2, 1, Ask::Enqueue(2, SHARED, b'a'), Answer::Granted),
+        (0, 3, 1, Ask::Enqueue(3, UPDATE, b'a'), Answer::Queued),
+        (0, 4, 1, Ask::Enqueue(4, READ, b'a'), Answer::Queued),
     ];
     assert!(rt; plays(rt.alloc(), &steps)?);
     Ok(())
@@ -208,13 +215,13 @@ fn later_waiters_do_not_overtake(rt: HostRuntime) -> Result<(), Fail> {
 
 #[test]
 fn settle_does_not_pass_over_a_blocked_head(rt: HostRuntime) -> Result<(), Fail> {
-    let waits = Reply::State(LockState::Waiting(READ));
+    let waits = Answer::State(LockState::Waiting(READ));
     let steps = [
-        (0, 1, 1, Ask::Enqueue(1, READ, b'a'), Reply::Granted),
-        (0, 2, 1, Ask::Enqueue(2, SHARED, b'a'), Reply::Granted),
-        (0, 3, 1, Ask::Enqueue(3, UPDATE, b'a'), Reply::Queued),
-        (0, 4, 1, Ask::Enqueue(4, READ, b'a'), Reply::Queued),
-        (0, 1, 2, Ask::Release(1), Reply::Released),
+        (0, 1, 1, Ask::Enqueue(1, READ, b'a'), Answer::Granted),
+        (0, 2, 1, Ask::Enqueue(2, SHARED, b'a'), Answer::Granted),
+        (0, 3, 1, Ask::Enqueue(3, UPDATE, b'a'), Answer::Queued),
+        (0, 4, 1, Ask::Enqueue(4, READ, b'a'), Answer::Queued),
+        (0, 1, 2, Ask::Release(1), Answer::Released),
         (0, 1, 3, Ask::Status(4), waits),
     ];
     assert!(rt; plays(rt.alloc(), &steps)?);
@@ -223,11 +230,11 @@ fn settle_does_not_pass_over_a_blocked_head(rt: HostRuntime) -> Result<(), Fail>
 
 #[test]
 fn noqueue_and_status(rt: HostRuntime) -> Result<(), Fail> {
-    let refused = Reply::Refused(Refusal::NotQueued);
-    let held = Reply::State(LockState::Granted(READ));
+    let refused = Answer::Refused(Refusal::NotQueued);
+    let held = Answer::State(LockState::Granted(READ));
     let steps = [
-        (0, 1, 1, Ask::Enqueue(1, READ, b'a'), Reply::Granted),
-        (0, 2, 1, Ask::Enqueue(2, READ, b'a'), Reply::Granted),
+        (0, 1, 1, Ask::Enqueue(1, READ, b'a'), Answer::Granted),
+        (0, 2, 1, Ask::Enqueue(2, READ, b'a'), Answer::Granted),
         (0, 1, 2, Ask::ConvertNow(1, ALONE), refused),
         (0, 1, 3, Ask::Status(1), held),
     ];
@@ -238,8 +245,8 @@ fn noqueue_and_status(rt: HostRuntime) -> Result<(), Fail> {
 #[test]
 fn repetition_through_another_host(rt: HostRuntime) -> Result<(), Fail> {
     let steps = [
-        (0, 1, 1, Ask::Enqueue(1, ALONE, b'd'), Reply::Granted),
-        (1, 1, 1, Ask::Enqueue(1, ALONE, b'd'), Reply::Granted),
+        (0, 1, 1, Ask::Enqueue(1, ALONE, b'd'), Answer::Granted),
+        (1, 1, 1, Ask::Enqueue(1, ALONE, b'd'), Answer::Granted),
     ];
     let lines = [(b'd', 1, 1, 0, LockState::Granted(ALONE))];
     assert!(rt; plays_to(rt.alloc(), &steps, &lines, 1)?);
@@ -248,13 +255,13 @@ fn repetition_through_another_host(rt: HostRuntime) -> Result<(), Fail> {
 
 #[test]
 fn purge_and_a_stale_number(rt: HostRuntime) -> Result<(), Fail> {
-    let stale = Reply::Refused(Refusal::Stale);
+    let stale = Answer::Refused(Refusal::Stale);
     let steps = [
-        (0, 2, 1, Ask::Enqueue(2, ALONE, b'b'), Reply::Granted),
-        (1, 1, 1, Ask::Enqueue(1, ALONE, b'a'), Reply::Granted),
-        (1, 1, 2, Ask::Enqueue(3, SHARED, b'b'), Reply::Queued),
-        (0, 2, 2, Ask::Enqueue(4, SHARED, b'a'), Reply::Queued),
-        (0, 3, 1, Ask::Purge(1), Reply::Purged(2)),
+        (0, 2, 1, Ask::Enqueue(2, ALONE, b'b'), Answer::Granted),
+        (1, 1, 1, Ask::Enqueue(1, ALONE, b'a'), Answer::Granted),
+        (1, 1, 2, Ask::Enqueue(3, SHARED, b'b'), Answer::Queued),
+        (0, 2, 2, Ask::Enqueue(4, SHARED, b'a'), Answer::Queued),
+        (0, 3, 1, Ask::Purge(1), Answer::Purged(2)),
         (0, 2, 1, Ask::Status(4), stale),
     ];
     let lines = [
@@ -268,12 +275,12 @@ fn purge_and_a_stale_number(rt: HostRuntime) -> Result<(), Fail> {
 #[test]
 fn a_lock_number_is_taken_once(rt: HostRuntime) -> Result<(), Fail> {
     lock_numbers_are_distinct();
-    let taken = Reply::Refused(Refusal::LockInUse);
+    let taken = Answer::Refused(Refusal::LockInUse);
     let steps = [
-        (0, 1, 1, Ask::Enqueue(7, READ, b'a'), Reply::Granted),
+        (0, 1, 1, Ask::Enqueue(7, READ, b'a'), Answer::Granted),
         (0, 2, 1, Ask::Enqueue(7, READ, b'b'), taken),
-        (0, 1, 2, Ask::Release(7), Reply::Released),
-        (0, 2, 2, Ask::Enqueue(7, READ, b'b'), Reply::Granted),
+        (0, 1, 2, Ask::Release(7), Answer::Released),
+        (0, 2, 2, Ask::Enqueue(7, READ, b'b'), Answer::Granted),
     ];
     let lines = [(b'b', 7, 2, 0, LockState::Granted(READ))];
     assert!(rt; plays_to(rt.alloc(), &steps, &lines, 2)?);
@@ -284,7 +291,7 @@ fn a_lock_number_is_taken_once(rt: HostRuntime) -> Result<(), Fail> {
 fn take_all(table: &mut Table) -> Result<bool, Fail> {
     for number in 1..257u16 {
         let ask_for = Ask::Enqueue(number, NULL, b'a');
-        let step = (0, 1, u64::from(number), ask_for, Reply::Granted);
+        let step = (0, 1, u64::from(number), ask_for, Answer::Granted);
         if !replies(table, &[step])? {
             return Ok(false);
         }
@@ -309,21 +316,21 @@ fn table_full(rt: HostRuntime) -> Result<(), Fail> {
             1,
             257,
             Ask::Enqueue(257, NULL, b'a'),
-            Reply::Refused(Refusal::TableFull),
+            Answer::Refused(Refusal::TableFull),
         ),
         (
             0,
             1,
             257,
             Ask::Enqueue(257, NULL, b'a'),
-            Reply::Refused(Refusal::TableFull),
+            Answer::Refused(Refusal::TableFull),
         ),
         (
             0,
             1,
             258,
             Ask::Enqueue(1, NULL, b'a'),
-            Reply::Refused(Refusal::LockInUse),
+            Answer::Refused(Refusal::LockInUse),
         ),
     ];
     assert!(rt; plays_behind_all_locks(rt.alloc(), &steps)?);
@@ -332,7 +339,7 @@ fn table_full(rt: HostRuntime) -> Result<(), Fail> {
 
 /// Each of 32 clients asks for a lock that is not there.
 fn ask_all(table: &mut Table) -> Result<bool, Fail> {
-    let unknown = Reply::Refused(Refusal::NoSuchLock);
+    let unknown = Answer::Refused(Refusal::NoSuchLock);
     for client in 0..32u8 {
         if !replies(table, &[(0, client, 1, Ask::Status(5), unknown)])? {
             return Ok(false);
@@ -352,14 +359,14 @@ fn plays_behind_all_clients(alloc: Global, steps: &[Step]) -> Result<bool, Fail>
 
 #[test]
 fn clients_full(rt: HostRuntime) -> Result<(), Fail> {
-    let unknown = Reply::Refused(Refusal::NoSuchLock);
+    let unknown = Answer::Refused(Refusal::NoSuchLock);
     let steps = [
         (
             0,
             32,
             1,
             Ask::Status(5),
-            Reply::Refused(Refusal::ClientsFull),
+            Answer::Refused(Refusal::ClientsFull),
         ),
         (0, 0, 1, Ask::Status(5), unknown),
     ];
@@ -376,7 +383,7 @@ fn fill(table: &mut Table) -> Result<bool, Fail> {
                 NULL,
                 b'A' + client,
             );
-            let step = (0, client, u64::from(number), ask_for, Reply::Granted);
+            let step = (0, client, u64::from(number), ask_for, Answer::Granted);
             if !replies(table, &[step])? {
                 return Ok(false);
             }
@@ -403,20 +410,20 @@ fn a_full_table_takes_each_command(rt: HostRuntime) -> Result<(), Fail> {
             0,
             9,
             Ask::Enqueue(257, NULL, b'A'),
-            Reply::Refused(Refusal::TableFull),
+            Answer::Refused(Refusal::TableFull),
         ),
-        (0, 1, 9, Ask::Convert(9, ALONE), Reply::Granted),
-        (0, 1, 10, Ask::Convert(10, READ), Reply::Queued),
-        (0, 1, 11, Ask::Cancel(10), Reply::Cancelled),
+        (0, 1, 9, Ask::Convert(9, ALONE), Answer::Granted),
+        (0, 1, 10, Ask::Convert(10, READ), Answer::Queued),
+        (0, 1, 11, Ask::Cancel(10), Answer::Cancelled),
         (
             0,
             2,
             9,
             Ask::Status(9),
-            Reply::State(LockState::Granted(ALONE)),
+            Answer::State(LockState::Granted(ALONE)),
         ),
-        (0, 1, 12, Ask::Release(9), Reply::Released),
-        (0, 3, 9, Ask::Purge(0), Reply::Purged(255)),
+        (0, 1, 12, Ask::Release(9), Answer::Released),
+        (0, 3, 9, Ask::Purge(0), Answer::Purged(255)),
     ];
     assert!(rt; plays_behind_full(rt.alloc(), &steps)?);
     Ok(())

@@ -51,7 +51,7 @@ pub struct Notes {
 }
 
 impl Notes {
-    /// Of a marking that has heard nothing.
+    /// The notes of a marking that has heard nothing.
     pub fn new(host: u8, slot: u16, disks: u8, value: Value) -> Notes
         requires host { host < HOSTS }
         requires some { 0 < disks }
@@ -162,7 +162,7 @@ impl Notes {
         }
     }
 
-    // A call of the write succeeded. Behind the last of them the own block is marked.
+    // A call of the write succeeded. After the last one the own block is marked.
     fn go_on_writing(&mut self)
         requires sound { IsSound self.old }
         requires going { self.old.end ≡ None }
@@ -178,7 +178,8 @@ impl Notes {
         }
     }
 
-    // The bytes of the row were read. A function pays for the room of its row at its start, so that room is here.
+    // The bytes of the row were read. The row is a local variable here, and not in the caller: a function sets up its locals at
+    // each call.
     #[inline(never)]
     fn hear_row(&mut self, bytes: &[u8; ROW_LENGTH])
         requires sound { IsSound self.old }
@@ -217,7 +218,7 @@ impl Notes {
         }
     }
 
-    // A write begins that marks the own block, or the disk is dropped where the block is spent.
+    // A write begins that marks the own block. If the block has no sequence number left, the disk is dropped.
     fn begin_write(&mut self, block: &Block128, says: &PBlock<Value>)
         requires sound { IsSound self.old }
         requires going { self.old.end ≡ None }
@@ -290,7 +291,7 @@ fn holds(says: &PBlock<Value>, value: &Value) -> bool
     }
 }
 
-// What stands where no write is under way: it is put in its place before it is gone by.
+// A placeholder while no write is under way. Each write replaces it before it is used.
 fn no_steps() -> WriteSteps
     ensures { result.size ≡ COPY_LENGTH }
 {

@@ -53,7 +53,7 @@ impl Marking {
     /// The device call that is due.
     pub fn call(&self) -> Need<'_>
         requires { self.now.end ≡ None }
-        // By the answers that lead here, with its boot number and its bytes.
+        // The call that the definition names after these answers, with the same boot number and bytes.
         ensures next { (s : Setup) (heard : List Answered) → LeadsTo s heard self.now →
             next_call s (on heard) ≡ Some (call_of_need result) }
         ensures due { call_of_need result ≡ call_due self.now }

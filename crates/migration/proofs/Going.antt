@@ -16,7 +16,7 @@ use Rattle.phases.specs.declared.heard.Heard.TheVariants as answer
 use Rattle.migration.specs.Heard.{Progress, at_first, with_boot, given_up, answered, hears, heard, next_in, next}
 use Rattle.migration.specs.History.{IsHistory, IsAnswerTo}
 use Rattle.migration.specs.Image.{Setup, header_of, block_for}
-use Rattle.migration.specs.Kept.{setup_of, left_from, left_here, gates_later, fills_later, left_later, left_by, has_failed, boot_in, going_on, progress_of, HasBytes, IsSound, kind_at, call_due, answer_of, end_in, end_by, LeadsTo}
+use Rattle.migration.specs.Kept.{setup_of, left_from, left_here, gates_later, fills_later, left_later, left_by, has_failed, boot_in, going_on, progress_of, HasBytes, IsSound, kind_at, call_due, device_answer, end_in, end_by, LeadsTo}
 use Rattle.migration.proofs.Lengths.{length-header}
 use Rattle.migration.specs.Plan.{Put, Kind, Attaching, Putting, Syncing, Opening, Due, on, blocks_from, header_calls, fills, heading, opens, filling, opening, each, schedule, call_of}
 use Rattle.migration.specs.declared.end.End.{End}
@@ -239,21 +239,21 @@ bounded p (Done ∷ answers) is =
     omega (arith, bounded (hears p Done) answers is.1, ap length some, ap length (one_less p Done due rest some))
 
 -- an answer as the code has it
-answer_fits : (call : Call) (x : code_heard.Heard (List ℕ)) → Fits call (heard_of x) → Fits call (heard_as (answer_of x))
+answer_fits : (call : Call) (x : code_heard.Heard (List ℕ)) → Fits call (heard_of x) → Fits call (heard_as (device_answer x))
 answer_fits call (answer.Booted boot) fits = fits
 answer_fits call answer.Done fits = fits
 answer_fits call (answer.Told bytes) fits = fits
 answer_fits call (answer.Fault fault) fits = fits
 
 -- one answer more leads on
-pub leads_on : (s : Setup) (answers : List Answer) (old new : Notes) (x : code_heard.Heard (List ℕ)) → IsSound old → old.end ≡ None → setup_of new ≡ setup_of old → Fits (call_due old).1 (heard_of x) → progress_of new ≡ hears (progress_of old) (answer_of x)
-    → LeadsTo s answers old → LeadsTo s (answers ++ answer_of x ∷ []) new
+pub leads_on : (s : Setup) (answers : List Answer) (old new : Notes) (x : code_heard.Heard (List ℕ)) → IsSound old → old.end ≡ None → setup_of new ≡ setup_of old → Fits (call_due old).1 (heard_of x) → progress_of new ≡ hears (progress_of old) (device_answer x)
+    → LeadsTo s answers old → LeadsTo s (answers ++ device_answer x ∷ []) new
 leads_on s answers old new x sound going same fits goes leads =
     let next_is : next (heard (at_first s) answers) ≡ Some (call_due old) = ap next (sym leads.progress) ∙ next_due old sound going in
     record {
       of = same ∙ leads.of;
-      history = history_more (at_first s) answers (answer_of x) leads.history (subst (λ (o : Option (ℕ × Call)). IsAnswerTo o (answer_of x)) (sym next_is) (answer_fits (call_due old).1 x fits));
-      progress = goes ∙ ap (λ (p : Progress). hears p (answer_of x)) leads.progress ∙ sym (heard-append (at_first s) answers (answer_of x));
+      history = history_more (at_first s) answers (device_answer x) leads.history (subst (λ (o : Option (ℕ × Call)). IsAnswerTo o (device_answer x)) (sym next_is) (answer_fits (call_due old).1 x fits));
+      progress = goes ∙ ap (λ (p : Progress). hears p (device_answer x)) leads.progress ∙ sym (heard-append (at_first s) answers (device_answer x));
     }
 
 -- NOTHING IS HEARD YET

@@ -6,6 +6,7 @@ use Rattle.paxos_block.specs.Headers.{header_saying}
 use Rattle.paxos_block.specs.Places.{place_of, VoteOf}
 use Rattle.phases.specs.declared.heard.Heard as code_heard
 use Rattle.phases.specs.declared.heard.Heard.TheVariants as answer
+pub use Rattle.phases.specs.Calls.{device_answer}
 use Rattle.slot_log.specs.Shape.{Shape}
 use Rattle.migration.specs.Fits.{HasRoom}
 use Rattle.migration.specs.Heard.{Progress, at_first, heard}
@@ -112,12 +113,6 @@ FitsStage stage.Attaching other = ⊥
 FitsStage at (answer.Booted boot) = ⊥
 FitsStage at answer.Done = Unit {0}
 FitsStage at (answer.Told bytes) = ⊥
-
-abbrev pub answer_of : code_heard.Heard (List ℕ) → device.Answer
-answer_of (answer.Booted boot) = device.Booted boot.number
-answer_of answer.Done = device.Done
-answer_of (answer.Told bytes) = device.Told bytes.now
-answer_of (answer.Fault fault) = device.Fault fault
 
 -- WHAT FOLLOWS FROM THE ANSWERS
 

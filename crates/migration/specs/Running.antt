@@ -24,12 +24,6 @@ events_of events = map event_of events
 
 -- CALLS
 
-abbrev pub IsNoRead : Call → Type 0
-IsNoRead Attach = Unit {0}
-IsNoRead (Read boot at len) = ⊥
-IsNoRead (Write boot at from) = Unit {0}
-IsNoRead (Sync boot) = Unit {0}
-
 abbrev pub is_write : Call → Bool
 is_write (Write boot at from) = true
 is_write other = false

@@ -1,38 +1,10 @@
 ghost use Rattle.std.specs.Prelude.{◌≡◌, ◌<◌, is_some, length};
-ghost use Rattle.disk.specs.Disk.{done_answer};
-ghost use Rattle.disk.specs.Simulated.{outcome, refusal_of, failed_by};
+ghost use Rattle.disk.specs.Simulated.{refusal_of, failed_by};
 ghost use Rattle.phases.specs.Calls.{device_call_of, IsWithin};
-ghost use Rattle.migration.specs.Kept.{answer_of};
-ghost use Rattle.migration.specs.Running.{IsNoRead, is_write};
+ghost use Rattle.migration.specs.Running.{is_write};
 
-use disk::{Disk, DiskFault, SimDisk};
-use phases::{DeviceCall, Heard};
-
-/// Makes a call of a migration, which reads nothing.
-pub fn make<'a>(disk: &mut SimDisk, call: &DeviceCall<'_>) -> Heard<'a>
-    requires range { IsWithin (length disk.old.disk.bytes) call.now }
-    requires no_read { IsNoRead (device_call_of call.now) }
-    ensures { (disk.new, answer_of result) ≡ outcome disk.old (device_call_of call.now) }
-{
-    match call {
-        DeviceCall::Attach => match disk.attach() {
-            Ok(boot) => Heard::Booted(boot),
-            Err(fault) => Heard::Fault(fault),
-        },
-        DeviceCall::Sync { boot } => heard_of(disk.sync(*boot)),
-        DeviceCall::Read { .. } => unreachable!(),
-        DeviceCall::Write { boot, at, bytes } => heard_of(disk.write(*boot, *at, bytes)),
-    }
-}
-
-fn heard_of<'a>(answer: Result<(), DiskFault>) -> Heard<'a>
-    ensures { answer_of result ≡ done_answer answer }
-{
-    match answer {
-        Ok(()) => Heard::Done,
-        Err(fault) => Heard::Fault(fault),
-    }
-}
+use disk::SimDisk;
+use phases::DeviceCall;
 
 /// Whether a disk would refuse the call.
 pub fn is_refused(disk: &SimDisk, call: &DeviceCall<'_>) -> bool

@@ -3,6 +3,6 @@
 pub enum End {
     /// Every disk holds its complete image, its gate open.
     Migrated,
-    /// A call failed, or was refused. No disk's gate stands open, or all disks are complete but perhaps for their gates.
+    /// A call failed, or was refused. No disk's gate is open, or all disks are complete except perhaps for their gates.
     MigrationFailed,
 }

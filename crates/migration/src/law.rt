@@ -6,7 +6,7 @@ ghost use Rattle.migration.specs.Image.{Setup, HoldsLog, HoldsNoMore, HasHeader}
 ghost use Rattle.migration.specs.Plan.{schedule};
 ghost use Rattle.migration.specs.Run.{Entry, begun, all_after, AllMayHappen, IsAllOrNothing, HasEnded};
 
-/// Whatever happens to a migration: no header's gate stands open, or every disk holds its complete image, but perhaps for the gate.
+/// Whatever happens to a migration: no header's gate is open, or every disk holds its complete image except perhaps for the gate.
 pub fn migrates_all_or_nothing()
     ensures at_each_place { (s : Setup) (es : List Entry) → Fits s → AllMayHappen (begun s) es →
         IsAllOrNothing s (all_after (begun s) es).disk }

@@ -5,7 +5,7 @@ ghost use Rattle.attempt.specs.Heard.{Fits};
 ghost use Rattle.phases.specs.Calls.{IsWithin, call_of_need, heard_of};
 ghost use Rattle.migration.specs.Heard.{at_first, heard, next};
 ghost use Rattle.migration.specs.Image.{Setup};
-ghost use Rattle.migration.specs.Kept.{LeadsTo, answer_of, call_due, end_by, setup_by, setup_of};
+ghost use Rattle.migration.specs.Kept.{LeadsTo, device_answer, call_due, end_by, setup_by, setup_of};
 
 use crate::end::End;
 use crate::notes::Notes;
@@ -50,7 +50,7 @@ impl Migrator {
     /// The device call that is due.
     pub fn call(&self) -> Need<'_>
         requires { self.now.end ≡ None }
-        // By the answers that lead here, with its boot number and its bytes.
+        // The call that the definition names after these answers, with the same boot number and bytes.
         ensures next { (s : Setup) (answers : List Answer) → LeadsTo s answers self.now →
             next (heard (at_first s) answers) ≡ Some (call_of_need result) }
         ensures due { call_of_need result ≡ call_due self.now }
@@ -68,9 +68,9 @@ impl Migrator {
         requires going { self.old.end ≡ None }
         requires fits { Fits (call_due self.old).1 (heard_of heard.now) }
         ensures leads { (s : Setup) (answers : List Answer) → LeadsTo s answers self.old →
-            LeadsTo s (answers ++ answer_of heard.now ∷ []) self.new }
+            LeadsTo s (answers ++ device_answer heard.now ∷ []) self.new }
         ensures bound { (s : Setup) (answers : List Answer) → LeadsTo s answers self.old →
-            length (answers ++ answer_of heard.now ∷ []) ≤ s.disks * (length s.log + 6) }
+            length (answers ++ device_answer heard.now ∷ []) ≤ s.disks * (length s.log + 6) }
         ensures same { setup_of self.new ≡ setup_of self.old }
     {
         self.notes.hear(heard);

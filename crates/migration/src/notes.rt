@@ -6,7 +6,7 @@ ghost use Rattle.paxos_block.specs.Places.{image_length};
 ghost use Rattle.phases.specs.Calls.{IsWithin, device_call_of};
 ghost use Rattle.migration.specs.Heard.{at_first, hears};
 ghost use Rattle.migration.specs.Image.{block_for};
-ghost use Rattle.migration.specs.Kept.{IsSound, FitsStage, answer_of, call_due, progress_of, going_on, left_from, fills_later, setup_by, setup_of};
+ghost use Rattle.migration.specs.Kept.{IsSound, FitsStage, device_answer, call_due, progress_of, going_on, left_from, fills_later, setup_by, setup_of};
 ghost use Rattle.migration.specs.Plan.{on};
 
 use crate::block::block_for;
@@ -17,7 +17,7 @@ use phases::{DeviceCall, Heard};
 use slot_log::Config;
 use torn_block::{BLOCK_LENGTH, ClusterLayout, DISKS, HEADER_LENGTH, OPEN_GATE};
 
-/// As many as there may be disks.
+/// The most disks of a cluster.
 const PLACES: usize = DISKS as usize;
 
 /// What comes next on a disk.
@@ -55,7 +55,7 @@ pub struct Notes {
 }
 
 impl Notes {
-    /// Of a migration that has heard nothing.
+    /// The notes of a migration that has heard nothing.
     pub fn new(config: Config, cluster: u64, log: Vec<Value>) -> Notes
         requires { length log.items ≤ config.slots }
         ensures sound { IsSound result }
@@ -116,7 +116,7 @@ impl Notes {
         requires fits { FitsStage self.old.stage heard.now }
         ensures sound { IsSound self.new }
         ensures same { setup_of self.new ≡ setup_of self.old }
-        ensures hears { progress_of self.new ≡ hears (progress_of self.old) (answer_of heard.now) }
+        ensures hears { progress_of self.new ≡ hears (progress_of self.old) (device_answer heard.now) }
     {
         match heard {
             Heard::Booted(boot) => self.attach(*boot),

@@ -23,7 +23,7 @@ pub fn migrate_run(
     // They are what the events make of them.
     ensures disks { IfOk result (λ disks. let s = setup_by config cluster log.items in
         AreDisks s (run s (events_of events.now)) disks.items) }
-    // No gate stands open, or all disks are complete, but perhaps for their gates.
+    // No gate is open, or all disks are complete except perhaps for their gates.
     ensures all_or_nothing { IfOk result (λ disks. let s = setup_by config cluster log.items in
         IsAllOrNothing s (disk_in disks.items)) }
 {

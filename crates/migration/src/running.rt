@@ -8,14 +8,15 @@ ghost use Rattle.migration.specs.Image.{Setup};
 ghost use Rattle.migration.specs.Kept.{setup_by};
 ghost use Rattle.migration.specs.Running.{LeadsTo, IsReached, calm, event_of};
 
-use crate::device_call::{is_refused, is_write, make, spoil};
+use crate::device_call::{is_refused, is_write, spoil};
 use crate::event::MigrationEvent;
 use crate::migrator::Migrator;
 use disk::{DiskFault, NoMemory, SimDisk};
 use paxos_block::Value;
-use phases::Heard;
+use phases::{Heard, answer_of};
 use slot_log::Config;
 use std::alloc::Global;
+use torn_block::ROW_LENGTH;
 
 #[derive(Drop)]
 pub struct Running {
@@ -70,7 +71,13 @@ impl Running {
             return;
         }
         let need = migrator.call();
-        let heard = make(&mut self.disks[usize::from(need.disk)], &need.call);
+        // It stays empty: no call of a migration reads.
+        let mut row = [0; ROW_LENGTH];
+        let heard = answer_of(
+            &mut self.disks[usize::from(need.disk)],
+            &need.call,
+            &mut row,
+        );
         migrator.hear(&heard);
     }
 
@@ -168,7 +175,7 @@ fn fresh_disks(alloc: Global, config: Config) -> Result<Vec<SimDisk>, NoMemory>
     Ok(disks)
 }
 
-// For its contract only: what is known of the length of a value is known of it alone.
+// Called for its contract only. The checker knows the length of one value, not of all values in a list; the loop goes through them.
 fn measure(log: &[Value])
     ensures { All (λ value. length value ≡ VALUE_LENGTH) log.now }
 {

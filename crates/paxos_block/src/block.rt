@@ -45,7 +45,7 @@ pub struct PBlock<V> {
 
 impl<V: Copy> PBlock<V> {
     /// What a blank block says. No sound copy says it.
-    // A function: of a constant of a generic type a proof would know nothing.
+    // This is a function because the checker knows nothing of a constant of a generic type.
     #[inline(always)]
     pub fn blank() -> PBlock<V>
         ensures { result ≡ record { mbal = 0; bal = 0; inp = None; mark = false } }
@@ -126,14 +126,14 @@ pub fn decode<L: Layout>(host: u8, body: &Body) -> Option<PBlock<L::Value>>
     // What is spelled so, and the host may say, is found.
     ensures only { (says : Claim) → MaySay L.version host says → body_in L.version body.now ≡ body_saying L.version says →
         option_map (said_as L.spelled) result ≡ Some says }
-    // The same as one function of the bytes.
+    // The result once more, as one function of the bytes.
     ensures exact { option_map (said_as L.spelled) result ≡ said_by L.version host (body_in L.version body.now) }
 {
     let (front, back) = body.bytes[..L::COPY_LENGTH - 9].split_at(HEADING_LENGTH);
     said::<L>(host, front, back)
 }
 
-// The same of a body in two parts.
+// What a body says, given in two parts.
 fn said<L: Layout>(host: u8, front: &[u8], back: &[u8]) -> Option<PBlock<L::Value>>
     requires front { length front.now ≡ HEADING_LENGTH }
     requires back { length back.now + HEADING_LENGTH ≡ body_length L.version }
@@ -166,7 +166,7 @@ pub(crate) fn is_said<L: Layout>(host: u8, front: &[u8], back: &[u8]) -> bool
     }
 }
 
-// Whether all behind the input is zeros, or all behind the ballots where there is none.
+// Whether the rest is zeros: all bytes after the input, or all after the ballots if there is no input.
 fn has_zeros<L: Layout>(voted: bool, end: &[u8]) -> bool
     requires { length end.now ≡ value_length L.version + padding L.version }
     ensures { result ≡ list_all (λ b. b == 0) (if voted then drop (value_length L.version) end.now else end.now) }

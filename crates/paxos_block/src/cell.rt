@@ -18,7 +18,7 @@ use torn_block::{
 /// A host's block of a slot, as it was read.
 #[derive(Clone, Copy, Debug, PartialEq, Eq)]
 pub struct Cell<V> {
-    /// What a writer of the block goes by.
+    /// The block's copies, as a writer of the block needs them.
     pub block: Block128,
     /// What it says; a blank block says `PBlock::blank`.
     pub says: PBlock<V>,
@@ -91,7 +91,7 @@ fn half_says<L: Layout>(half: Half, first: &[u8], second: &[u8]) -> PBlock<L::Va
     }
 }
 
-// What a copy says, where it stands.
+// What a copy says, read in place.
 #[inline(always)]
 fn claim_in<L: Layout>(copy: &[u8]) -> PBlock<L::Value>
     requires { length copy.now ≡ copy_length L.version }
@@ -124,7 +124,7 @@ fn has_fault<L: Layout>(host: u8, copy: &[u8]) -> bool
     is_open(copy) && !is_sound::<L>(host, copy)
 }
 
-// The body is tested where it stands: nothing is copied before the block is known to be sound.
+// The body is tested in place: nothing is copied before the block is known to be sound.
 fn is_sound<L: Layout>(host: u8, copy: &[u8]) -> bool
     requires { length copy.now ≡ copy_length L.version }
     ensures { result ≡ rows.is_sound L.version host copy.now }

@@ -64,7 +64,7 @@ pub fn decode_header<L: Layout>(
         ((HEADER_LENGTH ≤ long) × ¬ IsFormatted bytes.now) }
     ensures wrong_header { (result ≡ Err ImageFault.WrongHeader) ↔
         ((long < HEADER_LENGTH) ⊎ HasNoHeader L.version disk long bytes.now) }
-    // That fault is of those who read the bytes.
+    // Only a caller that reads the file can find that fault.
     ensures readable { result ≢ Err ImageFault.Unreadable }
 {
     if long < HEADER_LENGTH as u64 {

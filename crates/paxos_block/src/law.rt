@@ -102,7 +102,7 @@ pub fn writes_stay_sound()
 mod tests {
     use super::*;
 
-    // Their contracts are what they are for.
+    // These functions do nothing when they run: their contracts are theorems.
     #[test]
     fn laws(_rt: HostRuntime) {
         ballots_and_majorities();

@@ -104,7 +104,7 @@ pub fn read_row<L: Layout>(row: &mut Row<L::Value>, bytes: &[u8]) -> Result<(), 
     requires { length bytes.now ≡ row_length L.version }
     ensures damaged { IsErr result ↔ IsDamagedRow L.version bytes.now }
     ensures row { OnOk result (IsRow L.version L.spelled bytes.now row.new) }
-    // The same by the one function of the bytes that the layers above go by.
+    // The result once more, as the one function of the bytes that the contracts of other crates use.
     ensures unsaid { IsErr result ↔ (row_said L.version bytes.now ≡ None) }
     ensures said { OnOk result (IsSomeAnd (row_said L.version bytes.now)
         (λ seen. AreSeenAs L.version L.spelled seen row.new)) }
@@ -142,7 +142,7 @@ pub fn decode_row<L: Layout>(bytes: &[u8]) -> Result<Row<L::Value>, Damaged>
     requires { length bytes.now ≡ row_length L.version }
     ensures damaged { IsErr result ↔ IsDamagedRow L.version bytes.now }
     ensures row { IfOk result (IsRow L.version L.spelled bytes.now) }
-    // The same by the one function of the bytes that the layers above go by.
+    // The result once more, as the one function of the bytes that the contracts of other crates use.
     ensures unsaid { IsErr result ↔ (row_said L.version bytes.now ≡ None) }
     ensures said { IfOk result (λ row.
         IsSomeAnd (row_said L.version bytes.now) (λ seen. AreSeenAs L.version L.spelled seen row)) }

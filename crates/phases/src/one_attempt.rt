@@ -29,7 +29,7 @@ use paxos_block::{PBlock, Row, ballot_above, block_place, encode, read_row, row_
 use std::marker::Model;
 use torn_block::{BlockNeed, DISKS, Layout, WriteSteps};
 
-/// As many as there may be disks.
+/// The most disks of a cluster.
 const PLACES: usize = DISKS as usize;
 
 /// An attempt of a host on a slot: by Gafni and Lamport, "Disk Paxos" (2003), with blocks that survive torn writes.
@@ -45,7 +45,7 @@ pub struct Attempt<L: Layout> {
     best: PBlock<L::Value>,
     /// The input of the first marked block in the opening's rows.
     decided: Option<L::Value>,
-    /// What is written in the phase; blank in the opening.
+    /// What this phase writes in the own block. Blank in the opening, which writes nothing.
     says: PBlock<L::Value>,
     /// By the disks' numbers.
     visits: [Visit; PLACES],
@@ -101,7 +101,7 @@ impl<L: Layout> Attempt<L> {
     /// The device call that is due.
     pub fn call(&self) -> Need<'_>
         requires { self.now.end ≡ None }
-        // By the answers that lead here, with its boot number and its bytes.
+        // The call that the definition names after these answers, with the same boot number and bytes.
         ensures next { (s : attempt.Setup) (heard : List Answered) → LeadsTo s heard self.now →
             next_call s (on heard) ≡ Some (call_of_need L.version result) }
         ensures due { call_of_need L.version result ≡ call_due self.now }
@@ -196,7 +196,7 @@ impl<L: Layout> Attempt<L> {
         self.stage = Stage::Syncing;
     }
 
-    // A sync, or a call of a write, succeeded. Behind the last of a write the row is read.
+    // A sync, or a call of a write, succeeded. After the last call of a write the row is read.
     fn succeed(&mut self)
         requires going { self.old.end ≡ None }
         requires stage { FitsStage {R = List ℕ} self.old.stage Heard.Done }
@@ -206,8 +206,8 @@ impl<L: Layout> Attempt<L> {
         self.stage.succeed();
     }
 
-    // The bytes of a row were read. A function pays for the room of its row at its start, so that room is here and not
-    // in `hear`, to which most answers bring no row.
+    // The bytes of a row were read. The row is a local variable here, and not in `hear`: a function sets up its locals at each
+    // call, and most answers bring no row.
     #[inline(never)]
     fn hear_row(&mut self, bytes: &[u8])
         requires room { RowFits L.Value.row }
@@ -254,7 +254,7 @@ impl<L: Layout> Attempt<L> {
         self.go_on(next);
     }
 
-    // Another host's ballot in the row, where it outruns the one that was taken.
+    // Another host's ballot in the row, if it is greater than the one that was taken.
     fn faster(&self, row: &Row<L::Value>) -> Option<u64>
         ensures { (bytes : List ℕ) (reads : ReadsAs L.version L.spelled bytes row.now) → result ≡ outruns self.now.phase self.now reads.seen }
     {
@@ -417,7 +417,7 @@ impl<L: Layout> Attempt<L> {
         false
     }
 
-    // Begins the phase on a disk if it is left. One whose write is due to a spent block is dropped.
+    // Begins the phase on a disk that was not dropped. If it has to write and its block has no sequence number left, it is dropped.
     fn visit(&mut self, disk: u8) -> bool
         requires { disk < self.old.of.disks }
         ensures of { self.new.of ≡ self.old.of }
@@ -440,7 +440,7 @@ impl<L: Layout> Attempt<L> {
         }
     }
 
-    // Begins the write of the phase on a disk, or drops it where its block is spent.
+    // Begins the write of the phase on a disk, or drops the disk if its block has no sequence number left.
     fn begin_write(&mut self, disk: u8) -> bool
         requires disk { disk < self.old.of.disks }
         requires phase { self.old.phase ≢ Phase.Opening }

@@ -1,7 +1,7 @@
 use cluster::HostFault;
 use lock_table::Reply;
 
-/// What a host's bid came to: where it stands in the log, with the lock table's reply, or why it was refused.
+/// What a host's bid came to: its slot and the lock table's reply, or why it was refused.
 #[derive(Clone, Copy, Debug, PartialEq, Eq)]
 pub enum Answer {
     Acknowledged { slot: u16, reply: Reply },

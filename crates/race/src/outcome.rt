@@ -1,10 +1,11 @@
-ghost use Rattle.std.specs.Prelude.{◌≡◌, ◌⊎◌, ◌<◌, ◌≢◌, ℕ, length, slice_index_or};
+ghost use Rattle.std.specs.Prelude.{◌≡◌, ◌⊎◌, ◌<◌, ◌≢◌, ◌↔◌, ℕ, IsTrue, length, slice_index_or};
 ghost use Rattle.cluster.specs.declared.fault.HostFault.TheVariants.{NoMemory};
 
 use crate::answer::Answer;
 use cluster::HostFault;
 use crossbeam_channel::Receiver;
 use lock_command::HostNumber;
+use lock_table::is_same_reply;
 use std::alloc::{AllocError, Global};
 use std::sync::Wait;
 
@@ -31,16 +32,38 @@ pub(crate) fn outcomes_of<R: Wait>(
     Ok(came)
 }
 
-/// The answer that a thread gave, where its outcome came; an outcome that did not come is a want of memory.
+/// The answer that a thread gave. If its outcome did not come, memory was refused.
 pub(crate) fn answer_of(came: &[Outcome], given: Outcome) -> Answer
     ensures came { (k : ℕ) (d : Outcome) → k < length came.now → slice_index_or came.now k d ≡ given → result ≡ given.answer }
     ensures given { (result ≡ given.answer) ⊎ (result ≡ Answer.Refused NoMemory) }
     ensures missing { ((k : ℕ) (d : Outcome) → k < length came.now → slice_index_or came.now k d ≢ given) → result ≡ Answer.Refused NoMemory }
 {
     for outcome in came {
-        if *outcome == given {
+        if is_same(outcome, &given) {
             return outcome.answer;
         }
     }
     Answer::Refused(HostFault::NoMemory)
+}
+
+fn is_same(a: &Outcome, b: &Outcome) -> bool
+    ensures { IsTrue result ↔ (a.now ≡ b.now) }
+{
+    a.host == b.host && is_same_answer(&a.answer, &b.answer)
+}
+
+fn is_same_answer(a: &Answer, b: &Answer) -> bool
+    ensures { IsTrue result ↔ (a.now ≡ b.now) }
+{
+    match (*a, *b) {
+        (
+            Answer::Acknowledged { slot, reply },
+            Answer::Acknowledged {
+                slot: other,
+                reply: replied,
+            },
+        ) => { slot == other && is_same_reply(&reply, &replied) }
+        (Answer::Refused(fault), Answer::Refused(other)) => fault == other,
+        _ => false,
+    }
 }

@@ -4,8 +4,8 @@ use Rattle.std.proofs.Common.{ℕ, zero, suc, ◌<◌, ◌≤◌, ◌≡◌, Opt
 use Rattle.std.proofs.lemmas.List.{take-take, length-take-le}
 use Rattle.std.proofs.lemmas.List.Elements.{All-weaker}
 use Rattle.lock_command.specs.declared.command.Command.{Command}
-use Rattle.lock_table.specs.Apply.{Plain, table_after}
-use Rattle.lock_table.specs.Picture.{IsPictureOf}
+use Rattle.lock_table.specs.Apply.{table_after}
+use Rattle.lock_table.specs.Picture.{IsPictureOf, Shown}
 use Rattle.slot_log.specs.Shape.{Shape}
 use Rattle.host.specs.declared.answer.HostAnswer.{HostAnswer}
 use Rattle.host.specs.declared.answer.HostAnswer.TheVariants.{Ack, Recovered, Looked, Beaten, Marked, Refused}
@@ -35,7 +35,7 @@ slot_there [] (suc n) slot less = refl
 slot_there (x ∷ l) (suc n) zero less = refl
 slot_there (x ∷ l) (suc n) (suc slot) less = slot_there l n slot (omega (arith, less))
 
-shown : (log : List Command) (n m : ℕ) (picture : Option Plain) → n ≤ length log → m ≤ n → ShowsTable picture (table_after (take m log)) → is_shown_after (take n log) m picture
+shown : (log : List Command) (n m : ℕ) (picture : Option Shown) → n ≤ length log → m ≤ n → ShowsTable picture (table_after (take m log)) → is_shown_after (take n log) m picture
 shown log n m None long less is = absurd is
 shown log n m (Some picture) long less is =
     record {
@@ -44,7 +44,7 @@ shown log n m (Some picture) long less is =
     }
 
 module _ (c : Shape) (events : List Event) (log : List Command) (n : ℕ) (long : n ≤ length log) where
-  by_said : (x : Line) (picture : Option Plain) (said : HostAnswer) → IsWithin n said → logged.goes_by c events log x picture said → judging.goes_by (take n log) picture said
+  by_said : (x : Line) (picture : Option Shown) (said : HostAnswer) → IsWithin n said → logged.goes_by c events log x picture said → judging.goes_by (take n log) picture said
   by_said x picture (Ack slot reply) within is =
       record {
         command = is.command;

@@ -1,6 +1,7 @@
 -- What a report lists.
 use Rattle.std.specs.Prelude.{◌≡◌, ◌+◌, Bool, true, false, List, [], ◌∷◌, take, Option, Some, None}
 use Rattle.lock_table.specs.Apply.{Plain, table_after}
+use Rattle.lock_table.specs.Picture.{Shown}
 use Rattle.slot_log.specs.Shape.{Shape}
 use Rattle.host.specs.declared.answer.HostAnswer.{HostAnswer}
 use Rattle.host.specs.declared.answer.HostAnswer.TheVariants.{Ack, Recovered, Looked, Beaten, Marked, Refused}
@@ -33,7 +34,7 @@ may_be_pictured (FailCall h given) = true
 may_be_pictured other = false
 
 -- beside a recovery or a look there is a picture of this table, and beside no other answer there is one
-abbrev pub IsPicturedBy : HostAnswer → Option Plain → Plain → Type 0
+abbrev pub IsPicturedBy : HostAnswer → Option Shown → Plain → Type 0
 IsPicturedBy (Ack slot reply) picture table = picture ≡ None
 IsPicturedBy (Recovered length) picture table = ShowsTable picture table
 IsPicturedBy (Looked length) picture table = ShowsTable picture table

@@ -2,8 +2,8 @@
 use Rattle.std.specs.Prelude.{◌≡◌, ◌≤◌, ℕ, List, length, take, All, slice_get, Option, Some, None}
 use Rattle.lock_command.specs.declared.command.Command.{Command}
 use Rattle.lock_table.specs.declared.reply.Reply.{Reply}
-use Rattle.lock_table.specs.Apply.{Plain, table_after}
-use Rattle.lock_table.specs.Picture.{IsPictureOf}
+use Rattle.lock_table.specs.Apply.{table_after}
+use Rattle.lock_table.specs.Picture.{IsPictureOf, Shown}
 use Rattle.host.specs.declared.answer.HostAnswer.{HostAnswer}
 use Rattle.host.specs.declared.answer.HostAnswer.TheVariants.{Ack, Recovered, Looked, Beaten, Marked, Refused}
 use Rattle.host.specs.Host.{reply_after}
@@ -16,15 +16,15 @@ pub record RepliesAfter (log : List Command) (slot : ℕ) (reply : Reply) : Type
   pub replied : reply ≡ reply_after (take slot log) command
 
 -- there are so many commands, and this is a picture of the lock table after these
-pub record ShowsAfter (log : List Command) (n : ℕ) (picture : Plain) : Type 0 where
+pub record ShowsAfter (log : List Command) (n : ℕ) (picture : Shown) : Type 0 where
   pub within : n ≤ length log
   pub table : IsPictureOf picture (table_after (take n log))
 
-abbrev pub is_shown_after : List Command → ℕ → Option Plain → Type 0
+abbrev pub is_shown_after : List Command → ℕ → Option Shown → Type 0
 is_shown_after log n None = ⊥
 is_shown_after log n (Some picture) = ShowsAfter log n picture
 
-abbrev pub goes_by : List Command → Option Plain → HostAnswer → Type 0
+abbrev pub goes_by : List Command → Option Shown → HostAnswer → Type 0
 goes_by log picture (Ack slot reply) = RepliesAfter log slot reply
 goes_by log picture (Recovered n) = is_shown_after log n picture
 goes_by log picture (Looked n) = is_shown_after log n picture

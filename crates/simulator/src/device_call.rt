@@ -33,7 +33,7 @@ pub fn make(disk: &mut SimDisk, call: &DeviceCall<'_>, row: &mut [u8; ROW_LENGTH
     }
 }
 
-/// What stands in the way of a call. It is asked by an attach, which changes nothing.
+/// Why a disk would refuse a call, if it would. An attach finds it out, which changes nothing.
 pub fn refusal_of(disk: &mut SimDisk, call: &DeviceCall<'_>) -> Option<DiskFault>
     requires calm { disk.old.failing ≡ None }
     ensures refusal { result ≡ refusal_of disk.old.disk (device_call_of call.now) }

@@ -12,8 +12,8 @@ use lock_command::HostNumber;
 use lock_script::{Event, Given};
 use std::alloc::{AllocError, Global};
 
-/// What a sweep puts before an event: before a step that applies, each way in which the host or the disk may be interrupted
-/// there; before any other event nothing.
+/// What a sweep puts before an event. Before a step that applies: each way in which the host or the disk may be interrupted
+/// there. Before any other event: nothing.
 pub fn changes(alloc: Global, parts: &mut Parts, event: &Event) -> Result<Vec<Event>, NoMemory>
     ensures unchanged { parts.new ≡ parts.old }
     ensures few { IfOk result (λ changes. length changes.items ≤ 6) }

@@ -8,12 +8,12 @@ use crate::report::Report;
 use disk::NoMemory;
 use host::HostAnswer;
 use lock_command::Command;
-use lock_table::{KnownClient, LockRecord, Picture, Reply, Table};
+use lock_table::{KnownClient, LockRecord, LockValue, Picture, Reply, Table, is_same_reply};
 use std::alloc::Global;
 
-/// Whether all that a report lists goes by these commands: each acknowledgement stands at a slot that they have, with the reply
-/// of a lock table to the command there after those before it, and each recovery shows the table after as many of them as
-/// it says, which there are.
+/// Whether all that a report lists agrees with a log of these commands. Each acknowledgement has a slot of this log, and the reply
+/// that a lock table gives to the command there after the commands before it. Each recovery names a number of commands, no more
+/// than there are, and shows the lock table after that many.
 pub fn judge(alloc: Global, report: &Report, log: &[Command]) -> Result<bool, NoMemory>
     ensures { IfOk result (λ right. IsTrue right ↔ AllGoBy log.now report.now) }
 {
@@ -25,7 +25,7 @@ pub fn judge(alloc: Global, report: &Report, log: &[Command]) -> Result<bool, No
     Ok(true)
 }
 
-/// Whether one answer does.
+/// Whether one answer agrees with the log.
 fn goes_by(alloc: Global, answer: &Answer, log: &[Command]) -> Result<bool, NoMemory>
     ensures { IfOk result (λ right. IsTrue right ↔ GoesByCommands log.now answer.now) }
 {
@@ -41,7 +41,7 @@ fn goes_by(alloc: Global, answer: &Answer, log: &[Command]) -> Result<bool, NoMe
     }
 }
 
-/// Whether there is a command at the slot, to which the lock table replies so after those before it.
+/// Whether the log has this slot, and the lock table replies so to the command there after the commands before it.
 fn replies(alloc: Global, log: &[Command], slot: usize, reply: Reply) -> Result<bool, NoMemory>
     ensures { IfOk result (λ right. IsTrue right ↔ RepliesAfter log.now slot reply) }
 {
@@ -49,10 +49,10 @@ fn replies(alloc: Global, log: &[Command], slot: usize, reply: Reply) -> Result<
         return Ok(false);
     }
     let mut table = fold(alloc, &log[..slot])?;
-    Ok(is_same_reply(table.apply(&log[slot]), reply))
+    Ok(is_same_reply(&table.apply(&log[slot]), &reply))
 }
 
-/// Whether there is a picture, and it is of the lock table after so many commands, which there are.
+/// Whether there is a picture, and it shows the lock table after this many commands of the log.
 fn is_shown(
     alloc: Global,
     log: &[Command],
@@ -67,7 +67,7 @@ fn is_shown(
     }
 }
 
-/// Whether there are so many commands, and the picture is of the lock table after these.
+/// Whether the log has this many commands, and the picture shows the lock table after them.
 fn shows(alloc: Global, log: &[Command], count: usize, picture: &Picture) -> Result<bool, NoMemory>
     ensures { IfOk result (λ right. IsTrue right ↔ ShowsAfter log.now count picture.now) }
 {
@@ -94,17 +94,13 @@ fn fold(alloc: Global, commands: &[Command]) -> Result<Table, NoMemory>
     Ok(table)
 }
 
-fn is_same_reply(a: Reply, b: Reply) -> bool
-    ensures { IsTrue result ↔ (a ≡ b) }
-{
-    a == b
-}
-
 /// Whether two pictures show the same.
 fn is_same(a: &Picture, b: &Picture) -> bool
     ensures { IsTrue result ↔ (a.now ≡ b.now) }
 {
-    are_same_locks(a.locks(), b.locks()) && are_same_clients(a.clients(), b.clients())
+    are_same_locks(a.locks(), b.locks())
+        && are_same_values(a.values(), b.values())
+        && are_same_clients(a.clients(), b.clients())
 }
 
 fn are_same_locks(a: &[LockRecord], b: &[LockRecord]) -> bool
@@ -131,6 +127,26 @@ fn is_same_lock(a: &LockRecord, b: &LockRecord) -> bool
         && a.state == b.state
 }
 
+fn are_same_values(a: &[LockValue], b: &[LockValue]) -> bool
+    ensures { IsTrue result ↔ (a.now ≡ b.now) }
+{
+    if a.len() != b.len() {
+        return false;
+    }
+    for at in 0..a.len() {
+        if !is_same_value(a[at], b[at]) {
+            return false;
+        }
+    }
+    true
+}
+
+fn is_same_value(a: LockValue, b: LockValue) -> bool
+    ensures { IsTrue result ↔ (a ≡ b) }
+{
+    a == b
+}
+
 fn are_same_clients(a: &[KnownClient], b: &[KnownClient]) -> bool
     ensures { IsTrue result ↔ (a.now ≡ b.now) }
 {
@@ -148,5 +164,5 @@ fn are_same_clients(a: &[KnownClient], b: &[KnownClient]) -> bool
 fn is_same_client(a: &KnownClient, b: &KnownClient) -> bool
     ensures { IsTrue result ↔ (a.now ≡ b.now) }
 {
-    a.client == b.client && a.request == b.request && a.reply == b.reply
+    a.client == b.client && a.request == b.request && is_same_reply(&a.reply, &b.reply)
 }

@@ -161,7 +161,7 @@ impl Parts {
         if !is_free(&self.hosts[at]) {
             return None;
         }
-        // That the command's numbers are in their ranges is what its spelling ensures.
+        // Called for its contract only: the command's numbers are in their ranges.
         let _ = command.encode();
         let Some(core) = &mut self.hosts[at] else {
             unreachable!()
@@ -334,7 +334,7 @@ fn is_free(slot: &Option<HostCore>) -> bool
     }
 }
 
-/// Whether a call that is a write, or is not, may be torn where this stands in its way.
+/// Whether a call may be torn: it is a write, and the disk does not refuse it.
 fn may_tear(is_write: bool, refusal: Option<DiskFault>) -> bool
     ensures { result ≡ (is_write && is_none refusal) }
 {

@@ -152,7 +152,8 @@ impl<L: Layout> Learner<L> {
         requires fits { Fits (due_call self.old).1 (heard_of L.version L.row_bytes heard.now) }
         ensures leads { (c : Shape) (h : ℕ) (m : Memory) → LeadsTo L.version c h m self.old →
             LeadsTo L.version c h (hears L.version c h m m.doing (record { disk = (due_call self.old).0; heard = heard_of L.version L.row_bytes heard.now })) self.new }
-        // By Committed, Decided, Empty or BallotsSpent within 17 calls a disk, if no other host makes a call on the slot meanwhile.
+        // An attempt ends Committed, Decided, Empty or BallotsSpent, within 17 calls a disk, if most disks answer and no other host
+        // makes a call on the slot meanwhile.
         ensures alone { (c : Shape) (h : ℕ) (m : Memory) → LeadsTo L.version c h m self.old →
             IsAnsweredAlone L.version c h m m.doing (record { disk = (due_call self.old).0; heard = heard_of L.version L.row_bytes heard.now }) }
         ensures same { IsSameLog self.old self.new }
@@ -260,7 +261,7 @@ impl<L: Layout> Learner<L> {
         self.said = Some(outcome);
     }
 
-    // A ballot of the next slot counts from now on.
+    // From now on the next attempts on this slot take ballots above this one.
     fn count_ballot(&mut self, ballot: u64)
         requires { is_idle self.old ≡ true }
         ensures { self.new ≡ record self.old { floor = max self.old.floor ballot; said = None } }

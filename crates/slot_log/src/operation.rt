@@ -39,7 +39,7 @@ impl<V: Copy> Operation<V> {
         }
     }
 
-    /// The number above which its attempts take their ballots. A look has none to take, so that it ends with the opening.
+    /// Its attempts take ballots above this number. For a look it is the last ballot: a look takes none, and ends with the opening.
     pub fn floor(&self, floor: u64) -> u64
         ensures { (spelled : V → List ℕ) → result ≡ floor_for (operation_as spelled self.now) floor }
     {
@@ -50,7 +50,7 @@ impl<V: Copy> Operation<V> {
         }
     }
 
-    /// How it ends where so many slots are learned, and they are all.
+    /// How it ends once all slots are learned.
     pub fn outcome_when_full(&self, learned: u16) -> Outcome
         ensures { (spelled : V → List ℕ) → result ≡ full_outcome (operation_as spelled self.now) learned }
     {
@@ -61,7 +61,7 @@ impl<V: Copy> Operation<V> {
         }
     }
 
-    /// How it ends where so many slots are learned, and the attempt on the next one has no ballot.
+    /// How it ends when the attempt on the next slot has no ballot left. So many slots are learned by then.
     pub fn outcome_without_ballot(&self, length: u16) -> Outcome
         ensures { (spelled : V → List ℕ) → result ≡ spent_outcome (operation_as spelled self.now) length }
     {

@@ -1,6 +1,6 @@
 use thiserror::Error;
 
-/// Why an operation ended without what it was begun for. What was learned stands.
+/// Why an operation ended without what it was begun for. What was learned before is kept.
 #[derive(Clone, Copy, Debug, PartialEq, Eq, Error)]
 pub enum Refusal {
     /// Another host's greater ballot was read, and it was the last try.

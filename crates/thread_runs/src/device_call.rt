@@ -4,7 +4,7 @@ ghost use Rattle.phases.specs.Calls.{device_call_of, heard_of};
 
 use cluster::CallKind;
 use disk::{Disk, SimDisk};
-use phases::{DeviceCall, Heard};
+use phases::{DeviceCall, Heard, answer_of, is_within};
 use torn_block::ROW_LENGTH;
 
 /// The kind of a device call.
@@ -25,33 +25,8 @@ pub fn answer<'a>(
 ) -> Option<Heard<'a>>
     ensures { IfSome result (λ heard. Fits (device_call_of call.now) (heard_of heard)) }
 {
-    match call {
-        DeviceCall::Attach => match disk.attach() {
-            Ok(boot) => Some(Heard::Booted(boot)),
-            Err(fault) => Some(Heard::Fault(fault)),
-        },
-        DeviceCall::Sync { boot } => match disk.sync(*boot) {
-            Ok(()) => Some(Heard::Done),
-            Err(fault) => Some(Heard::Fault(fault)),
-        },
-        DeviceCall::Read { boot, at } => {
-            if disk.size() < ROW_LENGTH as u64 || disk.size() - (ROW_LENGTH as u64) < *at {
-                return None;
-            }
-            match disk.read(*boot, *at, row) {
-                Ok(()) => Some(Heard::Told(row)),
-                Err(fault) => Some(Heard::Fault(fault)),
-            }
-        }
-        DeviceCall::Write { boot, at, bytes } => {
-            let length = bytes.len() as u64;
-            if disk.size() < length || disk.size() - length < *at {
-                return None;
-            }
-            match disk.write(*boot, *at, bytes) {
-                Ok(()) => Some(Heard::Done),
-                Err(fault) => Some(Heard::Fault(fault)),
-            }
-        }
+    if !is_within(disk.size(), call) {
+        return None;
     }
+    Some(answer_of(disk, call, row))
 }

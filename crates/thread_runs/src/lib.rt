@@ -1,4 +1,4 @@
-//! Clusters that real threads run. What one left is run again, entry by entry, and has to come out the same.
+//! Clusters that real threads run. Afterwards the journal is run again, entry by entry, and has to come out the same.
 #![tactic(auto)]
 
 mod device_call;

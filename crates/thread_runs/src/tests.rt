@@ -12,7 +12,7 @@ use lock_command::{
     Action, ClientNumber, Command, HostNumber, LockName, LockNumber, RequestNumber,
 };
 use lock_modes::Mode;
-use lock_table::Reply;
+use lock_table::Answer;
 use std::alloc::Global;
 use std::marker::Brand;
 use std::sync::Wait;
@@ -168,8 +168,8 @@ fn gate_one_host(rt: HostRuntime) -> Result<(), Fail> {
     let first = held.first.ok_or("the first receipt")?;
     let second = held.second.ok_or("the second receipt")?;
     assert!(rt; !held.late);
-    assert_eq!(rt; (second.slot, second.reply), (0, Reply::Granted));
-    assert_eq!(rt; (first.slot, first.reply), (1, Reply::Queued));
+    assert_eq!(rt; (second.slot, second.reply.answer), (0, Answer::Granted));
+    assert_eq!(rt; (first.slot, first.reply.answer), (1, Answer::Queued));
     assert_eq!(rt; held.entries, 180);
     assert!(rt; held.same);
     Ok(())
@@ -354,8 +354,8 @@ fn faults_read_back(rt: HostRuntime) -> Result<(), Fail> {
     assert!(rt; harmed.fault.is_none());
     let receipt = harmed.receipt;
     assert_eq!(rt;
-        (receipt.slot, receipt.reply, receipt.place),
-        (0, Reply::Granted, 45)
+        (receipt.slot, receipt.reply.answer, receipt.place),
+        (0, Answer::Granted, 45)
     );
     assert_eq!(rt;
         harmed.refused,
@@ -630,7 +630,7 @@ fn turn(host: HostNumber, round: u16) -> Option<Command>
 
 fn action_in(round: u16, lock: LockNumber) -> Option<Action> {
     if round % 2 == 0 {
-        return Some(Action::Release(lock));
+        return Some(Action::Release { lock, value: None });
     }
     Some(Action::Enqueue {
         lock,

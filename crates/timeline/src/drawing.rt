@@ -76,7 +76,7 @@ fn draw_lanes<O: Write>(layout: &Layout, moments: &[Moment], out: &mut O) -> io:
     Ok(())
 }
 
-/// The first column from this one on where the host stops, or the disk is lost; if there is none, that behind all of them.
+/// The first column, from this one on, where the host stops or the disk is lost. If there is none, the column after the last.
 fn end_of(moments: &[Moment], from: usize, lane: Lane) -> usize {
     for (column, moment) in moments.iter().enumerate() {
         if column >= from && moment.happened.ends(lane) {

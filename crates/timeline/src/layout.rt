@@ -34,7 +34,7 @@ pub struct Layout {
 }
 
 impl Layout {
-    /// Room for these moments. Hosts behind the last one that starts have no lane.
+    /// Room for these moments. Hosts with a higher number than the last that starts have no lane.
     pub fn of(config: Config, moments: &[Moment]) -> Layout {
         let mut hosts = 0;
         for moment in moments {

@@ -28,7 +28,7 @@ fn main(rt: HostRuntime) -> ExitCode {
     }
 }
 
-/// Draws each script that the program's words name, one picture behind the other.
+/// Draws each script that the program's words name, one picture after the other.
 fn draw_scripts(rt: &HostRuntime) -> Result<(), Failure> {
     let alloc = rt.alloc();
     let paths: Vec<String> = env::args(rt)?.skip(1).collect(alloc)?;

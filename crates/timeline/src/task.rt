@@ -21,7 +21,7 @@ impl Task {
         match action {
             Action::Enqueue { .. } => Task::Enqueue,
             Action::Convert { .. } => Task::Convert,
-            Action::Release(_) => Task::Release,
+            Action::Release { .. } => Task::Release,
             Action::Cancel(_) => Task::Cancel,
             Action::Status(_) => Task::Status,
             Action::Purge(_) => Task::Purge,

@@ -17,21 +17,21 @@ pub enum Half {
     Second,
 }
 
-/// The bytes of a copy that are its caller's: those between the gate and the sequence number, and those behind it.
+/// The bytes of a copy that are its caller's: those between the gate and the sequence number, and those after that number.
 #[derive(Clone, Copy, Debug, PartialEq, Eq)]
 pub struct Body {
-    /// As many as the longest copy has; those that a shorter one lacks are any.
+    /// Room for the body of the longest copy. In a layout with shorter copies the last bytes are not used, and may be anything.
     pub bytes: [u8; BODY_ROOM],
 }
 
-/// A block as read: what a writer of it goes by.
+/// A block as it was read, with what is needed to write it next.
 #[derive(Clone, Copy, Debug, PartialEq, Eq)]
 pub struct Block128 {
     /// The copy that counts, or none where the block is blank.
     pub current: Option<Half>,
     /// The sequence number of the current copy, 0 for a blank block.
     pub sequence: u64,
-    /// Whether the gate of the copy to be written next stands open.
+    /// Whether the gate of the copy that is written next is open.
     pub next_is_open: bool,
 }
 

@@ -7,7 +7,7 @@ ghost use Rattle.torn_block.specs.layouts.Damage.{IsSequence};
 use crate::block::{is_open, sequence_in};
 use crate::layout::LAST_SEQUENCE;
 
-/// That a copy may have this sequence number.
+/// Whether a copy may have this sequence number.
 pub fn is_sequence(number: u64) -> bool
     ensures sound { IsTrue result ↔ IsSequence number }
     ensures exact { result ≡ Damage.is_sequence number }
@@ -15,7 +15,7 @@ pub fn is_sequence(number: u64) -> bool
     1 <= number && number <= LAST_SEQUENCE
 }
 
-/// That both copies are open, with one sequence number.
+/// Whether both copies are open, and have the same sequence number.
 pub fn has_twins(first: &[u8], second: &[u8]) -> bool
     requires first { 16 ≤ length first.now }
     requires second { 16 ≤ length second.now }

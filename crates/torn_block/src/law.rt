@@ -32,7 +32,7 @@ pub fn registers()
     ensures crash { (v : Version) (place : ℕ) (r : Register) (disk new : DiskState) → StandsFor v place r disk → Crashes disk new →
         (s : Register) × Settles r s × StandsFor v place s new × IsAtRest v place new }
 
-    // So does a sync, after which nothing is in writing; calls that leave the block leave it at rest.
+    // A sync does so too, and after it nothing is in writing. Calls that leave the block alone leave it at rest.
     ensures sync { (v : Version) (place : ℕ) (r : Register) (disk new : DiskState) (boot : ℕ) → StandsFor v place r disk →
         Step disk (Sync boot) Done new → (s : Register) × Settles r s × StandsFor v place s new × IsAtRest v place new }
     ensures rests { (v : Version) (place : ℕ) (disk new : DiskState) (call : Call) (answer : Answer) →

@@ -11,16 +11,16 @@ pub const SLOTS: u32 = 4096;
 /// Sequence numbers go from 1 to this one.
 pub const LAST_SEQUENCE: u64 = 1 << 62;
 
-/// The bytes of a body that stand in front of the sequence number.
+/// How many bytes of a body are before the sequence number.
 pub const HEADING_LENGTH: usize = 7;
 
 /// The bytes of an image's header.
 pub const HEADER_LENGTH: usize = 1024;
 
-/// As many hosts as a layout may have.
+/// The most hosts of any layout.
 pub const HOSTS_ROOM: usize = 16;
 
-/// As many bytes as a copy may have.
+/// The most bytes of a copy, in any layout.
 pub const COPY_ROOM: usize = 128;
 
 /// All of the longest copy but its gate and its sequence number.
@@ -35,7 +35,7 @@ pub const VERSION: u8 = ClusterLayout::VERSION;
 /// Hosts are numbered from 0 to one below this.
 pub const HOSTS: usize = ClusterLayout::HOSTS;
 
-/// The bytes of a copy: its gate, and the tail behind it.
+/// How many bytes a copy has: its gate, and the rest.
 pub const COPY_LENGTH: usize = ClusterLayout::COPY_LENGTH;
 
 /// All of a copy but its gate.
@@ -47,13 +47,13 @@ pub const BODY_LENGTH: usize = COPY_LENGTH - 9;
 /// The two copies of a block.
 pub const BLOCK_LENGTH: usize = 2 * COPY_LENGTH;
 
-/// The bytes of an input, behind the heading and two numbers.
+/// How many bytes an input has. It comes after the heading and two numbers.
 pub const VALUE_LENGTH: usize = ClusterLayout::VALUE_LENGTH;
 
 /// A block of each host: a slot's row, and the heartbeat area.
 pub const ROW_LENGTH: usize = HOSTS * BLOCK_LENGTH;
 
-/// Where the blocks of an image stand, and how long they are.
+/// Where the blocks of an image are, and how long they are.
 pub trait Layout {
     /// An input: a command, spelled in bytes that are not looked at here.
     type Value: Copy + Drop;
@@ -70,7 +70,7 @@ pub trait Layout {
     /// The bytes of a copy.
     const COPY_LENGTH: usize;
 
-    /// The bytes of an input, behind the heading and two numbers.
+    /// How many bytes an input has. It comes after the heading and two numbers.
     const VALUE_LENGTH: usize;
 
     /// Where the heartbeat area begins.
@@ -114,7 +114,7 @@ pub trait Layout {
         requires { length bytes.now ≡ value_length version }
         ensures { result ≡ list_all (λ b. b == 0) bytes.now };
 
-    /// Whether these bytes behind an input are zeros.
+    /// Whether these bytes, after an input, are zeros.
     fn is_padding(bytes: &[u8]) -> bool
         requires { length bytes.now ≡ padding version }
         ensures { result ≡ list_all (λ b. b == 0) bytes.now };
@@ -257,7 +257,7 @@ impl Layout for Layout2 {
         Self::value_in(bytes) == [0; 48]
     }
 
-    // There are as many as an input has.
+    // In this layout there are as many zeros after an input as an input has bytes.
     fn is_padding(bytes: &[u8]) -> bool {
         Self::is_blank(bytes)
     }

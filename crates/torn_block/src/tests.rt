@@ -110,7 +110,7 @@ fn torn_body_then_torn_gate(rt: HostRuntime) -> Result<(), Fail> {
     if let Ok(steps) = WriteSteps::new::<Layout2>(&read_block::<Layout2>(&block), &A)
         && let Some(BlockNeed::Write { at, bytes }) = steps.next()
     {
-        // The gate stands closed, so there is nothing to be torn.
+        // The gate is closed already, so there is nothing to tear.
         assert_eq!(rt; bytes.len(), 0);
         disk.tear(at, bytes.len() as u64, &[0xA5]);
     }
@@ -250,7 +250,7 @@ fn shorter_copies(rt: HostRuntime) -> Result<(), Fail> {
     Ok(())
 }
 
-// Their contracts are what they are for.
+// These functions do nothing when they run: their contracts are theorems.
 #[test]
 fn laws(_rt: HostRuntime) {
     registers();

@@ -26,7 +26,7 @@ pub enum WriteCall {
     SyncOpened,
 }
 
-/// What a writer needs next: a write of these bytes `at` bytes behind the block's begin, or a sync.
+/// What a writer needs next: a write of these bytes, `at` bytes after the start of the block, or a sync.
 #[derive(Drop)]
 pub enum BlockNeed<'a> {
     Write { at: u64, bytes: &'a [u8] },
@@ -36,13 +36,13 @@ pub enum BlockNeed<'a> {
 /// The six calls of one write. It goes to the copy that does not count: the gate is closed first, opened last, and each
 /// step is made sure of before the next begins.
 ///
-/// A gate that stands closed already is not written again: a torn write of it could open it before the old bytes
-/// behind it. The write is then of no bytes.
+/// A gate that is closed already is not written again: a torn write could open it while the old bytes are still there. The
+/// first call then writes no bytes.
 #[derive(Drop)]
 pub struct WriteSteps {
-    /// As many bytes as the longest copy has.
+    /// Room for the bytes of the longest copy.
     copy: [u8; COPY_ROOM],
-    /// How many of them the copy has.
+    /// How many of these bytes the copy has.
     size: usize,
     target: Half,
     closes: bool,

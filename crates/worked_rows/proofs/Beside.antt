@@ -8,32 +8,21 @@ use Rattle.host.specs.Host.{Host}
 use Rattle.world.specs.Entry.{Filled, Start, Stop, Submit, Recover, Look, Beat, Mark, Called, Torn, Crashed, Lost, is_on, is_of, disk_step, host_step}
 use Rattle.world.specs.World.{World, world}
 use Rattle.world.specs.Happens.{Event, Line, entry_of, host_of, happens, happen, with_entry, lines_after, lines_at, answers_from, answers}
-use Rattle.disk.specs.Simulated.{fresh_disk}
-use Rattle.torn_block.specs.layouts.Block.{sequence_of, body_of, number_bytes, tail_with}
-use Rattle.torn_block.specs.layouts.Place.{copy_in}
-use Rattle.paxos_block.specs.layouts.Row.{row_said}
-use Rattle.heartbeat.specs.Beat.{area_said, beat_body}
-use Rattle.paxos_block.specs.layouts.Saying.{zeros, heading, body_saying, number_at, claim_of, is_said}
-use Rattle.lock_command.specs.Command.{number}
-use Rattle.lock_command.specs.Reading.{lock_at, request_at, mode_of, name_at, enqueue_at, convert_at, action_at, command_at}
-use Rattle.lock_table.specs.Apply.{applied}
-use Rattle.lock_table.specs.Locks.{settled}
-use Rattle.worked_rows.specs.Answers.{sized, said_over, world_over}
 use Rattle.world.proofs.Projections.{disk_here, disk_there, host_here, host_there}
 
 -- a function with another value at one number
-abbrev at_one : {A : Type 0} → (ℕ → A) → ℕ → A → ℕ → A
+abbrev pub at_one : {A : Type 0} → (ℕ → A) → ℕ → A → ℕ → A
 at_one f n new k = if n == k then new else f k
 
 -- the disks after an entry, and the hosts
-abbrev disks_after : (ℕ → DiskState) → Filled → ℕ → DiskState
+abbrev pub disks_after : (ℕ → DiskState) → Filled → ℕ → DiskState
 disks_after disks (Called h d call answer left) = at_one disks d (disk_step (disks d) (Called h d call answer left))
 disks_after disks (Torn h d call left) = at_one disks d (disk_step (disks d) (Torn h d call left))
 disks_after disks (Crashed d left) = at_one disks d (disk_step (disks d) (Crashed d left))
 disks_after disks (Lost d) = at_one disks d (disk_step (disks d) (Lost d))
 disks_after disks other = disks
 
-abbrev hosts_after : Shape → (ℕ → Host) → Filled → ℕ → Host
+abbrev pub hosts_after : Shape → (ℕ → Host) → Filled → ℕ → Host
 hosts_after c hosts (Start h) = at_one hosts h (host_step c h (hosts h) (Start h))
 hosts_after c hosts (Stop h) = at_one hosts h (host_step c h (hosts h) (Stop h))
 hosts_after c hosts (Submit h command tries) = at_one hosts h (host_step c h (hosts h) (Submit h command tries))
@@ -45,27 +34,24 @@ hosts_after c hosts (Called h d call answer left) = at_one hosts h (host_step c 
 hosts_after c hosts (Torn h d call left) = at_one hosts h (host_step c h (hosts h) (Torn h d call left))
 hosts_after c hosts other = hosts
 
-abbrev stepped : Shape → World → Filled → World
+abbrev pub stepped : Shape → World → Filled → World
 stepped c w e = record { disk = disks_after w.disk e; host = hosts_after c w.host e }
 
 -- the answers from such a world on
-abbrev lines_then : World → ℕ → Option Filled → List Line
+abbrev pub lines_then : World → ℕ → Option Filled → List Line
 lines_then w place None = []
 lines_then w place (Some e) = lines_after w place (host_of e)
 
-abbrev world_then : Shape → World → Option Filled → World
+abbrev pub world_then : Shape → World → Option Filled → World
 world_then c w None = w
 world_then c w (Some e) = stepped c w e
 
-abbrev answers_in : Shape → World → ℕ → List Event → List Line
+abbrev pub answers_in : Shape → World → ℕ → List Event → List Line
 answers_in c w place [] = []
 answers_in c w place (e ∷ es) =
     let entry = entry_of c w e in
     let new = world_then c w entry in
     lines_then new place entry ++ answers_in c new (place + 1) es
-
-abbrev answers_beside : Shape → List Event → List Line
-answers_beside c events = answers_in c (world c []) 0 events
 
 -- THE SAME
 
@@ -137,31 +123,14 @@ same_from c log place (e ∷ es) =
     ∙ ap (λ l. l ++ answers_in c (world c (with_entry log entry)) (place + 1) es) (lines_next c log place entry)
     ∙ ap (λ l. lines_at c log place entry ++ l) (same_from c (happens c log e) (place + 1) es)
 
-same : (c : Shape) (events : List Event) → answers_beside c events ≡ answers c events
+pub same : (c : Shape) (events : List Event) → answers_in c (world c []) 0 events ≡ answers c events
 same c events = same_from c [] 0 events
 
-abbrev world_in : Shape → World → List Event → World
+abbrev pub world_in : Shape → World → List Event → World
 world_in c w [] = w
 world_in c w (e ∷ es) = world_in c (world_then c w (entry_of c w e)) es
 
-same_world : (c : Shape) (log : List Filled) (events : List Event) → world_in c (world c log) events ≡ world c (happen c log events)
+pub same_world : (c : Shape) (log : List Filled) (events : List Event) → world_in c (world c log) events ≡ world c (happen c log events)
 same_world c log [] = refl
 same_world c log (e ∷ es) =
     ap (λ w. world_in c w es) (event_next c log (entry_of c (world c log) e)) ∙ same_world c (happens c log e) es
-
--- BY COMPUTING
-
--- the definitions that speak of bytes, and of the lock table, are opened for it
-unfoldable pub played : ℕ → ℕ → List Event → List Line
-unfolding fresh_disk sequence_of body_of number_bytes tail_with copy_in row_said area_said beat_body zeros heading body_saying number_at claim_of is_said number lock_at request_at mode_of name_at enqueue_at convert_at action_at command_at applied settled
-played disks slots events = answers_beside (sized disks slots) events
-
--- what computing gives is what the hosts say
-pub said_by : (disks slots : ℕ) (events : List Event) (lines : List Line) → played disks slots events ≡ lines → said_over disks slots events ≡ lines
-unfolding said_over played
-said_by disks slots events lines is = sym (same (sized disks slots) events) ∙ is
-
--- and what it gives of the world is so
-pub stands : {A : Type 0} (of : World → A) (disks slots : ℕ) (events : List Event) (a : A) → of (world_in (sized disks slots) (world (sized disks slots) []) events) ≡ a → of (world_over disks slots events) ≡ a
-unfolding world_over
-stands of disks slots events a is = sym (ap of (same_world (sized disks slots) [] events)) ∙ is

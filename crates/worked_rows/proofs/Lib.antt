@@ -1,1 +1,5 @@
 mod Beside
+mod Blocks
+mod Kept
+mod Pieces
+mod Played

@@ -1,12 +1,15 @@
 -- What the hosts of a cluster answer at events, the lines in which they do, and what is known and written then.
-use Rattle.std.specs.Prelude.{ℕ, List, [], ◌∷◌, Option, option_map}
+use Rattle.std.specs.Prelude.{ℕ, List, [], ◌∷◌, Option, Some, option_map}
 use Rattle.lock_modes.specs.declared.mode.Mode.TheVariants.{Exclusive}
 use Rattle.lock_table.specs.declared.record.LockRecord.{LockRecord}
 use Rattle.lock_table.specs.declared.record.LockState.{LockState}
 use Rattle.lock_table.specs.declared.record.LockState.TheVariants.{Granted}
+use Rattle.lock_table.specs.declared.reply.Answer.{Answer}
+use Rattle.lock_table.specs.declared.reply.Answer.TheVariants as answer
+use Rattle.lock_table.specs.declared.reply.LockValue.{LockValue}
 use Rattle.lock_table.specs.declared.reply.Reply.{Reply}
-use Rattle.lock_table.specs.declared.reply.Reply.TheVariants as reply
-use Rattle.lock_table.specs.Apply.{table_after}
+use Rattle.lock_table.specs.Values.{zeros}
+use Rattle.lock_table.specs.Apply.{table_after, without_value}
 use Rattle.paxos_block.specs.Saying.{Said as PBlock}
 use Rattle.paxos_block.specs.Places.{row_of}
 use Rattle.paxos_block.specs.Row.{row_said}
@@ -33,16 +36,24 @@ world_over disks slots events = world (sized disks slots) (run (sized disks slot
 -- LINES
 
 -- at this event the host acknowledges its command, with a slot and a reply
-abbrev pub replied : ℕ → ℕ → ℕ → Reply → Line
-replied place host slot reply = record { place = place; host = host; said = Ack slot reply }
+abbrev pub acknowledged : ℕ → ℕ → ℕ → Reply → Line
+acknowledged place host slot reply = record { place = place; host = host; said = Ack slot reply }
 
--- the lock is granted
+-- and the reply tells no value
+abbrev pub replied : ℕ → ℕ → ℕ → Answer → Line
+replied place host slot answer = acknowledged place host slot (without_value answer)
+
+-- the reply is the state of a lock that holds a mode, with the value of its name
+abbrev pub told_state : ℕ → ℕ → ℕ → LockState → LockValue → Line
+told_state place host slot state value = acknowledged place host slot (record { answer = answer.State state; value = Some value })
+
+-- the lock is granted, on a name under which nothing was stored
 abbrev pub granted : ℕ → ℕ → ℕ → Line
-granted place host slot = replied place host slot reply.Granted
+granted place host slot = acknowledged place host slot (record { answer = answer.Granted; value = Some zeros })
 
 -- the lock has to wait
 abbrev pub queued : ℕ → ℕ → ℕ → Line
-queued place host slot = replied place host slot reply.Queued
+queued place host slot = replied place host slot answer.Queued
 
 -- at this event the host has recovered so many commands
 abbrev pub recovered : ℕ → ℕ → ℕ → Line

@@ -1,5 +1,5 @@
 -- The events of the rows, each under the row's name.
-use Rattle.std.specs.Prelude.{◌*◌, ℕ, true, false, List, [], ◌∷◌, ◌++◌, replicate}
+use Rattle.std.specs.Prelude.{◌*◌, ℕ, true, false, List, [], ◌∷◌, ◌++◌, None, replicate}
 use Rattle.lock_modes.specs.declared.mode.Mode.{Mode}
 use Rattle.lock_modes.specs.declared.mode.Mode.TheVariants.{Null, ConcurrentRead, ConcurrentWrite, ProtectedRead, ProtectedWrite, Exclusive}
 use Rattle.lock_command.specs.declared.command.Command.{Command}
@@ -51,7 +51,7 @@ first_reply = submits ++ steps 0 17
 
 -- behind it nothing fits into a log of one slot
 abbrev pub log_of_one_slot : List Event
-log_of_one_slot = first_reply ++ Submit 0 (asks 0 1 2 (Release 1)) 1 ∷ []
+log_of_one_slot = first_reply ++ Submit 0 (asks 0 1 2 (Release 1 None)) 1 ∷ []
 
 -- host 1 asks the same as host 0 did before
 abbrev pub first_command_before_the_own : List Event
@@ -108,7 +108,7 @@ on_a number mode = lock number (97 ∷ []) mode
 
 -- a granted lock is to have another mode, and waits for it where it must
 abbrev pub changed : ℕ → Mode → Action
-changed number mode = Convert number mode false
+changed number mode = Convert number mode false None
 
 -- the third client asks for what the second one's mode forbids
 abbrev pub one_has_to_wait : List Event
@@ -120,7 +120,7 @@ deadlock_of_two_conversions = Start 0 ∷ in_turn (asks 0 1 1 (on_a 1 ProtectedR
 
 -- a conversion and two locks wait for a release
 abbrev pub conversion_before_those_that_wait : List Event
-conversion_before_those_that_wait = Start 0 ∷ in_turn (asks 0 1 1 (on_a 1 Null) ∷ asks 0 2 1 (on_a 2 Exclusive) ∷ asks 0 1 2 (changed 1 ProtectedWrite) ∷ asks 0 3 1 (on_a 3 ConcurrentRead) ∷ asks 0 4 1 (on_a 4 ProtectedRead) ∷ asks 0 2 2 (Release 2) ∷ [])
+conversion_before_those_that_wait = Start 0 ∷ in_turn (asks 0 1 1 (on_a 1 Null) ∷ asks 0 2 1 (on_a 2 Exclusive) ∷ asks 0 1 2 (changed 1 ProtectedWrite) ∷ asks 0 3 1 (on_a 3 ConcurrentRead) ∷ asks 0 4 1 (on_a 4 ProtectedRead) ∷ asks 0 2 2 (Release 2 None) ∷ [])
 
 -- the fourth client's mode would be admitted, and the third one's is not
 abbrev pub nobody_overtakes : List Event
@@ -128,7 +128,7 @@ nobody_overtakes = Start 0 ∷ in_turn (asks 0 1 1 (on_a 1 ConcurrentRead) ∷ a
 
 -- a conversion that must not queue
 abbrev pub refused_where_it_would_queue : List Event
-refused_where_it_would_queue = Start 0 ∷ in_turn (asks 0 1 1 (on_a 1 ConcurrentRead) ∷ asks 0 2 1 (on_a 2 ConcurrentRead) ∷ asks 0 1 2 (Convert 1 Exclusive true) ∷ asks 0 1 3 (Status 1) ∷ [])
+refused_where_it_would_queue = Start 0 ∷ in_turn (asks 0 1 1 (on_a 1 ConcurrentRead) ∷ asks 0 2 1 (on_a 2 ConcurrentRead) ∷ asks 0 1 2 (Convert 1 Exclusive true None) ∷ asks 0 1 3 (Status 1) ∷ [])
 
 -- two hosts' clients wait for each other, and what came through host 1 is purged
 abbrev pub purge_of_a_host : List Event
@@ -141,22 +141,22 @@ purge_of_a_host = Start 0 ∷ Start 1 ∷ in_turn (asks 0 2 1 (lock 2 (98 ∷ []
 -- while a conversion waits for client 3's lock, client 4's mode would be admitted by all that is held
 abbrev pub conversion_holds_waiting_locks_back : List Event
 conversion_holds_waiting_locks_back = Start 0 ∷ in_turn (asks 0 1 1 (on_a 1 ConcurrentRead) ∷ asks 0 2 1 (on_a 2 ConcurrentRead) ∷ asks 0 3 1 (on_a 3 ProtectedWrite)
-    ∷ asks 0 1 2 (changed 1 Exclusive) ∷ asks 0 4 1 (on_a 4 ConcurrentRead) ∷ asks 0 3 2 (Release 3) ∷ [])
+    ∷ asks 0 1 2 (changed 1 Exclusive) ∷ asks 0 4 1 (on_a 4 ConcurrentRead) ∷ asks 0 3 2 (Release 3 None) ∷ [])
 
 -- of two conversions the second one could be granted behind the release, and the first one could not
 abbrev pub blocked_conversion_holds_the_next_back : List Event
 blocked_conversion_holds_the_next_back = Start 0 ∷ in_turn (asks 0 1 1 (on_a 1 ConcurrentRead) ∷ asks 0 2 1 (on_a 2 ConcurrentRead) ∷ asks 0 3 1 (on_a 3 ProtectedWrite)
-    ∷ asks 0 4 1 (on_a 4 ConcurrentRead) ∷ asks 0 1 2 (changed 1 Exclusive) ∷ asks 0 2 2 (changed 2 ProtectedRead) ∷ asks 0 3 2 (Release 3) ∷ [])
+    ∷ asks 0 4 1 (on_a 4 ConcurrentRead) ∷ asks 0 1 2 (changed 1 Exclusive) ∷ asks 0 2 2 (changed 2 ProtectedRead) ∷ asks 0 3 2 (Release 3 None) ∷ [])
 
 -- client 2 asks to convert its lock before client 1 does
 abbrev pub conversions_in_order_of_coming : List Event
 conversions_in_order_of_coming = Start 0 ∷ in_turn (asks 0 1 1 (on_a 1 ConcurrentRead) ∷ asks 0 2 1 (on_a 2 ConcurrentRead) ∷ asks 0 3 1 (on_a 3 ProtectedWrite)
-    ∷ asks 0 2 2 (changed 2 ProtectedRead) ∷ asks 0 1 2 (changed 1 ConcurrentWrite) ∷ asks 0 3 2 (Release 3) ∷ [])
+    ∷ asks 0 2 2 (changed 2 ProtectedRead) ∷ asks 0 1 2 (changed 1 ConcurrentWrite) ∷ asks 0 3 2 (Release 3 None) ∷ [])
 
 -- beside a conversion that waits client 3 changes a lock that is held, to a mode that the held ones forbid and to one that they admit
 abbrev pub held_mode_of_a_queued_conversion_counts : List Event
 held_mode_of_a_queued_conversion_counts = Start 0 ∷ in_turn (asks 0 1 1 (on_a 1 ProtectedRead) ∷ asks 0 2 1 (on_a 2 ProtectedRead) ∷ asks 0 3 1 (on_a 3 Null)
-    ∷ asks 0 1 2 (changed 1 Exclusive) ∷ asks 0 3 2 (Convert 3 ConcurrentWrite true) ∷ asks 0 3 3 (Convert 3 ProtectedRead true) ∷ [])
+    ∷ asks 0 1 2 (changed 1 Exclusive) ∷ asks 0 3 2 (Convert 3 ConcurrentWrite true None) ∷ asks 0 3 3 (Convert 3 ProtectedRead true None) ∷ [])
 
 -- conversions of no lock, of others' locks, and of one that waits
 abbrev pub refused_conversions : List Event
@@ -176,7 +176,7 @@ refused_cancels = Start 0 ∷ in_turn (asks 0 1 1 (on_a 1 ProtectedRead) ∷ ask
 -- each of two clients enqueues through one host and converts through the other; then what came through host 0 is purged
 abbrev pub purge_goes_by_the_enqueue : List Event
 purge_goes_by_the_enqueue = Start 0 ∷ Start 1 ∷ in_turn (asks 1 0 1 (on_a 1 ConcurrentRead) ∷ []) ++ Submit 0 (asks 0 1 1 (on_a 2 ConcurrentRead)) 1 ∷ steps 0 34
-    ++ in_turn (asks 0 0 2 (changed 1 ConcurrentWrite) ∷ []) ++ Submit 1 (asks 1 1 2 (Convert 2 ProtectedRead true)) 1 ∷ steps 1 51
+    ++ in_turn (asks 0 0 2 (changed 1 ConcurrentWrite) ∷ []) ++ Submit 1 (asks 1 1 2 (Convert 2 ProtectedRead true None)) 1 ∷ steps 1 51
     ++ Submit 0 (asks 0 5 1 (Purge 0)) 1 ∷ steps 0 34
 
 -- on each of two names a lock that came through host 0 waits for one that came through host 1, which is purged

@@ -13,8 +13,7 @@ use Rattle.lock_command.specs.declared.command.Command.{Command}
 use Rattle.lock_command.specs.declared.command.Action.TheVariants.{Enqueue}
 use Rattle.lock_command.specs.Command.{number}
 use Rattle.lock_command.specs.Reading.{lock_at, request_at, mode_of, name_at, enqueue_at, action_at, command_at}
-use Rattle.lock_table.specs.declared.reply.Reply.TheVariants as reply
-use Rattle.lock_table.specs.Apply.{applied}
+use Rattle.lock_table.specs.Apply.{applied, granted}
 use Rattle.slot_log.specs.Shape.{Shape}
 use Rattle.slot_log.specs.declared.outcome.Refusal.TheVariants as refusal
 use Rattle.host.specs.declared.answer.HostAnswer.{HostAnswer}
@@ -81,7 +80,7 @@ steps h n = replicate n (Step h)
 -- ROWS
 
 -- start 0; submit 0; step 0 17: the first reply
-first_reply : says 1 4 (Start 0 ∷ Submit 0 (asks 0) 1 ∷ steps 0 17) ≡ at 18 0 (Ack 0 reply.Granted) ∷ []
+first_reply : says 1 4 (Start 0 ∷ Submit 0 (asks 0) 1 ∷ steps 0 17) ≡ at 18 0 (Ack 0 granted) ∷ []
 unfolding fresh_disk sequence_of body_of number_bytes tail_with copy_in row_said zeros heading body_saying number_at claim_of is_said number lock_at request_at mode_of name_at enqueue_at action_at command_at applied
 first_reply = refl
 
@@ -92,7 +91,7 @@ empty_log = refl
 
 -- start 0; start 1; submit 0; step 0 4; submit 1; step 1 17; step 0 6: host 1 has the greater ballot, and host 0 is outrun
 outrun : says 1 2 (Start 0 ∷ Start 1 ∷ Submit 0 (asks 0) 1 ∷ (steps 0 4 ++ Submit 1 (asks 1) 1 ∷ (steps 1 17 ++ steps 0 6)))
-    ≡ at 24 1 (Ack 0 reply.Granted) ∷ at 30 0 (Refused refusal.Outrun) ∷ []
+    ≡ at 24 1 (Ack 0 granted) ∷ at 30 0 (Refused refusal.Outrun) ∷ []
 unfolding fresh_disk sequence_of body_of number_bytes tail_with copy_in row_said zeros heading body_saying number_at claim_of is_said number lock_at request_at mode_of name_at enqueue_at action_at command_at applied
 outrun = refl
 
@@ -104,20 +103,20 @@ unfolding fresh_disk sequence_of body_of number_bytes tail_with copy_in row_said
 closed_gate_torn = refl
 
 -- start 0; submit 0; step 0 14; crash 0; step 0 29 over three disks: the crash drops a disk, and a majority is left
-crash_drops_a_disk : says 3 2 (Start 0 ∷ Submit 0 (asks 0) 1 ∷ (steps 0 14 ++ DiskCrash 0 (0 ∷ []) ∷ steps 0 29)) ≡ at 45 0 (Ack 0 reply.Granted) ∷ []
+crash_drops_a_disk : says 3 2 (Start 0 ∷ Submit 0 (asks 0) 1 ∷ (steps 0 14 ++ DiskCrash 0 (0 ∷ []) ∷ steps 0 29)) ≡ at 45 0 (Ack 0 granted) ∷ []
 unfolding fresh_disk sequence_of body_of number_bytes tail_with copy_in row_said zeros heading body_saying number_at claim_of is_said number lock_at request_at mode_of name_at enqueue_at action_at command_at applied
 crash_drops_a_disk = refl
 
 -- start 0; submit 0; fail 0; step 0 34; stop 0; gone 2; start 1; recover 1; step 1 56: one disk failed once, and another is lost
 failed_and_lost : says 3 2 (Start 0 ∷ Submit 0 (asks 0) 1 ∷ FailCall 0 (0 ∷ []) ∷ (steps 0 34 ++ Stop 0 ∷ DiskGone 2 ∷ Start 1 ∷ Recover 1 1 ∷ steps 1 56))
-    ≡ at 36 0 (Ack 0 reply.Granted) ∷ at 96 1 (Recovered 1) ∷ []
+    ≡ at 36 0 (Ack 0 granted) ∷ at 96 1 (Recovered 1) ∷ []
 unfolding fresh_disk sequence_of body_of number_bytes tail_with copy_in row_said zeros heading body_saying number_at claim_of is_said number lock_at request_at mode_of name_at enqueue_at action_at command_at applied
 failed_and_lost = refl
 
 -- what does not apply changes nothing, but is counted: a step of an idle host, another host's command, no tries, no bytes to
 -- fill with, a disk that there is not, a stop of a stopped host, an operation beside the one under way, a read that is torn
 nothing_applies : says 1 4 (Start 0 ∷ Step 0 ∷ Start 0 ∷ Submit 0 (asks 1) 1 ∷ Submit 0 (asks 0) 0 ∷ Recover 0 0 ∷ DiskCrash 1 (0 ∷ []) ∷ DiskGone 1 ∷ Stop 1 ∷ Start 8 ∷ Submit 0 (asks 0) 1 ∷ Recover 0 1 ∷ Tear 0 (1 ∷ [])
-    ∷ (steps 0 5 ++ DiskCrash 0 [] ∷ Tear 0 [] ∷ FailCall 0 [] ∷ steps 0 12)) ≡ at 32 0 (Ack 0 reply.Granted) ∷ []
+    ∷ (steps 0 5 ++ DiskCrash 0 [] ∷ Tear 0 [] ∷ FailCall 0 [] ∷ steps 0 12)) ≡ at 32 0 (Ack 0 granted) ∷ []
 unfolding fresh_disk sequence_of body_of number_bytes tail_with copy_in row_said zeros heading body_saying number_at claim_of is_said number lock_at request_at mode_of name_at enqueue_at action_at command_at applied
 nothing_applies = refl
 
@@ -148,7 +147,7 @@ unfolding fresh_disk sequence_of body_of number_bytes tail_with copy_in row_said
 gate_left_closed = refl
 
 -- the same as the first reply, by the list and its projections alone
-first_reply_by_the_list : answers (record { disks = 1; slots = 4 }) (Start 0 ∷ Submit 0 (asks 0) 1 ∷ steps 0 17) ≡ at 18 0 (Ack 0 reply.Granted) ∷ []
+first_reply_by_the_list : answers (record { disks = 1; slots = 4 }) (Start 0 ∷ Submit 0 (asks 0) 1 ∷ steps 0 17) ≡ at 18 0 (Ack 0 granted) ∷ []
 unfolding fresh_disk sequence_of body_of number_bytes tail_with copy_in row_said zeros heading body_saying number_at claim_of is_said number lock_at request_at mode_of name_at enqueue_at action_at command_at applied
 first_reply_by_the_list = refl
 
@@ -194,11 +193,11 @@ outrun_vote = refl
 
 -- start 0; submit 0; step 0 17; mark 0 0; step 0 9; start 1; look 1; step 1 6: a mark is seen, and behind it nothing
 look_sees_a_mark : says 1 2 (Start 0 ∷ Submit 0 (asks 0) 1 ∷ (steps 0 17 ++ Mark 0 0 ∷ (steps 0 9 ++ Start 1 ∷ Look 1 ∷ steps 1 6)))
-    ≡ at 18 0 (Ack 0 reply.Granted) ∷ at 28 0 (Marked 1) ∷ at 36 1 (Looked 1) ∷ []
+    ≡ at 18 0 (Ack 0 granted) ∷ at 28 0 (Marked 1) ∷ at 36 1 (Looked 1) ∷ []
 unfolding fresh_disk sequence_of body_of number_bytes tail_with copy_in row_said zeros heading body_saying number_at claim_of is_said number lock_at request_at mode_of name_at enqueue_at action_at command_at applied
 look_sees_a_mark = refl
 
 -- start 0; submit 0; step 0 17; start 1; look 1; step 1 3: what is not marked is not seen
-look_sees_no_more : says 1 2 (Start 0 ∷ Submit 0 (asks 0) 1 ∷ (steps 0 17 ++ Start 1 ∷ Look 1 ∷ steps 1 3)) ≡ at 18 0 (Ack 0 reply.Granted) ∷ at 23 1 (Looked 0) ∷ []
+look_sees_no_more : says 1 2 (Start 0 ∷ Submit 0 (asks 0) 1 ∷ (steps 0 17 ++ Start 1 ∷ Look 1 ∷ steps 1 3)) ≡ at 18 0 (Ack 0 granted) ∷ at 23 1 (Looked 0) ∷ []
 unfolding fresh_disk sequence_of body_of number_bytes tail_with copy_in row_said zeros heading body_saying number_at claim_of is_said number lock_at request_at mode_of name_at enqueue_at action_at command_at applied
 look_sees_no_more = refl

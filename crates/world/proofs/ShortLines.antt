@@ -10,8 +10,8 @@ use Rattle.lock_command.specs.declared.command.Command.{Command}
 use Rattle.lock_command.specs.Command.{number, spelling}
 use Rattle.lock_command.specs.Reading.{lock_at, request_at, mode_of, name_at, enqueue_at, action_at, command_at}
 use Rattle.lock_table.specs.declared.reply.Reply.{Reply}
-use Rattle.lock_table.specs.declared.reply.Reply.TheVariants.{Granted}
-use Rattle.lock_table.specs.Apply.{Plain, applied}
+use Rattle.lock_table.specs.Apply.{applied, granted}
+use Rattle.lock_table.specs.Picture.{Shown}
 use Rattle.lock_table.specs.Locks.{is_lock}
 use Rattle.host.specs.declared.answer.HostAnswer.TheVariants.{Ack, Recovered}
 use Rattle.host.specs.Host.{Submitting, idles, reply_after}
@@ -49,11 +49,11 @@ busy_then : operation_of (host_before one_disk submitting 18 0) ≡ Some (Submit
 unfolding operation_in fresh_disk sequence_of body_of number_bytes tail_with copy_in row_said zeros heading body_saying number_at claim_of is_said number lock_at request_at mode_of name_at enqueue_at action_at command_at applied
 busy_then = refl
 
-reply_then : reply_after [] takes_db ≡ Granted
+reply_then : reply_after [] takes_db ≡ granted
 unfolding fresh_disk sequence_of body_of number_bytes tail_with copy_in row_said zeros heading body_saying number_at claim_of is_said number lock_at request_at mode_of name_at enqueue_at action_at command_at applied
 reply_then = refl
 
-pub acknowledged : goes_by one_disk submitting (takes_db ∷ []) (told_at 18 (Ack 0 Granted)) None (Ack 0 Granted)
+pub acknowledged : goes_by one_disk submitting (takes_db ∷ []) (told_at 18 (Ack 0 granted)) None (Ack 0 granted)
 acknowledged =
     let busy = busy_with (host_before one_disk submitting 18 0) (Submitting takes_db) busy_then in
     record {
@@ -67,7 +67,7 @@ one_there : (slot : ℕ) (command : Command) → slice_get (takes_db ∷ []) slo
 one_there zero command at = (refl, cc)
 one_there (suc slot) command at = absurd (cc)
 
-pub only_acknowledged : (place slot : ℕ) (reply : Reply) → IsAcknowledged one_disk submitting (takes_db ∷ []) (told_at place (Ack slot reply)) slot reply → (slot ≡ 0) × (reply ≡ Granted)
+pub only_acknowledged : (place slot : ℕ) (reply : Reply) → IsAcknowledged one_disk submitting (takes_db ∷ []) (told_at place (Ack slot reply)) slot reply → (slot ≡ 0) × (reply ≡ granted)
 only_acknowledged place slot reply is =
     let there = one_there slot is.command is.in_log in
     (there.0, is.replied ∙ ap (λ (n : ℕ). reply_after (take n (takes_db ∷ [])) is.command) there.0 ∙ ap (reply_after []) (sym there.1) ∙ reply_then)
@@ -85,7 +85,7 @@ not_idle slot reply is =
 
 -- WHAT IS RECOVERED
 
-pub of_none : (place : ℕ) (picture : Plain) → goes_by one_disk submitting (takes_db ∷ []) (told_at place (Recovered 0)) (Some picture) (Recovered 0) → filter (is_lock 1) picture.locks ≡ []
+pub of_none : (place : ℕ) (picture : Shown) → goes_by one_disk submitting (takes_db ∷ []) (told_at place (Recovered 0)) (Some picture) (Recovered 0) → filter (is_lock 1) picture.locks ≡ []
 of_none place picture is = is.table.locks.numbers 1
 
 -- WHAT IS MISSED
@@ -106,18 +106,18 @@ either a b x (suc (suc k), below, is) = absurd (omega (arith, below))
 
 module _ (slot p q n : ℕ) where
   abbrev lines : List Line
-  lines = told_at p (Ack slot Granted) ∷ told_at q (Recovered n) ∷ []
+  lines = told_at p (Ack slot granted) ∷ told_at q (Recovered n) ∷ []
 
   -- the recovery is the second, and the acknowledgement the first
   recovery_is : (x : Line) (m : ℕ) → Contains lines x → x.said ≡ Recovered m → (x ≡ told_at q (Recovered n)) × (m ≡ n)
-  recovery_is x m in_x says = elim (either (told_at p (Ack slot Granted)) (told_at q (Recovered n)) x in_x) [
-    | inl first ↦ absurd (let other : Ack slot Granted ≡ Recovered m = ap (λ (l : Line). l.said) first ∙ says in cc)
+  recovery_is x m in_x says = elim (either (told_at p (Ack slot granted)) (told_at q (Recovered n)) x in_x) [
+    | inl first ↦ absurd (let other : Ack slot granted ≡ Recovered m = ap (λ (l : Line). l.said) first ∙ says in cc)
     | inr second ↦ (sym second, let same : Recovered n ≡ Recovered m = ap (λ (l : Line). l.said) second ∙ says in cc)
   ]
 
-  ack_is : (y : Line) (s : ℕ) (reply : Reply) → Contains lines y → y.said ≡ Ack s reply → (y ≡ told_at p (Ack slot Granted)) × (s ≡ slot)
-  ack_is y s reply in_y says = elim (either (told_at p (Ack slot Granted)) (told_at q (Recovered n)) y in_y) [
-    | inl first ↦ (sym first, let same : Ack slot Granted ≡ Ack s reply = ap (λ (l : Line). l.said) first ∙ says in cc)
+  ack_is : (y : Line) (s : ℕ) (reply : Reply) → Contains lines y → y.said ≡ Ack s reply → (y ≡ told_at p (Ack slot granted)) × (s ≡ slot)
+  ack_is y s reply in_y says = elim (either (told_at p (Ack slot granted)) (told_at q (Recovered n)) y in_y) [
+    | inl first ↦ (sym first, let same : Ack slot granted ≡ Ack s reply = ap (λ (l : Line). l.said) first ∙ says in cc)
     | inr second ↦ absurd (let other : Recovered n ≡ Ack s reply = ap (λ (l : Line). l.said) second ∙ says in cc)
   ]
 
@@ -131,18 +131,18 @@ module _ (slot p q n : ℕ) where
       let below : slot < n = holds i early (subst (BeganSince one_disk submitting i) r.0 since) in
       omega (arith, r.1, a.1, below)
 
-pub misses : MissesNothing one_disk submitting (told_at 18 (Ack 0 Granted) ∷ told_at 19 (Recovered 0) ∷ []) → ⊥
+pub misses : MissesNothing one_disk submitting (told_at 18 (Ack 0 granted) ∷ told_at 19 (Recovered 0) ∷ []) → ⊥
 misses all =
-    let below : 0 < 0 = all (told_at 19 (Recovered 0)) (told_at 18 (Ack 0 Granted)) 19 0 0 Granted (1, omega arith, refl) refl (record { order = omega arith; idle = idles_then }) (0, omega arith, refl) refl (omega arith) in
+    let below : 0 < 0 = all (told_at 19 (Recovered 0)) (told_at 18 (Ack 0 granted)) 19 0 0 granted (1, omega arith, refl) refl (record { order = omega arith; idle = idles_then }) (0, omega arith, refl) refl (omega arith) in
     omega arith
 
-pub holds : MissesNothing one_disk submitting (told_at 18 (Ack 0 Granted) ∷ told_at 19 (Recovered 1) ∷ [])
+pub holds : MissesNothing one_disk submitting (told_at 18 (Ack 0 granted) ∷ told_at 19 (Recovered 1) ∷ [])
 holds = missed_by 0 18 19 1 (λ i before since. omega arith)
 
-pub at_once : MissesNothing one_disk submitting (told_at 18 (Ack 0 Granted) ∷ told_at 18 (Recovered 0) ∷ [])
+pub at_once : MissesNothing one_disk submitting (told_at 18 (Ack 0 granted) ∷ told_at 18 (Recovered 0) ∷ [])
 at_once = missed_by 0 18 18 0 (λ i before since. let order = since.order in absurd (omega arith))
 
-pub busy : MissesNothing one_disk submitting (told_at 3 (Ack 0 Granted) ∷ told_at 4 (Recovered 0) ∷ [])
+pub busy : MissesNothing one_disk submitting (told_at 3 (Ack 0 granted) ∷ told_at 4 (Recovered 0) ∷ [])
 busy = missed_by 0 3 4 0 (λ i before since.
     let order = since.order in
     let here : i ≡ 4 = omega arith in

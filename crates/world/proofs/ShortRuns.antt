@@ -11,8 +11,7 @@ use Rattle.lock_command.specs.declared.command.Command.{Command}
 use Rattle.lock_command.specs.Command.{number, spelling}
 use Rattle.lock_command.specs.Reading.{lock_at, request_at, mode_of, name_at, enqueue_at, action_at, command_at}
 use Rattle.lock_table.specs.declared.reply.Reply.{Reply}
-use Rattle.lock_table.specs.declared.reply.Reply.TheVariants.{Granted}
-use Rattle.lock_table.specs.Apply.{applied}
+use Rattle.lock_table.specs.Apply.{applied, granted}
 use Rattle.slot_log.specs.Shape.{Shape}
 use Rattle.host.specs.declared.answer.HostAnswer.{HostAnswer}
 use Rattle.host.specs.declared.answer.HostAnswer.TheVariants.{Ack, Recovered}
@@ -58,7 +57,7 @@ only_once c events place host i said lines there j other told says =
 
 -- THE FIRST SUBMISSION
 
-lines_of_submission : answers one_disk submitting ≡ record { place = 18; host = 0; said = Ack 0 Granted } ∷ []
+lines_of_submission : answers one_disk submitting ≡ record { place = 18; host = 0; said = Ack 0 granted } ∷ []
 unfolding fresh_disk sequence_of body_of number_bytes tail_with copy_in row_said zeros heading body_saying number_at claim_of is_said number lock_at request_at mode_of name_at enqueue_at action_at command_at applied
 lines_of_submission = refl
 
@@ -66,13 +65,13 @@ place_of_submission : place_of one_disk submitting 18 ≡ 18
 unfolding fresh_disk sequence_of body_of number_bytes tail_with copy_in row_said zeros heading body_saying number_at claim_of is_said number lock_at request_at mode_of name_at enqueue_at action_at command_at applied
 place_of_submission = refl
 
-says_granted : SaysAt one_disk submission 18 0 (Ack 0 Granted)
+says_granted : SaysAt one_disk submission 18 0 (Ack 0 granted)
 unfolding submission
-says_granted = said_once one_disk submitting 18 0 18 (Ack 0 Granted) lines_of_submission place_of_submission
+says_granted = said_once one_disk submitting 18 0 18 (Ack 0 granted) lines_of_submission place_of_submission
 
-only_granted : (j other : ℕ) (told : HostAnswer) → SaysAt one_disk submission j other told → IsThat 18 0 (Ack 0 Granted) j other told
+only_granted : (j other : ℕ) (told : HostAnswer) → SaysAt one_disk submission j other told → IsThat 18 0 (Ack 0 granted) j other told
 unfolding submission
-only_granted j other told says = only_once one_disk submitting 18 0 18 (Ack 0 Granted) lines_of_submission place_of_submission j other told says
+only_granted j other told says = only_once one_disk submitting 18 0 18 (Ack 0 granted) lines_of_submission place_of_submission j other told says
 
 -- what a host carries out
 unfoldable pub operation_in : Option Doing → Option Operation
@@ -105,13 +104,13 @@ busy_with (Running m) operation is = go m.doing refl is
     go None doing is' = absurd (cc)
     go (Some t) doing is' = record { memory = m; running = refl; doing = t; does = doing; is = cc }
 
-pub acknowledged : IsAcknowledgedAt one_disk submission 18 0 0 takes_db Granted
+pub acknowledged : IsAcknowledgedAt one_disk submission 18 0 0 takes_db granted
 acknowledged =
     let busy = busy_with ((at one_disk submission 18).host 0) (Submitting takes_db) operation_then in
     record { says = says_granted; memory = busy.memory; running = busy.running; doing = busy.doing; does = busy.does; submitting = busy.is }
 
 pub before : IsAcknowledgedBefore one_disk submission 19 0 takes_db
-before = record { place = 18; host = 0; reply = Granted; before = omega arith; is = acknowledged }
+before = record { place = 18; host = 0; reply = granted; before = omega arith; is = acknowledged }
 
 pub operation_told : (host : Host) (m : Memory) (t : Doing) (operation : Operation) → host ≡ Running m → m.doing ≡ Some t → t.operation ≡ operation → operation_of host ≡ Some operation
 unfolding operation_in
@@ -123,10 +122,10 @@ slot_in other = 0
 
 reply_in : HostAnswer → Reply
 reply_in (Ack slot reply) = reply
-reply_in other = Granted
+reply_in other = granted
 
 pub only_acknowledged : (i host slot : ℕ) (command : Command) (reply : Reply) → IsAcknowledgedAt one_disk submission i host slot command reply
-    → (i ≡ 18) × (host ≡ 0) × (slot ≡ 0) × (command ≡ takes_db) × (reply ≡ Granted)
+    → (i ≡ 18) × (host ≡ 0) × (slot ≡ 0) × (command ≡ takes_db) × (reply ≡ granted)
 unfolding slot_in reply_in
 only_acknowledged i host slot command reply is =
     let that = only_granted i host (Ack slot reply) is.says in

@@ -4,7 +4,7 @@ use Rattle.lock_command.specs.declared.command.Command.{Command}
 use Rattle.lock_command.specs.Command.{spelling}
 use Rattle.lock_table.specs.declared.reply.Reply.{Reply}
 use Rattle.lock_table.specs.Apply.{Plain, table_after}
-use Rattle.lock_table.specs.Picture.{IsPictureOf}
+use Rattle.lock_table.specs.Picture.{IsPictureOf, Shown}
 use Rattle.slot_log.specs.Shape.{Shape}
 use Rattle.host.specs.declared.answer.HostAnswer.{HostAnswer}
 use Rattle.host.specs.declared.answer.HostAnswer.TheVariants.{Ack, Recovered, Looked, Beaten, Marked, Refused}
@@ -49,17 +49,17 @@ pub record IsAcknowledged (c : Shape) (events : List Event) (log : List Command)
   pub replied : reply ≡ reply_after (take slot log) command
 
 -- there is a picture, and it is one of this table
-abbrev pub ShowsTable : Option Plain → Plain → Type 0
+abbrev pub ShowsTable : Option Shown → Plain → Type 0
 ShowsTable None table = ⊥
 ShowsTable (Some picture) table = IsPictureOf picture table
 
 -- The picture is of the lock table after the first n commands of the log: that of a recovery, and that of a look.
-pub record IsRecovered (log : List Command) (picture : Option Plain) (n : ℕ) : Type 0 where
+pub record IsRecovered (log : List Command) (picture : Option Shown) (n : ℕ) : Type 0 where
   pub within : n ≤ length log
   pub table : ShowsTable picture (table_after (take n log))
 
 -- what is said, beside this picture or none, goes by the log
-abbrev pub goes_by : Shape → List Event → List Command → Line → Option Plain → HostAnswer → Type 0
+abbrev pub goes_by : Shape → List Event → List Command → Line → Option Shown → HostAnswer → Type 0
 goes_by c events log x picture (Ack slot reply) = IsAcknowledged c events log x slot reply
 goes_by c events log x picture (Recovered n) = IsRecovered log picture n
 goes_by c events log x picture (Looked n) = IsRecovered log picture n

@@ -96,10 +96,10 @@ pub fn attempts_hear_histories()
         status s (on heard) ≡ Ended (Committed value) → IsChosenAt c log i s.slot value }
 {}
 
-/// What a host has learned, its floor, and when it gives up, are told by the attempts that ended since
-/// its start: the commands that they committed, slot by slot; the greatest ballot that those on the
-/// next slot took or were outrun by; and the last of an operation's tries to be outrun. The readings
-/// that it goes by are those of its last beat since then that ended well.
+/// The attempts that ended since a host's start decide what it has learned, its floor, and when it gives up.
+/// It has learned the commands that they committed, slot by slot. Its floor is the greatest ballot that those on
+/// the next slot took or were outrun by. It gives up when the last of an operation's tries is outrun. The
+/// readings that it uses are those of its last beat since then that ended well.
 pub fn hosts_account_for_themselves()
     ensures account { AccountsFor }
     ensures outrun { GivesUp }

@@ -17,9 +17,9 @@ use Rattle.attempt.specs.Setup.{Setup}
 use Rattle.lock_command.specs.declared.command.Command.{Command}
 use Rattle.lock_command.specs.Command.{number, spelling}
 use Rattle.lock_command.specs.Reading.{decoded, lock_at, request_at, mode_of, name_at, enqueue_at, convert_at, action_at, command_at}
-use Rattle.lock_table.specs.Apply.{applied}
+use Rattle.lock_table.specs.Apply.{applied, granted, without_value}
 use Rattle.lock_table.specs.Locks.{settled}
-use Rattle.lock_table.specs.declared.reply.Reply.TheVariants.{Granted, Queued}
+use Rattle.lock_table.specs.declared.reply.Answer.TheVariants.{Queued}
 use Rattle.slot_log.specs.Shape.{Shape}
 use Rattle.host.specs.declared.answer.HostAnswer.{HostAnswer}
 use Rattle.host.specs.declared.answer.HostAnswer.TheVariants.{Ack}
@@ -111,7 +111,7 @@ unfolding fresh_disk sequence_of body_of number_bytes tail_with copy_in row_said
 begun es = refl
 
 -- by computing: behind seventeen calls the host has acknowledged the command
-said_then : option_map (λ (q : DiskState × Host). said_of q.1) (played one_disk 0 17 disk_then host_then) ≡ Some (Some (Ack 0 Granted))
+said_then : option_map (λ (q : DiskState × Host). said_of q.1) (played one_disk 0 17 disk_then host_then) ≡ Some (Some (Ack 0 granted))
 unfolding played fresh_disk sequence_of body_of number_bytes tail_with copy_in row_said zeros heading body_saying number_at claim_of is_said number lock_at request_at mode_of name_at enqueue_at convert_at action_at command_at applied settled
 said_then = refl
 
@@ -121,8 +121,8 @@ found_in None said is = absurd (cc)
 found_in (Some q) said is = (q, refl, (let same = is in cc))
 
 -- where disk and host come to
-first_last : (q : DiskState × Host) × (played one_disk 0 17 disk_then host_then ≡ Some q) × (said_of q.1 ≡ Some (Ack 0 Granted))
-first_last = found_in (played one_disk 0 17 disk_then host_then) (Some (Ack 0 Granted)) said_then
+first_last : (q : DiskState × Host) × (played one_disk 0 17 disk_then host_then ≡ Some q) × (said_of q.1 ≡ Some (Ack 0 granted))
+first_last = found_in (played one_disk 0 17 disk_then host_then) (Some (Ack 0 granted)) said_then
 
 -- the events make this list
 is_happened : happen one_disk first_two (steps 17) ≡ first_submission
@@ -183,7 +183,7 @@ pub seventeen : calls_between first_submission 1 19 0 ≡ 17
 seventeen = calls_by one_disk 0 first_two first_submission first_last.0.0 first_last.0.1 1 17 refl first_plays
 
 -- of which the last brings the answer
-pub acknowledged : said_of ((at one_disk first_submission 19).host 0) ≡ Some (Ack 0 Granted)
+pub acknowledged : said_of ((at one_disk first_submission 19).host 0) ≡ Some (Ack 0 granted)
 acknowledged = ap said_of (host_by one_disk 0 first_two first_submission first_last.0.0 first_last.0.1 1 17 refl first_plays) ∙ first_last.2
 
 -- THE HOST FORGETS, AND SUBMITS AGAIN
@@ -220,7 +220,7 @@ runs (Running m) said is = refl
 -- each of the three events brings its entry
 stops : happens one_disk first_submission (events.Stop 0) ≡ stopped
 stops =
-    let running : is_stopped ((world one_disk first_submission).host 0) ≡ false = ap is_stopped first_plays.host_is ∙ runs first_last.0.1 (Ack 0 Granted) first_last.2 in
+    let running : is_stopped ((world one_disk first_submission).host 0) ≡ false = ap is_stopped first_plays.host_is ∙ runs first_last.0.1 (Ack 0 granted) first_last.2 in
     ap (λ (b : Bool). with_entry first_submission (events.brings_if (not b) (Some (Stop 0)))) running
 
 host_stopped : (world one_disk stopped).host 0 ≡ Stopped
@@ -252,13 +252,13 @@ goes_on =
     ∙ sym (happen_both one_disk [] (events.Start 0 ∷ events.Submit 0 first_command 1 ∷ steps 17) (events.Stop 0 ∷ events.Start 0 ∷ events.Submit 0 second_command 1 ∷ steps 34))
 
 -- by computing: behind thirty-four calls the host has acknowledged the second command, behind the first
-said_again : option_map (λ (q : DiskState × Host). said_of q.1) (option_and_then (λ (p : DiskState × Host). played one_disk 3 34 p.0 host_again) (played one_disk 0 17 disk_then host_then)) ≡ Some (Some (Ack 1 Queued))
+said_again : option_map (λ (q : DiskState × Host). said_of q.1) (option_and_then (λ (p : DiskState × Host). played one_disk 3 34 p.0 host_again) (played one_disk 0 17 disk_then host_then)) ≡ Some (Some (Ack 1 (without_value Queued)))
 unfolding played fresh_disk sequence_of body_of number_bytes tail_with copy_in row_said zeros heading body_saying number_at claim_of is_said number lock_at request_at mode_of name_at enqueue_at convert_at action_at command_at applied settled
 said_again = refl
 
-second_last : (q : DiskState × Host) × (played one_disk 3 34 first_last.0.0 host_again ≡ Some q) × (said_of q.1 ≡ Some (Ack 1 Queued))
+second_last : (q : DiskState × Host) × (played one_disk 3 34 first_last.0.0 host_again ≡ Some q) × (said_of q.1 ≡ Some (Ack 1 (without_value Queued)))
 second_last =
-    found_in (played one_disk 3 34 first_last.0.0 host_again) (Some (Ack 1 Queued))
+    found_in (played one_disk 3 34 first_last.0.0 host_again) (Some (Ack 1 (without_value Queued)))
     (ap (λ (o : Option (DiskState × Host)). option_map (λ (q : DiskState × Host). said_of q.1) (option_and_then (λ (p : DiskState × Host). played one_disk 3 34 p.0 host_again) o)) (sym first_last.1) ∙ said_again)
 
 disk_again : (world one_disk begun_again).disk 0 ≡ first_last.0.0
@@ -323,5 +323,5 @@ second_left_alone = left_alone_by one_disk 3 begun_again second_submission secon
 pub thirty_four : calls_between second_submission 21 56 0 ≡ 34
 thirty_four = calls_by one_disk 3 begun_again second_submission second_last.0.0 second_last.0.1 21 34 begun_long second_plays
 
-pub second_acknowledged : said_of ((at one_disk second_submission 56).host 0) ≡ Some (Ack 1 Queued)
+pub second_acknowledged : said_of ((at one_disk second_submission 56).host 0) ≡ Some (Ack 1 (without_value Queued))
 second_acknowledged = ap said_of (host_by one_disk 3 begun_again second_submission second_last.0.0 second_last.0.1 21 34 begun_long second_plays) ∙ second_last.2

@@ -1,7 +1,8 @@
 // What becomes of a submission whose host is left alone.
 ghost use Rattle.std.specs.Prelude.{◌≡◌, ◌≤◌, ◌+◌, ◌*◌, List, Some};
 ghost use Rattle.attempt.specs.Numbers.{count};
-ghost use Rattle.lock_table.specs.declared.reply.Reply.TheVariants.{Granted, Queued};
+ghost use Rattle.lock_table.specs.declared.reply.Answer.TheVariants.{Queued};
+ghost use Rattle.lock_table.specs.Apply.{granted, without_value};
 ghost use Rattle.slot_log.specs.Shape.{Shape};
 ghost use Rattle.host.specs.Host.{said_of};
 ghost use Rattle.host.specs.declared.answer.HostAnswer.TheVariants.{Ack};
@@ -34,7 +35,7 @@ pub fn seventeen_calls_are_taken()
     ensures alone { IsLeftAlone one_disk first_submission 1 19 0 1 first_command none_open }
     ensures seventeen { calls_between first_submission 1 19 0 ≡
         17 * one_disk.disks * (count one_disk.slots none_open + 1) }
-    ensures acknowledged { said_of ((at one_disk first_submission 19).host 0) ≡ Some (Ack 0 Granted) }
+    ensures acknowledged { said_of ((at one_disk first_submission 19).host 0) ≡ Some (Ack 0 granted) }
 {}
 
 /// A submission of a host that was started again, and so has not learned the slot of an earlier one, is
@@ -43,5 +44,5 @@ pub fn thirty_four_calls_are_taken()
     ensures alone { IsLeftAlone one_disk second_submission 21 56 0 1 second_command first_open }
     ensures thirty_four { calls_between second_submission 21 56 0 ≡
         17 * one_disk.disks * (count one_disk.slots first_open + 1) }
-    ensures acknowledged { said_of ((at one_disk second_submission 56).host 0) ≡ Some (Ack 1 Queued) }
+    ensures acknowledged { said_of ((at one_disk second_submission 56).host 0) ≡ Some (Ack 1 (without_value Queued)) }
 {}

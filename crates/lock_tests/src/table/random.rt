@@ -3,9 +3,10 @@ ghost use Rattle.std.specs.Prelude.{◌<◌};
 use crate::table::flat::FlatTable;
 use lock_command::{
     Action, ClientNumber, Command, HOSTS, HostNumber, LockName, LockNumber, RequestNumber,
+    ValueBytes,
 };
 use lock_modes::Mode;
-use lock_table::{KnownClient, LockRecord, LockState, Table};
+use lock_table::{KnownClient, LockRecord, LockState, LockValue, Table};
 use std::alloc::Global;
 use std::test::Fail;
 
@@ -23,6 +24,14 @@ const SHORT: Range = Range {
     locks: 12,
     names: 2,
     clients: 4,
+};
+
+/// So few locks that names lose their last one time and again.
+const FEW: Range = Range {
+    commands: 40,
+    locks: 3,
+    names: 2,
+    clients: 2,
 };
 
 const LONG: Range = Range {
@@ -83,7 +92,15 @@ impl Random {
         Ok(HostNumber::new(self.below(HOSTS as u64) as u8).ok_or("host")?)
     }
 
-    fn action(&mut self, range: &Range) -> Result<Action, Fail> {
+    /// A value, every other time.
+    fn value(&mut self) -> Option<ValueBytes> {
+        if self.below(2) == 0 {
+            return None;
+        }
+        Some(ValueBytes::new(u128::from(self.below(1000)).to_be_bytes()))
+    }
+
+    fn action(&mut self, range: &Range, value: Option<ValueBytes>) -> Result<Action, Fail> {
         let number = self.below(range.locks.clamp(1, 60_000)) as u16;
         let lock = LockNumber::new(number + 1).ok_or("lock number")?;
         let no_queue = self.below(8) == 0;
@@ -98,8 +115,9 @@ impl Random {
                 lock,
                 mode: self.mode(),
                 no_queue,
+                value,
             },
-            65..=82 => Action::Release(lock),
+            65..=82 => Action::Release { lock, value },
             83..=94 => Action::Cancel(lock),
             95..=98 => Action::Status(lock),
             _ => Action::Purge(self.host()?),
@@ -172,6 +190,19 @@ fn lists_locks(listed: &[LockRecord], flat: &[LockRecord]) -> bool {
     true
 }
 
+/// Whether the value of its name is listed beside each lock.
+fn lists_values(locks: &[LockRecord], values: &[LockValue], flat: &FlatTable) -> bool {
+    if values.len() != locks.len() {
+        return false;
+    }
+    for at in 0..locks.len() {
+        if flat.value(locks[at].name) != Some(values[at]) {
+            return false;
+        }
+    }
+    true
+}
+
 /// Whether the clients are listed by rising number.
 fn lists_clients(listed: &[KnownClient], flat: &[KnownClient]) -> bool {
     if listed.len() != flat.len() {
@@ -203,11 +234,12 @@ fn answer_alike(
     range: &Range,
     place: u64,
 ) -> Result<bool, Fail> {
+    let value = random.value();
     let command = Command {
         host: random.host()?,
         client: ClientNumber::new(random.below(range.clients.clamp(1, 200)) as u8),
         request: random.request(place)?,
-        action: random.action(range)?,
+        action: random.action(range, value)?,
     };
     let reply = table.apply(&command);
     Ok(flat.apply(&command) == reply)
@@ -218,6 +250,7 @@ fn shows(alloc: Global, table: &Table, flat: &FlatTable) -> Result<bool, Fail> {
     let picture = table.picture(alloc)?;
     Ok(
         lists_locks(picture.locks(), flat.locks())
+            && lists_values(picture.locks(), picture.values(), flat)
             && lists_clients(picture.clients(), flat.clients()),
     )
 }
@@ -263,8 +296,9 @@ fn agrees(alloc: Global, seed: u64, range: &Range, each: u64) -> Result<bool, Fa
 
 #[test]
 fn short_lists_agree_with_the_flat_table(rt: HostRuntime) -> Result<(), Fail> {
-    for seed in 0..10_000 {
+    for seed in 0..5_000 {
         assert!(rt; agrees(rt.alloc(), seed, &SHORT, 1)?);
+        assert!(rt; agrees(rt.alloc(), seed, &FEW, 1)?);
     }
     Ok(())
 }

@@ -1,40 +1,51 @@
 use super::{ALONE as EX, NULL as NL, READ as CR, SHARED as PR, UPDATE as PW, WRITE as CW, lock};
+use Answer::{Cancelled, Purged, Queued, Refused, Released, State};
 use LockState::{Converting, Granted, Waiting};
 use Refusal::{
     AlreadyConverting, LockInUse, NoSuchLock, NotOwner, NotQueued, NothingToCancel, Stale,
     StillWaiting,
 };
-use Reply::{Cancelled, Purged, Queued, Refused, Released, State};
-use lock_command::{Action, ClientNumber, Command, HostNumber, LockName, RequestNumber};
+use lock_command::{
+    Action, ClientNumber, Command, HostNumber, LockName, RequestNumber, ValueBytes,
+};
 use lock_modes::Mode;
-use lock_table::{LockRecord, LockState, Refusal, Reply, Table};
+use lock_table::{Answer, LockRecord, LockState, LockValue, Refusal, Reply, Table};
 use std::alloc::Global;
 use std::test::Fail;
 
 /// What a step asks; `Now` with no queue.
 #[derive(Clone, Copy)]
-enum Ask {
+pub enum Ask {
     Enqueue(u16, Mode, &'static [u8]),
     EnqueueNow(u16, Mode, &'static [u8]),
     Convert(u16, Mode),
     ConvertNow(u16, Mode),
+    /// A conversion with a value.
+    Give(u16, Mode, u128),
+    GiveNow(u16, Mode, u128),
     Release(u16),
+    /// A release with a value.
+    Leave(u16, u128),
     Cancel(u16),
     Status(u16),
     Purge(u8),
 }
 
 /// Name, lock, client, host and state of a lock that a table shows.
-type Line = (&'static [u8], u16, u8, u8, LockState);
+pub type Line = (&'static [u8], u16, u8, u8, LockState);
 
 #[derive(Clone, Copy)]
-enum Row {
+pub enum Row {
     /// A table made anew, for the steps of the script of this name.
     Script(&'static str),
-    /// Host, client, request number, what is asked, and the reply that has to come.
-    Step(u8, u8, u64, Ask, Reply),
+    /// Host, client, request number, what is asked, and the answer that has to come. Where it tells a value, that is zeros.
+    Step(u8, u8, u64, Ask, Answer),
+    /// The same, and the value that is told, and whether it is valid.
+    Tells(u8, u8, u64, Ask, Answer, u128, bool),
     /// All locks, in their order.
     Shows(&'static [Line]),
+    /// The value beside each lock, and whether it is valid.
+    Values(&'static [(u128, bool)]),
 }
 
 const CR_TO_CW: LockState = Converting {
@@ -65,9 +76,9 @@ const PR_TO_EX: LockState = Converting {
 /// Scripts of lock commands, with the replies and the locks that another program worked out, written from the same rules.
 static ROWS: [Row; 184] = [
     Row::Script("blocked_conversion_holds_waiting_locks_back"),
-    Row::Step(0, 1, 1, Ask::Enqueue(1, CR, b"a"), Reply::Granted),
-    Row::Step(0, 2, 1, Ask::Enqueue(2, CR, b"a"), Reply::Granted),
-    Row::Step(0, 3, 1, Ask::Enqueue(3, PW, b"a"), Reply::Granted),
+    Row::Step(0, 1, 1, Ask::Enqueue(1, CR, b"a"), Answer::Granted),
+    Row::Step(0, 2, 1, Ask::Enqueue(2, CR, b"a"), Answer::Granted),
+    Row::Step(0, 3, 1, Ask::Enqueue(3, PW, b"a"), Answer::Granted),
     Row::Step(0, 1, 2, Ask::Convert(1, EX), Queued),
     Row::Step(0, 4, 1, Ask::Enqueue(4, CR, b"a"), Queued),
     Row::Step(0, 3, 2, Ask::Release(3), Released),
@@ -77,8 +88,8 @@ static ROWS: [Row; 184] = [
         (b"a", 4, 4, 0, Waiting(CR)),
     ]),
     Row::Script("cancel_of_a_conversion"),
-    Row::Step(0, 1, 1, Ask::Enqueue(1, PR, b"a"), Reply::Granted),
-    Row::Step(0, 2, 1, Ask::Enqueue(2, PR, b"a"), Reply::Granted),
+    Row::Step(0, 1, 1, Ask::Enqueue(1, PR, b"a"), Answer::Granted),
+    Row::Step(0, 2, 1, Ask::Enqueue(2, PR, b"a"), Answer::Granted),
     Row::Step(0, 1, 2, Ask::Convert(1, EX), Queued),
     Row::Step(0, 3, 1, Ask::Enqueue(3, CR, b"a"), Queued),
     Row::Step(0, 1, 3, Ask::Cancel(1), Cancelled),
@@ -89,14 +100,14 @@ static ROWS: [Row; 184] = [
         (b"a", 3, 3, 0, Granted(CR)),
     ]),
     Row::Script("cancel_of_a_waiting_lock"),
-    Row::Step(0, 1, 1, Ask::Enqueue(1, PR, b"a"), Reply::Granted),
+    Row::Step(0, 1, 1, Ask::Enqueue(1, PR, b"a"), Answer::Granted),
     Row::Step(0, 2, 1, Ask::Enqueue(2, EX, b"a"), Queued),
     Row::Step(0, 3, 1, Ask::Enqueue(3, PR, b"a"), Queued),
     Row::Step(0, 2, 2, Ask::Cancel(2), Cancelled),
     Row::Step(0, 2, 3, Ask::Status(2), Refused(NoSuchLock)),
     Row::Shows(&[(b"a", 1, 1, 0, Granted(PR)), (b"a", 3, 3, 0, Granted(PR))]),
     Row::Script("cancel_refusals_in_their_order"),
-    Row::Step(0, 1, 1, Ask::Enqueue(1, PR, b"a"), Reply::Granted),
+    Row::Step(0, 1, 1, Ask::Enqueue(1, PR, b"a"), Answer::Granted),
     Row::Step(0, 2, 1, Ask::Enqueue(2, EX, b"a"), Queued),
     Row::Step(0, 1, 2, Ask::Cancel(9), Refused(NoSuchLock)),
     Row::Step(0, 2, 2, Ask::Cancel(1), Refused(NotOwner)),
@@ -104,10 +115,10 @@ static ROWS: [Row; 184] = [
     Row::Step(0, 1, 4, Ask::Cancel(1), Refused(NothingToCancel)),
     Row::Shows(&[(b"a", 1, 1, 0, Granted(PR)), (b"a", 2, 2, 0, Waiting(EX))]),
     Row::Script("conversion_queue_in_order_of_coming"),
-    Row::Step(0, 1, 1, Ask::Enqueue(1, CR, b"a"), Reply::Granted),
-    Row::Step(0, 2, 1, Ask::Enqueue(2, CR, b"a"), Reply::Granted),
-    Row::Step(0, 3, 1, Ask::Enqueue(3, PW, b"a"), Reply::Granted),
-    Row::Step(0, 4, 1, Ask::Enqueue(4, CR, b"b"), Reply::Granted),
+    Row::Step(0, 1, 1, Ask::Enqueue(1, CR, b"a"), Answer::Granted),
+    Row::Step(0, 2, 1, Ask::Enqueue(2, CR, b"a"), Answer::Granted),
+    Row::Step(0, 3, 1, Ask::Enqueue(3, PW, b"a"), Answer::Granted),
+    Row::Step(0, 4, 1, Ask::Enqueue(4, CR, b"b"), Answer::Granted),
     Row::Step(0, 2, 2, Ask::Convert(2, PR), Queued),
     Row::Step(0, 1, 2, Ask::Convert(1, CW), Queued),
     Row::Shows(&[
@@ -125,8 +136,8 @@ static ROWS: [Row; 184] = [
     Row::Step(0, 2, 3, Ask::Release(2), Released),
     Row::Shows(&[(b"a", 1, 1, 0, Granted(CW)), (b"b", 4, 4, 0, Granted(CR))]),
     Row::Script("convert_refusals_in_their_order"),
-    Row::Step(0, 1, 1, Ask::Enqueue(1, PR, b"a"), Reply::Granted),
-    Row::Step(0, 2, 1, Ask::Enqueue(2, PR, b"a"), Reply::Granted),
+    Row::Step(0, 1, 1, Ask::Enqueue(1, PR, b"a"), Answer::Granted),
+    Row::Step(0, 2, 1, Ask::Enqueue(2, PR, b"a"), Answer::Granted),
     Row::Step(0, 3, 1, Ask::Enqueue(3, EX, b"a"), Queued),
     Row::Step(0, 1, 2, Ask::Convert(9, PR), Refused(NoSuchLock)),
     Row::Step(0, 1, 3, Ask::Convert(2, PR), Refused(NotOwner)),
@@ -141,10 +152,10 @@ static ROWS: [Row; 184] = [
         (b"a", 3, 3, 0, Waiting(EX)),
     ]),
     Row::Script("convert_up_with_a_waiting_lock_behind"),
-    Row::Step(0, 1, 1, Ask::Enqueue(1, PR, b"a"), Reply::Granted),
+    Row::Step(0, 1, 1, Ask::Enqueue(1, PR, b"a"), Answer::Granted),
     Row::Step(0, 2, 1, Ask::Enqueue(2, EX, b"a"), Queued),
-    Row::Step(0, 1, 2, Ask::Convert(1, PW), Reply::Granted),
-    Row::Step(0, 1, 3, Ask::ConvertNow(1, EX), Reply::Granted),
+    Row::Step(0, 1, 2, Ask::Convert(1, PW), Answer::Granted),
+    Row::Step(0, 1, 3, Ask::ConvertNow(1, EX), Answer::Granted),
     Row::Shows(&[(b"a", 1, 1, 0, Granted(EX)), (b"a", 2, 2, 0, Waiting(EX))]),
     Row::Script("greatest_numbers_are_taken"),
     Row::Step(
@@ -152,14 +163,14 @@ static ROWS: [Row; 184] = [
         255,
         4611686018427387904,
         Ask::Enqueue(65535, EX, b"!~"),
-        Reply::Granted,
+        Answer::Granted,
     ),
     Row::Step(
         7,
         0,
         1,
         Ask::Enqueue(1, CR, b"abcdefghijklmno"),
-        Reply::Granted,
+        Answer::Granted,
     ),
     Row::Step(7, 0, 2, Ask::Purge(7), Purged(2)),
     Row::Step(7, 0, 4294967301, Ask::Status(65535), Refused(NoSuchLock)),
@@ -167,57 +178,57 @@ static ROWS: [Row; 184] = [
     Row::Step(7, 0, 4294967302, Ask::Purge(0), Purged(0)),
     Row::Shows(&[]),
     Row::Script("held_mode_of_a_queued_conversion_counts"),
-    Row::Step(0, 1, 1, Ask::Enqueue(1, PR, b"a"), Reply::Granted),
-    Row::Step(0, 2, 1, Ask::Enqueue(2, PR, b"a"), Reply::Granted),
-    Row::Step(0, 3, 1, Ask::Enqueue(3, NL, b"a"), Reply::Granted),
+    Row::Step(0, 1, 1, Ask::Enqueue(1, PR, b"a"), Answer::Granted),
+    Row::Step(0, 2, 1, Ask::Enqueue(2, PR, b"a"), Answer::Granted),
+    Row::Step(0, 3, 1, Ask::Enqueue(3, NL, b"a"), Answer::Granted),
     Row::Step(0, 1, 2, Ask::Convert(1, EX), Queued),
     Row::Step(0, 3, 2, Ask::ConvertNow(3, CW), Refused(NotQueued)),
-    Row::Step(0, 3, 3, Ask::ConvertNow(3, PR), Reply::Granted),
+    Row::Step(0, 3, 3, Ask::ConvertNow(3, PR), Answer::Granted),
     Row::Shows(&[
         (b"a", 2, 2, 0, Granted(PR)),
         (b"a", 3, 3, 0, Granted(PR)),
         (b"a", 1, 1, 0, PR_TO_EX),
     ]),
     Row::Script("lock_in_use"),
-    Row::Step(0, 1, 1, Ask::Enqueue(1, EX, b"a"), Reply::Granted),
+    Row::Step(0, 1, 1, Ask::Enqueue(1, EX, b"a"), Answer::Granted),
     Row::Step(0, 2, 1, Ask::Enqueue(1, EX, b"b"), Refused(LockInUse)),
     Row::Step(0, 2, 2, Ask::Enqueue(2, EX, b"a"), Queued),
     Row::Step(0, 1, 2, Ask::Enqueue(2, CR, b"c"), Refused(LockInUse)),
     Row::Step(0, 2, 3, Ask::Release(2), Released),
-    Row::Step(0, 1, 3, Ask::Enqueue(2, CR, b"c"), Reply::Granted),
+    Row::Step(0, 1, 3, Ask::Enqueue(2, CR, b"c"), Answer::Granted),
     Row::Shows(&[(b"a", 1, 1, 0, Granted(EX)), (b"c", 2, 1, 0, Granted(CR))]),
     Row::Script("modes_beside_a_held_nl"),
-    Row::Step(0, 1, 1, Ask::Enqueue(1, NL, b"nl"), Reply::Granted),
-    Row::Step(0, 1, 2, Ask::EnqueueNow(2, NL, b"nl"), Reply::Granted),
-    Row::Step(0, 1, 3, Ask::Enqueue(3, NL, b"cr"), Reply::Granted),
-    Row::Step(0, 1, 4, Ask::EnqueueNow(4, CR, b"cr"), Reply::Granted),
-    Row::Step(0, 1, 5, Ask::Enqueue(5, NL, b"cw"), Reply::Granted),
-    Row::Step(0, 1, 6, Ask::EnqueueNow(6, CW, b"cw"), Reply::Granted),
-    Row::Step(0, 1, 7, Ask::Enqueue(7, NL, b"pr"), Reply::Granted),
-    Row::Step(0, 1, 8, Ask::EnqueueNow(8, PR, b"pr"), Reply::Granted),
-    Row::Step(0, 1, 9, Ask::Enqueue(9, NL, b"pw"), Reply::Granted),
-    Row::Step(0, 1, 10, Ask::EnqueueNow(10, PW, b"pw"), Reply::Granted),
-    Row::Step(0, 1, 11, Ask::Enqueue(11, NL, b"ex"), Reply::Granted),
-    Row::Step(0, 1, 12, Ask::EnqueueNow(12, EX, b"ex"), Reply::Granted),
+    Row::Step(0, 1, 1, Ask::Enqueue(1, NL, b"nl"), Answer::Granted),
+    Row::Step(0, 1, 2, Ask::EnqueueNow(2, NL, b"nl"), Answer::Granted),
+    Row::Step(0, 1, 3, Ask::Enqueue(3, NL, b"cr"), Answer::Granted),
+    Row::Step(0, 1, 4, Ask::EnqueueNow(4, CR, b"cr"), Answer::Granted),
+    Row::Step(0, 1, 5, Ask::Enqueue(5, NL, b"cw"), Answer::Granted),
+    Row::Step(0, 1, 6, Ask::EnqueueNow(6, CW, b"cw"), Answer::Granted),
+    Row::Step(0, 1, 7, Ask::Enqueue(7, NL, b"pr"), Answer::Granted),
+    Row::Step(0, 1, 8, Ask::EnqueueNow(8, PR, b"pr"), Answer::Granted),
+    Row::Step(0, 1, 9, Ask::Enqueue(9, NL, b"pw"), Answer::Granted),
+    Row::Step(0, 1, 10, Ask::EnqueueNow(10, PW, b"pw"), Answer::Granted),
+    Row::Step(0, 1, 11, Ask::Enqueue(11, NL, b"ex"), Answer::Granted),
+    Row::Step(0, 1, 12, Ask::EnqueueNow(12, EX, b"ex"), Answer::Granted),
     Row::Script("names_are_compared_whole"),
-    Row::Step(0, 1, 1, Ask::Enqueue(1, EX, b"ab"), Reply::Granted),
-    Row::Step(0, 1, 2, Ask::EnqueueNow(2, EX, b"a"), Reply::Granted),
-    Row::Step(0, 1, 3, Ask::EnqueueNow(3, EX, b"abc"), Reply::Granted),
-    Row::Step(0, 1, 4, Ask::EnqueueNow(4, EX, b"cb"), Reply::Granted),
-    Row::Step(0, 1, 5, Ask::EnqueueNow(5, EX, b"AB"), Reply::Granted),
+    Row::Step(0, 1, 1, Ask::Enqueue(1, EX, b"ab"), Answer::Granted),
+    Row::Step(0, 1, 2, Ask::EnqueueNow(2, EX, b"a"), Answer::Granted),
+    Row::Step(0, 1, 3, Ask::EnqueueNow(3, EX, b"abc"), Answer::Granted),
+    Row::Step(0, 1, 4, Ask::EnqueueNow(4, EX, b"cb"), Answer::Granted),
+    Row::Step(0, 1, 5, Ask::EnqueueNow(5, EX, b"AB"), Answer::Granted),
     Row::Step(
         0,
         1,
         6,
         Ask::Enqueue(6, EX, b"abcdefghijklmno"),
-        Reply::Granted,
+        Answer::Granted,
     ),
     Row::Step(
         0,
         1,
         7,
         Ask::EnqueueNow(7, EX, b"abcdefghijklmnp"),
-        Reply::Granted,
+        Answer::Granted,
     ),
     Row::Step(0, 1, 8, Ask::EnqueueNow(8, EX, b"ab"), Refused(NotQueued)),
     Row::Shows(&[
@@ -230,24 +241,24 @@ static ROWS: [Row; 184] = [
         (b"cb", 4, 1, 0, Granted(EX)),
     ]),
     Row::Script("purge_keeps_request_numbers"),
-    Row::Step(1, 1, 5, Ask::Enqueue(1, EX, b"a"), Reply::Granted),
+    Row::Step(1, 1, 5, Ask::Enqueue(1, EX, b"a"), Answer::Granted),
     Row::Step(0, 2, 1, Ask::Purge(1), Purged(1)),
-    Row::Step(0, 1, 5, Ask::Enqueue(1, EX, b"a"), Reply::Granted),
+    Row::Step(0, 1, 5, Ask::Enqueue(1, EX, b"a"), Answer::Granted),
     Row::Step(0, 1, 4, Ask::Enqueue(1, EX, b"a"), Refused(Stale)),
     Row::Step(0, 2, 1, Ask::Purge(0), Purged(1)),
-    Row::Step(0, 1, 6, Ask::Enqueue(2, CR, b"a"), Reply::Granted),
+    Row::Step(0, 1, 6, Ask::Enqueue(2, CR, b"a"), Answer::Granted),
     Row::Step(0, 2, 1, Ask::Purge(0), Purged(1)),
     Row::Shows(&[(b"a", 2, 1, 0, Granted(CR))]),
     Row::Script("purge_removes_the_locks_of_a_host"),
-    Row::Step(0, 1, 1, Ask::Enqueue(1, CR, b"a"), Reply::Granted),
-    Row::Step(1, 2, 1, Ask::Enqueue(2, PR, b"a"), Reply::Granted),
-    Row::Step(1, 2, 2, Ask::Enqueue(3, CR, b"a"), Reply::Granted),
+    Row::Step(0, 1, 1, Ask::Enqueue(1, CR, b"a"), Answer::Granted),
+    Row::Step(1, 2, 1, Ask::Enqueue(2, PR, b"a"), Answer::Granted),
+    Row::Step(1, 2, 2, Ask::Enqueue(3, CR, b"a"), Answer::Granted),
     Row::Step(1, 2, 3, Ask::Convert(3, PW), Queued),
     Row::Step(0, 1, 2, Ask::Enqueue(4, PW, b"a"), Queued),
-    Row::Step(0, 3, 1, Ask::Enqueue(5, PR, b"b"), Reply::Granted),
+    Row::Step(0, 3, 1, Ask::Enqueue(5, PR, b"b"), Answer::Granted),
     Row::Step(1, 4, 1, Ask::Enqueue(6, EX, b"b"), Queued),
     Row::Step(0, 3, 2, Ask::Enqueue(7, CR, b"b"), Queued),
-    Row::Step(1, 4, 2, Ask::Enqueue(8, EX, b"c"), Reply::Granted),
+    Row::Step(1, 4, 2, Ask::Enqueue(8, EX, b"c"), Answer::Granted),
     Row::Step(0, 3, 3, Ask::Enqueue(9, CR, b"c"), Queued),
     Row::Step(0, 5, 1, Ask::Purge(1), Purged(4)),
     Row::Shows(&[
@@ -258,8 +269,8 @@ static ROWS: [Row; 184] = [
         (b"c", 9, 3, 0, Granted(CR)),
     ]),
     Row::Script("queued_convert_changes_no_held_mode"),
-    Row::Step(0, 1, 1, Ask::Enqueue(1, PR, b"a"), Reply::Granted),
-    Row::Step(0, 2, 1, Ask::Enqueue(2, PR, b"a"), Reply::Granted),
+    Row::Step(0, 1, 1, Ask::Enqueue(1, PR, b"a"), Answer::Granted),
+    Row::Step(0, 2, 1, Ask::Enqueue(2, PR, b"a"), Answer::Granted),
     Row::Step(0, 3, 1, Ask::Enqueue(3, CW, b"a"), Queued),
     Row::Step(0, 1, 2, Ask::Convert(1, CW), Queued),
     Row::Step(0, 1, 3, Ask::Status(1), State(PR_TO_CW)),
@@ -270,17 +281,17 @@ static ROWS: [Row; 184] = [
         (b"a", 3, 3, 0, Waiting(CW)),
     ]),
     Row::Script("release_of_a_converting_lock"),
-    Row::Step(0, 1, 1, Ask::Enqueue(1, PR, b"a"), Reply::Granted),
-    Row::Step(0, 2, 1, Ask::Enqueue(2, PR, b"a"), Reply::Granted),
+    Row::Step(0, 1, 1, Ask::Enqueue(1, PR, b"a"), Answer::Granted),
+    Row::Step(0, 2, 1, Ask::Enqueue(2, PR, b"a"), Answer::Granted),
     Row::Step(0, 1, 2, Ask::Convert(1, EX), Queued),
     Row::Step(0, 3, 1, Ask::Enqueue(3, CR, b"a"), Queued),
     Row::Step(0, 1, 3, Ask::Release(1), Released),
     Row::Shows(&[(b"a", 2, 2, 0, Granted(PR)), (b"a", 3, 3, 0, Granted(CR))]),
     Row::Script("same_request_gets_its_kept_reply"),
-    Row::Step(0, 1, 1, Ask::Enqueue(1, EX, b"a"), Reply::Granted),
-    Row::Step(0, 1, 1, Ask::Enqueue(2, EX, b"b"), Reply::Granted),
-    Row::Step(1, 1, 1, Ask::Enqueue(1, EX, b"a"), Reply::Granted),
-    Row::Step(0, 1, 1, Ask::Release(1), Reply::Granted),
+    Row::Step(0, 1, 1, Ask::Enqueue(1, EX, b"a"), Answer::Granted),
+    Row::Step(0, 1, 1, Ask::Enqueue(2, EX, b"b"), Answer::Granted),
+    Row::Step(1, 1, 1, Ask::Enqueue(1, EX, b"a"), Answer::Granted),
+    Row::Step(0, 1, 1, Ask::Release(1), Answer::Granted),
     Row::Step(0, 2, 1, Ask::Enqueue(3, PR, b"a"), Queued),
     Row::Step(0, 1, 2, Ask::Release(1), Released),
     Row::Step(0, 2, 1, Ask::Enqueue(3, PR, b"a"), Queued),
@@ -291,20 +302,20 @@ static ROWS: [Row; 184] = [
     Row::Step(0, 3, 1, Ask::Purge(0), Purged(0)),
     Row::Shows(&[]),
     Row::Script("stale_requests"),
-    Row::Step(0, 1, 5, Ask::Enqueue(1, CR, b"a"), Reply::Granted),
-    Row::Step(0, 1, 9, Ask::Enqueue(2, CR, b"a"), Reply::Granted),
+    Row::Step(0, 1, 5, Ask::Enqueue(1, CR, b"a"), Answer::Granted),
+    Row::Step(0, 1, 9, Ask::Enqueue(2, CR, b"a"), Answer::Granted),
     Row::Step(0, 1, 8, Ask::Enqueue(1, CR, b"a"), Refused(Stale)),
-    Row::Step(0, 1, 9, Ask::Enqueue(2, EX, b"a"), Reply::Granted),
+    Row::Step(0, 1, 9, Ask::Enqueue(2, EX, b"a"), Answer::Granted),
     Row::Step(0, 1, 6, Ask::Release(1), Refused(Stale)),
     Row::Step(0, 1, 10, Ask::Release(1), Released),
     Row::Step(0, 1, 10, Ask::Status(2), Released),
-    Row::Step(0, 2, 3, Ask::Enqueue(3, EX, b"b"), Reply::Granted),
+    Row::Step(0, 2, 3, Ask::Enqueue(3, EX, b"b"), Answer::Granted),
     Row::Step(0, 2, 2, Ask::Release(3), Refused(Stale)),
     Row::Step(0, 2, 4, Ask::Release(3), Released),
     Row::Step(0, 2, 1, Ask::Enqueue(4, EX, b"b"), Refused(Stale)),
     Row::Shows(&[(b"a", 2, 1, 0, Granted(CR))]),
     Row::Script("waiting_queue_in_order_of_coming"),
-    Row::Step(0, 1, 1, Ask::Enqueue(1, EX, b"a"), Reply::Granted),
+    Row::Step(0, 1, 1, Ask::Enqueue(1, EX, b"a"), Answer::Granted),
     Row::Step(0, 9, 1, Ask::Enqueue(9, PW, b"a"), Queued),
     Row::Step(0, 5, 1, Ask::Enqueue(3, EX, b"a"), Queued),
     Row::Step(0, 7, 1, Ask::Enqueue(5, CR, b"a"), Queued),
@@ -326,8 +337,21 @@ static ROWS: [Row; 184] = [
     Row::Shows(&[(b"a", 5, 7, 0, Granted(CR))]),
 ];
 
-fn action(ask: Ask) -> Result<Action, Fail> {
-    let no_queue = matches!(ask, Ask::EnqueueNow(..) | Ask::ConvertNow(..));
+/// The value that is given.
+fn given(ask: Ask) -> Option<ValueBytes> {
+    match ask {
+        Ask::Give(_, _, number) | Ask::GiveNow(_, _, number) | Ask::Leave(_, number) => {
+            Some(ValueBytes::new(number.to_be_bytes()))
+        }
+        _ => None,
+    }
+}
+
+fn action(ask: Ask, value: Option<ValueBytes>) -> Result<Action, Fail> {
+    let no_queue = matches!(
+        ask,
+        Ask::EnqueueNow(..) | Ask::ConvertNow(..) | Ask::GiveNow(..)
+    );
     Ok(match ask {
         Ask::Enqueue(number, mode, name) | Ask::EnqueueNow(number, mode, name) => Action::Enqueue {
             lock: lock(number)?,
@@ -335,16 +359,58 @@ fn action(ask: Ask) -> Result<Action, Fail> {
             mode,
             no_queue,
         },
-        Ask::Convert(number, mode) | Ask::ConvertNow(number, mode) => Action::Convert {
+        Ask::Convert(number, mode)
+        | Ask::ConvertNow(number, mode)
+        | Ask::Give(number, mode, _)
+        | Ask::GiveNow(number, mode, _) => Action::Convert {
             lock: lock(number)?,
             mode,
             no_queue,
+            value,
         },
-        Ask::Release(number) => Action::Release(lock(number)?),
+        Ask::Release(number) | Ask::Leave(number, _) => Action::Release {
+            lock: lock(number)?,
+            value,
+        },
         Ask::Cancel(number) => Action::Cancel(lock(number)?),
         Ask::Status(number) => Action::Status(lock(number)?),
         Ask::Purge(host) => Action::Purge(HostNumber::new(host).ok_or("host to purge")?),
     })
+}
+
+/// Whether this reply comes to a step.
+fn is_answered(
+    table: &mut Table,
+    host: u8,
+    client: u8,
+    request: u64,
+    ask: Ask,
+    reply: &Reply,
+) -> Result<bool, Fail> {
+    let command = Command {
+        host: HostNumber::new(host).ok_or("host")?,
+        client: ClientNumber::new(client),
+        request: RequestNumber::new(request).ok_or("request number")?,
+        action: action(ask, given(ask))?,
+    };
+    Ok(table.apply(&command) == *reply)
+}
+
+fn value(number: u128, valid: bool) -> LockValue {
+    let bytes = number.to_be_bytes();
+    LockValue { bytes, valid }
+}
+
+/// The reply of an answer; where that tells a value, it tells this one.
+fn reply(answer: Answer, value: LockValue) -> Reply {
+    let tells = matches!(
+        answer,
+        Answer::Granted | State(Granted(_) | Converting { .. })
+    );
+    Reply {
+        answer,
+        value: if tells { Some(value) } else { None },
+    }
 }
 
 fn is_shown(record: &LockRecord, line: &Line) -> bool {
@@ -354,12 +420,6 @@ fn is_shown(record: &LockRecord, line: &Line) -> bool {
         && record.client.get() == client
         && record.host.get() == host
         && record.state == state
-}
-
-/// Empties the table.
-fn begin_anew(alloc: Global, table: &mut Table) -> Result<(), Fail> {
-    *table = Table::new(alloc)?;
-    Ok(())
 }
 
 /// Whether the table shows these locks, and no others.
@@ -375,23 +435,34 @@ fn shows(alloc: Global, table: &Table, lines: &[Line]) -> Result<bool, Fail> {
     )
 }
 
+/// Whether the table shows these values, and no others.
+fn tells(alloc: Global, table: &Table, values: &[(u128, bool)]) -> Result<bool, Fail> {
+    let picture = table.picture(alloc)?;
+    let shown = picture.values();
+    Ok(
+        shown.len() == values.len()
+            && shown.iter().zip(values).all(|(shown, (number, valid))| *shown
+                == value(*number, *valid)),
+    )
+}
+
 /// Whether a row comes out as it has to.
 fn holds(alloc: Global, table: &mut Table, row: &Row) -> Result<bool, Fail> {
     match *row {
         Row::Script(_) => {
-            begin_anew(alloc, table)?;
+            *table = Table::new(alloc)?;
             Ok(true)
         }
-        Row::Step(host, client, request, ask, reply) => {
-            let command = Command {
-                host: HostNumber::new(host).ok_or("host")?,
-                client: ClientNumber::new(client),
-                request: RequestNumber::new(request).ok_or("request number")?,
-                action: action(ask)?,
-            };
-            Ok(table.apply(&command) == reply)
+        Row::Step(host, client, request, ask, answer) => {
+            let reply = reply(answer, LockValue::ZEROS);
+            is_answered(table, host, client, request, ask, &reply)
+        }
+        Row::Tells(host, client, request, ask, answer, number, valid) => {
+            let reply = reply(answer, value(number, valid));
+            is_answered(table, host, client, request, ask, &reply)
         }
         Row::Shows(lines) => shows(alloc, table, lines),
+        Row::Values(values) => tells(alloc, table, values),
     }
 }
 
@@ -401,8 +472,8 @@ fn rows() -> &'static [Row] {
 }
 
 /// The first row that comes out otherwise.
-fn first_wrong(alloc: Global, table: &mut Table) -> Result<Option<usize>, Fail> {
-    for (at, row) in rows().iter().enumerate() {
+fn first_wrong(alloc: Global, table: &mut Table, rows: &[Row]) -> Result<Option<usize>, Fail> {
+    for (at, row) in rows.iter().enumerate() {
         if !holds(alloc, table, row)? {
             return Ok(Some(at));
         }
@@ -410,13 +481,14 @@ fn first_wrong(alloc: Global, table: &mut Table) -> Result<Option<usize>, Fail> 
     Ok(None)
 }
 
-fn first_wrong_of_all(alloc: Global) -> Result<Option<usize>, Fail> {
+/// The first row that comes out otherwise, over a table of its own.
+pub fn first_wrong_of(alloc: Global, rows: &[Row]) -> Result<Option<usize>, Fail> {
     let mut table = Table::new(alloc)?;
-    first_wrong(alloc, &mut table)
+    first_wrong(alloc, &mut table, rows)
 }
 
 #[test]
 fn scripts_come_out_as_another_program_says(rt: HostRuntime) -> Result<(), Fail> {
-    assert_eq!(rt; first_wrong_of_all(rt.alloc())?, None);
+    assert_eq!(rt; first_wrong_of(rt.alloc(), rows())?, None);
     Ok(())
 }

@@ -1,4 +1,4 @@
-use Rattle.std.proofs.Common.{◌≡◌, ◌-◌, ◌∙◌, ℕ, true, false, slice_get, ap, arith}
+use Rattle.std.proofs.Common.{◌≡◌, ◌-◌, ◌∙◌, true, false, slice_get, ap, arith}
 use Rattle.cluster_tie.proofs.Places.{stands, without}
 use Rattle.cluster_tie.proofs.place.entries_stand.Goals as goal
 

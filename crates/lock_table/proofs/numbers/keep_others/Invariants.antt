@@ -1,5 +1,5 @@
 use Rattle.std.proofs.Common.{◌≡◌, ◌≤◌, not, length}
-use Rattle.lock_table.specs.Apply.{is_through}
+use Rattle.lock_table.specs.Locks.{is_through}
 use Rattle.lock_table.proofs.Partly.{partly}
 use Rattle.lock_table.proofs.numbers.keep_others.Given as goal
 

@@ -1,5 +1,5 @@
 use Rattle.std.proofs.Common.{◌≡◌, ◌<◌, ◌-◌, suc, not, length, get_or, remove, sym, ap, true, false, ◌∙◌, arith}
-use Rattle.lock_table.specs.Apply.{is_through}
+use Rattle.lock_table.specs.Locks.{is_through}
 use Rattle.lock_table.proofs.Partly.{partly, partly_last, partly_kept, partly_left}
 use Rattle.lock_table.proofs.printed.take_through.Goals as goal
 

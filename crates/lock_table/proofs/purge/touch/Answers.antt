@@ -1,5 +1,5 @@
 use Rattle.std.proofs.Common.{arith}
-use Rattle.lock_table.specs.Apply.{is_through}
+use Rattle.lock_table.specs.Locks.{is_through}
 use Rattle.lock_table.proofs.Keyed.{kept_fewer}
 use Rattle.lock_table.proofs.purge.touch.Goals as goal
 

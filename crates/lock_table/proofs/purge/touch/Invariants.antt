@@ -1,7 +1,7 @@
 use Rattle.std.proofs.Common.{◌≡◌, ◌≤◌, ◌+◌, ◌||◌, ℕ, List, drop, length, vec_len, vec_capacity}
 use Rattle.std.specs.List.{filter, list_any}
 use Rattle.lock_command.specs.Name.{same_name}
-use Rattle.lock_table.specs.Apply.{is_through}
+use Rattle.lock_table.specs.Locks.{is_through}
 use Rattle.lock_table.specs.Locks.{is_on}
 use Rattle.lock_table.proofs.purge.touch.Given as goal
 

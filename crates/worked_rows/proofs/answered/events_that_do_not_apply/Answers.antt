@@ -1,5 +1,5 @@
 use Rattle.std.proofs.Common.{refl}
-use Rattle.worked_rows.proofs.Beside.{played, said_by}
+use Rattle.worked_rows.proofs.Played.{played, said_by}
 use Rattle.worked_rows.proofs.answered.events_that_do_not_apply.Goals as goal
 
 pub returns-clause-none : goal.returns-clause-none

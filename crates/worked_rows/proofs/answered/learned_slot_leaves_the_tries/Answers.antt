@@ -1,5 +1,5 @@
 use Rattle.std.proofs.Common.{refl}
-use Rattle.worked_rows.proofs.Beside.{played, said_by}
+use Rattle.worked_rows.proofs.Played.{played, said_by}
 use Rattle.worked_rows.proofs.answered.learned_slot_leaves_the_tries.Goals as goal
 
 pub returns : goal.returns

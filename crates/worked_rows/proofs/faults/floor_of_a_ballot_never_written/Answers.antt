@@ -1,6 +1,6 @@
 use Rattle.std.proofs.Common.{refl}
 use Rattle.worked_rows.specs.Answers.{vote_on, floor_of}
-use Rattle.worked_rows.proofs.Beside.{played, said_by, stands}
+use Rattle.worked_rows.proofs.Played.{played, said_by, stands}
 use Rattle.worked_rows.proofs.faults.floor_of_a_ballot_never_written.Goals as goal
 
 pub returns-clause-unwritten : goal.returns-clause-unwritten

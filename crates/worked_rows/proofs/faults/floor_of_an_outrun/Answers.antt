@@ -1,6 +1,6 @@
 use Rattle.std.proofs.Common.{refl}
 use Rattle.worked_rows.specs.Answers.{vote_on}
-use Rattle.worked_rows.proofs.Beside.{played, said_by, stands}
+use Rattle.worked_rows.proofs.Played.{played, said_by, stands}
 use Rattle.worked_rows.proofs.faults.floor_of_an_outrun.Goals as goal
 
 pub returns-clause-answers : goal.returns-clause-answers

@@ -1,6 +1,6 @@
 use Rattle.std.proofs.Common.{refl}
 use Rattle.worked_rows.specs.Answers.{locks_of}
-use Rattle.worked_rows.proofs.Beside.{played, said_by, stands}
+use Rattle.worked_rows.proofs.Played.{played, said_by, stands}
 use Rattle.worked_rows.proofs.locks.one_has_to_wait.Goals as goal
 
 pub returns-clause-answers : goal.returns-clause-answers

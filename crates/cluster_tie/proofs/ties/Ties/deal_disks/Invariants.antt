@@ -1,4 +1,4 @@
-use Rattle.std.proofs.Common.{◌≡◌, ◌++◌, [], ℕ, ◌+◌, ◌-◌, ◌≤◌, true, false, vec_len}
+use Rattle.std.proofs.Common.{◌≡◌, ◌++◌, [], ◌+◌, ◌-◌, ◌≤◌, true, vec_len}
 use Rattle.std.specs.Vec.{vec_capacity}
 use Rattle.cluster_tie.specs.Parts.{AreFresh}
 use Rattle.cluster_tie.specs.View.{keeper, parts_from, host_parts}

@@ -1,8 +1,8 @@
-use Rattle.std.proofs.Common.{◌≡◌, ◌++◌, [], ℕ, ◌+◌, ◌-◌, ◌≤◌, true, false, vec_len}
+use Rattle.std.proofs.Common.{◌≡◌, ◌++◌, [], ◌+◌, ◌-◌, ◌≤◌, false, vec_len}
 use Rattle.std.specs.Vec.{vec_capacity}
 use Rattle.torn_block.specs.declared.layout.TheConstants.{HOSTS}
 use Rattle.cluster_tie.specs.Parts.{AreFresh}
-use Rattle.cluster_tie.specs.View.{keeper, parts_from, host_parts}
+use Rattle.cluster_tie.specs.View.{keeper, parts_from}
 use Rattle.cluster_tie.proofs.ties.Ties.deal_hosts.Given as goal
 
 abbrev pub invariant-loop-k : goal.invariant-loop-k

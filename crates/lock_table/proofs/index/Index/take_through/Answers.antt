@@ -1,7 +1,7 @@
 use Rattle.std.proofs.Common.{List, not, sym, subst}
 use Rattle.std.specs.List.{filter}
 use Rattle.lock_table.specs.declared.record.LockRecord.{LockRecord}
-use Rattle.lock_table.specs.Apply.{is_through}
+use Rattle.lock_table.specs.Locks.{is_through}
 use Rattle.lock_table.specs.Indexed.{IsIndexed}
 use Rattle.lock_table.proofs.Shown.{indexed_filter, shown_sorted}
 use Rattle.lock_table.proofs.index.Index.take_through.Goals as goal

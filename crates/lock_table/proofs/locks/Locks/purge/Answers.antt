@@ -1,7 +1,7 @@
 use Rattle.std.proofs.Common.{◌≡◌, ℕ, not, List, map, sym, ap, subst, ◌∙◌}
 use Rattle.std.specs.List.{filter, list_any}
 use Rattle.lock_table.specs.declared.record.LockRecord.{LockRecord}
-use Rattle.lock_table.specs.Apply.{is_through}
+use Rattle.lock_table.specs.Locks.{is_through}
 use Rattle.lock_table.specs.Locks.{is_on, settled_all, IsDistinct}
 use Rattle.lock_table.proofs.Numbered.{IsDistinct-filter}
 use Rattle.lock_table.proofs.Behave.{any-names}

@@ -2,7 +2,7 @@ use Rattle.std.proofs.Common.{◌≡◌, ◌∙◌, ◌++◌, ◌∷◌, [], Non
 use Rattle.attempt.specs.Heard.{Fits}
 use Rattle.phases.specs.Calls.{heard_of}
 use Rattle.migration.specs.Heard.{at_first}
-use Rattle.migration.specs.Kept.{LeadsTo, answer_of, call_due}
+use Rattle.migration.specs.Kept.{LeadsTo, device_answer, call_due}
 use Rattle.migration.specs.declared.notes.Notes.{Notes}
 use Rattle.migration.proofs.Fitting.{length-schedule}
 use Rattle.migration.proofs.Going.{leads_on, bounded}
@@ -18,5 +18,5 @@ returns-clause-leads c s answers leads =
 
 pub returns-clause-bound : goal.returns-clause-bound
 returns-clause-bound c s answers leads =
-    let all = bounded (at_first s) (answers ++ answer_of c.args.heard.now ∷ []) (returns-clause-leads c s answers leads).history in
+    let all = bounded (at_first s) (answers ++ device_answer c.args.heard.now ∷ []) (returns-clause-leads c s answers leads).history in
     omega (arith, all, length-schedule s)

@@ -3,7 +3,7 @@ use Rattle.std.proofs.Math.ListN.{set}
 use Rattle.disk.specs.Simulated.{SimState, outcome}
 use Rattle.phases.specs.Calls.{device_call_of, call_of_need, IsWithin}
 use Rattle.migration.specs.Events.{Step, run}
-use Rattle.migration.specs.Kept.{answer_of}
+use Rattle.migration.specs.Kept.{device_answer}
 use Rattle.migration.specs.Running.{LeadsTo}
 use Rattle.migration.specs.declared.notes.Notes.{Notes}
 use Rattle.migration.proofs.Stepping.{brings_none, none_stepped, none_due, over_due, due_next, disk_below, disk_is, long_disk, steps}
@@ -21,8 +21,8 @@ returns-then-is_some c s events leads =
     brings_none s events Step (Some c.in-Some.migrator) sims
     (none_stepped s (run s events) (over_due s events c.in-Some.migrator sims here c.end.result (c.end.ensures.end s) (sym c.is_some.ensures ∙ c.if-is_some.true))) here
 
-pub make-heard-requires-clause-range : goal.make-heard-requires-clause-range
-make-heard-requires-clause-range c =
+pub answer_of-heard-requires : goal.answer_of-heard-requires
+answer_of-heard-requires c =
     let need = c.call-need.result in
     let sims = c.args.self.now.disks.items in
     let r = c.requires in
@@ -39,6 +39,6 @@ returns c s events leads =
     let below = disk_below s events n sims here need.disk c.call-need.ensures.disk in
     let stood = disk_is s (run s events) sims need.disk c.from.result c.index_mut.result.now here.shows c.from.ensures below c.index_mut.ensures.value in
     let due = due_next s events n sims here (call_of_need need) (c.call-need.ensures.next s) in
-    subst (λ (k : ℕ). LeadsTo s (events ++ Step ∷ []) (Some c.hear.new.self) (set sims k c.make-heard.new.disk)) (sym c.from.ensures)
-    (steps s events n sims here need.disk call due below c.make-heard.new.disk (answer_of c.make-heard.result) (c.make-heard.ensures ∙ ap (λ (x : SimState). outcome x call) stood) c.hear.new.self
+    subst (λ (k : ℕ). LeadsTo s (events ++ Step ∷ []) (Some c.hear.new.self) (set sims k c.answer_of-heard.new.disk)) (sym c.from.ensures)
+    (steps s events n sims here need.disk call due below c.answer_of-heard.new.disk (device_answer c.answer_of-heard.result) (c.answer_of-heard.ensures.gave ∙ ap (λ (x : SimState). outcome x call) stood) c.hear.new.self
     (c.hear.ensures.leads s here.comes.answers here.comes.leads))

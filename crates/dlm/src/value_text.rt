@@ -1,0 +1,49 @@
+ghost use Rattle.std.specs.Prelude.{◌≡◌};
+ghost use Rattle.hex.specs.Hex.{encode_lower};
+ghost use Rattle.dlm.specs.Text.{told_value};
+
+use lock_table::LockValue;
+use std::fmt;
+
+/// The value of a name: its digits, and a word where it is not valid.
+#[derive(Clone, Copy)]
+pub struct ValueText(pub LockValue);
+
+impl fmt::Display for ValueText {
+    ghost use Rattle.std.specs.Prelude.{Some};
+    ghost use Rattle.inspect.specs.Text.{value_text};
+
+    ghost output = { λ v. Some (value_text v.0) };
+
+    fn fmt<W: fmt::Write>(&self, f: &mut fmt::Formatter<W>) -> fmt::Result {
+        let digits = digits_of(&self.0);
+        let Ok(digits) = str::from_utf8(&digits) else {
+            return Err(fmt::Error);
+        };
+        if self.0.valid {
+            f.write_str(digits)
+        } else {
+            write!(f, "{digits} invalid")
+        }
+    }
+}
+
+/// The digits of a value, in lower case.
+fn digits_of(value: &LockValue) -> [u8; 32]
+    ensures { result ≡ encode_lower value.now.bytes }
+{
+    let bytes = value.bytes;
+    let mut digits = [0; 32];
+    let _ = hex::encode_to_slice(bytes.as_slice(), &mut digits);
+    digits
+}
+
+/// The value of a reply, unless it is zeros that are valid.
+pub fn told_value(value: Option<LockValue>) -> Option<LockValue>
+    ensures { result ≡ told_value value }
+{
+    match value {
+        Some(value) if value != LockValue::ZEROS => Some(value),
+        _ => None,
+    }
+}

@@ -1,0 +1,287 @@
+ghost use Rattle.std.specs.Prelude.{◌≡◌, ◌≤◌, ◌<◌, IfOk, IfSome, [], length, filter, not, ◌&&◌, Bool, true, false, ℕ, List, IsTrue, Some};
+ghost use Rattle.std.specs.List.{list_any};
+ghost use Rattle.std.specs.List.Sorted.{IsSorted};
+ghost use Rattle.lock_table.specs.declared.values.NamedValue.{NamedValue};
+ghost use Rattle.lock_table.specs.Locks.{is_on, is_through};
+ghost use Rattle.lock_table.specs.declared.record.LockState.{LockState};
+ghost use Rattle.lock_table.specs.Apply.{done, replied};
+ghost use Rattle.lock_table.specs.Picture.{printed_cmp, HasZeros};
+ghost use Rattle.lock_table.specs.Placed.{in_order};
+ghost use Rattle.lock_table.specs.Stored.{is_of, value_in, put_value, put_if, AreNamed, IsValued, spoiled_by, entry_of, entry_by, gives_nothing, is_locked, may_lose, asked_lock, asked_value_by};
+ghost use Rattle.lock_table.specs.Values.{zeros, invalid, spoiled, is_writer, is_downward, values_after, returned};
+
+use crate::locks::{LOCKS, Locks};
+use crate::record::{LockRecord, LockState};
+use crate::reply::{Answer, LockValue, Reply};
+use crate::shelf::Shelf;
+use crate::values;
+use crate::values::{NamedValue, Values, store};
+use lock_command::{Action, ClientNumber, HostNumber, LockName, ValueBytes};
+use lock_modes::{Mode, downward, writes_alone};
+use std::alloc::{AllocError, Global};
+use std::marker::Model;
+
+/// The locks, and the values of their names.
+#[derive(Drop)]
+pub struct ValuedLocks {
+    locks: Locks,
+    values: Values,
+}
+
+impl Model for ValuedLocks {
+    ghost use Rattle.lock_table.specs.Stored.{Valued, IsValued};
+
+    ghost Value = { Valued };
+
+    ghost view = { λ valued. record { locks = valued.locks; entries = valued.values } };
+
+    ghost invariant = { λ valued. IsValued valued.locks valued.values };
+}
+
+/// The value that a reply returns: the name's value or none, by what the command did.
+fn returned(answer: Answer, value: LockValue) -> Option<LockValue>
+    ensures { result ≡ returned answer value }
+{
+    match answer {
+        Answer::Granted | Answer::State(LockState::Granted(_) | LockState::Converting { .. }) =>
+            Some(value),
+        _ => None,
+    }
+}
+
+/// Whether a release of a lock in this state stores the value that it is given.
+fn is_writer(state: LockState) -> bool
+    ensures { result ≡ is_writer state }
+{
+    match state {
+        LockState::Granted(mode) | LockState::Converting { held: mode, .. } => writes_alone(mode),
+        LockState::Waiting(_) => false,
+    }
+}
+
+fn is_downward(wanted: Mode, state: LockState) -> bool
+    ensures { result ≡ is_downward wanted state }
+{
+    match state {
+        LockState::Granted(mode) | LockState::Converting { held: mode, .. } => {
+            downward(mode, wanted)
+        }
+        LockState::Waiting(_) => false,
+    }
+}
+
+/// Whether a purge of the host takes this lock away, and the lock holds PW or EX.
+fn is_spoilt(lock: &LockRecord, host: HostNumber) -> bool
+    ensures { result ≡ (is_through host lock.now && is_writer lock.now.state) }
+{
+    lock.host == host && is_writer(lock.state)
+}
+
+/// Whether an action changes no value: it gives none and is not a purge.
+fn gives_nothing(action: &Action) -> bool
+    ensures { result ≡ gives_nothing action.now }
+{
+    match action {
+        Action::Convert { value, .. } | Action::Release { value, .. } => value.is_none(),
+        Action::Purge(_) => false,
+        Action::Enqueue { .. } | Action::Cancel(_) | Action::Status(_) => true,
+    }
+}
+
+/// Makes the value of a name invalid.
+fn invalidate(values: &mut Values, name: LockName)
+    requires named { AreNamed values.old }
+    requires room { length (filter (λ o. not (is_of name o)) values.old) < LOCKS }
+    ensures { values.new ≡ put_value values.old (record { name = name; value = invalid (value_in values.old name) }) }
+{
+    let now = values::value_in(values.entries(), name);
+    let bytes = now.bytes;
+    let value = LockValue {
+        bytes,
+        valid: false,
+    };
+    store(values, NamedValue { name, value });
+}
+
+/// For a purge: makes the value of each name invalid that loses a lock holding PW or EX.
+fn spoil(values: &mut Values, locks: &Shelf, count: usize, host: HostNumber)
+    requires count { count ≡ length locks.now }
+    requires few { count ≤ LOCKS }
+    requires valued { IsValued locks.now values.old }
+    ensures values { value_in values.new ≡ spoiled (value_in values.old) locks.now host }
+    ensures valued { IsValued locks.now values.new }
+{
+    if !locks.has_writer() {
+        return;
+    }
+    for at in 0..count {
+        let record = locks.get(at);
+        if is_spoilt(record, host) {
+            invalidate(values, record.name);
+        }
+    }
+}
+
+/// Makes those values invalid that a command makes invalid: only a purge does.
+fn spoil_by(values: &mut Values, locks: &Shelf, action: &Action)
+    requires valued { IsValued locks.now values.old }
+    ensures values { value_in values.new ≡ spoiled_by (value_in values.old) locks.now action.now }
+    ensures valued { IsValued locks.now values.new }
+    ensures few { length locks.now ≤ LOCKS }
+{
+    let count = locks.len();
+    if let Action::Purge(host) = action {
+        spoil(values, locks, count, *host);
+    }
+}
+
+/// The entry that stores the given bytes as the value of the lock's name, if bytes are given and `lets` is true.
+fn entry_of(lets: bool, own: &LockRecord, value: &Option<ValueBytes>) -> Option<NamedValue>
+    ensures { (f : LockState → Bool) → lets ≡ f own.now.state → result ≡ entry_of f (Some own.now) value.now }
+{
+    let given = (*value)?;
+    if !lets {
+        return None;
+    }
+    let bytes = given.get();
+    Some(NamedValue {
+        name: own.name,
+        value: LockValue { bytes, valid: true },
+    })
+}
+
+/// The value that a command stores, by its answer, if it stores one.
+fn entry_by(found: &Option<LockRecord>, action: &Action, answer: &Answer) -> Option<NamedValue>
+    ensures { result ≡ entry_by found.now action.now answer.now }
+{
+    let Some(own) = found else {
+        return None;
+    };
+    match action {
+        Action::Convert { mode, value, .. } if answer.is_granted() => {
+            entry_of(is_downward(*mode, own.state), own, value)
+        }
+        Action::Release { value, .. } if answer.is_released() => {
+            entry_of(is_writer(own.state), own, value)
+        }
+        _ => None,
+    }
+}
+
+/// Stores what a command stores that was answered so.
+fn store_by(values: &mut Values, found: &Option<LockRecord>, action: &Action, answer: &Answer)
+    requires named { AreNamed values.old }
+    requires room { (e : NamedValue) → entry_by found.now action.now answer.now ≡ Some e → length (filter (λ o. not (is_of e.name o)) values.old) < LOCKS }
+    ensures { values.new ≡ put_if values.old (entry_by found.now action.now answer.now) }
+{
+    if let Some(new) = entry_by(found, action, answer) {
+        store(values, new);
+    }
+}
+
+/// Lets the values of names go that a command took the last lock of.
+fn keep_locked(values: &mut Values, locks: &Shelf, found: &Option<LockRecord>, action: &Action)
+    requires sorted { IsSorted printed_cmp locks.now }
+    requires named { AreNamed values.old }
+    requires others { (name : List ℕ) → list_any (is_of name) values.old ≡ true → may_lose found.now action.now name ≡ false → list_any (is_on name) locks.now ≡ true }
+    ensures { values.new ≡ filter (is_locked locks.now) values.old }
+{
+    match action {
+        Action::Release { .. } | Action::Cancel(_) => {
+            if let Some(own) = found {
+                values::keep_if_locked(values, locks, own.name);
+            }
+        }
+        Action::Purge(_) => values::keep_locked(values, locks),
+        _ => {}
+    }
+}
+
+impl ValuedLocks {
+    /// No locks, and room for the most that there may be.
+    pub fn new(alloc: Global) -> Result<Self, AllocError>
+        ensures locks { IfOk result (λ valued. valued.locks ≡ []) }
+        ensures entries { IfOk result (λ valued. valued.entries ≡ []) }
+    {
+        Ok(ValuedLocks {
+            locks: Locks::new(alloc)?,
+            values: Values::new(alloc)?,
+        })
+    }
+
+    /// The locks in printed order.
+    pub fn printed(&self) -> &Shelf
+        ensures locks { result.now ≡ self.now.locks }
+    {
+        self.locks.printed()
+    }
+
+    /// The names under which something was stored, rising.
+    pub fn entries(&self) -> &[NamedValue]
+        ensures entries { result.now ≡ self.now.entries }
+        ensures named { AreNamed self.now.entries }
+    {
+        self.values.entries()
+    }
+
+    /// The lock that a command is about, unless it is to be a new one.
+    fn asked_lock(&self, action: &Action) -> Option<LockRecord>
+        ensures found { result ≡ asked_lock self.now.locks action.now }
+    {
+        match action {
+            Action::Convert { lock, .. }
+            | Action::Release { lock, .. }
+            | Action::Cancel(lock)
+            | Action::Status(lock) => self.locks.lock_in(*lock),
+            _ => None,
+        }
+    }
+
+    /// Whether nothing is stored, and the action leaves it so.
+    fn leaves_zeros(&self, action: &Action) -> bool
+        ensures empty { IsTrue result → self.now.entries ≡ [] }
+        ensures nothing { IsTrue result → gives_nothing action.now ≡ true }
+    {
+        self.values.is_empty() && gives_nothing(action)
+    }
+
+    /// The value of the name that a command is about, which had a lock, or is to have one.
+    fn asked_value(&self, found: &Option<LockRecord>, action: &Action) -> LockValue
+        ensures value { result ≡ asked_value_by (value_in self.now.entries) found.now action.now }
+    {
+        match action {
+            Action::Enqueue { name, .. } => values::value_in(self.values.entries(), *name),
+            Action::Convert { .. } | Action::Status(_) => match found {
+                Some(own) => values::value_in(self.values.entries(), own.name),
+                None => LockValue::ZEROS,
+            },
+            _ => LockValue::ZEROS,
+        }
+    }
+
+    /// Does what a client asks through a host.
+    pub fn act(&mut self, host: HostNumber, client: ClientNumber, action: &Action) -> Reply
+        ensures locks { self.new.locks ≡ in_order printed_cmp (done self.old.locks host client action.now).locks }
+        ensures values { value_in self.new.entries ≡ values_after (value_in self.old.entries) self.old.locks (done self.old.locks host client action.now).locks action.now (done self.old.locks host client action.now).answer }
+        ensures zeros { HasZeros self.new.locks (value_in self.new.entries) }
+        ensures reply { result ≡ replied (value_in self.new.entries) self.old.locks action.now (done self.old.locks host client action.now).answer }
+    {
+        if self.leaves_zeros(action) {
+            let answer = self.locks.act(host, client, action);
+            return Reply {
+                answer,
+                value: returned(answer, LockValue::ZEROS),
+            };
+        }
+        let found = self.asked_lock(action);
+        spoil_by(&mut self.values, self.locks.printed(), action);
+        let answer = self.locks.act(host, client, action);
+        store_by(&mut self.values, &found, action, &answer);
+        keep_locked(&mut self.values, self.locks.printed(), &found, action);
+        let value = self.asked_value(&found, action);
+        Reply {
+            answer,
+            value: returned(answer, value),
+        }
+    }
+}

@@ -1,0 +1,10 @@
+# A release of an EX lock stores its value, and an NL lock keeps it.
+cluster 1 4
+start 4
+submit 4 1 enqueue 2 5 2 NL b
+step 4 17
+submit 4 1 enqueue 1 6 4 EX b
+step 4 17
+submit 4 1 release 1 7 4 value 01010101010101010101010101010101
+step 4 17
+show 4
