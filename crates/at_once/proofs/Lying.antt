@@ -9,7 +9,7 @@ use Rattle.torn_block.specs.Layout.{cluster_version}
 use Rattle.torn_block.specs.declared.layout.TheConstants.{HOSTS, ROW_LENGTH, HEADER_LENGTH}
 use Rattle.torn_block.specs.declared.write_steps.WriteCall.TheVariants.{CloseGate, SyncClosed, PutBody, SyncBody, OpenGate, SyncOpened}
 use Rattle.paxos_block.specs.Places.{BeatOf, VoteOf, row_place, image_length, IsWithin}
-use Rattle.paxos_block.specs.Row.{SeenBlock}
+use Rattle.paxos_block.specs.Row.{DecodedBlock}
 use Rattle.attempt.specs.Calls.{Kind, Attaching, Syncing, Reading, Putting, Opening}
 use Rattle.attempt.specs.Answers.{Heard, Answers, on, row_in, seen_block}
 use Rattle.attempt.specs.NextCall.{call_by, with_disk}
@@ -150,7 +150,7 @@ module _ (slots : ℕ) (s : beat.Setup) where
 own_long : (s : mark.Setup) (a : List Heard) → s.host < HOSTS → TellsVotes a → IsLong (mark.own_block s a).says.inp
 own_long s a below votes = by (row_in Opening a) refl
   where
-    by : (o : Option (List SeenBlock)) → row_in Opening a ≡ o → IsLong (seen_block o s.host).says.inp
+    by : (o : Option (List DecodedBlock)) → row_in Opening a ≡ o → IsLong (seen_block o s.host).says.inp
     by None is = tt
     by (Some row) is = (votes_told cluster_version Opening a row votes is s.host below).long
 

@@ -4,7 +4,7 @@ use Rattle.std.proofs.Common.{ℕ, ◌≡◌, Bool, true, false, true≢false, O
 use Rattle.std.proofs.lemmas.List.{map-append}
 use Rattle.disk.specs.Disk as device
 use Rattle.disk.specs.Disk.{Answer}
-use Rattle.paxos_block.specs.Row.{row_said}
+use Rattle.paxos_block.specs.Row.{decoded_row}
 use Rattle.heartbeat.specs.Beat.{area_said}
 use Rattle.attempt.specs.Heard.{Answered, on, heard_by}
 use Rattle.attempt.specs.Answers as attempt_answers
@@ -137,7 +137,7 @@ module _ (losses : ℕ → ℕ) where
       hears_so : (t : Doing) → hears c h l (Some (doing_later t)) (record { disk = d; heard = heard_as told }) ≡ memory_later (hears c h m (Some t) (record { disk = d; heard = heard_as answer }))
       hears_so t =
           let x : attempt_answers.Answered = record { disk = d; heard = heard_as answer } in
-          (λ i. goes_by c l (record { operation = t.operation; tries = t.tries; heard = more_later row_said t.heard d answer i }) (setup_of c h m t.operation))
+          (λ i. goes_by c l (record { operation = t.operation; tries = t.tries; heard = more_later decoded_row t.heard d answer i }) (setup_of c h m t.operation))
           ∙ going (with_heard t x) (setup_of c h m t.operation)
 
       beat_so : (heard : List beat_answers.Answered) → hears_beat c h l (Some (all_later losses heard)) (record { disk = d; heard = beat_answers.heard_as told })
@@ -156,7 +156,7 @@ module _ (losses : ℕ → ℕ) where
           let x : attempt_answers.Answered = record { disk = d; heard = heard_as answer } in
           let all = t.heard ++ x ∷ [] in
           let s = marking_of c h m t.slot in
-          (λ i. marking_by l (record { slot = t.slot; heard = more_later row_said t.heard d answer i }) (mark.status s (on (more_later row_said t.heard d answer i))))
+          (λ i. marking_by l (record { slot = t.slot; heard = more_later decoded_row t.heard d answer i }) (mark.status s (on (more_later decoded_row t.heard d answer i))))
           ∙ (λ i. marking_by l (marking_later (marking_with t x)) (mark.status s (on_later losses all i)))
           ∙ (λ i. marking_by l (marking_later (marking_with t x)) (mark_status_later s losses (on all) i))
           ∙ marks_so (marking_with t x) (mark.status s (on all))

@@ -9,9 +9,9 @@ use Rattle.torn_block.specs.declared.write_steps.WriteCall.TheVariants.{CloseGat
 use Rattle.torn_block.specs.Stage.{Write128, call_of}
 use Rattle.paxos_block.specs.layouts.Saying.{Said}
 use Rattle.paxos_block.specs.layouts.Places.{place_of, VoteOf, row_place}
-use Rattle.paxos_block.specs.layouts.Row.{SeenBlock}
+use Rattle.paxos_block.specs.layouts.Row.{DecodedBlock}
 use Rattle.paxos_block.specs.layouts.Saying.{body_saying}
-use Rattle.paxos_block.specs.layouts.Votes.{says_in, others_top_of}
+use Rattle.paxos_block.specs.layouts.Votes.{says_in, highest_mbal_of_others}
 use Rattle.paxos_block.proofs.VoteLemmas.{greatest_is_greatest}
 use Rattle.attempt.specs.Calls.{Phase, Opening, One, Two, start, goal, Kind, Reading, Putting, seventeen}
 use Rattle.attempt.specs.Answers.{Heard, Done, Told, Answered, Answers, on, is_bad, all_good, told, row_in, later_row, last_row, seen_block, boot_of}
@@ -92,7 +92,7 @@ says_same s Two f g same =
     ap₂ (λ (b : ℕ) (value : Option (List ℕ)). record { mbal = b; bal = b; inp = Some (some_value value); mark = false }) (ballot_same s f g opening) (proposal_same s f g opening one)
 
 -- a row without a greater mbal of another host
-below_top : (v : Version) (host : ℕ) (row : List SeenBlock) (g : ℕ) → g < hosts_in v → g ≢ host → (says_in row g).mbal ≤ others_top_of v host row
+below_top : (v : Version) (host : ℕ) (row : List DecodedBlock) (g : ℕ) → g < hosts_in v → g ≢ host → (says_in row g).mbal ≤ highest_mbal_of_others v host row
 below_top v host row g l other =
     let one = greatest_is_greatest (hosts_in v) (λ k. if k == host then 0 else (says_in row k).mbal) g l in
     let here : (if g == host then 0 else (says_in row g).mbal) ≡ (says_in row g).mbal = by_eq (λ t. (if t then 0 else (says_in row g).mbal) ≡ (says_in row g).mbal) g host (λ same. absurd (other same)) (λ off. refl) in
@@ -184,7 +184,7 @@ module _ (s : Setup) (heard : List Answered) (is : IsHistory s heard) (d : ℕ) 
     write_at i l =
         let last : last_row (on (prior i) d) ≡ last_row (take (start p) (f d)) = ap last_row (at_step i l).at.before ∙ still i l in
         let same : says_for s p (on (prior i)) ≡ says_for s p f = says_same s p (on (prior i)) f (λ q before e. sym ((lasts_from i l).rows q before e)) in
-        ap₂ (λ (row : Option (List SeenBlock)) (says : Said). record { version = s.version; place = place_of s.version (VoteOf s.slot s.host); block = (seen_block row s.host).bytes; body = body_saying s.version says }) last same
+        ap₂ (λ (row : Option (List DecodedBlock)) (says : Said). record { version = s.version; place = place_of s.version (VoteOf s.slot s.host); block = (seen_block row s.host).bytes; body = body_saying s.version says }) last same
 
     -- and under this one boot number
     boot_at : (i : ℕ) → i ≤ 6 → boot_of (on (prior i) d) ≡ boot_of (f d)
@@ -208,7 +208,7 @@ module _ (s : Setup) (heard : List Answered) (is : IsHistory s heard) (d : ℕ) 
     read_at = at_step 6 (omega arith)
 
     -- it read a sound row
-    row_read : (row : List SeenBlock) × (read_at.answer ≡ Told (Some row))
+    row_read : (row : List DecodedBlock) × (read_at.answer ≡ Told (Some row))
     row_read = reading_tells (boot_of (on (prior 6) d)) (row_place s.version s.slot) (row_length s.version) read_at.answer (fits_at 6 (omega arith) Reading (reads_at p puts)) (is_good 6 (omega arith))
 
     -- which is the row of the phase
@@ -236,7 +236,7 @@ module _ (s : Setup) (heard : List Answered) (is : IsHistory s heard) (d : ℕ) 
           is_row = row_is;
           none_above = λ g l other. (
               let top = below_top s.version s.host row_read.0 g l other in
-              let here : others_top s.version s.host (row_in p (f d)) ≡ others_top_of s.version s.host row_read.0 = ap (others_top s.version s.host) row_is in
+              let here : others_top s.version s.host (row_in p (f d)) ≡ highest_mbal_of_others s.version s.host row_read.0 = ap (others_top s.version s.host) row_is in
               let all = greatest_is_greatest s.disks (λ e. others_top s.version s.host (row_in p (f e))) d below in
               let less = ltb-false (ballot s f) (others_mbal s p f) calm in
               omega arith);

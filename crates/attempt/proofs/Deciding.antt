@@ -3,7 +3,7 @@ use Rattle.std.specs.Prelude.{if◌then◌else◌}
 use Rattle.std.proofs.Common.{ℕ, zero, suc, ◌<◌, ◌≤◌, ◌≡◌, ◌⊎◌, inl, inr, Bool, true, false, Option, Some, None, List, refl, ap, ◌∙◌, arith}
 use Rattle.torn_block.specs.Layout.{hosts_in}
 use Rattle.paxos_block.specs.layouts.Saying.{Said}
-use Rattle.paxos_block.specs.layouts.Row.{SeenBlock}
+use Rattle.paxos_block.specs.layouts.Row.{DecodedBlock}
 use Rattle.paxos_block.specs.layouts.Votes.{says_in, marked, marked_below}
 use Rattle.attempt.specs.Calls.{Opening}
 use Rattle.attempt.specs.Answers.{Answers, row_in}
@@ -29,12 +29,12 @@ is_marked : (says : Said) (value : List ℕ) → marked says ≡ Some value → 
 is_marked says value some = marked_by says value says.mark refl some
 
 -- a host whose block in a row is marked
-record HasMark (hosts : ℕ) (row : List SeenBlock) (value : List ℕ) : Type 0 where
+record HasMark (hosts : ℕ) (row : List DecodedBlock) (value : List ℕ) : Type 0 where
   host : ℕ
   below : host < hosts
   is : IsMarked (says_in row host) value
 
-mark_in : (hosts : ℕ) (row : List SeenBlock) (n : ℕ) (value : List ℕ) → n ≤ hosts → marked_below row n ≡ Some value → HasMark hosts row value
+mark_in : (hosts : ℕ) (row : List DecodedBlock) (n : ℕ) (value : List ℕ) → n ≤ hosts → marked_below row n ≡ Some value → HasMark hosts row value
 mark_in hosts row zero value l some = absurd (cc)
 mark_in hosts row (suc n) value l some =
     elim (one_of (marked_below row n) (marked (says_in row n)) value some) [
@@ -43,7 +43,7 @@ mark_in hosts row (suc n) value l some =
     ]
 
 module _ (s : Setup) (f : Answers) (value : List ℕ) where
-  mark_on : (d : ℕ) → d < s.disks → (o : Option (List SeenBlock)) → row_in Opening (f d) ≡ o → decided_in s.version o ≡ Some value → IsMarkSeen s f value
+  mark_on : (d : ℕ) → d < s.disks → (o : Option (List DecodedBlock)) → row_in Opening (f d) ≡ o → decided_in s.version o ≡ Some value → IsMarkSeen s f value
   mark_on d l None read some = absurd (cc)
   mark_on d l (Some row) read some =
       let has = mark_in (hosts_in s.version) row (hosts_in s.version) value (omega arith) some in

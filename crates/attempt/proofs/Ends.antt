@@ -3,8 +3,8 @@ use Rattle.std.specs.Prelude.{nat_lt, if◌then◌else◌}
 use Rattle.std.proofs.Common.{ℕ, zero, suc, ◌*◌, ◌<◌, ◌≤◌, ◌≡◌, ◌≢◌, ◌==◌, inl, inr, true, false, Option, Some, None, List, length, is_some, refl, sym, subst, ap, ◌∙◌, arith}
 use Rattle.std.proofs.lemmas.Bool.{cases_lt, both_ways, lt-ltb, ltb-true}
 use Rattle.torn_block.specs.Layout.{Version, hosts_in}
-use Rattle.paxos_block.specs.layouts.Row.{SeenBlock}
-use Rattle.paxos_block.specs.layouts.Votes.{says_in, greatest, top_of, others_top_of}
+use Rattle.paxos_block.specs.layouts.Row.{DecodedBlock}
+use Rattle.paxos_block.specs.layouts.Votes.{says_in, greatest, highest_mbal, highest_mbal_of_others}
 use Rattle.paxos_block.proofs.VoteLemmas.{above, greatest_is_greatest}
 use Rattle.attempt.specs.Calls.{Phase, Opening, One, Two, start, goal}
 use Rattle.attempt.specs.Answers.{Heard, Answered, Answers, on, row_in}
@@ -84,7 +84,7 @@ greatest_bound zero g most each = omega arith
 greatest_bound (suc n) g most each = omega (arith, greatest_bound n g most (λ e l. each e (omega arith)), each n (omega arith))
 
 -- where a phase has a row, so has the opening
-has_passed : (p : Phase) (a : List Heard) (row : List SeenBlock) → IsDisk a → goal Opening < goal p → row_in p a ≡ Some row → is_some (row_in Opening a) ≡ true
+has_passed : (p : Phase) (a : List Heard) (row : List DecodedBlock) → IsDisk a → goal Opening < goal p → row_in p a ≡ Some row → is_some (row_in Opening a) ≡ true
 has_passed p a row disk later is =
     elim (cases_lt (length a) (goal p)) [
       | inl short ↦ (let none = row_none p a short in absurd (cc))
@@ -92,22 +92,22 @@ has_passed p a row disk later is =
     ]
 
 -- whichever the phase is
-opened_too : (p : Phase) (a : List Heard) (row : List SeenBlock) → IsDisk a → row_in p a ≡ Some row → is_some (row_in Opening a) ≡ true
+opened_too : (p : Phase) (a : List Heard) (row : List DecodedBlock) → IsDisk a → row_in p a ≡ Some row → is_some (row_in Opening a) ≡ true
 opened_too Opening a row disk is = ap is_some is
 opened_too One a row disk is = has_passed One a row disk (omega arith) is
 opened_too Two a row disk is = has_passed Two a row disk (omega arith) is
 
 -- a row that has the mbal of other hosts that an earlier one had has no greater mbal of another host
-rest_top : (v : Version) (host : ℕ) (first later : List SeenBlock) → ((g : ℕ) → g ≢ host → (says_in later g).mbal ≡ (says_in first g).mbal) → others_top_of v host later ≤ top_of v first
+rest_top : (v : Version) (host : ℕ) (first later : List DecodedBlock) → ((g : ℕ) → g ≢ host → (says_in later g).mbal ≡ (says_in first g).mbal) → highest_mbal_of_others v host later ≤ highest_mbal v first
 rest_top v host first later same =
-    greatest_bound (hosts_in v) (λ g. if g == host then 0 else (says_in later g).mbal) (top_of v first) (λ g l.
-    by_eq (λ t. (if t then 0 else (says_in later g).mbal) ≤ top_of v first) g host (λ e. omega arith) (λ off.
-    let one : (says_in first g).mbal ≤ top_of v first = greatest_is_greatest (hosts_in v) (λ k. (says_in first k).mbal) g l in
-    subst (λ (mbal : ℕ). mbal ≤ top_of v first) (sym (same g off)) one))
+    greatest_bound (hosts_in v) (λ g. if g == host then 0 else (says_in later g).mbal) (highest_mbal v first) (λ g l.
+    by_eq (λ t. (if t then 0 else (says_in later g).mbal) ≤ highest_mbal v first) g host (λ e. omega arith) (λ off.
+    let one : (says_in first g).mbal ≤ highest_mbal v first = greatest_is_greatest (hosts_in v) (λ k. (says_in first k).mbal) g l in
+    subst (λ (mbal : ℕ). mbal ≤ highest_mbal v first) (sym (same g off)) one))
 
 module _ (s : Setup) (f : Answers) (reached : IsReached s f) (rest : OthersRest s f) (p : Phase) where
   -- what a phase's row of a disk shows of other hosts, its opening's row showed
-  top_row : (d : ℕ) (o first : Option (List SeenBlock)) → row_in p (f d) ≡ o → row_in Opening (f d) ≡ first → others_top s.version s.host o ≤ top_in s.version first
+  top_row : (d : ℕ) (o first : Option (List DecodedBlock)) → row_in p (f d) ≡ o → row_in Opening (f d) ≡ first → others_top s.version s.host o ≤ top_in s.version first
   top_row d None first is before = omega arith
   top_row d (Some later) (Some first) is before = rest_top s.version s.host first later (λ g off. rest p d g first later before is off)
   top_row d (Some later) None is before = absurd (both_ways (is_some (row_in Opening (f d))) (ap is_some before) (opened_too p (f d) later (reached.disk d) is))

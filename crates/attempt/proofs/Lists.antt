@@ -3,7 +3,7 @@ use Rattle.std.specs.Prelude.{option_and_then, slice_get}
 use Rattle.std.specs.List.{list_any}
 use Rattle.std.proofs.Common.{ℕ, zero, suc, pred, ◌+◌, ◌<◌, ◌≤◌, ◌≡◌, ◌≢◌, ◌==◌, ◌&&◌, ◌||◌, not, inl, inr, Bool, true, false, Option, Some, None, List, [], ◌∷◌, ◌++◌, length, refl, sym, ap, ◌∙◌, arith, length-append}
 use Rattle.std.proofs.lemmas.Bool.{and_right, eqb-true, eqb-false, cases_lt}
-use Rattle.paxos_block.specs.layouts.Row.{SeenBlock}
+use Rattle.paxos_block.specs.layouts.Row.{DecodedBlock}
 use Rattle.attempt.specs.Calls.{Phase, Opening, One, Two, goal}
 use Rattle.attempt.specs.Heard as hearing
 use Rattle.attempt.specs.Answers.{Heard, Booted, Done, Told, Fault, is_bad, all_good, told, row_in, later_row, last_row, boot_of}
@@ -65,12 +65,12 @@ bad_more a x bad = good_more a x ∙ and_right (all_good a) (not (is_bad x)) (ap
 -- THE ROW READ LAST
 
 -- of three rows the last is read last
-later_assoc : (first second third : Option (List SeenBlock)) → later_row first (later_row second third) ≡ later_row (later_row first second) third
+later_assoc : (first second third : Option (List DecodedBlock)) → later_row first (later_row second third) ≡ later_row (later_row first second) third
 later_assoc first second None = refl
 later_assoc first second (Some row) = refl
 
 -- of one row that one is
-later_first : (o : Option (List SeenBlock)) → later_row o None ≡ later_row None o
+later_first : (o : Option (List DecodedBlock)) → later_row o None ≡ later_row None o
 later_first None = refl
 later_first (Some row) = refl
 

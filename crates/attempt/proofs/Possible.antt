@@ -7,7 +7,7 @@ use Rattle.torn_block.specs.declared.layout.TheConstants.{LAST_SEQUENCE}
 use Rattle.torn_block.specs.declared.write_steps.WriteCall.{WriteCall}
 use Rattle.torn_block.specs.declared.write_steps.WriteCall.TheVariants.{CloseGate, SyncClosed, PutBody, SyncBody, OpenGate, SyncOpened}
 use Rattle.torn_block.specs.Stage.{Write128, call_of}
-use Rattle.paxos_block.specs.layouts.Row.{SeenBlock}
+use Rattle.paxos_block.specs.layouts.Row.{DecodedBlock}
 use Rattle.paxos_block.specs.layouts.Votes.{says_in}
 use Rattle.attempt.specs.Calls.{Phase, Opening, start, goal, Kind, Attaching, Syncing, Reading, Putting, seventeen}
 use Rattle.attempt.specs.Answers.{Heard, Booted, Done, Told, Fault, Answered, Answers, on, all_good, told, later_row, last_row, seen_block}
@@ -57,7 +57,7 @@ plain_good (Told None ∷ a) plain = absurd (plain.0)
 plain_good (Fault fault ∷ a) plain = absurd (plain.0)
 
 -- a row of theirs is empty
-told_plain : (x : Heard) (row : List SeenBlock) → IsPlain x → told x ≡ Some row → row ≡ []
+told_plain : (x : Heard) (row : List DecodedBlock) → IsPlain x → told x ≡ Some row → row ≡ []
 told_plain (Booted boot) row plain is = absurd (cc)
 told_plain Done row plain is = absurd (cc)
 told_plain (Told (Some [])) row plain is = let both : Some [] ≡ Some row = is in cc
@@ -66,24 +66,24 @@ told_plain (Told None) row plain is = absurd plain
 told_plain (Fault fault) row plain is = absurd plain
 
 -- in any phase
-row_plain : (a : List Heard) (n : ℕ) (row : List SeenBlock) → ArePlain a → option_and_then told (slice_get a n) ≡ Some row → row ≡ []
+row_plain : (a : List Heard) (n : ℕ) (row : List DecodedBlock) → ArePlain a → option_and_then told (slice_get a n) ≡ Some row → row ≡ []
 row_plain [] n row plain is = absurd (cc)
 row_plain (x ∷ a) zero row plain is = told_plain x row plain.0 is
 row_plain (x ∷ a) (suc n) row plain is = row_plain a n row plain.1 is
 
 -- so is the row read last
-later_plain : (first second : Option (List SeenBlock)) (row : List SeenBlock) → ((r : List SeenBlock) → first ≡ Some r → r ≡ []) → ((r : List SeenBlock) → second ≡ Some r → r ≡ []) → later_row first second ≡ Some row → row ≡ []
+later_plain : (first second : Option (List DecodedBlock)) (row : List DecodedBlock) → ((r : List DecodedBlock) → first ≡ Some r → r ≡ []) → ((r : List DecodedBlock) → second ≡ Some r → r ≡ []) → later_row first second ≡ Some row → row ≡ []
 later_plain first None row one two is = one row is
 later_plain first (Some last) row one two is = two row is
 
-last_plain : (a : List Heard) (row : List SeenBlock) → ArePlain a → last_row a ≡ Some row → row ≡ []
+last_plain : (a : List Heard) (row : List DecodedBlock) → ArePlain a → last_row a ≡ Some row → row ≡ []
 last_plain [] row plain is = absurd (cc)
 last_plain (x ∷ a) row plain is = later_plain (told x) (last_row a) row (λ r at. told_plain x r plain.0 at) (λ r at. last_plain a r plain.1 at) is
 
 -- and its own block is unspent
-empty_unspent : (o : Option (List SeenBlock)) (host : ℕ) → ((row : List SeenBlock) → o ≡ Some row → row ≡ []) → nat_le LAST_SEQUENCE (seen_block o host).sequence ≡ false
+empty_unspent : (o : Option (List DecodedBlock)) (host : ℕ) → ((row : List DecodedBlock) → o ≡ Some row → row ≡ []) → nat_le LAST_SEQUENCE (seen_block o host).sequence ≡ false
 empty_unspent None host plain = refl
-empty_unspent (Some row) host plain = ap (λ (r : List SeenBlock). nat_le LAST_SEQUENCE (seen_block (Some r) host).sequence) (plain row refl)
+empty_unspent (Some row) host plain = ap (λ (r : List DecodedBlock). nat_le LAST_SEQUENCE (seen_block (Some r) host).sequence) (plain row refl)
 
 -- a disk of plain answers answers well
 plain_well : (s : Setup) (a : List Heard) → ArePlain a → AnswersWell s a
@@ -98,7 +98,7 @@ plain_rest : (s : Setup) (f : Answers) → ((d : ℕ) → ArePlain (f d)) → Ot
 plain_rest s f plain p d host first later before is other =
     let one = row_plain (f d) (pred (goal Opening)) first (plain d) before in
     let two = row_plain (f d) (pred (goal p)) later (plain d) is in
-    ap (λ (row : List SeenBlock). (says_in row host).mbal) (two ∙ sym one)
+    ap (λ (row : List DecodedBlock). (says_in row host).mbal) (two ∙ sym one)
 
 -- ONE AFTER THE OTHER
 
@@ -117,7 +117,7 @@ to_is_plain Reading = tt
 to_is_plain (Putting p call) = tt
 
 -- it fits
-done_fits : (call : WriteCall) (w : Write128) (boot : ℕ) → Fits {A = List SeenBlock} (call_of call w boot) Done
+done_fits : (call : WriteCall) (w : Write128) (boot : ℕ) → Fits {A = List DecodedBlock} (call_of call w boot) Done
 done_fits CloseGate w boot = tt
 done_fits SyncClosed w boot = tt
 done_fits PutBody w boot = tt

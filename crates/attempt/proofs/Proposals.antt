@@ -4,7 +4,7 @@ use Rattle.std.proofs.Common.{ℕ, zero, suc, ◌<◌, ◌≤◌, ◌≡◌, ◌
 use Rattle.std.proofs.lemmas.Bool.{cases_eq, ltb-false, ltb-true}
 use Rattle.torn_block.specs.Layout.{Version, hosts_in}
 use Rattle.paxos_block.specs.layouts.Saying.{Said}
-use Rattle.paxos_block.specs.layouts.Row.{SeenBlock, blank}
+use Rattle.paxos_block.specs.layouts.Row.{DecodedBlock, blank}
 use Rattle.paxos_block.specs.layouts.Saying.{IsVoteOf}
 use Rattle.paxos_block.specs.layouts.Votes.{says_in, later_of, latest_below}
 use Rattle.attempt.specs.Calls.{Opening, One}
@@ -39,7 +39,7 @@ later_above a y = go (nat_lt a.bal y.bal) refl
 
 -- THE LATEST OF A ROW
 
-module _ (hosts host : ℕ) (row : List SeenBlock) (before : Said) where
+module _ (hosts host : ℕ) (row : List DecodedBlock) (before : Said) where
   -- it is the vote before, or one of another host's in the row
   latest_either : (P : Said → Type 0) → P before → ((g : ℕ) → g < hosts → g ≢ host → P (says_in row g)) → (n : ℕ) → n ≤ hosts → P (latest_below host row n before)
   latest_either P first each zero l = first
@@ -76,7 +76,7 @@ module _ (s : Setup) (f : Answers) where
   IsFrom vote = (vote ≡ blank) ⊎ IsSeenVote s f vote
 
   -- the opening's row of a disk brings a vote that was seen
-  own_on : (d : ℕ) → d < s.disks → (o : Option (List SeenBlock)) → row_in Opening (f d) ≡ o → (before : Said) → IsFrom before → IsFrom (own_in s.host before o)
+  own_on : (d : ℕ) → d < s.disks → (o : Option (List DecodedBlock)) → row_in Opening (f d) ≡ o → (before : Said) → IsFrom before → IsFrom (own_in s.host before o)
   own_on d l None is before from = from
   own_on d l (Some row) is before from =
       later_either IsFrom before (says_in row s.host) from (inr (inl (record { disk = d; row = row; inside = l; read = is; is = refl })))
@@ -87,7 +87,7 @@ module _ (s : Setup) (f : Answers) where
   own_from (suc n) l = own_on n (omega arith) (row_in Opening (f n)) refl (own_below s f n) (own_from n (omega arith))
 
   -- a row of phase 1 brings votes that were seen
-  best_on : (d : ℕ) → d < s.disks → (o : Option (List SeenBlock)) → row_in One (f d) ≡ o → (before : Said) → IsFrom before → IsFrom (best_in s.version s.host before o)
+  best_on : (d : ℕ) → d < s.disks → (o : Option (List DecodedBlock)) → row_in One (f d) ≡ o → (before : Said) → IsFrom before → IsFrom (best_in s.version s.host before o)
   best_on d l None is before from = from
   best_on d l (Some row) is before from =
       latest_either (hosts_in s.version) s.host row before IsFrom from
@@ -100,22 +100,22 @@ module _ (s : Setup) (f : Answers) where
   best_from (suc n) l = best_on n (omega arith) (row_in One (f n)) refl (best_below s f n) (best_from n (omega arith))
 
   -- a row of the opening lowers no bal
-  own_rises : (o : Option (List SeenBlock)) (before : Said) → before.bal ≤ (own_in s.host before o).bal
+  own_rises : (o : Option (List DecodedBlock)) (before : Said) → before.bal ≤ (own_in s.host before o).bal
   own_rises None before = omega arith
   own_rises (Some row) before = (later_above before (says_in row s.host)).first
 
   -- nor does one of phase 1
-  best_rises : (o : Option (List SeenBlock)) (before : Said) → before.bal ≤ (best_in s.version s.host before o).bal
+  best_rises : (o : Option (List DecodedBlock)) (before : Said) → before.bal ≤ (best_in s.version s.host before o).bal
   best_rises None before = omega arith
   best_rises (Some row) before = latest_rises (hosts_in s.version) s.host row before (hosts_in s.version)
 
   -- the own latest vote is not below one that was seen
-  own_above : (n d : ℕ) (row : List SeenBlock) → d < n → row_in Opening (f d) ≡ Some row → (says_in row s.host).bal ≤ (own_below s f n).bal
+  own_above : (n d : ℕ) (row : List DecodedBlock) → d < n → row_in Opening (f d) ≡ Some row → (says_in row s.host).bal ≤ (own_below s f n).bal
   own_above zero d row l is = absurd (omega arith)
   own_above (suc n) d row l is = elim (cases_eq d n) [
     | inl here ↦
         (let at : row_in Opening (f n) ≡ Some row = ap (λ (k : ℕ). row_in Opening (f k)) (sym here) ∙ is in
-        subst (λ (o : Option (List SeenBlock)). (says_in row s.host).bal ≤ (own_in s.host (own_below s f n) o).bal) (sym at) (later_above (own_below s f n) (says_in row s.host)).second)
+        subst (λ (o : Option (List DecodedBlock)). (says_in row s.host).bal ≤ (own_in s.host (own_below s f n) o).bal) (sym at) (later_above (own_below s f n) (says_in row s.host)).second)
     | inr there ↦ omega (arith, own_above n d row (omega arith) is, own_rises (row_in Opening (f n)) (own_below s f n))
   ]
 
@@ -125,12 +125,12 @@ module _ (s : Setup) (f : Answers) where
   own_under (suc n) = omega (arith, own_under n, best_rises (row_in One (f n)) (best_below s f n))
 
   -- or below another host's that was seen
-  best_above : (n d g : ℕ) (row : List SeenBlock) → d < n → row_in One (f d) ≡ Some row → g < hosts_in s.version → g ≢ s.host → (says_in row g).bal ≤ (best_below s f n).bal
+  best_above : (n d g : ℕ) (row : List DecodedBlock) → d < n → row_in One (f d) ≡ Some row → g < hosts_in s.version → g ≢ s.host → (says_in row g).bal ≤ (best_below s f n).bal
   best_above zero d g row l is below other = absurd (omega arith)
   best_above (suc n) d g row l is below other = elim (cases_eq d n) [
     | inl here ↦
         (let at : row_in One (f n) ≡ Some row = ap (λ (k : ℕ). row_in One (f k)) (sym here) ∙ is in
-        subst (λ (o : Option (List SeenBlock)). (says_in row g).bal ≤ (best_in s.version s.host (best_below s f n) o).bal) (sym at) (latest_above (hosts_in s.version) s.host row (best_below s f n) (hosts_in s.version) g below other))
+        subst (λ (o : Option (List DecodedBlock)). (says_in row g).bal ≤ (best_in s.version s.host (best_below s f n) o).bal) (sym at) (latest_above (hosts_in s.version) s.host row (best_below s f n) (hosts_in s.version) g below other))
     | inr there ↦ omega (arith, best_above n d g row (omega arith) is below other, best_rises (row_in One (f n)) (best_below s f n))
   ]
 

@@ -5,7 +5,7 @@ use Rattle.disk.specs.Disk as device
 use Rattle.torn_block.specs.declared.write_steps.WriteCall.{WriteCall}
 use Rattle.torn_block.specs.declared.write_steps.WriteCall.TheVariants.{CloseGate, SyncClosed, PutBody, SyncBody, OpenGate, SyncOpened}
 use Rattle.torn_block.specs.Stage.{Write128, call_of}
-use Rattle.paxos_block.specs.layouts.Row.{SeenBlock}
+use Rattle.paxos_block.specs.layouts.Row.{DecodedBlock}
 use Rattle.attempt.specs.Calls.{Phase, Kind, seventeen}
 use Rattle.attempt.specs.Answers.{Heard, Booted, Done, Told, Fault, Answered, Answers, on, is_bad, told}
 use Rattle.attempt.specs.Setup.{Setup}
@@ -44,7 +44,7 @@ pub next_is : (s : Setup) (f : Answers) (p : Phase) (d : ℕ) (kind : Kind) → 
 next_is s f p d kind due is = ap (next_in s f) due ∙ ap (λ (o : Option Kind). with_disk d (option_map (call_by s d f) o)) is
 
 -- a good answer to a read tells a sound row
-pub reading_tells : (boot at len : ℕ) (x : Heard) → Fits (device.Read boot at len) x → is_bad x ≡ false → (row : List SeenBlock) × (x ≡ Told (Some row))
+pub reading_tells : (boot at len : ℕ) (x : Heard) → Fits (device.Read boot at len) x → is_bad x ≡ false → (row : List DecodedBlock) × (x ≡ Told (Some row))
 reading_tells boot at len (Booted number) fits good = absurd fits
 reading_tells boot at len Done fits good = absurd fits
 reading_tells boot at len (Told (Some row)) fits good = (row, refl)
@@ -60,7 +60,7 @@ attaching_tells (Told None) fits good = absurd (true≢false good)
 attaching_tells (Fault fault) fits good = absurd (true≢false good)
 
 -- an answer to a call of a write is no boot number
-no_boot : (call : WriteCall) (w : Write128) (boot number : ℕ) → ¬ Fits {A = List SeenBlock} (call_of call w boot) (Booted number)
+no_boot : (call : WriteCall) (w : Write128) (boot number : ℕ) → ¬ Fits {A = List DecodedBlock} (call_of call w boot) (Booted number)
 no_boot CloseGate w boot number fits = fits
 no_boot SyncClosed w boot number fits = fits
 no_boot PutBody w boot number fits = fits
@@ -69,7 +69,7 @@ no_boot OpenGate w boot number fits = fits
 no_boot SyncOpened w boot number fits = fits
 
 -- nor a row
-no_row : (call : WriteCall) (w : Write128) (boot : ℕ) (row : Option (List SeenBlock)) → ¬ Fits (call_of call w boot) (Told row)
+no_row : (call : WriteCall) (w : Write128) (boot : ℕ) (row : Option (List DecodedBlock)) → ¬ Fits (call_of call w boot) (Told row)
 no_row CloseGate w boot row fits = fits
 no_row SyncClosed w boot row fits = fits
 no_row PutBody w boot row fits = fits

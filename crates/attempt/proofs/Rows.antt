@@ -2,8 +2,8 @@
 use Rattle.std.proofs.Common.{ℕ, zero, suc, ◌+◌, ◌<◌, ◌≤◌, ◌≡◌, ◌≢◌, max, inl, inr, Option, Some, None, List, [], ◌∷◌, ◌++◌, length, is_some, refl, sym, ap, ap₂, ◌∙◌, arith}
 use Rattle.std.proofs.lemmas.Bool.{cases_eq}
 use Rattle.paxos_block.specs.layouts.Saying.{Said}
-use Rattle.paxos_block.specs.layouts.Row.{SeenBlock}
-use Rattle.paxos_block.specs.layouts.Votes.{says_in, greatest, top_of, others_top_of, later_of, latest_in, marked_in, ballot_above}
+use Rattle.paxos_block.specs.layouts.Row.{DecodedBlock}
+use Rattle.paxos_block.specs.layouts.Votes.{says_in, greatest, highest_mbal, highest_mbal_of_others, later_of, latest_in, marked_in, ballot_above}
 use Rattle.paxos_block.proofs.VoteLemmas.{greatest_same}
 use Rattle.attempt.specs.Calls.{Phase, Opening, One, goal}
 use Rattle.attempt.specs.Answers.{Heard, Told, Answers, told, row_in, more}
@@ -36,7 +36,7 @@ module _ (s : Setup) (f g : Answers) where
   -- and what is decided
   pub decided_same_below : AreSameRows Opening f g → (n : ℕ) → decided_below s f n ≡ decided_below s g n
   decided_same_below same zero = refl
-  decided_same_below same (suc n) = ap₂ (λ (before : Option (List ℕ)) (row : Option (List SeenBlock)). or_else before (decided_in s.version row)) (decided_same_below same n) (same n)
+  decided_same_below same (suc n) = ap₂ (λ (before : Option (List ℕ)) (row : Option (List DecodedBlock)). or_else before (decided_in s.version row)) (decided_same_below same n) (same n)
 
   pub decided_same : AreSameRows Opening f g → decided s f ≡ decided s g
   decided_same same = decided_same_below same s.disks
@@ -76,8 +76,8 @@ module _ (f : Answers) (d : ℕ) (x : Heard) where
 -- A FOLD OVER DISKS
 
 -- At disk d a row comes in where there was none, and behind d there are none.
-module _ {A : Type 0} (step : A → Option (List SeenBlock) → A) (none : (a : A) → step a None ≡ a)
-    (rows new_rows : ℕ → Option (List SeenBlock)) (d disks : ℕ) (row : Option (List SeenBlock))
+module _ {A : Type 0} (step : A → Option (List DecodedBlock) → A) (none : (a : A) → step a None ≡ a)
+    (rows new_rows : ℕ → Option (List DecodedBlock)) (d disks : ℕ) (row : Option (List DecodedBlock))
     (is : new_rows d ≡ row) (there : (e : ℕ) → e ≢ d → new_rows e ≡ rows e) (behind : (e : ℕ) → d ≤ e → e < disks → rows e ≡ None)
     (fold new_fold : ℕ → A) (at_zero : new_fold 0 ≡ fold 0) (at_suc : (n : ℕ) → fold (suc n) ≡ step (fold n) (rows n)) (new_suc : (n : ℕ) → new_fold (suc n) ≡ step (new_fold n) (new_rows n)) where
   fold_before : (n : ℕ) → n ≤ d → new_fold n ≡ fold n
@@ -115,7 +115,7 @@ best_none s f zero none = refl
 best_none s f (suc n) none =
     ap (best_in s.version s.host (best_below s f n)) (none n (omega arith)) ∙ best_none s f n (λ e l. none e (omega arith))
 
-module _ (s : Setup) (f : Answers) (d : ℕ) (row : List SeenBlock) where
+module _ (s : Setup) (f : Answers) (d : ℕ) (row : List DecodedBlock) where
   -- the answers with this row
   abbrev new : Answers
   new = more f d (Told (Some row))
@@ -136,7 +136,7 @@ module _ (s : Setup) (f : Answers) (d : ℕ) (row : List SeenBlock) where
   ]
 
   -- what is greatest of all rows takes this one in
-  greatest_takes : (p : Phase) (of_row : Option (List SeenBlock) → ℕ) → of_row None ≡ 0 → IsLast s p d f
+  greatest_takes : (p : Phase) (of_row : Option (List DecodedBlock) → ℕ) → of_row None ≡ 0 → IsLast s p d f
       → greatest s.disks (λ e. of_row (row_in p (new e))) ≡ max (greatest s.disks (λ e. of_row (row_in p (f e)))) (of_row (Some row))
   greatest_takes p of_row zeroed is =
       fold_takes (λ (a : ℕ) o. max a (of_row o)) (λ a. omega (arith, zeroed)) (λ e. row_in p (f e)) (λ e. row_in p (new e)) d s.disks (Some row)
@@ -145,11 +145,11 @@ module _ (s : Setup) (f : Answers) (d : ℕ) (row : List SeenBlock) where
       s.disks is.below (omega arith)
 
   -- a row of the opening: the greatest mbal is the old one or one of the row's
-  pub highest_takes : IsLast s Opening d f → highest s new ≡ max (highest s f) (top_of s.version row)
+  pub highest_takes : IsLast s Opening d f → highest s new ≡ max (highest s f) (highest_mbal s.version row)
   highest_takes is = let top = greatest_takes Opening (top_in s.version) refl is in omega (arith, top)
 
   -- a row of phase 1 or 2: so is that of other hosts
-  pub others_takes : (p : Phase) → IsLast s p d f → others_mbal s p new ≡ max (others_mbal s p f) (others_top_of s.version s.host row)
+  pub others_takes : (p : Phase) → IsLast s p d f → others_mbal s p new ≡ max (others_mbal s p f) (highest_mbal_of_others s.version s.host row)
   others_takes p is = greatest_takes p (others_top s.version s.host) refl is
 
   -- a row of the opening: the own latest vote is the old one or the row's
@@ -163,7 +163,7 @@ module _ (s : Setup) (f : Answers) (d : ℕ) (row : List SeenBlock) where
   -- a row of the opening: what is decided was before, or the row shows it
   pub decided_takes : IsLast s Opening d f → decided s new ≡ or_else (decided s f) (marked_in s.version row)
   decided_takes is =
-      fold_takes (λ (before : Option (List ℕ)) (o : Option (List SeenBlock)). or_else before (decided_in s.version o)) or_none (λ e. row_in Opening (f e)) (λ e. row_in Opening (new e)) d s.disks (Some row)
+      fold_takes (λ (before : Option (List ℕ)) (o : Option (List DecodedBlock)). or_else before (decided_in s.version o)) or_none (λ e. row_in Opening (f e)) (λ e. row_in Opening (new e)) d s.disks (Some row)
       (row_here Opening is) (row_there Opening) (from_here Opening is)
       (decided_below s f) (decided_below s new) refl (λ n. refl) (λ n. refl)
       s.disks is.below (omega arith)

@@ -12,7 +12,7 @@ use Rattle.torn_block.specs.layouts.Damage.{block_of}
 use Rattle.torn_block.proofs.DamageLaws.{length-body_of}
 use Rattle.paxos_block.specs.layouts.Saying.{Said}
 use Rattle.paxos_block.specs.layouts.Ballot.{IsBallotOf}
-use Rattle.paxos_block.specs.layouts.Row.{IsSaid, SeenBlock, seen_in, seen_at, row_said}
+use Rattle.paxos_block.specs.layouts.Row.{IsSaid, DecodedBlock, seen_in, seen_at, decoded_row}
 use Rattle.paxos_block.specs.layouts.Saying.{zeros, MaySay, heading, value_bytes, body_saying}
 use Rattle.paxos_block.specs.layouts.Votes.{says_in, later_of, latest_below}
 use Rattle.paxos_block.proofs.RowLemmas.{length-block_of, said_sees, said_is_said}
@@ -82,11 +82,11 @@ said_long v host block says (Some value) long is said =
     long_by v says.inp (let all = value_long v block value long is in let body = ap length said.2 in omega (arith, body_parts v, body_is v says, all, body))
 
 -- a sound row of a disk shows votes
-pub row_shows : (v : Version) → (bytes : List ℕ) (row : List SeenBlock) → length bytes ≡ row_length v → row_said v bytes ≡ Some row → ShowsVotes v row
+pub row_shows : (v : Version) → (bytes : List ℕ) (row : List DecodedBlock) → length bytes ≡ row_length v → decoded_row v bytes ≡ Some row → ShowsVotes v row
 row_shows v bytes row long said g below =
     let seen : seen_at row g ≡ seen_in v (block_of v g bytes) = said_sees v bytes row g below said in
     let is : IsSaid v g (value_of v (seen_at row g).bytes) (says_in row g) = said_is_said v bytes row g below said in
-    let size : length (seen_at row g).bytes ≡ block_length v = ap (λ (b : SeenBlock). length b.bytes) seen ∙ length-block_of v g bytes below long in
+    let size : length (seen_at row g).bytes ≡ block_length v = ap (λ (b : DecodedBlock). length b.bytes) seen ∙ length-block_of v g bytes below long in
     record {
       vote = vote_in v g (value_of v (seen_at row g).bytes) (says_in row g) is;
       long = said_long v g (seen_at row g).bytes (says_in row g) (value_of v (seen_at row g).bytes) size refl is;
@@ -97,7 +97,7 @@ row_shows v bytes row long said g below =
 pub votes_none : (v : Version) → TellsVotes v []
 votes_none v n row is = absurd (cc)
 
-pub votes_more : (v : Version) → (a : List Heard) (x : Heard) → TellsVotes v a → ((row : List SeenBlock) → x ≡ Told (Some row) → ShowsVotes v row) → TellsVotes v (a ++ x ∷ [])
+pub votes_more : (v : Version) → (a : List Heard) (x : Heard) → TellsVotes v a → ((row : List DecodedBlock) → x ≡ Told (Some row) → ShowsVotes v row) → TellsVotes v (a ++ x ∷ [])
 votes_more v a x before last n row is = elim (cases_lt n (length a)) [
   | inl old ↦ before n row (sym (get_front a x n old) ∙ is)
   | inr new ↦
@@ -107,13 +107,13 @@ votes_more v a x before last n row is = elim (cases_lt n (length a)) [
       ]
 ]
 
-pub told_is : (o : Option Heard) (row : List SeenBlock) → option_and_then told o ≡ Some row → o ≡ Some (Told (Some row))
+pub told_is : (o : Option Heard) (row : List DecodedBlock) → option_and_then told o ≡ Some row → o ≡ Some (Told (Some row))
 told_is None row is = absurd (cc)
-told_is (Some (Told (Some seen))) row is = let same : seen ≡ row = cc in ap (λ (r : List SeenBlock). Some (Told (Some r))) same
+told_is (Some (Told (Some seen))) row is = let same : seen ≡ row = cc in ap (λ (r : List DecodedBlock). Some (Told (Some r))) same
 told_is (Some (Told None)) row is = absurd (cc)
 told_is (Some other) row is = absurd (cc)
 
-pub row_told : (v : Version) → (p : Phase) (a : List Heard) (row : List SeenBlock) → TellsVotes v a → row_in p a ≡ Some row → ShowsVotes v row
+pub row_told : (v : Version) → (p : Phase) (a : List Heard) (row : List DecodedBlock) → TellsVotes v a → row_in p a ≡ Some row → ShowsVotes v row
 row_told v p a row votes is = votes (pred (goal p)) row (told_is (slice_get a (pred (goal p))) row is)
 
 -- WHAT FOLLOWS FROM THEM
@@ -125,7 +125,7 @@ later_long_by v best says false is first second = rw is first
 later_long : (v : Version) → (best says : Said) → IsLong v best.inp → IsLong v says.inp → IsLong v (later_of best says).inp
 later_long v best says first second = later_long_by v best says (nat_lt best.bal says.bal) refl first second
 
-latest_long : (v : Version) → (host : ℕ) (row : List SeenBlock) (n : ℕ) (best : Said) → n ≤ hosts_in v → ShowsVotes v row → IsLong v best.inp → IsLong v (latest_below host row n best).inp
+latest_long : (v : Version) → (host : ℕ) (row : List DecodedBlock) (n : ℕ) (best : Said) → n ≤ hosts_in v → ShowsVotes v row → IsLong v best.inp → IsLong v (latest_below host row n best).inp
 latest_long v host row zero best all shows is = is
 latest_long v host row (suc g) best all shows is = go (g == host) (latest_long v host row g best (omega arith) shows is)
   where
@@ -134,7 +134,7 @@ latest_long v host row (suc g) best all shows is = go (g == host) (latest_long v
     go false before = later_long v (latest_below host row g best) (says_in row g) before (shows g (omega arith)).long
 
 module _ (s : Setup) (f : Answers) (host_below : s.host < hosts_in s.version) (votes : (d : ℕ) → TellsVotes s.version (f d)) where
-  own_step : (d : ℕ) (best : Said) (o : Option (List SeenBlock)) → row_in Opening (f d) ≡ o → top_in s.version o ≤ ballot s f → IsVoteBy s.version s.host (ballot s f) best → IsVoteBy s.version s.host (ballot s f) (own_in s.host best o)
+  own_step : (d : ℕ) (best : Said) (o : Option (List DecodedBlock)) → row_in Opening (f d) ≡ o → top_in s.version o ≤ ballot s f → IsVoteBy s.version s.host (ballot s f) best → IsVoteBy s.version s.host (ballot s f) (own_in s.host best o)
   own_step d best None is low before = before
   own_step d best (Some row) is low before =
       let shown = row_told s.version Opening (f d) row (votes d) is s.host host_below in
@@ -155,7 +155,7 @@ module _ (s : Setup) (f : Answers) (host_below : s.host < hosts_in s.version) (v
   pub own_votes : IsVoteBy s.version s.host (ballot s f) (own s f)
   own_votes = own_so s.disks (omega arith)
 
-  best_step : (d : ℕ) (best : Said) (o : Option (List SeenBlock)) → row_in One (f d) ≡ o → IsLong s.version best.inp → IsLong s.version (best_in s.version s.host best o).inp
+  best_step : (d : ℕ) (best : Said) (o : Option (List DecodedBlock)) → row_in One (f d) ≡ o → IsLong s.version best.inp → IsLong s.version (best_in s.version s.host best o).inp
   best_step d best None is before = before
   best_step d best (Some row) is before = latest_long s.version s.host row (hosts_in s.version) best (omega arith) (row_told s.version One (f d) row (votes d) is) before
 

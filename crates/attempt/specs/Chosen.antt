@@ -1,8 +1,8 @@
 -- When a value is chosen, by what one attempt has heard.
 use Rattle.std.specs.Prelude.{◌≡◌, ℕ, Bool, true, false, not, List, nat_lt, Option, Some, None}
 use Rattle.torn_block.specs.Layout.{Version}
-use Rattle.paxos_block.specs.layouts.Row.{SeenBlock}
-use Rattle.paxos_block.specs.layouts.Votes.{others_top_of}
+use Rattle.paxos_block.specs.layouts.Row.{DecodedBlock}
+use Rattle.paxos_block.specs.layouts.Votes.{highest_mbal_of_others}
 use Rattle.attempt.specs.Calls.{Two}
 use Rattle.attempt.specs.Answers.{Answers, row_in}
 use Rattle.attempt.specs.Setup.{Setup}
@@ -11,9 +11,9 @@ use Rattle.attempt.specs.Proposal.{ballot}
 use Rattle.attempt.specs.Standing.{HasProposal}
 
 -- a row was read, and no other host's mbal in it is above the ballot
-abbrev pub accepts_in : Version → ℕ → ℕ → Option (List SeenBlock) → Bool
+abbrev pub accepts_in : Version → ℕ → ℕ → Option (List DecodedBlock) → Bool
 accepts_in v host ballot None = false
-accepts_in v host ballot (Some row) = not (nat_lt ballot (others_top_of v host row))
+accepts_in v host ballot (Some row) = not (nat_lt ballot (highest_mbal_of_others v host row))
 
 -- so it is with the row of phase 2, the disk's seventeenth answer: behind the vote, none was faster
 abbrev pub accepts : Setup → Answers → ℕ → Bool

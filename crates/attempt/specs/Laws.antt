@@ -1,6 +1,6 @@
 -- What the laws of an attempt speak of: disks that answer well, hosts that leave a slot alone, and being answered.
 use Rattle.std.specs.Prelude.{◌≡◌, ◌≢◌, ◌*◌, ◌<◌, ℕ, Bool, true, false, List, length, Some}
-use Rattle.paxos_block.specs.layouts.Row.{SeenBlock}
+use Rattle.paxos_block.specs.layouts.Row.{DecodedBlock}
 use Rattle.paxos_block.specs.layouts.Votes.{says_in}
 use Rattle.attempt.specs.Calls.{Phase, Opening}
 use Rattle.attempt.specs.Answers.{Heard, Answered, Answers, on, all_good, row_in}
@@ -31,7 +31,7 @@ MostAnswerWell s f = OnMost s (λ d. AnswersWell s (f d))
 -- a later row of a disk shows no other ballot of another host than the opening's row there did: nobody else promised or voted there
 abbrev pub OthersRest : Setup → Answers → Type 0
 OthersRest s f =
-    (p : Phase) (d host : ℕ) (first later : List SeenBlock) → row_in Opening (f d) ≡ Some first → row_in p (f d) ≡ Some later → host ≢ s.host → (says_in later host).mbal ≡ (says_in first host).mbal
+    (p : Phase) (d host : ℕ) (first later : List DecodedBlock) → row_in Opening (f d) ≡ Some first → row_in p (f d) ≡ Some later → host ≢ s.host → (says_in later host).mbal ≡ (says_in first host).mbal
 
 -- an attempt goes on within seventeen calls a disk, or its proposal is chosen, or it is told what was decided, or it finds
 -- none and has none, or there is no greater ballot; it is not outrun, and does not lack a majority

@@ -7,7 +7,7 @@ use Rattle.torn_block.specs.declared.write_steps.WriteCall.TheVariants.{CloseGat
 use Rattle.torn_block.specs.Stage.{Write128, call_of}
 use Rattle.paxos_block.specs.layouts.Saying.{Said}
 use Rattle.paxos_block.specs.layouts.Places.{place_of, VoteOf, row_place}
-use Rattle.paxos_block.specs.layouts.Row.{SeenBlock}
+use Rattle.paxos_block.specs.layouts.Row.{DecodedBlock}
 use Rattle.paxos_block.specs.layouts.Saying.{IsVoteOf, body_saying}
 use Rattle.paxos_block.specs.layouts.Votes.{says_in}
 use Rattle.attempt.specs.Calls.{Phase, Opening, One, Two}
@@ -45,7 +45,7 @@ pub record IsConfirmedOn (s : Setup) (heard : List Answered) (p : Phase) (says :
   pub places : ℕ → ℕ
   pub in_order : (i j : ℕ) → i < j → j ≤ 6 → places i < places j
   pub wrote : (call : WriteCall) → IsAnswered s heard (places (step_of call)) disk (call_of call write boot) Done
-  pub row : List SeenBlock
+  pub row : List DecodedBlock
   pub read : IsAnswered s heard (places 6) disk (device.Read boot (row_place s.version s.slot) (row_length s.version)) (Told (Some row))
   pub is_row : row_in p (on heard disk) ≡ Some row
   pub none_above : (host : ℕ) → host < hosts_in s.version → host ≢ s.host → (says_in row host).mbal ≤ says.mbal
@@ -68,7 +68,7 @@ pub record Proposes (s : Setup) (f : Answers) (value : List ℕ) : Type 0 where
 -- what the host's own block said in the opening's row of a disk
 pub record IsOwnVote (s : Setup) (f : Answers) (vote : Said) : Type 0 where
   pub disk : ℕ
-  pub row : List SeenBlock
+  pub row : List DecodedBlock
   pub inside : disk < s.disks
   pub read : row_in Opening (f disk) ≡ Some row
   pub is : vote ≡ says_in row s.host
@@ -76,7 +76,7 @@ pub record IsOwnVote (s : Setup) (f : Answers) (vote : Said) : Type 0 where
 -- what another host's block said in the row of phase 1 of a disk
 pub record IsOtherVote (s : Setup) (f : Answers) (vote : Said) : Type 0 where
   pub disk : ℕ
-  pub row : List SeenBlock
+  pub row : List DecodedBlock
   pub host : ℕ
   pub inside : disk < s.disks
   pub read : row_in One (f disk) ≡ Some row
@@ -114,7 +114,7 @@ IsProposal s f value = IsLatestInput s f value ⊎ IsOwnInput s f value
 -- a marked block in the opening's row of some disk has this input
 pub record IsMarkSeen (s : Setup) (f : Answers) (value : List ℕ) : Type 0 where
   pub disk : ℕ
-  pub row : List SeenBlock
+  pub row : List DecodedBlock
   pub host : ℕ
   pub inside : disk < s.disks
   pub read : row_in Opening (f disk) ≡ Some row
@@ -125,4 +125,4 @@ pub record IsMarkSeen (s : Setup) (f : Answers) (value : List ℕ) : Type 0 wher
 -- each block in the rows that were read says a vote of its host
 abbrev pub AreVotes : Version → Answers → Type 0
 AreVotes v f =
-    (p : Phase) (d host : ℕ) (row : List SeenBlock) → row_in p (f d) ≡ Some row → host < hosts_in v → IsVoteOf v host (says_in row host).mbal (says_in row host).bal (says_in row host).inp
+    (p : Phase) (d host : ℕ) (row : List DecodedBlock) → row_in p (f d) ≡ Some row → host < hosts_in v → IsVoteOf v host (says_in row host).mbal (says_in row host).bal (says_in row host).inp

@@ -3,17 +3,17 @@ use Rattle.std.specs.Prelude.{ℕ, zero, suc, List, max, Option, Some, None}
 use Rattle.std.specs.Option.{option_or}
 use Rattle.torn_block.specs.Layout.{Version}
 use Rattle.paxos_block.specs.layouts.Saying.{Said}
-use Rattle.paxos_block.specs.layouts.Row.{SeenBlock, blank}
-use Rattle.paxos_block.specs.layouts.Votes.{says_in, greatest, top_of, others_top_of, later_of, latest_in, marked_in, ballot_above}
+use Rattle.paxos_block.specs.layouts.Row.{DecodedBlock, blank}
+use Rattle.paxos_block.specs.layouts.Votes.{says_in, greatest, highest_mbal, highest_mbal_of_others, later_of, latest_in, marked_in, ballot_above}
 use Rattle.attempt.specs.Calls.{Phase, Opening, One}
 use Rattle.attempt.specs.Answers.{Answers, row_in}
 use Rattle.attempt.specs.Setup.{Setup}
 
 -- THE BALLOT
 
-abbrev pub top_in : Version → Option (List SeenBlock) → ℕ
+abbrev pub top_in : Version → Option (List DecodedBlock) → ℕ
 top_in v None = 0
-top_in v (Some row) = top_of v row
+top_in v (Some row) = highest_mbal v row
 
 -- the greatest of the floor and of every mbal in the opening's rows
 abbrev pub highest : Setup → Answers → ℕ
@@ -25,7 +25,7 @@ ballot s f = ballot_above s.version s.host (highest s f)
 
 -- THE PROPOSAL
 
-abbrev pub own_in : ℕ → Said → Option (List SeenBlock) → Said
+abbrev pub own_in : ℕ → Said → Option (List DecodedBlock) → Said
 own_in host best None = best
 own_in host best (Some row) = later_of best (says_in row host)
 
@@ -37,7 +37,7 @@ own_below s f (suc d) = own_in s.host (own_below s f d) (row_in Opening (f d))
 abbrev pub own : Setup → Answers → Said
 own s f = own_below s f s.disks
 
-abbrev pub best_in : Version → ℕ → Said → Option (List SeenBlock) → Said
+abbrev pub best_in : Version → ℕ → Said → Option (List DecodedBlock) → Said
 best_in v host best None = best
 best_in v host best (Some row) = latest_in v host row best
 
@@ -58,7 +58,7 @@ proposal s f = or_else (best s f).inp s.input
 
 -- WHAT IS DECIDED
 
-abbrev pub decided_in : Version → Option (List SeenBlock) → Option (List ℕ)
+abbrev pub decided_in : Version → Option (List DecodedBlock) → Option (List ℕ)
 decided_in v None = None
 decided_in v (Some row) = marked_in v row
 
@@ -72,9 +72,9 @@ decided s f = decided_below s f s.disks
 
 -- OTHER HOSTS
 
-abbrev pub others_top : Version → ℕ → Option (List SeenBlock) → ℕ
+abbrev pub others_top : Version → ℕ → Option (List DecodedBlock) → ℕ
 others_top v host None = 0
-others_top v host (Some row) = others_top_of v host row
+others_top v host (Some row) = highest_mbal_of_others v host row
 
 -- the greatest mbal of another host in the rows of a phase
 abbrev pub others_mbal : Setup → Phase → Answers → ℕ

@@ -6,8 +6,8 @@ use Rattle.std.proofs.lemmas.Bool.{ltb-false, cases_lt, cases_Bool}
 use Rattle.std.proofs.lemmas.List.Elements.{All-nil, All-cons}
 use Rattle.torn_block.specs.declared.write_steps.WriteCall.{WriteCall}
 use Rattle.torn_block.specs.declared.write_steps.WriteCall.TheVariants.{CloseGate, SyncClosed, PutBody, SyncBody, OpenGate, SyncOpened}
-use Rattle.paxos_block.specs.Row.{SeenBlock}
-use Rattle.paxos_block.specs.layouts.Votes.{others_top_of}
+use Rattle.paxos_block.specs.Row.{DecodedBlock}
+use Rattle.paxos_block.specs.layouts.Votes.{highest_mbal_of_others}
 use Rattle.attempt.specs.Calls.{Phase, Opening, One, Two, Kind, Attaching, Syncing, Reading, Putting, start, goal}
 use Rattle.attempt.specs.Answers.{Heard, Booted, Done, Told, Fault, Answers, is_bad, all_good, told, more}
 use Rattle.attempt.specs.Setup.{Setup}
@@ -52,11 +52,11 @@ pub record Moves (s : Setup) (p : Phase) (f : Answers) (d : ℕ) (x : Heard) (m 
 
 -- in its row of phase 1 or 2 another host has a greater ballot
 pub record IsFaster (s : Setup) (p : Phase) (f : Answers) (d : ℕ) (x : Heard) (m : Machine) : Type 0 where
-  pub row : List SeenBlock
+  pub row : List DecodedBlock
   pub is : x ≡ Told (Some row)
   pub last : length (f d) + 1 ≡ goal p
   pub later : start One ≤ length (f d)
-  pub above : nat_lt (ballot s f) (others_top_of s.version s.host row) ≡ true
+  pub above : nat_lt (ballot s f) (highest_mbal_of_others s.version s.host row) ≡ true
   pub block : (kind : Kind) → IsNext (f d) kind → OwnBlock s f kind x (m.cell s.host d) (m.cell s.host d)
 
 -- EVENTS
@@ -148,7 +148,7 @@ module _ (s : Setup) (f : Answers) (d : ℕ) (m : Machine) (holds : Holds s.disk
 
   -- THE ROWS
 
-  module _ (row : List SeenBlock) (reads : IsNext (f d) Reading) where
+  module _ (row : List DecodedBlock) (reads : IsNext (f d) Reading) where
     abbrev x : Heard
     x = Told (Some row)
 
@@ -163,13 +163,13 @@ module _ (s : Setup) (f : Answers) (d : ℕ) (m : Machine) (holds : Holds s.disk
         (λ good. ap stage_at (sym last)) (record { confirmed = refl; writing = refl })
 
     -- nobody else in the row is above the ballot
-    is_row : RegistersAllow s.host d (f d) x m → nat_lt (ballot s f) (others_top_of s.version s.host row) ≡ false → IsRow m s.host d (ballot s f) (blocks_said row)
+    is_row : RegistersAllow s.host d (f d) x m → nat_lt (ballot s f) (highest_mbal_of_others s.version s.host row) ≡ false → IsRow m s.host d (ballot s f) (blocks_said row)
     is_row allow below =
-        let most : others_top_of s.version s.host row ≤ ballot s f = ltb-false (ballot s f) (others_top_of s.version s.host row) below in
+        let most : highest_mbal_of_others s.version s.host row ≤ ballot s f = ltb-false (ballot s f) (highest_mbal_of_others s.version s.host row) below in
         record { reads = allow.others row refl; below = λ g l off. omega (arith, others_below s.version of_cluster.version s.host row g l off) }
 
     -- phase 1's: the host takes the latest vote
-    reads_one : (due : IsDueAt s One d f) → StandsIn s One f m → RegistersAllow s.host d (f d) x m → length (f d) + 1 ≡ goal One → nat_lt (ballot s f) (others_top_of s.version s.host row) ≡ false → Moves s One f d x m
+    reads_one : (due : IsDueAt s One d f) → StandsIn s One f m → RegistersAllow s.host d (f d) x m → length (f d) + 1 ≡ goal One → nat_lt (ballot s f) (highest_mbal_of_others s.version s.host row) ≡ false → Moves s One f d x m
     reads_one due stands allow last below =
         let g = more f d x in
         let e : Event (List ℕ) = ReadsOne s.host d (blocks_said row) (asking s f) (asking s g).best in
@@ -184,7 +184,7 @@ module _ (s : Setup) (f : Answers) (d : ℕ) (m : Machine) (holds : Holds s.disk
         (λ good. ap stage_at (sym last)) (record { confirmed = refl; writing = refl })
 
     -- phase 2's: the ballot is accepted on the disk
-    reads_two : (due : IsDueAt s Two d f) → StandsIn s Two f m → RegistersAllow s.host d (f d) x m → length (f d) + 1 ≡ goal Two → nat_lt (ballot s f) (others_top_of s.version s.host row) ≡ false → Moves s Two f d x m
+    reads_two : (due : IsDueAt s Two d f) → StandsIn s Two f m → RegistersAllow s.host d (f d) x m → length (f d) + 1 ≡ goal Two → nat_lt (ballot s f) (highest_mbal_of_others s.version s.host row) ≡ false → Moves s Two f d x m
     reads_two due stands allow last below =
         let g = more f d x in
         let e : Event (List ℕ) = ReadsTwo s.host d (blocks_said row) (telling s f) in
@@ -197,15 +197,15 @@ module _ (s : Setup) (f : Answers) (d : ℕ) (m : Machine) (holds : Holds s.disk
         refl (stands.mind ∙ sym (mind_same s g f opening one Two)) (λ g off. refl)
         (λ good. ap stage_at (sym last)) (record { confirmed = refl; writing = refl })
 
-    above_or : (p : Phase) (t : Bool) → nat_lt (ballot s f) (others_top_of s.version s.host row) ≡ t → length (f d) + 1 ≡ goal p → start One ≤ length (f d)
-        → (nat_lt (ballot s f) (others_top_of s.version s.host row) ≡ false → Moves s p f d x m) → Moves s p f d x m ⊎ IsFaster s p f d x m
+    above_or : (p : Phase) (t : Bool) → nat_lt (ballot s f) (highest_mbal_of_others s.version s.host row) ≡ t → length (f d) + 1 ≡ goal p → start One ≤ length (f d)
+        → (nat_lt (ballot s f) (highest_mbal_of_others s.version s.host row) ≡ false → Moves s p f d x m) → Moves s p f d x m ⊎ IsFaster s p f d x m
     above_or p true is last later below = inr (record { row = row; is = refl; last = last; later = later; above = is; block = only Reading x c reads (block_same c) })
     above_or p false is last later below = inl (below is)
 
     reads_row : (p : Phase) (due : IsDueAt s p d f) → StandsIn s p f m → RegistersAllow s.host d (f d) x m → length (f d) + 1 ≡ goal p → Moves s p f d x m ⊎ IsFaster s p f d x m
     reads_row Opening due stands allow last = inl (sees due stands allow last)
-    reads_row One due stands allow last = above_or One (nat_lt (ballot s f) (others_top_of s.version s.host row)) refl last (omega (arith, last)) (reads_one due stands allow last)
-    reads_row Two due stands allow last = above_or Two (nat_lt (ballot s f) (others_top_of s.version s.host row)) refl last (omega (arith, last)) (reads_two due stands allow last)
+    reads_row One due stands allow last = above_or One (nat_lt (ballot s f) (highest_mbal_of_others s.version s.host row)) refl last (omega (arith, last)) (reads_one due stands allow last)
+    reads_row Two due stands allow last = above_or Two (nat_lt (ballot s f) (highest_mbal_of_others s.version s.host row)) refl last (omega (arith, last)) (reads_two due stands allow last)
 
   -- EVERY ANSWER
 

@@ -2,7 +2,7 @@
 use Rattle.std.specs.Prelude.{not}
 use Rattle.std.proofs.Common.{ℕ, ◌<◌, ◌≤◌, ◌≡◌, true, List, ◌∷◌, [], ◌++◌, ap, ◌∙◌, arith}
 use Rattle.std.proofs.lemmas.Bool.{le-ltb, ltb-false}
-use Rattle.paxos_block.specs.layouts.Votes.{others_top_of}
+use Rattle.paxos_block.specs.layouts.Votes.{highest_mbal_of_others}
 use Rattle.paxos_block.proofs.VoteLemmas.{greatest_is_greatest}
 use Rattle.attempt.specs.Calls.{Two}
 use Rattle.attempt.specs.Answers.{Answered, on, row_in}
@@ -34,9 +34,9 @@ module _ (s : Setup) (heard : List Answered) (value : List ℕ) (history : IsHis
       let all = left_over s Two (on heard) d is.over.visits below left in
       let row = some_of (row_in Two (on heard d)) ((reached.disk d).read Two part.good all) in
       let most = greatest_is_greatest s.disks (λ e. others_top s.version s.host (row_in Two (on heard e))) d below in
-      let here : others_top s.version s.host (row_in Two (on heard d)) ≡ others_top_of s.version s.host row.0 = ap (others_top s.version s.host) row.1 in
+      let here : others_top s.version s.host (row_in Two (on heard d)) ≡ highest_mbal_of_others s.version s.host row.0 = ap (others_top s.version s.host) row.1 in
       let under : others_mbal s Two (on heard) ≤ ballot s (on heard) = ltb-false (ballot s (on heard)) (others_mbal s Two (on heard)) is.over.not_outrun in
-      ap (accepts_in s.version s.host (ballot s (on heard))) row.1 ∙ ap not (le-ltb (ballot s (on heard)) (others_top_of s.version s.host row.0) (omega arith))
+      ap (accepts_in s.version s.host (ballot s (on heard))) row.1 ∙ ap not (le-ltb (ballot s (on heard)) (highest_mbal_of_others s.version s.host row.0) (omega arith))
 
   chooses : Chooses s (on heard) value
   chooses =

@@ -4,8 +4,8 @@ use Rattle.std.specs.List.{All}
 use Rattle.std.proofs.Common.{ℕ, ◌+◌, ◌<◌, ◌≤◌, ◌≡◌, inl, inr, true, false, Some, List, [], ◌∷◌, ◌++◌, length, length-append, sym, subst, ap, ◌∙◌, arith}
 use Rattle.std.proofs.lemmas.Bool.{cases_eq, both_ways, lt-ltb, ltb-true}
 use Rattle.std.proofs.lemmas.List.Elements.{All-nil, All-append}
-use Rattle.paxos_block.specs.Row.{SeenBlock}
-use Rattle.paxos_block.specs.layouts.Votes.{others_top_of}
+use Rattle.paxos_block.specs.Row.{DecodedBlock}
+use Rattle.paxos_block.specs.layouts.Votes.{highest_mbal_of_others}
 use Rattle.paxos_block.proofs.VoteLemmas.{greatest_is_greatest}
 use Rattle.attempt.specs.Calls.{Phase, Opening, One, Two, Kind, start, goal}
 use Rattle.attempt.specs.Answers.{Heard, Told, Answered, Answers, on, is_bad, told, row_in, more}
@@ -91,7 +91,7 @@ module _ (s : Setup) (f : Answers) (d : ℕ) (x : Heard) (m : Machine) (p : Phas
       }
 
   -- another host is faster: nothing happens, and the attempt has ended
-  module _ (row : List SeenBlock) (is : x ≡ Told (Some row)) (last : length (f d) + 1 ≡ goal p) (later : start One ≤ length (f d)) (above : nat_lt (ballot s f) (others_top_of s.version s.host row) ≡ true) where
+  module _ (row : List DecodedBlock) (is : x ≡ Told (Some row)) (last : length (f d) + 1 ≡ goal p) (later : start One ≤ length (f d)) (above : nat_lt (ballot s f) (highest_mbal_of_others s.version s.host row) ≡ true) where
     row_then : row_in p (g d) ≡ Some row
     row_then = ap (row_in p) (more_here f d x) ∙ row_last p (f d) x last ∙ ap told is
 
@@ -100,9 +100,9 @@ module _ (s : Setup) (f : Answers) (d : ℕ) (x : Heard) (m : Machine) (p : Phas
 
     above_then : nat_lt (ballot s g) (others_mbal s p g) ≡ true
     above_then =
-        let over : ballot s f < others_top_of s.version s.host row = ltb-true (ballot s f) (others_top_of s.version s.host row) above in
+        let over : ballot s f < highest_mbal_of_others s.version s.host row = ltb-true (ballot s f) (highest_mbal_of_others s.version s.host row) above in
         let most = greatest_is_greatest s.disks (λ e. others_top s.version s.host (row_in p (g e))) d (visit s p d f due).below in
-        let here : others_top s.version s.host (row_in p (g d)) ≡ others_top_of s.version s.host row = ap (others_top s.version s.host) row_then in
+        let here : others_top s.version s.host (row_in p (g d)) ≡ highest_mbal_of_others s.version s.host row = ap (others_top s.version s.host) row_then in
         let same = ballot_then in
         lt-ltb (ballot s g) (others_mbal s p g) (omega arith)
 
@@ -127,7 +127,7 @@ module _ (s : Setup) (f : Answers) (d : ℕ) (x : Heard) (m : Machine) where
   then = more f d x
 
   faster_commits : (p : Phase) (due : IsDueAt s p d f) (reached : IsReached s f) (stands : StandsIn s p f m) (reached_then : IsReached s then) (of_cluster : IsOfCluster s)
-      (row : List SeenBlock) (is : x ≡ Told (Some row)) (last : length (f d) + 1 ≡ goal p) (later : start One ≤ length (f d)) (above : nat_lt (ballot s f) (others_top_of s.version s.host row) ≡ true)
+      (row : List DecodedBlock) (is : x ≡ Told (Some row)) (last : length (f d) + 1 ≡ goal p) (later : start One ≤ length (f d)) (above : nat_lt (ballot s f) (highest_mbal_of_others s.version s.host row) ≡ true)
       → (value : List ℕ) → Chooses s then value → IsCommitted s.disks m s.host (ballot s then) value
   faster_commits Opening due reached stands reached_then of_cluster row is last later above value chooses = absurd (omega arith)
   faster_commits One due reached stands reached_then of_cluster row is last later above value chooses =
@@ -149,12 +149,12 @@ module _ (s : Setup) (f : Answers) (d : ℕ) (x : Heard) (m : Machine) where
       refused : accepts s then d ≡ false
       refused =
           ap (accepts_in s.version s.host (ballot s then)) (row_then s f d x m Two due reached stands reached_then of_cluster row is last later above)
-          ∙ ap (λ (b : ℕ). not (nat_lt b (others_top_of s.version s.host row))) (ballot_then s f d x m Two due reached stands reached_then of_cluster row is last later above)
+          ∙ ap (λ (b : ℕ). not (nat_lt b (highest_mbal_of_others s.version s.host row))) (ballot_then s f d x m Two due reached stands reached_then of_cluster row is last later above)
           ∙ ap not above
 
   -- as is what was proposed before it
   faster_proposes : (p : Phase) (due : IsDueAt s p d f) (reached : IsReached s f) (stands : StandsIn s p f m) (reached_then : IsReached s then) (of_cluster : IsOfCluster s)
-      (row : List SeenBlock) (is : x ≡ Told (Some row)) (last : length (f d) + 1 ≡ goal p) (later : start One ≤ length (f d)) (above : nat_lt (ballot s f) (others_top_of s.version s.host row) ≡ true)
+      (row : List DecodedBlock) (is : x ≡ Told (Some row)) (last : length (f d) + 1 ≡ goal p) (later : start One ≤ length (f d)) (above : nat_lt (ballot s f) (highest_mbal_of_others s.version s.host row) ≡ true)
       → (value : List ℕ) → Proposes s then value → IsProposing m s.host (ballot s then) value
   faster_proposes Opening due reached stands reached_then of_cluster row is last later above value p = absurd (omega arith)
   faster_proposes One due reached stands reached_then of_cluster row is last later above value p =

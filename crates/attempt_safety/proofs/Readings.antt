@@ -4,9 +4,9 @@ use Rattle.std.proofs.Common.{ℕ, zero, suc, ◌<◌, ◌≤◌, ◌≡◌, ◌
 use Rattle.std.proofs.lemmas.Bool.{cases_lt, ltb-true, ltb-false}
 use Rattle.torn_block.specs.declared.layout.TheConstants.{HOSTS}
 use Rattle.paxos_block.specs.Saying.{Said as PBlock}
-use Rattle.paxos_block.specs.Row.{SeenBlock}
+use Rattle.paxos_block.specs.Row.{DecodedBlock}
 use Rattle.torn_block.specs.Layout.{Version, cluster_version, hosts_in}
-use Rattle.paxos_block.specs.layouts.Votes.{says_in, top_of, others_top_of, later_of, latest_below, latest_in}
+use Rattle.paxos_block.specs.layouts.Votes.{says_in, highest_mbal, highest_mbal_of_others, later_of, latest_below, latest_in}
 use Rattle.paxos_block.proofs.VoteLemmas.{greatest_is_greatest}
 use Rattle.attempt.specs.Calls.{Opening, One}
 use Rattle.attempt.specs.Answers.{Told, Answers, more}
@@ -43,7 +43,7 @@ later_is best says = later_by best says (nat_lt best.bal says.bal) refl
 
 -- THE LATEST OF A ROW
 
-module _ (host : ℕ) (row : List SeenBlock) (best : PBlock) where
+module _ (host : ℕ) (row : List DecodedBlock) (best : PBlock) where
   -- the block of one of the first n hosts, but not of this one
   abbrev IsOfOthers : ℕ → Block (List ℕ) → Type 0
   IsOfOthers n x = (g : ℕ) × (g < n) × (g ≢ host) × (x ≡ blocks_said row g)
@@ -93,20 +93,20 @@ module _ (host : ℕ) (row : List SeenBlock) (best : PBlock) where
   latest_is v is = subst (λ (w : Version). IsLastVote (IsOthers host (blocks_said row)) (vote_said best) (vote_said (latest_in w host row best))) (sym is) (latest_is_below HOSTS)
 
 -- nobody else in a row has a greater mbal than the greatest of the others
-pub others_below : (v : Version) → v ≡ cluster_version → (host : ℕ) (row : List SeenBlock) (g : ℕ) → g < HOSTS → g ≢ host → (says_in row g).mbal ≤ others_top_of v host row
+pub others_below : (v : Version) → v ≡ cluster_version → (host : ℕ) (row : List DecodedBlock) (g : ℕ) → g < HOSTS → g ≢ host → (says_in row g).mbal ≤ highest_mbal_of_others v host row
 others_below v is host row g low off =
     let l : g < hosts_in v = subst (λ (w : Version). g < hosts_in w) (sym is) low in
     let least = greatest_is_greatest (hosts_in v) (λ g. if g == host then 0 else (says_in row g).mbal) g l in
-    by_eq (λ t. (if t then 0 else (says_in row g).mbal) ≤ others_top_of v host row → (says_in row g).mbal ≤ others_top_of v host row) g host (λ same. absurd (off same)) (λ other. λ le. le) least
+    by_eq (λ t. (if t then 0 else (says_in row g).mbal) ≤ highest_mbal_of_others v host row → (says_in row g).mbal ≤ highest_mbal_of_others v host row) g host (λ same. absurd (off same)) (λ other. λ le. le) least
 
 -- ONE ROW MORE
 
-module _ (s : Setup) (f : Answers) (d : ℕ) (row : List SeenBlock) where
+module _ (s : Setup) (f : Answers) (d : ℕ) (row : List DecodedBlock) where
   abbrev new : Answers
   new = more f d (Told (Some row))
 
   -- the greatest mbal, whatever the floor
-  top_takes : IsLast s Opening d f → top s new ≡ max (top s f) (top_of s.version row)
+  top_takes : IsLast s Opening d f → top s new ≡ max (top s f) (highest_mbal s.version row)
   top_takes is =
       let low : Setup = record s { floor = 0 } in
       let takes = highest_takes low f d row (record { below = is.below; last = is.last; behind = is.behind }) in
@@ -116,7 +116,7 @@ module _ (s : Setup) (f : Answers) (d : ℕ) (row : List SeenBlock) where
   pub can_see : (c : Cell (List ℕ)) → s.host < hosts_in s.version → IsLast s Opening d f → c.writing ≡ None → blocks_said row s.host ≡ c.confirmed → CanSee c (opened s f) (opened s new)
   can_see c below is rests read =
       let takes = top_takes is in
-      let own_top : (says_in row s.host).mbal ≤ top_of s.version row = greatest_is_greatest (hosts_in s.version) (λ g. (says_in row g).mbal) s.host below in
+      let own_top : (says_in row s.host).mbal ≤ highest_mbal s.version row = greatest_is_greatest (hosts_in s.version) (λ g. (says_in row g).mbal) s.host below in
       let mbal : (says_in row s.host).mbal ≡ c.confirmed.mbal = ap (λ (x : Block (List ℕ)). x.mbal) read in
       let later : IsLastVote (λ x. x ≡ blocks_said row s.host) (vote_said (own s f)) (vote_said (later_of (own s f) (says_in row s.host))) = later_is (own s f) (says_in row s.host) in
       let own_is : IsLastVote (λ x. x ≡ blocks_said row s.host) (vote_said (own s f)) (vote_said (own s new)) = subst (λ (v : PBlock). IsLastVote (λ x. x ≡ blocks_said row s.host) (vote_said (own s f)) (vote_said v)) (sym (own_takes s f d row is)) later in

@@ -1,7 +1,7 @@
 -- What an attempt writes in a phase, when it may be made in the machine, and which answers tell no row.
 use Rattle.std.proofs.Common.{true≢false, ℕ, suc, ◌≡◌, ◌≢◌, true, Option, Some, None, List, length, is_some, refl, sym, ap, ◌∙◌, arith}
 use Rattle.torn_block.specs.declared.write_steps.WriteCall.TheVariants.{CloseGate, SyncClosed, PutBody, SyncBody, OpenGate, SyncOpened}
-use Rattle.paxos_block.specs.Row.{SeenBlock}
+use Rattle.paxos_block.specs.Row.{DecodedBlock}
 use Rattle.attempt.specs.Calls.{Phase, Opening, One, Two, Kind, Attaching, Syncing, Reading, Putting}
 use Rattle.attempt.specs.Answers.{Heard, Booted, Done, Told, Fault, Answers, told}
 use Rattle.attempt.specs.Setup.{Setup}
@@ -28,7 +28,7 @@ some_of None is = absurd (true≢false (sym is))
 some_of (Some y) is = (y, refl)
 
 -- only a read tells a row
-silent_row : (s : Setup) (f : Answers) (d : ℕ) (kind : Kind) (row : List SeenBlock) → kind ≢ Reading → ¬ Fits (call_by s d f kind) (Told (Some row))
+silent_row : (s : Setup) (f : Answers) (d : ℕ) (kind : Kind) (row : List DecodedBlock) → kind ≢ Reading → ¬ Fits (call_by s d f kind) (Told (Some row))
 silent_row s f d Attaching row other fits = fits
 silent_row s f d Syncing row other fits = fits
 silent_row s f d Reading row other fits = other refl

@@ -1,7 +1,7 @@
 -- An attempt as agreement's machine has it: what blocks say, how far it has come, what its host knows and writes.
 use Rattle.std.specs.Prelude.{ℕ, List, [], ◌∷◌, slice_index_or}
 use Rattle.paxos_block.specs.Saying.{Said as PBlock}
-use Rattle.paxos_block.specs.Row.{SeenBlock}
+use Rattle.paxos_block.specs.Row.{DecodedBlock}
 use Rattle.paxos_block.specs.layouts.Votes.{says_in, greatest}
 use Rattle.attempt.specs.Calls.{Phase, Opening, One, Two}
 use Rattle.attempt.specs.Answers.{Answers, row_in}
@@ -27,7 +27,7 @@ abbrev pub vote_said : PBlock → Vote (List ℕ)
 vote_said says = record { bal = says.bal; inp = says.inp }
 
 -- the blocks of a row, by host
-abbrev pub blocks_said : List SeenBlock → ℕ → Block (List ℕ)
+abbrev pub blocks_said : List DecodedBlock → ℕ → Block (List ℕ)
 blocks_said row host = block_said (says_in row host)
 
 -- HOW FAR IT HAS COME ON A DISK

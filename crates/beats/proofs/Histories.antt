@@ -3,7 +3,7 @@ use Rattle.std.specs.Prelude.{nat_lt, option_map, if◌then◌else◌}
 use Rattle.std.proofs.Common.{ℕ, ◌*◌, ◌<◌, ◌≤◌, ◌≡◌, Bool, true, false, Option, Some, None, List, [], length, refl, sym, ap, ◌∙◌, arith}
 use Rattle.std.proofs.lemmas.Bool.{and_parts, ltb-true, lt-ltb}
 use Rattle.disk.specs.Disk as device
-use Rattle.paxos_block.specs.Row.{row_said}
+use Rattle.paxos_block.specs.Row.{decoded_row}
 use Rattle.attempt.specs.Answers.{heard_as as heard_by_attempts}
 use Rattle.attempt.specs.NextCall.{with_disk}
 use Rattle.attempt.specs.Numbers.{count}
@@ -62,7 +62,7 @@ starts s some =
 
 -- an answer of the kind that a call of an attempt may get is so for a beat too
 pub fits_too : (call : device.Call) (answer : device.Answer) → Fits call (heard_by_attempts answer) → Fits call (heard_as answer)
-fits_too call answer fits = fits_by row_said area_said call answer fits
+fits_too call answer fits = fits_by decoded_row area_said call answer fits
 
 -- HOW MANY
 

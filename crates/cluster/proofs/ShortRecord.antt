@@ -7,7 +7,7 @@ use Rattle.std.proofs.lemmas.Option.{slice_get-map}
 use Rattle.disk.specs.Simulated.{fresh_disk}
 use Rattle.torn_block.specs.layouts.Block.{sequence_of, body_of, number_bytes, tail_with}
 use Rattle.torn_block.specs.layouts.Place.{copy_in}
-use Rattle.paxos_block.specs.layouts.Row.{row_said}
+use Rattle.paxos_block.specs.layouts.Row.{decoded_row}
 use Rattle.paxos_block.specs.layouts.Saying.{zeros, heading, body_saying, number_at, claim_of, is_said}
 use Rattle.lock_command.specs.declared.command.Command.{Command}
 use Rattle.lock_command.specs.Command.{number}
@@ -35,19 +35,19 @@ use Rattle.cluster.proofs.Recording.{recorded}
 -- COMPUTED
 
 learned : learned_of (host_in one_disk first_seat) ≡ takes_db ∷ []
-unfolding submission fresh_disk sequence_of body_of number_bytes tail_with copy_in row_said zeros heading body_saying number_at claim_of is_said number lock_at request_at mode_of name_at enqueue_at action_at command_at applied
+unfolding submission fresh_disk sequence_of body_of number_bytes tail_with copy_in decoded_row zeros heading body_saying number_at claim_of is_said number lock_at request_at mode_of name_at enqueue_at action_at command_at applied
 learned = refl
 
 pub receipts : receipts_of one_disk first_seat ≡ first_receipt ∷ []
-unfolding submission fresh_disk sequence_of body_of number_bytes tail_with copy_in row_said zeros heading body_saying number_at claim_of is_said number lock_at request_at mode_of name_at enqueue_at action_at command_at applied
+unfolding submission fresh_disk sequence_of body_of number_bytes tail_with copy_in decoded_row zeros heading body_saying number_at claim_of is_said number lock_at request_at mode_of name_at enqueue_at action_at command_at applied
 receipts = refl
 
 second : slice_get (of_host 0 submission) 1 ≡ Some (1, Submit 0 takes_db 1)
-unfolding submission fresh_disk sequence_of body_of number_bytes tail_with copy_in row_said zeros heading body_saying number_at claim_of is_said number lock_at request_at mode_of name_at enqueue_at action_at command_at applied
+unfolding submission fresh_disk sequence_of body_of number_bytes tail_with copy_in decoded_row zeros heading body_saying number_at claim_of is_said number lock_at request_at mode_of name_at enqueue_at action_at command_at applied
 second = refl
 
 first_kept : slice_get (plains submission) 0 ≡ Some (kept.Start 0)
-unfolding submission fresh_disk sequence_of body_of number_bytes tail_with copy_in row_said zeros heading body_saying number_at claim_of is_said number lock_at request_at mode_of name_at enqueue_at action_at command_at applied
+unfolding submission fresh_disk sequence_of body_of number_bytes tail_with copy_in decoded_row zeros heading body_saying number_at claim_of is_said number lock_at request_at mode_of name_at enqueue_at action_at command_at applied
 first_kept = refl
 
 -- each entry is host 0's
@@ -56,11 +56,11 @@ are_of h [] = true
 are_of h (e ∷ es) = cond (is_of h e) (are_of h es) false
 
 all_its : are_of 0 submission ≡ true
-unfolding submission fresh_disk sequence_of body_of number_bytes tail_with copy_in row_said zeros heading body_saying number_at claim_of is_said number lock_at request_at mode_of name_at enqueue_at action_at command_at applied
+unfolding submission fresh_disk sequence_of body_of number_bytes tail_with copy_in decoded_row zeros heading body_saying number_at claim_of is_said number lock_at request_at mode_of name_at enqueue_at action_at command_at applied
 all_its = refl
 
 replied : granted ≡ reply_after [] takes_db
-unfolding submission fresh_disk sequence_of body_of number_bytes tail_with copy_in row_said zeros heading body_saying number_at claim_of is_said number lock_at request_at mode_of name_at enqueue_at action_at command_at applied
+unfolding submission fresh_disk sequence_of body_of number_bytes tail_with copy_in decoded_row zeros heading body_saying number_at claim_of is_said number lock_at request_at mode_of name_at enqueue_at action_at command_at applied
 replied = refl
 
 -- ITS SEAT

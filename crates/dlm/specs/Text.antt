@@ -53,9 +53,9 @@ abbrev pub modes_text : LockState → List ℕ
 modes_text state = codes "held=" ++ mode_text (held_mode state) ++ codes ", wanted=" ++ mode_text (wanted_mode state)
 
 -- zeros that are valid are not told
-abbrev pub told_value : Option LockValue → Option LockValue
-told_value None = None
-told_value (Some value) = if is_zeros value then None else Some value
+abbrev pub shown_value : Option LockValue → Option LockValue
+shown_value None = None
+shown_value (Some value) = if is_zeros value then None else Some value
 
 -- what a command did, and the value that is told of it
 abbrev pub done_text : done.Answer → Option LockValue → List ℕ
@@ -71,7 +71,7 @@ done_text (Refused refusal) value = table_refusal_text refusal
 
 -- what the lock table replies
 abbrev pub reply_text : Reply → List ℕ
-reply_text reply = done_text reply.answer (told_value reply.value)
+reply_text reply = done_text reply.answer (shown_value reply.value)
 
 -- the numbers and names of the refusals that end an operation
 abbrev pub refusal_text : operation.Refusal → List ℕ

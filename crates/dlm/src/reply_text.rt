@@ -2,7 +2,7 @@ ghost use Rattle.std.specs.Prelude.{◌≡◌};
 ghost use Rattle.dlm.specs.Text.{held_mode, wanted_mode, table_refusal_text};
 
 use crate::mode_text::ModeText;
-use crate::value_text::{ValueText, told_value};
+use crate::value_text::{ValueText, shown_value};
 use lock_table::{Answer, LockState, Refusal, Reply};
 use std::fmt;
 
@@ -17,7 +17,7 @@ impl fmt::Display for ReplyText {
     ghost output = { λ r. Some (reply_text r.0) };
 
     fn fmt<W: fmt::Write>(&self, f: &mut fmt::Formatter<W>) -> fmt::Result {
-        match (self.0.answer, told_value(self.0.value)) {
+        match (self.0.answer, shown_value(self.0.value)) {
             (Answer::Granted, None) => f.write_str("Granted"),
             (Answer::Granted, Some(value)) => write!(f, "Granted({})", ValueText(value)),
             (Answer::Queued, _) => f.write_str("Queued"),

@@ -1,6 +1,6 @@
 ghost use Rattle.std.specs.Prelude.{◌≡◌};
 ghost use Rattle.hex.specs.Hex.{encode_lower};
-ghost use Rattle.dlm.specs.Text.{told_value};
+ghost use Rattle.dlm.specs.Text.{shown_value};
 
 use lock_table::LockValue;
 use std::fmt;
@@ -39,8 +39,8 @@ fn digits_of(value: &LockValue) -> [u8; 32]
 }
 
 /// The value of a reply, unless it is zeros that are valid.
-pub fn told_value(value: Option<LockValue>) -> Option<LockValue>
-    ensures { result ≡ told_value value }
+pub fn shown_value(value: Option<LockValue>) -> Option<LockValue>
+    ensures { result ≡ shown_value value }
 {
     match value {
         Some(value) if value != LockValue::ZEROS => Some(value),

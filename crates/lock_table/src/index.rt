@@ -5,11 +5,11 @@ ghost use Rattle.lock_table.specs.Locks.{lock_in, without, put, has_queue, head_
 ghost use Rattle.lock_table.specs.Picture.{printed_cmp};
 ghost use Rattle.lock_table.specs.Placed.{in_order};
 
+use crate::by_lock_number::ByLockNumber;
+use crate::by_printed_order::ByPrintedOrder;
 use crate::keys::SpelledName;
 use crate::locks::LOCKS;
-use crate::numbers::Numbers;
 use crate::record::{LockRecord, LockState};
-use crate::shelf::Shelf;
 use crate::{numbers, printed};
 use lock_command::{HostNumber, LockName, LockNumber};
 use lock_modes::Mode;
@@ -20,8 +20,8 @@ use std::marker::Model;
 /// lock number. So a binary search finds a lock, a name, and the head of a name's queues.
 #[derive(Drop)]
 pub struct Index {
-    printed: Shelf,
-    numbers: Numbers,
+    printed: ByPrintedOrder,
+    numbers: ByLockNumber,
 }
 
 impl Model for Index {
@@ -42,13 +42,13 @@ impl Index {
         ensures { IfOk result (λ index. index ≡ []) }
     {
         Ok(Index {
-            printed: Shelf::new(alloc)?,
-            numbers: Numbers::new(alloc)?,
+            printed: ByPrintedOrder::new(alloc)?,
+            numbers: ByLockNumber::new(alloc)?,
         })
     }
 
     /// The locks in printed order.
-    pub fn printed(&self) -> &Shelf
+    pub fn printed(&self) -> &ByPrintedOrder
         ensures locks { result.now ≡ self.now }
         ensures distinct { IsDistinct self.now }
         ensures sorted { IsSorted printed_cmp self.now }

@@ -2,20 +2,20 @@
 #![tactic(auto)]
 
 mod bits;
+mod by_lock_number;
+mod by_printed_order;
 mod clients;
 mod index;
+mod indexed_table;
 mod keys;
 mod laws;
 mod locks;
 mod no_memory;
-mod numbers;
 mod picture;
-mod plain;
 mod printed;
 mod purge;
 mod record;
 mod reply;
-mod shelf;
 mod table;
 mod valued;
 mod values;

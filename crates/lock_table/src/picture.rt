@@ -2,12 +2,12 @@ ghost use Rattle.std.specs.Prelude.{◌≡◌, ◌≤◌, [], IfOk, vec_capacity
 ghost use Rattle.lock_table.specs.Picture.{nothing_shown, values_beside};
 ghost use Rattle.lock_table.specs.Stored.{value_in, AreNamed};
 
+use crate::by_printed_order::ByPrintedOrder;
 use crate::clients::CLIENTS;
 use crate::locks::LOCKS;
 use crate::no_memory::NoMemory;
 use crate::record::{KnownClient, LockRecord};
 use crate::reply::LockValue;
-use crate::shelf::Shelf;
 use crate::table::Table;
 use crate::values;
 use crate::values::NamedValue;
@@ -85,7 +85,7 @@ impl Picture {
 }
 
 /// Lists the value of the name of each lock.
-fn list_values(locks: &Shelf, entries: &[NamedValue], into: &mut Vec<LockValue>)
+fn list_values(locks: &ByPrintedOrder, entries: &[NamedValue], into: &mut Vec<LockValue>)
     requires room { LOCKS ≤ vec_capacity into.old }
     requires empty { into.old.items ≡ [] }
     requires named { AreNamed entries.now }

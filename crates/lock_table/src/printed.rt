@@ -8,10 +8,10 @@ ghost use Rattle.lock_table.specs.Locks.{is_on, lock_in, without, head_of, admit
 ghost use Rattle.lock_table.specs.Picture.{printed_cmp};
 ghost use Rattle.lock_table.specs.Placed.{placed};
 
+use crate::by_printed_order::ByPrintedOrder;
 use crate::keys::SpelledName;
 use crate::locks::LOCKS;
 use crate::record::LockRecord;
-use crate::shelf::Shelf;
 use lock_command::{HostNumber, LockName, LockNumber};
 use lock_modes::Mode;
 
@@ -25,7 +25,7 @@ fn passed(many: usize, passes: bool) -> usize
 }
 
 /// How many locks have a lower key.
-fn locks_below(printed: &Shelf, key: u128) -> usize
+fn locks_below(printed: &ByPrintedOrder, key: u128) -> usize
     requires { IsSorted printed_cmp printed.now }
     ensures bound { result ≤ length printed.now }
     ensures point { IsPartitionPoint (λ r. nat_lt (lock_key r) key ≡ true) (λ r. nat_lt (lock_key r) key ≡ false) printed.now result }
@@ -42,7 +42,7 @@ fn locks_below(printed: &Shelf, key: u128) -> usize
 }
 
 /// The index at which a new record is inserted: after all records whose key is not above its own.
-fn joining_place(printed: &Shelf, new: &LockRecord, name: &SpelledName) -> usize
+fn joining_place(printed: &ByPrintedOrder, new: &LockRecord, name: &SpelledName) -> usize
     requires sorted { IsSorted printed_cmp printed.now }
     requires named { name.now ≡ new.now.name }
     ensures bound { result ≤ length printed.now }
@@ -52,7 +52,7 @@ fn joining_place(printed: &Shelf, new: &LockRecord, name: &SpelledName) -> usize
 }
 
 /// The index of a lock's record. Records in one queue have one key, so the queue is searched from its head.
-fn place_of(printed: &Shelf, own: &LockRecord, name: &SpelledName) -> usize
+fn place_of(printed: &ByPrintedOrder, own: &LockRecord, name: &SpelledName) -> usize
     requires sorted { IsSorted printed_cmp printed.now }
     requires named { name.now ≡ own.now.name }
     requires distinct { IsDistinct printed.now }
@@ -68,7 +68,7 @@ fn place_of(printed: &Shelf, own: &LockRecord, name: &SpelledName) -> usize
 }
 
 /// How many locks are printed before the locks of a name that have this rank: 0 granted, 1 converting, 2 waiting.
-fn locks_before_rank(printed: &Shelf, name: &SpelledName, rank: u8) -> usize
+fn locks_before_rank(printed: &ByPrintedOrder, name: &SpelledName, rank: u8) -> usize
     requires sorted { IsSorted printed_cmp printed.now }
     requires rank { rank ≤ 2 }
     ensures bound { result ≤ length printed.now }
@@ -78,7 +78,7 @@ fn locks_before_rank(printed: &Shelf, name: &SpelledName, rank: u8) -> usize
 }
 
 /// The lock whose turn it is on a name: the first that converts, else the first that waits.
-pub fn head(printed: &Shelf, name: &SpelledName) -> Option<LockRecord>
+pub fn head(printed: &ByPrintedOrder, name: &SpelledName) -> Option<LockRecord>
     requires { IsSorted printed_cmp printed.now }
     ensures { result ≡ head_of printed.now name.now }
 {
@@ -87,7 +87,7 @@ pub fn head(printed: &Shelf, name: &SpelledName) -> Option<LockRecord>
 }
 
 /// Whether a name has locks.
-pub fn has_locks(printed: &Shelf, name: LockName) -> bool
+pub fn has_locks(printed: &ByPrintedOrder, name: LockName) -> bool
     requires { IsSorted printed_cmp printed.now }
     ensures { result ≡ list_any (is_on name) printed.now }
 {
@@ -100,7 +100,7 @@ pub fn has_locks(printed: &Shelf, name: LockName) -> bool
 
 /// Whether no other lock of the name holds a mode that conflicts with this one. The bits of the held modes are tested first,
 /// without a branch. Only if one conflicts are lock numbers compared, as the conflict may be with the lock itself.
-pub fn admits(printed: &Shelf, lock: LockNumber, name: &SpelledName, mode: Mode) -> bool
+pub fn admits(printed: &ByPrintedOrder, lock: LockNumber, name: &SpelledName, mode: Mode) -> bool
     requires { IsSorted printed_cmp printed.now }
     ensures { result ≡ admits printed.now lock name.now mode }
 {
@@ -118,7 +118,7 @@ pub fn admits(printed: &Shelf, lock: LockNumber, name: &SpelledName, mode: Mode)
 }
 
 /// Puts a record in its place.
-pub fn put_in(printed: &mut Shelf, new: &LockRecord, name: &SpelledName)
+pub fn put_in(printed: &mut ByPrintedOrder, new: &LockRecord, name: &SpelledName)
     requires sorted { IsSorted printed_cmp printed.old }
     requires named { name.now ≡ new.now.name }
     requires room { length printed.old < LOCKS }
@@ -128,7 +128,7 @@ pub fn put_in(printed: &mut Shelf, new: &LockRecord, name: &SpelledName)
 }
 
 /// Takes the record of a lock out.
-pub fn take_out(printed: &mut Shelf, own: &LockRecord, name: &SpelledName)
+pub fn take_out(printed: &mut ByPrintedOrder, own: &LockRecord, name: &SpelledName)
     requires sorted { IsSorted printed_cmp printed.old }
     requires named { name.now ≡ own.now.name }
     requires distinct { IsDistinct printed.old }
@@ -140,7 +140,7 @@ pub fn take_out(printed: &mut Shelf, own: &LockRecord, name: &SpelledName)
 }
 
 /// Takes out the locks that were enqueued through a host.
-pub fn take_through(printed: &mut Shelf, host: HostNumber)
+pub fn take_through(printed: &mut ByPrintedOrder, host: HostNumber)
     ensures items { printed.new ≡ filter (λ r. not (is_through host r)) printed.old }
 {
     let mut at = printed.len();

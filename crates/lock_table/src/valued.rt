@@ -10,10 +10,10 @@ ghost use Rattle.lock_table.specs.Placed.{in_order};
 ghost use Rattle.lock_table.specs.Stored.{is_of, value_in, put_value, put_if, AreNamed, IsValued, spoiled_by, entry_of, entry_by, gives_nothing, is_locked, may_lose, asked_lock, asked_value_by};
 ghost use Rattle.lock_table.specs.Values.{zeros, invalid, spoiled, is_writer, is_downward, values_after, returned};
 
+use crate::by_printed_order::ByPrintedOrder;
 use crate::locks::{LOCKS, Locks};
 use crate::record::{LockRecord, LockState};
 use crate::reply::{Answer, LockValue, Reply};
-use crate::shelf::Shelf;
 use crate::values;
 use crate::values::{NamedValue, Values, store};
 use lock_command::{Action, ClientNumber, HostNumber, LockName, ValueBytes};
@@ -104,7 +104,7 @@ fn invalidate(values: &mut Values, name: LockName)
 }
 
 /// For a purge: makes the value of each name invalid that loses a lock holding PW or EX.
-fn spoil(values: &mut Values, locks: &Shelf, count: usize, host: HostNumber)
+fn spoil(values: &mut Values, locks: &ByPrintedOrder, count: usize, host: HostNumber)
     requires count { count ≡ length locks.now }
     requires few { count ≤ LOCKS }
     requires valued { IsValued locks.now values.old }
@@ -123,7 +123,7 @@ fn spoil(values: &mut Values, locks: &Shelf, count: usize, host: HostNumber)
 }
 
 /// Makes those values invalid that a command makes invalid: only a purge does.
-fn spoil_by(values: &mut Values, locks: &Shelf, action: &Action)
+fn spoil_by(values: &mut Values, locks: &ByPrintedOrder, action: &Action)
     requires valued { IsValued locks.now values.old }
     ensures values { value_in values.new ≡ spoiled_by (value_in values.old) locks.now action.now }
     ensures valued { IsValued locks.now values.new }
@@ -180,7 +180,12 @@ fn store_by(values: &mut Values, found: &Option<LockRecord>, action: &Action, an
 }
 
 /// Lets the values of names go that a command took the last lock of.
-fn keep_locked(values: &mut Values, locks: &Shelf, found: &Option<LockRecord>, action: &Action)
+fn keep_locked(
+    values: &mut Values,
+    locks: &ByPrintedOrder,
+    found: &Option<LockRecord>,
+    action: &Action,
+)
     requires sorted { IsSorted printed_cmp locks.now }
     requires named { AreNamed values.old }
     requires others { (name : List ℕ) → list_any (is_of name) values.old ≡ true → may_lose found.now action.now name ≡ false → list_any (is_on name) locks.now ≡ true }
@@ -210,7 +215,7 @@ impl ValuedLocks {
     }
 
     /// The locks in printed order.
-    pub fn printed(&self) -> &Shelf
+    pub fn printed(&self) -> &ByPrintedOrder
         ensures locks { result.now ≡ self.now.locks }
     {
         self.locks.printed()

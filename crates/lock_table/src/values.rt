@@ -8,10 +8,10 @@ ghost use Rattle.lock_table.specs.Locks.{is_on};
 ghost use Rattle.lock_table.specs.Picture.{printed_cmp};
 ghost use Rattle.lock_table.specs.Stored.{is_of, value_in, put_value, is_locked, AreNamed, StandsAt, WouldStandAt};
 
+use crate::by_printed_order::ByPrintedOrder;
 use crate::locks::LOCKS;
 use crate::printed;
 use crate::reply::LockValue;
-use crate::shelf::Shelf;
 use lock_command::LockName;
 use std::alloc::{AllocError, Global};
 use std::cmp::Ordering;
@@ -134,7 +134,7 @@ pub fn store(values: &mut Values, new: NamedValue)
 }
 
 /// Takes the entry of a name out, if it is without locks. It is the one name that may be.
-pub fn keep_if_locked(values: &mut Values, locks: &Shelf, name: LockName)
+pub fn keep_if_locked(values: &mut Values, locks: &ByPrintedOrder, name: LockName)
     requires sorted { IsSorted printed_cmp locks.now }
     requires named { AreNamed values.old }
     requires others { (other : List ℕ) → list_any (is_of other) values.old ≡ true → same_name other name ≡ false → list_any (is_on other) locks.now ≡ true }
@@ -146,7 +146,7 @@ pub fn keep_if_locked(values: &mut Values, locks: &Shelf, name: LockName)
 }
 
 /// Takes the entries of names without locks out.
-pub fn keep_locked(values: &mut Values, locks: &Shelf)
+pub fn keep_locked(values: &mut Values, locks: &ByPrintedOrder)
     requires { IsSorted printed_cmp locks.now }
     ensures { values.new ≡ filter (is_locked locks.now) values.old }
 {

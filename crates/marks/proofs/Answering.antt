@@ -15,7 +15,7 @@ use Rattle.torn_block.proofs.PlanLaws.{plan_calls}
 use Rattle.torn_block.specs.Stage.{Write128, next_call as call_behind, call_of}
 use Rattle.paxos_block.specs.Saying.{Said as PBlock}
 use Rattle.paxos_block.specs.Places.{place_of, VoteOf}
-use Rattle.paxos_block.specs.Row.{SeenBlock, IsSaid, seen_at}
+use Rattle.paxos_block.specs.Row.{DecodedBlock, IsSaid, seen_at}
 use Rattle.paxos_block.specs.Saying.{MaySay, body_saying}
 use Rattle.paxos_block.specs.layouts.Saying.{said_as}
 use Rattle.paxos_block.proofs.VoteLemmas.{unspent, spent}
@@ -94,11 +94,11 @@ module _ (f : Answers) (n : Notes) (is : Follows f n) (going : n.end ≡ None) w
 
   -- THE ROW WAS READ
 
-  module _ (st : n.stage ≡ stage.Reading) (row : List SeenBlock) where
+  module _ (st : n.stage ≡ stage.Reading) (row : List DecodedBlock) where
     abbrev told : Heard
     told = Told (Some row)
 
-    abbrev own : SeenBlock
+    abbrev own : DecodedBlock
     own = seen_at row n.host
 
     abbrev three : List Heard
@@ -154,7 +154,7 @@ module _ (f : Answers) (n : Notes) (is : Follows f n) (going : n.end ≡ None) w
   -- A CALL OF THE WRITE
 
   -- the own block in the row is to be marked
-  begun_to_mark : (row : List SeenBlock) (block : Block128) (says : PBlock) → BeginsOn s row block says → (not (seen_at row n.host).says.mark && is_value (seen_at row n.host).says.inp n.value) ≡ true
+  begun_to_mark : (row : List DecodedBlock) (block : Block128) (says : PBlock) → BeginsOn s row block says → (not (seen_at row n.host).says.mark && is_value (seen_at row n.host).says.inp n.value) ≡ true
   begun_to_mark row block says begins =
       ap (λ (x : PBlock). not x.mark && is_value x.inp n.value) (sym begins.says_is) ∙ ap₂ (λ (t k : Bool). not t && k) begins.unmarked begins.holds
 
@@ -222,7 +222,7 @@ module _ (f : Answers) (n : Notes) (is : Follows f n) (going : n.end ≡ None) w
     pub waiting : waits s a ≡ true
     pub next : call_on s a ≡ Some call
 
-  module _ (row : List SeenBlock) (block : Block128) (says : PBlock) (begins : BeginsOn s row block says) (fresh : nat_le LAST_SEQUENCE (seen_at row n.host).sequence ≡ false) (steps : Plan) where
+  module _ (row : List DecodedBlock) (block : Block128) (says : PBlock) (begins : BeginsOn s row block says) (fresh : nat_le LAST_SEQUENCE (seen_at row n.host).sequence ≡ false) (steps : Plan) where
     abbrev so_far : WriteCall → List Heard
     so_far call = Booted n.boot.number ∷ Done ∷ Told (Some row) ∷ replicate (made (Some call)) Done
 

@@ -7,7 +7,7 @@ use Rattle.torn_block.specs.declared.write_steps.WriteCall.{WriteCall}
 use Rattle.torn_block.specs.Plan.{IsReading, told_number, plan_by}
 use Rattle.paxos_block.specs.Saying.{Said as PBlock}
 use Rattle.paxos_block.specs.Places.{place_of, VoteOf, row_place}
-use Rattle.paxos_block.specs.Row.{SeenBlock, seen_at, number_or_zero}
+use Rattle.paxos_block.specs.Row.{DecodedBlock, seen_at, number_or_zero}
 use Rattle.paxos_block.specs.Saying.{body_saying}
 use Rattle.attempt.specs.Answers.{Heard, Booted, Done, Told, Answered, Answers, on}
 use Rattle.attempt.specs.Numbers.{count}
@@ -73,7 +73,7 @@ IsSameMarking old new = setup_of new ≡ setup_of old
 -- WHAT FOLLOWS FROM THE ANSWERS
 
 -- the own block in a row holds the value without a mark, and this is what a writer of it goes by
-pub record BeginsOn (s : Setup) (row : List SeenBlock) (block : Block128) (says : PBlock) : Type 0 where
+pub record BeginsOn (s : Setup) (row : List DecodedBlock) (block : Block128) (says : PBlock) : Type 0 where
   pub read : IsReading (seen_at row s.host).bytes block
   pub sequence : number_or_zero (told_number block) ≡ (seen_at row s.host).sequence
   pub says_is : says ≡ (seen_at row s.host).says
@@ -82,7 +82,7 @@ pub record BeginsOn (s : Setup) (row : List SeenBlock) (block : Block128) (says 
 
 -- the write under way goes by the own block in this row
 pub record IsWriting (n : Notes) (a : List Heard) : Type 0 where
-  pub row : List SeenBlock
+  pub row : List DecodedBlock
   pub block : Block128
   pub says : PBlock
   pub call : WriteCall

@@ -6,7 +6,7 @@ use Rattle.torn_block.specs.Layout.{cluster_version}
 use Rattle.torn_block.specs.Stage.{Write128, call_of}
 use Rattle.paxos_block.specs.Saying.{Said as PBlock}
 use Rattle.paxos_block.specs.Places.{place_of, VoteOf, row_place}
-use Rattle.paxos_block.specs.Row.{SeenBlock}
+use Rattle.paxos_block.specs.Row.{DecodedBlock}
 use Rattle.paxos_block.specs.Saying.{body_saying}
 use Rattle.attempt.specs.Calls.{Opening, Kind, Attaching, Syncing, Reading, Putting, seventeen}
 use Rattle.attempt.specs.Answers.{Heard, Answers, all_good, boot_of, row_in, seen_block}
@@ -23,7 +23,7 @@ pub record Setup : Type 0 where
 -- DISKS
 
 -- the own block, as the row that was read shows it
-abbrev pub own_block : Setup → List Heard → SeenBlock
+abbrev pub own_block : Setup → List Heard → DecodedBlock
 own_block s a = seen_block (row_in Opening a) s.host
 
 abbrev pub is_value : Option (List ℕ) → List ℕ → Bool

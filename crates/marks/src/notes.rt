@@ -4,7 +4,7 @@ ghost use Rattle.torn_block.specs.declared.layout.TheConstants.{HOSTS, DISKS, CO
 ghost use Rattle.torn_block.specs.Layout.{cluster_version};
 ghost use Rattle.torn_block.specs.Plan.{IsReading};
 ghost use Rattle.paxos_block.specs.Places.{place_of, VoteOf, row_place};
-ghost use Rattle.paxos_block.specs.Row.{SeenBlock, seen_at, row_said};
+ghost use Rattle.paxos_block.specs.Row.{DecodedBlock, seen_at, decoded_row};
 ghost use Rattle.paxos_block.specs.Saying.{MaySay};
 ghost use Rattle.phases.specs.Calls.{IsWithin, device_call_of, heard_of};
 ghost use Rattle.phases.specs.Moves.{ReadsAs};
@@ -188,7 +188,7 @@ impl Notes {
         ensures sound { IsSound self.new }
         ensures same { IsSameMarking self.old self.new }
         ensures follows { (f : Answers) → Follows f self.old →
-            Follows (more f self.old.disk (answers.Told (row_said bytes.now))) self.new }
+            Follows (more f self.old.disk (answers.Told (decoded_row bytes.now))) self.new }
     {
         let mut row = Row::blank();
         match read_row::<ClusterLayout>(&mut row, bytes) {
@@ -206,7 +206,7 @@ impl Notes {
         ensures sound { IsSound self.new }
         ensures same { IsSameMarking self.old self.new }
         ensures follows { (f : Answers) (bytes : List ℕ) → ReadsAs cluster_version (λ value. value) bytes row.now → Follows f self.old →
-            Follows (more f self.old.disk (answers.Told (row_said bytes))) self.new }
+            Follows (more f self.old.disk (answers.Told (decoded_row bytes))) self.new }
     {
         let cell = row.cell(self.host);
         if cell.says.mark {
@@ -226,7 +226,7 @@ impl Notes {
         requires may { MaySay self.old.host (with_mark says.now) }
         ensures sound { IsSound self.new }
         ensures same { IsSameMarking self.old self.new }
-        ensures follows { (f : Answers) (row : List SeenBlock) → Follows f self.old →
+        ensures follows { (f : Answers) (row : List DecodedBlock) → Follows f self.old →
             BeginsOn (setup_of self.old) row block.now says.now →
             Follows (more f self.old.disk (answers.Told (Some row))) self.new }
     {

@@ -18,7 +18,7 @@ use Rattle.torn_block.proofs.RegisterLaws.{ranges, stands_elsewhere}
 use Rattle.std.specs.Prelude.{slice_index_or}
 use Rattle.std.specs.List.{HoldsAt}
 use Rattle.paxos_block.specs.declared.row.Row.{Row}
-use Rattle.paxos_block.specs.layouts.Row.{IsRow, says_of, SeenBlock, seen_in, seen_at, row_said}
+use Rattle.paxos_block.specs.layouts.Row.{IsRow, says_of, DecodedBlock, seen_in, seen_at, decoded_row}
 use Rattle.paxos_block.proofs.Outcomes.{Outcomes}
 use Rattle.paxos_block.proofs.RowLemmas.{said_sees}
 use Rattle.torn_block.specs.layouts.Damage.{block_of}
@@ -142,7 +142,7 @@ shown v spelled disk slot host r row below holds is d =
       says = is_cell.says;
     }
 
-module _ (v : Version) (disk : DiskState) (slot host : ℕ) (seen : List SeenBlock) (below : host < (hosts_in v)) (said : row_said v (row_of v slot disk.bytes) ≡ Some seen) where
+module _ (v : Version) (disk : DiskState) (slot host : ℕ) (seen : List DecodedBlock) (below : host < (hosts_in v)) (said : decoded_row v (row_of v slot disk.bytes) ≡ Some seen) where
   seen_there : seen_at seen host ≡ seen_in v (block_in v (place_of v (VoteOf slot host)) disk.bytes)
   seen_there = said_sees v (row_of v slot disk.bytes) seen host below said ∙ ap (seen_in v) (block_of-row_of v slot host disk.bytes below)
 
@@ -151,5 +151,5 @@ module _ (v : Version) (disk : DiskState) (slot host : ℕ) (seen : List SeenBlo
   tells_there r holds =
       subst (SeenReads v r) (sym seen_there) (record { reads = holds disk.bytes (may_leave_now disk); so = λ i. seen_in v (block_in v (place_of v (VoteOf slot host)) disk.bytes) })
 
-pub told : (v : Version) → (disk : DiskState) (slot host : ℕ) (r : Register) (seen : List SeenBlock) → host < (hosts_in v) → Holds v disk (VoteOf slot host) r → row_said v (row_of v slot disk.bytes) ≡ Some seen → SeenReads v r (seen_at seen host)
+pub told : (v : Version) → (disk : DiskState) (slot host : ℕ) (r : Register) (seen : List DecodedBlock) → host < (hosts_in v) → Holds v disk (VoteOf slot host) r → decoded_row v (row_of v slot disk.bytes) ≡ Some seen → SeenReads v r (seen_at seen host)
 told v disk slot host r seen below holds said = tells_there v disk slot host seen below said r holds

@@ -23,7 +23,7 @@ use Rattle.paxos_block.specs.declared.cell.Cell.{Cell}
 use Rattle.paxos_block.specs.declared.row.Row.{Row}
 use Rattle.paxos_block.specs.layouts.Saying.{zeros, body_saying, claim_of, is_said}
 use Rattle.paxos_block.proofs.SayingLemmas.{said_back, said_spelled}
-use Rattle.paxos_block.specs.layouts.Row.{copy_saying, Says, IsSound, is_sound, blank, says_of, IsSaid, IsDamagedRow, IsCell, IsRow, blank_cell, SeenBlock, number_or_zero, seen_in, seen_at, hosts, row_seen, row_said, is_damaged_block, blank_seen, IsSeenAs, AreSeenAs}
+use Rattle.paxos_block.specs.layouts.Row.{copy_saying, Says, IsSound, is_sound, blank, says_of, IsSaid, IsDamagedRow, IsCell, IsRow, blank_cell, DecodedBlock, number_or_zero, seen_in, seen_at, hosts, row_seen, decoded_row, is_damaged_block, blank_seen, IsSeenAs, AreSeenAs}
 use Rattle.torn_block.specs.declared.layout.TheConstants.{HOSTS_ROOM}
 use Rattle.torn_block.specs.Layout.{Version, Version1, Version2, hosts_in, copy_length, block_length, body_length, row_length}
 use Rattle.torn_block.proofs.LayoutLaws.{row_holds}
@@ -209,46 +209,46 @@ module _ (v : Version) (row : List ℕ) where
   abbrev is_damaged_at : ℕ → Bool
   is_damaged_at host = is_damaged_block v host (block_of v host row)
 
-  said_if_none : list_any is_damaged_at (hosts v) ≡ false → row_said v row ≡ Some (row_seen v row)
-  unfolding row_said
+  said_if_none : list_any is_damaged_at (hosts v) ≡ false → decoded_row v row ≡ Some (row_seen v row)
+  unfolding decoded_row
   said_if_none t = cond-false (list_any is_damaged_at (hosts v)) None (Some (row_seen v row)) t
 
-  unsaid_if_any : list_any is_damaged_at (hosts v) ≡ true → row_said v row ≡ None
-  unfolding row_said
+  unsaid_if_any : list_any is_damaged_at (hosts v) ≡ true → decoded_row v row ≡ None
+  unfolding decoded_row
   unsaid_if_any t = cond-true (list_any is_damaged_at (hosts v)) None (Some (row_seen v row)) t
 
-  some_is_seen : (seen : List SeenBlock) → row_said v row ≡ Some seen → (list_any is_damaged_at (hosts v) ≡ false) × (seen ≡ row_seen v row)
+  some_is_seen : (seen : List DecodedBlock) → decoded_row v row ≡ Some seen → (list_any is_damaged_at (hosts v) ≡ false) × (seen ≡ row_seen v row)
   some_is_seen seen is =
       elim (cases_Bool (list_any is_damaged_at (hosts v))) [
         | inl t ↦ (let none = unsaid_if_any t in absurd cc)
-        | inr f ↦ (f, ap (λ (o : Option (List SeenBlock)). unwrap_or o []) (sym is ∙ said_if_none f))
+        | inr f ↦ (f, ap (λ (o : Option (List DecodedBlock)). unwrap_or o []) (sym is ∙ said_if_none f))
       ]
 
   seen_at-row_seen : (host : ℕ) → host < (hosts_in v) → seen_at (row_seen v row) host ≡ seen_in v (block_of v host row)
   seen_at-row_seen host below = get_or-map-range_with_len (λ h. seen_in v (block_of v h row)) 0 (hosts_in v) host host blank_seen below (omega arith)
 
   -- a row that says anything says what each of its blocks says
-  pub said_sees : (seen : List SeenBlock) (host : ℕ) → host < (hosts_in v) → row_said v row ≡ Some seen → seen_at seen host ≡ seen_in v (block_of v host row)
-  said_sees seen host below is = ap (λ (l : List SeenBlock). seen_at l host) (some_is_seen seen is).1 ∙ seen_at-row_seen host below
+  pub said_sees : (seen : List DecodedBlock) (host : ℕ) → host < (hosts_in v) → decoded_row v row ≡ Some seen → seen_at seen host ≡ seen_in v (block_of v host row)
+  said_sees seen host below is = ap (λ (l : List DecodedBlock). seen_at l host) (some_is_seen seen is).1 ∙ seen_at-row_seen host below
 
   -- and each of them is spelled as it says
-  pub said_is_said : (seen : List SeenBlock) (host : ℕ) → host < (hosts_in v) → row_said v row ≡ Some seen → IsSaid v host (value_of v (seen_at seen host).bytes) (seen_at seen host).says
+  pub said_is_said : (seen : List DecodedBlock) (host : ℕ) → host < (hosts_in v) → decoded_row v row ≡ Some seen → IsSaid v host (value_of v (seen_at seen host).bytes) (seen_at seen host).says
   said_is_said seen host below is =
-      subst (λ (s : SeenBlock). IsSaid v host (value_of v s.bytes) s.says) (sym (said_sees seen host below is)) (undamaged_says v host (block_of v host row) (none_tells is_damaged_at (hosts_in v) host below (some_is_seen seen is).0))
+      subst (λ (s : DecodedBlock). IsSaid v host (value_of v s.bytes) s.says) (sym (said_sees seen host below is)) (undamaged_says v host (block_of v host row) (none_tells is_damaged_at (hosts_in v) host below (some_is_seen seen is).0))
 
   module _ (long : length row ≡ row_length v) where
     -- a row of sound blocks says them
-    pub sound_row : ((host : ℕ) → host < (hosts_in v) → IsSoundBlock v (IsSound v host) (block_of v host row)) → row_said v row ≡ Some (row_seen v row)
+    pub sound_row : ((host : ℕ) → host < (hosts_in v) → IsSoundBlock v (IsSound v host) (block_of v host row)) → decoded_row v row ≡ Some (row_seen v row)
     sound_row sound =
         said_if_none (none_in is_damaged_at 0 (hosts_in v) (λ host from below. sound_is_undamaged v host (block_of v host row) (length-block_of v host row (omega arith) long) (sound host (omega arith))))
 
     -- a row with a damaged block says nothing
-    pub damaged_row : AreBytes row → IsDamagedRow v row → row_said v row ≡ None
+    pub damaged_row : AreBytes row → IsDamagedRow v row → decoded_row v row ≡ None
     damaged_row fits damaged =
         unsaid_if_any (any_at is_damaged_at (hosts_in v) damaged.0 damaged.1 (damage_is_found v damaged.0 (block_of v damaged.0 row) (length-block_of v damaged.0 row damaged.1 long) (AreBytes-block_of v damaged.0 row fits) damaged.2))
 
     -- a row that says nothing has a damaged block
-    pub unsaid_row : row_said v row ≡ None → IsDamagedRow v row
+    pub unsaid_row : decoded_row v row ≡ None → IsDamagedRow v row
     unsaid_row is =
         elim (cases_Bool (list_any is_damaged_at (hosts v))) [
           | inl t ↦
@@ -275,17 +275,17 @@ module _ (v : Version) (row : List ℕ) where
 
       cell_seen : (host : ℕ) → (host < hosts_in v) ⊎ (hosts_in v ≤ host) → host < HOSTS_ROOM → HoldsAt (IsSeenAs v spelled (seen_at (row_seen v row) host)) read.cells host
       cell_seen host (inl below) few d =
-          subst (λ (s : SeenBlock). IsSeenAs v spelled s (slice_index_or read.cells host d)) (sym (seen_at-row_seen host below)) (seen_cell host (slice_index_or read.cells host d) (is.cells host below d))
+          subst (λ (s : DecodedBlock). IsSeenAs v spelled s (slice_index_or read.cells host d)) (sym (seen_at-row_seen host below)) (seen_cell host (slice_index_or read.cells host d) (is.cells host below d))
       cell_seen host (inr from) few d =
-          subst (λ (s : SeenBlock). IsSeenAs v spelled s (slice_index_or read.cells host d)) (sym (seen_other host from)) (subst (λ (c : Cell V). IsSeenAs v spelled blank_seen c) (sym (is.others host from few d)) blank_is_blank)
+          subst (λ (s : DecodedBlock). IsSeenAs v spelled s (slice_index_or read.cells host d)) (sym (seen_other host from)) (subst (λ (c : Cell V). IsSeenAs v spelled blank_seen c) (sym (is.others host from few d)) blank_is_blank)
 
       -- the cells of a row that is read are those that it says
-      pub row_is_said : IsSomeAnd (row_said v row) (λ seen. AreSeenAs v spelled seen read)
+      pub row_is_said : IsSomeAnd (decoded_row v row) (λ seen. AreSeenAs v spelled seen read)
       row_is_said =
-          subst (λ (o : Option (List SeenBlock)). IsSomeAnd o (λ seen. AreSeenAs v spelled seen read)) (sym (sound_row sound_blocks)) (record {
+          subst (λ (o : Option (List DecodedBlock)). IsSomeAnd o (λ seen. AreSeenAs v spelled seen read)) (sym (sound_row sound_blocks)) (record {
             count = length-map-range_with_len (λ h. seen_in v (block_of v h row)) 0 (hosts_in v);
             cells = λ host few. cell_seen host (cases_lt host (hosts_in v)) few;
           })
 
-      pub row_is_not_unsaid : row_said v row ≢ None
+      pub row_is_not_unsaid : decoded_row v row ≢ None
       row_is_not_unsaid none = let some = sound_row sound_blocks in absurd cc

@@ -10,7 +10,7 @@ use Rattle.torn_block.specs.layouts.Block.{next_number}
 use Rattle.paxos_block.specs.declared.ballot.TheConstants.{LAST_BALLOT}
 use Rattle.paxos_block.specs.layouts.Saying.{Said, said_as}
 use Rattle.paxos_block.specs.layouts.Ballot.{owner_of, IsBallotOf}
-use Rattle.paxos_block.specs.layouts.Row.{IsSaid, SeenBlock, number_or_zero, blank, blank_seen}
+use Rattle.paxos_block.specs.layouts.Row.{IsSaid, DecodedBlock, number_or_zero, blank, blank_seen}
 use Rattle.paxos_block.specs.layouts.Saying.{IsVoteOf, MaySay}
 use Rattle.paxos_block.specs.layouts.Votes.{says_in, ballot_above, greatest, later_of, latest_below, marked, marked_below}
 use Rattle.std.specs.Option.{option_map, option_or}
@@ -69,7 +69,7 @@ greatest_same (suc n) g h e =
 -- THE FIRST MARKED BLOCK
 
 -- it is the first of however many blocks more
-pub first_marked : (row : List SeenBlock) (g n : ℕ) (value : List ℕ) → g < n → marked_below row g ≡ None → marked (says_in row g) ≡ Some value → marked_below row n ≡ Some value
+pub first_marked : (row : List DecodedBlock) (g n : ℕ) (value : List ℕ) → g < n → marked_below row g ≡ None → marked (says_in row g) ≡ Some value → marked_below row n ≡ Some value
 first_marked row g zero value below none is = absurd (omega arith)
 first_marked row g (suc n) value below none is =
     elim (cases_lt g n) [
@@ -126,33 +126,33 @@ greatest_next n f = let e : n + 1 ≡ suc n = omega arith in rw e refl
 pub max_is : (a b : ℕ) → ord_max nat_cmp a b ≡ max a b
 max_is a b = grind (arith, nat_tests)
 
-pub latest_own : (host : ℕ) (row : List SeenBlock) (g : ℕ) (best : Said) → g ≡ host → latest_below host row (g + 1) best ≡ latest_below host row g best
+pub latest_own : (host : ℕ) (row : List DecodedBlock) (g : ℕ) (best : Said) → g ≡ host → latest_below host row (g + 1) best ≡ latest_below host row g best
 latest_own host row g best is =
     let e : g + 1 ≡ suc g = omega arith in
     let t : (g == host) ≡ true = eq-eqb g host is in
     rw (e, t) refl
 
-pub latest_other : (host : ℕ) (row : List SeenBlock) (g : ℕ) (best : Said) → g ≢ host → latest_below host row (g + 1) best ≡ later_of (latest_below host row g best) (says_in row g)
+pub latest_other : (host : ℕ) (row : List DecodedBlock) (g : ℕ) (best : Said) → g ≢ host → latest_below host row (g + 1) best ≡ later_of (latest_below host row g best) (says_in row g)
 latest_other host row g best not =
     let e : g + 1 ≡ suc g = omega arith in
     let t : (g == host) ≡ false = ne_eqb g host not in
     rw (e, t) refl
 
-abbrev pub other_mbal : ℕ → List SeenBlock → ℕ → ℕ
+abbrev pub other_mbal : ℕ → List DecodedBlock → ℕ → ℕ
 other_mbal host row k = if k == host then 0 else (says_in row k).mbal
 
-pub others_own : (host : ℕ) (row : List SeenBlock) (g : ℕ) → g ≡ host → greatest (g + 1) (other_mbal host row) ≡ greatest g (other_mbal host row)
+pub others_own : (host : ℕ) (row : List DecodedBlock) (g : ℕ) → g ≡ host → greatest (g + 1) (other_mbal host row) ≡ greatest g (other_mbal host row)
 others_own host row g is =
     let t : (g == host) ≡ true = eq-eqb g host is in
     let zero_here : other_mbal host row g ≡ 0 = ap (λ (b : Bool). if b then 0 else (says_in row g).mbal) t in
     greatest_next g (other_mbal host row) ∙ (omega (arith, zero_here))
 
-pub others_other : (host : ℕ) (row : List SeenBlock) (g : ℕ) → g ≢ host → greatest (g + 1) (other_mbal host row) ≡ max (greatest g (other_mbal host row)) (says_in row g).mbal
+pub others_other : (host : ℕ) (row : List DecodedBlock) (g : ℕ) → g ≢ host → greatest (g + 1) (other_mbal host row) ≡ max (greatest g (other_mbal host row)) (says_in row g).mbal
 others_other host row g not =
     let t : (g == host) ≡ false = ne_eqb g host not in
     greatest_next g (other_mbal host row) ∙ ap (λ (b : Bool). max (greatest g (other_mbal host row)) (if b then 0 else (says_in row g).mbal)) t
 
-pub marked_next : (row : List SeenBlock) (g : ℕ) → marked_below row (g + 1) ≡ option_or (marked_below row g) (marked (says_in row g))
+pub marked_next : (row : List DecodedBlock) (g : ℕ) → marked_below row (g + 1) ≡ option_or (marked_below row g) (marked (says_in row g))
 marked_next row g = let e : g + 1 ≡ suc g = omega arith in rw e refl
 
 pub or_mapped : {V : Type 0} (f : V → List ℕ) (a b : Option V) → option_map f (option_or a b) ≡ option_or (option_map f a) (option_map f b)
@@ -180,11 +180,11 @@ later_blank best =
     let never : nat_lt best.bal 0 ≡ false = grind (arith, nat_tests) in
     ap (λ (b : Bool). if b then blank else best) never
 
-latest_same : (host : ℕ) (row : List SeenBlock) (best : Said) (m : ℕ) (t : Bool) → says_in row m ≡ blank → (if t then latest_below host row m best else later_of (latest_below host row m best) (says_in row m)) ≡ latest_below host row m best
+latest_same : (host : ℕ) (row : List DecodedBlock) (best : Said) (m : ℕ) (t : Bool) → says_in row m ≡ blank → (if t then latest_below host row m best else later_of (latest_below host row m best) (says_in row m)) ≡ latest_below host row m best
 latest_same host row best m true is = refl
 latest_same host row best m false is = ap (later_of (latest_below host row m best)) is ∙ later_blank (latest_below host row m best)
 
-pub latest_rest : (host : ℕ) (row : List SeenBlock) (best : Said) (n m : ℕ) → n ≤ m → RestIs (λ g. says_in row g ≡ blank) n m → latest_below host row m best ≡ latest_below host row n best
+pub latest_rest : (host : ℕ) (row : List DecodedBlock) (best : Said) (n m : ℕ) → n ≤ m → RestIs (λ g. says_in row g ≡ blank) n m → latest_below host row m best ≡ latest_below host row n best
 latest_rest host row best n zero few rest = let none : 0 ≡ n = omega arith in ap (λ (k : ℕ). latest_below host row k best) none
 latest_rest host row best n (suc m) few rest =
     elim (cases_lt m n) [
@@ -196,7 +196,7 @@ or_none : (o : Option (List ℕ)) → option_or o None ≡ o
 or_none None = refl
 or_none (Some value) = refl
 
-pub marked_rest : (row : List SeenBlock) (n m : ℕ) → n ≤ m → RestIs (λ g. says_in row g ≡ blank) n m → marked_below row m ≡ marked_below row n
+pub marked_rest : (row : List DecodedBlock) (n m : ℕ) → n ≤ m → RestIs (λ g. says_in row g ≡ blank) n m → marked_below row m ≡ marked_below row n
 marked_rest row n zero few rest = let none : 0 ≡ n = omega arith in ap (marked_below row) none
 marked_rest row n (suc m) few rest =
     elim (cases_lt m n) [
@@ -208,5 +208,5 @@ marked_rest row n (suc m) few rest =
     ]
 
 -- so it is in a row
-pub says_rest : (v : Version) (row : List SeenBlock) → length row ≡ hosts_in v → RestIs (λ g. says_in row g ≡ blank) (hosts_in v) HOSTS_ROOM
-says_rest v row count g from below = ap (λ (s : SeenBlock). s.says) (get_or_past row g blank_seen (omega (arith, count, from)))
+pub says_rest : (v : Version) (row : List DecodedBlock) → length row ≡ hosts_in v → RestIs (λ g. says_in row g ≡ blank) (hosts_in v) HOSTS_ROOM
+says_rest v row count g from below = ap (λ (s : DecodedBlock). s.says) (get_or_past row g blank_seen (omega (arith, count, from)))

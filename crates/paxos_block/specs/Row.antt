@@ -3,7 +3,7 @@ use Rattle.std.specs.Prelude.{ℕ, Bool, List, Option}
 use Rattle.torn_block.specs.Layout.{cluster_version}
 use Rattle.paxos_block.specs.layouts.Saying.{Said}
 use Rattle.paxos_block.specs.layouts.Row as by
-pub use Rattle.paxos_block.specs.layouts.Row.{blank, SeenBlock, number_or_zero, sequence_or_zero, blank_seen, seen_at}
+pub use Rattle.paxos_block.specs.layouts.Row.{blank, DecodedBlock, number_or_zero, sequence_or_zero, blank_seen, seen_at}
 
 abbrev pub copy_saying : ℕ → Said → List ℕ
 copy_saying = by.copy_saying cluster_version
@@ -26,14 +26,14 @@ is_sound = by.is_sound cluster_version
 abbrev pub is_damaged_block : ℕ → List ℕ → Bool
 is_damaged_block = by.is_damaged_block cluster_version
 
-abbrev pub seen_in : List ℕ → SeenBlock
+abbrev pub seen_in : List ℕ → DecodedBlock
 seen_in = by.seen_in cluster_version
 
 abbrev pub hosts : List ℕ
 hosts = by.hosts cluster_version
 
-abbrev pub row_seen : List ℕ → List SeenBlock
+abbrev pub row_seen : List ℕ → List DecodedBlock
 row_seen = by.row_seen cluster_version
 
-abbrev pub row_said : List ℕ → Option (List SeenBlock)
-row_said = by.row_said cluster_version
+abbrev pub decoded_row : List ℕ → Option (List DecodedBlock)
+decoded_row = by.decoded_row cluster_version

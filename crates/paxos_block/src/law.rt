@@ -14,7 +14,7 @@ ghost use Rattle.torn_block.specs.Stage.{Write128, call_of, IsDone, IsDue, IsPla
 ghost use Rattle.paxos_block.specs.declared.row.Row.{Row};
 ghost use Rattle.paxos_block.specs.layouts.Ballot.{IsBallotOf, majority};
 ghost use Rattle.paxos_block.specs.layouts.Places.{place_of, Spot, BeatOf, VoteOf, IsSpot, IsImage, IsWithin, IsSoundAt, IsWriteOf, Holds, CellReads, SeenReads, row_of, area_of};
-ghost use Rattle.paxos_block.specs.layouts.Row.{IsRow, IsSound, IsSaid, IsDamagedRow, says_of, SeenBlock, seen_in, seen_at, row_seen, row_said};
+ghost use Rattle.paxos_block.specs.layouts.Row.{IsRow, IsSound, IsSaid, IsDamagedRow, says_of, DecodedBlock, seen_in, seen_at, row_seen, decoded_row};
 ghost use Rattle.paxos_block.specs.layouts.Saying.{Said, MaySay, body_saying};
 
 /// A ballot has one owner, and two majorities have a disk in common.
@@ -38,14 +38,14 @@ pub fn blocks_say()
 /// A row says what each of its blocks says, or nothing where one is damaged.
 pub fn rows_say()
     ensures damaged { (v : Version) (row : List ℕ) → length row ≡ row_length v → AreBytes row →
-        (row_said v row ≡ None) ↔ IsDamagedRow v row }
+        (decoded_row v row ≡ None) ↔ IsDamagedRow v row }
     ensures sound { (v : Version) (row : List ℕ) → length row ≡ row_length v →
         ((host : ℕ) → host < hosts_in v → IsSoundBlock v (IsSound v host) (block_of v host row)) →
-        row_said v row ≡ Some (row_seen v row) }
-    ensures seen { (v : Version) (row : List ℕ) (seen : List SeenBlock) (host : ℕ) → host < hosts_in v →
-        row_said v row ≡ Some seen → seen_at seen host ≡ seen_in v (block_of v host row) }
-    ensures said { (v : Version) (row : List ℕ) (seen : List SeenBlock) (host : ℕ) → host < hosts_in v →
-        row_said v row ≡ Some seen →
+        decoded_row v row ≡ Some (row_seen v row) }
+    ensures seen { (v : Version) (row : List ℕ) (seen : List DecodedBlock) (host : ℕ) → host < hosts_in v →
+        decoded_row v row ≡ Some seen → seen_at seen host ≡ seen_in v (block_of v host row) }
+    ensures said { (v : Version) (row : List ℕ) (seen : List DecodedBlock) (host : ℕ) → host < hosts_in v →
+        decoded_row v row ≡ Some seen →
         IsSaid v host (value_of v (seen_at seen host).bytes) (seen_at seen host).says }
 {}
 
@@ -70,9 +70,9 @@ pub fn blocks_apart()
         (row : Row (List ℕ)) → host < hosts_in v → Holds v disk (VoteOf slot host) r →
         IsRow v spelled (row_of v slot disk.bytes) row →
         HoldsAt (CellReads v spelled r) row.cells host }
-    ensures told { (v : Version) (disk : DiskState) (slot host : ℕ) (r : Register) (seen : List SeenBlock) →
+    ensures told { (v : Version) (disk : DiskState) (slot host : ℕ) (r : Register) (seen : List DecodedBlock) →
         host < hosts_in v → Holds v disk (VoteOf slot host) r →
-        row_said v (row_of v slot disk.bytes) ≡ Some seen → SeenReads v r (seen_at seen host) }
+        decoded_row v (row_of v slot disk.bytes) ≡ Some seen → SeenReads v r (seen_at seen host) }
     ensures row { (v : Version) (bytes : List ℕ) (slot host : ℕ) → host < hosts_in v →
         block_of v host (row_of v slot bytes) ≡ block_in v (place_of v (VoteOf slot host)) bytes }
     ensures area { (v : Version) (bytes : List ℕ) (host : ℕ) → host < hosts_in v →

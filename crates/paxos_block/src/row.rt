@@ -4,11 +4,11 @@ ghost use Rattle.torn_block.specs.layouts.Damage;
 ghost use Rattle.torn_block.specs.Layout.{hosts_in, block_length, row_length};
 ghost use Rattle.paxos_block.specs.Damage.{AreDamagedBlocks, damaged_in};
 ghost use Rattle.paxos_block.specs.Row as cluster;
-ghost use Rattle.paxos_block.specs.layouts.Row.{IsRow, IsDamagedRow, SeenBlock, row_said, seen_at, IsSeenAs, AreSeenAs, blank_cell};
+ghost use Rattle.paxos_block.specs.layouts.Row.{IsRow, IsDamagedRow, DecodedBlock, decoded_row, seen_at, IsSeenAs, AreSeenAs, blank_cell};
 ghost use Rattle.torn_block.specs.declared.layout.TheConstants.{HOSTS, HOSTS_ROOM};
 ghost use Rattle.torn_block.specs.Layout.{Version};
 ghost use Rattle.paxos_block.specs.layouts.Saying.{said_as};
-ghost use Rattle.paxos_block.specs.layouts.Votes.{top_of, others_top_of, latest_in, marked_in};
+ghost use Rattle.paxos_block.specs.layouts.Votes.{highest_mbal, highest_mbal_of_others, latest_in, marked_in};
 
 use crate::block::PBlock;
 use crate::cell::{Cell, is_blank, is_damaged_block, read_cell};
@@ -36,7 +36,7 @@ impl<V: Copy> Row<V> {
     /// A host's block.
     pub fn cell(&self, host: u8) -> &Cell<V>
         requires { host < HOSTS_ROOM }
-        ensures { (v : Version) (spelled : V → List ℕ) (seen : List SeenBlock) →
+        ensures { (v : Version) (spelled : V → List ℕ) (seen : List DecodedBlock) →
             AreSeenAs v spelled seen self.now → IsSeenAs v spelled (seen_at seen host) result.now }
     {
         &self.cells[usize::from(host)]
@@ -44,8 +44,8 @@ impl<V: Copy> Row<V> {
 
     /// The greatest mbal of all hosts.
     pub fn greatest_mbal(&self) -> u64
-        ensures { (v : Version) (spelled : V → List ℕ) (seen : List SeenBlock) →
-            AreSeenAs v spelled seen self.now → result ≡ top_of v seen }
+        ensures { (v : Version) (spelled : V → List ℕ) (seen : List DecodedBlock) →
+            AreSeenAs v spelled seen self.now → result ≡ highest_mbal v seen }
     {
         let mut greatest = 0;
         for g in 0..HOSTS_ROOM {
@@ -56,8 +56,8 @@ impl<V: Copy> Row<V> {
 
     /// The greatest mbal of all hosts but this one.
     pub fn others_mbal(&self, host: u8) -> u64
-        ensures { (v : Version) (spelled : V → List ℕ) (seen : List SeenBlock) →
-            AreSeenAs v spelled seen self.now → result ≡ others_top_of v host seen }
+        ensures { (v : Version) (spelled : V → List ℕ) (seen : List DecodedBlock) →
+            AreSeenAs v spelled seen self.now → result ≡ highest_mbal_of_others v host seen }
     {
         let mut top = 0;
         for other in 0..HOSTS_ROOM {
@@ -71,7 +71,7 @@ impl<V: Copy> Row<V> {
     /// The latest among a vote and those of all hosts but this one: of several with one bal the first, and `best`
     /// before all.
     pub fn latest_vote(&self, host: u8, best: PBlock<V>) -> PBlock<V>
-        ensures { (v : Version) (spelled : V → List ℕ) (seen : List SeenBlock) →
+        ensures { (v : Version) (spelled : V → List ℕ) (seen : List DecodedBlock) →
             AreSeenAs v spelled seen self.now →
             said_as spelled result ≡ latest_in v host seen (said_as spelled best) }
     {
@@ -86,7 +86,7 @@ impl<V: Copy> Row<V> {
 
     /// The input of the first marked block, by host.
     pub fn marked(&self) -> Option<V>
-        ensures { (v : Version) (spelled : V → List ℕ) (seen : List SeenBlock) →
+        ensures { (v : Version) (spelled : V → List ℕ) (seen : List DecodedBlock) →
             AreSeenAs v spelled seen self.now → option_map spelled result ≡ marked_in v seen }
     {
         // Most rows have no mark, so nothing is copied on the way to one.
@@ -105,8 +105,8 @@ pub fn read_row<L: Layout>(row: &mut Row<L::Value>, bytes: &[u8]) -> Result<(), 
     ensures damaged { IsErr result ↔ IsDamagedRow L.version bytes.now }
     ensures row { OnOk result (IsRow L.version L.spelled bytes.now row.new) }
     // The result once more, as the one function of the bytes that the contracts of other crates use.
-    ensures unsaid { IsErr result ↔ (row_said L.version bytes.now ≡ None) }
-    ensures said { OnOk result (IsSomeAnd (row_said L.version bytes.now)
+    ensures unsaid { IsErr result ↔ (decoded_row L.version bytes.now ≡ None) }
+    ensures said { OnOk result (IsSomeAnd (decoded_row L.version bytes.now)
         (λ seen. AreSeenAs L.version L.spelled seen row.new)) }
 {
     // Cells of hosts that the layout does not have.
@@ -143,9 +143,9 @@ pub fn decode_row<L: Layout>(bytes: &[u8]) -> Result<Row<L::Value>, Damaged>
     ensures damaged { IsErr result ↔ IsDamagedRow L.version bytes.now }
     ensures row { IfOk result (IsRow L.version L.spelled bytes.now) }
     // The result once more, as the one function of the bytes that the contracts of other crates use.
-    ensures unsaid { IsErr result ↔ (row_said L.version bytes.now ≡ None) }
+    ensures unsaid { IsErr result ↔ (decoded_row L.version bytes.now ≡ None) }
     ensures said { IfOk result (λ row.
-        IsSomeAnd (row_said L.version bytes.now) (λ seen. AreSeenAs L.version L.spelled seen row)) }
+        IsSomeAnd (decoded_row L.version bytes.now) (λ seen. AreSeenAs L.version L.spelled seen row)) }
 {
     let mut row = Row::blank();
     read_row::<L>(&mut row, bytes)?;

@@ -9,7 +9,7 @@ use Rattle.torn_block.specs.declared.write_steps.WriteCall.TheVariants.{CloseGat
 use Rattle.torn_block.specs.layouts.Plan.{Plan, IsReading, plan_by, next_after}
 use Rattle.paxos_block.specs.layouts.Saying.{Said}
 use Rattle.paxos_block.specs.declared.cell.Cell.{Cell}
-use Rattle.paxos_block.specs.layouts.Row.{SeenBlock, seen_at, row_said, IsSeenAs, AreSeenAs}
+use Rattle.paxos_block.specs.layouts.Row.{DecodedBlock, seen_at, decoded_row, IsSeenAs, AreSeenAs}
 use Rattle.paxos_block.specs.declared.row.Row.{Row}
 use Rattle.std.specs.Option.{IsSomeAnd}
 use Rattle.paxos_block.specs.layouts.Saying.{body_saying}
@@ -37,12 +37,12 @@ use Rattle.phases.proofs.Visiting.{no_answers}
 use Rattle.phases.proofs.Hearing.{IsDue, Stays, Ending, Dropped, Read, left_now, same_not_outrun, same_rows_kept, follows, opened_stays, remembers_more, due_there, remembers_now, boot_stays, stays_there, passes}
 
 -- what a row was read as
-reads_by : {V : Type 0} (v : Version) (spelled : V → List ℕ) (bytes : List ℕ) (row : Row V) (o : Option (List SeenBlock)) → row_said v bytes ≡ o → IsSomeAnd o (λ seen. AreSeenAs v spelled seen row) → ReadsAs v spelled bytes row
+reads_by : {V : Type 0} (v : Version) (spelled : V → List ℕ) (bytes : List ℕ) (row : Row V) (o : Option (List DecodedBlock)) → decoded_row v bytes ≡ o → IsSomeAnd o (λ seen. AreSeenAs v spelled seen row) → ReadsAs v spelled bytes row
 reads_by v spelled bytes row None is some = absurd some
 reads_by v spelled bytes row (Some seen) is so = record { seen = seen; said = is; so = so }
 
-pub reads_as : {V : Type 0} (v : Version) (spelled : V → List ℕ) (bytes : List ℕ) (row : Row V) → IsSomeAnd (row_said v bytes) (λ seen. AreSeenAs v spelled seen row) → ReadsAs v spelled bytes row
-reads_as v spelled bytes row so = reads_by v spelled bytes row (row_said v bytes) refl so
+pub reads_as : {V : Type 0} (v : Version) (spelled : V → List ℕ) (bytes : List ℕ) (row : Row V) → IsSomeAnd (decoded_row v bytes) (λ seen. AreSeenAs v spelled seen row) → ReadsAs v spelled bytes row
+reads_as v spelled bytes row so = reads_by v spelled bytes row (decoded_row v bytes) refl so
 
 -- what is known where a call is due, of an attempt that goes on
 pub visiting : (f : Answers) (n : Notes) → n.end ≡ None → Follows f n → IsVisiting n.phase f n
@@ -145,7 +145,7 @@ module _ (q : code_phase.Phase) (f : Answers) (n : Notes) (v : IsVisiting q f n)
 
   -- A ROW WAS READ
 
-  module _ (at : n.stage ≡ stage.Reading) (row : List SeenBlock) where
+  module _ (at : n.stage ≡ stage.Reading) (row : List DecodedBlock) where
     pub last : length (f d) + 1 ≡ goal p
     last =
         let so : length (f d) ≡ pred (goal p) = v.answers ∙ ap (answered p) at in
@@ -186,8 +186,8 @@ module _ (q : code_phase.Phase) (f : Answers) (n : Notes) (v : IsVisiting q f n)
         (ap (λ (w : Visit). w.left) (set_is room new) ∙ left_now q f n v order)
         (λ kept. subst (Remembers s.version s.host (f d ++ Told (Some row) ∷ [])) (sym (set_is room new)) (record {
           boot = boot_stays q f n v order (Told (Some row)) (some_answers p last);
-          read = subst (λ (o : Option (List SeenBlock)). IsReading s.version (seen_block o s.host).bytes cell.block) (sym row_is) shows.read;
-          sequence = shows.sequence ∙ ap (λ (o : Option (List SeenBlock)). (seen_block o s.host).sequence) (sym row_is);
+          read = subst (λ (o : Option (List DecodedBlock)). IsReading s.version (seen_block o s.host).bytes cell.block) (sym row_is) shows.read;
+          sequence = shows.sequence ∙ ap (λ (o : Option (List DecodedBlock)). (seen_block o s.host).sequence) (sym row_is);
         }))
 
 -- an attach comes first in the opening

@@ -3,7 +3,7 @@ use Rattle.std.specs.Prelude.{nat_lt, nat_le}
 use Rattle.std.proofs.Common.{◌≡◌, ◌≢◌, ◌+◌, ◌*◌, ◌<◌, ◌≤◌, ◌&&◌, not, ℕ, Bool, true, false, Option, Some, None, List, [], ◌∷◌, ◌++◌, length, is_some, inl, inr, refl, sym, subst, ap, ap₂, ◌∙◌, arith}
 use Rattle.std.proofs.lemmas.Bool.{cases_eq, and_from, and_left, and_right, le-leb, lt-leb}
 use Rattle.paxos_block.specs.layouts.Saying.{Said}
-use Rattle.paxos_block.specs.layouts.Row.{SeenBlock, number_or_zero}
+use Rattle.paxos_block.specs.layouts.Row.{DecodedBlock, number_or_zero}
 use Rattle.torn_block.specs.Layout.{Version}
 use Rattle.torn_block.specs.declared.block.Block128.{Block128}
 use Rattle.torn_block.specs.layouts.Plan.{IsReading, told_number}
@@ -121,7 +121,7 @@ pub record Stays (p : Phase) (a : List Heard) (x : Heard) : Type 0 where
 -- a bad one drops the disk, and a row ends the phase there
 pub data Ending (p : Phase) (a : List Heard) (x : Heard) : Type 0 where
   Dropped : is_bad x ≡ true → told x ≡ None → Ending p a x
-  Read : (row : List SeenBlock) → x ≡ Told (Some row) → length a + 1 ≡ goal p → Ending p a x
+  Read : (row : List DecodedBlock) → x ≡ Told (Some row) → length a + 1 ≡ goal p → Ending p a x
 
 -- whether the disk is left then
 abbrev pub keeps_it : (p : Phase) (a : List Heard) (x : Heard) → Ending p a x → Bool
@@ -288,8 +288,8 @@ remembers_more v host a x old new none boot same is =
     let last : last_row (a ++ x ∷ []) ≡ last_row a = last_more a x ∙ ap (later_row (last_row a)) none in
     record {
       boot = boot;
-      read = subst (IsReading v (seen_block (last_row (a ++ x ∷ [])) host).bytes) same (subst (λ (o : Option (List SeenBlock)). IsReading v (seen_block o host).bytes old.block) (sym last) is.read);
-      sequence = ap (λ (b : Block128). number_or_zero (told_number b)) (sym same) ∙ is.sequence ∙ ap (λ (o : Option (List SeenBlock)). (seen_block o host).sequence) (sym last);
+      read = subst (IsReading v (seen_block (last_row (a ++ x ∷ [])) host).bytes) same (subst (λ (o : Option (List DecodedBlock)). IsReading v (seen_block o host).bytes old.block) (sym last) is.read);
+      sequence = ap (λ (b : Block128). number_or_zero (told_number b)) (sym same) ∙ is.sequence ∙ ap (λ (o : Option (List DecodedBlock)). (seen_block o host).sequence) (sym last);
     }
 
 module _ (q : code_phase.Phase) (f : Answers) (n : Notes) (v : IsVisiting q f n) (order : IsInOrder n.of (phase_in q) n.disk f) where

@@ -6,9 +6,9 @@ use Rattle.torn_block.specs.Layout.{Version, hosts_in}
 use Rattle.torn_block.specs.layouts.Block.{value_of}
 use Rattle.paxos_block.specs.layouts.Saying.{Said}
 use Rattle.paxos_block.specs.declared.cell.Cell.{Cell}
-use Rattle.paxos_block.specs.layouts.Row.{SeenBlock, seen_at, row_said, IsSeenAs}
+use Rattle.paxos_block.specs.layouts.Row.{DecodedBlock, seen_at, decoded_row, IsSeenAs}
 use Rattle.paxos_block.specs.layouts.Saying.{IsVoteOf}
-use Rattle.paxos_block.specs.layouts.Votes.{says_in, top_of, others_top_of, later_of, latest_in, marked_in}
+use Rattle.paxos_block.specs.layouts.Votes.{says_in, highest_mbal, highest_mbal_of_others, later_of, latest_in, marked_in}
 use Rattle.paxos_block.proofs.RowLemmas.{said_is_said}
 use Rattle.paxos_block.proofs.VoteLemmas.{greatest_is_greatest, vote_at, vote_in, later_vote}
 use Rattle.attempt.specs.Calls.{Phase, Opening, One, start, goal}
@@ -38,18 +38,18 @@ use Rattle.phases.proofs.Answering.{is_last, is_read, reads}
 -- WHAT A ROW SAYS OF ITS HOST
 
 -- the later of the own vote and the row's is one up to the highest number seen
-own_vote : (v : Version) (bytes : List ℕ) (seen : List SeenBlock) (host : ℕ) (n : ℕ) (vote : Said) → host < hosts_in v → row_said v bytes ≡ Some seen → IsVoteOf v host n vote.bal vote.inp
-    → IsVoteOf v host (max n (top_of v seen)) (later_of vote (says_in seen host)).bal (later_of vote (says_in seen host)).inp
+own_vote : (v : Version) (bytes : List ℕ) (seen : List DecodedBlock) (host : ℕ) (n : ℕ) (vote : Said) → host < hosts_in v → decoded_row v bytes ≡ Some seen → IsVoteOf v host n vote.bal vote.inp
+    → IsVoteOf v host (max n (highest_mbal v seen)) (later_of vote (says_in seen host)).bal (later_of vote (says_in seen host)).inp
 own_vote v bytes seen host n vote below said voted =
     let in_row = says_in seen host in
-    let m = max n (top_of v seen) in
+    let m = max n (highest_mbal v seen) in
     let most = greatest_is_greatest (hosts_in v) (λ g. (says_in seen g).mbal) host below in
     let low : in_row.mbal ≤ m = omega (arith, most) in
     let own : IsVoteOf v host m in_row.bal in_row.inp = vote_at v host in_row.mbal m in_row.bal in_row.inp low (vote_in v host (value_of v (seen_at seen host).bytes) in_row (said_is_said v bytes seen host below said)) in
     later_vote v host m vote in_row (vote_at v host n m vote.bal vote.inp (omega arith) voted) own
 
 -- so what is kept in the opening stays sound
-pub opening_sound : (bytes : List ℕ) (seen : List SeenBlock) (n : Notes) (h : ℕ) (b says : Said) (told : Option (List ℕ)) → IsSound n → n.phase ≡ phase.Opening → row_said n.of.version bytes ≡ Some seen → h ≡ max n.highest (top_of n.of.version seen) → b ≡ later_of n.best says → says ≡ says_in seen n.of.host
+pub opening_sound : (bytes : List ℕ) (seen : List DecodedBlock) (n : Notes) (h : ℕ) (b says : Said) (told : Option (List ℕ)) → IsSound n → n.phase ≡ phase.Opening → decoded_row n.of.version bytes ≡ Some seen → h ≡ max n.highest (highest_mbal n.of.version seen) → b ≡ later_of n.best says → says ≡ says_in seen n.of.host
     → IsSound (record n { highest = h; best = b; decided = told })
 opening_sound bytes seen n h b says told is first said h_is b_is says_is = record {
   is_host = is.is_host;
@@ -58,7 +58,7 @@ opening_sound bytes seen n h b says told is first said h_is b_is says_is = recor
   said = subst (λ (q : code_phase.Phase). SaysWell q (record n { highest = h; best = b; decided = told })) (sym first) (
       let best_is : later_of n.best (says_in seen n.of.host) ≡ b = ap (later_of n.best) (sym says_is) ∙ sym b_is in
       subst (λ (k : ℕ). IsVoteOf n.of.version n.of.host k b.bal b.inp) (sym h_is)
-      (subst (λ (x : Said). IsVoteOf n.of.version n.of.host (max n.highest (top_of n.of.version seen)) x.bal x.inp) best_is
+      (subst (λ (x : Said). IsVoteOf n.of.version n.of.host (max n.highest (highest_mbal n.of.version seen)) x.bal x.inp) best_is
       (own_vote n.of.version bytes seen n.of.host n.highest n.best is.is_host said (subst (λ (q : code_phase.Phase). SaysWell q n) first is.said))));
   due = is.due;
 }
@@ -70,19 +70,19 @@ above_none : (mbal others : ℕ) → others ≤ mbal → None ≡ above mbal oth
 above_none mbal others low = sym (ap (λ (t : Bool). if t then Some others else None) (le-ltb mbal others low))
 
 -- what is noted then
-pub opens : (n : Notes) (seen : List SeenBlock) (h : ℕ) (b : Said) (told : Option (List ℕ)) → n.phase ≡ phase.Opening → h ≡ max n.highest (top_of n.of.version seen) → b ≡ later_of n.best (says_in seen n.of.host) → told ≡ or_else n.decided (marked_in n.of.version seen)
+pub opens : (n : Notes) (seen : List DecodedBlock) (h : ℕ) (b : Said) (told : Option (List ℕ)) → n.phase ≡ phase.Opening → h ≡ max n.highest (highest_mbal n.of.version seen) → b ≡ later_of n.best (says_in seen n.of.host) → told ≡ or_else n.decided (marked_in n.of.version seen)
     → record n { highest = h; best = b; decided = told } ≡ noted n.phase n seen
 opens n seen h b told first h_is b_is told_is =
     subst (λ (q : code_phase.Phase). record n { highest = h; best = b; decided = told } ≡ noted q n seen) (sym first)
     (λ i. record n { highest = h_is i; best = b_is i; decided = told_is i })
 
 -- another host's greater ballot outruns the one that was taken, and no other does
-pub outruns_some : (q : code_phase.Phase) (n : Notes) (seen : List SeenBlock) (others : ℕ) → q ≢ phase.Opening → others ≡ others_top_of n.of.version n.of.host seen → n.says.mbal < others → Some others ≡ outruns q n seen
+pub outruns_some : (q : code_phase.Phase) (n : Notes) (seen : List DecodedBlock) (others : ℕ) → q ≢ phase.Opening → others ≡ highest_mbal_of_others n.of.version n.of.host seen → n.says.mbal < others → Some others ≡ outruns q n seen
 outruns_some phase.Opening n seen others later is high = absurd (later refl)
 outruns_some phase.One n seen others later is high = above_some n.says.mbal others high ∙ ap (above n.says.mbal) is
 outruns_some phase.Two n seen others later is high = above_some n.says.mbal others high ∙ ap (above n.says.mbal) is
 
-pub outruns_none : (q : code_phase.Phase) (n : Notes) (seen : List SeenBlock) (others : ℕ) → q ≢ phase.Opening → others ≡ others_top_of n.of.version n.of.host seen → others ≤ n.says.mbal → None ≡ outruns q n seen
+pub outruns_none : (q : code_phase.Phase) (n : Notes) (seen : List DecodedBlock) (others : ℕ) → q ≢ phase.Opening → others ≡ highest_mbal_of_others n.of.version n.of.host seen → others ≤ n.says.mbal → None ≡ outruns q n seen
 outruns_none phase.Opening n seen others later is low = absurd (later refl)
 outruns_none phase.One n seen others later is low = above_none n.says.mbal others low ∙ ap (above n.says.mbal) is
 outruns_none phase.Two n seen others later is low = above_none n.says.mbal others low ∙ ap (above n.says.mbal) is
@@ -97,7 +97,7 @@ some_above : (others k : ℕ) (b : Bool) → (if b then Some others else None) �
 some_above others k true e = (refl, cc)
 some_above others k false e = absurd (cc)
 
-module _ (q : code_phase.Phase) (f : Answers) (n : Notes) (v : IsVisiting q f n) (order : IsInOrder n.of (phase_in q) n.disk f) (at : n.stage ≡ stage.Reading) (row : List SeenBlock) where
+module _ (q : code_phase.Phase) (f : Answers) (n : Notes) (v : IsVisiting q f n) (order : IsInOrder n.of (phase_in q) n.disk f) (at : n.stage ≡ stage.Reading) (row : List DecodedBlock) where
   abbrev p : Phase
   p = phase_in q
 
@@ -124,10 +124,10 @@ module _ (q : code_phase.Phase) (f : Answers) (n : Notes) (v : IsVisiting q f n)
   mbal_is b = ap (λ (x : Said). x.mbal) v.says ∙ b
 
   -- no other host is faster
-  runs : 3 ≤ start p → ((says_for s p f).mbal ≡ ballot s f) → (NotOutrun s p f → nat_lt (ballot s f) (others_mbal s p f) ≡ false) → above n.says.mbal (others_top_of s.version s.host row) ≡ None
+  runs : 3 ≤ start p → ((says_for s p f).mbal ≡ ballot s f) → (NotOutrun s p f → nat_lt (ballot s f) (others_mbal s p f) ≡ false) → above n.says.mbal (highest_mbal_of_others s.version s.host row) ≡ None
       → nat_lt (ballot s f') (others_mbal s p f') ≡ false
   runs later b run none =
-      let low = ltb-false n.says.mbal (others_top_of s.version s.host row) (none_above (others_top_of s.version s.host row) (nat_lt n.says.mbal (others_top_of s.version s.host row)) none) in
+      let low = ltb-false n.says.mbal (highest_mbal_of_others s.version s.host row) (none_above (highest_mbal_of_others s.version s.host row) (nat_lt n.says.mbal (highest_mbal_of_others s.version s.host row)) none) in
       let before = ltb-false (ballot s f) (others_mbal s p f) (run due.at.not_outrun) in
       let takes = others_takes s f d row p last in
       let same = ballot_same s f' f (kept Opening later) in
@@ -137,10 +137,10 @@ module _ (q : code_phase.Phase) (f : Answers) (n : Notes) (v : IsVisiting q f n)
   -- one is
   outrun_by : 3 ≤ start p → ((says_for s p f).mbal ≡ ballot s f) → ((says_for s p f').mbal ≡ ballot s f') → (IsOpenedIn s p f' → taken s f' ≡ ballot s f') → (NotOutrun s p f → nat_lt (ballot s f) (others_mbal s p f) ≡ false)
       → (IsIn s p f' → statuses.EnoughBefore s p f' → nat_lt (ballot s f') (others_mbal s p f') ≡ true → status s f' ≡ Ended (Outrun (others_mbal s p f')))
-      → (k : ℕ) → above n.says.mbal (others_top_of s.version s.host row) ≡ Some k → Follows f' (record n { end = Some (end.Outrun k) })
+      → (k : ℕ) → above n.says.mbal (highest_mbal_of_others s.version s.host row) ≡ Some k → Follows f' (record n { end = Some (end.Outrun k) })
   outrun_by later b b' opened run ends k some =
-      let is = some_above (others_top_of s.version s.host row) k (nat_lt n.says.mbal (others_top_of s.version s.host row)) some in
-      let high = ltb-true n.says.mbal (others_top_of s.version s.host row) is.0 in
+      let is = some_above (highest_mbal_of_others s.version s.host row) k (nat_lt n.says.mbal (highest_mbal_of_others s.version s.host row)) some in
+      let high = ltb-true n.says.mbal (highest_mbal_of_others s.version s.host row) is.0 in
       let before = ltb-false (ballot s f) (others_mbal s p f) (run due.at.not_outrun) in
       let takes = others_takes s f d row p last in
       let same = ballot_same s f' f (kept Opening later) in
@@ -163,13 +163,13 @@ module _ (q : code_phase.Phase) (f : Answers) (n : Notes) (v : IsVisiting q f n)
           (statuses.enough_part s p f due.at.enough))
 
 -- the row ends the phase on its disk
-pub row_passes : (q : code_phase.Phase) (f : Answers) (n : Notes) (v : IsVisiting q f n) (order : IsInOrder n.of (phase_in q) n.disk f) → n.stage ≡ stage.Reading → (row : List SeenBlock) → n.disk < length n.visits → (V : Type 0) (spelled : V → List ℕ) (cell : Cell V)
+pub row_passes : (q : code_phase.Phase) (f : Answers) (n : Notes) (v : IsVisiting q f n) (order : IsInOrder n.of (phase_in q) n.disk f) → n.stage ≡ stage.Reading → (row : List DecodedBlock) → n.disk < length n.visits → (V : Type 0) (spelled : V → List ℕ) (cell : Cell V)
     → IsSeenAs n.of.version spelled (seen_at row n.of.host) cell → outruns q n row ≡ None
     → IsPassed q (more f n.disk (Told (Some row))) (record (noted q n row) { visits = slice_set n.visits n.disk (record (visit_at n.visits n.disk) { block = cell.block }) }) (n.disk + 1)
 row_passes phase.Opening f n v order at row room V spelled cell shows none =
     let last = is_last phase.Opening f n v order at row in
     reads phase.Opening f n v order at row room V spelled cell shows _ _ _ (record {
-      highest = ap (λ (k : ℕ). max k (top_of n.of.version row)) v.rows.highest ∙ sym (highest_takes n.of f n.disk row last);
+      highest = ap (λ (k : ℕ). max k (highest_mbal n.of.version row)) v.rows.highest ∙ sym (highest_takes n.of f n.disk row last);
       best =
           ap (λ (x : Said). later_of x (says_in row n.of.host)) v.rows.best
           ∙ sym (best_opens n.of f n.disk row last (λ e l. row_none One (f e) (let most = order.behind e in omega arith)));
@@ -189,7 +189,7 @@ row_passes phase.Two f n v order at row room V spelled cell shows none =
     (runs phase.Two f n v order at row (omega arith) refl (λ run. run) none)
 
 -- or the attempt
-pub row_ends : (q : code_phase.Phase) (f : Answers) (n : Notes) (v : IsVisiting q f n) (order : IsInOrder n.of (phase_in q) n.disk f) → n.stage ≡ stage.Reading → (row : List SeenBlock) (k : ℕ) → outruns q n row ≡ Some k
+pub row_ends : (q : code_phase.Phase) (f : Answers) (n : Notes) (v : IsVisiting q f n) (order : IsInOrder n.of (phase_in q) n.disk f) → n.stage ≡ stage.Reading → (row : List DecodedBlock) (k : ℕ) → outruns q n row ≡ Some k
     → Follows (more f n.disk (Told (Some row))) (record n { end = Some (end.Outrun k) })
 row_ends phase.Opening f n v order at row k some = absurd (cc)
 row_ends phase.One f n v order at row k some =

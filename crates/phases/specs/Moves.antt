@@ -3,8 +3,8 @@
 use Rattle.std.specs.Prelude.{◌≡◌, ◌<◌, ◌≤◌, ◌*◌, ◌&&◌, ℕ, Bool, true, false, max, List, length, nat_lt, nat_le, slice_get, Option, Some, None, if◌then◌else◌}
 use Rattle.paxos_block.specs.layouts.Saying.{Said}
 use Rattle.paxos_block.specs.declared.row.Row.{Row}
-use Rattle.paxos_block.specs.layouts.Row.{SeenBlock, AreSeenAs, row_said}
-use Rattle.paxos_block.specs.layouts.Votes.{says_in, top_of, others_top_of, later_of, latest_in, marked_in}
+use Rattle.paxos_block.specs.layouts.Row.{DecodedBlock, AreSeenAs, decoded_row}
+use Rattle.paxos_block.specs.layouts.Votes.{says_in, highest_mbal, highest_mbal_of_others, later_of, latest_in, marked_in}
 use Rattle.attempt.specs.Calls.{Phase, Opening, One, Two, start, goal}
 use Rattle.attempt.specs.Answers.{Heard, Booted, Answers, more, all_good, row_in}
 use Rattle.attempt.specs.Numbers.{count}
@@ -45,34 +45,34 @@ Takes x old new = (f : Answers) → IsInOrder old.of (phase_in old.phase) old.di
 
 -- the bytes are a sound row, and this is what was made of it
 pub record ReadsAs {V : Type 0} (v : Version) (spelled : V → List ℕ) (bytes : List ℕ) (row : Row V) : Type 0 where
-  pub seen : List SeenBlock
-  pub said : row_said v bytes ≡ Some seen
+  pub seen : List DecodedBlock
+  pub said : decoded_row v bytes ≡ Some seen
   pub so : AreSeenAs v spelled seen row
 
 -- from phase 1 on another host's greater ballot ends the attempt
 abbrev pub above : ℕ → ℕ → Option ℕ
 above mbal others = if nat_lt mbal others then Some others else None
 
-abbrev pub outruns : code_phase.Phase → Notes → List SeenBlock → Option ℕ
+abbrev pub outruns : code_phase.Phase → Notes → List DecodedBlock → Option ℕ
 outruns phase.Opening n seen = None
-outruns phase.One n seen = above n.says.mbal (others_top_of n.of.version n.of.host seen)
-outruns phase.Two n seen = above n.says.mbal (others_top_of n.of.version n.of.host seen)
+outruns phase.One n seen = above n.says.mbal (highest_mbal_of_others n.of.version n.of.host seen)
+outruns phase.Two n seen = above n.says.mbal (highest_mbal_of_others n.of.version n.of.host seen)
 
 -- the opening takes a row's ballots, the own vote and what is marked there, and phase 1 the other hosts' votes
-abbrev pub top_then : code_phase.Phase → Version → ℕ → List SeenBlock → ℕ
-top_then phase.Opening v top seen = max top (top_of v seen)
+abbrev pub top_then : code_phase.Phase → Version → ℕ → List DecodedBlock → ℕ
+top_then phase.Opening v top seen = max top (highest_mbal v seen)
 top_then other v top seen = top
 
-abbrev pub vote_then : code_phase.Phase → Version → ℕ → Said → List SeenBlock → Said
+abbrev pub vote_then : code_phase.Phase → Version → ℕ → Said → List DecodedBlock → Said
 vote_then phase.Opening v host vote seen = later_of vote (says_in seen host)
 vote_then phase.One v host vote seen = latest_in v host seen vote
 vote_then phase.Two v host vote seen = vote
 
-abbrev pub decided_then : code_phase.Phase → Version → Option (List ℕ) → List SeenBlock → Option (List ℕ)
+abbrev pub decided_then : code_phase.Phase → Version → Option (List ℕ) → List DecodedBlock → Option (List ℕ)
 decided_then phase.Opening v told seen = or_else told (marked_in v seen)
 decided_then other v told seen = told
 
-abbrev pub noted : code_phase.Phase → Notes → List SeenBlock → Notes
+abbrev pub noted : code_phase.Phase → Notes → List DecodedBlock → Notes
 noted q n seen = record n { highest = top_then q n.of.version n.highest seen; best = vote_then q n.of.version n.of.host n.best seen; decided = decided_then q n.of.version n.decided seen }
 
 -- BETWEEN AN ANSWER AND THE NEXT CALL

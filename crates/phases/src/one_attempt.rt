@@ -3,7 +3,7 @@ ghost use Rattle.std.specs.Bool.{OnTrue, OnFalse};
 ghost use Rattle.torn_block.specs.declared.layout.TheConstants.{COPY_ROOM, DISKS};
 ghost use Rattle.torn_block.specs.Layout.{Version, hosts_in, row_length};
 ghost use Rattle.paxos_block.specs.layouts.Places.{place_of, row_place, VoteOf};
-ghost use Rattle.paxos_block.specs.layouts.Row.{row_said};
+ghost use Rattle.paxos_block.specs.layouts.Row.{decoded_row};
 ghost use Rattle.attempt.specs.Answers as answers;
 ghost use Rattle.attempt.specs.Answers.{Answers, Answered, on};
 ghost use Rattle.attempt.specs.History.{Fits};
@@ -215,7 +215,7 @@ impl<L: Layout> Attempt<L> {
         requires going { self.old.end ≡ None }
         requires stage { self.old.stage ≡ Stage.Reading }
         ensures of { self.new.of ≡ self.old.of }
-        ensures follows { Takes (answers.Told (row_said L.version bytes.now)) self.old self.new }
+        ensures follows { Takes (answers.Told (decoded_row L.version bytes.now)) self.old self.new }
     {
         let mut row = Row::blank();
         match read_row::<L>(&mut row, bytes) {
@@ -242,7 +242,7 @@ impl<L: Layout> Attempt<L> {
         requires row { (bytes : List ℕ) × ReadsAs L.version L.spelled bytes row.now }
         ensures of { self.new.of ≡ self.old.of }
         ensures follows { (bytes : List ℕ) → ReadsAs L.version L.spelled bytes row.now →
-            Takes (answers.Told (row_said L.version bytes)) self.old self.new }
+            Takes (answers.Told (decoded_row L.version bytes)) self.old self.new }
     {
         if let Some(mbal) = self.faster(row) {
             self.end = Some(End::Outrun(mbal));

@@ -6,7 +6,7 @@ use Rattle.std.proofs.lemmas.List.{drop-replicate, replicate-append-replicate}
 use Rattle.torn_block.specs.Layout.{Version, cluster_version, copy_length, block_length}
 use Rattle.torn_block.specs.layouts.Block.{is_open, sequence_of, choice, value_at}
 use Rattle.torn_block.specs.layouts.Damage.{block_of, first_of, second_of}
-use Rattle.paxos_block.specs.layouts.Row.{SeenBlock, blank, is_sound, is_damaged_block, seen_in, says_of, sequence_or_zero, row_said}
+use Rattle.paxos_block.specs.layouts.Row.{DecodedBlock, blank, is_sound, is_damaged_block, seen_in, says_of, sequence_or_zero, decoded_row}
 use Rattle.worked_rows.proofs.Pieces.{Piece, Zeros, Bytes, count_of, flat, taken, dropped, flat-taken, flat-dropped}
 
 -- A BLANK BLOCK
@@ -47,7 +47,7 @@ blank_sound : (v : Version) (host n : ℕ) → is_damaged_block v host (replicat
 blank_sound v host n = let first = first_of v (replicate n 0) in let second = second_of v (replicate n 0) in
     λ i. (first_shut v n i && not (is_sound v host first)) || (second_shut v n i && not (is_sound v host second)) || (first_shut v n i && second_shut v n i && (sequence_of first == sequence_of second))
 
-abbrev blank_in : List ℕ → SeenBlock
+abbrev blank_in : List ℕ → DecodedBlock
 blank_in bytes = record { bytes = bytes; sequence = 0; says = blank }
 
 blank_seen_in : (v : Version) (n : ℕ) → seen_in v (replicate n 0) ≡ blank_in (replicate n 0)
@@ -61,7 +61,7 @@ blank_seen_in v n = let first = first_of v (replicate n 0) in let second = secon
 abbrev damaged_in : ℕ → List Piece → Bool
 damaged_in host ps = if all_zeros ps then false else is_damaged_block cluster_version host (flat ps)
 
-abbrev seen_of : List Piece → SeenBlock
+abbrev seen_of : List Piece → DecodedBlock
 seen_of ps = if all_zeros ps then blank_in (flat ps) else seen_in cluster_version (flat ps)
 
 damaged_so : (host : ℕ) (ps : List Piece) → damaged_in host ps ≡ is_damaged_block cluster_version host (flat ps)
@@ -81,12 +81,12 @@ abbrev some_damaged : (count host : ℕ) → List Piece → Bool
 some_damaged zero host ps = false
 some_damaged (suc n) host ps = damaged_in host (taken (block_length cluster_version) ps) || some_damaged n (host + 1) (dropped (block_length cluster_version) ps)
 
-abbrev all_seen : ℕ → List Piece → List SeenBlock
+abbrev all_seen : ℕ → List Piece → List DecodedBlock
 all_seen zero ps = []
 all_seen (suc n) ps = seen_of (taken (block_length cluster_version) ps) ∷ all_seen n (dropped (block_length cluster_version) ps)
 
 -- what the pieces of a row say: sixteen blocks of 256 bytes
-abbrev pub said_in : List Piece → Option (List SeenBlock)
+abbrev pub said_in : List Piece → Option (List DecodedBlock)
 said_in ps = if some_damaged 16 0 ps then None else Some (all_seen 16 ps)
 
 module _ (row : List ℕ) where
@@ -111,6 +111,6 @@ module _ (row : List ℕ) where
   seen_rows (suc n) host ps is = λ i.
       (seen_so (taken 256 ps) ∙ ap (seen_in cluster_version) (block_stands host ps is)) i ∷ seen_rows n (host + 1) (dropped 256 ps) (next_stands host ps is) i
 
-pub said_so : (ps : List Piece) → said_in ps ≡ row_said cluster_version (flat ps)
-unfolding row_said
+pub said_so : (ps : List Piece) → said_in ps ≡ decoded_row cluster_version (flat ps)
+unfolding decoded_row
 said_so ps = λ i. if damaged_rows (flat ps) 16 0 ps refl i then None else Some (seen_rows (flat ps) 16 0 ps refl i)

@@ -4,7 +4,7 @@ use Rattle.std.proofs.Common.{◌≡◌, List, [], sym, ap, ◌∙◌}
 use Rattle.disk.specs.Simulated.{fresh_disk}
 use Rattle.torn_block.specs.layouts.Block.{sequence_of, body_of, number_bytes, tail_with}
 use Rattle.torn_block.specs.layouts.Place.{copy_in}
-use Rattle.paxos_block.specs.layouts.Row.{row_said}
+use Rattle.paxos_block.specs.layouts.Row.{decoded_row}
 use Rattle.heartbeat.specs.Beat.{area_said, beat_body}
 use Rattle.paxos_block.specs.layouts.Saying.{zeros, heading, body_saying, number_at, claim_of, is_said}
 use Rattle.lock_command.specs.Command.{number}
@@ -19,7 +19,7 @@ use Rattle.worked_rows.proofs.Kept.{Ran, ran, world_of, opening, opening_so, lin
 
 -- the definitions that speak of bytes, and of the lock table, are opened for it
 unfoldable pub played : ℕ → ℕ → List Event → Ran
-unfolding fresh_disk sequence_of body_of number_bytes tail_with copy_in row_said area_said beat_body zeros heading body_saying number_at claim_of is_said number lock_at request_at mode_of value_at name_at enqueue_at convert_at action_at command_at applied settled
+unfolding fresh_disk sequence_of body_of number_bytes tail_with copy_in decoded_row area_said beat_body zeros heading body_saying number_at claim_of is_said number lock_at request_at mode_of value_at name_at enqueue_at convert_at action_at command_at applied settled
 played disks slots events = ran (sized disks slots) (opening (sized disks slots)) 0 events
 
 -- what computing gives is what the hosts say

@@ -12,7 +12,7 @@ use Rattle.lock_table.specs.Values.{zeros}
 use Rattle.lock_table.specs.Apply.{table_after, without_value}
 use Rattle.paxos_block.specs.Saying.{Said as PBlock}
 use Rattle.paxos_block.specs.Places.{row_of}
-use Rattle.paxos_block.specs.Row.{row_said}
+use Rattle.paxos_block.specs.Row.{decoded_row}
 use Rattle.paxos_block.specs.Votes.{says_in}
 use Rattle.slot_log.specs.Shape.{Shape}
 use Rattle.slot_log.specs.declared.outcome.Refusal.{Refusal}
@@ -99,4 +99,4 @@ floor_of w host = floor_in (w.host host)
 
 -- what a host's block of a slot says on a disk, where the row is sound
 abbrev pub vote_on : World → (disk slot host : ℕ) → Option PBlock
-vote_on w disk slot host = option_map (λ row. says_in row host) (row_said (row_of slot (w.disk disk).bytes))
+vote_on w disk slot host = option_map (λ row. says_in row host) (decoded_row (row_of slot (w.disk disk).bytes))

@@ -3,7 +3,7 @@ use Rattle.std.specs.Prelude.{false, ◌-◌, ◌^◌, ℕ, zero, suc, List, [],
 use Rattle.disk.specs.declared.fault.DiskFault.TheVariants.{Gone}
 use Rattle.torn_block.specs.declared.layout.TheConstants.{HOSTS}
 use Rattle.torn_block.specs.Layout.{cluster_version}
-use Rattle.paxos_block.specs.Row.{SeenBlock, blank_seen}
+use Rattle.paxos_block.specs.Row.{DecodedBlock, blank_seen}
 use Rattle.lock_command.specs.declared.command.Command.{Command}
 use Rattle.slot_log.specs.Shape.{Shape}
 use Rattle.host.specs.Host.{Submitting, Memory, fresh, goes_on, hears}
@@ -20,7 +20,7 @@ abbrev pub Disks : Type 0
 Disks = List Answered → ℕ → Heard
 
 -- a call of a kind is answered well, and a read of a row with this one
-abbrev pub well : List SeenBlock → Option Kind → Heard
+abbrev pub well : List DecodedBlock → Option Kind → Heard
 well row None = Done
 well row (Some Attaching) = Booted 1
 well row (Some Syncing) = Done
@@ -28,11 +28,11 @@ well row (Some Reading) = Told (Some row)
 well row (Some (Putting phase call)) = Done
 
 -- each disk answers well, and its row stays as it is
-abbrev pub showing : List SeenBlock → Disks
+abbrev pub showing : List DecodedBlock → Disks
 showing row heard d = well row (slice_get seventeen (length (on heard d)))
 
 -- a row in which nothing was written
-abbrev pub blank_row : List SeenBlock
+abbrev pub blank_row : List DecodedBlock
 blank_row = replicate HOSTS blank_seen
 
 abbrev pub blanks : Disks
@@ -43,7 +43,7 @@ abbrev pub lost_below : ℕ → Disks
 lost_below n heard d = if nat_lt d n then Fault Gone else blanks heard d
 
 -- the first n disks show one row, and the others another
-abbrev pub showing_below : ℕ → List SeenBlock → List SeenBlock → Disks
+abbrev pub showing_below : ℕ → List DecodedBlock → List DecodedBlock → Disks
 showing_below n low high heard d = if nat_lt d n then showing low heard d else showing high heard d
 
 -- a call of a kind is answered well, but each row has a damaged block
@@ -56,7 +56,7 @@ abbrev pub damaged_below : ℕ → Disks
 damaged_below n heard d = if nat_lt d n then damaged (slice_get seventeen (length (on heard d))) else blanks heard d
 
 -- each disk shows one row in the opening, and another from then on
-abbrev pub showing_then : List SeenBlock → List SeenBlock → Disks
+abbrev pub showing_then : List DecodedBlock → List DecodedBlock → Disks
 showing_then first later heard d = if nat_lt (length (on heard d)) 3 then showing first heard d else showing later heard d
 
 -- AN ATTEMPT
@@ -95,39 +95,39 @@ abbrev pub ends : ℕ → End → Ending
 ends calls end = record { calls = calls; end = Some end }
 
 -- the ballot that it takes where one disk shows this row
-unfoldable pub ballot_seeing : List SeenBlock → Setup → ℕ
+unfoldable pub ballot_seeing : List DecodedBlock → Setup → ℕ
 ballot_seeing row s = ballot s (on (map (λ heard. record { disk = 0; heard = heard }) (Booted 1 ∷ Done ∷ Told (Some row) ∷ [])))
 
 -- ROWS OF BLOCKS
 
 -- a host's block after so many writes
-abbrev pub saying : (sequence mbal bal : ℕ) → Option (List ℕ) → SeenBlock
+abbrev pub saying : (sequence mbal bal : ℕ) → Option (List ℕ) → DecodedBlock
 saying sequence mbal bal inp = record { bytes = blank_seen.bytes; sequence = sequence; says = record { mbal = mbal; bal = bal; inp = inp; mark = false } }
 
 -- host 0 has promised ballot 17 and voted for 1 at ballot 1; host 1 has voted for 2 at ballot 2
-abbrev pub two_votes : List SeenBlock
+abbrev pub two_votes : List DecodedBlock
 two_votes = saying 2 17 1 (Some (1 ∷ [])) ∷ saying 2 2 2 (Some (2 ∷ [])) ∷ replicate (HOSTS - 2) blank_seen
 
 -- hosts 0 and 1 have voted at the same ballot, which no run shows
-abbrev pub equal_votes : List SeenBlock
+abbrev pub equal_votes : List DecodedBlock
 equal_votes = saying 2 2 2 (Some (1 ∷ [])) ∷ saying 2 2 2 (Some (2 ∷ [])) ∷ replicate (HOSTS - 2) blank_seen
 
 -- host 0 has promised ballot 17
-abbrev pub promise_of_17 : List SeenBlock
+abbrev pub promise_of_17 : List DecodedBlock
 promise_of_17 = saying 2 17 0 None ∷ replicate (HOSTS - 1) blank_seen
 
 -- the block of host 0 can be written no more
-abbrev pub spent_row : List SeenBlock
+abbrev pub spent_row : List DecodedBlock
 spent_row = saying (2 ^ 62) 1 0 None ∷ replicate (HOSTS - 1) blank_seen
 
 -- host 0 has promised the last ballot that it may take, 2 to the 62 less 15
-abbrev pub last_of_host_0 : List SeenBlock
+abbrev pub last_of_host_0 : List DecodedBlock
 last_of_host_0 = saying 2 (2 ^ 62 - 15) 0 None ∷ replicate (HOSTS - 1) blank_seen
 
 -- A HOST
 
 -- the seventeen answers of one disk that shows this row throughout
-abbrev answers_showing : List SeenBlock → List Answered
+abbrev answers_showing : List DecodedBlock → List Answered
 answers_showing row = map (λ kind. record { disk = 0; heard = well row (Some kind) }) seventeen
 
 abbrev hears_all : Shape → ℕ → Memory → List Answered → Memory
@@ -135,6 +135,6 @@ hears_all c host m [] = m
 hears_all c host m (x ∷ xs) = hears_all c host (hears c host m m.doing x) xs
 
 -- what a host of one disk and two slots knows that submits a command, with one try, and hears these
-unfoldable pub knows_then : (host : ℕ) → Command → List SeenBlock → Memory
+unfoldable pub knows_then : (host : ℕ) → Command → List DecodedBlock → Memory
 knows_then host command row = let c : Shape = record { disks = 1; slots = 2 } in
     hears_all c host (goes_on c fresh (Submitting command) 1) (answers_showing row)

@@ -23,7 +23,7 @@ use Rattle.attempt.proofs.Statuses.{due_is, due_if, HasChosen, told_by, enough_m
 use Rattle.attempt.proofs.Visitors.{waiting_is, left_is, left_over}
 use Rattle.attempt.proofs.Histories.{visit, history_reached}
 use Rattle.torn_block.specs.Layout.{Version}
-use Rattle.paxos_block.specs.Row.{SeenBlock}
+use Rattle.paxos_block.specs.Row.{DecodedBlock}
 use Rattle.paxos_block.proofs.VoteLemmas.{greatest_is_greatest}
 use Rattle.lock_command.specs.declared.command.Command.{Command}
 use Rattle.lock_command.specs.Reading.{decoded}
@@ -267,7 +267,7 @@ module _ (c : Shape) (log : List Filled) (i : ℕ) (s : Setup) (heard : List Ans
 -- WHAT IS COMMITTED
 
 -- a row in which nobody else is above the ballot accepts it
-accepted_row : (v : Version) (host ballot : ℕ) (o : Option (List SeenBlock)) → is_some o ≡ true → others_top v host o ≤ ballot → accepts_in v host ballot o ≡ true
+accepted_row : (v : Version) (host ballot : ℕ) (o : Option (List DecodedBlock)) → is_some o ≡ true → others_top v host o ≤ ballot → accepts_in v host ballot o ≡ true
 accepted_row v host ballot None read below = absurd (cc)
 accepted_row v host ballot (Some row) read below = ap not (le-ltb ballot (others_top v host (Some row)) below)
 

@@ -6,7 +6,7 @@ use Rattle.disk.specs.Simulated.{fresh_disk}
 use Rattle.torn_block.specs.declared.layout.TheConstants.{HOSTS}
 use Rattle.torn_block.specs.layouts.Block.{sequence_of, body_of, number_bytes, tail_with}
 use Rattle.torn_block.specs.layouts.Place.{copy_in}
-use Rattle.paxos_block.specs.layouts.Row.{row_said}
+use Rattle.paxos_block.specs.layouts.Row.{decoded_row}
 use Rattle.paxos_block.specs.layouts.Saying.{zeros, heading, body_saying, number_at, claim_of, is_said}
 use Rattle.lock_modes.specs.declared.mode.Mode.TheVariants.{Exclusive}
 use Rattle.lock_command.specs.declared.command.Command.{Command}
@@ -81,74 +81,74 @@ steps h n = replicate n (Step h)
 
 -- start 0; submit 0; step 0 17: the first reply
 first_reply : says 1 4 (Start 0 ∷ Submit 0 (asks 0) 1 ∷ steps 0 17) ≡ at 18 0 (Ack 0 granted) ∷ []
-unfolding fresh_disk sequence_of body_of number_bytes tail_with copy_in row_said zeros heading body_saying number_at claim_of is_said number lock_at request_at mode_of name_at enqueue_at action_at command_at applied
+unfolding fresh_disk sequence_of body_of number_bytes tail_with copy_in decoded_row zeros heading body_saying number_at claim_of is_said number lock_at request_at mode_of name_at enqueue_at action_at command_at applied
 first_reply = refl
 
 -- start 0; recover 0; step 0 30: an empty log is recovered over three disks
 empty_log : says 3 4 (Start 0 ∷ Recover 0 1 ∷ steps 0 30) ≡ at 31 0 (Recovered 0) ∷ []
-unfolding fresh_disk sequence_of body_of number_bytes tail_with copy_in row_said zeros heading body_saying number_at claim_of is_said
+unfolding fresh_disk sequence_of body_of number_bytes tail_with copy_in decoded_row zeros heading body_saying number_at claim_of is_said
 empty_log = refl
 
 -- start 0; start 1; submit 0; step 0 4; submit 1; step 1 17; step 0 6: host 1 has the greater ballot, and host 0 is outrun
 outrun : says 1 2 (Start 0 ∷ Start 1 ∷ Submit 0 (asks 0) 1 ∷ (steps 0 4 ++ Submit 1 (asks 1) 1 ∷ (steps 1 17 ++ steps 0 6)))
     ≡ at 24 1 (Ack 0 granted) ∷ at 30 0 (Refused refusal.Outrun) ∷ []
-unfolding fresh_disk sequence_of body_of number_bytes tail_with copy_in row_said zeros heading body_saying number_at claim_of is_said number lock_at request_at mode_of name_at enqueue_at action_at command_at applied
+unfolding fresh_disk sequence_of body_of number_bytes tail_with copy_in decoded_row zeros heading body_saying number_at claim_of is_said number lock_at request_at mode_of name_at enqueue_at action_at command_at applied
 outrun = refl
 
 -- start 0; submit 0; step 0 5; tear 0 ff; start 0; recover 0; step 0 3; tear 0 a5; start 0; recover 0; step 0 10: a body that
 -- was torn stays closed, also where the next write of its gate is torn
 closed_gate_torn : says 1 2 (Start 0 ∷ Submit 0 (asks 0) 1 ∷ (steps 0 5 ++ Tear 0 (255 ∷ []) ∷ Start 0 ∷ Recover 0 1 ∷ (steps 0 3 ++ Tear 0 (165 ∷ []) ∷ Start 0 ∷ Recover 0 1 ∷ steps 0 10)))
     ≡ at 25 0 (Recovered 0) ∷ []
-unfolding fresh_disk sequence_of body_of number_bytes tail_with copy_in row_said zeros heading body_saying number_at claim_of is_said number lock_at request_at mode_of name_at enqueue_at action_at command_at applied
+unfolding fresh_disk sequence_of body_of number_bytes tail_with copy_in decoded_row zeros heading body_saying number_at claim_of is_said number lock_at request_at mode_of name_at enqueue_at action_at command_at applied
 closed_gate_torn = refl
 
 -- start 0; submit 0; step 0 14; crash 0; step 0 29 over three disks: the crash drops a disk, and a majority is left
 crash_drops_a_disk : says 3 2 (Start 0 ∷ Submit 0 (asks 0) 1 ∷ (steps 0 14 ++ DiskCrash 0 (0 ∷ []) ∷ steps 0 29)) ≡ at 45 0 (Ack 0 granted) ∷ []
-unfolding fresh_disk sequence_of body_of number_bytes tail_with copy_in row_said zeros heading body_saying number_at claim_of is_said number lock_at request_at mode_of name_at enqueue_at action_at command_at applied
+unfolding fresh_disk sequence_of body_of number_bytes tail_with copy_in decoded_row zeros heading body_saying number_at claim_of is_said number lock_at request_at mode_of name_at enqueue_at action_at command_at applied
 crash_drops_a_disk = refl
 
 -- start 0; submit 0; fail 0; step 0 34; stop 0; gone 2; start 1; recover 1; step 1 56: one disk failed once, and another is lost
 failed_and_lost : says 3 2 (Start 0 ∷ Submit 0 (asks 0) 1 ∷ FailCall 0 (0 ∷ []) ∷ (steps 0 34 ++ Stop 0 ∷ DiskGone 2 ∷ Start 1 ∷ Recover 1 1 ∷ steps 1 56))
     ≡ at 36 0 (Ack 0 granted) ∷ at 96 1 (Recovered 1) ∷ []
-unfolding fresh_disk sequence_of body_of number_bytes tail_with copy_in row_said zeros heading body_saying number_at claim_of is_said number lock_at request_at mode_of name_at enqueue_at action_at command_at applied
+unfolding fresh_disk sequence_of body_of number_bytes tail_with copy_in decoded_row zeros heading body_saying number_at claim_of is_said number lock_at request_at mode_of name_at enqueue_at action_at command_at applied
 failed_and_lost = refl
 
 -- what does not apply changes nothing, but is counted: a step of an idle host, another host's command, no tries, no bytes to
 -- fill with, a disk that there is not, a stop of a stopped host, an operation beside the one under way, a read that is torn
 nothing_applies : says 1 4 (Start 0 ∷ Step 0 ∷ Start 0 ∷ Submit 0 (asks 1) 1 ∷ Submit 0 (asks 0) 0 ∷ Recover 0 0 ∷ DiskCrash 1 (0 ∷ []) ∷ DiskGone 1 ∷ Stop 1 ∷ Start 8 ∷ Submit 0 (asks 0) 1 ∷ Recover 0 1 ∷ Tear 0 (1 ∷ [])
     ∷ (steps 0 5 ++ DiskCrash 0 [] ∷ Tear 0 [] ∷ FailCall 0 [] ∷ steps 0 12)) ≡ at 32 0 (Ack 0 granted) ∷ []
-unfolding fresh_disk sequence_of body_of number_bytes tail_with copy_in row_said zeros heading body_saying number_at claim_of is_said number lock_at request_at mode_of name_at enqueue_at action_at command_at applied
+unfolding fresh_disk sequence_of body_of number_bytes tail_with copy_in decoded_row zeros heading body_saying number_at claim_of is_said number lock_at request_at mode_of name_at enqueue_at action_at command_at applied
 nothing_applies = refl
 
 -- start 0; submit 0; step 0 3; crash 0; tear 0; fail 0; step 0: under an old boot number a write is refused, so it is neither
 -- torn nor fails, and the refusal drops the only disk
 refused_write : says 1 4 (Start 0 ∷ Submit 0 (asks 0) 1 ∷ (steps 0 3 ++ DiskCrash 0 (0 ∷ []) ∷ Tear 0 (1 ∷ []) ∷ FailCall 0 (1 ∷ []) ∷ steps 0 1)) ≡ at 8 0 (Refused refusal.NoMajority) ∷ []
-unfolding fresh_disk sequence_of body_of number_bytes tail_with copy_in row_said zeros heading body_saying number_at claim_of is_said number lock_at request_at mode_of name_at enqueue_at action_at command_at applied
+unfolding fresh_disk sequence_of body_of number_bytes tail_with copy_in decoded_row zeros heading body_saying number_at claim_of is_said number lock_at request_at mode_of name_at enqueue_at action_at command_at applied
 refused_write = refl
 
 -- start 0; submit 0; step 0 14; tear 0 a500; start 0; recover 0; step 0 27: the gate takes the first byte, and the vote stands
 gate_torn_open : says 1 2 (Start 0 ∷ Submit 0 (asks 0) 1 ∷ (steps 0 14 ++ Tear 0 (165 ∷ 0 ∷ []) ∷ Start 0 ∷ Recover 0 1 ∷ steps 0 27)) ≡ at 45 0 (Recovered 1) ∷ []
-unfolding fresh_disk sequence_of body_of number_bytes tail_with copy_in row_said zeros heading body_saying number_at claim_of is_said number lock_at request_at mode_of name_at enqueue_at action_at command_at applied
+unfolding fresh_disk sequence_of body_of number_bytes tail_with copy_in decoded_row zeros heading body_saying number_at claim_of is_said number lock_at request_at mode_of name_at enqueue_at action_at command_at applied
 gate_torn_open = refl
 
 -- the same with tear 0 00a5: there is no vote
 gate_torn_closed : says 1 2 (Start 0 ∷ Submit 0 (asks 0) 1 ∷ (steps 0 14 ++ Tear 0 (0 ∷ 165 ∷ []) ∷ Start 0 ∷ Recover 0 1 ∷ steps 0 10)) ≡ at 28 0 (Recovered 0) ∷ []
-unfolding fresh_disk sequence_of body_of number_bytes tail_with copy_in row_said zeros heading body_saying number_at claim_of is_said number lock_at request_at mode_of name_at enqueue_at action_at command_at applied
+unfolding fresh_disk sequence_of body_of number_bytes tail_with copy_in decoded_row zeros heading body_saying number_at claim_of is_said number lock_at request_at mode_of name_at enqueue_at action_at command_at applied
 gate_torn_closed = refl
 
 -- start 0; submit 0; step 0 15; stop 0; crash 0 a500; start 0; recover 0; step 0 27: the crash leaves the gate open
 gate_left_open : says 1 2 (Start 0 ∷ Submit 0 (asks 0) 1 ∷ (steps 0 15 ++ Stop 0 ∷ DiskCrash 0 (165 ∷ 0 ∷ []) ∷ Start 0 ∷ Recover 0 1 ∷ steps 0 27)) ≡ at 47 0 (Recovered 1) ∷ []
-unfolding fresh_disk sequence_of body_of number_bytes tail_with copy_in row_said zeros heading body_saying number_at claim_of is_said number lock_at request_at mode_of name_at enqueue_at action_at command_at applied
+unfolding fresh_disk sequence_of body_of number_bytes tail_with copy_in decoded_row zeros heading body_saying number_at claim_of is_said number lock_at request_at mode_of name_at enqueue_at action_at command_at applied
 gate_left_open = refl
 
 -- the same with crash 0 00a5: it leaves the gate closed
 gate_left_closed : says 1 2 (Start 0 ∷ Submit 0 (asks 0) 1 ∷ (steps 0 15 ++ Stop 0 ∷ DiskCrash 0 (0 ∷ 165 ∷ []) ∷ Start 0 ∷ Recover 0 1 ∷ steps 0 10)) ≡ at 30 0 (Recovered 0) ∷ []
-unfolding fresh_disk sequence_of body_of number_bytes tail_with copy_in row_said zeros heading body_saying number_at claim_of is_said number lock_at request_at mode_of name_at enqueue_at action_at command_at applied
+unfolding fresh_disk sequence_of body_of number_bytes tail_with copy_in decoded_row zeros heading body_saying number_at claim_of is_said number lock_at request_at mode_of name_at enqueue_at action_at command_at applied
 gate_left_closed = refl
 
 -- the same as the first reply, by the list and its projections alone
 first_reply_by_the_list : answers (record { disks = 1; slots = 4 }) (Start 0 ∷ Submit 0 (asks 0) 1 ∷ steps 0 17) ≡ at 18 0 (Ack 0 granted) ∷ []
-unfolding fresh_disk sequence_of body_of number_bytes tail_with copy_in row_said zeros heading body_saying number_at claim_of is_said number lock_at request_at mode_of name_at enqueue_at action_at command_at applied
+unfolding fresh_disk sequence_of body_of number_bytes tail_with copy_in decoded_row zeros heading body_saying number_at claim_of is_said number lock_at request_at mode_of name_at enqueue_at action_at command_at applied
 first_reply_by_the_list = refl
 
 -- WHAT IS CHOSEN
@@ -174,30 +174,30 @@ accepting disks events = let c : Shape = record { disks = disks; slots = 2 } in 
 
 -- over three disks the 44th answer is the one with which the command is chosen; its host hears of that with the 51st
 not_yet_chosen : accepting 3 (Start 0 ∷ Submit 0 (asks 0) 1 ∷ steps 0 42) ≡ true ∷ false ∷ false ∷ []
-unfolding fresh_disk sequence_of body_of number_bytes tail_with copy_in row_said zeros heading body_saying number_at claim_of is_said number lock_at request_at mode_of name_at enqueue_at action_at command_at applied
+unfolding fresh_disk sequence_of body_of number_bytes tail_with copy_in decoded_row zeros heading body_saying number_at claim_of is_said number lock_at request_at mode_of name_at enqueue_at action_at command_at applied
 not_yet_chosen = refl
 
 chosen_unheard : accepting 3 (Start 0 ∷ Submit 0 (asks 0) 1 ∷ steps 0 43) ≡ true ∷ true ∷ false ∷ []
-unfolding fresh_disk sequence_of body_of number_bytes tail_with copy_in row_said zeros heading body_saying number_at claim_of is_said number lock_at request_at mode_of name_at enqueue_at action_at command_at applied
+unfolding fresh_disk sequence_of body_of number_bytes tail_with copy_in decoded_row zeros heading body_saying number_at claim_of is_said number lock_at request_at mode_of name_at enqueue_at action_at command_at applied
 chosen_unheard = refl
 
 -- over one disk the answer with which it is chosen ends the attempt too
 chosen_at_the_end : accepting 1 (Start 0 ∷ Submit 0 (asks 0) 1 ∷ steps 0 16) ≡ true ∷ []
-unfolding fresh_disk sequence_of body_of number_bytes tail_with copy_in row_said zeros heading body_saying number_at claim_of is_said number lock_at request_at mode_of name_at enqueue_at action_at command_at applied
+unfolding fresh_disk sequence_of body_of number_bytes tail_with copy_in decoded_row zeros heading body_saying number_at claim_of is_said number lock_at request_at mode_of name_at enqueue_at action_at command_at applied
 chosen_at_the_end = refl
 
 -- and it is not chosen where another host has written a greater ballot there before
 outrun_vote : accepting 1 (Start 0 ∷ Start 1 ∷ Submit 0 (asks 0) 1 ∷ (steps 0 16 ++ Submit 1 (asks 1) 1 ∷ steps 1 9)) ≡ false ∷ []
-unfolding fresh_disk sequence_of body_of number_bytes tail_with copy_in row_said zeros heading body_saying number_at claim_of is_said number lock_at request_at mode_of name_at enqueue_at action_at command_at applied
+unfolding fresh_disk sequence_of body_of number_bytes tail_with copy_in decoded_row zeros heading body_saying number_at claim_of is_said number lock_at request_at mode_of name_at enqueue_at action_at command_at applied
 outrun_vote = refl
 
 -- start 0; submit 0; step 0 17; mark 0 0; step 0 9; start 1; look 1; step 1 6: a mark is seen, and behind it nothing
 look_sees_a_mark : says 1 2 (Start 0 ∷ Submit 0 (asks 0) 1 ∷ (steps 0 17 ++ Mark 0 0 ∷ (steps 0 9 ++ Start 1 ∷ Look 1 ∷ steps 1 6)))
     ≡ at 18 0 (Ack 0 granted) ∷ at 28 0 (Marked 1) ∷ at 36 1 (Looked 1) ∷ []
-unfolding fresh_disk sequence_of body_of number_bytes tail_with copy_in row_said zeros heading body_saying number_at claim_of is_said number lock_at request_at mode_of name_at enqueue_at action_at command_at applied
+unfolding fresh_disk sequence_of body_of number_bytes tail_with copy_in decoded_row zeros heading body_saying number_at claim_of is_said number lock_at request_at mode_of name_at enqueue_at action_at command_at applied
 look_sees_a_mark = refl
 
 -- start 0; submit 0; step 0 17; start 1; look 1; step 1 3: what is not marked is not seen
 look_sees_no_more : says 1 2 (Start 0 ∷ Submit 0 (asks 0) 1 ∷ (steps 0 17 ++ Start 1 ∷ Look 1 ∷ steps 1 3)) ≡ at 18 0 (Ack 0 granted) ∷ at 23 1 (Looked 0) ∷ []
-unfolding fresh_disk sequence_of body_of number_bytes tail_with copy_in row_said zeros heading body_saying number_at claim_of is_said number lock_at request_at mode_of name_at enqueue_at action_at command_at applied
+unfolding fresh_disk sequence_of body_of number_bytes tail_with copy_in decoded_row zeros heading body_saying number_at claim_of is_said number lock_at request_at mode_of name_at enqueue_at action_at command_at applied
 look_sees_no_more = refl

@@ -4,7 +4,7 @@ use Rattle.std.proofs.Common.{ℕ, zero, suc, ◌<◌, ◌≡◌, ◌⊎◌, inl
 use Rattle.disk.specs.Simulated.{fresh_disk}
 use Rattle.torn_block.specs.layouts.Block.{sequence_of, body_of, number_bytes, tail_with}
 use Rattle.torn_block.specs.layouts.Place.{copy_in}
-use Rattle.paxos_block.specs.layouts.Row.{row_said}
+use Rattle.paxos_block.specs.layouts.Row.{decoded_row}
 use Rattle.paxos_block.specs.layouts.Saying.{zeros, heading, body_saying, number_at, claim_of, is_said}
 use Rattle.lock_command.specs.declared.command.Command.{Command}
 use Rattle.lock_command.specs.Command.{number, spelling}
@@ -46,11 +46,11 @@ only_submitted i value is = is.spelled ∙ ap spelling (sym (which is.place is.h
 -- WHAT IS ACKNOWLEDGED
 
 busy_then : operation_of (host_before one_disk submitting 18 0) ≡ Some (Submitting takes_db)
-unfolding operation_in fresh_disk sequence_of body_of number_bytes tail_with copy_in row_said zeros heading body_saying number_at claim_of is_said number lock_at request_at mode_of name_at enqueue_at action_at command_at applied
+unfolding operation_in fresh_disk sequence_of body_of number_bytes tail_with copy_in decoded_row zeros heading body_saying number_at claim_of is_said number lock_at request_at mode_of name_at enqueue_at action_at command_at applied
 busy_then = refl
 
 reply_then : reply_after [] takes_db ≡ granted
-unfolding fresh_disk sequence_of body_of number_bytes tail_with copy_in row_said zeros heading body_saying number_at claim_of is_said number lock_at request_at mode_of name_at enqueue_at action_at command_at applied
+unfolding fresh_disk sequence_of body_of number_bytes tail_with copy_in decoded_row zeros heading body_saying number_at claim_of is_said number lock_at request_at mode_of name_at enqueue_at action_at command_at applied
 reply_then = refl
 
 pub acknowledged : goes_by one_disk submitting (takes_db ∷ []) (told_at 18 (Ack 0 granted)) None (Ack 0 granted)
@@ -73,7 +73,7 @@ only_acknowledged place slot reply is =
     (there.0, is.replied ∙ ap (λ (n : ℕ). reply_after (take n (takes_db ∷ [])) is.command) there.0 ∙ ap (reply_after []) (sym there.1) ∙ reply_then)
 
 idle_then : operation_of (host_before one_disk submitting 19 0) ≡ None
-unfolding operation_in fresh_disk sequence_of body_of number_bytes tail_with copy_in row_said zeros heading body_saying number_at claim_of is_said number lock_at request_at mode_of name_at enqueue_at action_at command_at applied
+unfolding operation_in fresh_disk sequence_of body_of number_bytes tail_with copy_in decoded_row zeros heading body_saying number_at claim_of is_said number lock_at request_at mode_of name_at enqueue_at action_at command_at applied
 idle_then = refl
 
 pub not_idle : (slot : ℕ) (reply : Reply) → IsAcknowledged one_disk submitting (takes_db ∷ []) (told_at 19 (Ack slot reply)) slot reply → ⊥
@@ -91,11 +91,11 @@ of_none place picture is = is.table.locks.numbers 1
 -- WHAT IS MISSED
 
 idles_then : idles (host_before one_disk submitting 19 0) ≡ true
-unfolding fresh_disk sequence_of body_of number_bytes tail_with copy_in row_said zeros heading body_saying number_at claim_of is_said number lock_at request_at mode_of name_at enqueue_at action_at command_at applied
+unfolding fresh_disk sequence_of body_of number_bytes tail_with copy_in decoded_row zeros heading body_saying number_at claim_of is_said number lock_at request_at mode_of name_at enqueue_at action_at command_at applied
 idles_then = refl
 
 works_then : idles (host_before one_disk submitting 4 0) ≡ false
-unfolding fresh_disk sequence_of body_of number_bytes tail_with copy_in row_said zeros heading body_saying number_at claim_of is_said number lock_at request_at mode_of name_at enqueue_at action_at command_at applied
+unfolding fresh_disk sequence_of body_of number_bytes tail_with copy_in decoded_row zeros heading body_saying number_at claim_of is_said number lock_at request_at mode_of name_at enqueue_at action_at command_at applied
 works_then = refl
 
 -- one of two lines

@@ -5,7 +5,7 @@ use Rattle.std.proofs.lemmas.Bool.{eqb-true}
 use Rattle.disk.specs.Simulated.{fresh_disk}
 use Rattle.torn_block.specs.layouts.Block.{sequence_of, body_of, number_bytes, tail_with}
 use Rattle.torn_block.specs.layouts.Place.{copy_in}
-use Rattle.paxos_block.specs.layouts.Row.{row_said}
+use Rattle.paxos_block.specs.layouts.Row.{decoded_row}
 use Rattle.paxos_block.specs.layouts.Saying.{zeros, heading, body_saying, number_at, claim_of, is_said}
 use Rattle.lock_command.specs.declared.command.Command.{Command}
 use Rattle.lock_command.specs.Command.{number, spelling}
@@ -58,11 +58,11 @@ only_once c events place host i said lines there j other told says =
 -- THE FIRST SUBMISSION
 
 lines_of_submission : answers one_disk submitting ≡ record { place = 18; host = 0; said = Ack 0 granted } ∷ []
-unfolding fresh_disk sequence_of body_of number_bytes tail_with copy_in row_said zeros heading body_saying number_at claim_of is_said number lock_at request_at mode_of name_at enqueue_at action_at command_at applied
+unfolding fresh_disk sequence_of body_of number_bytes tail_with copy_in decoded_row zeros heading body_saying number_at claim_of is_said number lock_at request_at mode_of name_at enqueue_at action_at command_at applied
 lines_of_submission = refl
 
 place_of_submission : place_of one_disk submitting 18 ≡ 18
-unfolding fresh_disk sequence_of body_of number_bytes tail_with copy_in row_said zeros heading body_saying number_at claim_of is_said number lock_at request_at mode_of name_at enqueue_at action_at command_at applied
+unfolding fresh_disk sequence_of body_of number_bytes tail_with copy_in decoded_row zeros heading body_saying number_at claim_of is_said number lock_at request_at mode_of name_at enqueue_at action_at command_at applied
 place_of_submission = refl
 
 says_granted : SaysAt one_disk submission 18 0 (Ack 0 granted)
@@ -84,7 +84,7 @@ operation_of (Running m) = operation_in m.doing
 
 -- before the last answer host 0 carries out that submission
 operation_then : operation_of ((at one_disk submission 18).host 0) ≡ Some (Submitting takes_db)
-unfolding submission operation_in fresh_disk sequence_of body_of number_bytes tail_with copy_in row_said zeros heading body_saying number_at claim_of is_said number lock_at request_at mode_of name_at enqueue_at action_at command_at applied
+unfolding submission operation_in fresh_disk sequence_of body_of number_bytes tail_with copy_in decoded_row zeros heading body_saying number_at claim_of is_said number lock_at request_at mode_of name_at enqueue_at action_at command_at applied
 operation_then = refl
 
 -- so it is running, and busy with that
@@ -156,15 +156,15 @@ among (e ∷ es) zero h tries command at = let same : e ≡ entries.Submit h com
 among (e ∷ es) (suc k) h tries command at = let rest = among es k h tries command at in further (command_in e) (commands_in es) rest.0 command rest.1
 
 commands_of_submission : commands_in submission ≡ takes_db ∷ []
-unfolding submission fresh_disk sequence_of body_of number_bytes tail_with copy_in row_said zeros heading body_saying number_at claim_of is_said number lock_at request_at mode_of name_at enqueue_at action_at command_at applied
+unfolding submission fresh_disk sequence_of body_of number_bytes tail_with copy_in decoded_row zeros heading body_saying number_at claim_of is_said number lock_at request_at mode_of name_at enqueue_at action_at command_at applied
 commands_of_submission = refl
 
 second_entry : slice_get submission 1 ≡ Some (entries.Submit 0 takes_db 1)
-unfolding submission fresh_disk sequence_of body_of number_bytes tail_with copy_in row_said zeros heading body_saying number_at claim_of is_said number lock_at request_at mode_of name_at enqueue_at action_at command_at applied
+unfolding submission fresh_disk sequence_of body_of number_bytes tail_with copy_in decoded_row zeros heading body_saying number_at claim_of is_said number lock_at request_at mode_of name_at enqueue_at action_at command_at applied
 second_entry = refl
 
 first_entry : slice_get submission 0 ≡ Some (entries.Start 0)
-unfolding submission fresh_disk sequence_of body_of number_bytes tail_with copy_in row_said zeros heading body_saying number_at claim_of is_said number lock_at request_at mode_of name_at enqueue_at action_at command_at applied
+unfolding submission fresh_disk sequence_of body_of number_bytes tail_with copy_in decoded_row zeros heading body_saying number_at claim_of is_said number lock_at request_at mode_of name_at enqueue_at action_at command_at applied
 first_entry = refl
 
 pub submitted : IsSubmittedBefore submission 2 (spelling takes_db)
@@ -190,11 +190,11 @@ only_submitted i value is =
 -- A RECOVERY
 
 lines_of_recovery : answers one_disk recovering ≡ record { place = 11; host = 0; said = Recovered 0 } ∷ []
-unfolding fresh_disk sequence_of body_of number_bytes tail_with copy_in row_said zeros heading body_saying number_at claim_of is_said
+unfolding fresh_disk sequence_of body_of number_bytes tail_with copy_in decoded_row zeros heading body_saying number_at claim_of is_said
 lines_of_recovery = refl
 
 place_of_recovery : place_of one_disk recovering 11 ≡ 11
-unfolding fresh_disk sequence_of body_of number_bytes tail_with copy_in row_said zeros heading body_saying number_at claim_of is_said
+unfolding fresh_disk sequence_of body_of number_bytes tail_with copy_in decoded_row zeros heading body_saying number_at claim_of is_said
 place_of_recovery = refl
 
 says_recovered : SaysAt one_disk recovery 11 0 (Recovered 0)
@@ -206,7 +206,7 @@ unfolding recovery
 only_recovered j other told says = only_once one_disk recovering 11 0 11 (Recovered 0) lines_of_recovery place_of_recovery j other told says
 
 recovery_begins : slice_get recovery 1 ≡ Some (entries.Recover 0 1)
-unfolding recovery fresh_disk sequence_of body_of number_bytes tail_with copy_in row_said zeros heading body_saying number_at claim_of is_said
+unfolding recovery fresh_disk sequence_of body_of number_bytes tail_with copy_in decoded_row zeros heading body_saying number_at claim_of is_said
 recovery_begins = refl
 
 -- each entry is a device call
@@ -219,7 +219,7 @@ are_calls [] = true
 are_calls (e ∷ es) = cond (is_call e) (are_calls es) false
 
 calls_behind : are_calls (drop 2 recovery) ≡ true
-unfolding recovery fresh_disk sequence_of body_of number_bytes tail_with copy_in row_said zeros heading body_saying number_at claim_of is_said
+unfolding recovery fresh_disk sequence_of body_of number_bytes tail_with copy_in decoded_row zeros heading body_saying number_at claim_of is_said
 calls_behind = refl
 
 both_pass : (s t : Bool) → cond s t false ≡ true → (s ≡ true) × (t ≡ true)

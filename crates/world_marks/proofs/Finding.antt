@@ -5,7 +5,7 @@ use Rattle.std.proofs.lemmas.Bool.{cases_lt, ltb-true, both_ways}
 use Rattle.torn_block.specs.Layout.{hosts_in}
 use Rattle.torn_block.specs.declared.layout.TheConstants.{HOSTS}
 use Rattle.paxos_block.specs.Saying.{Said as PBlock}
-use Rattle.paxos_block.specs.Row.{SeenBlock}
+use Rattle.paxos_block.specs.Row.{DecodedBlock}
 use Rattle.paxos_block.specs.Votes.{says_in, marked}
 use Rattle.attempt.specs.Answers.{Answered, Answers, on, heard_as, row_in}
 use Rattle.attempt.specs.Calls.{Opening}
@@ -69,7 +69,7 @@ shown_marked says is none = by says.mark is.mark none
 -- AN ATTEMPT THAT IS SHOWN A MARK ON MORE THAN HALF OF THE DISKS
 
 module _ (s : Setup) (heard : List Answered) (is : IsHistory s heard) (g n : ℕ) (below : g < hosts_in s.version) (those : ℕ → Bool) (many : count s.disks those ≡ n) (most : s.disks < 2 * n)
-    (shown : (d : ℕ) → d < s.disks → those d ≡ true → (row : List SeenBlock) → row_in Opening (on heard d) ≡ Some row → IsMarkShown (says_in row g)) where
+    (shown : (d : ℕ) → d < s.disks → those d ≡ true → (row : List DecodedBlock) → row_in Opening (on heard d) ≡ Some row → IsMarkShown (says_in row g)) where
   abbrev f : Answers
   f = on heard
 

@@ -16,7 +16,7 @@ use Rattle.torn_block.specs.Stage.{old_value}
 use Rattle.torn_block.proofs.StageLaws.{reads_closed}
 use Rattle.paxos_block.specs.Saying.{Said as PBlock}
 use Rattle.paxos_block.specs.Places.{BeatOf, VoteOf, place_of}
-use Rattle.paxos_block.specs.Row.{SeenBlock, says_of}
+use Rattle.paxos_block.specs.Row.{DecodedBlock, says_of}
 use Rattle.paxos_block.specs.Votes.{says_in, marked, marked_below}
 use Rattle.paxos_block.proofs.Outcomes.{Outcomes, calm_outcomes, same_outcomes}
 use Rattle.attempt.specs.Answers.{Heard, Answers, on, boot_of, row_in}
@@ -62,7 +62,7 @@ row_undecided s f (suc n) d less none =
     ]
 
 -- and none of its blocks has one;
-block_undecided : (row : List SeenBlock) (n g : ℕ) → g < n → marked_below row n ≡ None → marked (says_in row g) ≡ None
+block_undecided : (row : List DecodedBlock) (n g : ℕ) → g < n → marked_below row n ≡ None → marked (says_in row g) ≡ None
 block_undecided row zero g less none = absurd (omega arith)
 block_undecided row (suc n) g less none =
     let both = none_of (marked_below row n) (marked (says_in row n)) none in
@@ -80,10 +80,10 @@ mark_undecided K says true_mark none = by says.mark refl none
     by false is none = is
 
 -- no block of a row that was read has a marked input
-pub undecided_block : (s : Setup) (f : Answers) → decided s f ≡ None → (d : ℕ) → d < s.disks → (row : List SeenBlock) → row_in Opening (f d) ≡ Some row → (g : ℕ) → g < hosts_in s.version → marked (says_in row g) ≡ None
+pub undecided_block : (s : Setup) (f : Answers) → decided s f ≡ None → (d : ℕ) → d < s.disks → (row : List DecodedBlock) → row_in Opening (f d) ≡ Some row → (g : ℕ) → g < hosts_in s.version → marked (says_in row g) ≡ None
 undecided_block s f none d inside row read g below = block_undecided row (hosts_in s.version) g below (ap (decided_in s.version) (sym read) ∙ row_undecided s f s.disks d inside none)
 
-shows_no_mark : (K : List ℕ → Type 0) (s : Setup) (f : Answers) → ((d : ℕ) → TellsTrueMarks K (f d)) → decided s f ≡ None → (d : ℕ) → d < s.disks → (row : List SeenBlock) → row_in Opening (f d) ≡ Some row → (g : ℕ) → g < HOSTS → g < hosts_in s.version → (says_in row g).mark ≡ false
+shows_no_mark : (K : List ℕ → Type 0) (s : Setup) (f : Answers) → ((d : ℕ) → TellsTrueMarks K (f d)) → decided s f ≡ None → (d : ℕ) → d < s.disks → (row : List DecodedBlock) → row_in Opening (f d) ≡ Some row → (g : ℕ) → g < HOSTS → g < hosts_in s.version → (says_in row g).mark ≡ false
 shows_no_mark K s f tells none d inside row read g below within =
     mark_undecided K (says_in row g) (tells d 2 row (told_is (slice_get (f d) 2) row read) g below) (undecided_block s f none d inside row read g within)
 
@@ -105,7 +105,7 @@ put_late (suc zero) p put at = absurd (cc)
 put_late (suc (suc zero)) p put at = absurd (cc)
 put_late (suc (suc (suc n))) p put at = omega arith
 
-pub some_row : (o : Option (List SeenBlock)) → is_some o ≡ true → (row : List SeenBlock) × (o ≡ Some row)
+pub some_row : (o : Option (List DecodedBlock)) → is_some o ≡ true → (row : List DecodedBlock) × (o ≡ Some row)
 some_row None is = absurd (cc)
 some_row (Some row) is = (row, refl)
 
@@ -258,7 +258,7 @@ module _ (c : Shape) (w : World) (ms : Moves) (tied : Tied c w ms) (h k : ℕ) (
 
         by_put : (p : Phase) (put : WriteCall) → due.kind ≡ Putting p put → AllSay HasMark mark_place new
         by_put p CloseGate same =
-            writes p CloseGate same (λ boot. ap (λ (b : SeenBlock). b.says.mark) (mark_known (Putting p CloseGate) same boot disk.bytes (may_leave_now disk)) ∙ free p CloseGate same)
+            writes p CloseGate same (λ boot. ap (λ (b : DecodedBlock). b.says.mark) (mark_known (Putting p CloseGate) same boot disk.bytes (may_leave_now disk)) ∙ free p CloseGate same)
         by_put p SyncClosed same = calm (calm_outcomes cluster_version disk new mark_place (Sync (boot_of a)) answer tt (mark_step (Putting p SyncClosed) same))
         by_put p PutBody same =
             writes p PutBody same (λ boot. (let it : IsMarking q a PutBody disk = mark_known (Putting p PutBody) same boot in writing_free p PutBody same it.old (reads_closed (mark.write_on q a) disk.bytes it.due.now)))

@@ -14,7 +14,7 @@ use Rattle.torn_block.specs.Stage.{call_of}
 use Rattle.torn_block.proofs.StageLaws.{done_leads_on, done_reads}
 use Rattle.paxos_block.specs.Saying.{Said as PBlock}
 use Rattle.paxos_block.specs.Places.{VoteOf, place_of, row_of, row_place}
-use Rattle.paxos_block.specs.Row.{SeenBlock, says_of, seen_at, seen_in}
+use Rattle.paxos_block.specs.Row.{DecodedBlock, says_of, seen_at, seen_in}
 use Rattle.paxos_block.proofs.PlaceLemmas.{block_of-row_of, stays_image}
 use Rattle.paxos_block.proofs.RowLemmas.{said_sees}
 use Rattle.paxos_block.proofs.SayingLemmas.{claims_back}
@@ -52,12 +52,12 @@ Counts h a = (all_good a ≡ true) × (((seen_block (row_in Opening a) h).says.m
 abbrev pub Marked : World → ℕ → ℕ → List Answered → Type 0
 Marked w h slot heard = (d : ℕ) → Counts h (on heard d) → IsMarkedOn w slot h d
 
-no_mark : (o : Option (List SeenBlock)) (h : ℕ) → o ≡ None → (seen_block o h).says.mark ≡ false
+no_mark : (o : Option (List DecodedBlock)) (h : ℕ) → o ≡ None → (seen_block o h).says.mark ≡ false
 no_mark None h is = refl
 no_mark (Some row) h is = absurd (cc)
 
 -- a mark that was told was told in a row
-told_row : (x : Heard) (h : ℕ) → (seen_block (told x) h).says.mark ≡ true → (row : List SeenBlock) × (x ≡ answers.Told (Some row))
+told_row : (x : Heard) (h : ℕ) → (seen_block (told x) h).says.mark ≡ true → (row : List DecodedBlock) × (x ≡ answers.Told (Some row))
 told_row (answers.Told (Some row)) h is = (row, refl)
 told_row (answers.Told None) h is = absurd (cc)
 told_row (answers.Booted boot) h is = absurd (cc)
@@ -112,14 +112,14 @@ module _ (c : Shape) (w : World) (ms : Moves) (tied : Tied c w ms) (h k : ℕ) (
     read_marked two mark_seen bytes may =
         let same = kind_at 2 Reading two refl in
         let go = mark_step c w ms tied h k call answer left next step it Reading same in
-        let shown : (seen_block (told x) h).says.mark ≡ true = ap (λ (r : Option (List SeenBlock)). (seen_block r h).says.mark) (sym (row_last Opening a x (omega (arith, two)))) ∙ mark_seen in
+        let shown : (seen_block (told x) h).says.mark ≡ true = ap (λ (r : Option (List DecodedBlock)). (seen_block r h).says.mark) (sym (row_last Opening a x (omega (arith, two)))) ∙ mark_seen in
         let row = told_row x h shown in
         let rests : IsAtRest place disk = mark_known c w ms tied h k call answer left next step it Reading same (boot_is Reading same (inl refl)) in
         let leaves : new ≡ disk = read_leaves disk new (boot_of a) (row_place s.slot) ROW_LENGTH answer go in
         let before : MayLeave disk bytes = subst (λ (q : DiskState). MayLeave q bytes) leaves may in
         let seen : seen_at row.0 h ≡ seen_in (block_in place disk.bytes) =
         said_sees cluster_version (row_of s.slot disk.bytes) row.0 h run.below (row_told disk new (boot_of a) s.slot answer row.0 go row.1) ∙ ap seen_in (block_of-row_of cluster_version s.slot h disk.bytes run.below) in
-        ap (λ (block : List ℕ). (says_of (value_of block)).mark) (rests bytes before) ∙ ap (λ (b : SeenBlock). b.says.mark) (sym seen) ∙ ap (λ (y : Heard). (seen_block (told y) h).says.mark) (sym row.1) ∙ shown
+        ap (λ (block : List ℕ). (says_of (value_of block)).mark) (rests bytes before) ∙ ap (λ (b : DecodedBlock). b.says.mark) (sym seen) ∙ ap (λ (y : Heard). (seen_block (told y) h).says.mark) (sym row.1) ∙ shown
 
     -- the write is over
     written : length a ≡ 8 → AllSay HasMark place new
@@ -144,7 +144,7 @@ module _ (c : Shape) (w : World) (ms : Moves) (tied : Tied c w ms) (h k : ℕ) (
 
     -- what it has read, it has read before
     mark_before : 3 ≤ length a → (seen_block (row_in Opening (a ++ x ∷ [])) h).says.mark ≡ (seen_block (row_in Opening a) h).says.mark
-    mark_before over = ap (λ (r : Option (List SeenBlock)). (seen_block r h).says.mark) (row_kept Opening a x over)
+    mark_before over = ap (λ (r : Option (List DecodedBlock)). (seen_block r h).says.mark) (row_kept Opening a x over)
 
     -- a block that has a mark has no call to come
     still_free : 3 ≤ length a → (seen_block (row_in Opening a) h).says.mark ≡ true → ⊥

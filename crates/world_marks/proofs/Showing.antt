@@ -9,7 +9,7 @@ use Rattle.torn_block.specs.Block.{value_of}
 use Rattle.torn_block.specs.Place.{block_in}
 use Rattle.paxos_block.specs.Saying.{Said as PBlock}
 use Rattle.paxos_block.specs.Places.{VoteOf, place_of}
-use Rattle.paxos_block.specs.Row.{SeenBlock, says_of}
+use Rattle.paxos_block.specs.Row.{DecodedBlock, says_of}
 use Rattle.paxos_block.specs.Votes.{says_in}
 use Rattle.attempt.specs.Answers as answers
 use Rattle.attempt.specs.Answers.{Heard, Answered, Answers, on, heard_as, told, row_in}
@@ -43,7 +43,7 @@ pub record IsMarkShown (says : PBlock) : Type 0 where
 module _ (c : Shape) (log : List Filled) (run : IsRun c log) (i slot g : ℕ) (slot_below : slot < c.slots) (below : g < HOSTS) (h : ℕ) where
   -- an attempt on this slot has been shown the mark in each row of such a disk
   abbrev pub Shown : ℕ → List Answered → Type 0
-  Shown k heard = k ≡ slot → (d : ℕ) → IsMarkedOn (at c log i) slot g d → (row : List SeenBlock) → row_in Opening (on heard d) ≡ Some row → IsMarkShown (says_in row g)
+  Shown k heard = k ≡ slot → (d : ℕ) → IsMarkedOn (at c log i) slot g d → (row : List DecodedBlock) → row_in Opening (on heard d) ≡ Some row → IsMarkShown (says_in row g)
 
   nothing_shown : (k : ℕ) → Shown k []
   nothing_shown k same d marked row read = absurd (cc)
@@ -65,12 +65,12 @@ module _ (c : Shape) (log : List Filled) (run : IsRun c log) (i slot g : ℕ) (s
     s = setup_of c h m t.operation
 
     -- a row that is told
-    row_shows : length m.learned ≡ slot → IsMarkedOn (at c log i) slot g k → (row : List SeenBlock) → x ≡ answers.Told (Some row) → IsMarkShown (says_in row g)
+    row_shows : length m.learned ≡ slot → IsMarkedOn (at c log i) slot g k → (row : List DecodedBlock) → x ≡ answers.Told (Some row) → IsMarkShown (says_in row g)
     row_shows same marked row tells =
         let new = disk_step (w.disk k) (Called h k call answer left) in
         let seen = seen_is s (on t.heard) k (w.disk k) new answer known.is.kind known.waiting.part.good known.is.kind_is known.is.fits known.step_by row tells known.run.below g below in
         let says : says_in row g ≡ says_of (value_of (block_in (place_of (VoteOf slot g)) (w.disk k).bytes)) =
-        ap (λ (b : SeenBlock). b.says) seen ∙ ap (λ (q : ℕ). says_of (value_of (block_in (place_of (VoteOf q g)) (w.disk k).bytes))) same in
+        ap (λ (b : DecodedBlock). b.says) seen ∙ ap (λ (q : ℕ). says_of (value_of (block_in (place_of (VoteOf q g)) (w.disk k).bytes))) same in
         let has = stays_marked c log run i j slot g k later slot_below below marked (w.disk k).bytes (may_leave_now (w.disk k)) in
         let true_mark = all_marks_true c log run j slot g k slot_below below (w.disk k).bytes (may_leave_now (w.disk k)) has in
         subst IsMarkShown (sym says) (record { mark = has; value = true_mark.0; inp = true_mark.1 })
@@ -78,12 +78,12 @@ module _ (c : Shape) (log : List Filled) (run : IsRun c log) (i slot g : ℕ) (s
     -- one answer more
     pub shown_more : Shown (length m.learned) t.heard → Shown (length m.learned) (t.heard ++ record { disk = k; heard = heard_as answer } ∷ [])
     shown_more before same =
-        subst (λ (f : Answers). (d : ℕ) → IsMarkedOn (at c log i) slot g d → (row : List SeenBlock) → row_in Opening (f d) ≡ Some row → IsMarkShown (says_in row g)) (sym (on_more t.heard (record { disk = k; heard = heard_as answer })))
-        (by_disk (on t.heard) k x (λ d a. IsMarkedOn (at c log i) slot g d → (row : List SeenBlock) → row_in Opening a ≡ Some row → IsMarkShown (says_in row g))
+        subst (λ (f : Answers). (d : ℕ) → IsMarkedOn (at c log i) slot g d → (row : List DecodedBlock) → row_in Opening (f d) ≡ Some row → IsMarkShown (says_in row g)) (sym (on_more t.heard (record { disk = k; heard = heard_as answer })))
+        (by_disk (on t.heard) k x (λ d a. IsMarkedOn (at c log i) slot g d → (row : List DecodedBlock) → row_in Opening a ≡ Some row → IsMarkShown (says_in row g))
         here
         (λ d off. before same d))
       where
-        here : IsMarkedOn (at c log i) slot g k → (row : List SeenBlock) → row_in Opening (on t.heard k ++ x ∷ []) ≡ Some row → IsMarkShown (says_in row g)
+        here : IsMarkedOn (at c log i) slot g k → (row : List DecodedBlock) → row_in Opening (on t.heard k ++ x ∷ []) ≡ Some row → IsMarkShown (says_in row g)
         here marked row read = elim (cases_lt (length (on t.heard k)) 3) [
           | inr over ↦ before same k marked row (sym (row_kept Opening (on t.heard k) x over) ∙ read)
           | inl short ↦ elim (cases_lt (length (on t.heard k)) 2) [
@@ -104,7 +104,7 @@ module _ (c : Shape) (log : List Filled) (run : IsRun c log) (i slot g : ℕ) (s
           go : (o : Option Doing) → m.doing ≡ o → TriesIn Shown m o
           go None does = tt
           go (Some t) does = λ same. (let none = nothing (record { memory = m; doing = t; running = running; does = does; is = same }) in
-              subst (λ (heard : List Answered). (d : ℕ) → IsMarkedOn (at c log i) slot g d → (row : List SeenBlock) → row_in Opening (on heard d) ≡ Some row → IsMarkShown (says_in row g)) (sym none) (nothing_shown slot refl))
+              subst (λ (heard : List Answered). (d : ℕ) → IsMarkedOn (at c log i) slot g d → (row : List DecodedBlock) → row_in Opening (on heard d) ≡ Some row → IsMarkShown (says_in row g)) (sym none) (nothing_shown slot refl))
 
   next_shown : (j : ℕ) → i ≤ j → (o : Option Filled) → slice_get log j ≡ o → Tries Shown ((at c log j).host h) → Tries Shown ((at c log (suc j)).host h)
   next_shown j later None found so = subst (λ (w : World). Tries Shown (w.host h)) (sym (at_end c log j found)) so

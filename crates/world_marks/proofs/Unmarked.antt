@@ -8,7 +8,7 @@ use Rattle.torn_block.specs.Block.{value_of}
 use Rattle.torn_block.specs.Place.{block_in}
 use Rattle.paxos_block.specs.Saying.{Said as PBlock}
 use Rattle.paxos_block.specs.Places.{VoteOf, place_of}
-use Rattle.paxos_block.specs.Row.{SeenBlock, says_of}
+use Rattle.paxos_block.specs.Row.{DecodedBlock, says_of}
 use Rattle.paxos_block.specs.Votes.{says_in}
 use Rattle.attempt.specs.Answers as answers
 use Rattle.attempt.specs.Answers.{Heard, Answered, Answers, on, heard_as, is_bad, all_good, boot_of, told, row_in}
@@ -40,7 +40,7 @@ HasMark says = says.mark ≡ true
 -- that has none.
 abbrev pub Unmarked : World → ℕ → ℕ → List Answered → Type 0
 Unmarked w h slot heard =
-    (d : ℕ) → IsCurrent (w.disk d) (on heard d) → (row : List SeenBlock) → row_in Opening (on heard d) ≡ Some row → (says_in row h).mark ≡ false → AllSay HasNone (place_of (VoteOf slot h)) (w.disk d)
+    (d : ℕ) → IsCurrent (w.disk d) (on heard d) → (row : List DecodedBlock) → row_in Opening (on heard d) ≡ Some row → (says_in row h).mark ≡ false → AllSay HasNone (place_of (VoteOf slot h)) (w.disk d)
 
 -- not both
 pub one_mark : (b : Bool) → b ≡ true → b ≡ false → ⊥
@@ -51,8 +51,8 @@ not_marked true never = absurd (never refl)
 not_marked false never = refl
 
 -- what was told was told in an answer
-pub told_row : (x : Heard) (row : List SeenBlock) → told x ≡ Some row → x ≡ answers.Told (Some row)
-told_row (answers.Told (Some seen)) row is = let one : seen ≡ row = cc in ap (λ (r : List SeenBlock). answers.Told (Some r)) one
+pub told_row : (x : Heard) (row : List DecodedBlock) → told x ≡ Some row → x ≡ answers.Told (Some row)
+told_row (answers.Told (Some seen)) row is = let one : seen ≡ row = cc in ap (λ (r : List DecodedBlock). answers.Told (Some r)) one
 told_row (answers.Told None) row is = absurd (cc)
 told_row (answers.Booted boot) row is = absurd (cc)
 told_row answers.Done row is = absurd (cc)
@@ -161,7 +161,7 @@ module _ (c : Shape) (w : World) (ms : Moves) (tied : Tied c w ms) (e : Filled) 
       s = setup_of c h m t.operation
 
       -- the row that was read is of the block at rest
-      read_so : (row : List SeenBlock) → x ≡ answers.Told (Some row) → (says_in row h).mark ≡ false → AllSay HasNone place (w.disk k)
+      read_so : (row : List DecodedBlock) → x ≡ answers.Told (Some row) → (says_in row h).mark ≡ false → AllSay HasNone place (w.disk k)
       read_so row tells none bytes may_be =
           let new = disk_step (w.disk k) (Called h k call answer left) in
           let good = known.waiting.part.good in
@@ -169,9 +169,9 @@ module _ (c : Shape) (w : World) (ms : Moves) (tied : Tied c w ms) (e : Filled) 
           let there = is_next_read s (on t.heard) k (w.disk k) new answer known.is.kind good known.is.kind_is known.is.fits known.step_by row tells run.below in
           let rests = (trying.knows k).next here Reading there in
           let seen = seen_is s (on t.heard) k (w.disk k) new answer known.is.kind good known.is.kind_is known.is.fits known.step_by row tells run.below h run.below in
-          ap (λ (block : List ℕ). (says_of (value_of block)).mark) (rests bytes may_be) ∙ ap (λ (b : SeenBlock). b.says.mark) (sym seen) ∙ none
+          ap (λ (block : List ℕ). (says_of (value_of block)).mark) (rests bytes may_be) ∙ ap (λ (b : DecodedBlock). b.says.mark) (sym seen) ∙ none
 
-      here_then : IsCurrent (w'.disk k) (a ++ x ∷ []) → (row : List SeenBlock) → row_in Opening (a ++ x ∷ []) ≡ Some row → (says_in row h).mark ≡ false → AllSay HasNone place (w'.disk k)
+      here_then : IsCurrent (w'.disk k) (a ++ x ∷ []) → (row : List DecodedBlock) → row_in Opening (a ++ x ∷ []) ≡ Some row → (says_in row h).mark ≡ false → AllSay HasNone place (w'.disk k)
       here_then is row read none = elim (cases_lt (length a) 3) [
         | inr over ↦
             (let booted = (known.reached.disk k).booted known.waiting.part.good (omega arith) in
@@ -186,9 +186,9 @@ module _ (c : Shape) (w : World) (ms : Moves) (tied : Tied c w ms) (e : Filled) 
 
       more_so : Unmarked w' h (length m.learned) (t.heard ++ record { disk = k; heard = heard_as answer } ∷ [])
       more_so =
-          subst (λ (f : Answers). (d : ℕ) → IsCurrent (w'.disk d) (f d) → (row : List SeenBlock) → row_in Opening (f d) ≡ Some row → (says_in row h).mark ≡ false → AllSay HasNone place (w'.disk d))
+          subst (λ (f : Answers). (d : ℕ) → IsCurrent (w'.disk d) (f d) → (row : List DecodedBlock) → row_in Opening (f d) ≡ Some row → (says_in row h).mark ≡ false → AllSay HasNone place (w'.disk d))
           (sym (on_more t.heard (record { disk = k; heard = heard_as answer })))
-          (by_disk (on t.heard) k x (λ d b. IsCurrent (w'.disk d) b → (row : List SeenBlock) → row_in Opening b ≡ Some row → (says_in row h).mark ≡ false → AllSay HasNone place (w'.disk d))
+          (by_disk (on t.heard) k x (λ d b. IsCurrent (w'.disk d) b → (row : List DecodedBlock) → row_in Opening b ≡ Some row → (says_in row h).mark ≡ false → AllSay HasNone place (w'.disk d))
           here_then
           (λ d off. before d))
 

@@ -1,6 +1,6 @@
 -- What else is claimed of every run: of its ballots, of its log as it grows, of its recoveries, and of the majorities behind its answers.
 use Rattle.std.specs.Prelude.{◌≡◌, ◌⊎◌, ◌<◌, ◌≤◌, ℕ, List, [], take, slice_get, Some}
-use Rattle.paxos_block.specs.Row.{SeenBlock}
+use Rattle.paxos_block.specs.Row.{DecodedBlock}
 use Rattle.attempt.specs.Answers.{Answered, on, row_in}
 use Rattle.attempt.specs.Calls.{Opening}
 use Rattle.attempt.specs.Laws.{OnMost}
@@ -114,7 +114,7 @@ pub record IsToldAt (c : Shape) (log : List Filled) (i host slot : ℕ) : Type 0
   pub of_host : hears.host ≡ host
   pub on_slot : setup.slot ≡ slot
   pub value : List ℕ
-  pub opened : OnMost setup (λ d. (row : List SeenBlock) × (row_in Opening (on heard d) ≡ Some row))
+  pub opened : OnMost setup (λ d. (row : List DecodedBlock) × (row_in Opening (on heard d) ≡ Some row))
   pub marked : IsMarkSeen setup (on heard) value
 
 -- With the answer of entry i a host's attempt on a slot is told that the command which the host was submitting was decided: the marked block has that command's spelling.

@@ -7,7 +7,7 @@ use Rattle.torn_block.specs.Place.{block_in}
 use Rattle.torn_block.specs.declared.layout.TheConstants.{HOSTS}
 use Rattle.paxos_block.specs.Saying.{Said as PBlock}
 use Rattle.paxos_block.specs.Places.{VoteOf, place_of}
-use Rattle.paxos_block.specs.Row.{SeenBlock, says_of}
+use Rattle.paxos_block.specs.Row.{DecodedBlock, says_of}
 use Rattle.paxos_block.specs.Votes.{says_in}
 use Rattle.attempt.specs.Answers.{Heard, Told}
 use Rattle.lock_command.specs.declared.command.Command.{Command}
@@ -33,12 +33,12 @@ abbrev pub AllMarksTrue : Shape → World → (ℕ → List ℕ → Type 0) → 
 AllMarksTrue c w Known = (slot host d : ℕ) → slot < c.slots → host < HOSTS → AllSay (IsMarkTrue (Known slot)) (place_of (VoteOf slot host)) (w.disk d)
 
 -- those of a row,
-abbrev pub ShowsTrueMarks : (List ℕ → Type 0) → List SeenBlock → Type 0
+abbrev pub ShowsTrueMarks : (List ℕ → Type 0) → List DecodedBlock → Type 0
 ShowsTrueMarks Known row = (g : ℕ) → g < HOSTS → IsMarkTrue Known (says_in row g)
 
 -- and those of each row that was told.
 abbrev pub TellsTrueMarks : (List ℕ → Type 0) → List Heard → Type 0
-TellsTrueMarks Known a = (n : ℕ) (row : List SeenBlock) → slice_get a n ≡ Some (Told (Some row)) → ShowsTrueMarks Known row
+TellsTrueMarks Known a = (n : ℕ) (row : List DecodedBlock) → slice_get a n ≡ Some (Told (Some row)) → ShowsTrueMarks Known row
 
 -- it is known of whatever a running host has learned, in its slot
 abbrev pub AllLearnedKnown : World → (ℕ → List ℕ → Type 0) → Type 0

@@ -18,7 +18,7 @@ use Rattle.torn_block.proofs.RegisterLaws.{ranges}
 use Rattle.paxos_block.specs.Saying.{Said as PBlock}
 use Rattle.paxos_block.specs.Places.{Spot, VoteOf, place_of, IsSpot, IsImage, IsWithin, row_of}
 use Rattle.paxos_block.specs.layouts.Row as by_layout
-use Rattle.paxos_block.specs.Row.{SeenBlock, blank_seen, hosts, is_damaged_block, seen_in, seen_at, says_of, row_seen, row_said}
+use Rattle.paxos_block.specs.Row.{DecodedBlock, blank_seen, hosts, is_damaged_block, seen_in, seen_at, says_of, row_seen, decoded_row}
 use Rattle.paxos_block.specs.Votes.{says_in}
 use Rattle.paxos_block.proofs.PlaceLemmas.{spot_fits, writes_on, leaves_other, block_of-row_of}
 
@@ -44,8 +44,8 @@ block_kept slots mine other disk new call answer is_mine is_other differ image w
 -- A ROW
 
 -- a sound row is its blocks
-pub row_is_seen : (bytes : List ℕ) (row : List SeenBlock) → row_said bytes ≡ Some row → row ≡ row_seen bytes
-unfolding by_layout.row_said
+pub row_is_seen : (bytes : List ℕ) (row : List DecodedBlock) → decoded_row bytes ≡ Some row → row ≡ row_seen bytes
+unfolding by_layout.decoded_row
 row_is_seen bytes row is = go (list_any (λ host. is_damaged_block host (block_of host bytes)) hosts) is
   where
     go : (b : Bool) → (if b then None else Some (row_seen bytes)) ≡ Some row → row ≡ row_seen bytes
@@ -57,7 +57,7 @@ seen_at-row_seen : (bytes : List ℕ) (host : ℕ) → host < HOSTS → seen_at 
 seen_at-row_seen bytes host below = get_or-map-range_with_len (λ h. seen_in (block_of h bytes)) 0 HOSTS host host blank_seen below (omega arith)
 
 -- of a host that there is not it shows a blank block
-beyond : (row : List SeenBlock) (g : ℕ) → length row ≤ g → seen_at row g ≡ blank_seen
+beyond : (row : List DecodedBlock) (g : ℕ) → length row ≤ g → seen_at row g ≡ blank_seen
 beyond [] g long = refl
 beyond (x ∷ row) zero long = absurd (omega arith)
 beyond (x ∷ row) (suc g) long = beyond row g (omega arith)
@@ -68,7 +68,7 @@ shown disk slot g = says_in (row_seen (row_of slot disk.bytes)) g
 
 -- of a host it shows what its block says
 pub shown_is : (slot g : ℕ) (disk : DiskState) → g < HOSTS → shown disk slot g ≡ says_of (value_of (block_in (place_of (VoteOf slot g)) disk.bytes))
-shown_is slot g disk below = ap (λ (b : SeenBlock). b.says) (seen_at-row_seen (row_of slot disk.bytes) g below ∙ ap seen_in (block_of-row_of cluster_version slot g disk.bytes below))
+shown_is slot g disk below = ap (λ (b : DecodedBlock). b.says) (seen_at-row_seen (row_of slot disk.bytes) g below ∙ ap seen_in (block_of-row_of cluster_version slot g disk.bytes below))
 
 -- so what it shows of a host, whose block is another than the call's, is as before
 pub shown_beside : (slots slot g : ℕ) (mine : Spot) (disk new : DiskState) (call : Call) (answer : Answer) → slot < slots → IsSpot slots mine → mine ≢ VoteOf slot g → IsImage slots disk → IsWithin mine call → Step disk call answer new
@@ -76,14 +76,14 @@ pub shown_beside : (slots slot g : ℕ) (mine : Spot) (disk new : DiskState) (ca
 shown_beside slots slot g mine disk new call answer slot_below is_mine differ image within step =
     elim (cases_lt g HOSTS) [
       | inl below ↦
-          ap (λ (b : SeenBlock). b.says)
+          ap (λ (b : DecodedBlock). b.says)
           (seen_at-row_seen (row_of slot new.bytes) g below
           ∙ ap seen_in
           (block_of-row_of cluster_version slot g new.bytes below
           ∙ block_kept slots mine (VoteOf slot g) disk new call answer is_mine (slot_below, below) differ image within step
           ∙ sym (block_of-row_of cluster_version slot g disk.bytes below))
           ∙ sym (seen_at-row_seen (row_of slot disk.bytes) g below))
-      | inr over ↦ ap (λ (b : SeenBlock). b.says) (beyond (row_seen (row_of slot new.bytes)) g over ∙ sym (beyond (row_seen (row_of slot disk.bytes)) g over))
+      | inr over ↦ ap (λ (b : DecodedBlock). b.says) (beyond (row_seen (row_of slot new.bytes)) g over ∙ sym (beyond (row_seen (row_of slot disk.bytes)) g over))
     ]
 
 pub shown_kept : (slots slot host g : ℕ) (disk new : DiskState) (call : Call) (answer : Answer) → slot < slots → host < HOSTS → g ≢ host → IsImage slots disk → IsWithin (VoteOf slot host) call → Step disk call answer new

@@ -10,7 +10,7 @@ use Rattle.disk.specs.Simulated.{fresh_disk}
 use Rattle.torn_block.specs.layouts.Block.{sequence_of, body_of, number_bytes, tail_with}
 use Rattle.torn_block.specs.layouts.Place.{copy_in}
 use Rattle.torn_block.specs.declared.layout.TheConstants.{HOSTS}
-use Rattle.paxos_block.specs.layouts.Row.{row_said}
+use Rattle.paxos_block.specs.layouts.Row.{decoded_row}
 use Rattle.paxos_block.specs.layouts.Saying.{zeros, heading, body_saying, number_at, claim_of, is_said}
 use Rattle.attempt.specs.Answers.{Answered}
 use Rattle.attempt.specs.Setup.{Setup}
@@ -107,12 +107,12 @@ host_then = (world one_disk first_two).host 0
 
 -- the first two events bring them
 begun : (es : List Event) → happen one_disk [] (events.Start 0 ∷ events.Submit 0 first_command 1 ∷ es) ≡ happen one_disk first_two es
-unfolding fresh_disk sequence_of body_of number_bytes tail_with copy_in row_said zeros heading body_saying number_at claim_of is_said number lock_at request_at mode_of name_at enqueue_at convert_at action_at command_at
+unfolding fresh_disk sequence_of body_of number_bytes tail_with copy_in decoded_row zeros heading body_saying number_at claim_of is_said number lock_at request_at mode_of name_at enqueue_at convert_at action_at command_at
 begun es = refl
 
 -- by computing: behind seventeen calls the host has acknowledged the command
 said_then : option_map (λ (q : DiskState × Host). said_of q.1) (played one_disk 0 17 disk_then host_then) ≡ Some (Some (Ack 0 granted))
-unfolding played fresh_disk sequence_of body_of number_bytes tail_with copy_in row_said zeros heading body_saying number_at claim_of is_said number lock_at request_at mode_of name_at enqueue_at convert_at action_at command_at applied settled
+unfolding played fresh_disk sequence_of body_of number_bytes tail_with copy_in decoded_row zeros heading body_saying number_at claim_of is_said number lock_at request_at mode_of name_at enqueue_at convert_at action_at command_at applied settled
 said_then = refl
 
 -- what is said of a value is said of one that there is
@@ -234,7 +234,7 @@ host_started = host_here one_disk stopped (Start 0) 0 refl ∙ ap (λ (host : Ho
 
 -- the command is what its spelling reads as
 submits_so : events.brings_if (idles (Running fresh) && nat_lt 0 1) (events.submitted 0 1 (decoded (spelling second_command))) ≡ Some (Submit 0 second_command 1)
-unfolding fresh_disk sequence_of body_of number_bytes tail_with copy_in row_said zeros heading body_saying number_at claim_of is_said number lock_at request_at mode_of name_at enqueue_at convert_at action_at command_at
+unfolding fresh_disk sequence_of body_of number_bytes tail_with copy_in decoded_row zeros heading body_saying number_at claim_of is_said number lock_at request_at mode_of name_at enqueue_at convert_at action_at command_at
 submits_so = refl
 
 submits : happens one_disk started (events.Submit 0 second_command 1) ≡ begun_again
@@ -253,7 +253,7 @@ goes_on =
 
 -- by computing: behind thirty-four calls the host has acknowledged the second command, behind the first
 said_again : option_map (λ (q : DiskState × Host). said_of q.1) (option_and_then (λ (p : DiskState × Host). played one_disk 3 34 p.0 host_again) (played one_disk 0 17 disk_then host_then)) ≡ Some (Some (Ack 1 (without_value Queued)))
-unfolding played fresh_disk sequence_of body_of number_bytes tail_with copy_in row_said zeros heading body_saying number_at claim_of is_said number lock_at request_at mode_of name_at enqueue_at convert_at action_at command_at applied settled
+unfolding played fresh_disk sequence_of body_of number_bytes tail_with copy_in decoded_row zeros heading body_saying number_at claim_of is_said number lock_at request_at mode_of name_at enqueue_at convert_at action_at command_at applied settled
 said_again = refl
 
 second_last : (q : DiskState × Host) × (played one_disk 3 34 first_last.0.0 host_again ≡ Some q) × (said_of q.1 ≡ Some (Ack 1 (without_value Queued)))

@@ -4,7 +4,7 @@ use Rattle.std.proofs.Common.{ℕ, ◌+◌, ◌≤◌, ◌≡◌, ◌≢◌, inl
 use Rattle.std.proofs.lemmas.Bool.{cases_order}
 use Rattle.disk.specs.Disk.{DiskState}
 use Rattle.paxos_block.specs.Places.{row_of}
-use Rattle.paxos_block.specs.Row.{SeenBlock, row_said}
+use Rattle.paxos_block.specs.Row.{DecodedBlock, decoded_row}
 use Rattle.paxos_block.specs.Votes.{says_in}
 use Rattle.attempt.specs.Calls.{Phase, Opening, One, Two, goal}
 use Rattle.attempt.specs.Answers as answers
@@ -16,8 +16,8 @@ use Rattle.world_served.proofs.Blocks.{row_is_seen, shown}
 
 -- Of the rows that were read of a disk: they show of the others the mbal that the opening's row did, and that is what the disk shows now, as long as it has not crashed.
 pub record RestsOn (host slot : ℕ) (disk : DiskState) (a : List Heard) : Type 0 where
-  pub among : (p : Phase) (g : ℕ) (first later : List SeenBlock) → row_in Opening a ≡ Some first → row_in p a ≡ Some later → g ≢ host → (says_in later g).mbal ≡ (says_in first g).mbal
-  pub now : (g : ℕ) (first : List SeenBlock) → row_in Opening a ≡ Some first → IsCurrent disk a → g ≢ host → (says_in first g).mbal ≡ (shown disk slot g).mbal
+  pub among : (p : Phase) (g : ℕ) (first later : List DecodedBlock) → row_in Opening a ≡ Some first → row_in p a ≡ Some later → g ≢ host → (says_in later g).mbal ≡ (says_in first g).mbal
+  pub now : (g : ℕ) (first : List DecodedBlock) → row_in Opening a ≡ Some first → IsCurrent disk a → g ≢ host → (says_in first g).mbal ≡ (shown disk slot g).mbal
 
 -- so it is on each disk
 abbrev pub Rests : (host slot : ℕ) → (ℕ → DiskState) → Answers → Type 0
@@ -41,25 +41,25 @@ opening_first One = omega arith
 opening_first Two = omega arith
 
 module _ (host slot : ℕ) (disk new : DiskState) (a : List Heard) (x : Heard) (is_disk : IsDisk a) (good : all_good a ≡ true) (boot : new.boot ≡ disk.boot) (kept : (g : ℕ) → g ≢ host → (shown new slot g).mbal ≡ (shown disk slot g).mbal)
-    (reads : (row : List SeenBlock) → x ≡ answers.Told (Some row) → IsCurrent disk a × (row_said (row_of slot disk.bytes) ≡ Some row)) (before : RestsOn host slot disk a) where
+    (reads : (row : List DecodedBlock) → x ≡ answers.Told (Some row) → IsCurrent disk a × (decoded_row (row_of slot disk.bytes) ≡ Some row)) (before : RestsOn host slot disk a) where
   abbrev longer : List Heard
   longer = a ++ x ∷ []
 
   -- a row is one of before, or the one that is told now
-  data Which (p : Phase) (row : List SeenBlock) : Type 0 where
+  data Which (p : Phase) (row : List DecodedBlock) : Type 0 where
     Old : (over : goal p ≤ length a) → (is : row_in p a ≡ Some row) → Which p row
     New : (last : length a + 1 ≡ goal p) → (is : x ≡ answers.Told (Some row)) → Which p row
 
   -- what is told is a sound row
-  told_is : (y : Heard) (row : List SeenBlock) → told y ≡ Some row → y ≡ answers.Told (Some row)
-  told_is (answers.Told (Some seen)) row is = let same : seen ≡ row = cc in ap (λ (r : List SeenBlock). answers.Told (Some r)) same
+  told_is : (y : Heard) (row : List DecodedBlock) → told y ≡ Some row → y ≡ answers.Told (Some row)
+  told_is (answers.Told (Some seen)) row is = let same : seen ≡ row = cc in ap (λ (r : List DecodedBlock). answers.Told (Some r)) same
   told_is (answers.Told None) row is = absurd (cc)
   told_is answers.Done row is = absurd (cc)
   told_is (answers.Booted b) row is = absurd (cc)
   told_is (answers.Fault fault) row is = absurd (cc)
 
   -- each row is one of these
-  which : (p : Phase) (row : List SeenBlock) → row_in p longer ≡ Some row → Which p row
+  which : (p : Phase) (row : List DecodedBlock) → row_in p longer ≡ Some row → Which p row
   which p row is =
       elim (cases_order (length a + 1) (goal p)) [
         | inl same ↦ New same (told_is x row (sym (row_last p a x same) ∙ is))
@@ -68,18 +68,18 @@ module _ (host slot : ℕ) (disk new : DiskState) (a : List Heard) (x : Heard) (
       ]
 
   -- what is told now is what the disk shows
-  tells_now : (row : List SeenBlock) (g : ℕ) → x ≡ answers.Told (Some row) → (says_in row g).mbal ≡ (shown disk slot g).mbal
-  tells_now row g is = ap (λ (r : List SeenBlock). (says_in r g).mbal) (row_is_seen (row_of slot disk.bytes) row (reads row is).1)
+  tells_now : (row : List DecodedBlock) (g : ℕ) → x ≡ answers.Told (Some row) → (says_in row g).mbal ≡ (shown disk slot g).mbal
+  tells_now row g is = ap (λ (r : List DecodedBlock). (says_in r g).mbal) (row_is_seen (row_of slot disk.bytes) row (reads row is).1)
 
   -- so each shows of the others the mbal that the opening's did
-  among_by : (p : Phase) (g : ℕ) (first later : List SeenBlock) → Which Opening first → Which p later → g ≢ host → (says_in later g).mbal ≡ (says_in first g).mbal
+  among_by : (p : Phase) (g : ℕ) (first later : List DecodedBlock) → Which Opening first → Which p later → g ≢ host → (says_in later g).mbal ≡ (says_in first g).mbal
   among_by p g first later (Old over is) (Old over_too is_too) off = before.among p g first later is is_too off
   among_by p g first later (Old over is) (New last is_too) off = tells_now later g is_too ∙ sym (before.now g first is (reads later is_too).0 off)
   among_by p g first later (New last is) (New last_too is_too) off = tells_now later g is_too ∙ sym (tells_now first g is)
   among_by p g first later (New last is) (Old over is_too) off = absurd (omega (arith, last, over, opening_first p))
 
   -- and that is what the disk shows now
-  now_by : (g : ℕ) (first : List SeenBlock) → Which Opening first → IsCurrent new longer → g ≢ host → (says_in first g).mbal ≡ (shown new slot g).mbal
+  now_by : (g : ℕ) (first : List DecodedBlock) → Which Opening first → IsCurrent new longer → g ≢ host → (says_in first g).mbal ≡ (shown new slot g).mbal
   now_by g first (New last is) current off = tells_now first g is ∙ sym (kept g off)
   now_by g first (Old over is) current off =
       let booted = is_disk.booted good (omega (arith, over)) in

@@ -2,7 +2,7 @@
 use Rattle.std.specs.Prelude.{◌≡◌, ◌<◌, ℕ, List, length, slice_get, Option, Some, None}
 use Rattle.torn_block.specs.Layout.{Version, hosts_in, value_length}
 use Rattle.paxos_block.specs.layouts.Saying.{Said, IsVoteOf}
-use Rattle.paxos_block.specs.layouts.Row.{SeenBlock}
+use Rattle.paxos_block.specs.layouts.Row.{DecodedBlock}
 use Rattle.paxos_block.specs.layouts.Votes.{says_in}
 use Rattle.attempt.specs.Answers.{Heard, Told}
 
@@ -17,9 +17,9 @@ pub record IsVoteBy (v : Version) (host ballot : ℕ) (says : Said) : Type 0 whe
   pub long : IsLong v says.inp
 
 -- so does each block of the row, up to its own
-abbrev pub ShowsVotes : Version → List SeenBlock → Type 0
+abbrev pub ShowsVotes : Version → List DecodedBlock → Type 0
 ShowsVotes v row = (g : ℕ) → g < hosts_in v → IsVoteBy v g (says_in row g).mbal (says_in row g)
 
 -- and of each sound row that a disk has told
 abbrev pub TellsVotes : Version → List Heard → Type 0
-TellsVotes v a = (n : ℕ) (row : List SeenBlock) → slice_get a n ≡ Some (Told (Some row)) → ShowsVotes v row
+TellsVotes v a = (n : ℕ) (row : List DecodedBlock) → slice_get a n ≡ Some (Told (Some row)) → ShowsVotes v row

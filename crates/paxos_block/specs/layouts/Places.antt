@@ -10,7 +10,7 @@ use Rattle.torn_block.specs.layouts.Place.{block_in}
 use Rattle.torn_block.specs.layouts.Plan.{told_number}
 use Rattle.torn_block.specs.Stage.{Write128}
 use Rattle.paxos_block.specs.declared.cell.Cell.{Cell}
-use Rattle.paxos_block.specs.layouts.Row.{IsSound, says_of, SeenBlock, seen_in}
+use Rattle.paxos_block.specs.layouts.Row.{IsSound, says_of, DecodedBlock, seen_in}
 use Rattle.paxos_block.specs.layouts.Saying.{Said, said_as, MaySay, body_saying}
 
 -- A block's spot: a host's heartbeat block, or its block of a slot.
@@ -76,6 +76,6 @@ pub record CellReads {V : Type 0} (v : Version) (spelled : V → List ℕ) (r : 
   pub says : said_as spelled cell.says ≡ says_of v value
 
 -- A block that is seen in a row has a value that the register allows, and all that is seen of it goes by its bytes.
-pub record SeenReads (v : Version) (r : Register) (seen : SeenBlock) : Type 0 where
+pub record SeenReads (v : Version) (r : Register) (seen : DecodedBlock) : Type 0 where
   pub reads : Reads r (value_of v seen.bytes)
   pub so : seen ≡ seen_in v seen.bytes

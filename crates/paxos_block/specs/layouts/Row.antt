@@ -73,7 +73,7 @@ abbrev pub is_damaged_block : Version → ℕ → List ℕ → Bool
 is_damaged_block v host block = is_damaged (is_sound v host) (first_of v block) (second_of v block)
 
 -- A host's block as it is seen in a row: its bytes, the sequence number of its current copy, and what it says.
-pub record SeenBlock : Type 0 where
+pub record DecodedBlock : Type 0 where
   pub bytes : List ℕ
   pub sequence : ℕ
   pub says : Said
@@ -86,34 +86,34 @@ number_or_zero (Some number) = number
 abbrev pub sequence_or_zero : Option (ℕ × List ℕ) → ℕ
 sequence_or_zero value = number_or_zero (number_in value)
 
-abbrev pub seen_in : Version → List ℕ → SeenBlock
+abbrev pub seen_in : Version → List ℕ → DecodedBlock
 seen_in v block = record { bytes = block; sequence = sequence_or_zero (value_of v block); says = says_of v (value_of v block) }
 
 abbrev pub hosts : Version → List ℕ
 hosts v = range_with_len 0 (hosts_in v)
 
 -- the blocks of a row, by host
-abbrev pub row_seen : Version → List ℕ → List SeenBlock
+abbrev pub row_seen : Version → List ℕ → List DecodedBlock
 row_seen v row = map (λ host. seen_in v (block_of v host row)) (hosts v)
 
 -- what a row says: its blocks, or nothing where one of them is damaged
-unfoldable pub row_said : Version → List ℕ → Option (List SeenBlock)
-row_said v row = if list_any (λ host. is_damaged_block v host (block_of v host row)) (hosts v) then None else Some (row_seen v row)
+unfoldable pub decoded_row : Version → List ℕ → Option (List DecodedBlock)
+decoded_row v row = if list_any (λ host. is_damaged_block v host (block_of v host row)) (hosts v) then None else Some (row_seen v row)
 
 -- a block of zeros, as it is seen: what stands for a host that there is not
-abbrev pub blank_seen : SeenBlock
+abbrev pub blank_seen : DecodedBlock
 blank_seen = record { bytes = zeros (2 * COPY_ROOM); sequence = 0; says = blank }
 
-abbrev pub seen_at : List SeenBlock → ℕ → SeenBlock
+abbrev pub seen_at : List DecodedBlock → ℕ → DecodedBlock
 seen_at seen host = slice_index_or seen host blank_seen
 
 -- the cell is this block: its bytes as read, with this sequence number, and it says the same
-pub record IsSeenAs {V : Type 0} (v : Version) (spelled : V → List ℕ) (seen : SeenBlock) (cell : Cell V) : Type 0 where
+pub record IsSeenAs {V : Type 0} (v : Version) (spelled : V → List ℕ) (seen : DecodedBlock) (cell : Cell V) : Type 0 where
   pub read : IsReading v seen.bytes cell.block
   pub sequence : number_or_zero (told_number cell.block) ≡ seen.sequence
   pub says : said_as spelled cell.says ≡ seen.says
 
 -- the cells of a row are these blocks, one for each host, and those of hosts that there are not are blank
-pub record AreSeenAs {V : Type 0} (v : Version) (spelled : V → List ℕ) (seen : List SeenBlock) (row : Row V) : Type 0 where
+pub record AreSeenAs {V : Type 0} (v : Version) (spelled : V → List ℕ) (seen : List DecodedBlock) (row : Row V) : Type 0 where
   pub count : length seen ≡ hosts_in v
   pub cells : (host : ℕ) → host < HOSTS_ROOM → HoldsAt (IsSeenAs v spelled (seen_at seen host)) row.cells host

@@ -3,7 +3,7 @@ use Rattle.std.specs.Prelude.{◌+◌, ◌≤◌, ℕ, List, length, Option}
 use Rattle.std.specs.Option.{option_map}
 use Rattle.disk.specs.Disk as device
 use Rattle.torn_block.specs.Layout.{Version, row_length}
-use Rattle.paxos_block.specs.layouts.Row.{row_said}
+use Rattle.paxos_block.specs.layouts.Row.{decoded_row}
 use Rattle.attempt.specs.Calls.{Phase, Opening, One, Two}
 use Rattle.attempt.specs.Answers.{Heard, Booted, Done, Told, Fault}
 use Rattle.attempt.specs.Status.{End, Committed, Decided, Empty, Outrun, NoMajority, BallotsSpent}
@@ -44,7 +44,7 @@ call_of_need v need = (need.disk, device_call_of v need.call)
 abbrev pub heard_of : {R : Type 0} → Version → (R → List ℕ) → code_heard.Heard R → Heard
 heard_of v bytes_of (answer.Booted boot) = Booted boot.number
 heard_of v bytes_of answer.Done = Done
-heard_of v bytes_of (answer.Told row) = Told (row_said v (bytes_of row.now))
+heard_of v bytes_of (answer.Told row) = Told (decoded_row v (bytes_of row.now))
 heard_of v bytes_of (answer.Fault fault) = Fault fault
 
 -- an end, with the bytes of its value

@@ -21,7 +21,7 @@ use Rattle.torn_block.proofs.RegisterLaws.{known_synced}
 use Rattle.torn_block.proofs.StageLaws.{done_leads_on, settled_begins}
 use Rattle.paxos_block.specs.Saying.{Said as PBlock}
 use Rattle.paxos_block.specs.Places.{VoteOf, row_place, row_of, IsImage, IsSoundAt}
-use Rattle.paxos_block.specs.Row.{IsSound, IsSaid, SeenBlock, seen_in, says_of, sequence_or_zero}
+use Rattle.paxos_block.specs.Row.{IsSound, IsSaid, DecodedBlock, seen_in, says_of, sequence_or_zero}
 use Rattle.paxos_block.specs.Saying.{MaySay, body_saying}
 use Rattle.paxos_block.proofs.Outcomes.{Outcomes, rests_by, calm_outcomes, same_outcomes}
 use Rattle.paxos_block.proofs.PlaceLemmas.{spot_fits, block_of-row_of}
@@ -240,7 +240,7 @@ module _ (slots : ℕ) (s : mark.Setup) (a : List Heard) (kind : Kind) (disk new
       by_number (suc (suc (suc (suc (suc (suc (suc (suc zero)))))))) l at = absurd (cc)
       by_number (suc (suc (suc (suc (suc (suc (suc (suc (suc n))))))))) l at = absurd (omega arith)
 
-  row_settles : (same : kind ≡ Reading) (row : List SeenBlock) → x ≡ answers.Told (Some row) → IsAtRest place disk → (bytes : List ℕ) → MayLeave new bytes → seen_in (block_in place bytes) ≡ own_block s b
+  row_settles : (same : kind ≡ Reading) (row : List DecodedBlock) → x ≡ answers.Told (Some row) → IsAtRest place disk → (bytes : List ℕ) → MayLeave new bytes → seen_in (block_in place bytes) ≡ own_block s b
   row_settles same row tells rests bytes left =
       let go = step_as Reading same in
       let before : MayLeave disk bytes = subst (λ (k : DiskState). MayLeave k bytes) (read_leaves disk new (boot_of a) (row_place s.slot) ROW_LENGTH answer go) left in
@@ -249,7 +249,7 @@ module _ (slots : ℕ) (s : mark.Setup) (a : List Heard) (kind : Kind) (disk new
       ap seen_in (rests bytes before)
       ∙ ap seen_in (sym (block_of-row_of cluster_version s.slot s.host disk.bytes host_below))
       ∙ sym (said_sees cluster_version (row_of s.slot disk.bytes) row s.host host_below said_so)
-      ∙ ap (λ (r : Option (List SeenBlock)). seen_block r s.host) (sym (row_last Opening a x number ∙ ap told tells))
+      ∙ ap (λ (r : Option (List DecodedBlock)). seen_block r s.host) (sym (row_last Opening a x number ∙ ap told tells))
 
   is_read : kind ≡ Reading → AfterMark s b disk new cell
   is_read same =
@@ -268,16 +268,16 @@ module _ (slots : ℕ) (s : mark.Setup) (a : List Heard) (kind : Kind) (disk new
   -- behind the read the own block is as it was read
   module _ (p : Phase) (behind : 3 ≤ length a) where
     own_then : own_block s b ≡ own_block s a
-    own_then = ap (λ (r : Option (List SeenBlock)). seen_block r s.host) (row_kept Opening a x behind)
+    own_then = ap (λ (r : Option (List DecodedBlock)). seen_block r s.host) (row_kept Opening a x behind)
 
     -- the write goes on
     goes_on : (next : WriteCall) → IsMarking s a next new → IsMarking s b next new
     goes_on next it =
-        let write : write_on s b ≡ w = ap (λ (o : SeenBlock). record { version = cluster_version; place = place; block = o.bytes; body = body_saying (with_mark o.says) }) own_then in
+        let write : write_on s b ≡ w = ap (λ (o : DecodedBlock). record { version = cluster_version; place = place; block = o.bytes; body = body_saying (with_mark o.says) }) own_then in
         record {
           due = subst (λ (v : Write128). IsDue next v new) (sym write) it.due;
-          can = subst (λ (o : SeenBlock). CanWrite s.host (with_mark o.says) (record { version = cluster_version; place = place; block = o.bytes; body = body_saying (with_mark o.says) })) (sym own_then) it.can;
-          old = subst (λ (o : SeenBlock). says_of (value_of o.bytes) ≡ o.says) (sym own_then) it.old;
+          can = subst (λ (o : DecodedBlock). CanWrite s.host (with_mark o.says) (record { version = cluster_version; place = place; block = o.bytes; body = body_saying (with_mark o.says) })) (sym own_then) it.can;
+          old = subst (λ (o : DecodedBlock). says_of (value_of o.bytes) ≡ o.says) (sym own_then) it.old;
         }
 
   -- it has the value
@@ -291,10 +291,10 @@ module _ (slots : ℕ) (s : mark.Setup) (a : List Heard) (kind : Kind) (disk new
       seen_now = settled disk.bytes (may_leave_now disk)
 
       same_bytes : block_in place disk.bytes ≡ w.block
-      same_bytes = ap (λ (o : SeenBlock). o.bytes) seen_now
+      same_bytes = ap (λ (o : DecodedBlock). o.bytes) seen_now
 
       same_says : says_of (value_of (block_in place disk.bytes)) ≡ (own_block s a).says
-      same_says = ap (λ (o : SeenBlock). o.says) seen_now
+      same_says = ap (λ (o : DecodedBlock). o.says) seen_now
 
       sound_now : IsSoundBlock (IsSound s.host) (block_in place disk.bytes)
       sound_now = stands.sound disk.bytes (may_leave_now disk)
@@ -312,13 +312,13 @@ module _ (slots : ℕ) (s : mark.Setup) (a : List Heard) (kind : Kind) (disk new
               sound = subst (IsSoundBlock (IsSound s.host)) same_bytes sound_now;
               may_say = may_mark s.host (value_of (block_in place disk.bytes)) (own_block s a).says s.value says_so inp_is;
               body = refl;
-              number = number_fits (value_of w.block) (own_block s a).sequence (ap (λ (l : List ℕ). sequence_or_zero (value_of l)) (sym same_bytes) ∙ ap (λ (o : SeenBlock). o.sequence) seen_now) fresh;
+              number = number_fits (value_of w.block) (own_block s a).sequence (ap (λ (l : List ℕ). sequence_or_zero (value_of l)) (sym same_bytes) ∙ ap (λ (o : DecodedBlock). o.sequence) seen_now) fresh;
             };
             long = ap length (sym same_bytes) ∙ block_long;
             full = fills cluster_version (with_mark (own_block s a).says) (said_long cluster_version s.host (block_in place disk.bytes) (own_block s a).says (value_of (block_in place disk.bytes)) block_long refl says_so);
           } in
           record {
-            due = settled_begins w disk (mark_placed slots s a disk image slot_below host_below can) (λ bytes left. ap (λ (o : SeenBlock). o.bytes) (settled bytes left));
+            due = settled_begins w disk (mark_placed slots s a disk image slot_below host_below can) (λ bytes left. ap (λ (o : DecodedBlock). o.bytes) (settled bytes left));
             can = can;
             old = ap (λ (l : List ℕ). says_of (value_of l)) (sym same_bytes) ∙ same_says;
           }

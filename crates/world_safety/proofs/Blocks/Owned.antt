@@ -12,7 +12,7 @@ use Rattle.torn_block.specs.Register.{IsAtRest}
 use Rattle.torn_block.proofs.RegisterLaws.{known_synced}
 use Rattle.paxos_block.specs.Saying.{Said as PBlock}
 use Rattle.paxos_block.specs.Places.{row_place, row_of, IsImage}
-use Rattle.paxos_block.specs.Row.{SeenBlock, seen_in}
+use Rattle.paxos_block.specs.Row.{DecodedBlock, seen_in}
 use Rattle.paxos_block.specs.Saying.{body_saying}
 use Rattle.paxos_block.proofs.Outcomes.{IsCalm, calm_outcomes}
 use Rattle.paxos_block.proofs.PlaceLemmas.{block_of-row_of}
@@ -107,12 +107,12 @@ module _ (slots : ℕ) (any : Setup) (p : Phase) (d : ℕ) (f : Answers) (disk n
   pub says_then : says_for s p g ≡ says_for s p f
   says_then = says_same s g f p (λ q before. rows_kept f d x q (omega (arith, before, come)))
 
-  pub last_then : (row : Option (List SeenBlock)) → told x ≡ row → last_row (g d) ≡ later_row (last_row (f d)) row
+  pub last_then : (row : Option (List DecodedBlock)) → told x ≡ row → last_row (g d) ≡ later_row (last_row (f d)) row
   last_then row is = ap last_row (more_here f d x) ∙ last_more (f d) x ∙ ap (later_row (last_row (f d))) is
 
   pub write_then : told x ≡ None → write_on s p d g ≡ write_on s p d f
   write_then none =
-      ap₂ (λ (r : Option (List SeenBlock)) (b : PBlock). record { version = cluster_version; place = own_place s; block = (seen_block r s.host).bytes; body = body_saying b }) (last_then None none) says_then
+      ap₂ (λ (r : Option (List DecodedBlock)) (b : PBlock). record { version = cluster_version; place = own_place s; block = (seen_block r s.host).bytes; body = body_saying b }) (last_then None none) says_then
 
   -- a bad answer leaves nothing to know
   pub knows_none : (call : Call) → Step disk call answer new → is_bad x ≡ true → Knows new s g d cell
@@ -145,7 +145,7 @@ module _ (slots : ℕ) (any : Setup) (p : Phase) (d : ℕ) (f : Answers) (disk n
       }
 
   -- the row that was read is of the block at rest
-  row_settles : (boot : ℕ) (row : List SeenBlock) → Step disk (Read boot (row_place s.slot) ROW_LENGTH) answer new → x ≡ answers.Told (Some row) → IsAtRest (own_place s) disk
+  row_settles : (boot : ℕ) (row : List DecodedBlock) → Step disk (Read boot (row_place s.slot) ROW_LENGTH) answer new → x ≡ answers.Told (Some row) → IsAtRest (own_place s) disk
       → (bytes : List ℕ) → MayLeave new bytes → seen_in (block_in (own_place s) bytes) ≡ seen_block (last_row (g d)) s.host
   row_settles boot row step is rests bytes left =
       let before : MayLeave disk bytes = subst (λ (k : DiskState). MayLeave k bytes) (read_leaves disk new boot (row_place s.slot) ROW_LENGTH answer step) left in
@@ -153,7 +153,7 @@ module _ (slots : ℕ) (any : Setup) (p : Phase) (d : ℕ) (f : Answers) (disk n
       ap seen_in (rests bytes before)
       ∙ ap seen_in (sym (block_of-row_of cluster_version s.slot s.host disk.bytes host_below))
       ∙ sym (said_sees cluster_version (row_of s.slot disk.bytes) row s.host host_below said_so)
-      ∙ ap (λ (r : Option (List SeenBlock)). seen_block r s.host) (sym (last_then (Some row) (ap told is)))
+      ∙ ap (λ (r : Option (List DecodedBlock)). seen_block r s.host) (sym (last_then (Some row) (ap told is)))
 
   pub read : IsNext (f d) Reading → Fits (call_by s d f Reading) x → Step disk (call_by s d f Reading) answer new → IsSameBlock old cell → After s d g new cell
   read is fits step same =

@@ -19,7 +19,7 @@ use Rattle.torn_block.specs.Register.{Value, StandsFor}
 use Rattle.torn_block.specs.Stage.{Write128, call_of, old_value, new_value, in_writing, IsDue, IsPlaced}
 use Rattle.torn_block.proofs.StageLaws.{due_reads, failure_reads, settled_begins}
 use Rattle.paxos_block.specs.Places.{VoteOf, place_of, row_place, row_of, IsImage, IsSoundAt}
-use Rattle.paxos_block.specs.Row.{IsSound, SeenBlock, seen_in, sequence_or_zero, row_said}
+use Rattle.paxos_block.specs.Row.{IsSound, DecodedBlock, seen_in, sequence_or_zero, decoded_row}
 use Rattle.paxos_block.specs.Saying.{MaySay, body_saying}
 use Rattle.paxos_block.proofs.PlaceLemmas.{spot_fits}
 use Rattle.paxos_block.proofs.SayingLemmas.{claims_back}
@@ -74,15 +74,15 @@ under disk new call (Fault fault) step good = absurd (true≢false good)
 -- THE ROW
 
 -- the answer to a read of a row
-pub row_told : (disk new : DiskState) (boot slot : ℕ) (answer : Answer) (row : List SeenBlock) → Step disk (Read boot (row_place slot) ROW_LENGTH) answer new → heard_as answer ≡ answers.Told (Some row)
-    → row_said (row_of slot disk.bytes) ≡ Some row
+pub row_told : (disk new : DiskState) (boot slot : ℕ) (answer : Answer) (row : List DecodedBlock) → Step disk (Read boot (row_place slot) ROW_LENGTH) answer new → heard_as answer ≡ answers.Told (Some row)
+    → decoded_row (row_of slot disk.bytes) ≡ Some row
 row_told disk new boot slot (Booted number) row step is = absurd (cc)
 row_told disk new boot slot Done row step is = absurd (cc)
 row_told disk new boot slot (Fault fault) row step is = absurd (cc)
 row_told disk new boot slot (Told bytes) row step is =
     let read : bytes ≡ row_of slot disk.bytes = (let all = step.2.0 in cc) in
-    let says : row_said bytes ≡ Some row = cc in
-    ap row_said (sym read) ∙ says
+    let says : decoded_row bytes ≡ Some row = cc in
+    ap decoded_row (sym read) ∙ says
 
 -- WRITES
 
@@ -168,7 +168,7 @@ module _ (slots : ℕ) (any : Setup) (p : Phase) (d : ℕ) (f : Answers) (disk :
     now = settled disk.bytes (may_leave_now disk)
 
     same_bytes : block_in (own_place s) disk.bytes ≡ w.block
-    same_bytes = ap (λ (b : SeenBlock). b.bytes) now
+    same_bytes = ap (λ (b : DecodedBlock). b.bytes) now
 
     -- over the block as it was read it may write
     pub can_begin : MaySay s.host (says_for s p f) → length (body_saying (says_for s p f)) ≡ BODY_LENGTH → nat_le LAST_SEQUENCE (seen_block (last_row (f d)) s.host).sequence ≡ false → CanWrite s.host (says_for s p f) w
@@ -178,14 +178,14 @@ module _ (slots : ℕ) (any : Setup) (p : Phase) (d : ℕ) (f : Answers) (disk :
             sound = subst (IsSoundBlock (IsSound s.host)) same_bytes (stands.sound disk.bytes (may_leave_now disk));
             may_say = may;
             body = refl;
-            number = number_fits (value_of w.block) (seen_block (last_row (f d)) s.host).sequence (ap (λ (b : List ℕ). sequence_or_zero (value_of b)) (sym same_bytes) ∙ ap (λ (b : SeenBlock). b.sequence) now) unspent;
+            number = number_fits (value_of w.block) (seen_block (last_row (f d)) s.host).sequence (ap (λ (b : List ℕ). sequence_or_zero (value_of b)) (sym same_bytes) ∙ ap (λ (b : DecodedBlock). b.sequence) now) unspent;
           };
           long = ap length (sym same_bytes) ∙ length-block_in cluster_version (own_place s) disk.bytes lies;
           full = full;
         }
 
     pub begins_due : CanWrite s.host (says_for s p f) w → IsDue CloseGate w disk
-    begins_due can = settled_begins w disk (placed can) (λ bytes left. ap (λ (b : SeenBlock). b.bytes) (settled bytes left))
+    begins_due can = settled_begins w disk (placed can) (λ bytes left. ap (λ (b : DecodedBlock). b.bytes) (settled bytes left))
 
     -- the old value is the confirmed one
     pub old_is : old.writing ≡ None → old.confirmed ≡ said (old_value w)

@@ -11,7 +11,7 @@ use Rattle.torn_block.specs.Block.{value_of}
 use Rattle.torn_block.specs.Place.{block_in}
 use Rattle.torn_block.specs.Register.{Value}
 use Rattle.paxos_block.specs.Places.{VoteOf, place_of, row_of}
-use Rattle.paxos_block.specs.Row.{SeenBlock, seen_in, seen_at, row_said}
+use Rattle.paxos_block.specs.Row.{DecodedBlock, seen_in, seen_at, decoded_row}
 use Rattle.paxos_block.proofs.PlaceLemmas.{block_of-row_of}
 use Rattle.paxos_block.proofs.RowLemmas.{said_sees}
 use Rattle.attempt.specs.Calls.{Phase, Kind, Reading, Putting}
@@ -30,7 +30,7 @@ use Rattle.world_safety.proofs.Blocks.Owning.{row_told, under}
 use Rattle.world_safety.proofs.Blocks.Within.{reading_kind}
 
 -- a row or none is told
-pub told_or_not : (x : Heard) → ((row : List SeenBlock) × (x ≡ answers.Told (Some row))) ⊎ ((row : List SeenBlock) → x ≡ answers.Told (Some row) → ⊥)
+pub told_or_not : (x : Heard) → ((row : List DecodedBlock) × (x ≡ answers.Told (Some row))) ⊎ ((row : List DecodedBlock) → x ≡ answers.Told (Some row) → ⊥)
 told_or_not (answers.Told (Some row)) = inl (row, refl)
 told_or_not (answers.Told None) = inr (λ row is. absurd (cc))
 told_or_not answers.Done = inr (λ row is. absurd (cc))
@@ -48,7 +48,7 @@ module _ (any : Setup) (f : Answers) (k : ℕ) (disk new : DiskState) (answer : 
 
   -- WHERE NO ROW IS TOLD
 
-  module _ (m : Machine) (none : (row : List SeenBlock) → heard_as answer ≡ answers.Told (Some row) → ⊥) (knows : Knows disk s f k (m.cell s.host k)) where
+  module _ (m : Machine) (none : (row : List DecodedBlock) → heard_as answer ≡ answers.Told (Some row) → ⊥) (knows : Knows disk s f k (m.cell s.host k)) where
     step_as : (other : Kind) → kind ≡ other → Step disk (call_by s k f other) answer new
     step_as other same = subst (λ (q : Kind). Step disk (call_by s k f q) answer new) same step
 
@@ -72,7 +72,7 @@ module _ (any : Setup) (f : Answers) (k : ℕ) (disk new : DiskState) (answer : 
 
   -- WHERE A ROW IS TOLD
 
-  module _ (row : List SeenBlock) (tells : heard_as answer ≡ answers.Told (Some row)) (host_below : s.host < HOSTS) where
+  module _ (row : List DecodedBlock) (tells : heard_as answer ≡ answers.Told (Some row)) (host_below : s.host < HOSTS) where
     is_read : kind ≡ Reading
     is_read = reading_kind s f k kind row (subst (Fits (call_by s k f kind)) tells fits)
 
@@ -85,7 +85,7 @@ module _ (any : Setup) (f : Answers) (k : ℕ) (disk new : DiskState) (answer : 
     pub is_next_read : IsNext (f k) Reading
     is_next_read = subst (IsNext (f k)) is_read is
 
-    pub row_is : row_said (row_of s.slot disk.bytes) ≡ Some row
+    pub row_is : decoded_row (row_of s.slot disk.bytes) ≡ Some row
     row_is = row_told disk new (boot_of (f k)) s.slot answer row read_step tells
 
     -- what is read of the own block
@@ -96,7 +96,7 @@ module _ (any : Setup) (f : Answers) (k : ℕ) (disk new : DiskState) (answer : 
     seen_is g below = said_sees cluster_version (row_of s.slot disk.bytes) row g below row_is ∙ ap seen_in (block_of-row_of cluster_version s.slot g disk.bytes below)
 
     other_reads : (g : ℕ) (cell : Cell (List ℕ)) → g < HOSTS → Stands disk s.slot g cell → IsReading cell (blocks_said row g)
-    other_reads g cell below stands = subst (IsReading cell) (ap (λ (b : SeenBlock). block_said b.says) (sym (seen_is g below))) (stands.reads disk.bytes (may_leave_now disk))
+    other_reads g cell below stands = subst (IsReading cell) (ap (λ (b : DecodedBlock). block_said b.says) (sym (seen_is g below))) (stands.reads disk.bytes (may_leave_now disk))
 
     pub allows_row : (m : Machine) → ((g : ℕ) → g < HOSTS → g ≢ s.host → Stands disk s.slot g (m.cell g k)) → (m.cell s.host k).confirmed ≡ said value_read → (m.cell s.host k).writing ≡ None → RegistersAllow s.host k (f k) (heard_as answer) m
     allows_row m stands confirmed rests =
@@ -104,14 +104,14 @@ module _ (any : Setup) (f : Answers) (k : ℕ) (disk new : DiskState) (answer : 
           others = λ seen told g below off.
               (let both : Some row ≡ Some seen = ap told_row (sym tells ∙ told) in
               let same : row ≡ seen = cc in
-              subst (λ (r : List SeenBlock). IsReading (m.cell g k) (blocks_said r g)) same (other_reads g (m.cell g k) below (stands g below off)));
+              subst (λ (r : List DecodedBlock). IsReading (m.cell g k) (blocks_said r g)) same (other_reads g (m.cell g k) below (stands g below off)));
           own_rests = λ seen read. rests;
           own_read = λ seen read.
               (let both : Some row ≡ Some seen = ap told_row (sym tells ∙ read.1) in
               let same : row ≡ seen = cc in
-              subst (λ (r : List SeenBlock). blocks_said r s.host ≡ (m.cell s.host k).confirmed) same (ap (λ (b : SeenBlock). block_said b.says) (seen_is s.host host_below) ∙ sym confirmed));
+              subst (λ (r : List DecodedBlock). blocks_said r s.host ≡ (m.cell s.host k).confirmed) same (ap (λ (b : DecodedBlock). block_said b.says) (seen_is s.host host_below) ∙ sym confirmed));
           still_writing = λ p there done. absurd (let both : answers.Told (Some row) ≡ answers.Done = sym tells ∙ done in cc);
         }
       where
-        told_row : Heard → Option (List SeenBlock)
+        told_row : Heard → Option (List DecodedBlock)
         told_row x = told x

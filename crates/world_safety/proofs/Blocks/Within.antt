@@ -10,7 +10,7 @@ use Rattle.torn_block.specs.Block.{is_open, copy_of, target_of, next_sequence}
 use Rattle.torn_block.proofs.PlaceLaws.{offset_fits, length-tail_with}
 use Rattle.torn_block.specs.Stage.{call_of}
 use Rattle.paxos_block.specs.Places.{VoteOf, IsWithin}
-use Rattle.paxos_block.specs.Row.{SeenBlock}
+use Rattle.paxos_block.specs.Row.{DecodedBlock}
 use Rattle.paxos_block.specs.Saying.{body_saying}
 use Rattle.attempt.specs.Calls.{Phase, Opening, One, Two, Kind, Attaching, Syncing, Reading, Putting}
 use Rattle.attempt.specs.Answers.{Told, Answers}
@@ -59,7 +59,7 @@ may_write s f host_below votes One d call input come is = may_write_one (at_clus
 may_write s f host_below votes Two d call input come is = may_write_two (at_cluster s) f host_below votes input come
 
 -- a row is told only to a read
-pub reading_kind : (any : Setup) (f : Answers) (d : ℕ) (kind : Kind) (row : List SeenBlock) → Fits (call_by (at_cluster any) d f kind) (Told (Some row)) → kind ≡ Reading
+pub reading_kind : (any : Setup) (f : Answers) (d : ℕ) (kind : Kind) (row : List DecodedBlock) → Fits (call_by (at_cluster any) d f kind) (Told (Some row)) → kind ≡ Reading
 reading_kind s f d Attaching row fits = absurd fits
 reading_kind s f d Syncing row fits = absurd fits
 reading_kind s f d Reading row fits = λ i. Reading

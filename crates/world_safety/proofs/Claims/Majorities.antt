@@ -1,7 +1,7 @@
 -- No acknowledgement and no recovery without a majority of the disks that answered.
 use Rattle.std.specs.Prelude.{slice_get}
 use Rattle.std.proofs.Common.{ℕ, ◌≤◌, ◌≡◌, ◌⊎◌, inl, inr, true, is_some, Option, Some, None, List, length, refl, sym, subst, arith}
-use Rattle.paxos_block.specs.Row.{SeenBlock}
+use Rattle.paxos_block.specs.Row.{DecodedBlock}
 use Rattle.attempt.specs.Answers.{on, heard_as, row_in}
 use Rattle.attempt.specs.Calls.{Opening}
 use Rattle.attempt.specs.History.{IsHistory}
@@ -40,7 +40,7 @@ module _ (c : Shape) (log : List Filled) (run : IsRun c log) (i h : ℕ) where
     prepared_at : IsPrepared s (heard_at c log i h said call) → IsPreparedAt c log i h
     prepared_at is = record { setup = s; heard = heard_at c log i h said call; hears = hears_at c log i h said call; of_host = refl; prepared = is }
 
-    some_row : (o : Option (List SeenBlock)) → is_some o ≡ true → (row : List SeenBlock) × (o ≡ Some row)
+    some_row : (o : Option (List DecodedBlock)) → is_some o ≡ true → (row : List DecodedBlock) × (o ≡ Some row)
     some_row None is = absurd (cc)
     some_row (Some row) is = (row, refl)
 

@@ -8,7 +8,7 @@ use Rattle.torn_block.specs.Layout.{cluster_version}
 use Rattle.torn_block.specs.declared.layout.TheConstants.{BODY_LENGTH, ROW_LENGTH}
 use Rattle.torn_block.specs.declared.write_steps.WriteCall.{WriteCall}
 use Rattle.paxos_block.specs.Places.{VoteOf, row_of, row_place, IsImage, IsWithin}
-use Rattle.paxos_block.specs.Row.{SeenBlock}
+use Rattle.paxos_block.specs.Row.{DecodedBlock}
 use Rattle.paxos_block.specs.Saying.{body_saying}
 use Rattle.paxos_block.proofs.PlaceLemmas.{stays_image}
 use Rattle.attempt.specs.Calls.{Phase, Kind, Putting}
@@ -169,7 +169,7 @@ module _ (c : Shape) (w : World) (ms : Moves) (h k : ℕ) (call : Call) (answer 
       ap (λ (i : ℕ). length (take i (drop (row_place slot) (w.disk k).bytes))) n
       ∙ length-take-le ROW_LENGTH (drop (row_place slot) (w.disk k).bytes) (let size = image.long in let below = trying.fits in omega (arith, length-drop (row_place slot) (w.disk k).bytes))
 
-  shows : (row : List SeenBlock) → heard_as answer ≡ answers.Told (Some row) → ShowsVotes row
+  shows : (row : List DecodedBlock) → heard_as answer ≡ answers.Told (Some row) → ShowsVotes row
   shows row tells = row_shows cluster_version (row_of slot (w.disk k).bytes) row row_long (row_is s f k (w.disk k) new answer is.kind waiting.part.good is.kind_is is.fits step_by row tells run.below)
 
   -- ALL OF IT
@@ -188,7 +188,7 @@ module _ (c : Shape) (w : World) (ms : Moves) (h k : ℕ) (call : Call) (answer 
     pub inside : IsWithin (VoteOf slot h) (call_by s k f is.kind)
     pub image : IsImage c.slots (w.disk k)
     pub image_then : IsImage c.slots new
-    pub shows : (row : List SeenBlock) → heard_as answer ≡ answers.Told (Some row) → ShowsVotes row
+    pub shows : (row : List DecodedBlock) → heard_as answer ≡ answers.Told (Some row) → ShowsVotes row
 
   pub due_of : Due
   due_of =

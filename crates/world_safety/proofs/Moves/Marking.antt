@@ -14,7 +14,7 @@ use Rattle.torn_block.specs.Stage.{call_of}
 use Rattle.torn_block.proofs.PlaceLaws.{offset_fits, length-tail_with}
 use Rattle.paxos_block.specs.Saying.{Said as PBlock}
 use Rattle.paxos_block.specs.Places.{VoteOf, place_of, row_of, row_place, IsImage, IsWithin}
-use Rattle.paxos_block.specs.Row.{SeenBlock}
+use Rattle.paxos_block.specs.Row.{DecodedBlock}
 use Rattle.paxos_block.specs.Saying.{body_saying}
 use Rattle.paxos_block.proofs.PlaceLemmas.{stays_image}
 use Rattle.attempt.specs.Calls.{Phase, Opening, One, Two, Kind, Attaching, Syncing, Reading, Putting, seventeen, start}
@@ -159,7 +159,7 @@ closing_short false = omega arith
 own_long : (s : mark.Setup) (a : List Heard) → s.host < HOSTS → TellsVotes a → IsLong (mark.own_block s a).says.inp
 own_long s a below votes = by (row_in Opening a) refl
   where
-    by : (o : Option (List SeenBlock)) → row_in Opening a ≡ o → IsLong (seen_block o s.host).says.inp
+    by : (o : Option (List DecodedBlock)) → row_in Opening a ≡ o → IsLong (seen_block o s.host).says.inp
     by None is = tt
     by (Some row) is = (votes_told cluster_version Opening a row votes is s.host below).long
 
@@ -393,7 +393,7 @@ module _ (c : Shape) (w : World) (ms : Moves) (tied : Tied c w ms) where
         ap (λ (i : ℕ). length (take i (drop (row_place t.slot) (w.disk k).bytes))) n
         ∙ length-take-le ROW_LENGTH (drop (row_place t.slot) (w.disk k).bytes) (let size = (tied.images k).long in let below = marking.fits in omega (arith, length-drop (row_place t.slot) (w.disk k).bytes))
 
-    told_by : (row : List SeenBlock) → heard_as answer ≡ answers.Told (Some row) → ShowsVotes row
+    told_by : (row : List DecodedBlock) → heard_as answer ≡ answers.Told (Some row) → ShowsVotes row
     told_by row tells = by due.kind step_by fits
       where
         by : (kind : Kind) → Step (w.disk k) (mark.call_by s a kind) answer new → Fits (mark.call_by s a kind) (heard_as answer) → ShowsVotes row

@@ -8,7 +8,7 @@ use Rattle.torn_block.specs.Block.{value_of}
 use Rattle.torn_block.specs.Place.{block_in}
 use Rattle.torn_block.specs.Register.{Value, IsAtRest}
 use Rattle.paxos_block.specs.Places.{VoteOf, place_of}
-use Rattle.paxos_block.specs.Row.{SeenBlock}
+use Rattle.paxos_block.specs.Row.{DecodedBlock}
 use Rattle.attempt.specs.Calls.{Kind, Reading}
 use Rattle.attempt.specs.Answers as answers
 use Rattle.attempt.specs.Answers.{Heard, Answered, Answers, on, heard_as}
@@ -76,7 +76,7 @@ module _ (c : Shape) (w : World) (ms : Moves) (h k : ℕ) (call : Call) (answer 
 
   -- THE OWN BLOCK SETTLES
 
-  ready_none : ((row : List SeenBlock) → heard_as answer ≡ answers.Told (Some row) → ⊥) → Ready c w ms h k m t (heard_as answer)
+  ready_none : ((row : List DecodedBlock) → heard_as answer ≡ answers.Told (Some row) → ⊥) → Ready c w ms h k m t (heard_as answer)
   ready_none none =
       let nil = sym (append-nil ms) in
       record {
@@ -96,7 +96,7 @@ module _ (c : Shape) (w : World) (ms : Moves) (h k : ℕ) (call : Call) (answer 
       go true input = elim input [ inl puts ↦ none puts | inr rest ↦ rest ]
       go false input = input
 
-  module _ (row : List SeenBlock) (tells : heard_as answer ≡ answers.Told (Some row)) where
+  module _ (row : List DecodedBlock) (tells : heard_as answer ≡ answers.Told (Some row)) where
     abbrev value : Value
     value = value_of (block_in (own_place s) (w.disk k).bytes)
 

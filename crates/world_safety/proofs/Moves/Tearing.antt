@@ -2,7 +2,7 @@
 use Rattle.std.proofs.Common.{ℕ, ◌≡◌, ◌==◌, ◌⊎◌, inl, inr, cond, Some, List, ◌++◌, length, append_assoc, refl, sym, subst, ap, ◌∙◌}
 use Rattle.std.proofs.lemmas.List.{length-map}
 use Rattle.disk.specs.Disk.{DiskState, Call, Answer}
-use Rattle.paxos_block.specs.Row.{SeenBlock}
+use Rattle.paxos_block.specs.Row.{DecodedBlock}
 use Rattle.attempt.specs.Answers as answers
 use Rattle.attempt.specs.Answers.{Answers, on, heard_as}
 use Rattle.attempt.specs.Setup.{Setup}
@@ -39,7 +39,7 @@ pub record IsTornTo (c : Shape) (w w' : World) (ms : Moves) (h : ℕ) : Type 0 w
 
 -- the answer tells no row
 abbrev pub IsUntold : Answer → Type 0
-IsUntold answer = (row : List SeenBlock) → heard_as answer ≡ answers.Told (Some row) → ⊥
+IsUntold answer = (row : List DecodedBlock) → heard_as answer ≡ answers.Told (Some row) → ⊥
 
 module _ (c : Shape) (w : World) (ms : Moves) (h k : ℕ) (call : Call) (answer : Answer) (left : List ℕ) (m : Memory) (t : Doing) (now : IsCall c w ms h k call answer left m t) (known : Due c w ms h k call answer left m t now) (untold : IsUntold answer)
     (r : Ready c w ms h k m t (heard_as answer)) where

@@ -3,7 +3,7 @@ use Rattle.std.specs.Prelude.{nat_lt, nat_le, max, slice_get, ◌-◌, cond, if�
 use Rattle.std.proofs.Common.{ℕ, suc, ◌≡◌, inl, inr, Bool, true, false, Option, Some, None, List, [], ◌∷◌, ◌++◌, length, refl, sym, subst, ap, ◌∙◌, arith}
 use Rattle.std.proofs.lemmas.Bool.{eqb-true}
 use Rattle.disk.specs.Disk.{Call, Answer}
-use Rattle.paxos_block.specs.Row.{SeenBlock}
+use Rattle.paxos_block.specs.Row.{DecodedBlock}
 use Rattle.attempt.specs.Answers as answers
 use Rattle.attempt.specs.Answers.{Heard, Answered, Answers, on, heard_as}
 use Rattle.attempt.proofs.More.{on_more, by_disk}
@@ -131,7 +131,7 @@ module _ (c : Shape) (log : List Filled) where
   abbrev pub ShowsTrue : ℕ → ℕ → Type 0
   ShowsTrue i h =
       (k : ℕ) (call : Call) (answer : Answer) (left : List ℕ) → slice_get log i ≡ Some (Called h k call answer left) → (m : Memory) (t : Doing) → (at c log i).host h ≡ Running m → m.doing ≡ Some t
-      → (row : List SeenBlock) → heard_as answer ≡ answers.Told (Some row) → ShowsTrueMarks (IsChosenBefore c log i (length m.learned)) row
+      → (row : List DecodedBlock) → heard_as answer ≡ answers.Told (Some row) → ShowsTrueMarks (IsChosenBefore c log i (length m.learned)) row
 
   module _ (run : IsRun c log) (i : ℕ) (h : ℕ) (shows : ShowsTrue i h) where
     -- what an attempt commits with an answer is chosen then

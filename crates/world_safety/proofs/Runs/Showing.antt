@@ -5,7 +5,7 @@ use Rattle.std.proofs.Common.{ℕ, ◌≡◌, ◌<◌, inl, inr, Some, None, Lis
 use Rattle.std.proofs.lemmas.Bool.{cases_lt, cases_eq}
 use Rattle.disk.specs.Disk.{Call, Answer}
 use Rattle.disk.proofs.CrashLemmas.{may_leave_now}
-use Rattle.paxos_block.specs.Row.{SeenBlock}
+use Rattle.paxos_block.specs.Row.{DecodedBlock}
 use Rattle.attempt.specs.Answers as answers
 use Rattle.attempt.specs.Answers.{Heard, Told, Answers, on, heard_as}
 use Rattle.attempt.specs.Calls.{Opening, goal}
@@ -26,14 +26,14 @@ use Rattle.world_safety.proofs.Blocks.Settled.{seen_is}
 use Rattle.world_safety.proofs.Moves.Due.{IsCall, due_of}
 
 -- what is true of more is true
-pub mark_more : (K L : List ℕ → Type 0) → ((v : List ℕ) → K v → L v) → (row : List SeenBlock) → ShowsTrueMarks K row → ShowsTrueMarks L row
+pub mark_more : (K L : List ℕ → Type 0) → ((v : List ℕ) → K v → L v) → (row : List DecodedBlock) → ShowsTrueMarks K row → ShowsTrueMarks L row
 mark_more K L more row shows g below marked = let b = shows g below marked in (b.0, b.1, more b.0 b.2)
 
 pub tells_none : (K : List ℕ → Type 0) → TellsTrueMarks K []
 tells_none K n row is = absurd (cc)
 
 -- one answer more
-pub tells_more : (K : List ℕ → Type 0) (a : List Heard) (x : Heard) → TellsTrueMarks K a → ((row : List SeenBlock) → x ≡ Told (Some row) → ShowsTrueMarks K row) → TellsTrueMarks K (a ++ x ∷ [])
+pub tells_more : (K : List ℕ → Type 0) (a : List Heard) (x : Heard) → TellsTrueMarks K a → ((row : List DecodedBlock) → x ≡ Told (Some row) → ShowsTrueMarks K row) → TellsTrueMarks K (a ++ x ∷ [])
 tells_more K a x before last n row is = elim (cases_lt n (length a)) [
   | inl old ↦ before n row (sym (get_front a x n old) ∙ is)
   | inr new ↦
@@ -62,9 +62,9 @@ marks_kept c w w' Known keeps learned all slot host d slot_below below bytes lef
 
 -- a row that is told shows true marks
 pub row_true : (c : Shape) (w : World) (ms : Moves) (Known : ℕ → List ℕ → Type 0) → AllMarksTrue c w Known → (h k : ℕ) (call : Call) (answer : Answer) (left : List ℕ) (m : Memory) (t : Doing) → IsCall c w ms h k call answer left m t
-    → (row : List SeenBlock) → heard_as answer ≡ answers.Told (Some row) → ShowsTrueMarks (Known (length m.learned)) row
+    → (row : List DecodedBlock) → heard_as answer ≡ answers.Told (Some row) → ShowsTrueMarks (Known (length m.learned)) row
 row_true c w ms Known all h k call answer left m t now row tells g below =
     let known = due_of c w ms h k call answer left m t now in
     let s = setup_of c h m t.operation in
     let seen = seen_is s (on t.heard) k (w.disk k) (disk_step (w.disk k) (Called h k call answer left)) answer known.is.kind known.waiting.part.good known.is.kind_is known.is.fits known.step_by row tells known.run.below g below in
-    subst (IsMarkTrue (Known (length m.learned))) (ap (λ (b : SeenBlock). b.says) (sym seen)) (all (length m.learned) g k known.trying.fits below (w.disk k).bytes (may_leave_now (w.disk k)))
+    subst (IsMarkTrue (Known (length m.learned))) (ap (λ (b : DecodedBlock). b.says) (sym seen)) (all (length m.learned) g k known.trying.fits below (w.disk k).bytes (may_leave_now (w.disk k)))

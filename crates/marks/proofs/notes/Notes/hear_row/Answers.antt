@@ -1,5 +1,5 @@
 use Rattle.std.proofs.Common.{List, Option, None, refl, sym, subst}
-use Rattle.paxos_block.specs.Row.{SeenBlock}
+use Rattle.paxos_block.specs.Row.{DecodedBlock}
 use Rattle.torn_block.specs.Layout.{cluster_version}
 use Rattle.attempt.specs.Answers.{Told, more}
 use Rattle.phases.proofs.Answering.{reads_as}
@@ -11,4 +11,4 @@ returns-in-Ok-clause-follows c f is = c.take_row.ensures.follows f c.args.bytes.
 
 pub returns-in-Err-clause-follows : goal.returns-in-Err-clause-follows
 returns-in-Err-clause-follows c f is =
-    subst (λ (o : Option (List SeenBlock)). Follows (more f c.args.self.now.disk (Told o)) c.drop_disk.new.self) (sym (c.in-Err.ensures.unsaid.0 refl)) (c.drop_disk.ensures.follows f (Told None) is refl)
+    subst (λ (o : Option (List DecodedBlock)). Follows (more f c.args.self.now.disk (Told o)) c.drop_disk.new.self) (sym (c.in-Err.ensures.unsaid.0 refl)) (c.drop_disk.ensures.follows f (Told None) is refl)

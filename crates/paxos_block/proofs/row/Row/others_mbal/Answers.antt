@@ -2,7 +2,7 @@ use Rattle.std.proofs.Common.{rules, ◌≡◌, ◌∙◌, ◌+◌, ◌<◌, ℕ
 use Rattle.std.specs.Prelude.{◌==◌, if◌then◌else◌}
 use Rattle.torn_block.specs.declared.layout.TheConstants.{HOSTS_ROOM}
 use Rattle.paxos_block.specs.layouts.Saying.{Said, said_as}
-use Rattle.paxos_block.specs.layouts.Row.{SeenBlock, blank}
+use Rattle.paxos_block.specs.layouts.Row.{DecodedBlock, blank}
 use Rattle.paxos_block.specs.layouts.Votes.{says_in, greatest, latest_below, later_of}
 use Rattle.paxos_block.proofs.VoteLemmas.{max_is, other_mbal, others_own, others_other, greatest_rest, says_rest}
 use Rattle.torn_block.specs.Layout.{hosts_in}
@@ -29,7 +29,7 @@ loop-other-preserved g c =
           w.top-is ∙ before ∙ sym (others_own c.args.host seen c.loop-other.other (w.if-other-from.false ∙ c.from.ensures))
     ]
 
-own_rest : (host : ℕ) (row : List SeenBlock) (k : ℕ) (t : Bool) → says_in row k ≡ blank → (if t then 0 else (says_in row k).mbal) ≡ 0
+own_rest : (host : ℕ) (row : List DecodedBlock) (k : ℕ) (t : Bool) → says_in row k ≡ blank → (if t then 0 else (says_in row k).mbal) ≡ 0
 own_rest host row k true is = refl
 own_rest host row k false is = ap (λ (s : Said). s.mbal) is
 

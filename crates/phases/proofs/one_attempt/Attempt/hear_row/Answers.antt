@@ -1,5 +1,5 @@
 use Rattle.std.proofs.Common.{List, Option, refl, ap}
-use Rattle.paxos_block.specs.layouts.Row.{SeenBlock, row_said}
+use Rattle.paxos_block.specs.layouts.Row.{DecodedBlock, decoded_row}
 use Rattle.attempt.specs.Answers.{Told, is_bad}
 use Rattle.phases.proofs.Answering.{reads_as}
 use Rattle.phases.proofs.one_attempt.Attempt.hear_row.Goals as goal
@@ -21,4 +21,4 @@ take_row-requires g c = (
 
 pub returns-in-Err-clause-follows : goal.returns-in-Err-clause-follows
 returns-in-Err-clause-follows g c =
-    c.drop_disk.ensures.follows (Told (row_said g.L.Layout.version c.args.bytes.now)) (ap (λ (o : Option (List SeenBlock)). is_bad (Told o)) (c.in-Err.ensures.unsaid.0 refl))
+    c.drop_disk.ensures.follows (Told (decoded_row g.L.Layout.version c.args.bytes.now)) (ap (λ (o : Option (List DecodedBlock)). is_bad (Told o)) (c.in-Err.ensures.unsaid.0 refl))

@@ -1,5 +1,5 @@
 use Rattle.std.proofs.Common.{◌≡◌, ◌+◌, ◌<◌, ◌∙◌, ℕ, Option, Some, List, length, slice_set, subst, sym, ap, arith}
-use Rattle.paxos_block.specs.layouts.Row.{SeenBlock, seen_at, IsSeenAs}
+use Rattle.paxos_block.specs.layouts.Row.{DecodedBlock, seen_at, IsSeenAs}
 use Rattle.attempt.specs.Answers.{Told, more}
 use Rattle.phases.specs.declared.end.End.TheVariants as end
 use Rattle.phases.specs.Inside.{notes_in}
@@ -13,7 +13,7 @@ use Rattle.phases.proofs.one_attempt.Attempt.take_row.Goals as goal
 pub returns-in-Some-clause-follows : goal.returns-in-Some-clause-follows
 returns-in-Some-clause-follows g c bytes reads f order is =
     let n = c.args.self.now in
-    subst (λ (o : Option (List SeenBlock)). Follows (more f n.disk (Told o)) (record (notes_in g.L.Layout.version g.L.Layout.spelled c.self.inside) { end = Some (end.Outrun c.in-Some.mbal) })) (sym reads.said)
+    subst (λ (o : Option (List DecodedBlock)). Follows (more f n.disk (Told o)) (record (notes_in g.L.Layout.version g.L.Layout.spelled c.self.inside) { end = Some (end.Outrun c.in-Some.mbal) })) (sym reads.said)
     (subst (λ (m : Notes). Follows (more f n.disk (Told (Some reads.seen))) (record m { end = Some (end.Outrun c.in-Some.mbal) })) (sym c.self.view_is)
     (row_ends n.phase f n (visiting f n c.requires.going is) order c.requires.stage reads.seen c.in-Some.mbal (sym (c.faster.ensures bytes reads) ∙ c.in-Some.is)))
 
@@ -29,7 +29,7 @@ returns-clause-follows g c bytes reads f order is =
     let none = sym (c.faster.ensures bytes reads) ∙ c.in_default.is in
     let at : m.disk ≡ c.from.result = omega arith in
     let f' = more f n.disk (Told (Some reads.seen)) in
-    subst (λ (o : Option (List SeenBlock)). Follows (more f n.disk (Told o)) c.go_on.new.self) (sym reads.said)
+    subst (λ (o : Option (List DecodedBlock)). Follows (more f n.disk (Told o)) c.go_on.new.self) (sym reads.said)
     (c.go_on.ensures.follows f'
     (subst (λ (k : ℕ). IsPassed m.phase f' (record m { visits = slice_set m.visits k (record (visit_at m.visits k) { block = cell.block }) }) (m.disk + 1)) at
     (subst (λ (x : Notes). IsPassed x.phase f' (record x { visits = slice_set x.visits x.disk (record (visit_at x.visits x.disk) { block = cell.block }) }) (x.disk + 1)) (sym same)

@@ -1,0 +1,24 @@
+use Rattle.std.proofs.Common.{set, ap, ◌∙◌, arith}
+use Rattle.lock_table.proofs.Places.{inside_order, place_inside, shelved_set, shown_set}
+use Rattle.lock_table.proofs.by_lock_number.ByLockNumber.set.Goals as goal
+
+pub index_mut-requires : goal.index_mut-requires
+index_mut-requires c =
+    let inside = inside_order c.self.inside.records.items c.self.inside.order.items c.self.inside.free.items c.self.invariant.0 c.args.self.now c.args.at c.self.view_is c.requires in
+    let there = place_inside c.self.inside.records.items c.self.inside.order.items c.self.inside.free.items c.self.invariant.0 c.args.at c.index.result.now inside in
+    omega (arith, there, c.from-place.ensures ∙ c.index.ensures)
+
+pub invariant_of-self : goal.invariant_of-self
+invariant_of-self c = (
+  shelved_set c.self.inside.records.items c.self.inside.order.items c.self.inside.free.items c.self.invariant.0 c.from-place.result c.args.new,
+  omega (arith, c.self.invariant.1),
+  omega (arith, c.self.invariant.2),
+  omega (arith, c.self.invariant.3),
+  omega (arith, c.self.invariant.4),
+)
+
+pub returns : goal.returns
+returns c =
+    let inside = inside_order c.self.inside.records.items c.self.inside.order.items c.self.inside.free.items c.self.invariant.0 c.args.self.now c.args.at c.self.view_is c.requires in
+    shown_set c.self.inside.records.items c.self.inside.order.items c.self.inside.free.items c.self.invariant.0 c.args.at c.from-place.result c.index.result.now c.args.new inside (c.from-place.ensures ∙ c.index.ensures)
+    ∙ ap (λ l. set l c.args.at c.args.new) c.self.view_is

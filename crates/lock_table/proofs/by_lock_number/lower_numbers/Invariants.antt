@@ -1,0 +1,9 @@
+use Rattle.std.proofs.Common.{nat_lt}
+use Rattle.lock_table.proofs.Cuts.{IsHalved}
+use Rattle.lock_table.proofs.by_lock_number.lower_numbers.Given as goal
+
+abbrev pub invariant-loop-size : goal.invariant-loop-size
+invariant-loop-size l = IsHalved (λ r. nat_lt r.lock l.lock) l.numbers l.from l.size
+
+abbrev pub decreases-loop-size : goal.decreases-loop-size
+decreases-loop-size l = l.size

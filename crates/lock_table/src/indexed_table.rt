@@ -1,0 +1,115 @@
+ghost use Rattle.std.specs.Prelude.{◌≡◌, ◌≤◌, [], IfOk, length};
+ghost use Rattle.lock_table.specs.Apply.{applied, carried_out};
+ghost use Rattle.lock_table.specs.Picture.{printed_cmp, client_cmp, HasZeros};
+ghost use Rattle.lock_table.specs.Placed.{in_order};
+ghost use Rattle.lock_table.specs.Stored.{plain_of, value_in, AreNamed};
+
+use crate::by_printed_order::ByPrintedOrder;
+use crate::clients::{CLIENTS, Clients};
+use crate::locks::LOCKS;
+use crate::record::KnownClient;
+use crate::reply::{Refusal, Reply};
+use crate::valued::ValuedLocks;
+use crate::values::NamedValue;
+use lock_command::Command;
+use std::alloc::{AllocError, Global};
+use std::marker::Model;
+
+/// The locks in printed order, and the known clients by number. Contracts see them as a plain table.
+#[derive(Drop)]
+pub struct IndexedTable {
+    valued: ValuedLocks,
+    clients: Clients,
+}
+
+impl Model for IndexedTable {
+    ghost use Rattle.lock_table.specs.Stored.{Kept};
+
+    ghost Value = { Kept };
+
+    ghost view = { λ table. record { locks = table.valued.locks; entries = table.valued.entries; clients = table.clients } };
+}
+
+impl IndexedTable {
+    /// A table without locks and clients, with room for all that it may ever have.
+    pub fn new(alloc: Global) -> Result<Self, AllocError>
+        ensures { IfOk result (λ table. table ≡ record { locks = []; entries = []; clients = [] }) }
+    {
+        Ok(IndexedTable {
+            valued: ValuedLocks::new(alloc)?,
+            clients: Clients::new(alloc)?,
+        })
+    }
+
+    /// Carries a command out, unless its client repeats a request.
+    #[tactic(auto, unfolding(crate::specs::Apply::applied))]
+    pub fn apply(&mut self, command: &Command) -> Reply
+        requires printed { in_order printed_cmp self.old.locks ≡ self.old.locks }
+        requires zeros { HasZeros self.old.locks (value_in self.old.entries) }
+        requires by_number { in_order client_cmp self.old.clients ≡ self.old.clients }
+        ensures locks { self.new.locks ≡ in_order printed_cmp (applied (plain_of self.old) command.now).table.locks }
+        ensures values { value_in self.new.entries ≡ (applied (plain_of self.old) command.now).table.values }
+        ensures clients { self.new.clients ≡ in_order client_cmp (applied (plain_of self.old) command.now).table.clients }
+        ensures zeros { HasZeros self.new.locks (value_in self.new.entries) }
+        ensures reply { result ≡ (applied (plain_of self.old) command.now).reply }
+    {
+        match self.clients.get(command.client) {
+            None => {
+                if self.clients.is_full() {
+                    return Reply::refusing(Refusal::ClientsFull);
+                }
+                let reply = self
+                    .valued
+                    .act(command.host, command.client, &command.action);
+                self.clients.keep_first(known(command, &reply));
+                reply
+            }
+            Some(last) => {
+                if command.request.get() < last.request.get() {
+                    return Reply::refusing(Refusal::Stale);
+                }
+                if command.request == last.request {
+                    return last.reply;
+                }
+                let reply = self
+                    .valued
+                    .act(command.host, command.client, &command.action);
+                self.clients.keep_next(known(command, &reply));
+                reply
+            }
+        }
+    }
+
+    /// The locks in printed order.
+    pub fn locks(&self) -> &ByPrintedOrder
+        ensures locks { result.now ≡ self.now.locks }
+    {
+        self.valued.printed()
+    }
+
+    /// The names under which something was stored, rising.
+    pub fn entries(&self) -> &[NamedValue]
+        ensures entries { result.now ≡ self.now.entries }
+        ensures named { AreNamed self.now.entries }
+    {
+        self.valued.entries()
+    }
+
+    pub fn clients(&self) -> &[KnownClient]
+        ensures clients { result.now ≡ self.now.clients }
+        ensures few { length result.now ≤ CLIENTS }
+    {
+        self.clients.known()
+    }
+}
+
+/// What is kept of a command's client.
+fn known(command: &Command, reply: &Reply) -> KnownClient
+    ensures { result ≡ record { client = command.now.client; request = command.now.request; reply = reply.now } }
+{
+    KnownClient {
+        client: command.client,
+        request: command.request,
+        reply: *reply,
+    }
+}
