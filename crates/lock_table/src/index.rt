@@ -10,7 +10,7 @@ use crate::by_printed_order::ByPrintedOrder;
 use crate::keys::SpelledName;
 use crate::locks::LOCKS;
 use crate::record::{LockRecord, LockState};
-use crate::{numbers, printed};
+use crate::{by_lock_number, printed};
 use lock_command::{HostNumber, LockName, LockNumber};
 use lock_modes::Mode;
 use std::alloc::{AllocError, Global};
@@ -69,7 +69,7 @@ impl Index {
         ensures printed { in_order printed_cmp self.now ≡ self.now }
         ensures distinct { IsDistinct self.now }
     {
-        numbers::numbered(&self.numbers, lock)
+        by_lock_number::numbered(&self.numbers, lock)
     }
 
     /// The lock whose turn it is on a name.
@@ -104,7 +104,7 @@ impl Index {
         requires room { length self.old < LOCKS }
         ensures { self.new ≡ in_order printed_cmp (put self.old new) }
     {
-        numbers::put_new(&mut self.numbers, new);
+        by_lock_number::put_new(&mut self.numbers, new);
         printed::put_in(&mut self.printed, &new, name);
     }
 
@@ -115,7 +115,7 @@ impl Index {
         ensures { self.new ≡ in_order printed_cmp (put self.old (in_state own state)) }
     {
         let new = own.with_state(state);
-        numbers::replace(&mut self.numbers, new);
+        by_lock_number::replace(&mut self.numbers, new);
         printed::take_out(&mut self.printed, &own, name);
         printed::put_in(&mut self.printed, &new, name);
     }
@@ -126,7 +126,7 @@ impl Index {
         requires there { lock_in self.old own.lock ≡ Some own }
         ensures { self.new ≡ without self.old own.lock }
     {
-        numbers::take_away(&mut self.numbers, own.lock);
+        by_lock_number::take_away(&mut self.numbers, own.lock);
         printed::take_out(&mut self.printed, &own, name);
     }
 
@@ -135,7 +135,7 @@ impl Index {
         ensures left { self.new ≡ filter (λ r. not (is_through host r)) self.old }
         ensures printed { in_order printed_cmp self.new ≡ self.new }
     {
-        numbers::keep_others(&mut self.numbers, host);
+        by_lock_number::keep_others(&mut self.numbers, host);
         printed::take_through(&mut self.printed, host);
     }
 
