@@ -68,6 +68,11 @@ tried "refused memory, built" cc -std=c99 $common -Wl,--wrap=malloc,--wrap=callo
 folder
 tried "refused memory" "$work/refused_memory" "$work/images"
 
+# The value of a name, from host to host.
+tried "values, built" cc -std=c99 $common "$here/tests/values.c" $flags -o "$work/values"
+folder
+tried "values" "$work/values" "$work/images"
+
 # Images that are missing, short, of another folder or layout, or unformatted.
 tried "images, built" cc -std=c99 $common "$here/tests/images.c" $flags -o "$work/images_test"
 folder
@@ -133,7 +138,7 @@ for page in README.md docs/LIBRARY.md; do tried "lines of C in $page" grep -q "\
 
 # Memory.
 if command -v valgrind > /dev/null; then
-    for program in calls refused_memory images_test failover contend; do
+    for program in calls values refused_memory images_test failover contend; do
         folder
         given=("$work/images")
         [[ $program != contend ]] || given+=(3 5)
@@ -144,7 +149,7 @@ else
 fi
 if echo 'int main(void) { return 0; }' | cc -x c -fsanitize=address,undefined - -o "$work/sanitizer" 2> "$work/out.txt" && command -v rt > /dev/null; then
     kit=$(dirname -- "$(dirname -- "$(readlink -f -- "$(command -v rt)")")")/c
-    for program in calls images contend; do
+    for program in calls values images contend; do
         tried "sanitized $program, built" cc -std=c99 $common -fsanitize=address,undefined -fno-sanitize-recover=all "$here/tests/$program.c" \
             "$here/src/midgegalena.c" "$top/crates/dlm_c/out/libdlm_c.a" "$kit/libos_c.a" "$kit/liblibc_c.a" -o "$work/sanitized_$program"
         folder
