@@ -197,7 +197,10 @@ fn draw_answer<O: Write>(x: u64, y: u64, answer: &HostAnswer, out: &mut O) -> io
         "<text class=\"b\" x=\"{x}\" y=\"{y}\" dx=\"8\" dy=\"22\" text-anchor=\"end\">"
     )?;
     match answer {
-        HostAnswer::Ack { slot, reply } => write!(out, "ack {slot} {reply:?}")?,
+        HostAnswer::Ack { slot, reply } => {
+            let answer = reply.answer;
+            write!(out, "ack {slot} {answer:?}")?
+        }
         HostAnswer::Recovered { length } => write!(out, "recovered {length}")?,
         HostAnswer::Looked { length } => write!(out, "looked {length}")?,
         HostAnswer::Beaten { host } => write!(out, "beaten {host}")?,
