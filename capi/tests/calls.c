@@ -5,20 +5,10 @@
  */
 #include <midgegalena.h>
 
+#include "expect.h"
+
 #include <stdio.h>
 #include <string.h>
-
-static int failures = 0;
-
-static void is_at(int line, long got, long want) {
-    if (got != want) {
-        printf("line %d: %ld in place of %ld\n", line, got, want);
-        failures++;
-    }
-}
-
-#define IS(got, want) is_at(__LINE__, (long)(got), (long)(want))
-#define IS_TEXT(got, want) is_at(__LINE__, strcmp((got), (want)), 0)
 
 static void bad_arguments(const char *folder) {
     struct mg_host *host = (struct mg_host *)&failures;

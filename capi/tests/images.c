@@ -6,24 +6,16 @@
  */
 #include <midgegalena.h>
 
+#include "expect.h"
+
 #include <fcntl.h>
 #include <stdio.h>
 #include <string.h>
 #include <sys/stat.h>
 #include <unistd.h>
 
-static int failures = 0;
 static char path[4096];
 static char other[4096];
-
-static void is_at(int line, long got, long want) {
-    if (got != want) {
-        printf("line %d: %ld in place of %ld\n", line, got, want);
-        failures++;
-    }
-}
-
-#define IS(got, want) is_at(__LINE__, (long)(got), (long)(want))
 
 static const char *image(const char *folder, int disk) {
     snprintf(path, sizeof path, "%s/disk%d.img", folder, disk);
