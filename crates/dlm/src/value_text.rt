@@ -1,7 +1,7 @@
 ghost use Rattle.std.specs.Prelude.{◌≡◌};
-ghost use Rattle.hex.specs.Hex.{encode_lower};
 ghost use Rattle.dlm.specs.Text.{shown_value};
 
+use inspect::value_digits;
 use lock_table::LockValue;
 use std::fmt;
 
@@ -16,7 +16,7 @@ impl fmt::Display for ValueText {
     ghost output = { λ v. Some (value_text v.0) };
 
     fn fmt<W: fmt::Write>(&self, f: &mut fmt::Formatter<W>) -> fmt::Result {
-        let digits = digits_of(&self.0);
+        let digits = value_digits(&self.0);
         let Ok(digits) = str::from_utf8(&digits) else {
             return Err(fmt::Error);
         };
@@ -26,16 +26,6 @@ impl fmt::Display for ValueText {
             write!(f, "{digits} invalid")
         }
     }
-}
-
-/// The digits of a value, in lower case.
-fn digits_of(value: &LockValue) -> [u8; 32]
-    ensures { result ≡ encode_lower value.now.bytes }
-{
-    let bytes = value.bytes;
-    let mut digits = [0; 32];
-    let _ = hex::encode_to_slice(bytes.as_slice(), &mut digits);
-    digits
 }
 
 /// The value of a reply, unless it is zeros that are valid.

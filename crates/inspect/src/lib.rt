@@ -12,5 +12,6 @@ mod verdict;
 mod waits;
 
 pub use queue_text::queues;
+pub use value_text::value_digits;
 pub use verdict::{Blocking, CLIENT_NUMBERS};
 pub use waits::blocking;

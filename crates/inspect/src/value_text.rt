@@ -28,15 +28,15 @@ fn is_zeros(value: &LockValue) -> bool
 fn value_text<W: Write>(value: &LockValue, out: &mut W) -> io::Result<()>
     ensures { OnOk result (Appends (W.contents out.old) (W.contents out.new) (value_text value.now)) }
 {
-    out.write_all(&digits_of(value))?;
+    out.write_all(&value_digits(value))?;
     if value.valid {
         return Ok(());
     }
     out.write_all(b" invalid")
 }
 
-/// The digits of a value, in lower case.
-fn digits_of(value: &LockValue) -> [u8; 32]
+/// The 32 hexadecimal digits of a value, in lower case.
+pub fn value_digits(value: &LockValue) -> [u8; 32]
     ensures { result ≡ encode_lower value.now.bytes }
 {
     let bytes = value.bytes;

@@ -7,7 +7,7 @@ use Rattle.byteorder.specs.Numbers.{length-bytes_high_first}
 use Rattle.lock_modes.specs.declared.mode.Mode.{Mode}
 use Rattle.lock_command.specs.declared.command.Command.{Command}
 use Rattle.lock_command.specs.declared.command.Action.{Action}
-use Rattle.lock_command.specs.declared.command.Action.TheVariants.{Enqueue, Convert, Release, Cancel, Status, Purge}
+use Rattle.lock_command.specs.declared.command.Action.TheVariants.{Enqueue, Convert, Release, Cancel, Status, Purge, QuietPurge}
 use Rattle.lock_command.specs.Command.{Fields, value_bytes, fields_of, number, spelled, spelling}
 use Rattle.lock_command.specs.Name.{padded}
 use Rattle.lock_command.specs.Reading.{◌>>=◌, passed, host_of, lock_at, request_at, mode_of, name_of, name_at, no_queue_at, value_of, value_at, enqueue_at, convert_at, action_at, command_at, checked, decoded}
@@ -124,6 +124,7 @@ module _ (host client request : ℕ) where
   long_by (Cancel lock) is = spelled_long host client request (fields_of (Cancel lock)) (omega arith) refl
   long_by (Status lock) is = spelled_long host client request (fields_of (Status lock)) (omega arith) refl
   long_by (Purge purged) is = spelled_long host client request (fields_of (Purge purged)) (omega arith) refl
+  long_by (QuietPurge purged) is = spelled_long host client request (fields_of (QuietPurge purged)) (omega arith) refl
 
 pub spelling_long : (command : Command) → decoded (spelling command) ≡ Some command → length (spelling command) ≡ 48
 unfolding whole

@@ -11,7 +11,7 @@ use Rattle.lock_modes.specs.declared.mode.Mode.TheVariants.{Null, ConcurrentRead
 use Rattle.lock_command.specs.declared.number.TheConstants.{HOSTS}
 use Rattle.lock_command.specs.declared.command.Command.{Command}
 use Rattle.lock_command.specs.declared.command.Action.{Action}
-use Rattle.lock_command.specs.declared.command.Action.TheVariants.{Enqueue, Convert, Release, Cancel, Status, Purge}
+use Rattle.lock_command.specs.declared.command.Action.TheVariants.{Enqueue, Convert, Release, Cancel, Status, Purge, QuietPurge}
 use Rattle.lock_command.specs.Name.{IsName, padded}
 use Rattle.lock_command.specs.Command.{Fields, flags_of, value_bytes, fields_of, number, spelled, spelling, mode_number, IsLock, IsValue, FitsAction, Fits}
 use Rattle.lock_command.specs.Reading.{◌>>=◌, passed, lock_at, request_at, mode_of, name_of, name_at, no_queue_at, value_of, value_at, enqueue_at, convert_at, action_at, command_at}
@@ -122,6 +122,8 @@ action_at-spelled host client request (Status lock) fits =
     ap (λ (found : Option ℕ). found >>= λ l. Some (Status l)) (lock_at-spelled host client request (fields_of (Status lock)) fits)
 action_at-spelled host client request (Purge purged) fits =
     ap (λ (found : Option ℕ). found >>= λ h. Some (Purge h)) (passed_true _ purged (lt-ltb purged HOSTS fits))
+action_at-spelled host client request (QuietPurge purged) fits =
+    ap (λ (found : Option ℕ). found >>= λ h. Some (QuietPurge h)) (passed_true _ purged (lt-ltb purged HOSTS fits))
 
 -- a command that fits is read from its spelling
 pub command_at-spelling : (c : Command) → Fits c → command_at (spelling c) ≡ Some c

@@ -6,7 +6,7 @@ use Rattle.lock_modes.specs.declared.mode.Mode.TheVariants.{Null, ConcurrentRead
 use Rattle.lock_command.specs.declared.number.TheConstants.{HOSTS}
 use Rattle.lock_command.specs.declared.command.Command.{Command}
 use Rattle.lock_command.specs.declared.command.Action.{Action}
-use Rattle.lock_command.specs.declared.command.Action.TheVariants.{Enqueue, Convert, Release, Cancel, Status, Purge}
+use Rattle.lock_command.specs.declared.command.Action.TheVariants.{Enqueue, Convert, Release, Cancel, Status, Purge, QuietPurge}
 use Rattle.lock_command.specs.Name.{IsName, padded}
 
 -- the number of a mode
@@ -45,6 +45,7 @@ fields_of (Release lock value) = record { kind = 3; mode = 0; flags = flags_of f
 fields_of (Cancel lock) = record { kind = 4; mode = 0; flags = 0; lock = lock; purged = 0; name = []; value = value_bytes None }
 fields_of (Status lock) = record { kind = 5; mode = 0; flags = 0; lock = lock; purged = 0; name = []; value = value_bytes None }
 fields_of (Purge host) = record { kind = 6; mode = 0; flags = 0; lock = 0; purged = host; name = []; value = value_bytes None }
+fields_of (QuietPurge host) = record { kind = 7; mode = 0; flags = 0; lock = 0; purged = host; name = []; value = value_bytes None }
 
 -- a number in so many bytes
 unfoldable pub number : ℕ → ℕ → List ℕ
@@ -77,6 +78,7 @@ FitsAction (Release lock value) = IsLock lock × IsValue value
 FitsAction (Cancel lock) = IsLock lock
 FitsAction (Status lock) = IsLock lock
 FitsAction (Purge host) = host < HOSTS
+FitsAction (QuietPurge host) = host < HOSTS
 
 -- and so are those of its command
 pub record Fits (c : Command) : Type 0 where

@@ -6,7 +6,7 @@ use Rattle.lock_modes.specs.declared.mode.Mode.TheVariants.{Null, ConcurrentRead
 use Rattle.lock_command.specs.declared.number.TheConstants.{HOSTS}
 use Rattle.lock_command.specs.declared.command.Command.{Command}
 use Rattle.lock_command.specs.declared.command.Action.{Action}
-use Rattle.lock_command.specs.declared.command.Action.TheVariants.{Enqueue, Convert, Release, Cancel, Status, Purge}
+use Rattle.lock_command.specs.declared.command.Action.TheVariants.{Enqueue, Convert, Release, Cancel, Status, Purge, QuietPurge}
 use Rattle.lock_command.specs.Name.{is_name}
 use Rattle.lock_command.specs.Command.{spelling}
 
@@ -86,6 +86,7 @@ action_at bytes =
     else if kind == 4 then (do lock ← lock_at bytes; Some (Cancel lock))
     else if kind == 5 then (do lock ← lock_at bytes; Some (Status lock))
     else if kind == 6 then (do host ← host_of (slice_index bytes 16); Some (Purge host))
+    else if kind == 7 then (do host ← host_of (slice_index bytes 16); Some (QuietPurge host))
     else None
 
 -- the command

@@ -38,6 +38,8 @@ pub enum Action {
     Cancel(LockNumber),
     /// Asks what any client's lock holds and wants.
     Status(LockNumber),
-    /// Takes away all locks that were enqueued through the host.
+    /// Takes away all locks that were enqueued through the host. The value of each name that loses a lock holding PW or EX is invalid then.
     Purge(HostNumber),
+    /// The same, and values stay valid. So a purge of the first layout, which has no values, stands in a log that was moved. No client asks for it.
+    QuietPurge(HostNumber),
 }

@@ -112,6 +112,7 @@ fn action_at(value: &Value) -> Option<Action>
         4 => Some(Action::Cancel(lock_at(value)?)),
         5 => Some(Action::Status(lock_at(value)?)),
         6 => Some(Action::Purge(host_of(value[16])?)),
+        7 => Some(Action::QuietPurge(host_of(value[16])?)),
         _ => None,
     }
 }

@@ -19,8 +19,6 @@ impl Model for ValueBytes {
 }
 
 impl ValueBytes {
-    pub const ZEROS: ValueBytes = ValueBytes([0; 16]);
-
     pub fn new(bytes: [u8; 16]) -> Self
         ensures value { result ≡ bytes }
     {

@@ -6,7 +6,7 @@ use Rattle.lock_modes.specs.declared.mode.Mode.TheVariants.{Null, ConcurrentRead
 use Rattle.lock_command.specs.declared.number.TheConstants.{HOSTS}
 use Rattle.lock_command.specs.declared.command.Command.{Command}
 use Rattle.lock_command.specs.declared.command.Action.{Action}
-use Rattle.lock_command.specs.declared.command.Action.TheVariants.{Enqueue, Convert, Release, Cancel, Status, Purge}
+use Rattle.lock_command.specs.declared.command.Action.TheVariants.{Enqueue, Convert, Release, Cancel, Status, Purge, QuietPurge}
 use Rattle.lock_command.specs.Name.{IsName, is_name}
 use Rattle.lock_command.specs.Command.{IsValue, FitsAction, Fits}
 use Rattle.lock_command.specs.Reading.{◌>>=◌, name_of}
@@ -14,7 +14,7 @@ use Rattle.std.specs.Prelude.{bytes_eq}
 use Rattle.std.proofs.lemmas.Slice.Eq.{bytes_eq-Decides}
 use Rattle.lock_script.specs.Words.{last_word, begins_with, behind_word}
 use Rattle.lock_script.specs.Reading.{mode_of, no_queue_at, value_of, value_at, enqueue_at, convert_at, release_at, action_at, command_at, lock_of, host_of, client_of, request_of}
-use Rattle.lock_script.specs.Spelling.{AreBytes, GivesBytes, mode_word, no_queue_words, value_words, kind_word, action_words, command_words}
+use Rattle.lock_script.specs.Spelling.{AreBytes, CanBeSaid, mode_word, no_queue_words, value_words, kind_word, action_words, command_words}
 use Rattle.lock_script.proofs.Readings.{bound, was_passed, is_passed, picked, one_read}
 use Rattle.lock_script.proofs.Numbers.{number_in-found, number_in-only}
 use Rattle.lock_script.proofs.Givens.{value_of-found, value_of-only}
@@ -112,7 +112,7 @@ name_of-found word name h = let p = was_passed (is_name word) word name h in (p.
 -- its numbers are in their ranges, its name is one, and so is its value
 pub record FitsAll (action : Action) : Type 0 where
   pub fits : FitsAction action
-  pub bytes : GivesBytes action
+  pub said : CanBeSaid action
 
 -- words that ask for this
 pub record Asks (kind : List ℕ) (words : List (List ℕ)) (action : Action) : Type 0 where
@@ -142,7 +142,7 @@ enqueue_at-found kind (a ∷ b ∷ c ∷ rest) action named h =
     let e : Enqueue lock.0 name.0 mode.0 last.0 ≡ action = cc in
     let range : lock.0 < 2 ^ 16 = omega (arith, l.high) in
     let is : a ∷ b ∷ c ∷ rest ≡ decimal lock.0 ∷ mode_word mode.0 ∷ name.0 ∷ no_queue_words last.0 = cc (l.spelled, m, n.0, q) in
-    subst (Asks kind (a ∷ b ∷ c ∷ rest)) e (record { kind_is = named; words_are = is; fits = record { fits = ((l.low, range), n.1); bytes = tt } })
+    subst (Asks kind (a ∷ b ∷ c ∷ rest)) e (record { kind_is = named; words_are = is; fits = record { fits = ((l.low, range), n.1); said = tt } })
 
 convert_at-found : (kind : List ℕ) (words : List (List ℕ)) (action : Action) → kind ≡ codes "convert" → convert_at words ≡ Some action → Asks kind words action
 unfolding convert_at
@@ -160,7 +160,7 @@ convert_at-found kind (a ∷ b ∷ rest) action named h =
     let range : lock.0 < 2 ^ 16 = omega (arith, l.high) in
     let is : a ∷ b ∷ rest ≡ decimal lock.0 ∷ mode_word mode.0 ∷ (no_queue_words q ++ value_words last.0) =
     (λ i. l.spelled i ∷ m i ∷ v.0 i) in
-    subst (Asks kind (a ∷ b ∷ rest)) e (record { kind_is = named; words_are = is; fits = record { fits = ((l.low, range), v.1); bytes = v.2 } })
+    subst (Asks kind (a ∷ b ∷ rest)) e (record { kind_is = named; words_are = is; fits = record { fits = ((l.low, range), v.1); said = v.2 } })
 
 release_at-found : (kind : List ℕ) (words : List (List ℕ)) (action : Action) → kind ≡ codes "release" → release_at words ≡ Some action → Asks kind words action
 unfolding release_at
@@ -173,7 +173,7 @@ release_at-found kind (a ∷ rest) action named h =
     let e : Release lock.0 last.0 ≡ action = cc in
     let range : lock.0 < 2 ^ 16 = omega (arith, l.high) in
     let is : a ∷ rest ≡ decimal lock.0 ∷ value_words last.0 = (λ i. l.spelled i ∷ v.0 i) in
-    subst (Asks kind (a ∷ rest)) e (record { kind_is = named; words_are = is; fits = record { fits = ((l.low, range), v.1); bytes = v.2 } })
+    subst (Asks kind (a ∷ rest)) e (record { kind_is = named; words_are = is; fits = record { fits = ((l.low, range), v.1); said = v.2 } })
 
 -- one lock alone
 lock_alone : (kind : List ℕ) (words : List (List ℕ)) (make : ℕ → Action) (action : Action)
@@ -196,7 +196,7 @@ host_alone kind words action named h =
     let l = number_in-found 0 (HOSTS - 1) one.word host.0 one.reads in
     let e : Purge host.0 ≡ action = cc in
     let range : host.0 < HOSTS = omega (arith, l.high) in
-    subst (Asks kind words) e (record { kind_is = named; words_are = one.words_are ∙ ap (λ w. w ∷ []) l.spelled; fits = record { fits = range; bytes = tt } })
+    subst (Asks kind words) e (record { kind_is = named; words_are = one.words_are ∙ ap (λ w. w ∷ []) l.spelled; fits = record { fits = range; said = tt } })
 
 pub action_at-found : (kind : List ℕ) (words : List (List ℕ)) (action : Action) → action_at kind words ≡ Some action → Asks kind words action
 unfolding action_at
@@ -208,9 +208,9 @@ action_at-found kind words action h =
         | inr other ↦ elim (picked kind (codes "release") _ _ action other) [
           | inl p ↦ release_at-found kind words action p.0 p.1
           | inr other ↦ elim (picked kind (codes "cancel") _ _ action other) [
-            | inl p ↦ lock_alone kind words Cancel action (λ lock. (p.0, refl, λ fits. record { fits = fits; bytes = tt })) p.1
+            | inl p ↦ lock_alone kind words Cancel action (λ lock. (p.0, refl, λ fits. record { fits = fits; said = tt })) p.1
             | inr other ↦ elim (picked kind (codes "status") _ _ action other) [
-              | inl p ↦ lock_alone kind words Status action (λ lock. (p.0, refl, λ fits. record { fits = fits; bytes = tt })) p.1
+              | inl p ↦ lock_alone kind words Status action (λ lock. (p.0, refl, λ fits. record { fits = fits; said = tt })) p.1
               | inr other ↦ elim (picked kind (codes "purge") _ _ action other) [
                 | inl p ↦ host_alone kind words action p.0 p.1
                 | inr other ↦ absurd (cc)
@@ -227,27 +227,28 @@ lock_of-only lock fits = number_in-only 1 65535 lock fits.0 (omega (arith, fits.
 name_of-only : (name : List ℕ) → IsName name → name_of name ≡ Some name
 name_of-only name is = is_passed (is_name name) name is
 
-pub action_at-only : (action : Action) → FitsAction action → GivesBytes action → action_at (kind_word action) (action_words action) ≡ Some action
+pub action_at-only : (action : Action) → FitsAction action → CanBeSaid action → action_at (kind_word action) (action_words action) ≡ Some action
 unfolding action_at enqueue_at convert_at release_at
-action_at-only (Enqueue lock name mode no_queue) fits bytes =
+action_at-only (Enqueue lock name mode no_queue) fits said =
     ap (λ (found : Option ℕ). found >>= λ l. mode_of (mode_word mode) >>= λ m. name_of name >>= λ n. no_queue_at (no_queue_words no_queue) >>= λ q. Some (Enqueue l n m q)) (lock_of-only lock fits.0)
     ∙ ap (λ (found : Option Mode). found >>= λ m. name_of name >>= λ n. no_queue_at (no_queue_words no_queue) >>= λ q. Some (Enqueue lock n m q)) (mode_of-only mode)
     ∙ ap (λ (found : Option (List ℕ)). found >>= λ n. no_queue_at (no_queue_words no_queue) >>= λ q. Some (Enqueue lock n mode q)) (name_of-only name fits.1)
     ∙ ap (λ (found : Option Bool). found >>= λ q. Some (Enqueue lock name mode q)) (no_queue_at-only no_queue)
-action_at-only (Convert lock mode no_queue value) fits bytes =
+action_at-only (Convert lock mode no_queue value) fits said =
     let rest = no_queue_words no_queue ++ value_words value in
     let q = begins_with (codes "noqueue") rest in
     let last = value_at (behind_word (codes "noqueue") rest) in
     ap (λ (found : Option ℕ). found >>= λ l. mode_of (mode_word mode) >>= λ m. last >>= λ v. Some (Convert l m q v)) (lock_of-only lock fits.0)
     ∙ ap (λ (found : Option Mode). found >>= λ m. last >>= λ v. Some (Convert lock m q v)) (mode_of-only mode)
-    ∙ ap (λ (found : Option (Option (List ℕ))). found >>= λ v. Some (Convert lock mode q v)) (behind-only no_queue value fits.1 bytes)
+    ∙ ap (λ (found : Option (Option (List ℕ))). found >>= λ v. Some (Convert lock mode q v)) (behind-only no_queue value fits.1 said)
     ∙ ap (λ b. Some (Convert lock mode b value)) (begins-only no_queue value)
-action_at-only (Release lock value) fits bytes =
+action_at-only (Release lock value) fits said =
     ap (λ (found : Option ℕ). found >>= λ l. value_at (value_words value) >>= λ v. Some (Release l v)) (lock_of-only lock fits.0)
-    ∙ ap (λ (found : Option (Option (List ℕ))). found >>= λ v. Some (Release lock v)) (value_at-only value fits.1 bytes)
-action_at-only (Cancel lock) fits bytes = ap (λ (found : Option ℕ). found >>= λ l. Some (Cancel l)) (lock_of-only lock fits)
-action_at-only (Status lock) fits bytes = ap (λ (found : Option ℕ). found >>= λ l. Some (Status l)) (lock_of-only lock fits)
-action_at-only (Purge host) fits bytes = ap (λ (found : Option ℕ). found >>= λ h. Some (Purge h)) (number_in-only 0 (HOSTS - 1) host (omega arith) (omega arith) (omega arith))
+    ∙ ap (λ (found : Option (Option (List ℕ))). found >>= λ v. Some (Release lock v)) (value_at-only value fits.1 said)
+action_at-only (Cancel lock) fits said = ap (λ (found : Option ℕ). found >>= λ l. Some (Cancel l)) (lock_of-only lock fits)
+action_at-only (Status lock) fits said = ap (λ (found : Option ℕ). found >>= λ l. Some (Status l)) (lock_of-only lock fits)
+action_at-only (Purge host) fits said = ap (λ (found : Option ℕ). found >>= λ h. Some (Purge h)) (number_in-only 0 (HOSTS - 1) host (omega arith) (omega arith) (omega arith))
+action_at-only (QuietPurge host) fits said = absurd said
 
 -- words that spell this command, through a host
 pub record Commands (host : ℕ) (words : List (List ℕ)) (c : Command) : Type 0 where
@@ -256,7 +257,7 @@ pub record Commands (host : ℕ) (words : List (List ℕ)) (c : Command) : Type 
   pub client : c.client < 2 ^ 8
   pub request : (1 ≤ c.request) × (c.request ≤ 2 ^ 62)
   pub action : FitsAction c.action
-  pub bytes : GivesBytes c.action
+  pub said : CanBeSaid c.action
 
 pub command_at-found : (host : ℕ) (words : List (List ℕ)) (c : Command) → command_at host words ≡ Some c → Commands host words c
 unfolding command_at
@@ -274,11 +275,11 @@ command_at-found host (a ∷ b ∷ d ∷ rest) c h =
     let e : made ≡ c = cc in
     let small : client.0 < 2 ^ 8 = omega (arith, n.high) in
     let is : a ∷ b ∷ d ∷ rest ≡ kind_word action.0 ∷ decimal client.0 ∷ decimal request.0 ∷ action_words action.0 = cc (x.kind_is, n.spelled, r.spelled, x.words_are) in
-    subst (Commands host (a ∷ b ∷ d ∷ rest)) e (record { host_is = refl; words_are = is; client = small; request = (r.low, r.high); action = x.fits.fits; bytes = x.fits.bytes })
+    subst (Commands host (a ∷ b ∷ d ∷ rest)) e (record { host_is = refl; words_are = is; client = small; request = (r.low, r.high); action = x.fits.fits; said = x.fits.said })
 
-pub command_at-only : (c : Command) → Fits c → GivesBytes c.action → command_at c.host (command_words c) ≡ Some c
+pub command_at-only : (c : Command) → Fits c → CanBeSaid c.action → command_at c.host (command_words c) ≡ Some c
 unfolding command_at
-command_at-only c fits bytes =
+command_at-only c fits said =
     ap (λ (found : Option ℕ). found >>= λ n. request_of (decimal c.request) >>= λ r. action_at (kind_word c.action) (action_words c.action) >>= λ x. Some (record { host = c.host; client = n; request = r; action = x })) (number_in-only 0 255 c.client (omega arith) (omega (arith, fits.client)) (omega (arith, fits.client)))
     ∙ ap (λ (found : Option ℕ). found >>= λ r. action_at (kind_word c.action) (action_words c.action) >>= λ x. Some (record { host = c.host; client = c.client; request = r; action = x })) (number_in-only 1 (2 ^ 62) c.request fits.request.0 fits.request.1 (omega (arith, fits.request.1)))
-    ∙ ap (λ (found : Option Action). found >>= λ x. Some (record { host = c.host; client = c.client; request = c.request; action = x })) (action_at-only c.action fits.action bytes)
+    ∙ ap (λ (found : Option Action). found >>= λ x. Some (record { host = c.host; client = c.client; request = c.request; action = x })) (action_at-only c.action fits.action said)

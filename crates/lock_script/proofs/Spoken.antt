@@ -150,7 +150,7 @@ submit_found kind (a ∷ b ∷ rest) line named h =
     let is : kind ∷ a ∷ b ∷ rest ≡ codes "submit" ∷ decimal command.0.host ∷ decimal tries.0 ∷ command_words command.0 = cc (named, d.spelled, s.spelled, c.words_are, ap decimal c.host_is) in
     let range : command.0.host < HOSTS = omega (arith, d.high, c.host_is) in
     let fits : FitsCommand command.0 = record { host = range; client = c.client; request = c.request; action = c.action } in
-    subst (Spells (kind ∷ a ∷ b ∷ rest)) e (record { words_are = is; fits = (record { fits = fits; bytes = c.bytes }, (s.low, s.high)) })
+    subst (Spells (kind ∷ a ∷ b ∷ rest)) e (record { words_are = is; fits = (record { fits = fits; said = c.said }, (s.low, s.high)) })
 
 -- a host alone
 host_alone : (kind : List ℕ) (words : List (List ℕ)) (make : ℕ → Line) (line : Line)
@@ -269,7 +269,7 @@ line_at-only (Once (Stop host)) fits = ap (λ (found : Option ℕ). found >>= λ
 line_at-only (Once (Submit command tries)) fits =
     ap (λ (found : Option ℕ). found >>= λ h. tries_of (decimal tries) >>= λ t. command_at h (command_words command) >>= λ c. Some (Once (Submit c t))) (host_of-only command.host fits.0.fits.host)
     ∙ ap (λ (found : Option ℕ). found >>= λ t. command_at command.host (command_words command) >>= λ c. Some (Once (Submit c t))) (tries_of-only tries fits.1)
-    ∙ ap (λ (found : Option Command). found >>= λ c. Some (Once (Submit c tries))) (command_at-only command fits.0.fits fits.0.bytes)
+    ∙ ap (λ (found : Option Command). found >>= λ c. Some (Once (Submit c tries))) (command_at-only command fits.0.fits fits.0.said)
 line_at-only (Once (Recover host tries)) fits =
     two_spelled host_of tries_of (λ h t. Once (Recover h t)) (decimal host) (decimal tries) host tries (host_of-only host fits.0) (tries_of-only tries fits.1)
 line_at-only (Once (Look host)) fits = ap (λ (found : Option ℕ). found >>= λ h. Some (Once (Look h))) (host_of-only host fits)

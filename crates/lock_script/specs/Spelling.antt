@@ -6,7 +6,7 @@ use Rattle.lock_modes.specs.declared.mode.Mode.TheVariants.{Null, ConcurrentRead
 use Rattle.lock_command.specs.declared.number.TheConstants.{HOSTS}
 use Rattle.lock_command.specs.declared.command.Command.{Command}
 use Rattle.lock_command.specs.declared.command.Action.{Action}
-use Rattle.lock_command.specs.declared.command.Action.TheVariants.{Enqueue, Convert, Release, Cancel, Status, Purge}
+use Rattle.lock_command.specs.declared.command.Action.TheVariants.{Enqueue, Convert, Release, Cancel, Status, Purge, QuietPurge}
 use Rattle.lock_command.specs.Command.{Fits as FitsCommand}
 use Rattle.slot_log.specs.Shape.{Shape}
 use Rattle.lock_script.specs.declared.event.Event.{Event}
@@ -48,6 +48,7 @@ value_words (Some bytes) = codes "value" ∷ hex_word bytes ∷ []
 
 -- COMMANDS
 
+-- a quiet purge has no word
 abbrev pub kind_word : Action → List ℕ
 kind_word (Enqueue lock name mode no_queue) = codes "enqueue"
 kind_word (Convert lock mode no_queue value) = codes "convert"
@@ -55,6 +56,7 @@ kind_word (Release lock value) = codes "release"
 kind_word (Cancel lock) = codes "cancel"
 kind_word (Status lock) = codes "status"
 kind_word (Purge host) = codes "purge"
+kind_word (QuietPurge host) = []
 
 -- what is asked, behind the request's number
 abbrev pub action_words : Action → List (List ℕ)
@@ -64,6 +66,7 @@ action_words (Release lock value) = decimal lock ∷ value_words value
 action_words (Cancel lock) = decimal lock ∷ []
 action_words (Status lock) = decimal lock ∷ []
 action_words (Purge host) = decimal host ∷ []
+action_words (QuietPurge host) = []
 
 -- a command; its host stands in front of it
 abbrev pub command_words : Command → List (List ℕ)
@@ -96,15 +99,16 @@ abbrev pub AreBytes : Option (List ℕ) → Type 0
 AreBytes None = ⊤
 AreBytes (Some bytes) = All (λ byte. byte < 2 ^ 8) bytes
 
--- so are those of the value that an action gives
-abbrev pub GivesBytes : Action → Type 0
-GivesBytes (Convert lock mode no_queue value) = AreBytes value
-GivesBytes (Release lock value) = AreBytes value
-GivesBytes _ = ⊤
+-- a line can say what is asked: a value that is given is of bytes, and nobody asks for a quiet purge
+abbrev pub CanBeSaid : Action → Type 0
+CanBeSaid (Convert lock mode no_queue value) = AreBytes value
+CanBeSaid (Release lock value) = AreBytes value
+CanBeSaid (QuietPurge host) = ⊥
+CanBeSaid _ = ⊤
 
 pub record FitsSubmitted (command : Command) : Type 0 where
   pub fits : FitsCommand command
-  pub bytes : GivesBytes command.action
+  pub said : CanBeSaid command.action
 
 abbrev pub IsTries : ℕ → Type 0
 IsTries tries = (1 ≤ tries) × (tries ≤ 255)

@@ -4,7 +4,7 @@ use Rattle.std.specs.List.{filter, find, list_any}
 use Rattle.lock_modes.specs.declared.mode.Mode.{Mode}
 use Rattle.lock_command.specs.declared.command.Command.{Command}
 use Rattle.lock_command.specs.declared.command.Action.{Action}
-use Rattle.lock_command.specs.declared.command.Action.TheVariants.{Enqueue, Convert, Release, Cancel, Status, Purge}
+use Rattle.lock_command.specs.declared.command.Action.TheVariants.{Enqueue, Convert, Release, Cancel, Status, Purge, QuietPurge}
 use Rattle.lock_table.specs.declared.clients.TheConstants.{CLIENTS}
 use Rattle.lock_table.specs.declared.locks.TheConstants.{LOCKS}
 use Rattle.lock_table.specs.declared.record.LockRecord.{LockRecord}
@@ -96,6 +96,7 @@ same-done a b host client (Cancel lock) s distinct =
     rw (same-lock_in lock a b s) (same-own a b client (λ r. cancelled a r r.state) (λ r. cancelled b r r.state) (lock_in b lock) s (λ r. same-cancelled a b r r.state s))
 same-done a b host client (Status lock) s distinct = rw (same-lock_in lock a b s) (same-told a b (lock_in b lock) s)
 same-done a b host client (Purge gone) s distinct = same-purged a b gone s distinct
+same-done a b host client (QuietPurge gone) s distinct = same-purged a b gone s distinct
 
 client_of : KnownClient → ℕ
 client_of k = k.client
@@ -112,6 +113,7 @@ same-changed a b values (Release lock value) r s = ap (λ found. cond (is_releas
 same-changed a b values (Cancel lock) r s = refl
 same-changed a b values (Status lock) r s = refl
 same-changed a b values (Purge host) r s = λ i name. cond (same-any (λ r. is_on name r && (is_through host r && is_writer r.state)) a b s i) (invalid (values name)) (values name)
+same-changed a b values (QuietPurge host) r s = refl
 
 pub same-of_locked : (a b : List LockRecord) (values : Values) → HasSameLocks a b → of_locked a values ≡ of_locked b values
 same-of_locked a b values s = λ i name. cond (same-any (is_on name) a b s i) (values name) zeros
@@ -123,6 +125,7 @@ same-asked a b values (Release lock value) s = refl
 same-asked a b values (Cancel lock) s = refl
 same-asked a b values (Status lock) s = ap (value_of_lock values) (same-lock_in lock a b s)
 same-asked a b values (Purge host) s = refl
+same-asked a b values (QuietPurge host) s = refl
 
 pub same-values_after : (x y p q : List LockRecord) (v w : Values) (action : Action) (r t : Answer) → v ≡ w → HasSameLocks x y → HasSameLocks p q → r ≡ t → values_after v x p action r ≡ values_after w y q action t
 same-values_after x y p q v w action r t values before after answers =
@@ -219,6 +222,7 @@ distinct-done a host client (Release lock value) d = distinct-own a client (rele
 distinct-done a host client (Cancel lock) d = distinct-own a client (λ r. cancelled a r r.state) (lock_in a lock) d (λ r. distinct-cancelled a r r.state d)
 distinct-done a host client (Status lock) d = distinct-told a (lock_in a lock) d
 distinct-done a host client (Purge gone) d = IsDistinct-settled_all (map (λ (r : LockRecord). r.name) (filter (is_through gone) a)) _ (IsDistinct-filter (λ r. not (is_through gone r)) a d)
+distinct-done a host client (QuietPurge gone) d = IsDistinct-settled_all (map (λ (r : LockRecord). r.name) (filter (is_through gone) a)) _ (IsDistinct-filter (λ r. not (is_through gone r)) a d)
 
 LeavesTableDistinct : Applied → Type 0
 LeavesTableDistinct x = IsDistinct x.table.locks

@@ -7,7 +7,7 @@ use Rattle.lock_modes.specs.declared.mode.Mode.{Mode}
 use Rattle.lock_command.specs.Name.{same_name}
 use Rattle.lock_command.specs.declared.command.Command.{Command}
 use Rattle.lock_command.specs.declared.command.Action.{Action}
-use Rattle.lock_command.specs.declared.command.Action.TheVariants.{Enqueue, Convert, Release, Cancel, Status, Purge}
+use Rattle.lock_command.specs.declared.command.Action.TheVariants.{Enqueue, Convert, Release, Cancel, Status, Purge, QuietPurge}
 use Rattle.lock_table.specs.declared.clients.TheConstants.{CLIENTS}
 use Rattle.lock_table.specs.declared.locks.TheConstants.{LOCKS}
 use Rattle.lock_table.specs.declared.record.LockRecord.{LockRecord}
@@ -338,6 +338,7 @@ calm-done a host client (Cancel lock) distinct before =
     calm-own a client (λ r. cancelled a r r.state) (lock_in a lock) before (λ r found. calm-cancelled a r distinct before (found_again a lock r found) r.state)
 calm-done a host client (Status lock) distinct before = calm-told a (lock_in a lock) before
 calm-done a host client (Purge gone) distinct before = calm-purged a gone distinct before
+calm-done a host client (QuietPurge gone) distinct before = calm-purged a gone distinct before
 
 -- the two together, which every command keeps
 pub record IsCalm (locks : List LockRecord) : Type 0 where

@@ -5,7 +5,7 @@ use Rattle.std.proofs.lemmas.Bool.Decides.{nat_tests}
 use Rattle.lock_command.specs.Name.{same_name}
 use Rattle.lock_command.specs.declared.command.Command.{Command}
 use Rattle.lock_command.specs.declared.command.Action.{Action}
-use Rattle.lock_command.specs.declared.command.Action.TheVariants.{Enqueue, Convert, Release, Cancel, Status, Purge}
+use Rattle.lock_command.specs.declared.command.Action.TheVariants.{Enqueue, Convert, Release, Cancel, Status, Purge, QuietPurge}
 use Rattle.lock_table.specs.declared.clients.TheConstants.{CLIENTS}
 use Rattle.lock_table.specs.declared.record.LockRecord.{LockRecord}
 use Rattle.lock_table.specs.declared.record.LockState.{LockState}
@@ -97,6 +97,7 @@ changed_is values locks (Release lock value) a name =
 changed_is values locks (Cancel lock) a name = stays (values name)
 changed_is values locks (Status lock) a name = stays (values name)
 changed_is values locks (Purge host) a name = spoils (list_any (λ r. is_on name r && (is_through host r && is_writer r.state)) locks) (values name)
+changed_is values locks (QuietPurge host) a name = stays (values name)
 
 -- ONE COMMAND
 

@@ -5,7 +5,7 @@ use Rattle.std.proofs.lemmas.List.Folds.{list_any-append}
 use Rattle.lock_modes.specs.declared.mode.Mode.{Mode}
 use Rattle.lock_command.specs.Name.{same_name}
 use Rattle.lock_command.specs.declared.command.Action.{Action}
-use Rattle.lock_command.specs.declared.command.Action.TheVariants.{Enqueue, Convert, Release, Cancel, Status, Purge}
+use Rattle.lock_command.specs.declared.command.Action.TheVariants.{Enqueue, Convert, Release, Cancel, Status, Purge, QuietPurge}
 use Rattle.lock_table.specs.declared.locks.TheConstants.{LOCKS}
 use Rattle.lock_table.specs.declared.record.LockRecord.{LockRecord}
 use Rattle.lock_table.specs.declared.record.LockState.{LockState}
@@ -126,6 +126,7 @@ keeps_locks name a host client (Cancel lock) distinct has still =
     has-own name a client (λ r. cancelled a r r.state) (lock_in a lock) has (λ r found. has-cancelled name a r r.state distinct (found_again a lock r found) (same_name-sym r.name name ∙ sym (ap (λ f. may_lose f (Cancel lock) name) found) ∙ still) has)
 keeps_locks name a host client (Status lock) distinct has still = has-told name a (lock_in a lock) has
 keeps_locks name a host client (Purge gone) distinct has still = let impossible : ⊥ = cc in absurd impossible
+keeps_locks name a host client (QuietPurge gone) distinct has still = let impossible : ⊥ = cc in absurd impossible
 
 -- so what is stored is stored under names that have locks, but for those that a command may have taken the last lock of
 pub still_locked : (entries : List NamedValue) (a now : List LockRecord) (host client : ℕ) (action : Action) → IsDistinct a → IsValued a entries → now ≡ in_order printed_cmp (done a host client action).locks

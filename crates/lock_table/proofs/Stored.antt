@@ -7,7 +7,7 @@ use Rattle.std.proofs.lemmas.List.Folds.{list_any-append}
 use Rattle.std.proofs.lemmas.List.Kept.{IsSortedBy-filter}
 use Rattle.lock_command.specs.Name.{same_name}
 use Rattle.lock_command.specs.declared.command.Action.{Action}
-use Rattle.lock_command.specs.declared.command.Action.TheVariants.{Enqueue, Convert, Release, Cancel, Status, Purge}
+use Rattle.lock_command.specs.declared.command.Action.TheVariants.{Enqueue, Convert, Release, Cancel, Status, Purge, QuietPurge}
 use Rattle.lock_table.specs.declared.record.LockState.{LockState}
 use Rattle.lock_table.specs.declared.reply.Answer.{Answer}
 use Rattle.lock_table.specs.declared.record.LockRecord.{LockRecord}
@@ -296,6 +296,7 @@ stores_changed before entries locks (Release lock value) a is = entry_if (is_rel
 stores_changed before entries locks (Cancel lock) a is = is
 stores_changed before entries locks (Status lock) a is = is
 stores_changed before entries locks (Purge host) a is = is
+stores_changed before entries locks (QuietPurge host) a is = is
 
 entry_named : (locks : List LockRecord) (b : Bool) (lets : LockState → Bool) (lock : ℕ) (found : Option LockRecord) (value : Option (List ℕ)) (e : NamedValue) → lock_in locks lock ≡ found
     → cond b (entry_of lets found value) None ≡ Some e → list_any (is_on e.name) locks ≡ true
@@ -318,6 +319,7 @@ entry_has locks (Release lock value) a e h = entry_named locks (is_released a) i
 entry_has locks (Cancel lock) a e h = let impossible : ⊥ = cc in absurd impossible
 entry_has locks (Status lock) a e h = let impossible : ⊥ = cc in absurd impossible
 entry_has locks (Purge host) a e h = let impossible : ⊥ = cc in absurd impossible
+entry_has locks (QuietPurge host) a e h = let impossible : ⊥ = cc in absurd impossible
 
 valued_if : (locks : List LockRecord) (entries : List NamedValue) (o : Option NamedValue) → IsValued locks entries → ((e : NamedValue) → o ≡ Some e → list_any (is_on e.name) locks ≡ true) → IsValued locks (put_if entries o)
 valued_if locks entries None valued has = valued
@@ -336,6 +338,7 @@ asked_same v locks (Release lock value) = refl
 asked_same v locks (Cancel lock) = refl
 asked_same v locks (Status lock) = refl
 asked_same v locks (Purge host) = refl
+asked_same v locks (QuietPurge host) = refl
 
 pub of_locked_zeros : (locks : List LockRecord) (v : Values) → HasZeros locks (of_locked locks v)
 of_locked_zeros locks v name none = ap (λ b. cond b (v name) zeros) none
@@ -360,6 +363,7 @@ changed_nothing v locks (Release lock value) a nothing = given_none v is_writer 
 changed_nothing v locks (Cancel lock) a nothing = refl
 changed_nothing v locks (Status lock) a nothing = refl
 changed_nothing v locks (Purge host) a nothing = let impossible : ⊥ = cc in absurd impossible
+changed_nothing v locks (QuietPurge host) a nothing = refl
 
 -- nothing is stored then
 pub nothing_after : (before after : List LockRecord) (action : Action) (a : Answer) → gives_nothing action ≡ true → value_in [] ≡ values_after (value_in []) before after action a
@@ -378,6 +382,7 @@ asked_zeros locks (Release lock value) = refl
 asked_zeros locks (Cancel lock) = refl
 asked_zeros locks (Status lock) = sym (asked_of_lock (lock_in locks lock))
 asked_zeros locks (Purge host) = refl
+asked_zeros locks (QuietPurge host) = refl
 
 pub valued_none : (locks : List LockRecord) → IsValued locks []
 valued_none locks = record { named = record { rising = λ k d from far. absurd (omega (arith, far)); one = λ name. omega arith }; locked = λ name there. let impossible : ⊥ = cc in absurd impossible }

@@ -1,6 +1,6 @@
 -- What a table keeps of its locks: the list that it shows, and the same records by number.
-use Rattle.std.specs.Prelude.{◌≡◌, ◌≤◌, ℕ, Bool, List, filter, length}
-use Rattle.std.specs.List.Sorted.{IsSorted}
+use Rattle.std.specs.Prelude.{◌≡◌, ◌≤◌, ℕ, Bool, true, false, List, filter, length, nat_lt}
+use Rattle.std.specs.List.Sorted.{IsSorted, IsPartitionPoint}
 use Rattle.std.specs.Ordering.{nat_cmp, ordering_then, is_lt}
 use Rattle.std.specs.Cmp.Lexicographic.{slice_cmp}
 use Rattle.std.specs.declared.cmp.Ordering.{Ordering}
@@ -30,6 +30,11 @@ pub record IsIndexed (printed numbers : List LockRecord) : Type 0 where
 pub record AreKnown (clients : List KnownClient) : Type 0 where
   pub rising : IsSorted client_cmp clients
   pub distinct : (client : ℕ) → length (filter (is_client client) clients) ≤ 1
+
+-- the clients before this place have lower numbers, and no others
+pub record IsPlaceOf (client : ℕ) (clients : List KnownClient) (place : ℕ) : Type 0 where
+  pub bound : place ≤ length clients
+  pub point : IsPartitionPoint (λ k. nat_lt k.client client ≡ true) (λ k. nat_lt k.client client ≡ false) clients place
 
 -- a plain table that stands in the order in which it is shown, each lock once
 pub record IsShown (t : Plain) : Type 0 where

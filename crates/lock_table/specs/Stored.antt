@@ -1,5 +1,5 @@
 -- How the values of names are kept: those that were stored, by rising name, for names that have locks.
-use Rattle.std.specs.Prelude.{◌≡◌, ◌≤◌, ℕ, Bool, true, false, not, is_none, List, length, filter, find, Option, Some, None}
+use Rattle.std.specs.Prelude.{◌≡◌, ◌≤◌, ℕ, Bool, true, false, not, is_none, List, length, filter, find, Option, Some, None, if◌then◌else◌}
 use Rattle.std.specs.List.{list_any, HoldsAt}
 use Rattle.std.specs.List.Sorted.{IsSorted, IsPartitionPoint}
 use Rattle.std.specs.Ordering.{nat_cmp}
@@ -8,7 +8,7 @@ use Rattle.std.specs.declared.cmp.Ordering.{Ordering}
 use Rattle.std.specs.declared.cmp.Ordering.TheVariants.{Less, Equal, Greater}
 use Rattle.lock_command.specs.Name.{same_name}
 use Rattle.lock_command.specs.declared.command.Action.{Action}
-use Rattle.lock_command.specs.declared.command.Action.TheVariants.{Enqueue, Convert, Release, Cancel, Status, Purge}
+use Rattle.lock_command.specs.declared.command.Action.TheVariants.{Enqueue, Convert, Release, Cancel, Status, Purge, QuietPurge}
 use Rattle.lock_table.specs.declared.record.LockRecord.{LockRecord}
 use Rattle.lock_table.specs.declared.record.LockState.{LockState}
 use Rattle.lock_table.specs.declared.reply.Answer.{Answer}
@@ -20,7 +20,6 @@ use Rattle.lock_table.specs.Picture.{Shown, values_beside}
 use Rattle.lock_table.specs.Placed.{placed}
 use Rattle.lock_table.specs.Locks.{is_on, lock_in}
 use Rattle.lock_table.specs.Values.{Values, zeros, is_writer, is_downward, spoiled, is_granted, is_released, value_of_lock}
-use Rattle.std.specs.Prelude.{if◌then◌else◌}
 
 -- an entry of the name
 abbrev pub is_of : List ℕ → NamedValue → Bool
@@ -83,8 +82,9 @@ entry_by found (Release lock value) a = if is_released a then entry_of is_writer
 entry_by found (Cancel lock) a = None
 entry_by found (Status lock) a = None
 entry_by found (Purge host) a = None
+entry_by found (QuietPurge host) a = None
 
--- an action that gives no value, and is no purge
+-- an action that gives no value, and makes none invalid
 abbrev pub gives_nothing : Action → Bool
 gives_nothing (Enqueue lock name mode no_queue) = true
 gives_nothing (Convert lock mode no_queue value) = is_none value
@@ -92,6 +92,7 @@ gives_nothing (Release lock value) = is_none value
 gives_nothing (Cancel lock) = true
 gives_nothing (Status lock) = true
 gives_nothing (Purge host) = false
+gives_nothing (QuietPurge host) = true
 
 -- the entry is put, where there is one
 abbrev pub put_if : List NamedValue → Option NamedValue → List NamedValue
@@ -114,6 +115,7 @@ asked_value_by values found (Release lock value) = zeros
 asked_value_by values found (Cancel lock) = zeros
 asked_value_by values found (Status lock) = value_of_lock values found
 asked_value_by values found (Purge host) = zeros
+asked_value_by values found (QuietPurge host) = zeros
 
 -- the locks, and the entries of their names
 pub record Valued : Type 0 where
@@ -146,3 +148,4 @@ may_lose found (Release lock value) name = is_named found name
 may_lose found (Cancel lock) name = is_named found name
 may_lose found (Status lock) name = false
 may_lose found (Purge host) name = true
+may_lose found (QuietPurge host) name = true

@@ -5,7 +5,7 @@ use Rattle.lock_modes.specs.declared.mode.Mode.{Mode}
 use Rattle.lock_modes.specs.Mode.{writes_alone, downward}
 use Rattle.lock_command.specs.Name.{same_name}
 use Rattle.lock_command.specs.declared.command.Action.{Action}
-use Rattle.lock_command.specs.declared.command.Action.TheVariants.{Enqueue, Convert, Release, Cancel, Status, Purge}
+use Rattle.lock_command.specs.declared.command.Action.TheVariants.{Enqueue, Convert, Release, Cancel, Status, Purge, QuietPurge}
 use Rattle.lock_table.specs.declared.record.LockRecord.{LockRecord}
 use Rattle.lock_table.specs.declared.record.LockState.{LockState}
 use Rattle.lock_table.specs.declared.record.LockState.TheVariants.{Granted, Converting, Waiting}
@@ -73,6 +73,7 @@ changed values locks (Release lock value) a = if is_released a then given values
 changed values locks (Cancel lock) a = values
 changed values locks (Status lock) a = values
 changed values locks (Purge host) a = spoiled values locks host
+changed values locks (QuietPurge host) a = values
 
 -- and of names that have locks still
 abbrev pub values_after : Values → List LockRecord → List LockRecord → Action → Answer → Values
@@ -91,6 +92,7 @@ asked_value values locks (Release lock value) = zeros
 asked_value values locks (Cancel lock) = zeros
 asked_value values locks (Status lock) = value_of_lock values (lock_in locks lock)
 asked_value values locks (Purge host) = zeros
+asked_value values locks (QuietPurge host) = zeros
 
 -- a grant returns the value of its name, and so does the state of a lock that holds a mode
 abbrev pub returned : Answer → LockValue → Option LockValue

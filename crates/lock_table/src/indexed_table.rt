@@ -1,5 +1,6 @@
-ghost use Rattle.std.specs.Prelude.{◌≡◌, ◌≤◌, [], IfOk, length};
-ghost use Rattle.lock_table.specs.Apply.{applied, carried_out};
+ghost use Rattle.std.specs.Prelude.{◌≡◌, ◌<◌, ◌≤◌, [], IfOk, IfSome, None, find, length};
+ghost use Rattle.lock_table.specs.Apply.{applied, carried_out, is_client, unchanged};
+ghost use Rattle.lock_table.specs.Indexed.{IsPlaceOf};
 ghost use Rattle.lock_table.specs.Picture.{printed_cmp, client_cmp, HasZeros};
 ghost use Rattle.lock_table.specs.Placed.{in_order};
 ghost use Rattle.lock_table.specs.Stored.{plain_of, value_in, AreNamed};
@@ -41,8 +42,26 @@ impl IndexedTable {
         })
     }
 
-    /// Carries a command out, unless its client repeats a request.
+    /// The reply to a command that is not carried out: its client repeats a request, or comes with an older one, or would be
+    /// one too many.
     #[tactic(auto, unfolding(crate::specs::Apply::applied))]
+    fn reply_without_it(&self, place: usize, command: &Command) -> Option<Reply>
+        requires { IsPlaceOf command.now.client self.now.clients place }
+        ensures unchanged { IfSome result (λ reply. applied (plain_of self.now) command.now ≡ unchanged (plain_of self.now) reply) }
+        ensures carried_out { result ≡ None → applied (plain_of self.now) command.now ≡ carried_out (plain_of self.now) command.now }
+        ensures room { result ≡ None → find (is_client command.now.client) self.now.clients ≡ None → length self.now.clients < CLIENTS }
+    {
+        match self.clients.get(place, command.client) {
+            None if self.clients.is_full() => Some(Reply::refusing(Refusal::ClientsFull)),
+            Some(last) if command.request.get() < last.request.get() => {
+                Some(Reply::refusing(Refusal::Stale))
+            }
+            Some(last) if command.request == last.request => Some(last.reply),
+            _ => None,
+        }
+    }
+
+    /// Carries a command out, unless its client repeats a request.
     pub fn apply(&mut self, command: &Command) -> Reply
         requires printed { in_order printed_cmp self.old.locks ≡ self.old.locks }
         requires zeros { HasZeros self.old.locks (value_in self.old.entries) }
@@ -53,31 +72,15 @@ impl IndexedTable {
         ensures zeros { HasZeros self.new.locks (value_in self.new.entries) }
         ensures reply { result ≡ (applied (plain_of self.old) command.now).reply }
     {
-        match self.clients.get(command.client) {
-            None => {
-                if self.clients.is_full() {
-                    return Reply::refusing(Refusal::ClientsFull);
-                }
-                let reply = self
-                    .valued
-                    .act(command.host, command.client, &command.action);
-                self.clients.keep_first(known(command, &reply));
-                reply
-            }
-            Some(last) => {
-                if command.request.get() < last.request.get() {
-                    return Reply::refusing(Refusal::Stale);
-                }
-                if command.request == last.request {
-                    return last.reply;
-                }
-                let reply = self
-                    .valued
-                    .act(command.host, command.client, &command.action);
-                self.clients.keep_next(known(command, &reply));
-                reply
-            }
+        let place = self.clients.place_of(command.client);
+        if let Some(reply) = self.reply_without_it(place, command) {
+            return reply;
         }
+        let reply = self
+            .valued
+            .act(command.host, command.client, &command.action);
+        self.clients.keep(place, known(command, &reply));
+        reply
     }
 
     /// The locks in printed order.

@@ -23,8 +23,8 @@ mod values;
 pub use clients::CLIENTS;
 pub use laws::{
     a_table_has_one_picture, downward_conversions_are_granted, heads_could_not_be_granted,
-    held_modes_are_compatible, lock_numbers_are_distinct, requests_count_once,
-    settling_is_complete, values_are_stored_last,
+    held_modes_are_compatible, lock_numbers_are_distinct, moved_logs_give_the_same,
+    requests_count_once, settling_is_complete, values_are_stored_last,
 };
 pub use locks::LOCKS;
 pub use no_memory::NoMemory;

@@ -77,14 +77,15 @@ fn is_spoilt(lock: &LockRecord, host: HostNumber) -> bool
     lock.host == host && is_writer(lock.state)
 }
 
-/// Whether an action changes no value: it gives none and is not a purge.
+/// Whether an action changes no value: it gives none and makes none invalid.
 fn gives_nothing(action: &Action) -> bool
     ensures { result ≡ gives_nothing action.now }
 {
     match action {
         Action::Convert { value, .. } | Action::Release { value, .. } => value.is_none(),
         Action::Purge(_) => false,
-        Action::Enqueue { .. } | Action::Cancel(_) | Action::Status(_) => true,
+        Action::Enqueue { .. } | Action::Cancel(_) | Action::Status(_) | Action::QuietPurge(_) =>
+            true,
     }
 }
 
@@ -197,7 +198,7 @@ fn keep_locked(
                 values::keep_if_locked(values, locks, own.name);
             }
         }
-        Action::Purge(_) => values::keep_locked(values, locks),
+        Action::Purge(_) | Action::QuietPurge(_) => values::keep_locked(values, locks),
         _ => {}
     }
 }

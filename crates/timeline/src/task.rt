@@ -24,7 +24,7 @@ impl Task {
             Action::Release { .. } => Task::Release,
             Action::Cancel(_) => Task::Cancel,
             Action::Status(_) => Task::Status,
-            Action::Purge(_) => Task::Purge,
+            Action::Purge(_) | Action::QuietPurge(_) => Task::Purge,
         }
     }
 

@@ -112,7 +112,11 @@ impl FlatTable {
                 Some(found) => Answer::State(found.state),
                 None => Answer::Refused(Refusal::NoSuchLock),
             },
-            Action::Purge(gone) => self.purge(*gone),
+            Action::Purge(gone) => {
+                self.spoil_through(*gone);
+                self.purge(*gone)
+            }
+            Action::QuietPurge(gone) => self.purge(*gone),
         }
     }
 
@@ -236,14 +240,19 @@ impl FlatTable {
         Answer::Cancelled
     }
 
+    fn spoil_through(&mut self, host: HostNumber) {
+        for record in &self.locks {
+            if record.host == host && wrote_alone(record.state) {
+                spoil(&mut self.values, record.name);
+            }
+        }
+    }
+
     fn purge(&mut self, host: HostNumber) -> Answer {
         self.touched.clear();
         for record in &self.locks {
             if record.host == host {
                 let _ = self.touched.push(record.name);
-                if wrote_alone(record.state) {
-                    spoil(&mut self.values, record.name);
-                }
             }
         }
         self.locks.retain(|record| record.host != host);

@@ -119,7 +119,8 @@ impl Random {
             },
             65..=82 => Action::Release { lock, value },
             83..=94 => Action::Cancel(lock),
-            95..=98 => Action::Status(lock),
+            95..=97 => Action::Status(lock),
+            98 => Action::QuietPurge(self.host()?),
             _ => Action::Purge(self.host()?),
         })
     }

@@ -4,7 +4,10 @@ use Rattle.lock_table.proofs.Shown.{client_of}
 use Rattle.lock_table.proofs.Keyed.{key_partitioned}
 use Rattle.lock_table.proofs.clients.lower_clients.Goals as goal
 
-pub returns-clause-point : goal.returns-clause-point
-returns-clause-point c =
-    c.partition_point.ensures.partitioned (λ k. nat_lt k.client c.args.client) (always_returns_same _ _ _ (λ a r f k. search (rules, of_calls)))
-    (key_partitioned client_of c.args.client c.args.known.now c.requires)
+pub returns : goal.returns
+returns c = record {
+  bound = search rules;
+  point =
+      c.partition_point.ensures.partitioned (λ k. nat_lt k.client c.args.client) (always_returns_same _ _ _ (λ a r f k. search (rules, of_calls)))
+      (key_partitioned client_of c.args.client c.args.known.now c.requires);
+}
