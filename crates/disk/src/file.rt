@@ -260,6 +260,3 @@ impl<F: FileExt + OpenFile + Drop> Disk for FileDisk<F> {
         Err(self.fail())
     }
 }
-
-#[cfg(test)]
-mod tests;

@@ -17,6 +17,3 @@ pub use fault::{DiskFault, ImageFault, NoMemory};
 pub use file::FileDisk;
 pub use law::{calls_keep_the_shape, larger_disks_serve};
 pub use simulated::SimDisk;
-
-#[cfg(test)]
-mod tests;

@@ -6,6 +6,3 @@ mod suggestion;
 
 pub use area::{Damaged, damaged_beats, decode_area, encode_beat};
 pub use suggestion::{Reading, suggest};
-
-#[cfg(test)]
-mod tests;

@@ -16,6 +16,3 @@ pub use event::MigrationEvent;
 pub use law::migrates_all_or_nothing;
 pub use migrator::Migrator;
 pub use run::migrate_run;
-
-#[cfg(test)]
-mod tests;

@@ -139,6 +139,3 @@ fn put_header<L: Layout>(bytes: &mut [u8], header: &Header)
     put_number(cluster, header.cluster);
     put_zeros(end);
 }
-
-#[cfg(test)]
-mod tests;

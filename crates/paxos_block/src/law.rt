@@ -97,18 +97,3 @@ pub fn writes_stay_sound()
     ensures done { (host : ℕ) (w : Write128) (says : Said) (disk : DiskState) →
         IsPlaced w disk → IsWriteOf host says w → IsDone w disk → IsSoundAt w.version host w.place disk }
 {}
-
-#[cfg(test)]
-mod tests {
-    use super::*;
-
-    // These functions do nothing when they run: their contracts are theorems.
-    #[test]
-    fn laws(_rt: HostRuntime) {
-        ballots_and_majorities();
-        blocks_say();
-        rows_say();
-        blocks_apart();
-        writes_stay_sound();
-    }
-}

@@ -167,6 +167,3 @@ pub fn damaged_hosts(bytes: &[u8; ROW_LENGTH]) -> [bool; HOSTS]
     }
     damaged
 }
-
-#[cfg(test)]
-mod tests;

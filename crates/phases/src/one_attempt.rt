@@ -500,6 +500,3 @@ fn write_call(steps: &WriteSteps, place: u64, boot: Boot) -> DeviceCall<'_>
         None => unreachable!(),
     }
 }
-
-#[cfg(test)]
-mod tests;

@@ -339,6 +339,3 @@ fn chosen<V: Copy>(end: Option<End<V>>) -> Option<V>
         End::BallotsSpent => None,
     }
 }
-
-#[cfg(test)]
-mod tests;

@@ -3,7 +3,7 @@ ghost use Rattle.std.specs.Prelude.{◌≡◌, ◌≤◌, ◌<◌};
 use phases::DeviceCall;
 
 /// A device call, as it is drawn.
-#[derive(Clone, Copy, Debug)]
+#[derive(Clone, Copy)]
 pub struct Call {
     pub disk: u8,
     pub kind: Kind,
@@ -11,7 +11,7 @@ pub struct Call {
     pub ending: Ending,
 }
 
-#[derive(Clone, Copy, Debug, PartialEq, Eq)]
+#[derive(Clone, Copy, PartialEq, Eq)]
 pub enum Kind {
     Attach,
     Sync,
@@ -40,7 +40,7 @@ impl Kind {
 }
 
 /// What a call is for.
-#[derive(Clone, Copy, Debug, PartialEq, Eq)]
+#[derive(Clone, Copy)]
 pub enum Phase {
     /// To look.
     Opening,
@@ -84,7 +84,7 @@ impl Phase {
 }
 
 /// How a call ends.
-#[derive(Clone, Copy, Debug, PartialEq, Eq)]
+#[derive(Clone, Copy, PartialEq, Eq)]
 pub enum Ending {
     Done,
     /// The disk is lost, or has crashed since it was attached.

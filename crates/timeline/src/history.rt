@@ -74,6 +74,3 @@ fn is_attach_due(core: &HostCore) -> bool {
         _ => false,
     }
 }
-
-#[cfg(test)]
-mod tests;

@@ -26,7 +26,7 @@ const LOWEST_HOST: u64 = 20_000;
 const LOWEST_DISK: u64 = 40_000;
 
 /// The places of a picture: a lane for each host and below them one for each disk, and a column for each moment.
-#[derive(Clone, Copy, Debug)]
+#[derive(Clone, Copy)]
 pub struct Layout {
     pub hosts: u8,
     pub disks: u8,

@@ -4,14 +4,14 @@ use host::HostAnswer;
 use lock_command::HostNumber;
 
 /// An event that changed something: its number, what it was, and what came of it for its host.
-#[derive(Clone, Copy, Debug)]
+#[derive(Clone, Copy)]
 pub struct Moment {
     pub place: usize,
     pub happened: Happened,
     pub turn: Option<Turn>,
 }
 
-#[derive(Clone, Copy, Debug)]
+#[derive(Clone, Copy)]
 pub enum Happened {
     Started(HostNumber),
     Stopped(HostNumber),
@@ -24,7 +24,7 @@ pub enum Happened {
 }
 
 /// What a host comes to with an event, where that is more than its next call.
-#[derive(Clone, Copy, Debug)]
+#[derive(Clone, Copy)]
 pub enum Turn {
     /// Its operation ends.
     Said(HostAnswer),
@@ -35,7 +35,7 @@ pub enum Turn {
 }
 
 /// A host or a disk.
-#[derive(Clone, Copy, Debug)]
+#[derive(Clone, Copy)]
 pub enum Lane {
     Host(u8),
     Disk(u8),

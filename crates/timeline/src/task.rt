@@ -1,7 +1,7 @@
 use lock_command::Action;
 
 /// What an operation is begun for.
-#[derive(Clone, Copy, Debug, PartialEq, Eq)]
+#[derive(Clone, Copy)]
 pub enum Task {
     Enqueue,
     Convert,

@@ -7,7 +7,7 @@ use std::alloc::{AllocError, Global};
 use torn_block::DISKS;
 
 /// What a host has made of a disk since it last attached it.
-#[derive(Clone, Copy, Debug)]
+#[derive(Clone, Copy)]
 struct Visit {
     calls: u8,
     /// How often the disk had crashed by then.
@@ -15,7 +15,7 @@ struct Visit {
 }
 
 /// What has become of a disk.
-#[derive(Clone, Copy, Debug)]
+#[derive(Clone, Copy)]
 struct Device {
     crashes: u32,
     is_lost: bool,

@@ -16,6 +16,3 @@ pub use layout::{
     ROW_LENGTH, SLOTS, TAIL_LENGTH, VALUE_LENGTH, VERSION,
 };
 pub use write_steps::{BlockNeed, SequenceSpent, WriteCall, WriteSteps, put_number};
-
-#[cfg(test)]
-mod tests;

@@ -1,7 +1,15 @@
-use super::*;
+// A file as a disk, and how often one is read whose bytes change meanwhile.
+use crate::changing::ChangingFiles;
+use disk::{Boot, Disk, DiskFault, FileDisk, ImageFault};
 use std::cell::Cell;
 use std::fs;
 use std::test::Fail;
+
+// The boot number of every file.
+const BOOT: Boot = Boot { number: 1 };
+
+// How many bytes are read twice at a time.
+const PART: usize = 4096;
 
 const FOLDER: &str = "file_disk_test";
 
@@ -37,41 +45,24 @@ fn keeps_what_is_written(rt: HostRuntime) -> Result<(), Fail> {
     Ok(())
 }
 
-// A file whose bytes all change between two reads of it, so many times.
-#[derive(Drop)]
-struct Changing {
-    changes: u8,
-    reads: Cell<u8>,
-}
-
-impl FileExt for Changing {
-    fn read_at(&self, buf: &mut [u8], _offset: u64) -> io::Result<usize> {
-        let before = self.reads.get();
-        self.reads.set(before.wrapping_add(1));
-        buf.fill(before.min(self.changes));
-        Ok(buf.len())
-    }
-
-    fn write_at(&self, buf: &[u8], _offset: u64) -> io::Result<usize> {
-        Ok(buf.len())
-    }
-}
-
 #[test]
-fn reads_until_two_agree(rt: HostRuntime) {
+fn reads_until_two_agree(rt: HostRuntime) -> Result<(), Fail> {
     // How often it changes, whether the read succeeds, and by how many reads of the file.
     for (changes, succeeds, reads) in [(0, true, 2), (3, true, 5), (7, true, 9), (8, false, 9)] {
-        let file = Changing {
+        let made = Cell::new(0);
+        let files = ChangingFiles {
             changes,
-            reads: Cell::new(0),
+            reads: &made,
         };
+        let mut disk = FileDisk::make(&files, PATH, PART as u64)?;
         let mut row = [0xFF; PART];
         assert_eq!(rt;
-            read_settled(&file, &mut row, 0),
+            disk.read(BOOT, 0, &mut row).is_ok(),
             succeeds,
             "after {changes} changes"
         );
-        assert_eq!(rt; file.reads.get(), reads, "reads at {changes} changes");
+        assert_eq!(rt; made.get(), reads, "reads at {changes} changes");
         assert_eq!(rt; row, [changes; PART]);
     }
+    Ok(())
 }

@@ -1,12 +1,12 @@
 // What a crash leaves of a block that is written, driven over a simulated disk of one block.
 ghost use Rattle.std.specs.Prelude.{◌≡◌, ◌≤◌, ◌<◌, ◌^◌, OnOk, length};
 
-use crate::{
+use disk::{Boot, Disk, DiskFault, SimDisk};
+use std::test::Fail;
+use torn_block::{
     BODY_ROOM, BlockNeed, Body, COPY_ROOM, HEADING_LENGTH, Half, LAST_SEQUENCE, Layout1, Layout2,
     OPEN_GATE, WriteSteps, read_block, registers, six_calls,
 };
-use disk::{Boot, Disk, DiskFault, SimDisk};
-use std::test::Fail;
 
 const BLOCK_LENGTH: usize = 2 * COPY_ROOM;
 

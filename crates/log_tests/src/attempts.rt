@@ -1,20 +1,13 @@
 // Attempts on slot 0, driven over simulated disks call by call: in the cluster's layout, and once in each.
-ghost use Rattle.std.specs.Prelude.{◌≡◌, ◌≤◌, ℕ, List, length};
-ghost use Rattle.torn_block.specs.Layout.{Version, row_length};
-ghost use Rattle.attempt.specs.History.{Fits};
-ghost use Rattle.phases.specs.layouts.Calls.{IsWithin, device_call_of, heard_of};
 ghost use Rattle.phases.specs.Room.{RowFits};
 
-use super::Attempt;
-use crate::end::End;
-use crate::heard::Heard;
-use crate::need::DeviceCall;
-use disk::{Disk, NoMemory, SimDisk};
-use paxos_block::{LAST_BALLOT, Value, block_place, image_length};
-use std::alloc::{AllocError, Global};
+use crate::driven::{answer, blank_disks, value};
+use disk::{Disk, SimDisk};
+use paxos_block::{LAST_BALLOT, block_place, image_length};
+use phases::{Attempt, End};
 use std::test::Fail;
 use torn_block::{
-    COPY_LENGTH, ClusterLayout, HOSTS, Layout, Layout1, Layout2, ROW_LENGTH, VALUE_LENGTH, VERSION,
+    COPY_LENGTH, ClusterLayout, HOSTS, Layout, Layout1, Layout2, VALUE_LENGTH, VERSION,
 };
 
 /// More calls than any attempt makes.
@@ -74,27 +67,12 @@ const HOST_1_VOTED: [u8; HEAD_LENGTH] = [
     0, 0, 2,
 ];
 
-// An input of this byte alone.
-fn value(byte: u8) -> Value {
-    [byte; VALUE_LENGTH]
-}
-
 // A copy with this byte throughout its input.
 fn copy_of(head: &[u8; HEAD_LENGTH], byte: u8) -> [u8; COPY_LENGTH] {
     let mut copy = [0; COPY_LENGTH];
     copy[..HEAD_LENGTH].copy_from_slice(head);
     copy[HEAD_LENGTH..HEAD_LENGTH + VALUE_LENGTH].fill(byte);
     copy
-}
-
-fn blank_disks(alloc: Global, count: usize, length: u64) -> Result<Vec<SimDisk>, NoMemory> {
-    let mut disks = Vec::new(alloc);
-    for _ in 0..count {
-        disks
-            .push(SimDisk::new(alloc, length)?)
-            .map_err(|failed| NoMemory::from(AllocError::from(failed)))?;
-    }
-    Ok(disks)
 }
 
 // Writes a host's first copy as it stands, if the disk is there and has the place.
@@ -118,42 +96,13 @@ fn crash(disk: Option<&mut SimDisk>) -> Result<(), Fail> {
     Ok(())
 }
 
-fn answer<'a, const N: usize>(
-    disk: &mut SimDisk,
-    call: &DeviceCall<'_>,
-    row: &'a mut [u8; N],
-) -> Heard<'a, [u8; N]>
-    requires { (v : Version) × (N ≡ row_length v) × IsWithin v (length disk.old.disk.bytes) call.now }
-    ensures { (v : Version) (bytes_of : List ℕ → List ℕ) → Fits (device_call_of v call.now) (heard_of v bytes_of result) }
-{
-    let done = match call {
-        DeviceCall::Attach => match disk.attach() {
-            Ok(boot) => return Heard::Booted(boot),
-            Err(fault) => Err(fault),
-        },
-        DeviceCall::Sync { boot } => disk.sync(*boot),
-        DeviceCall::Write { boot, at, bytes } => disk.write(*boot, *at, bytes),
-        DeviceCall::Read { boot, at } => match disk.read(*boot, *at, row) {
-            Ok(()) => return Heard::Told(row),
-            Err(fault) => Err(fault),
-        },
-    };
-    match done {
-        Ok(()) => Heard::Done,
-        Err(fault) => Heard::Fault(fault),
-    }
-}
-
 // Makes so many calls, or fewer where the attempt ends, and counts them.
 fn drive<const N: usize, L: Layout<Row = [u8; N]>>(
     attempt: &mut Attempt<L>,
     disks: &mut [SimDisk],
     calls: usize,
 ) -> usize
-    requires slot { attempt.old.of.slot ≡ 0 }
-    requires row { N ≡ row_length L.version }
-    requires room { RowFits L.Value.row }
-    ensures { attempt.new.of.slot ≡ 0 }
+    requires { RowFits L.Value.row }
 {
     let mut row = [0; N];
     for made in 0..calls {
@@ -164,9 +113,6 @@ fn drive<const N: usize, L: Layout<Row = [u8; N]>>(
         let Some(disk) = disks.get_mut(usize::from(need.disk)) else {
             return made;
         };
-        if disk.size() < image_length::<L>(1) {
-            return made;
-        }
         let heard = answer(disk, &need.call, &mut row);
         attempt.hear(&heard);
     }

@@ -1,7 +1,7 @@
 use Rattle.std.proofs.Common.{◌≡◌, length}
 use Rattle.torn_block.specs.declared.layout.TheConstants.{COPY_ROOM}
-use Rattle.torn_block.specs.declared.tests.TheConstants.{BLOCK_LENGTH}
-use Rattle.torn_block.proofs.tests.write.Given as goal
+use Rattle.block_tests.specs.declared.torn.TheConstants.{BLOCK_LENGTH}
+use Rattle.block_tests.proofs.torn.write.Given as goal
 
 abbrev pub invariant-loop : goal.invariant-loop
 invariant-loop l = record {

@@ -1,6 +1,6 @@
 ghost use Rattle.std.specs.Prelude.{◌≡◌, IfOk, length};
 
-use crate::{Boot, Disk, DiskFault, SimDisk, calls_keep_the_shape, larger_disks_serve};
+use disk::{Boot, Disk, DiskFault, SimDisk, calls_keep_the_shape, larger_disks_serve};
 use std::alloc::Global;
 use std::test::Fail;
 

@@ -1,12 +1,14 @@
 // The bytes of known copies, and sound copies with a byte changed.
 ghost use Rattle.std.specs.Prelude.{◌≤◌, ◌+◌};
 
-use super::*;
-use crate::block::{PBlock, Value, decode, encode, may_say};
+use paxos_block::{
+    Damaged, PBlock, Row, Value, ballots_and_majorities, blocks_apart, blocks_say, damaged_hosts,
+    decode, decode_row, encode, may_say, rows_say, writes_stay_sound,
+};
 use std::test::Fail;
 use torn_block::{
-    BODY_LENGTH, BODY_ROOM, Body, COPY_LENGTH, ClusterLayout, HEADING_LENGTH, HOSTS, Half, Layout1,
-    VALUE_LENGTH,
+    BLOCK_LENGTH, BODY_LENGTH, BODY_ROOM, Body, COPY_LENGTH, ClusterLayout, HEADING_LENGTH, HOSTS,
+    Half, Layout1, ROW_LENGTH, VALUE_LENGTH,
 };
 
 // The command `enqueue 1 1 1 EX db` of host 0.
@@ -274,4 +276,14 @@ fn what_a_row_tells(rt: HostRuntime) {
         Row::<Value>::blank().latest_vote(0, PBlock::<Value>::blank()),
         PBlock::<Value>::blank()
     );
+}
+
+// These functions do nothing when they run: their contracts are theorems.
+#[test]
+fn laws(_rt: HostRuntime) {
+    ballots_and_majorities();
+    blocks_say();
+    rows_say();
+    blocks_apart();
+    writes_stay_sound();
 }

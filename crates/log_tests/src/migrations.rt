@@ -1,6 +1,6 @@
 // A migration of one command over three disks, stopped before each of its calls and within each of its writes.
-use crate::{MigrationEvent, migrate_run, migrates_all_or_nothing};
 use disk::{Disk, SimDisk};
+use migration::{MigrationEvent, migrate_run, migrates_all_or_nothing};
 use paxos_block::Value;
 use slot_log::Config;
 use std::alloc::Global;

@@ -1,5 +1,5 @@
 // A beat's bytes, and an area with one.
-use super::*;
+use heartbeat::{Damaged, Reading, damaged_beats, decode_area, encode_beat, suggest};
 use torn_block::{HOSTS, ROW_LENGTH};
 
 #[test]

@@ -1,7 +1,13 @@
 // A known header, each fault once, an image that ends before its header does, and the limits.
-use super::*;
-use crate::place::{beat_place, block_place, row_place};
-use torn_block::{Layout1, Layout2};
+use disk::ImageFault;
+use paxos_block::{
+    Header, beat_place, block_place, decode_header, encode_header, image_length, is_header,
+    row_place,
+};
+use torn_block::{HEADER_LENGTH, Layout1, Layout2};
+
+// The bytes of a header in front of its zeros.
+const ZEROS_AT: usize = 16;
 
 const OF_DISK_1: [u8; ZEROS_AT] = [0xa5, 1, 1, 3, 0, 0, 0, 0x10, 0, 0, 0, 0, 0, 0, 0, 7];
 

@@ -1,80 +1,12 @@
 // Learners driven over simulated disks, call by call: in the cluster's layout, and once in each.
-ghost use Rattle.std.specs.Prelude.{◌≤◌, ◌+◌, ℕ, List, length};
-ghost use Rattle.std.specs.Bool.{OnTrue};
-ghost use Rattle.torn_block.specs.Layout.{Version};
-ghost use Rattle.attempt.specs.History.{Fits};
-ghost use Rattle.phases.specs.layouts.Calls.{device_call_of, heard_of};
 ghost use Rattle.phases.specs.Room.{RowFits};
 
-use super::Learner;
-use crate::config::Config;
-use crate::outcome::{Outcome, Refusal};
-use disk::{Disk, DiskFault, NoMemory, SimDisk};
-use paxos_block::{Value, image_length};
-use phases::{DeviceCall, Heard};
-use std::alloc::{AllocError, Global};
+use crate::driven::{answer, blank_disks, value};
+use disk::SimDisk;
+use paxos_block::image_length;
+use slot_log::{Config, Learner, Outcome, Refusal};
 use std::test::Fail;
-use torn_block::{ClusterLayout, Layout, Layout1, Layout2, VALUE_LENGTH};
-
-// An input of this byte alone.
-fn value(byte: u8) -> Value {
-    [byte; VALUE_LENGTH]
-}
-
-fn blank_disks(alloc: Global, count: u8, length: u64) -> Result<Vec<SimDisk>, NoMemory> {
-    let mut disks = Vec::new(alloc);
-    for _ in 0..count {
-        disks
-            .push(SimDisk::new(alloc, length)?)
-            .map_err(|failed| NoMemory::from(AllocError::from(failed)))?;
-    }
-    Ok(disks)
-}
-
-// Whether so many bytes lie on the disk.
-fn has_range(disk: &SimDisk, at: u64, len: u64) -> bool
-    ensures { OnTrue result (at + len ≤ length disk.now.disk.bytes) }
-{
-    let size = disk.size();
-    at <= size && len <= size - at
-}
-
-fn answer<'a, const N: usize>(
-    disk: &mut SimDisk,
-    call: &DeviceCall<'_>,
-    row: &'a mut [u8; N],
-) -> Heard<'a, [u8; N]>
-    ensures { (v : Version) (bytes_of : List ℕ → List ℕ) → Fits (device_call_of v call.now) (heard_of v bytes_of result) }
-{
-    match call {
-        DeviceCall::Attach => match disk.attach() {
-            Ok(boot) => Heard::Booted(boot),
-            Err(fault) => Heard::Fault(fault),
-        },
-        DeviceCall::Sync { boot } => match disk.sync(*boot) {
-            Ok(()) => Heard::Done,
-            Err(fault) => Heard::Fault(fault),
-        },
-        DeviceCall::Write { boot, at, bytes } => {
-            if !has_range(disk, *at, bytes.len() as u64) {
-                return Heard::Fault(DiskFault::Failed);
-            }
-            match disk.write(*boot, *at, bytes) {
-                Ok(()) => Heard::Done,
-                Err(fault) => Heard::Fault(fault),
-            }
-        }
-        DeviceCall::Read { boot, at } => {
-            if !has_range(disk, *at, N as u64) {
-                return Heard::Fault(DiskFault::Failed);
-            }
-            match disk.read(*boot, *at, row) {
-                Ok(()) => Heard::Told(row),
-                Err(fault) => Heard::Fault(fault),
-            }
-        }
-    }
-}
+use torn_block::{ClusterLayout, Layout, Layout1, Layout2};
 
 // Makes so many calls, or fewer where the operation ends or a value waits, and counts them.
 fn drive<const N: usize, L: Layout<Row = [u8; N]>>(
@@ -102,7 +34,11 @@ fn drive<const N: usize, L: Layout<Row = [u8; N]>>(
 #[test]
 fn recovery_of_blank_disks(rt: HostRuntime) -> Result<(), Fail> {
     let config = Config::new(3, 4).ok_or("config")?;
-    let mut disks = blank_disks(rt.alloc(), config.disks(), config.image_length())?;
+    let mut disks = blank_disks(
+        rt.alloc(),
+        usize::from(config.disks()),
+        config.image_length(),
+    )?;
     let mut learner = Learner::<ClusterLayout>::new(rt.alloc(), 0, config)?;
     assert!(rt; learner.idle());
     learner.recover(1);
@@ -115,7 +51,11 @@ fn recovery_of_blank_disks(rt: HostRuntime) -> Result<(), Fail> {
 #[test]
 fn placed_and_judged(rt: HostRuntime) -> Result<(), Fail> {
     let config = Config::new(1, 2).ok_or("config")?;
-    let mut disks = blank_disks(rt.alloc(), config.disks(), config.image_length())?;
+    let mut disks = blank_disks(
+        rt.alloc(),
+        usize::from(config.disks()),
+        config.image_length(),
+    )?;
     let mut learner = Learner::<ClusterLayout>::new(rt.alloc(), 0, config)?;
     learner.place(value(b'V'), 1);
     assert_eq!(rt; drive(&mut learner, &mut disks, 1000), 17);

@@ -1,0 +1,19 @@
+//! Tests of disks, blocks, rows, headers and beats: a crate with tests is proved twice, and this one has little to prove.
+#![tactic(auto)]
+
+#[cfg(test)]
+mod ballots;
+#[cfg(test)]
+mod beats;
+#[cfg(test)]
+mod changing;
+#[cfg(test)]
+mod files;
+#[cfg(test)]
+mod headers;
+#[cfg(test)]
+mod rows;
+#[cfg(test)]
+mod simulated;
+#[cfg(test)]
+mod torn;
