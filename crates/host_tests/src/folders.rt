@@ -1,7 +1,7 @@
 ghost use Rattle.std.specs.Prelude.{◌≡◌, IfSome};
 
 use crate::replies::{GRANTED, QUEUED};
-use disk::{Disk, ImageFault};
+use disk::{Disk, FileDisk, ImageFault};
 use dlm_images::{DiskHost, FolderFault, format_folder, open_folder, open_folder_to_read};
 use host::{Config, Refusal};
 use lock_command::{
@@ -11,6 +11,7 @@ use lock_modes::Mode;
 use lock_table::{LockState, Reply};
 use std::alloc::Global;
 use std::fs;
+use std::fs::File;
 use std::test::Fail;
 
 // A lock of a client on one name.
@@ -63,21 +64,33 @@ fn three_submitted<D: Disk>(host: &mut DiskHost<D>) -> [Option<(u16, Reply)>; 3]
     [first, second, third]
 }
 
+// A host that stays open over the folder.
+fn host_over(rt: &HostRuntime, folder: &str, number: u8) -> Result<DiskHost<FileDisk<File>>, Fail> {
+    let number = HostNumber::new(number).ok_or("a host")?;
+    let folder = open_folder(rt, folder)?;
+    Ok(folder.host(rt.alloc(), number)?)
+}
+
+// The same over a folder which it only reads.
+fn reader_of(rt: &HostRuntime, folder: &str, number: u8) -> Result<DiskHost<FileDisk<File>>, Fail> {
+    let number = HostNumber::new(number).ok_or("a host")?;
+    let folder = open_folder_to_read(rt, folder)?;
+    Ok(folder.host(rt.alloc(), number)?)
+}
+
 // What they come to through host 0, which stays open over the folder, and the locks that its table shows then.
 fn submit_three(
     rt: &HostRuntime,
     folder: &str,
 ) -> Result<([Option<(u16, Reply)>; 3], Vec<Line>), Fail> {
-    let number = HostNumber::new(0).ok_or("a host")?;
-    let mut host = open_folder(rt, folder)?.host(rt.alloc(), number)?;
+    let mut host = host_over(rt, folder, 0)?;
     let done = three_submitted(&mut host);
     Ok((done, shown(rt.alloc(), &host)?))
 }
 
 // How many commands host 1 learns from the folder, and the locks that its table shows then.
 fn learn_all(rt: &HostRuntime, folder: &str) -> Result<(u16, Vec<Line>), Fail> {
-    let number = HostNumber::new(1).ok_or("a host")?;
-    let mut host = open_folder(rt, folder)?.host(rt.alloc(), number)?;
+    let mut host = host_over(rt, folder, 1)?;
     let learned = host.recover(8)?;
     Ok((learned, shown(rt.alloc(), &host)?))
 }
@@ -116,8 +129,7 @@ fn host_that_stays_open(rt: HostRuntime) -> Result<(), Fail> {
 
 // What a submission through host 0 comes to, over the folder.
 fn submit_one(rt: &HostRuntime, folder: &str) -> Result<Option<(u16, Reply)>, Fail> {
-    let number = HostNumber::new(0).ok_or("a host")?;
-    let mut host = open_folder(rt, folder)?.host(rt.alloc(), number)?;
+    let mut host = host_over(rt, folder, 0)?;
     Ok(submitted(&mut host, 1, Mode::ConcurrentRead))
 }
 
@@ -130,15 +142,13 @@ fn marked<D: Disk>(host: &mut DiskHost<D>) -> [Result<u8, Refusal>; 2] {
 
 // The same of host 0, over the folder.
 fn mark_first(rt: &HostRuntime, folder: &str) -> Result<[Result<u8, Refusal>; 2], Fail> {
-    let number = HostNumber::new(0).ok_or("a host")?;
-    let mut host = open_folder(rt, folder)?.host(rt.alloc(), number)?;
+    let mut host = host_over(rt, folder, 0)?;
     Ok(marked(&mut host))
 }
 
 // How many commands host 1 learns that looks at the folder, which it only reads, and the locks that its table shows then.
 fn look_at(rt: &HostRuntime, folder: &str) -> Result<(u16, Vec<Line>), Fail> {
-    let number = HostNumber::new(1).ok_or("a host")?;
-    let mut host = open_folder_to_read(rt, folder)?.host(rt.alloc(), number)?;
+    let mut host = reader_of(rt, folder, 1)?;
     let learned = host.look()?;
     Ok((learned, shown(rt.alloc(), &host)?))
 }
@@ -178,8 +188,7 @@ fn refused<D: Disk>(host: &mut DiskHost<D>) -> Option<Refusal> {
 
 // The same of host 0, over the folder, which it only reads.
 fn submit_reading(rt: &HostRuntime, folder: &str) -> Result<Option<Refusal>, Fail> {
-    let number = HostNumber::new(0).ok_or("a host")?;
-    let mut host = open_folder_to_read(rt, folder)?.host(rt.alloc(), number)?;
+    let mut host = reader_of(rt, folder, 0)?;
     Ok(refused(&mut host))
 }
 

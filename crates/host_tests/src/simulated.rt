@@ -1,7 +1,7 @@
 // Worked runs, through every call that may want memory.
 use crate::replies::GRANTED;
 use host::HostAnswer;
-use simulator::{Parts, Report, Sim, read_script, run, sweep};
+use simulator::{Answer, Event, Parts, Report, Sim, read_script, run, sweep};
 use std::alloc::{AllocError, Global};
 use std::test::Fail;
 
@@ -25,86 +25,130 @@ start 1\nlook 1\nstep 1 6\n";
 // A submission over three disks, none of whose calls is made.
 const SUBMITTED: &str = "cluster 3 2\nstart 0\nsubmit 0 1 enqueue 1 1 1 EX db\n";
 
-#[test]
-fn first_reply(rt: HostRuntime) -> Result<(), Fail> {
-    let script = read_script(rt.alloc(), FIRST_REPLY)?;
-    let mut sim = Sim::new(rt.alloc(), script.config)?;
-    let mut answers = Vec::new(rt.alloc());
-    for event in &script.events.to_vec(rt.alloc())? {
-        if let Some(answer) = sim.event(rt.alloc(), event)? {
+// Where an answer came, from whom, and what it said.
+type Said = (usize, u8, HostAnswer);
+
+// What is answered to the events, one after the other.
+fn answered(alloc: Global, sim: &mut Sim, events: &[Event]) -> Result<Vec<Said>, Fail> {
+    let mut answers = Vec::new(alloc);
+    for event in events {
+        if let Some(answer) = sim.event(alloc, event)? {
             answers.push((answer.place, answer.host.get(), answer.said))?;
         }
     }
+    Ok(answers)
+}
+
+// How many commands host 0 has learned, and whether host 1 runs.
+fn running(sim: &Sim) -> (Option<usize>, bool) {
+    let learned = sim.host(0).map(|host| host.prefix().len());
+    (learned, sim.host(1).is_some())
+}
+
+// What is answered to the events of the first reply, and what runs then.
+fn first_replied(alloc: Global) -> Result<(Vec<Said>, (Option<usize>, bool)), Fail> {
+    let script = read_script(alloc, FIRST_REPLY)?;
+    let events = script.events.to_vec(alloc)?;
+    let mut sim = Sim::new(alloc, script.config)?;
+    let answers = answered(alloc, &mut sim, &events)?;
+    Ok((answers, running(&sim)))
+}
+
+#[test]
+fn first_reply(rt: HostRuntime) -> Result<(), Fail> {
+    let (answers, runs) = first_replied(rt.alloc())?;
     let granted = HostAnswer::Ack {
         slot: 0,
         reply: GRANTED,
     };
     assert_eq!(rt; answers.as_slice(), [(18, 0, granted)].as_slice());
-    let host = sim.host(0).ok_or("host 0")?;
-    assert_eq!(rt; host.prefix().len(), 1);
-    assert!(rt; sim.host(1).is_none());
+    assert_eq!(rt; runs, (Some(1), false));
     Ok(())
+}
+
+// Where an answer came, what it said, and how many locks its picture shows, with the number of the first.
+type Shown = (usize, HostAnswer, Option<(usize, Option<u16>)>);
+
+// The same of an answer.
+fn shown(answer: &Answer) -> Shown {
+    let picture = answer.picture.as_ref();
+    let locks = picture.map(|it| (
+        it.locks().len(),
+        it.locks().first().map(|lock| lock.lock.get()),
+    ));
+    (answer.place, answer.said, locks)
+}
+
+// All that a report has.
+fn all_shown(alloc: Global, report: &Report) -> Result<Vec<Shown>, Fail> {
+    let mut answers = Vec::new(alloc);
+    for answer in report.answers() {
+        answers.push(shown(answer))?;
+    }
+    Ok(answers)
+}
+
+// What is answered to the events of a script.
+fn reported(alloc: Global, text: &[u8]) -> Result<Vec<Shown>, Fail> {
+    let script = read_script(alloc, text)?;
+    let events = script.events.to_vec(alloc)?;
+    let report = run(alloc, script.config, &events)?;
+    all_shown(alloc, &report)
 }
 
 #[test]
 fn torn_gate(rt: HostRuntime) -> Result<(), Fail> {
-    let script = read_script(rt.alloc(), TORN_GATE)?;
-    let events = script.events.to_vec(rt.alloc())?;
-    let report = run(rt.alloc(), script.config, &events)?;
-    let answers = report.answers();
-    assert_eq!(rt; answers.len(), 1);
-    assert_eq!(rt; answers[0].place, 25);
-    assert_eq!(rt; answers[0].said, HostAnswer::Recovered { length: 0 });
-    let picture = answers[0].picture.as_ref().ok_or("picture")?;
-    assert_eq!(rt; picture.locks().len(), 0);
+    let answers = reported(rt.alloc(), TORN_GATE)?;
+    let recovered = HostAnswer::Recovered { length: 0 };
+    assert_eq!(rt;
+        answers.as_slice(),
+        [(25, recovered, Some((0, None)))].as_slice()
+    );
     Ok(())
 }
 
 #[test]
 fn taken_over(rt: HostRuntime) -> Result<(), Fail> {
-    let script = read_script(rt.alloc(), TAKEN_OVER)?;
-    let events = script.events.to_vec(rt.alloc())?;
-    let report = run(rt.alloc(), script.config, &events)?;
-    let answers = report.answers();
+    let answers = reported(rt.alloc(), TAKEN_OVER)?;
+    let recovered = HostAnswer::Recovered { length: 1 };
     assert_eq!(rt; answers.len(), 2);
-    assert_eq!(rt; answers[0].place, 36);
-    assert_eq!(rt; answers[1].place, 96);
-    assert_eq!(rt; answers[1].said, HostAnswer::Recovered { length: 1 });
-    let picture = answers[1].picture.as_ref().ok_or("picture")?;
-    assert_eq!(rt; picture.locks().len(), 1);
-    assert_eq!(rt; picture.locks()[0].lock.get(), 1);
+    assert_eq!(rt; answers[0].0, 36);
+    assert_eq!(rt; answers[1], (96, recovered, Some((1, Some(1)))));
     Ok(())
 }
 
 #[test]
 fn looked(rt: HostRuntime) -> Result<(), Fail> {
-    let script = read_script(rt.alloc(), LOOKED)?;
-    let events = script.events.to_vec(rt.alloc())?;
-    let report = run(rt.alloc(), script.config, &events)?;
-    let answers = report.answers();
+    let answers = reported(rt.alloc(), LOOKED)?;
     assert_eq!(rt; answers.len(), 3);
-    assert_eq!(rt; answers[1].place, 28);
-    assert_eq!(rt; answers[1].said, HostAnswer::Marked { count: 1 });
-    assert!(rt; answers[1].picture.is_none());
-    assert_eq!(rt; answers[2].place, 36);
-    assert_eq!(rt; answers[2].said, HostAnswer::Looked { length: 1 });
-    let picture = answers[2].picture.as_ref().ok_or("picture")?;
-    assert_eq!(rt; picture.locks().len(), 1);
-    assert_eq!(rt; picture.locks()[0].lock.get(), 1);
+    assert_eq!(rt; answers[1], (28, HostAnswer::Marked { count: 1 }, None));
+    let looked = HostAnswer::Looked { length: 1 };
+    assert_eq!(rt; answers[2], (36, looked, Some((1, Some(1)))));
     Ok(())
+}
+
+// What a simulated cluster says without its answers, by the places of the events.
+fn said_by(alloc: Global, parts: &mut Parts, events: &[Event]) -> Result<Vec<(usize, u8)>, Fail> {
+    let mut said = Vec::new(alloc);
+    for (place, event) in events.iter().enumerate() {
+        if let Some(heard) = parts.event(alloc, event)? {
+            said.push((place, heard.host.get()))?;
+        }
+    }
+    Ok(said)
+}
+
+// The same of the first reply.
+fn first_said(alloc: Global) -> Result<Vec<(usize, u8)>, Fail> {
+    let script = read_script(alloc, FIRST_REPLY)?;
+    let events = script.events.to_vec(alloc)?;
+    let mut parts = Parts::new(alloc, script.config)?;
+    said_by(alloc, &mut parts, &events)
 }
 
 #[test]
 fn parts_say_the_same(rt: HostRuntime) -> Result<(), Fail> {
-    let script = read_script(rt.alloc(), FIRST_REPLY)?;
-    let mut parts = Parts::new(rt.alloc(), script.config)?;
-    let mut said = Vec::new(rt.alloc());
-    let events = script.events.to_vec(rt.alloc())?;
-    for (place, event) in events.iter().enumerate() {
-        if let Some(heard) = parts.event(rt.alloc(), event)? {
-            said.push((place, heard.host.get()))?;
-        }
-    }
+    let said = first_said(rt.alloc())?;
     assert_eq!(rt; said.as_slice(), [(18, 0)].as_slice());
     Ok(())
 }

@@ -1,7 +1,7 @@
 ghost use Rattle.std.specs.Prelude.{◌≡◌};
 ghost use Rattle.cluster.specs.Opening.{IsNamed};
 
-use crate::tests::{comes_out_the_same, seat_of, submitted};
+use crate::tests::{left_by, seat_of, seats_of, submitted};
 use cluster::{Cluster, Config, HostFault, HostSeat, Named, OpenGate, Opening, Refusal};
 use disk::SimDisk;
 use std::alloc::Global;
@@ -69,6 +69,33 @@ struct Looked {
     same: bool,
 }
 
+// The same of hosts 0 and 1, and their seats.
+fn seats_that_look<N: Named>(
+    rt: &impl Wait,
+    alloc: Global,
+    cluster: &Cluster<'_, N, SimDisk>,
+) -> Option<(Option<Looks>, Vec<HostSeat<N>>)> {
+    let mut one = seat_of(rt, alloc, cluster, 0)?;
+    let mut other = seat_of(rt, alloc, cluster, 1)?;
+    let looks = looks_and_marks(rt, cluster, &mut one, &mut other);
+    Some((looks, seats_of(alloc, one, other)?))
+}
+
+// The same, and whether the cluster comes out the same.
+fn looked_in<N: Named>(
+    rt: &impl Wait,
+    alloc: Global,
+    config: Config,
+    cluster: Cluster<'_, N, SimDisk>,
+) -> Option<Looked> {
+    let (looks, seats) = seats_that_look(rt, alloc, &cluster)?;
+    let left = left_by(alloc, config, cluster, seats)?;
+    Some(Looked {
+        looks: looks?,
+        same: left.same,
+    })
+}
+
 // A host looks for what another marks.
 fn looks_for_marks<N: Named, R: Wait>(rt: &R, alloc: Global, opening: Opening) -> Option<Looked>
     requires { IsNamed opening N.shape N.table N.name N.parts N.all }
@@ -76,11 +103,7 @@ fn looks_for_marks<N: Named, R: Wait>(rt: &R, alloc: Global, opening: Opening) -
     let config = opening.config();
     let (ties, foundation) = opening.named::<N>(alloc).ok()?;
     let cluster = Cluster::simulated(alloc, &ties, foundation).ok()?;
-    let mut one = seat_of(rt, alloc, &cluster, 0)?;
-    let mut other = seat_of(rt, alloc, &cluster, 1)?;
-    let looks = looks_and_marks(rt, &cluster, &mut one, &mut other)?;
-    let same = comes_out_the_same(alloc, config, cluster, one, other)?;
-    Some(Looked { looks, same })
+    looked_in(rt, alloc, config, cluster)
 }
 
 // What is acknowledged and not marked a look does not find. A slot that is not learned can't be marked.

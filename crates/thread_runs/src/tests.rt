@@ -1,9 +1,9 @@
 ghost use Rattle.std.specs.Prelude.{◌≡◌, ◌≤◌, IfSome};
 ghost use Rattle.cluster.specs.Opening.{IsNamed};
 
-use crate::audit;
 use crate::looked::mark_once;
 use crate::pair_disk::{Flags, PairDisk, is_set, pair};
+use crate::replay::audit;
 use cluster::{
     Cluster, Config, Entry, Gate, HostFault, HostSeat, Named, OpenGate, Opening, Receipt, Refusal,
 };
@@ -49,19 +49,35 @@ pub(crate) fn seat_of<N: Named, D: Disk + Drop>(
     cluster.seat(rt, alloc, HostNumber::new(host)?).ok()
 }
 
-// Whether what two hosts have left comes out the same when it is run again.
-pub(crate) fn comes_out_the_same<N: Named>(
+// Two seats to be given back.
+pub(crate) fn seats_of<N: Named>(
     alloc: Global,
-    config: Config,
-    cluster: Cluster<'_, N, SimDisk>,
     one: HostSeat<N>,
     other: HostSeat<N>,
-) -> Option<bool> {
-    let mut seats = Vec::new(alloc);
-    seats.push(one).ok()?;
-    seats.push(other).ok()?;
+) -> Option<Vec<HostSeat<N>>> {
+    vec![in alloc; one, other].ok()
+}
+
+// What hosts have left, and whether it comes out the same when it is run again.
+#[derive(Drop)]
+pub(crate) struct Left {
+    pub entries: Vec<Entry>,
+    pub same: bool,
+}
+
+// What a cluster leaves whose seats are given back. Whoever calls this holds neither afterwards.
+pub(crate) fn left_by<N: Named, D: Disk + Drop>(
+    alloc: Global,
+    config: Config,
+    cluster: Cluster<'_, N, D>,
+    seats: Vec<HostSeat<N>>,
+) -> Option<Left> {
     let record = cluster.finish(seats).ok()?;
-    audit(alloc, config, &record, &[0]).ok()
+    let same = audit(alloc, config, &record, &[0]).ok()?;
+    Some(Left {
+        entries: record.entries,
+        same,
+    })
 }
 
 // Submits an enqueue of a lock, where the host is idle.
@@ -102,6 +118,98 @@ impl<R: Clock> Gate for Holds<'_, R> {
     }
 }
 
+// A host's seat, the receipt that it got, and whether it has waited in vain.
+#[derive(Drop)]
+struct Waited<N: Named> {
+    seat: HostSeat<N>,
+    receipt: Option<Receipt>,
+    late: bool,
+}
+
+// Submits an enqueue of a lock, and is held within it until the other flag is set.
+fn hold<N: Named, R: Wait + Clock>(
+    rt: &R,
+    cluster: &Cluster<'_, N, SimDisk>,
+    held: &AtomicBool,
+    done: &AtomicBool,
+    seat: HostSeat<N>,
+) -> Waited<N> {
+    let mut seat = seat;
+    let mut gate = Holds {
+        rt,
+        held,
+        done,
+        late: false,
+    };
+    let receipt = submitted(rt, cluster, &mut seat, &mut gate, 1, 2);
+    Waited {
+        seat,
+        receipt: receipt.ok().flatten(),
+        late: gate.late,
+    }
+}
+
+// Submits another while the first host is held, and then lets it go on.
+fn pass<N: Named, R: Wait + Clock>(
+    rt: &R,
+    cluster: &Cluster<'_, N, SimDisk>,
+    held: &AtomicBool,
+    done: &AtomicBool,
+    seat: HostSeat<N>,
+) -> Waited<N> {
+    let mut seat = seat;
+    let begun = is_set(rt, held);
+    let receipt = submitted(rt, cluster, &mut seat, &mut OpenGate, 2, 1);
+    done.store(true, Ordering::SeqCst);
+    Waited {
+        seat,
+        receipt: receipt.ok().flatten(),
+        late: !begun,
+    }
+}
+
+// One host is held within its command until another's is acknowledged.
+fn hold_and_pass<N: Named + Send + Sync, R: Threads + Wait + Clock + Sync>(
+    rt: &R,
+    cluster: &Cluster<'_, N, SimDisk>,
+    one: HostSeat<N>,
+    other: HostSeat<N>,
+) -> (Waited<N>, Waited<N>) {
+    let held = AtomicBool::new(false);
+    let done = AtomicBool::new(false);
+    let (is_held, is_done) = (&held, &done);
+    join(
+        rt,
+        move || hold(rt, cluster, is_held, is_done, one),
+        move || pass(rt, cluster, is_held, is_done, other),
+    )
+}
+
+// What the two came to.
+#[derive(Drop)]
+struct Passed {
+    first: Option<Receipt>,
+    second: Option<Receipt>,
+    late: bool,
+}
+
+// The same of hosts 0 and 1, and their seats.
+fn seats_that_pass<N: Named + Send + Sync, R: Threads + Wait + Clock + Sync>(
+    rt: &R,
+    alloc: Global,
+    cluster: &Cluster<'_, N, SimDisk>,
+) -> Option<(Passed, Vec<HostSeat<N>>)> {
+    let one = seat_of(rt, alloc, cluster, 0)?;
+    let other = seat_of(rt, alloc, cluster, 1)?;
+    let (one, other) = hold_and_pass(rt, cluster, one, other);
+    let passed = Passed {
+        first: one.receipt,
+        second: other.receipt,
+        late: one.late || other.late,
+    };
+    Some((passed, seats_of(alloc, one.seat, other.seat)?))
+}
+
 #[derive(Drop)]
 struct Held {
     first: Option<Receipt>,
@@ -111,7 +219,24 @@ struct Held {
     same: bool,
 }
 
-// One host is held within its command until another's is acknowledged.
+// The same, how many entries there are, and whether the cluster comes out the same.
+fn held_in<N: Named + Send + Sync, R: Threads + Wait + Clock + Sync>(
+    rt: &R,
+    alloc: Global,
+    config: Config,
+    cluster: Cluster<'_, N, SimDisk>,
+) -> Option<Held> {
+    let (passed, seats) = seats_that_pass(rt, alloc, &cluster)?;
+    let left = left_by(alloc, config, cluster, seats)?;
+    Some(Held {
+        first: passed.first,
+        second: passed.second,
+        late: passed.late,
+        entries: left.entries.len(),
+        same: left.same,
+    })
+}
+
 fn one_host_held<N: Named + Send + Sync, R: Threads + Wait + Clock + Sync>(
     rt: &R,
     alloc: Global,
@@ -122,42 +247,7 @@ fn one_host_held<N: Named + Send + Sync, R: Threads + Wait + Clock + Sync>(
     let config = opening.config();
     let (ties, foundation) = opening.named::<N>(alloc).ok()?;
     let cluster = Cluster::simulated(alloc, &ties, foundation).ok()?;
-    let mut one = seat_of(rt, alloc, &cluster, 0)?;
-    let mut other = seat_of(rt, alloc, &cluster, 1)?;
-    let held = AtomicBool::new(false);
-    let done = AtomicBool::new(false);
-    let (shared, is_held, is_done) = (&cluster, &held, &done);
-    let (a, b) = join(
-        rt,
-        move || {
-            let mut gate = Holds {
-                rt,
-                held: is_held,
-                done: is_done,
-                late: false,
-            };
-            let receipt = submitted(rt, shared, &mut one, &mut gate, 1, 2);
-            (one, receipt.ok(), gate.late)
-        },
-        move || {
-            let begun = is_set(rt, is_held);
-            let receipt = submitted(rt, shared, &mut other, &mut OpenGate, 2, 1);
-            is_done.store(true, Ordering::SeqCst);
-            (other, receipt.ok(), begun)
-        },
-    );
-    let mut seats = Vec::new(alloc);
-    let late = a.2 || !b.2;
-    seats.push(a.0).ok()?;
-    seats.push(b.0).ok()?;
-    let record = cluster.finish(seats).ok()?;
-    Some(Held {
-        first: a.1?,
-        second: b.1?,
-        late,
-        entries: record.entries.len(),
-        same: audit(alloc, config, &record, &[0]).ok()?,
-    })
+    held_in(rt, alloc, config, cluster)
 }
 
 #[test]
@@ -215,6 +305,33 @@ fn serve_both<N: Named + Send + Sync, R: Threads + Wait + Clock + Sync>(
     )
 }
 
+// How many of hosts 0 and 1 were acknowledged, and their seats.
+fn seats_that_meet<N: Named + Send + Sync, R: Threads + Wait + Clock + Sync>(
+    rt: &R,
+    alloc: Global,
+    cluster: &Cluster<'_, N, PairDisk<'_, R>>,
+    begun: &AtomicBool,
+) -> Option<(usize, Vec<HostSeat<N>>)> {
+    let one = seat_of(rt, alloc, cluster, 0)?;
+    let other = seat_of(rt, alloc, cluster, 1)?;
+    let (one, other) = serve_both(rt, cluster, begun, one, other);
+    let acks = usize::from(one.receipt.is_some()) + usize::from(other.receipt.is_some());
+    Some((acks, seats_of(alloc, one.seat, other.seat)?))
+}
+
+// The same, and whether the cluster comes out the same.
+fn met_in<N: Named + Send + Sync, R: Threads + Wait + Clock + Sync>(
+    rt: &R,
+    alloc: Global,
+    config: Config,
+    cluster: Cluster<'_, N, PairDisk<'_, R>>,
+    begun: &AtomicBool,
+) -> Option<(usize, bool)> {
+    let (acks, seats) = seats_that_meet(rt, alloc, &cluster, begun)?;
+    let left = left_by(alloc, config, cluster, seats)?;
+    Some((acks, left.same))
+}
+
 #[derive(Drop)]
 struct Met {
     acks: usize,
@@ -233,23 +350,16 @@ fn two_hosts_met<N: Named + Send + Sync, R: Threads + Wait + Clock + Sync>(
     requires two { opening.shape.disks ≡ 2 }
 {
     let config = opening.config();
-    let (ties, foundation) = opening.named::<N>(alloc).ok()?;
     let flags = Flags::new();
+    let (ties, foundation) = opening.named::<N>(alloc).ok()?;
     let disks = pair(rt, alloc, config, &flags).ok()?;
     let cluster = Cluster::new(alloc, disks, &ties, foundation).ok()?;
-    let one = seat_of(rt, alloc, &cluster, 0)?;
-    let other = seat_of(rt, alloc, &cluster, 1)?;
-    let (one, other) = serve_both(rt, &cluster, &flags.begun, one, other);
-    let acks = usize::from(one.receipt.is_some()) + usize::from(other.receipt.is_some());
-    let mut seats = Vec::new(alloc);
-    seats.push(one.seat).ok()?;
-    seats.push(other.seat).ok()?;
-    let record = cluster.finish(seats).ok()?;
+    let (acks, same) = met_in(rt, alloc, config, cluster, &flags.begun)?;
     Some(Met {
         acks,
         begun: flags.begun.load(Ordering::SeqCst),
         late: flags.late.load(Ordering::SeqCst),
-        same: audit(alloc, config, &record, &[0]).ok()?,
+        same,
     })
 }
 
@@ -303,47 +413,104 @@ fn lose<N: Named>(
     Ok(())
 }
 
+// What a submission came to within which a disk crashed, how that was refused, and how a recovery was.
 #[derive(Drop)]
-struct Harmed {
-    receipt: Receipt,
+struct Harm {
+    receipt: Option<Receipt>,
     fault: Option<HostFault>,
     refused: Option<HostFault>,
-    entries: Vec<Entry>,
-    same: bool,
+}
+
+// How a recovery is refused, where the host is idle.
+fn recovery_refused<N: Named>(
+    rt: &impl Wait,
+    cluster: &Cluster<'_, N, SimDisk>,
+    seat: &mut HostSeat<N>,
+) -> Option<HostFault> {
+    if !seat.idle() {
+        return None;
+    }
+    cluster.recover(rt, seat, &mut OpenGate, 1).err()
 }
 
 // A disk crashes within a submission; then two disks are lost, and a recovery is tried.
+fn do_harm<N: Named, R: Wait>(
+    rt: &R,
+    cluster: &Cluster<'_, N, SimDisk>,
+    seat: &mut HostSeat<N>,
+) -> Harm {
+    let mut gate = Crashes {
+        rt,
+        cluster,
+        fault: None,
+    };
+    let receipt = submitted(rt, cluster, seat, &mut gate, 1, 1);
+    let fault = gate.fault;
+    let _first = lose(rt, cluster, 0);
+    let _second = lose(rt, cluster, 1);
+    Harm {
+        receipt: receipt.ok().flatten(),
+        fault,
+        refused: recovery_refused(rt, cluster, seat),
+    }
+}
+
+// The same of host 0, and its seat.
+fn seat_in_harm<N: Named, R: Wait>(
+    rt: &R,
+    alloc: Global,
+    cluster: &Cluster<'_, N, SimDisk>,
+) -> Option<(Harm, Vec<HostSeat<N>>)> {
+    let mut seat = seat_of(rt, alloc, cluster, 0)?;
+    let harm = do_harm(rt, cluster, &mut seat);
+    Some((harm, vec![in alloc; seat].ok()?))
+}
+
+#[derive(Drop)]
+struct Harmed {
+    receipt: Option<Receipt>,
+    fault: Option<HostFault>,
+    refused: Option<HostFault>,
+    entries: usize,
+    shown: [bool; 3],
+    same: bool,
+}
+
+// Whether the journal shows the crash and the two losses at their places.
+fn faults_shown(entries: &[Entry]) -> [bool; 3] {
+    [
+        matches!(entries.get(16), Some(Entry::DiskCrash(0))),
+        matches!(entries.get(46), Some(Entry::DiskGone(0))),
+        matches!(entries.get(47), Some(Entry::DiskGone(1))),
+    ]
+}
+
+// The same, and what the cluster leaves.
+fn harmed_in<N: Named, R: Wait>(
+    rt: &R,
+    alloc: Global,
+    config: Config,
+    cluster: Cluster<'_, N, SimDisk>,
+) -> Option<Harmed> {
+    let (harm, seats) = seat_in_harm(rt, alloc, &cluster)?;
+    let left = left_by(alloc, config, cluster, seats)?;
+    Some(Harmed {
+        receipt: harm.receipt,
+        fault: harm.fault,
+        refused: harm.refused,
+        entries: left.entries.len(),
+        shown: faults_shown(&left.entries),
+        same: left.same,
+    })
+}
+
 fn harm_read_back<N: Named, R: Wait>(rt: &R, alloc: Global, opening: Opening) -> Option<Harmed>
     requires { IsNamed opening N.shape N.table N.name N.parts N.all }
 {
     let config = opening.config();
     let (ties, foundation) = opening.named::<N>(alloc).ok()?;
     let cluster = Cluster::simulated(alloc, &ties, foundation).ok()?;
-    let mut seat = seat_of(rt, alloc, &cluster, 0)?;
-    let mut gate = Crashes {
-        rt,
-        cluster: &cluster,
-        fault: None,
-    };
-    let receipt = submitted(rt, &cluster, &mut seat, &mut gate, 1, 1).ok()??;
-    let fault = gate.fault;
-    lose(rt, &cluster, 0).ok()?;
-    lose(rt, &cluster, 1).ok()?;
-    if !seat.idle() {
-        return None;
-    }
-    let refused = cluster.recover(rt, &mut seat, &mut OpenGate, 1).err();
-    let mut seats = Vec::new(alloc);
-    seats.push(seat).ok()?;
-    let record = cluster.finish(seats).ok()?;
-    let same = audit(alloc, config, &record, &[0]).ok()?;
-    Some(Harmed {
-        receipt,
-        fault,
-        refused,
-        entries: record.entries,
-        same,
-    })
+    harmed_in(rt, alloc, config, cluster)
 }
 
 #[test]
@@ -352,7 +519,7 @@ fn faults_read_back(rt: HostRuntime) -> Result<(), Fail> {
     let opening = Opening::new(rt.alloc(), config)?;
     let harmed = harm_read_back::<Brand, HostRuntime>(&rt, rt.alloc(), opening).ok_or("a record")?;
     assert!(rt; harmed.fault.is_none());
-    let receipt = harmed.receipt;
+    let receipt = harmed.receipt.ok_or("a receipt")?;
     assert_eq!(rt;
         (receipt.slot, receipt.reply.answer, receipt.place),
         (0, Answer::Granted, 45)
@@ -361,10 +528,8 @@ fn faults_read_back(rt: HostRuntime) -> Result<(), Fail> {
         harmed.refused,
         Some(HostFault::Refused(Refusal::NoMajority))
     );
-    assert_eq!(rt; harmed.entries.len(), 51);
-    assert!(rt; matches!(harmed.entries[16], Entry::DiskCrash(0)));
-    assert!(rt; matches!(harmed.entries[46], Entry::DiskGone(0)));
-    assert!(rt; matches!(harmed.entries[47], Entry::DiskGone(1)));
+    assert_eq!(rt; harmed.entries, 51);
+    assert_eq!(rt; harmed.shown, [true; 3]);
     assert!(rt; harmed.same);
     Ok(())
 }
@@ -396,8 +561,7 @@ fn finish_refused<N: Named>(
     cluster: Cluster<'_, N, SimDisk>,
     seat: HostSeat<N>,
 ) -> Option<HostFault> {
-    let mut seats = Vec::new(alloc);
-    seats.push(seat).ok()?;
+    let seats = vec![in alloc; seat].ok()?;
     cluster.finish(seats).err()
 }
 
@@ -469,6 +633,33 @@ fn suggested_in_turn<N: Named>(
     Some(suggested)
 }
 
+// The same of hosts 5 and 3, and their seats.
+fn seats_that_beat<N: Named>(
+    rt: &impl Wait,
+    alloc: Global,
+    cluster: &Cluster<'_, N, SimDisk>,
+) -> Option<(Option<Vec<u8>>, Vec<HostSeat<N>>)> {
+    let mut one = seat_of(rt, alloc, cluster, 3)?;
+    let mut other = seat_of(rt, alloc, cluster, 5)?;
+    let suggested = suggested_in_turn(rt, alloc, cluster, &mut other, &mut one);
+    Some((suggested, seats_of(alloc, one, other)?))
+}
+
+// The same, and whether the cluster comes out the same.
+fn beaten_in<N: Named>(
+    rt: &impl Wait,
+    alloc: Global,
+    config: Config,
+    cluster: Cluster<'_, N, SimDisk>,
+) -> Option<Beaten> {
+    let (suggested, seats) = seats_that_beat(rt, alloc, &cluster)?;
+    let left = left_by(alloc, config, cluster, seats)?;
+    Some(Beaten {
+        suggested: suggested?,
+        same: left.same,
+    })
+}
+
 // Two hosts beat in turn, twice each.
 fn beats_in_turn<N: Named, R: Wait>(rt: &R, alloc: Global, opening: Opening) -> Option<Beaten>
     requires { IsNamed opening N.shape N.table N.name N.parts N.all }
@@ -476,11 +667,7 @@ fn beats_in_turn<N: Named, R: Wait>(rt: &R, alloc: Global, opening: Opening) -> 
     let config = opening.config();
     let (ties, foundation) = opening.named::<N>(alloc).ok()?;
     let cluster = Cluster::simulated(alloc, &ties, foundation).ok()?;
-    let mut one = seat_of(rt, alloc, &cluster, 3)?;
-    let mut other = seat_of(rt, alloc, &cluster, 5)?;
-    let suggested = suggested_in_turn(rt, alloc, &cluster, &mut other, &mut one)?;
-    let same = comes_out_the_same(alloc, config, cluster, one, other)?;
-    Some(Beaten { suggested, same })
+    beaten_in(rt, alloc, config, cluster)
 }
 
 // A first beat suggests its own host, a later one the least that has beaten since.
@@ -510,16 +697,28 @@ fn works<N: Named, R: Wait + Clock>(
     rounds: u16,
 ) -> Option<HostSeat<N>> {
     let mut seat = cluster.seat(rt, alloc, host).ok()?;
+    take_turns(rt, alloc, cluster, &mut seat, rounds)?;
+    Some(seat)
+}
+
+// The same, by its seat.
+fn take_turns<N: Named, R: Wait + Clock>(
+    rt: &R,
+    alloc: Global,
+    cluster: &Cluster<'_, N, SimDisk>,
+    seat: &mut HostSeat<N>,
+    rounds: u16,
+) -> Option<()> {
     for round in 0..rounds {
-        take_turn(rt, cluster, &mut seat, round + 1)?;
+        take_turn(rt, cluster, seat, round + 1)?;
         if round % 4 == 1 {
-            beat_if_idle(rt, cluster, &mut seat)?;
+            beat_if_idle(rt, cluster, seat)?;
         }
         if round == 3 || round == 9 {
-            start_anew(rt, alloc, cluster, &mut seat)?;
+            start_anew(rt, alloc, cluster, seat)?;
         }
     }
-    Some(seat)
+    Some(())
 }
 
 // Submits the command of this round, and marks its slot in every third. Whoever is outrun lets the others go on for a while.
@@ -662,6 +861,82 @@ fn harms<N: Named, R: Wait + Clock>(rt: &R, cluster: &Cluster<'_, N, SimDisk>) -
 // How many hosts crowd the disks.
 const CROWD: usize = 8;
 
+// The seats of eight hosts that work, with a thread that does harm to the disks.
+fn seats_that_work<N: Named + Send + Sync, R: Threads + Wait + Clock + Sync>(
+    rt: &R,
+    alloc: Global,
+    cluster: &Cluster<'_, N, SimDisk>,
+    rounds: u16,
+) -> Option<Vec<Option<HostSeat<N>>>> {
+    map_indices(
+        rt,
+        alloc,
+        CROWD + 1,
+        &|i: usize| -> Option<HostSeat<N>> {
+            if i == CROWD {
+                let _ = harms(rt, cluster);
+                return None;
+            }
+            let host = u8::try_from(i).ok().and_then(HostNumber::new)?;
+            works(rt, alloc, cluster, host, rounds)
+        },
+    )
+    .ok()
+}
+
+// The seats that there are.
+fn seats_among<N: Named>(
+    alloc: Global,
+    left: Vec<Option<HostSeat<N>>>,
+) -> Option<Vec<HostSeat<N>>> {
+    let mut seats = Vec::new(alloc);
+    for seat in left {
+        if let Some(seat) = seat {
+            seats.push(seat).ok()?;
+        }
+    }
+    Some(seats)
+}
+
+// How many receipts the seats have.
+fn acks_of<N: Named>(seats: &[HostSeat<N>]) -> usize {
+    let mut acks: usize = 0;
+    for seat in seats {
+        acks = seat.acks().len().saturating_add(acks);
+    }
+    acks
+}
+
+// How many entries are a crash or a loss of a disk.
+fn harm_in(entries: &[Entry]) -> usize {
+    let mut harm: usize = 0;
+    for entry in entries {
+        if matches!(entry, Entry::DiskCrash(_) | Entry::DiskGone(_)) {
+            harm = harm.saturating_add(1);
+        }
+    }
+    harm
+}
+
+// What eight hosts come to, over the cluster.
+fn crowd_in<N: Named + Send + Sync, R: Threads + Wait + Clock + Sync>(
+    rt: &R,
+    alloc: Global,
+    config: Config,
+    cluster: Cluster<'_, N, SimDisk>,
+    rounds: u16,
+) -> Option<Crowd> {
+    let left = seats_that_work(rt, alloc, &cluster, rounds)?;
+    let seats = seats_among(alloc, left)?;
+    let acks = acks_of(&seats);
+    let left = left_by(alloc, config, cluster, seats)?;
+    Some(Crowd {
+        acks,
+        same: left.same,
+        harm: harm_in(&left.entries),
+    })
+}
+
 // Eight hosts over five disks, with a thread that does harm to the disks.
 fn crowded<N: Named + Send + Sync, R: Threads + Wait + Clock + Sync>(
     rt: &R,
@@ -674,41 +949,7 @@ fn crowded<N: Named + Send + Sync, R: Threads + Wait + Clock + Sync>(
     let config = opening.config();
     let (ties, foundation) = opening.named::<N>(alloc).ok()?;
     let cluster = Cluster::simulated(alloc, &ties, foundation).ok()?;
-    let shared = &cluster;
-    let left = map_indices(
-        rt,
-        alloc,
-        CROWD + 1,
-        &|i: usize| -> Option<HostSeat<N>> {
-            if i == CROWD {
-                let _ = harms(rt, shared);
-                return None;
-            }
-            let host = u8::try_from(i).ok().and_then(HostNumber::new)?;
-            works(rt, alloc, shared, host, rounds)
-        },
-    )
-    .ok()?;
-    let mut seats = Vec::new(alloc);
-    let mut acks: usize = 0;
-    for seat in left {
-        if let Some(seat) = seat {
-            acks = seat.acks().len().saturating_add(acks);
-            seats.push(seat).ok()?;
-        }
-    }
-    let record = cluster.finish(seats).ok()?;
-    let mut harm: usize = 0;
-    for entry in &record.entries {
-        if matches!(entry, Entry::DiskCrash(_) | Entry::DiskGone(_)) {
-            harm = harm.saturating_add(1);
-        }
-    }
-    Some(Crowd {
-        acks,
-        same: audit(alloc, config, &record, &[0]).ok()?,
-        harm,
-    })
+    crowd_in(rt, alloc, config, cluster, rounds)
 }
 
 #[test]
