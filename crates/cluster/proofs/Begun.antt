@@ -5,19 +5,19 @@ use Rattle.std.proofs.lemmas.Bool.{ltb-true}
 use Rattle.std.proofs.lemmas.Bool.Decides.{nat_tests}
 use Rattle.std.proofs.lemmas.List.{append-nil}
 use Rattle.lock_command.specs.declared.command.Command.{Command}
-use Rattle.lock_command.specs.Command.{Fits as FitsCommand}
 use Rattle.torn_block.specs.declared.layout.TheConstants.{HOSTS}
 use Rattle.slot_log.specs.Shape.{Shape}
 use Rattle.host.specs.declared.answer.HostAnswer.{HostAnswer}
-use Rattle.host.specs.Host.{Host, Running, fresh, Operation, Memory, Doing, goes_on, begins, says, full_answer, starts_beat, with_marking, starts_marking, is_idle, is_idle_in, idles, is_stopped, said_of}
+use Rattle.host.specs.Host.{Host, Running, fresh, Operation, Memory, Doing, goes_on, begins, says, full_answer, with_marking, starts_marking, is_idle, is_idle_in, idles, is_stopped, said_of}
 use Rattle.host.specs.Kept.{Kept, LeadsTo}
 use Rattle.slot_log.specs.declared.outcome.Refusal.TheVariants as refusal
 use Rattle.host.specs.declared.answer.HostAnswer.TheVariants.{Refused}
 use Rattle.world.specs.Entry.{Filled, Start, Stop, Submit, Recover, Look, Beat, Mark, host_step, is_of}
-use Rattle.world.specs.World.{IsRun}
+use Rattle.world.specs.World.{world, IsRun}
+use Rattle.world.specs.declared.entry.Entry.{Entry}
+use Rattle.world.specs.declared.entry.Entry.TheVariants as kept
 use Rattle.world.proofs.Runs as runs
 use Rattle.world.proofs.Projections.{host_here}
-use Rattle.world.proofs.Follow.{command_reads_back}
 use Rattle.cluster_tie.specs.Parts.{Own, own_of, adds, of_host}
 use Rattle.cluster.specs.declared.receipt.Receipt.{Receipt}
 use Rattle.cluster.specs.Receipts.{still, receipt_by, receipts_at, receipts_of}
@@ -27,7 +27,7 @@ use Rattle.cluster.proofs.Operating.{idle_rests}
 use Rattle.cluster.proofs.Parts.{host_is}
 
 -- neither a beat nor a marking is under way
-abbrev Rests : Memory → Type 0
+abbrev pub Rests : Memory → Type 0
 Rests m = (m.beats.heard ≡ None) × (m.marking ≡ None)
 
 -- so none has to keep quiet
@@ -39,125 +39,83 @@ kept_if : (c : Shape) (m : Memory) → Rests m → (operation : Operation) (trie
 kept_if c m rest operation tries sub kept true is = (ltb-true (length m.learned) c.slots is, kept, refl, rest.0, rest.1)
 kept_if c m rest operation tries sub kept false is = quiet (says m (full_answer operation (length m.learned))) rest
 
-kept_on : (c : Shape) (m : Memory) → Rests m → (operation : Operation) (tries : ℕ) (sub : Option Command) → IsKeptFor operation sub → let new = goes_on c m operation tries in IsDoing c new new.doing sub
-kept_on c m rest operation tries sub kept = kept_if c m rest operation tries sub kept (nat_lt (length m.learned) c.slots) refl
+pub kept_on : (c : Shape) (operation : Operation) (tries : ℕ) (sub : Option Command) → IsKeptFor operation sub → (m : Memory) → Rests m → let new = goes_on c m operation tries in IsDoing c new new.doing sub
+kept_on c operation tries sub kept m rest = kept_if c m rest operation tries sub kept (nat_lt (length m.learned) c.slots) refl
 
 same_if : (m first other : Memory) (b : Bool) → first.learned ≡ m.learned → other.learned ≡ m.learned → (if b then first else other).learned ≡ m.learned
 same_if m first other true is_first is_other = is_first
 same_if m first other false is_first is_other = is_other
 
 -- no command is learned
-learned_same : (c : Shape) (m : Memory) (operation : Operation) (tries : ℕ) → (goes_on c m operation tries).learned ≡ m.learned
-learned_same c m operation tries = same_if m (begins m operation tries) (says m (full_answer operation (length m.learned))) (nat_lt (length m.learned) c.slots) refl refl
+pub learned_same : (c : Shape) (operation : Operation) (tries : ℕ) (m : Memory) → (goes_on c m operation tries).learned ≡ m.learned
+learned_same c operation tries m = same_if m (begins m operation tries) (says m (full_answer operation (length m.learned))) (nat_lt (length m.learned) c.slots) refl refl
 
 none_by : (h place : ℕ) (m : Memory) (o : Option Doing) (said : Option HostAnswer) → is_idle_in m o ≡ true → receipt_by h place o said ≡ []
 none_by h place m None said idle = refl
 none_by h place m (Some t) said idle = absurd (cc idle)
 
-module _ (c : Shape) (own : Own) (core new : Kept) (before sub : Option Command) (at tries : ℕ) (operation : Operation) (e : Filled)
-    (step : (m : Memory) → host_step c own.number (Running m) e ≡ Running (goes_on c m operation tries))
+-- the entry with which a host begins, as the world has it
+abbrev pub begun_by : ℕ → Entry → Filled
+begun_by h (kept.Submit g command tries) = Submit h command tries
+begun_by h (kept.Recover g tries) = Recover h tries
+begun_by h (kept.Look g) = Look h
+begun_by h (kept.Beat g) = Beat h
+begun_by h (kept.Mark g slot) = Mark h slot
+begun_by h other = Stop h
+
+-- what a seat keeps behind it
+pub record Begins (c : Shape) (old new : Own) (core after : Kept) (sub : Option Command) : Type 0 where
+  pub running : IsRunning c new after sub
+  pub acks : receipts_of c old ≡ receipts_of c new
+  pub few : (acks : ℕ) → acks ≤ length core.prefix → acks ≤ length after.prefix
+
+module _ (c : Shape) (own : Own) (core after : Kept) (before sub : Option Command) (at : ℕ) (e : Filled) (goes : Memory → Memory)
+    (step : (m : Memory) → host_step c own.number (Running m) e ≡ Running (goes m))
     (others : (xs : List Receipt) → still xs e ≡ xs)
-    (kept : IsKeptFor operation sub)
+    (learns : (m : Memory) → (goes m).learned ≡ m.learned)
+    (does : (m : Memory) → Rests m → IsDoing c (goes m) (goes m).doing sub)
     (r : IsRunning c own core before)
-    (idle : is_idle r.memory ≡ true)
-    (next : (c : Shape) (h : ℕ) (m : Memory) → LeadsTo c h m core → LeadsTo c h (goes_on c m operation tries) new) where
-  is_begun : host_in c (adds own at e) ≡ Running (goes_on c r.memory operation tries)
+    (idle : idles (host_in c own) ≡ true)
+    (next : (m : Memory) → LeadsTo c own.number m core → LeadsTo c own.number (goes m) after) where
+  idle_in : is_idle r.memory ≡ true
+  idle_in = sym (ap idles r.is) ∙ idle
+
+  is_begun : host_in c (adds own at e) ≡ Running (goes r.memory)
   is_begun = host_adds c own at e ∙ ap (λ (s : Host). host_step c own.number s e) r.is ∙ step r.memory
 
-  pub begun : IsRunning c (adds own at e) new sub
-  begun = record { memory = goes_on c r.memory operation tries; is = is_begun; leads = next c own.number r.memory r.leads; doing = kept_on c r.memory (idle_rests r.memory idle) operation tries sub kept }
-
   none_at : receipts_at c own.number (host_in c own) at e ≡ []
-  none_at = ap (λ (s : Host). receipts_at c own.number s at e) r.is ∙ none_by own.number at r.memory r.memory.doing (said_of (host_step c own.number (Running r.memory) e)) idle
+  none_at = ap (λ (s : Host). receipts_at c own.number s at e) r.is ∙ none_by own.number at r.memory r.memory.doing (said_of (host_step c own.number (Running r.memory) e)) idle_in
 
-  pub none_more : receipts_of c own ≡ receipts_of c (adds own at e)
-  none_more = sym (receipts_adds c own at e ∙ (λ i. others (receipts_of c own) i ++ none_at i) ∙ append-nil (receipts_of c own))
-
-  pub as_many : (acks : ℕ) → acks ≤ length core.prefix → acks ≤ length new.prefix
-  as_many acks less =
-      let was = ap (λ (l : List Command). length l) r.leads.prefix in
-      let now = ap (λ (l : List Command). length l) (next c own.number r.memory r.leads).prefix in
-      let same = ap (λ (l : List Command). length l) (learned_same c r.memory operation tries) in
-      omega (arith, less, was, now, same)
-
--- A BEAT BEGINS
-
-module _ (c : Shape) (own : Own) (core new : Kept) (sub : Option Command) (at : ℕ) (r : IsRunning c own core sub) (idle : is_idle r.memory ≡ true)
-    (next : (c : Shape) (h : ℕ) (m : Memory) → LeadsTo c h m core → LeadsTo c h (starts_beat m) new) where
-  abbrev beat_entry : Filled
-  beat_entry = Beat own.number
-
-  pub beat_begun : IsRunning c (adds own at beat_entry) new sub
-  beat_begun = record { memory = starts_beat r.memory; is = host_adds c own at beat_entry ∙ ap (λ (s : Host). host_step c own.number s beat_entry) r.is; leads = next c own.number r.memory r.leads; doing = (refl, (idle_rests r.memory idle).1) }
-
-  none_with : receipts_at c own.number (host_in c own) at beat_entry ≡ []
-  none_with = ap (λ (s : Host). receipts_at c own.number s at beat_entry) r.is ∙ none_by own.number at r.memory r.memory.doing (said_of (host_step c own.number (Running r.memory) beat_entry)) idle
-
-  pub none_beaten : receipts_of c own ≡ receipts_of c (adds own at beat_entry)
-  none_beaten = sym (receipts_adds c own at beat_entry ∙ ap (λ (l : List Receipt). receipts_of c own ++ l) none_with ∙ append-nil (receipts_of c own))
-
-  pub as_many_beaten : (acks : ℕ) → acks ≤ length core.prefix → acks ≤ length new.prefix
-  as_many_beaten acks less =
-      let was = ap (λ (l : List Command). length l) r.leads.prefix in
-      let now = ap (λ (l : List Command). length l) (next c own.number r.memory r.leads).prefix in
-      omega (arith, less, was, now)
+  pub begun : Begins c own (adds own at e) core after sub
+  begun = record {
+    running = record { memory = goes r.memory; is = is_begun; leads = next r.memory r.leads; doing = does r.memory (idle_rests r.memory idle_in) };
+    acks = sym (receipts_adds c own at e ∙ (λ i. others (receipts_of c own) i ++ none_at i) ∙ append-nil (receipts_of c own));
+    few = λ acks less.
+        let was = ap (λ (l : List Command). length l) r.leads.prefix in
+        let now = ap (λ (l : List Command). length l) (next r.memory r.leads).prefix in
+        let same = ap (λ (l : List Command). length l) (learns r.memory) in
+        omega (arith, less, was, now, same);
+  }
 
 -- A MARKING BEGINS
 
-marking_kept : (c : Shape) (m : Memory) → Rests m → (slot : ℕ) (sub : Option Command) (b : Bool) → let new = if b then with_marking m (Some (record { slot = slot; heard = [] })) None else with_marking m m.marking (Some (Refused refusal.NotLearned)) in IsDoing c new new.doing sub
-marking_kept c m rest slot sub true = subst (IsSilentInBeat (with_marking m (Some (record { slot = slot; heard = [] })) None)) (sym rest.0) refl
-marking_kept c m rest slot sub false = quiet (with_marking m m.marking (Some (Refused refusal.NotLearned))) rest
+pub marking_kept : (c : Shape) (slot : ℕ) (sub : Option Command) (m : Memory) → Rests m → let new = starts_marking m slot in IsDoing c new new.doing sub
+marking_kept c slot sub m rest = go (nat_lt slot (length m.learned))
+  where
+    go : (b : Bool) → let new = if b then with_marking m (Some (record { slot = slot; heard = [] })) None else with_marking m m.marking (Some (Refused refusal.NotLearned)) in IsDoing c new new.doing sub
+    go true = subst (IsSilentInBeat (with_marking m (Some (record { slot = slot; heard = [] })) None)) (sym rest.0) refl
+    go false = quiet (with_marking m m.marking (Some (Refused refusal.NotLearned))) rest
 
-marking_learns : (m : Memory) (slot : ℕ) → (starts_marking m slot).learned ≡ m.learned
-marking_learns m slot = same_if m (with_marking m (Some (record { slot = slot; heard = [] })) None) (with_marking m m.marking (Some (Refused refusal.NotLearned))) (nat_lt slot (length m.learned)) refl refl
-
-module _ (c : Shape) (own : Own) (core new : Kept) (sub : Option Command) (at slot : ℕ) (r : IsRunning c own core sub) (idle : is_idle r.memory ≡ true)
-    (next : (c : Shape) (h : ℕ) (m : Memory) → LeadsTo c h m core → LeadsTo c h (starts_marking m slot) new) where
-  abbrev mark_entry : Filled
-  mark_entry = Mark own.number slot
-
-  pub marking_begun : IsRunning c (adds own at mark_entry) new sub
-  marking_begun = record {
-    memory = starts_marking r.memory slot;
-    is = host_adds c own at mark_entry ∙ ap (λ (s : Host). host_step c own.number s mark_entry) r.is;
-    leads = next c own.number r.memory r.leads;
-    doing = marking_kept c r.memory (idle_rests r.memory idle) slot sub (nat_lt slot (length r.memory.learned));
-  }
-
-  none_beside : receipts_at c own.number (host_in c own) at mark_entry ≡ []
-  none_beside = ap (λ (s : Host). receipts_at c own.number s at mark_entry) r.is ∙ none_by own.number at r.memory r.memory.doing (said_of (host_step c own.number (Running r.memory) mark_entry)) idle
-
-  pub none_marked : receipts_of c own ≡ receipts_of c (adds own at mark_entry)
-  none_marked = sym (receipts_adds c own at mark_entry ∙ ap (λ (l : List Receipt). receipts_of c own ++ l) none_beside ∙ append-nil (receipts_of c own))
-
-  pub as_many_marked : (acks : ℕ) → acks ≤ length core.prefix → acks ≤ length new.prefix
-  as_many_marked acks less =
-      let was = ap (λ (l : List Command). length l) r.leads.prefix in
-      let now = ap (λ (l : List Command). length l) (next c own.number r.memory r.leads).prefix in
-      let same = ap (λ (l : List Command). length l) (marking_learns r.memory slot) in
-      omega (arith, less, was, now, same)
+pub marking_learns : (slot : ℕ) (m : Memory) → (starts_marking m slot).learned ≡ m.learned
+marking_learns slot m = same_if m (with_marking m (Some (record { slot = slot; heard = [] })) None) (with_marking m m.marking (Some (Refused refusal.NotLearned))) (nat_lt slot (length m.learned)) refl refl
 
 -- RUNS
 
--- a run goes on by a submission
-pub submits : (c : Shape) (log : List Filled) (seat : Own) (command : Command) (tries : ℕ) → IsRun c log → seat.entries ≡ of_host seat.number log → idles (host_in c seat) ≡ true → FitsCommand command → command.host ≡ seat.number → 1 ≤ tries → IsRun c (log ++ Submit seat.number command tries ∷ [])
-submits c log seat command tries run of_seat idle fits is_host tried =
-    runs.more c log (Submit seat.number command tries) run (ap idles (host_is c log seat of_seat) ∙ idle, command_reads_back command fits, is_host, omega (arith, tried))
+-- a host that is idle by its own entries is so in the world
+pub idle_there : (c : Shape) (log : List Filled) (seat : Own) → idles (host_in c seat) ≡ true → seat.entries ≡ of_host seat.number log → idles ((world c log).host seat.number) ≡ true
+idle_there c log seat idle of_seat = ap idles (host_is c log seat of_seat) ∙ idle
 
-pub recovers : (c : Shape) (log : List Filled) (seat : Own) (tries : ℕ) → IsRun c log → seat.entries ≡ of_host seat.number log → idles (host_in c seat) ≡ true → 1 ≤ tries → IsRun c (log ++ Recover seat.number tries ∷ [])
-recovers c log seat tries run of_seat idle tried =
-    runs.more c log (Recover seat.number tries) run (ap idles (host_is c log seat of_seat) ∙ idle, omega (arith, tried))
-
-pub looks : (c : Shape) (log : List Filled) (seat : Own) → IsRun c log → seat.entries ≡ of_host seat.number log → idles (host_in c seat) ≡ true → IsRun c (log ++ Look seat.number ∷ [])
-looks c log seat run of_seat idle = runs.more c log (Look seat.number) run (ap idles (host_is c log seat of_seat) ∙ idle)
-
-pub beats : (c : Shape) (log : List Filled) (seat : Own) → IsRun c log → seat.entries ≡ of_host seat.number log → idles (host_in c seat) ≡ true → IsRun c (log ++ Beat seat.number ∷ [])
-beats c log seat run of_seat idle = runs.more c log (Beat seat.number) run (ap idles (host_is c log seat of_seat) ∙ idle)
-
-pub marks : (c : Shape) (log : List Filled) (seat : Own) (slot : ℕ) → IsRun c log → seat.entries ≡ of_host seat.number log → idles (host_in c seat) ≡ true → slot < c.slots → IsRun c (log ++ Mark seat.number slot ∷ [])
-marks c log seat slot run of_seat idle inside = runs.more c log (Mark seat.number slot) run (ap idles (host_is c log seat of_seat) ∙ idle, inside)
-
--- and by the start of a host that has no entry
+-- a run goes on by the start of a host that has no entry
 pub starts : (c : Shape) (log : List Filled) (h : ℕ) → IsRun c log → [] ≡ of_host h log → h < HOSTS → IsRun c (log ++ Start h ∷ [])
 starts c log h run none is_host =
     runs.more c log (Start h) run (is_host, ap is_stopped (host_is c log (own_of h []) none))

@@ -1,6 +1,7 @@
 pub mod Adding
 pub mod Begun
 pub mod Goes
+pub mod Harmed
 pub mod Heard
 pub mod Imaged
 pub mod Journals

@@ -45,22 +45,16 @@ calls c log seat book answer disk run of_seat of_book due fits step =
       subst (λ (d : DiskState). Step d call answer (entry.disk_step d e)) (sym (disk_is c log book of_book)) done,
     )
 
--- by a crash of a disk, which left this
-pub crashes : (c : Shape) (log : List Filled) (book : Own) (left : List ℕ) (new : DiskState)
-    → IsRun c log → book.entries ≡ on_disk book.number log → book.number < c.disks
-    → (disk_in c book).gone ≡ false → (disk_in c book).boot < 2 ^ 62
-    → Crashes (disk_in c book) new → new ≡ entry.crashed_to (disk_in c book) left
-    → IsRun c (log ++ Crashed book.number left ∷ [])
-crashes c log book left new run of_book is_disk there low step is =
-    let same = sym (disk_is c log book of_book) in
-    runs.more c log (Crashed book.number left) run
-    (subst (λ (d : DiskState). ((book.number < c.disks) × (d.gone ≡ false)) × (d.boot < 2 ^ 62) × Crashes d (entry.crashed_to d left)) same
-    ((is_disk, there), low, subst (λ (d : DiskState). Crashes (disk_in c book) d) is step))
+-- a disk that is there may crash, and leave this
+pub crashes : (c : Shape) (log : List Filled) (book : Own) (left : List ℕ) → book.number < c.disks → (disk_in c book).gone ≡ false → (disk_in c book).boot < 2 ^ 62
+    → Crashes (disk_in c book) (entry.crashed_to (disk_in c book) left) → book.entries ≡ on_disk book.number log → MayFollow c (world c log) (Crashed book.number left)
+crashes c log book left is_disk there low step of_book =
+    subst (λ (d : DiskState). ((book.number < c.disks) × (d.gone ≡ false)) × (d.boot < 2 ^ 62) × Crashes d (entry.crashed_to d left)) (sym (disk_is c log book of_book))
+    ((is_disk, there), low, step)
 
--- and by a loss
-pub loses : (c : Shape) (log : List Filled) (book : Own) → IsRun c log → book.entries ≡ on_disk book.number log → book.number < c.disks → (disk_in c book).gone ≡ false → IsRun c (log ++ Lost book.number ∷ [])
-loses c log book run of_book is_disk there =
-    runs.more c log (Lost book.number) run (is_disk, ap (λ (d : DiskState). d.gone) (disk_is c log book of_book) ∙ there)
+-- and be lost
+pub loses : (c : Shape) (log : List Filled) (book : Own) → book.number < c.disks → (disk_in c book).gone ≡ false → book.entries ≡ on_disk book.number log → MayFollow c (world c log) (Lost book.number)
+loses c log book is_disk there of_book = (is_disk, ap (λ (d : DiskState). d.gone) (disk_is c log book of_book) ∙ there)
 
 -- HOSTS THAT THERE ARE NOT
 

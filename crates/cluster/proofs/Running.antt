@@ -5,7 +5,7 @@ use Rattle.disk.specs.Disk.{Call, Answer}
 use Rattle.beats.specs.Answers.{Answered as Beaten}
 use Rattle.lock_command.specs.declared.command.Command.{Command}
 use Rattle.slot_log.specs.Shape.{Shape}
-use Rattle.host.specs.Host.{Host, Running, Memory, Doing, Marking, hears_from, rests, is_idle_in, idles, next_marking, next_beside, next_doing, next_in, next_of}
+use Rattle.host.specs.Host.{Host, Running, Memory, Doing, Marking, hears_from, rests, is_idle_in, next_marking, next_beside, next_doing, next_in, next_of}
 use Rattle.host.specs.Kept.{Kept, LeadsTo, MarkingLeadsTo, has_no_beat}
 use Rattle.host.proofs.Hosts.{rests_by, no_marking}
 use Rattle.world.specs.Entry.{Called, host_step}
@@ -29,9 +29,6 @@ due_busy c h m None due is = due_beats c h m m.beats.heard due is
 due_busy c h m (Some t) due is = refl
 
 module _ (c : Shape) (own : Own) (core : Kept) (sub : Option Command) (r : IsRunning c own core sub) where
-  pub idles_is : idles (host_in c own) ≡ is_idle_in r.memory r.memory.doing
-  idles_is = ap idles r.is
-
   pub next_is : next_of c own.number (host_in c own) ≡ next_in c own.number r.memory
   next_is = ap (next_of c own.number) r.is
 

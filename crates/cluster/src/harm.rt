@@ -1,16 +1,18 @@
-ghost use Rattle.std.specs.Prelude.{◌≡◌, ◌⊎◌, ◌-◌, ◌<◌, ◌^◌, ◌++◌, ◌∷◌, [], None, false, length, IfErr};
+ghost use Rattle.std.specs.Prelude.{◌≡◌, ◌⊎◌, ◌-◌, ◌<◌, ◌^◌, ◌++◌, ◌∷◌, [], None, Some, false, length, IfErr};
 ghost use Rattle.disk.specs.Disk.{Crashes, lost};
 ghost use Rattle.disk.specs.Filling.{filled};
 ghost use Rattle.disk.specs.Simulated.{crashed};
 ghost use Rattle.world.specs.Entry.{Crashed, Lost};
-ghost use Rattle.cluster_tie.specs.Parts.{adds};
+ghost use Rattle.world.specs.Plain.{plain};
+ghost use Rattle.world.specs.World.{world, MayFollow};
+ghost use Rattle.cluster_tie.specs.Parts.{adds, disk_of, host_of, on_disk};
 
 use crate::book::DiskBook;
 use crate::cluster::Cluster;
 use crate::fault::HostFault;
 use crate::journal::{Journal, Promise};
 use crate::named::Named;
-use cluster_tie::Told;
+use cluster_tie::{DiskTie, Told};
 use disk::SimDisk;
 use std::marker::Brand;
 use std::sync::Wait;
@@ -51,14 +53,7 @@ fn commit_crash_as<E: Told, N: Named>(
     ensures disk { book.new.disk ≡ crashed book.old.disk given.now }
     ensures closed { book.new.open_call ≡ None }
 {
-    let Promise { mut share } = promise;
-    journal.promises.sub(&mut share, 1);
-    journal.pool.merge(share);
-    journal.promised -= 1;
-    journal
-        .ties
-        .append_disk::<E>(&mut journal.tie, &mut book.tie);
-    journal.entries.push_reserved(Entry::DiskCrash(book.number));
+    journal.spend::<E>(&mut book.tie, promise, Entry::DiskCrash(book.number));
     crash(&mut book.disk, given);
 }
 
@@ -75,31 +70,26 @@ pub fn commit_loss<N: Named>(
     ensures disk { book.new.disk ≡ lost book.old.disk }
     ensures closed { book.new.open_call ≡ None }
 {
-    commit_loss_as::<Brand, N>(journal, book, promise)
+    journal.spend::<Brand>(&mut book.tie, promise, Entry::DiskGone(book.number));
+    lose(&mut book.disk);
 }
 
-fn commit_loss_as<E: Told, N: Named>(
-    journal: &mut Journal<'_, N>,
-    book: &mut DiskBook<N, SimDisk>,
-    promise: Promise<N>,
-)
-    requires told { E.entry ≡ Lost book.old.own.number }
-    requires closed { book.old.open_call ≡ None }
-    requires there { book.old.disk.gone ≡ false }
-    ensures journal { journal.new ≡ record { log = journal.old.log ++ E.entry ∷ []; promised = journal.old.promised - 1 } }
-    ensures own { book.new.own ≡ adds book.old.own (length journal.old.log) E.entry }
-    ensures disk { book.new.disk ≡ lost book.old.disk }
-    ensures closed { book.new.open_call ≡ None }
-{
-    let Promise { mut share } = promise;
-    journal.promises.sub(&mut share, 1);
-    journal.pool.merge(share);
-    journal.promised -= 1;
-    journal
-        .ties
-        .append_disk::<E>(&mut journal.tie, &mut book.tie);
-    journal.entries.push_reserved(Entry::DiskGone(book.number));
-    lose(&mut book.disk);
+impl<'a, N: Named> Journal<'a, N> {
+    // Spends a promise on the entry that tells what befell a disk.
+    fn spend<E: Told>(&mut self, disk: &mut DiskTie<N>, promise: Promise<N>, entry: Entry)
+        requires told { entry ≡ plain E.entry }
+        requires own { (disk_of E.entry ≡ Some disk.old.number) × (host_of E.entry ≡ None) }
+        requires may { disk.old.entries ≡ on_disk disk.old.number self.old.log → MayFollow N.shape (world N.shape self.old.log) E.entry }
+        ensures journal { self.new ≡ record { log = self.old.log ++ E.entry ∷ []; promised = self.old.promised - 1 } }
+        ensures disk { disk.new ≡ adds disk.old (length self.old.log) E.entry }
+    {
+        let Promise { mut share } = promise;
+        self.promises.sub(&mut share, 1);
+        self.pool.merge(share);
+        self.promised -= 1;
+        self.ties.append_disk::<E>(&mut self.tie, disk);
+        self.entries.push_reserved(entry);
+    }
 }
 
 impl<'a, N: Named> Cluster<'a, N, SimDisk> {

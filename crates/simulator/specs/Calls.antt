@@ -1,17 +1,7 @@
--- What a device call on a simulated disk answers.
+-- A device call on a simulated disk, and what becomes of the disk.
 use Rattle.std.specs.Prelude.{◌^◌, ◌&&◌, ℕ, Bool, true, false, not, nat_lt, List, if◌then◌else◌}
-use Rattle.disk.specs.Disk as device
-use Rattle.disk.specs.Disk.{DiskState, Answer, Call, Write, lost}
+use Rattle.disk.specs.Disk.{DiskState, Call, Write, lost}
 use Rattle.disk.specs.Simulated.{SimState, crashed}
-use Rattle.simulator.specs.declared.outcome.Outcome.{Outcome}
-use Rattle.simulator.specs.declared.outcome.Outcome.TheVariants.{Booted, Done, Told, Fault}
-
--- the answer that an outcome is, with the row that was read
-abbrev pub answer_in : Outcome → List ℕ → Answer
-answer_in (Booted boot) row = device.Booted boot.number
-answer_in Done row = device.Done
-answer_in Told row = device.Told row
-answer_in (Fault fault) row = device.Fault fault
 
 -- a call that may be torn
 abbrev pub is_write : Call → Bool

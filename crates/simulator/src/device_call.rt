@@ -2,35 +2,30 @@ ghost use Rattle.std.specs.Prelude.{◌≡◌, ◌<◌, [], None, length};
 ghost use Rattle.disk.specs.Disk.{Fault};
 ghost use Rattle.disk.specs.declared.fault.DiskFault.TheVariants.{Failed};
 ghost use Rattle.disk.specs.Simulated.{refusal_of};
-ghost use Rattle.phases.specs.Calls.{device_call_of, IsWithin};
+ghost use Rattle.attempt.specs.History.{Fits};
+ghost use Rattle.phases.specs.Calls.{device_answer, device_call_of, heard_of, IsWithin};
 ghost use Rattle.world.specs.Entry.{called_by};
 ghost use Rattle.world.specs.Happens.{answer_of, spread_over};
-ghost use Rattle.simulator.specs.Calls.{answer_in, is_write, may_crash, crashed_if, lost_if};
+ghost use Rattle.simulator.specs.Calls.{is_write, may_crash, crashed_if, lost_if};
 
-use crate::outcome::Outcome;
 use disk::{Disk, DiskFault, SimDisk};
-use phases::DeviceCall;
+use phases::{DeviceCall, Heard, answer_of};
 use torn_block::ROW_LENGTH;
 
 /// Makes a call on a disk.
-pub fn make(disk: &mut SimDisk, call: &DeviceCall<'_>, row: &mut [u8; ROW_LENGTH]) -> Outcome
+pub fn make<'a>(
+    disk: &mut SimDisk,
+    call: &DeviceCall<'_>,
+    row: &'a mut [u8; ROW_LENGTH],
+) -> Heard<'a>
     requires calm { disk.old.failing ≡ None }
     requires range { IsWithin (length disk.old.disk.bytes) call.now }
-    ensures answer { answer_in result row.new ≡ answer_of disk.old.disk (device_call_of call.now) }
+    ensures answer { device_answer result ≡ answer_of disk.old.disk (device_call_of call.now) }
+    ensures fits { Fits (device_call_of call.now) (heard_of result) }
     ensures disk { disk.new ≡ record disk.old { disk = called_by disk.old.disk (device_call_of call.now) (answer_of disk.old.disk (device_call_of call.now)) [] } }
     ensures size { length disk.new.disk.bytes ≡ length disk.old.disk.bytes }
 {
-    match call {
-        DeviceCall::Attach => match disk.attach() {
-            Ok(boot) => Outcome::Booted(boot),
-            Err(fault) => Outcome::Fault(fault),
-        },
-        DeviceCall::Read { boot, at } => Outcome::of(disk.read(*boot, *at, row), Outcome::Told),
-        DeviceCall::Write { boot, at, bytes } => {
-            Outcome::of(disk.write(*boot, *at, bytes), Outcome::Done)
-        }
-        DeviceCall::Sync { boot } => Outcome::of(disk.sync(*boot), Outcome::Done),
-    }
+    answer_of(disk, call, row)
 }
 
 /// Why a disk would refuse a call, if it would. An attach finds it out, which changes nothing.

@@ -5,7 +5,6 @@ mod answer;
 mod device_call;
 mod interrupting;
 mod judging;
-mod outcome;
 mod parts;
 mod replay;
 mod report;

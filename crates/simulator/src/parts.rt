@@ -243,8 +243,8 @@ impl Parts {
         };
         let need = core.call();
         let disk = &mut self.disks[usize::from(need.disk)];
-        let outcome = make(disk, &need.call, &mut self.row);
-        core.hear(&outcome.heard(&self.row));
+        let heard = make(disk, &need.call, &mut self.row);
+        core.hear(&heard);
         answer_of(host, core)
     }
 

@@ -1,100 +1,56 @@
-use Rattle.std.proofs.Common.{◌≡◌, ℕ, ◌<◌, ◌^◌, ◌++◌, ◌∷◌, [], None, List, Option, length, sym, ap, subst, ◌∙◌, arith, false}
+use Rattle.std.proofs.Common.{◌≡◌, ℕ, ◌<◌, ◌^◌, length, sym, ap, subst, ◌∙◌, arith}
 use Rattle.disk.specs.Disk.{DiskState, Crashes}
 use Rattle.disk.specs.Filling.{filled}
 use Rattle.disk.specs.Simulated.{SimState, crashed}
 use Rattle.disk.specs.Cut.{HasFirst}
 use Rattle.disk.proofs.CutLemmas.{cut_crashes, crashes_cut, first_stay_crashed}
 use Rattle.paxos_block.specs.Places.{image_length}
-use Rattle.slot_log.specs.Shape.{Shape}
-use Rattle.world.specs.Entry.{Filled, Crashed, disk_step, crashed_to}
-use Rattle.world.specs.Plain.{plain, plains}
-use Rattle.world.specs.World.{IsRun}
-use Rattle.world.specs.declared.entry.Entry.{Entry}
+use Rattle.world.specs.Entry.{Crashed, disk_step, crashed_to}
+use Rattle.world.specs.Plain.{plain}
+use Rattle.world.specs.World.{world, MayFollow}
 use Rattle.world.specs.declared.entry.Entry.TheVariants as kept
-use Rattle.cluster_tie.specs.Parts.{Own, adds}
-use Rattle.cluster.specs.Book.{BookState, disk_in, image_on, IsFollowedBy}
-use Rattle.cluster.specs.declared.touched.Outcome.{Outcome}
-use Rattle.cluster.proofs.Adding.{disk_adds}
-use Rattle.cluster.proofs.Journals.{plains_more, keeps_tokens}
+use Rattle.cluster_tie.specs.Parts.{Own, disk_of, host_of}
+use Rattle.cluster.specs.Book.{BookState, image_on}
+use Rattle.cluster.proofs.Harmed.{as_left, befell}
 use Rattle.cluster.proofs.Parts.{crashes}
 use Rattle.cluster.proofs.harm.commit_crash_as.Goals as goal
-use Rattle.cluster.proofs.harm.commit_crash_as.Goals.{After-crash}
 
-module _ (g : _) (c : After-crash g) where
-  abbrev shape : Shape
-  shape = g.N.Named.shape
-
-  abbrev own : Own
-  own = c.book.inside.tie
-
-  abbrev disk : DiskState
-  disk = image_on g.N.Named.shape c.book.inside.disk.disk
-
-  abbrev log : List Filled
-  log = c.journal.inside.tie
-
-  abbrev e : Filled
-  e = Crashed own.number (filled c.args.given.now 0 disk.unsynced disk.bytes)
-
-  is : g.E.Told.entry ≡ e
-  is = c.requires.told ∙ ap (λ (b : BookState _). Crashed b.own.number (filled c.args.given.now 0 b.disk.unsynced b.disk.bytes)) (sym c.book.view_is)
-
-  closed : c.book.inside.open_call ≡ None
-  closed = ap (λ (b : BookState _). b.open_call) c.book.view_is ∙ c.requires.closed
-
-  left : disk ≡ disk_in shape own
-  left = subst (λ (o : Option Outcome). IsFollowedBy o c.book.inside.row (disk_in shape own) disk) closed c.book.invariant.so.disk
-
-  there : (disk_in shape own).gone ≡ false
-  there = sym (ap (λ (d : DiskState). d.gone) left) ∙ ap (λ (b : BookState _). b.disk.gone) c.book.view_is ∙ c.requires.there
-
-  low : (disk_in shape own).boot < 2 ^ 62
-  low = subst (λ (d : DiskState). d.boot < 2 ^ 62) (ap (λ (b : BookState _). b.disk) (sym c.book.view_is) ∙ left) c.requires.boot
-
-  image : image_on shape c.crash.new.disk.disk ≡ crashed disk c.args.given.now
-  image = ap (λ (s : SimState). image_on shape s.disk) c.crash.ensures.exact ∙ cut_crashes (image_length shape.slots) c.book.inside.disk.disk c.args.given.now c.book.invariant.whole
-
-  new_disk : image_on shape c.crash.new.disk.disk ≡ disk_step (disk_in shape own) e
-  new_disk = image ∙ ap (λ (d : DiskState). crashed_to d (filled c.args.given.now 0 disk.unsynced disk.bytes)) left
-
-  run : IsRun shape (log ++ e ∷ [])
-  run = crashes shape log own (filled c.args.given.now 0 disk.unsynced disk.bytes) (image_on shape c.crash.new.disk.disk) c.journal.invariant.run c.append_disk.ensures.parts c.book.invariant.so.number there low (subst (λ (d : DiskState). Crashes d (image_on shape c.crash.new.disk.disk)) left (subst (λ (d : DiskState). Crashes disk d) (sym image) (crashes_cut (image_length shape.slots) c.book.inside.disk.disk c.args.given.now c.book.invariant.whole))) new_disk
-
-  entry_is : ◌≡◌ {A = Entry} (kept.DiskCrash c.book.inside.number) (plain e)
-  entry_is = ap (λ (n : ℕ). kept.DiskCrash n) (sym c.book.invariant.number)
-
-pub invariant_of-journal : goal.invariant_of-journal
-invariant_of-journal g c =
-    let j = c.journal.invariant in
-    let p = c.push_reserved.ensures in
-    let t = c.sub.ensures in
+pub spend-requires : goal.spend-requires
+spend-requires g c =
+    let shape = g.N.Named.shape in
+    let b = c.book.invariant in
+    let own = c.book.inside.tie in
+    let disk = image_on shape c.book.inside.disk.disk in
+    let given = c.args.given.now in
+    let after = filled given 0 disk.unsynced disk.bytes in
+    let log = c.args.journal.now.log in
+    let is : g.E.Told.entry ≡ Crashed own.number after = c.requires.told ∙ ap (λ (b : BookState _). Crashed b.own.number (filled given 0 b.disk.unsynced b.disk.bytes)) (sym c.book.view_is) in
+    let left = as_left shape _ b.so (ap (λ (b : BookState _). b.open_call) c.book.view_is ∙ c.requires.closed) in
+    let there = ap (λ (d : DiskState). d.gone) (sym left) ∙ ap (λ (b : BookState _). b.disk.gone) c.book.view_is ∙ c.requires.there in
+    let low = subst (λ (d : DiskState). d.boot < 2 ^ 62) (ap (λ (b : BookState _). b.disk) (sym c.book.view_is) ∙ left) c.requires.boot in
+    let step = subst (λ (d : DiskState). Crashes d (crashed_to d after)) left (crashes_cut (image_length shape.slots) c.book.inside.disk.disk given b.whole) in
     record {
-      config = j.config;
-      kept = p.items ∙ (λ i. j.kept i ++ entry_is g c i ∷ []) ∙ sym (plains_more (log g c) (e g c)) ∙ ap (λ (x : Filled). plains (log g c ++ x ∷ [])) (sym (is g c)) ∙ ap plains (sym c.append_disk.ensures.journal);
-      run = subst (IsRun (shape g c)) (ap (λ (x : Filled). log g c ++ x ∷ []) (sym (is g c)) ∙ sym c.append_disk.ensures.journal) (run g c);
-      room = omega (arith, p.len, p.capacity, j.room, t.total, j.total);
-      most = omega (arith, p.len, j.most, t.total, j.total);
-      total = omega (arith, t.total, j.total);
-      parts = omega (arith, j.parts, c.merge.ensures.parts, t.parts, c.args.promise.backed, t.total, j.total);
-      enough = j.enough;
-      empty = omega (arith, c.merge.ensures.amount, j.empty, t.amount, c.args.promise.one);
-      tokens = keeps_tokens _ _ _ _ c.append_disk.ensures.journal j.tokens;
+      told = ap (λ (n : ℕ). kept.DiskCrash n) (sym b.number) ∙ ap plain (sym is);
+      own = (ap disk_of is, ap host_of is);
+      may = λ part. subst (MayFollow shape (world shape log)) (sym is) (crashes shape log own after b.so.number there low step part);
     }
+
+image : (g : _) (c : goal.After-crash g) → image_on g.N.Named.shape c.crash.new.disk.disk ≡ crashed (image_on g.N.Named.shape c.book.inside.disk.disk) c.args.given.now
+image g c = ap (λ (s : SimState). image_on g.N.Named.shape s.disk) c.crash.ensures.exact ∙ cut_crashes (image_length g.N.Named.shape.slots) c.book.inside.disk.disk c.args.given.now c.book.invariant.whole
 
 pub invariant_of-book : goal.invariant_of-book
 invariant_of-book g c =
+    let shape = g.N.Named.shape in
     let b = c.book.invariant in
-    let new_own : adds c.book.inside.tie (length (log g c)) (e g c) ≡ c.append_disk.new.disk = ap (adds c.book.inside.tie (length (log g c))) (sym (is g c)) ∙ sym c.append_disk.ensures.disk in
-    let as_left = new_disk g c ∙ sym (disk_adds (shape g c) c.book.inside.tie (length (log g c)) (e g c)) ∙ ap (disk_in (shape g c)) new_own in
+    let disk = image_on shape c.book.inside.disk.disk in
+    let given = c.args.given.now in
+    let closed = ap (λ (b : BookState _). b.open_call) c.book.view_is ∙ c.requires.closed in
+    let is = c.requires.told ∙ ap (λ (b : BookState _). Crashed b.own.number (filled given 0 b.disk.unsynced b.disk.bytes)) (sym c.book.view_is) in
     record {
-      number = ap (λ (o : Own). o.number) c.append_disk.ensures.disk ∙ b.number;
-      whole = subst (λ (s : SimState). HasFirst (image_length (shape g c).slots) s.disk) (sym c.crash.ensures.exact) (first_stay_crashed (image_length (shape g c).slots) c.book.inside.disk.disk c.args.given.now b.whole);
-      so = record {
-        number = subst (λ (o : Own). o.number < (shape g c).disks) (sym c.append_disk.ensures.disk) b.so.number;
-        tells = b.so.tells;
-        size = omega (arith, b.so.size, c.crash.ensures.size);
-        disk = subst (λ (o : Option Outcome). IsFollowedBy o c.book.inside.row (disk_in (shape g c) c.append_disk.new.disk) (image_on (shape g c) c.crash.new.disk.disk)) (sym (closed g c)) as_left;
-      };
+      number = ap (λ (o : Own). o.number) c.spend.ensures.disk ∙ b.number;
+      whole = subst (λ (s : SimState). HasFirst (image_length shape.slots) s.disk) (sym c.crash.ensures.exact) (first_stay_crashed (image_length shape.slots) c.book.inside.disk.disk given b.whole);
+      so = befell shape _ b.so closed _ (length c.args.journal.now.log) g.E.Told.entry c.spend.ensures.disk closed b.so.tells (omega (arith, b.so.size, c.crash.ensures.size))
+          (image g c ∙ ap (disk_step disk) (sym is));
     }
 
 pub returns-clause-disk : goal.returns-clause-disk

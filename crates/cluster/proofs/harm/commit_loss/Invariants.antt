@@ -1,5 +1,5 @@
 use Rattle.world.specs.Entry.{Lost}
 use Rattle.cluster.proofs.harm.commit_loss.Given as goal
 
-abbrev pub ghosts-commit_loss_as : goal.ghosts-commit_loss_as
-ghosts-commit_loss_as g a = record { entry = Lost a.book.now.own.number }
+abbrev pub ghosts-spend : goal.ghosts-spend
+ghosts-spend g a = record { entry = Lost a.disk.now.number }

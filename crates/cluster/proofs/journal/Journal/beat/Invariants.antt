@@ -1,5 +1,5 @@
-use Rattle.world.specs.Entry.{Beat}
+use Rattle.cluster.proofs.Begun.{begun_by}
 use Rattle.cluster.proofs.journal.Journal.beat.Given as goal
 
-abbrev pub ghosts-beat_as : goal.ghosts-beat_as
-ghosts-beat_as g a = record { entry = Beat a.seat.now.number }
+abbrev pub ghosts-begin : goal.ghosts-begin
+ghosts-begin g a = record { entry = begun_by a.host.now.number a.entry }

@@ -1,5 +1,5 @@
-use Rattle.world.specs.Entry.{Look}
+use Rattle.cluster.proofs.Begun.{begun_by}
 use Rattle.cluster.proofs.journal.Journal.look.Given as goal
 
-abbrev pub ghosts-look_as : goal.ghosts-look_as
-ghosts-look_as g a = record { entry = Look a.seat.now.number }
+abbrev pub ghosts-begin : goal.ghosts-begin
+ghosts-begin g a = record { entry = begun_by a.host.now.number a.entry }

@@ -1,5 +1,5 @@
-use Rattle.world.specs.Entry.{Mark}
+use Rattle.cluster.proofs.Begun.{begun_by}
 use Rattle.cluster.proofs.journal.Journal.mark.Given as goal
 
-abbrev pub ghosts-mark_as : goal.ghosts-mark_as
-ghosts-mark_as g a = record { entry = Mark a.seat.now.number a.slot }
+abbrev pub ghosts-begin : goal.ghosts-begin
+ghosts-begin g a = record { entry = begun_by a.host.now.number a.entry }

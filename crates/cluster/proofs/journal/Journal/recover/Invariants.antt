@@ -1,5 +1,5 @@
-use Rattle.world.specs.Entry.{Recover}
+use Rattle.cluster.proofs.Begun.{begun_by}
 use Rattle.cluster.proofs.journal.Journal.recover.Given as goal
 
-abbrev pub ghosts-recover_as : goal.ghosts-recover_as
-ghosts-recover_as g a = record { entry = Recover a.seat.now.number a.tries }
+abbrev pub ghosts-begin : goal.ghosts-begin
+ghosts-begin g a = record { entry = begun_by a.host.now.number a.entry }

@@ -28,8 +28,8 @@ index_mut-disk-requires c =
     (owed.on_disk old c.self.invariant i c.in-Some.core found c.call-need.result.disk c.call-need.ensures.disk) in
     omega (arith, inside, c.self.invariant.leads.shows.disk_count)
 
-pub make-outcome-requires-clause-calm : goal.make-outcome-requires-clause-calm
-make-outcome-requires-clause-calm c =
+pub make-heard-requires-clause-calm : goal.make-heard-requires-clause-calm
+make-heard-requires-clause-calm c =
     let old = kept_in c.self.inside in
     let i = c.from-at.result in
     let here : i < length old.hosts = omega (arith, c.from-at.ensures, c.get.ensures.range, c.self.invariant.leads.shows.host_count) in
@@ -38,8 +38,8 @@ make-outcome-requires-clause-calm c =
     (owed.on_disk old c.self.invariant i c.in-Some.core found c.call-need.result.disk c.call-need.ensures.disk) in
     owed.calm_at old c.self.invariant c.from.result c.index_mut-disk.result.now inside c.index_mut-disk.ensures.value
 
-pub make-outcome-requires-clause-range : goal.make-outcome-requires-clause-range
-make-outcome-requires-clause-range c =
+pub make-heard-requires-clause-range : goal.make-heard-requires-clause-range
+make-heard-requires-clause-range c =
     let old = kept_in c.self.inside in
     let i = c.from-at.result in
     let here : i < length old.hosts = omega (arith, c.from-at.ensures, c.get.ensures.range, c.self.invariant.leads.shows.host_count) in
@@ -62,8 +62,8 @@ invariant_of-self c =
     (owed.on_disk old c.self.invariant i c.in-Some.core found c.call-need.result.disk c.call-need.ensures.disk) in
     reached event old _ c.answer_of.result c.self.invariant
     (owed.steps old c.args.host i same within c.in-Some.core c.call-need.result c.from.result c.index_mut-disk.result.now found c.call-need.ensures.next
-    c.call-need.ensures.due c.from.ensures inside c.index_mut-disk.ensures.value c.hear.new.self c.make-outcome.new.disk _ c.answer_of.result c.make-outcome.ensures.disk
-    c.make-outcome.ensures.size (c.heard.ensures.answer ∙ c.make-outcome.ensures.answer) c.hear.ensures.leads c.answer_of.ensures)
+    c.call-need.ensures.due c.from.ensures inside c.index_mut-disk.ensures.value c.hear.new.self c.make-heard.new.disk _ c.answer_of.result c.make-heard.ensures.disk
+    c.make-heard.ensures.size c.make-heard.ensures.answer c.hear.ensures.leads c.answer_of.ensures)
 
 pub returns : goal.returns
 returns c =
@@ -78,5 +78,5 @@ returns c =
     (owed.on_disk old c.self.invariant i c.in-Some.core found c.call-need.result.disk c.call-need.ensures.disk) in
     seen event old c.args.self.now _ c.answer_of.result c.self.view_is
     (owed.steps old c.args.host i same within c.in-Some.core c.call-need.result c.from.result c.index_mut-disk.result.now found c.call-need.ensures.next
-    c.call-need.ensures.due c.from.ensures inside c.index_mut-disk.ensures.value c.hear.new.self c.make-outcome.new.disk _ c.answer_of.result c.make-outcome.ensures.disk
-    c.make-outcome.ensures.size (c.heard.ensures.answer ∙ c.make-outcome.ensures.answer) c.hear.ensures.leads c.answer_of.ensures)
+    c.call-need.ensures.due c.from.ensures inside c.index_mut-disk.ensures.value c.hear.new.self c.make-heard.new.disk _ c.answer_of.result c.make-heard.ensures.disk
+    c.make-heard.ensures.size c.make-heard.ensures.answer c.hear.ensures.leads c.answer_of.ensures)
