@@ -88,11 +88,16 @@ fn submit_three(
     Ok((done, shown(rt.alloc(), &host)?))
 }
 
+// How many commands a host learns, and the locks that its table shows then.
+fn recovered<D: Disk>(alloc: Global, host: &mut DiskHost<D>) -> Result<(u16, Vec<Line>), Fail> {
+    let learned = host.recover(8)?;
+    Ok((learned, shown(alloc, host)?))
+}
+
 // How many commands host 1 learns from the folder, and the locks that its table shows then.
 fn learn_all(rt: &HostRuntime, folder: &str) -> Result<(u16, Vec<Line>), Fail> {
     let mut host = host_over(rt, folder, 1)?;
-    let learned = host.recover(8)?;
-    Ok((learned, shown(rt.alloc(), &host)?))
+    recovered(rt.alloc(), &mut host)
 }
 
 // A folder of three images with nothing in them.
@@ -146,11 +151,16 @@ fn mark_first(rt: &HostRuntime, folder: &str) -> Result<[Result<u8, Refusal>; 2]
     Ok(marked(&mut host))
 }
 
+// How many commands a host learns that looks, and the locks that its table shows then.
+fn looked<D: Disk>(alloc: Global, host: &mut DiskHost<D>) -> Result<(u16, Vec<Line>), Fail> {
+    let learned = host.look()?;
+    Ok((learned, shown(alloc, host)?))
+}
+
 // How many commands host 1 learns that looks at the folder, which it only reads, and the locks that its table shows then.
 fn look_at(rt: &HostRuntime, folder: &str) -> Result<(u16, Vec<Line>), Fail> {
     let mut host = reader_of(rt, folder, 1)?;
-    let learned = host.look()?;
-    Ok((learned, shown(rt.alloc(), &host)?))
+    looked(rt.alloc(), &mut host)
 }
 
 // A slot is marked once it is learned, on all three disks, since the host's own block holds its value there.
