@@ -10,7 +10,8 @@ pub enum CallKind {
     Sync,
 }
 
-/// What a journal keeps of one step. Which bytes a write left that failed or was torn, and which a crash left, is not kept.
+/// What a journal keeps of one step. Which bytes a write left that failed or was torn, which a crash left, and which commands
+/// were migrated, is not kept.
 #[derive(Clone, Copy, Debug)]
 pub enum Entry {
     Start(HostNumber),
@@ -45,4 +46,10 @@ pub enum Entry {
     },
     DiskCrash(u8),
     DiskGone(u8),
+    /// So many disks begin as a complete migration of so many commands left them. It can only be the first entry; no journal
+    /// of host threads has it, since their disks begin blank.
+    Migrated {
+        disks: u8,
+        commands: u16,
+    },
 }
