@@ -7,7 +7,7 @@ use Rattle.std.proofs.lemmas.List.{take_more, take-take}
 use Rattle.std.proofs.lemmas.Option.{slice_get_within, get_or_from_slice_get}
 use Rattle.slot_log.specs.Shape.{Shape}
 use Rattle.host.specs.Host.{said_of}
-use Rattle.world.specs.Entry.{Filled, Start, Stop, Submit, Recover, Look, Beat, Mark, Called, Torn, Crashed, Lost, is_of}
+use Rattle.world.specs.Entry.{Filled, Start, Stop, Submit, Recover, Look, Beat, Mark, Called, Torn, Crashed, Lost, Migrated, is_of}
 use Rattle.world.specs.World.{world}
 use Rattle.world.specs.Happens.{Event, Line, entry_of, with_entry, happens, happen, run, host_of, lines_at, answers_from, answers}
 use Rattle.world.specs.Chosen.{at, SaysAt}
@@ -123,6 +123,7 @@ own (Called g k call answer left) h is = eq-eqb g h (cc)
 own (Torn g k call left) h is = eq-eqb g h (cc)
 own (Crashed k left) h is = absurd (cc)
 own (Lost k) h is = absurd (cc)
+own (Migrated disks log) h is = absurd (cc)
 
 -- BEFORE AN EVENT
 

@@ -15,10 +15,12 @@ use Rattle.host.specs.Host.{idles, learned_of}
 use Rattle.host.specs.Kept as hosts
 use Rattle.world.specs.World.{World, world}
 use Rattle.world.specs.Happens.{Event, Line, run, answers}
-use Rattle.world.specs.Chosen.{at, SaysAt, IsSubmittedBefore as IsSubmittedIn}
+use Rattle.world.specs.Entry as entries
+use Rattle.world.specs.Entry.{Filled}
+use Rattle.world.specs.Chosen.{at, SaysAt, Submits, IsSubmittedBefore as IsSubmittedIn}
 use Rattle.world.specs.Headline.{IsPrefix, prefix_at, IsSafe}
 use Rattle.world.specs.Told.{prefix_before, IsSubmittedBefore, IsRecovered, ShowsTable, goes_by, MissesNothing}
-use Rattle.world.proofs.Runs.{run_is_run}
+use Rattle.world.proofs.Runs.{run_is_run, follows, begins_migrated}
 use Rattle.world_safety.specs.Tracks.{Counts}
 use Rattle.simulator.specs.declared.answer.Answer.{Answer}
 use Rattle.simulator.specs.Answers.{line_of, IsPicturedBy, IsPictured, IsPicturedIn}
@@ -58,27 +60,39 @@ module _ (c : Shape) (events : List Event) where
       subst (λ (w : World). IsPrefix (learned_of (w.host h)) log) (world_at i)
       (safety.begins c (run c events) (run_is_run c events) (length (before c events i)) h)
 
+  -- no event is a migration
+  none_migrated : (place disks : ℕ) (commands : List Command) → slice_get (run c events) place ≡ Some (entries.Migrated disks commands) → ⊥
+  none_migrated place disks commands is =
+      let f = of_event c events place _ is in
+      follows c (run c (take f.n events)) f.event (entries.Migrated disks commands) (run_is_run c (take f.n events)) f.brings
+
   -- a submission in the run is an event
   submitted_by : (p i : ℕ) (value : List ℕ) → IsSubmittedIn (run c events) p value
       → ((n : ℕ) (e : Event) → slice_get events n ≡ Some e → length (before c events n) < p → n < i) → IsSubmittedBefore events i value
-  submitted_by p i value s bound =
-      let f = of_event c events s.place _ s.entry in
-      let by = of_submission c (world c (run c (take f.n events))) s.host s.command s.tries f.event f.brings in
-      record {
-        place = f.n;
-        host = s.host;
-        command = by.given;
-        tries = s.tries;
-        before = bound f.n f.event f.is (omega (arith, f.at, s.before));
-        event = f.is ∙ ap Some by.is;
-        spelled = s.spelled ∙ sym by.spelled;
-      }
+  submitted_by p i value s bound = go s.entry s.is s.submits
+    where
+      go : (entry : Filled) → slice_get (run c events) s.place ≡ Some entry → Submits entry s.command → IsSubmittedBefore events i value
+      go (entries.Submit h given tries) is same =
+          let f = of_event c events s.place _ is in
+          let by = of_submission c (world c (run c (take f.n events))) h given tries f.event f.brings in
+          record {
+            place = f.n;
+            host = h;
+            command = by.given;
+            tries = tries;
+            before = bound f.n f.event f.is (omega (arith, f.at, s.before));
+            event = f.is ∙ ap Some by.is;
+            spelled = s.spelled ∙ ap spelling (sym same) ∙ sym by.spelled;
+          }
+      go (entries.Migrated disks commands) is found = absurd (none_migrated s.place disks commands is)
+      go other is submits = absurd submits
 
   each : (slot : ℕ) (command : Command) → slice_get log slot ≡ Some command → IsSubmittedBefore events (length events) (spelling command)
   each slot command found =
-      let chosen = safe.is_log.chosen slot (spelling command) (slice_get-map spelling log slot ∙ ap (option_map spelling) found) in
-      submitted_by chosen.0 (length events) (spelling command) (safe.submitted chosen.0 slot (spelling command) chosen.1)
-      (λ n e is less. slice_get_within events n e is)
+      elim (safe.is_log.chosen slot (spelling command) (slice_get-map spelling log slot ∙ ap (option_map spelling) found)) [
+        | inl chosen ↦ submitted_by chosen.0 (length events) (spelling command) (safe.submitted chosen.0 slot (spelling command) chosen.1) (λ n e is less. slice_get_within events n e is)
+        | inr migrated ↦ (let first = begins_migrated (run c events) slot (spelling command) migrated in absurd (none_migrated 0 first.disks first.commands first.first))
+      ]
 
   submitted : (i slot : ℕ) (value : List ℕ) → IsChosenBy c events i slot value → IsSubmittedBefore events i value
   submitted i slot value chosen =
@@ -91,7 +105,7 @@ module _ (c : Shape) (events : List Event) where
         is_log = safe.is_log;
         no_other = safety.no_other c (run c events) (run_is_run c events);
         each = each;
-        chosen = λ i slot value is. safe.one (length (before c events i)) slot value is;
+        chosen = λ i slot value is. safe.one slot value (inl (length (before c events i), is));
         submitted = submitted;
         begins = begins;
         prefixes = λ i j g h. one_begins (prefix_before c events i g) (prefix_before c events j h) log (begins i g) (begins j h);
