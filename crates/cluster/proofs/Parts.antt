@@ -1,15 +1,16 @@
 -- A disk and a host of the world are what their own entries make of them, so a run goes on by their next call.
-use Rattle.std.proofs.Common.{◌≡◌, ◌<◌, ◌≤◌, ◌^◌, ℕ, Bool, true, false, cond, List, [], ◌∷◌, ◌++◌, length, refl, sym, ap, subst, ◌∙◌, arith, append_assoc, append-nil}
+use Rattle.std.proofs.Common.{◌≡◌, ◌⊎◌, inl, inr, ◌<◌, ◌≤◌, ◌^◌, ℕ, Bool, true, false, cond, List, [], ◌∷◌, ◌++◌, length, refl, sym, ap, subst, ◌∙◌, arith, append_assoc, append-nil}
 use Rattle.std.proofs.lemmas.Bool.{eqb-true}
 use Rattle.disk.specs.Disk.{DiskState, Answer, Step, Crashes}
 use Rattle.disk.specs.Steps.{WritesOn}
 use Rattle.torn_block.specs.declared.layout.TheConstants.{HOSTS}
 use Rattle.slot_log.specs.Shape.{Shape}
 use Rattle.host.specs.Host.{Stopped, is_stopped, idles, next_of}
-use Rattle.world.specs.Entry.{Filled, Start, Stop, Submit, Recover, Look, Beat, Mark, Called, Torn, Crashed, Lost, is_of, disk_after, host_after}
+use Rattle.world.specs.Entry.{Filled, Start, Stop, Submit, Recover, Look, Beat, Mark, Called, Torn, Crashed, Lost, Migrated, is_of, disk_after, host_after}
 use Rattle.world.specs.Entry as entry
 use Rattle.world.specs.World.{world, opening_disk, MayFollow, IsRunFrom, IsRun}
 use Rattle.world.proofs.Runs as runs
+use Rattle.world.proofs.Runs.{IsMigration, follows_or}
 use Rattle.cluster_tie.specs.Parts.{Placed, Own, own_of, on_disk, of_host, entries}
 use Rattle.cluster_tie.proofs.Places.{without}
 use Rattle.cluster_tie.proofs.Steps.{part_grows}
@@ -74,6 +75,7 @@ module _ (c : Shape) (h : ℕ) (above : HOSTS ≤ h) (before : List Filled) (non
   not_its (Torn g k call left) may is = let no = sym may.0 ∙ ap (next_of c g) (stopped g (eqb-true g h is)) in cc no
   not_its (Crashed k left) may is = cc is
   not_its (Lost k) may is = cc is
+  not_its (Migrated disks log) may is = absurd may
 
   none_next : (e : Filled) → MayFollow c (world c before) e → of_host h (before ++ e ∷ []) ≡ []
   none_next e may = part_grows false h before e ∙ (λ i. none i ++ cond (off (is_of h e) refl i) ((length before, e) ∷ []) [])
@@ -89,4 +91,9 @@ none_from c h above before (e ∷ es) none run =
 
 -- a host of no such number has no entry in a run
 pub none_above : (c : Shape) (log : List Filled) (h : ℕ) → HOSTS ≤ h → IsRun c log → of_host h log ≡ []
-none_above c log h above run = none_from c h above [] log refl run
+none_above c [] h above run = refl
+none_above c (e ∷ es) h above run = none_from c h above (e ∷ []) es (first (follows_or c (world c []) e run.0)) run.1
+  where
+    first : MayFollow c (world c []) e ⊎ IsMigration c e → of_host h (e ∷ []) ≡ []
+    first (inl may) = none_next c h above [] refl e may
+    first (inr m) = ap (λ (x : Filled). of_host h (x ∷ [])) m.is
