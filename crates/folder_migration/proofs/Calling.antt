@@ -1,12 +1,12 @@
 -- A migration's calls, one after another, until it ends.
-use Rattle.std.proofs.Common.{◌≡◌, ◌<◌, ◌≤◌, ◌+◌, ◌*◌, ◌↔◌, ℕ, suc, Bool, true, false, List, [], ◌∷◌, ◌++◌, length, Option, Some, None, refl, sym, ◌∙◌, ap, subst, arith, if◌then◌else◌, true≢false}
+use Rattle.std.proofs.Common.{◌≡◌, ◌≤◌, ◌+◌, ◌*◌, ◌↔◌, ℕ, suc, Bool, true, false, List, [], ◌∷◌, ◌++◌, length, Some, None, refl, sym, ◌∙◌, ap, subst, arith, if◌then◌else◌, true≢false}
 use Rattle.std.proofs.lemmas.List.{length-append}
 use Rattle.disk.specs.Disk.{Call, Answer, Booted, Told, Done, Fault}
 use Rattle.migration.specs.Heard.{Progress, at_first, heard, hears, next, next_in, answered, given_up}
 use Rattle.migration.specs.History.{IsHistory, IsAnswerTo}
 use Rattle.migration.specs.Image.{Setup}
 use Rattle.migration.specs.Kept.{LeadsTo, end_by, end_in}
-use Rattle.migration.specs.Plan.{Due, schedule}
+use Rattle.migration.specs.Plan.{Due}
 use Rattle.migration.specs.declared.end.End.{End}
 use Rattle.migration.specs.declared.end.End.TheVariants.{Migrated, MigrationFailed}
 use Rattle.migration.specs.declared.notes.Notes.{Notes}

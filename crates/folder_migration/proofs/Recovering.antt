@@ -1,5 +1,5 @@
 -- A recovery of a log of the first layout goes on until it has ended: each step leaves less to do.
-use Rattle.std.proofs.Common.{◌≡◌, ◌<◌, ◌≤◌, ◌+◌, ◌-◌, ◌*◌, ℕ, zero, suc, Bool, true, false, List, [], ◌∷◌, ◌++◌, length, nat_lt, nat_le, Option, Some, None, refl, sym, ◌∙◌, ap, subst, arith, if◌then◌else◌, true≢false}
+use Rattle.std.proofs.Common.{◌≡◌, ◌<◌, ◌≤◌, ◌+◌, ◌-◌, ◌*◌, ℕ, suc, Bool, true, false, List, [], ◌∷◌, ◌++◌, length, nat_lt, nat_le, Option, Some, None, refl, sym, ◌∙◌, ap, subst, arith, if◌then◌else◌, true≢false}
 use Rattle.std.proofs.lemmas.Bool.{ltb-true, leb-false}
 use Rattle.std.proofs.lemmas.List.{length-append}
 use Rattle.torn_block.specs.Layout.{Version1}
@@ -13,12 +13,12 @@ use Rattle.phases.specs.declared.heard.Heard.TheVariants as answer
 use Rattle.slot_log.specs.Shape.{Shape}
 use Rattle.slot_log.specs.layouts.Alone.{IsAnsweredAlone}
 use Rattle.slot_log.specs.layouts.Kept.{Kept, LeadsTo}
-use Rattle.slot_log.specs.layouts.Learning.{Doing, Memory, Operation, fresh, goes_on, begins, says, learns, hears, goes_by, by_status, with_heard, with_floor, tries_again, takes, judges, judged, after_learning, is_placed, spent_outcome, offered_by, offered_in, is_idle_in, setup_of}
+use Rattle.slot_log.specs.layouts.Learning.{Doing, Memory, Operation, fresh, goes_on, begins, says, learns, hears, by_status, with_heard, with_floor, tries_again, takes, judges, judged, after_learning, is_placed, spent_outcome, offered_in, is_idle_in, setup_of}
 use Rattle.slot_log.specs.declared.operation.Operation.TheVariants.{Recovering}
 use Rattle.slot_log.specs.declared.outcome.Outcome.{Outcome}
-use Rattle.slot_log.specs.declared.outcome.Outcome.TheVariants.{Placed, Recovered, Looked, Refused}
+use Rattle.slot_log.specs.declared.outcome.Outcome.TheVariants.{Placed, Recovered, Refused}
 use Rattle.slot_log.specs.declared.outcome.Refusal.TheVariants as refusal
-use Rattle.folder_migration.specs.Recovery.{StandsFor, StandFor, Comes, call, judge, none, HasRecovered, HasEnded, MayEnd, MakesOne, JudgesOne, IsJudged, after_call, after_judging, answered, old_heard}
+use Rattle.folder_migration.specs.Recovery.{StandsFor, StandFor, Comes, call, judge, none, HasEnded, MayEnd, MakesOne, JudgesOne, after_call, after_judging, answered, old_heard}
 
 -- ANSWERS AND VALUES
 

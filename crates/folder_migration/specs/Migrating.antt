@@ -3,7 +3,6 @@ use Rattle.std.specs.Prelude.{◌≡◌, ◌⊎◌, ◌≤◌, ◌<◌, ℕ, Lis
 use Rattle.torn_block.specs.declared.layout.TheConstants.{DISKS}
 use Rattle.disk.specs.declared.fault.ImageFault.TheVariants.{Unreadable}
 use Rattle.disk.specs.FileStates.{FileState, FileGives}
-use Rattle.paxos_block.specs.declared.header.Header.{Header}
 use Rattle.paxos_block.specs.Places.{image_length}
 use Rattle.slot_log.specs.Shape.{Shape}
 use Rattle.slot_log.specs.declared.outcome.Outcome.TheVariants.{Refused as Ended}

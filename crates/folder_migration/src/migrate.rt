@@ -194,8 +194,9 @@ where
 {
     for disk in 0..config.disks() {
         let path = image_path(rt.alloc(), folder, disk)?;
-        let taken = is_taken(rt, path.as_str(), config.image_length())
-            .map_err(|fault| FolderFault::Image { disk, fault })?;
+        let taken = is_taken(rt, path.as_str(), config.image_length()).map_err(
+            |fault| FolderFault::Image { disk, fault },
+        )?;
         if taken {
             return Err(FolderFault::AlreadyThere);
         }
@@ -222,8 +223,9 @@ where
     ensures fault { IfErr result (IsFormatFault config.disks) }
 {
     let path = image_path(rt.alloc(), folder, disk)?;
-    make_zeros(rt, folder, path.as_str(), config.image_length())
-        .map_err(|fault| FolderFault::Image { disk, fault })
+    make_zeros(rt, folder, path.as_str(), config.image_length()).map_err(
+        |fault| FolderFault::Image { disk, fault },
+    )
 }
 
 /// A new file of so many zeros, or a block device that begins with them. Its name is made sure of, too.

@@ -41,9 +41,21 @@ fn make_folders(rt: &HostRuntime) -> Result<(), Fail> {
     let _ = fs::remove_dir_all(rt, "moved_to");
     fs::create_dir(rt, "moved_from")?;
     fs::create_dir(rt, "moved_to")?;
-    fs::write(rt, "moved_from/disk0.img", old_image(rt.alloc(), 0)?.as_slice())?;
-    fs::write(rt, "moved_from/disk1.img", old_image(rt.alloc(), 1)?.as_slice())?;
-    fs::write(rt, "moved_from/disk2.img", old_image(rt.alloc(), 2)?.as_slice())?;
+    fs::write(
+        rt,
+        "moved_from/disk0.img",
+        old_image(rt.alloc(), 0)?.as_slice(),
+    )?;
+    fs::write(
+        rt,
+        "moved_from/disk1.img",
+        old_image(rt.alloc(), 1)?.as_slice(),
+    )?;
+    fs::write(
+        rt,
+        "moved_from/disk2.img",
+        old_image(rt.alloc(), 2)?.as_slice(),
+    )?;
     Ok(())
 }
 
@@ -58,7 +70,13 @@ fn folder_that_moves(rt: HostRuntime) -> Result<(), Fail> {
         Some(MoveFault::TooFewSlots)
     );
     let moved = migrate_folder(&rt, "moved_from", "moved_to", slots)?;
-    assert_eq!(rt; moved, Moved::Moved { commands: 1, disks: 3 });
+    assert_eq!(rt;
+        moved,
+        Moved::Moved {
+            commands: 1,
+            disks: 3
+        }
+    );
     let complete = fs::read(&rt, "moved_to/disk2.img")?;
     assert_eq!(rt; complete.len(), 139_264);
     let mut closed = fs::read(&rt, "moved_to/disk2.img")?;

@@ -1,7 +1,6 @@
 use Rattle.std.proofs.Common.{◌≡◌, List, Some, inl, length, slice_get, subst, refl}
 use Rattle.disk.specs.FileStates.{FileState}
 use Rattle.migration.specs.declared.end.End.TheVariants.{MigrationFailed}
-use Rattle.folder_migration.specs.Migrating.{HasWritten}
 use Rattle.folder_migration.proofs.Writing.{written}
 use Rattle.folder_migration.proofs.migrate.migrate_folder.Goals as goal
 

@@ -1,4 +1,4 @@
-use Rattle.std.proofs.Common.{◌≡◌, ◌++◌, ◌∷◌, [], true, List, ℕ, IfSome, Option, Some, ap, sym, ◌∙◌, subst}
+use Rattle.std.proofs.Common.{◌≡◌, ◌++◌, ◌∷◌, [], true, List, ℕ, IfSome, Option, ap, sym, ◌∙◌, subst}
 use Rattle.lock_command.specs.Command.{spelling}
 use Rattle.folder_migration.specs.Recovery.{IsOldCommand, StandFor}
 use Rattle.folder_migration.proofs.Recovering.{stand_more}
