@@ -137,7 +137,10 @@ where
     match migrate_folder(rt, old, new, slots).map_err(Fault::from)? {
         Moved::Moved { commands, disks } => {
             let slots = slots.get();
-            writeln!(out, "migrated {commands} commands, {disks} disks, {slots} slots")?;
+            writeln!(
+                out,
+                "migrated {commands} commands, {disks} disks, {slots} slots"
+            )?;
         }
         Moved::Finished { disks } => writeln!(out, "finished {disks} disks")?,
     }
