@@ -7,13 +7,13 @@ _dlm() {
 
     COMPREPLY=()
     case $COMP_CWORD:$task in
-        1:*) words="run format submit table mark check race sweep" ;;
+        1:*) words="run format submit table mark check migrate race sweep" ;;
         2:run | 2:sweep)
             compopt -o filenames
             mapfile -t COMPREPLY < <(compgen -f -- "$word")
             return
             ;;
-        2:format | 2:submit | 2:table | 2:mark | 2:check)
+        2:format | 2:submit | 2:table | 2:mark | 2:check | 2:migrate | 3:migrate)
             compopt -o filenames
             mapfile -t COMPREPLY < <(compgen -d -- "$word")
             return

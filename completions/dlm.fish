@@ -19,10 +19,12 @@ complete -c dlm -n 'test (count (commandline -opc)) -eq 1' -a submit -d 'submit 
 complete -c dlm -n 'test (count (commandline -opc)) -eq 1' -a table -d 'show the lock table'
 complete -c dlm -n 'test (count (commandline -opc)) -eq 1' -a mark -d 'mark the slots that have no mark'
 complete -c dlm -n 'test (count (commandline -opc)) -eq 1' -a check -d 'look for damage in images'
+complete -c dlm -n 'test (count (commandline -opc)) -eq 1' -a migrate -d 'move a folder of the first layout'
 complete -c dlm -n 'test (count (commandline -opc)) -eq 1' -a race -d 'race host threads'
 complete -c dlm -n 'test (count (commandline -opc)) -eq 1' -a sweep -d 'run the variants of a script'
 complete -c dlm -n '__dlm_at 2 run sweep' -F
-complete -c dlm -n '__dlm_at 2 format submit table mark check' -a '(__fish_complete_directories)'
+complete -c dlm -n '__dlm_at 2 format submit table mark check migrate' -a '(__fish_complete_directories)'
+complete -c dlm -n '__dlm_at 3 migrate' -a '(__fish_complete_directories)'
 complete -c dlm -n '__dlm_at 2 race' -a '(seq 1 16)' -d 'hosts'
 complete -c dlm -n '__dlm_at 3 format' -a '(seq 1 7)' -d 'disks'
 complete -c dlm -n '__dlm_at 3 submit table mark' -a '(seq 0 15)' -d 'host'

@@ -2,6 +2,7 @@ use crate::answer_text::RefusalText;
 use cluster::HostFault;
 use disk::ImageFault;
 use dlm_images::{Finding, FolderFault, LockFault};
+use folder_migration::MoveFault;
 use host::Refusal;
 use simulator::ScriptFault;
 use std::io;
@@ -47,6 +48,11 @@ pub enum Fault {
     /// The number of an image that has the first layout, and no other fault.
     #[error("32 OldLayout disk{0}")]
     OldLayout(u8),
+    /// A log that is moved needs as many slots as it had.
+    #[error("33 TooFewSlots")]
+    TooFewSlots,
+    #[error("34 MigrationFailed")]
+    MigrationFailed,
     #[error("35 OpenCall")]
     OpenCall,
     /// The number of a host under which somebody else works.
@@ -117,6 +123,19 @@ impl From<LockFault> for Fault {
             LockFault::NoMemory => Fault::NoMemory,
             LockFault::InUse(host) => Fault::HostInUse(host),
             LockFault::NoLock(host) => Fault::NoLock(host),
+        }
+    }
+}
+
+impl From<MoveFault> for Fault {
+    fn from(fault: MoveFault) -> Self {
+        match fault {
+            MoveFault::NoMemory => Fault::NoMemory,
+            MoveFault::Folder(fault) => Fault::from(fault),
+            MoveFault::TooFewSlots => Fault::TooFewSlots,
+            MoveFault::Lock(fault) => Fault::from(fault),
+            MoveFault::Refused(refusal) => Fault::from(refusal),
+            MoveFault::MigrationFailed => Fault::MigrationFailed,
         }
     }
 }

@@ -1,6 +1,7 @@
 ghost use Rattle.std.specs.Prelude.{◌≤◌, IfOk};
 
 use crate::words::WordsFault;
+use folder_migration::SlotCount;
 use host::Config;
 use lock_command::{Command, HOSTS, HostNumber};
 use lock_script::{number_in, read_command};
@@ -16,6 +17,14 @@ pub fn config_of(disks: &str, slots: &str) -> Result<Config, WordsFault> {
     let slots = number(slots, 1, u64::from(SLOTS))? as u16;
     match Config::new(disks, slots) {
         Some(config) => Ok(config),
+        None => Err(WordsFault::Usage),
+    }
+}
+
+/// How many slots a log is to have.
+pub fn slots_of(word: &str) -> Result<SlotCount, WordsFault> {
+    match SlotCount::new(number(word, 1, u64::from(SLOTS))? as u16) {
+        Some(slots) => Ok(slots),
         None => Err(WordsFault::Usage),
     }
 }

@@ -8,6 +8,7 @@ use dlm_images::{
     Acknowledgement, DiskHost, MarkedLog, TryLock, check_folder, format_folder, lock_host,
     open_folder, open_folder_to_read, submit_patiently,
 };
+use folder_migration::{Moved, SlotCount, migrate_folder};
 use host::Config;
 use inspect::queues;
 use lock_command::{Command, HostNumber};
@@ -120,6 +121,31 @@ where
         None => Ok(()),
         Some(finding) => Err(Failure::from(Fault::from(finding))),
     }
+}
+
+/// Moves the log of a folder of the first layout onto new images in another folder, and prints what that came to.
+pub fn migrate<R: Files + AllocGlobal, O: Write>(
+    rt: &R,
+    old: &str,
+    new: &str,
+    slots: SlotCount,
+    out: &mut O,
+) -> Result<(), Failure>
+where
+    R::File: FileExt + OpenFile + TryLock + Drop,
+{
+    match migrate_folder(rt, old, new, slots).map_err(Fault::from)? {
+        Moved::Moved { commands, disks } => {
+            let slots = slots.get();
+            writeln!(
+                out,
+                "migrated {commands} commands, {disks} disks, {slots} slots"
+            )?;
+        }
+        Moved::Finished { disks } => writeln!(out, "finished {disks} disks")?,
+    }
+    out.flush()?;
+    Ok(())
 }
 
 /// A host over the disks of a folder, which has learned nothing yet, and the file that keeps its number locked.

@@ -56,6 +56,7 @@ where
         Task::Table { folder, host } => images::table(rt, folder, host, out),
         Task::Mark { folder, host } => images::mark(rt, folder, host, out),
         Task::Check { folder } => images::check(rt, folder, out),
+        Task::Migrate { old, new, slots } => images::migrate(rt, old, new, slots, out),
         Task::Race { last } => racing::race_hosts(rt, last, out),
         Task::Sweep { script } => sweep_file(rt, script, out),
     }

@@ -1,9 +1,10 @@
 ghost use Rattle.std.specs.Prelude.{◌≡◌};
 ghost use Rattle.dlm.specs.declared.words.WordsFault.TheVariants.{NoMemory};
 
-use crate::given_words::{cluster_of, command_of, config_of, host_of, last_host_of};
+use crate::given_words::{cluster_of, command_of, config_of, host_of, last_host_of, slots_of};
 use clap::error::ErrorKind;
 use clap::{Arg, ArgAction, ArgMatches, Error};
+use folder_migration::SlotCount;
 use host::Config;
 use lock_command::{Command, HostNumber};
 use std::alloc::{AllocError, Global};
@@ -44,6 +45,12 @@ pub enum Task<'a> {
     /// Look for damage in the images of this folder.
     Check {
         folder: &'a str,
+    },
+    /// Move the log of a folder of the first layout onto new images in another folder, with so many slots.
+    Migrate {
+        old: &'a str,
+        new: &'a str,
+        slots: SlotCount,
     },
     /// Race the hosts up to this one.
     Race {
@@ -99,6 +106,7 @@ pub fn task_of<'a>(alloc: Global, words: &'a [&'a str]) -> Result<Task<'a>, Word
         Some(("table", table)) => table_task(table),
         Some(("mark", mark)) => mark_task(mark),
         Some(("check", check)) => check_task(check),
+        Some(("migrate", migrate)) => migrate_task(migrate),
         Some(("race", race)) => race_task(race),
         Some(("sweep", sweep)) => sweep_task(sweep),
         _ => Err(WordsFault::Usage),
@@ -126,6 +134,7 @@ fn program<'a>(alloc: Global) -> Result<clap::Command<'a>, AllocError> {
     let program = with(program, table_command(alloc))?;
     let program = with(program, mark_command(alloc))?;
     let program = with(program, check_command(alloc))?;
+    let program = with(program, migrate_command(alloc))?;
     let program = with(program, race_command(alloc))?;
     with(program, sweep_command(alloc))
 }
@@ -189,6 +198,14 @@ fn check_command<'a>(alloc: Global) -> Result<clap::Command<'a>, AllocError> {
         .arg(word(alloc, "folder"))
 }
 
+fn migrate_command<'a>(alloc: Global) -> Result<clap::Command<'a>, AllocError> {
+    clap::Command::new(alloc, "migrate")
+        .disable_help_flag(true)
+        .arg(word(alloc, "old"))?
+        .arg(word(alloc, "new"))?
+        .arg(word(alloc, "slots"))
+}
+
 fn race_command<'a>(alloc: Global) -> Result<clap::Command<'a>, AllocError> {
     clap::Command::new(alloc, "race")
         .disable_help_flag(true)
@@ -241,6 +258,14 @@ fn mark_task<'a>(mark: &ArgMatches<'a>) -> Result<Task<'a>, WordsFault> {
 fn check_task<'a>(check: &ArgMatches<'a>) -> Result<Task<'a>, WordsFault> {
     Ok(Task::Check {
         folder: given(check, "folder")?,
+    })
+}
+
+fn migrate_task<'a>(migrate: &ArgMatches<'a>) -> Result<Task<'a>, WordsFault> {
+    Ok(Task::Migrate {
+        old: given(migrate, "old")?,
+        new: given(migrate, "new")?,
+        slots: slots_of(given(migrate, "slots")?)?,
     })
 }
 

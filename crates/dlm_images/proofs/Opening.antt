@@ -33,7 +33,7 @@ resized-same size d is = ap (λ (b : Bool). if b then d else missing size) (eq-e
 pub resized-other : (size : ℕ) (d : FileState) → (d.size == size) ≡ false → resized size d ≡ missing size
 resized-other size d is = ap (λ (b : Bool). if b then d else missing size) is
 
-resized-unused : (size : ℕ) (d : FileState) → d.used ≡ false → (resized size d).used ≡ false
+pub resized-unused : (size : ℕ) (d : FileState) → d.used ≡ false → (resized size d).used ≡ false
 resized-unused size d unused = by_test (d.size == size)
   where
     by_test : (b : Bool) → (if b then d else missing size).used ≡ false
@@ -74,7 +74,7 @@ resized-kept size n old now next x so_far there same is =
     }
 
 -- the first elements of a list are its own
-get-take : {X : Type 0} (n : ℕ) (xs : List X) (k : ℕ) (x : X) → slice_get (take n xs) k ≡ Some x → slice_get xs k ≡ Some x
+pub get-take : {X : Type 0} (n : ℕ) (xs : List X) (k : ℕ) (x : X) → slice_get (take n xs) k ≡ Some x → slice_get xs k ≡ Some x
 get-take zero xs k x is = absurd (cc)
 get-take (suc n) [] k x is = absurd (cc)
 get-take (suc n) (y ∷ ys) zero x is = is

@@ -124,7 +124,7 @@ where
 }
 
 /// Replaces every disk of another size by one of this size of which every call fails. Disks that were refused have no size yet.
-fn resize<F: FileExt + OpenFile + Drop>(disks: &mut Vec<FileDisk<F>>, size: u64)
+pub fn resize<F: FileExt + OpenFile + Drop>(disks: &mut Vec<FileDisk<F>>, size: u64)
     ensures as_many { length disks.new.items ≡ length disks.old.items }
     ensures long { (k : ℕ) (d : FileState) → slice_get disks.new.items k ≡ Some d → d.size ≡ size }
     ensures images { disks.new.items ≡ map (resized size) disks.old.items }

@@ -50,7 +50,7 @@ where
 }
 
 /// Whether something is there that is not to be written over: all but a block device that is not formatted.
-fn is_taken<R: Files>(files: &R, path: &str, size: u64) -> Result<bool, ImageFault>
+pub fn is_taken<R: Files>(files: &R, path: &str, size: u64) -> Result<bool, ImageFault>
 where
     R::File: FileExt + OpenFile + Drop,
     ensures { IfErr result (λ fault. fault ≡ ImageFault.Unreadable) }
@@ -97,19 +97,33 @@ where
     ensures { IfErr result (λ fault. fault ≡ ImageFault.Unreadable) }
 {
     let size = config.image_length();
-    let mut device = if files.symlink_metadata(path).is_ok() {
-        open_device(files, path, size)?
-    } else {
-        FileDisk::make(files, path, size)?
-    };
+    let mut device = new_device(files, path, size)?;
     if lay_out(&mut device, config, cluster, disk).is_err() || sync_folder(files, folder).is_err() {
         return Err(ImageFault::Unreadable);
     }
     Ok(())
 }
 
+/// A new file at this path, or the block device that is there, with room for an image of this size.
+pub fn new_device<R: Files>(
+    files: &R,
+    path: &str,
+    size: u64,
+) -> Result<FileDisk<R::File>, ImageFault>
+where
+    R::File: FileExt + OpenFile + Drop,
+    ensures room { IfOk result (λ device. size ≤ device.size) }
+    ensures fault { IfErr result (λ fault. fault ≡ ImageFault.Unreadable) }
+{
+    if files.symlink_metadata(path).is_ok() {
+        open_device(files, path, size)
+    } else {
+        FileDisk::make(files, path, size)
+    }
+}
+
 /// Makes sure of the names in a folder: a file whose name is lost is lost with all that it held.
-fn sync_folder<R: Files>(files: &R, folder: &str) -> io::Result<()>
+pub fn sync_folder<R: Files>(files: &R, folder: &str) -> io::Result<()>
 where
     R::File: OpenFile,
 {
@@ -145,7 +159,7 @@ pub fn lay_out<D: Disk>(
 }
 
 /// The disk is all zeros, up to this size.
-fn put_zeros<D: Disk>(device: &mut D, boot: Boot, size: u64) -> Result<(), DiskFault>
+pub fn put_zeros<D: Disk>(device: &mut D, boot: Boot, size: u64) -> Result<(), DiskFault>
     requires { size ≤ (D.device device.old).size }
     ensures zeros { OnOk result (WritesZeros D.gives boot.number 0 size device.old device.new) }
     ensures device { D.device device.new ≡ D.device device.old }

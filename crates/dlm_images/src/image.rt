@@ -46,6 +46,21 @@ where
     ensures long { IfOk result (λ image. image.1.size ≡ image_length image.0.slots) }
     ensures used { IfOk result (λ image. image.1.used ≡ true) }
 {
+    let mut file = open_as_told(files, path, access)?;
+    let header = read_header(&mut file, disk)?;
+    Ok((header, file))
+}
+
+/// Opens the file or block device at this path. What a device has after its image is left out of use.
+pub fn open_as_told<R: Files>(
+    files: &R,
+    path: &str,
+    access: Access,
+) -> Result<FileDisk<R::File>, ImageFault>
+where
+    R::File: FileExt + OpenFile + Drop,
+    ensures { IfErr result (λ fault. fault ≡ ImageFault.Unreadable) }
+{
     let mut file = match access {
         Access::ReadAndWrite => FileDisk::open(files, path)?,
         Access::Read => FileDisk::open_to_read(files, path)?,
@@ -53,13 +68,13 @@ where
     if file.is_block_device() {
         cut_as_told(&mut file)?;
     }
-    let header = read_header(&mut file, disk)?;
-    Ok((header, file))
+    Ok(file)
 }
 
 /// Leaves what a device has after its image out of use, if its first bytes say how long the image is and there is room for it.
 fn cut_as_told<F: FileExt + OpenFile + Drop>(device: &mut FileDisk<F>) -> Result<(), ImageFault>
     ensures cut { OnOk result (HEADER_LENGTH ≤ device.old.size → IsCutAsTold device.old device.new) }
+    ensures fault { IfErr result (λ fault. fault ≡ ImageFault.Unreadable) }
 {
     let bytes = first_bytes(device)?;
     device.cut(long_as_told(&bytes).min(device.size()));

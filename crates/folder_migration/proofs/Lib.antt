@@ -1,0 +1,5 @@
+pub mod Calling
+pub mod OldOpening
+pub mod Opened
+pub mod Recovering
+pub mod Writing

@@ -1,0 +1,19 @@
+use Rattle.std.proofs.Common.{◌≡◌, ◌+◌, ◌∷◌, [], ℕ, List, Some, length, slice_get, arith, ap, subst, ◌∙◌}
+use Rattle.std.proofs.lemmas.List.{length-append}
+use Rattle.disk.specs.FileStates.{FileState}
+use Rattle.paxos_block.specs.Places.{image_length}
+use Rattle.folder_migration.specs.Migrating.{IsBlank}
+use Rattle.folder_migration.proofs.Opened.{each_more}
+use Rattle.folder_migration.proofs.migrate.make_images.Goals as goal
+
+pub loop-disk-2-preserved : goal.loop-disk-2-preserved
+loop-disk-2-preserved g c =
+    let images = c.loop-disk-2.images.items in
+    let one = c.in_ok-image.image in
+    let blank : IsBlank (image_length c.args.config.slots) one = c.in_ok-image.ensures.blank in record {
+      as_many = ap length c.push_reserved.ensures.items ∙ length-append images (one ∷ []) ∙ ap (λ (n : ℕ). n + 1) c.loop-disk-2.invariant.as_many;
+      room = omega (arith, c.push_reserved.ensures.capacity, c.loop-disk-2.invariant.room);
+      each = λ k image is.
+          each_more (IsBlank (image_length c.args.config.slots)) images one blank c.loop-disk-2.invariant.each k image
+          (subst (λ (l : List FileState). slice_get l k ≡ Some image) c.push_reserved.ensures.items is);
+    }

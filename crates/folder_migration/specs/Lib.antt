@@ -1,0 +1,5 @@
+pub mod Gates
+pub mod Migrating
+pub mod Moving
+pub mod OldFolders
+pub mod Recovery

@@ -1,0 +1,152 @@
+-- What a migration from one folder to another came to, and why one may be refused.
+use Rattle.std.specs.Prelude.{◌≡◌, ◌⊎◌, ◌≤◌, ◌<◌, ℕ, List, length, slice_get, Some}
+use Rattle.torn_block.specs.declared.layout.TheConstants.{DISKS}
+use Rattle.disk.specs.declared.fault.ImageFault.TheVariants.{Unreadable}
+use Rattle.disk.specs.FileStates.{FileState, FileGives}
+use Rattle.paxos_block.specs.Places.{image_length}
+use Rattle.slot_log.specs.Shape.{Shape}
+use Rattle.slot_log.specs.declared.outcome.Outcome.TheVariants.{Refused as Ended}
+use Rattle.slot_log.specs.declared.outcome.Refusal.{Refusal}
+use Rattle.migration.specs.Kept.{setup_by}
+use Rattle.migration.specs.declared.end.End.{End}
+use Rattle.migration.specs.declared.end.End.TheVariants as end
+use Rattle.dlm_images.specs.Folders.{IsLockFault}
+use Rattle.dlm_images.specs.Layout.{header_of}
+use Rattle.dlm_images.specs.SetFaults.{MayRefuse}
+use Rattle.dlm_images.specs.declared.fault.FolderFault.{FolderFault}
+use Rattle.dlm_images.specs.declared.fault.FolderFault.TheVariants as folder
+use Rattle.folder_migration.specs.Gates.{Finds, IsCleared, OpensGate}
+use Rattle.folder_migration.specs.Moving.{HasMoved}
+use Rattle.folder_migration.specs.OldFolders.{IsOpened}
+use Rattle.folder_migration.specs.Recovery.{HasRecovered, RecoversTo}
+use Rattle.folder_migration.specs.declared.fault.MoveFault.{MoveFault}
+use Rattle.folder_migration.specs.declared.fault.MoveFault.TheVariants.{NoMemory, Folder, TooFewSlots, Lock, Refused, MigrationFailed}
+use Rattle.folder_migration.specs.declared.gate.Gate.{Gate}
+use Rattle.folder_migration.specs.declared.gate.Gate.TheVariants.{Open, Closed}
+use Rattle.folder_migration.specs.declared.migrate.Moved.{Moved}
+use Rattle.folder_migration.specs.declared.migrate.Moved.TheVariants.{Moved as All, Finished}
+
+-- the same disks, with so many slots
+abbrev pub with_slots : Shape → ℕ → Shape
+with_slots config slots = record { disks = config.disks; slots = slots }
+
+-- THE OLD FOLDER
+
+-- an old folder was opened, of no more slots
+pub record IsReady (slots : ℕ) (config : Shape) (cluster : ℕ) (disks : List FileState) : Type 0 where
+  pub opened : IsOpened config cluster disks
+  pub room : config.slots ≤ slots
+
+-- it has more slots
+pub record IsTooSmall (slots : ℕ) : Type 0 where
+  pub config : Shape
+  pub cluster : ℕ
+  pub disks : List FileState
+  pub opened : IsOpened config cluster disks
+  pub more : slots < config.slots
+
+-- NEW IMAGES
+
+-- the image of this number was found so
+pub record IsFound (config : Shape) (cluster disk : ℕ) (image : FileState) (gate : Gate) : Type 0 where
+  pub before : FileState
+  pub finds : Finds FileGives (header_of config cluster disk) before.size before image gate
+
+-- the gate of one of them is open
+pub record IsBegun (config : Shape) (cluster : ℕ) : Type 0 where
+  pub disk : ℕ
+  pub image : FileState
+  pub among : disk < config.disks
+  pub found : IsFound config cluster disk image Open
+
+-- If its gate was closed, it was opened.
+pub record IsLeftOpen (config : Shape) (cluster disk : ℕ) : Type 0 where
+  pub image : FileState
+  pub gate : Gate
+  pub found : IsFound config cluster disk image gate
+  pub opened : gate ≡ Closed → (new : FileState) × OpensGate FileGives image new
+
+abbrev pub AreLeftOpen : Shape → ℕ → ℕ → Type 0
+AreLeftOpen config cluster n = (k : ℕ) → k < n → IsLeftOpen config cluster k
+
+-- a device was made zeros, and has room for an image
+pub record IsBlank (size : ℕ) (image : FileState) : Type 0 where
+  pub made : FileState
+  pub room : size ≤ image.size
+  pub cleared : IsCleared FileGives size made image
+
+-- so was each of them
+pub record AreBlank (config : Shape) (images : List FileState) : Type 0 where
+  pub as_many : length images ≡ config.disks
+  pub each : (k : ℕ) (image : FileState) → slice_get images k ≡ Some image → IsBlank (image_length config.slots) image
+
+-- HOW IT ENDS
+
+-- The old log was recovered, images were made, and what stands for its commands was written there, up to this end.
+pub record HasWritten (slots commands disks : ℕ) (end : End) : Type 0 where
+  pub config : Shape
+  pub cluster : ℕ
+  pub old : List FileState
+  pub left : List FileState
+  pub log : List (List ℕ)
+  pub blank : List FileState
+  pub new : List FileState
+  pub ready : IsReady slots config cluster old
+  pub recovers : RecoversTo FileGives config old left log
+  pub are_blank : AreBlank (with_slots config slots) blank
+  pub moves : HasMoved FileGives (setup_by (with_slots config slots) cluster log) blank new end
+  pub commands_is : commands ≡ length log
+  pub disks_is : disks ≡ config.disks
+
+-- One of the new images had an open gate, and those of the others were opened.
+pub record HasFinished (slots disks : ℕ) : Type 0 where
+  pub config : Shape
+  pub cluster : ℕ
+  pub old : List FileState
+  pub ready : IsReady slots config cluster old
+  pub begun : IsBegun (with_slots config slots) cluster
+  pub left_open : AreLeftOpen (with_slots config slots) cluster config.disks
+  pub disks_is : disks ≡ config.disks
+
+abbrev pub CameTo : ℕ → Moved → Type 0
+CameTo slots (All commands disks) = HasWritten slots commands disks end.Migrated
+CameTo slots (Finished disks) = HasFinished slots disks
+
+-- WHY IT IS REFUSED
+
+-- the recovery of the old log ended so
+pub record HasRefused (slots : ℕ) (refusal : Refusal) : Type 0 where
+  pub config : Shape
+  pub cluster : ℕ
+  pub old : List FileState
+  pub left : List FileState
+  pub learned : List (List ℕ)
+  pub ready : IsReady slots config cluster old
+  pub recovers : HasRecovered FileGives config old left learned (Ended refusal)
+
+-- A call of the migration failed; or one that was to open a gate did, where another gate was open.
+pub record HasFailed (slots : ℕ) : Type 0 where
+  pub commands : ℕ
+  pub disks : ℕ
+  pub written : HasWritten slots commands disks end.MigrationFailed
+
+pub record HasNotFinished (slots : ℕ) : Type 0 where
+  pub config : Shape
+  pub cluster : ℕ
+  pub old : List FileState
+  pub ready : IsReady slots config cluster old
+  pub begun : IsBegun (with_slots config slots) cluster
+
+-- the old images are no set, or a new one is there, or one of them cannot be made
+abbrev pub IsFolderFault : FolderFault → Type 0
+IsFolderFault folder.NoMemory = Unit {0}
+IsFolderFault folder.AlreadyThere = Unit {0}
+IsFolderFault (folder.Image disk fault) = MayRefuse (folder.Image disk fault) ⊎ ((disk < DISKS) × (fault ≡ Unreadable))
+
+abbrev pub MayFail : ℕ → MoveFault → Type 0
+MayFail slots NoMemory = Unit {0}
+MayFail slots (Folder fault) = IsFolderFault fault
+MayFail slots TooFewSlots = IsTooSmall slots
+MayFail slots (Lock fault) = IsLockFault 0 fault
+MayFail slots (Refused refusal) = HasRefused slots refusal
+MayFail slots MigrationFailed = HasFailed slots ⊎ HasNotFinished slots

@@ -1,0 +1,68 @@
+ghost use Rattle.std.specs.Prelude.{◌≡◌, ◌↔◌, ◌≤◌, IsTrue, OnOk};
+ghost use Rattle.torn_block.specs.declared.layout.TheConstants.{HEADER_LENGTH};
+ghost use Rattle.folder_migration.specs.Gates.{IsOpenImage, IsClosedImage, Finds, OpensGate};
+
+use disk::{Disk, DiskFault};
+use dlm_images::first_bytes;
+use paxos_block::{Header, decode_header};
+use torn_block::{ClusterLayout, HEADER_LENGTH, OPEN_GATE};
+
+/// What a new image is, by its first bytes.
+#[derive(Clone, Copy, Debug, PartialEq, Eq)]
+pub enum Gate {
+    /// Its header is the one that it should have.
+    Open,
+    /// So it is, but for the gate.
+    Closed,
+    /// It has another header, or none.
+    Neither,
+}
+
+/// Whether an image of this length, with these first bytes, has this header, and whether its gate is open.
+pub fn gate_in(header: &Header, long: u64, bytes: &[u8; HEADER_LENGTH]) -> Gate
+    requires { HEADER_LENGTH ≤ long }
+    ensures open { (result ≡ Gate.Open) ↔ IsOpenImage header.now long bytes.now }
+    ensures closed { (result ≡ Gate.Closed) ↔ IsClosedImage header.now long bytes.now }
+{
+    let mut opened = *bytes;
+    opened[0] = OPEN_GATE;
+    match decode_header::<ClusterLayout>(header.disk, long, &opened) {
+        Ok(found) if is_same(&found, header) => {
+            if bytes[0] == OPEN_GATE {
+                Gate::Open
+            } else {
+                Gate::Closed
+            }
+        }
+        _ => Gate::Neither,
+    }
+}
+
+fn is_same(found: &Header, header: &Header) -> bool
+    ensures { IsTrue result ↔ (found.now ≡ header.now) }
+{
+    found == header
+}
+
+/// What is found of a device where the image with this header should be. One that cannot be read has no gate.
+pub fn find_gate<D: Disk>(device: &mut D, header: &Header) -> Gate
+    ensures found { Finds D.gives header.now (D.device device.old).size device.old device.new result }
+    ensures room { (result ≡ Gate.Closed) → HEADER_LENGTH ≤ (D.device device.new).size }
+    ensures device { D.device device.new ≡ D.device device.old }
+{
+    let long = device.size();
+    match first_bytes(device) {
+        Ok(bytes) if HEADER_LENGTH as u64 <= long => gate_in(header, long, &bytes),
+        _ => Gate::Neither,
+    }
+}
+
+/// Opens the gate of an image, and makes sure of it.
+pub fn open_gate<D: Disk>(device: &mut D) -> Result<(), DiskFault>
+    requires { 1 ≤ (D.device device.old).size }
+    ensures opened { OnOk result (OpensGate D.gives device.old device.new) }
+{
+    let boot = device.attach()?;
+    device.write(boot, 0, &[OPEN_GATE])?;
+    device.sync(boot)
+}

@@ -1,0 +1,24 @@
+//! A cluster moves from a folder of images of the first layout to new images: its log is recovered, upgraded and written there.
+#![tactic(auto)]
+
+mod device;
+mod fault;
+mod gate;
+mod image;
+mod migrate;
+mod moving;
+mod old_folder;
+mod old_log;
+mod slots;
+
+pub use fault::MoveFault;
+pub use gate::{Gate, find_gate, gate_in, open_gate};
+pub use image::clear;
+pub use migrate::{Moved, migrate_folder};
+pub use moving::move_log;
+pub use old_folder::{OldFolder, open_old_folder};
+pub use old_log::recover_log;
+pub use slots::SlotCount;
+
+#[cfg(test)]
+mod tests;

@@ -1,0 +1,321 @@
+#!/usr/bin/env python3
+"""migrate.py [--kills N]: moves folders of the first layout with `dlm migrate`. What it prints, what it tells on standard error, its status, the
+bytes of the new images, and what is left alone. Then it kills as many migrations (none given: none) at random moments (`kill -9`), and looks
+after each that the next run ends it or is refused, and that no state of the new folder reads as a cluster that lacks a command.
+
+The old images are written here byte by byte, by docs/FORMAT.md. It prints each difference, and how many there were; the status is 1 where
+there was one. The program has to be built: `./dlm` does so.
+"""
+import argparse
+import fcntl
+import os
+import random
+import shutil
+import subprocess
+import sys
+import tempfile
+import time
+
+TOP = os.path.dirname(os.path.dirname(os.path.realpath(__file__)))
+PROGRAM = os.path.join(TOP, "crates/dlm/out/dlm")
+TESTS = []
+
+
+def test(function):
+    """Adds a test, which runs in an empty folder of its own."""
+    TESTS.append(function)
+    return function
+
+
+class Differs(Exception):
+    """What was wanted, and what came."""
+
+
+def wants(what, got, wanted):
+    if got != wanted:
+        raise Differs(f"{what}: {got!r}, wanted {wanted!r}")
+
+
+def run(text):
+    """The status, the output and what was told, of words parted by single spaces."""
+    ended = subprocess.run([PROGRAM, *text.split(" ")], stdin=subprocess.DEVNULL, capture_output=True, check=False, text=True)
+    return ended.returncode, ended.stdout, ended.stderr
+
+
+def prints(text, printed):
+    wants(f"`{text}`", run(text), (0, printed, ""))
+
+
+def refused(text, told):
+    wants(f"`{text}`", run(text), (1, "", told))
+
+
+# THE FIRST LAYOUT
+
+def numbers(*given):
+    return b"".join(number.to_bytes(8, "big") for number in given)
+
+
+def old_header(disk, disks, slots, cluster):
+    return (bytes([0xA5, 1, disk, disks]) + slots.to_bytes(4, "big") + numbers(cluster)).ljust(1024, b"\0")
+
+
+def old_block(command):
+    """Host 0's block of a slot once its command is acknowledged: a copy of phase 1, and one of phase 2."""
+    first = bytes([0xA5, 1, 0, 0, 0, 0, 0, 0]) + numbers(1, 1, 0) + bytes(32)
+    second = bytes([0xA5, 1, 1, 0, 0, 0, 0, 0]) + numbers(2, 1, 1) + command
+    return first + second
+
+
+def old_image(disk, disks, slots, cluster, commands):
+    rows = b"".join(old_block(command).ljust(1024, b"\0") for command in commands)
+    return (old_header(disk, disks, slots, cluster).ljust(2048, b"\0") + rows).ljust(2048 + 1024 * slots, b"\0")
+
+
+def enqueue(client, request, lock, mode, name):
+    head = bytes([1, 0, client, mode, 0, len(name)]) + lock.to_bytes(2, "big")
+    return head + numbers(request) + b"\0" + name.ljust(15, b"\0")
+
+
+FIRST = bytes.fromhex("0100010500020001" "0000000000000001" "0064620000000000" "0000000000000000")
+
+
+def make_old(folder, disks, slots, commands):
+    os.mkdir(folder)
+    for disk in range(disks):
+        with open(f"{folder}/disk{disk}.img", "wb") as file:
+            file.write(old_image(disk, disks, slots, 7, commands))
+
+
+def put_byte(path, at, byte):
+    with open(path, "r+b") as file:
+        file.seek(at)
+        file.write(bytes([byte]))
+
+
+def bytes_of(path):
+    with open(path, "rb") as file:
+        return file.read()
+
+
+# THE SECOND LAYOUT
+
+def new_image(disk, disks, slots, commands):
+    header = (bytes([0xA5, 2, disk, disks]) + slots.to_bytes(4, "big") + numbers(7)).ljust(8192, b"\0")
+    blocks = [bytes([0xA5, 2, 1, 1, 0, 0, 0, 0]) + numbers(1, 1, 1) + command for command in commands]
+    return (header + b"".join(block.ljust(4096, b"\0") for block in blocks)).ljust(8192 + 4096 * slots, b"\0")
+
+
+HELD = "recovered 1\ndb\n  granted 1 1 0 EX\n"
+
+
+@test
+def one_command():
+    wants("a command", enqueue(1, 1, 1, 5, b"db"), FIRST)
+    make_old("d", 3, 16, [FIRST])
+    os.mkdir("e")
+    refused("table d 0", "dlm: 32 OldLayout disk0\n")
+    refused("migrate d e 8", "dlm: 33 TooFewSlots\n")
+    wants("the new folder", os.listdir("e"), [])
+    prints("migrate d e 32", "migrated 1 commands, 3 disks, 32 slots\n")
+    for disk in range(3):
+        wants(f"image {disk}", bytes_of(f"e/disk{disk}.img"), new_image(disk, 3, 32, [FIRST]))
+        wants(f"its length {disk}", os.path.getsize(f"e/disk{disk}.img"), 139264)
+    # The old log is still there.
+    refused("table d 0", "dlm: 32 OldLayout disk0\n")
+    prints("table e 9", HELD)
+    prints("submit e 12 release 1 2 1", "ack 1 Released\n")
+    put_byte("e/disk2.img", 0, 0)
+    prints("migrate d e 32", "finished 3 disks\n")
+    wants("the gate", bytes_of("e/disk2.img")[0], 0xA5)
+    prints("table e 3", "recovered 2\nempty\n")
+    # A migration of another size is another set.
+    refused("migrate d e 64", "dlm: 29 AlreadyThere\n")
+
+
+@test
+def finishing_touches_nothing_else():
+    make_old("d", 3, 16, [FIRST])
+    os.mkdir("e")
+    prints("migrate d e 16", "migrated 1 commands, 3 disks, 16 slots\n")
+    put_byte("e/disk0.img", 0, 0)
+    put_byte("e/disk1.img", 1, 3)
+    put_byte("e/disk1.img", 0, 0)
+    old = [bytes_of(f"d/disk{disk}.img") for disk in range(3)]
+    # It needs no majority of the old disks, and no lock.
+    os.remove("d/disk1.img")
+    os.remove("d/disk2.img")
+    os.remove("d/host0.lock")
+    prints("migrate d e 16", "finished 3 disks\n")
+    wants("the old folder", (sorted(os.listdir("d")), bytes_of("d/disk0.img")), (["disk0.img"], old[0]))
+    wants("gates", [bytes_of(f"e/disk{disk}.img")[0] for disk in range(3)], [0xA5, 0, 0xA5])
+    prints("table e 1", HELD)
+
+
+@test
+def refusals():
+    make_old("d", 3, 16, [FIRST])
+    wants("too many slots", run("migrate d e 4097"), (2, "", "dlm: usage\n"))
+    wants("no slots", run("migrate d e 0"), (2, "", "dlm: usage\n"))
+    wants("too few words", run("migrate d e"), (2, "", "dlm: usage\n"))
+    refused("migrate nothing e 16", "dlm: 26 Unreadable disk0\n")
+    refused("migrate d e 16", "dlm: 26 Unreadable disk0\n")
+    refused("migrate d d 16", "dlm: 29 AlreadyThere\n")
+    os.mkdir("e")
+    with open("e/disk2.img", "wb"):
+        pass
+    refused("migrate d e 16", "dlm: 29 AlreadyThere\n")
+    wants("what is there", (os.listdir("e"), os.path.getsize("e/disk2.img")), (["disk2.img"], 0))
+    os.remove("e/disk2.img")
+    with open("d/host0.lock", "r+b") as lock:
+        fcntl.flock(lock, fcntl.LOCK_EX)
+        refused("migrate d e 16", "dlm: 36 HostInUse host0\n")
+    os.mkdir("f")
+    prints("format f 3 16 7", "formatted 3 disks, 16 slots\n")
+    refused("migrate f e 16", "dlm: 25 WrongHeader disk0\n")
+    # An image of another old set refuses them all; closed gates are no images.
+    put_byte("d/disk2.img", 15, 8)
+    refused("migrate d e 16", "dlm: 25 WrongHeader disk2\n")
+    put_byte("d/disk2.img", 0, 0)
+    put_byte("d/disk1.img", 0, 0)
+    refused("migrate d e 16", "dlm: 7 NoMajority\n")
+    put_byte("d/disk0.img", 0, 0)
+    refused("migrate d e 16", "dlm: 24 NotFormatted disk0\n")
+    wants("the new folder", os.listdir("e"), [])
+
+
+@test
+def value_that_is_no_command():
+    make_old("d", 3, 16, [FIRST, bytes(32)])
+    os.mkdir("e")
+    refused("migrate d e 16", "dlm: 10 NotACommand\n")
+    wants("the new folder", os.listdir("e"), [])
+
+
+@test
+def full_log_gets_more_slots():
+    commands = [enqueue(1, request, request, 0, b"a") for request in range(1, 4)]
+    make_old("d", 1, 3, commands)
+    os.mkdir("e")
+    prints("migrate d e 3", "migrated 3 commands, 1 disks, 3 slots\n")
+    wants("the image", bytes_of("e/disk0.img"), new_image(0, 1, 3, commands))
+    refused("submit e 0 enqueue 1 4 4 NL a", "dlm: 9 LogFull\n")
+    os.mkdir("f")
+    prints("migrate d f 4096", "migrated 3 commands, 1 disks, 4096 slots\n")
+    prints("submit f 0 enqueue 1 4 4 NL a", "ack 3 Granted\n")
+
+
+@test
+def purge_leaves_values_valid():
+    purge = bytes([6, 0, 2, 0, 0, 0, 0, 0]) + numbers(1) + bytes(16)
+    make_old("d", 3, 16, [FIRST, enqueue(3, 1, 9, 0, b"db"), purge])
+    os.mkdir("e")
+    prints("migrate d e 16", "migrated 3 commands, 3 disks, 16 slots\n")
+    quiet = bytes([7]) + purge[1:]
+    wants("the image", bytes_of("e/disk1.img"), new_image(1, 3, 16, [FIRST, enqueue(3, 1, 9, 0, b"db"), quiet]))
+    prints("table e 1", "recovered 3\nempty\n")
+
+
+@test
+def empty_log():
+    make_old("d", 3, 16, [])
+    os.mkdir("e")
+    prints("migrate d e 16", "migrated 0 commands, 3 disks, 16 slots\n")
+    prints("table e 1", "recovered 0\nempty\n")
+
+
+# KILLS
+
+COMMANDS = [enqueue(lock % 32, lock, lock, 0, b"a") for lock in range(1, 25)]
+TABLE = "recovered 24\na\n" + "".join(f"  granted {lock} {lock % 32} 0 NL\n" for lock in range(1, 25))
+MIGRATED = "migrated 24 commands, 3 disks, 32 slots\n"
+# Of what a folder tells whose images are not all open, or not all there.
+NOT_READY = ("dlm: 24 ", "dlm: 25 ", "dlm: 26 ", "dlm: 7 ")
+
+
+def looks(folder):
+    """A copy of the folder reads as the whole log, or as none. Whether it reads is the result."""
+    shutil.rmtree("copy", ignore_errors=True)
+    shutil.copytree(folder, "copy")
+    status, printed, told = run("table copy 9")
+    if status == 0:
+        wants("the table", printed, TABLE)
+        return True
+    wants(f"a refusal, {told!r}", told.startswith(NOT_READY), True)
+    return False
+
+
+def gates():
+    return [name for name in sorted(os.listdir("new")) if bytes_of(f"new/{name}")[:1] == b"\xa5"]
+
+
+def goes_on(counts):
+    """The run after one that was killed."""
+    status, printed, told = run("migrate old new 32")
+    if (status, told) == (1, "dlm: 29 AlreadyThere\n"):
+        # No gate is open: somebody removes the images, and begins anew.
+        wants("open gates", gates(), [])
+        counts["refused"] += 1
+        shutil.rmtree("new")
+        os.mkdir("new")
+        prints("migrate old new 32", MIGRATED)
+    else:
+        wants("a run", (status, told), (0, ""))
+        wants(f"what it printed, {printed!r}", printed in (MIGRATED, "finished 3 disks\n"), True)
+        counts["anew" if printed == MIGRATED else "finished"] += 1
+    wants("all images", gates(), ["disk0.img", "disk1.img", "disk2.img"])
+    wants("what is read", looks("new"), True)
+
+
+def kill(kills):
+    make_old("old", 3, 32, COMMANDS)
+    os.mkdir("new")
+    began = time.monotonic()
+    prints("migrate old new 32", MIGRATED)
+    long = time.monotonic() - began
+    counts = {"killed": 0, "late": 0, "read": 0, "refused": 0, "anew": 0, "finished": 0}
+    while counts["killed"] < kills:
+        shutil.rmtree("new")
+        os.mkdir("new")
+        with subprocess.Popen([PROGRAM, "migrate", "old", "new", "32"], stdout=subprocess.PIPE, stderr=subprocess.PIPE) as process:
+            # Half of them near the end, where the gates are.
+            time.sleep(long * random.choice([random.uniform(0, 1.1), random.uniform(0.8, 1.05)]))
+            process.kill()
+            process.communicate()
+        if process.returncode == 0:
+            counts["late"] += 1
+            continue
+        counts["killed"] += 1
+        if looks("new"):
+            counts["read"] += 1
+        goes_on(counts)
+    print("migrate.py: " + ", ".join(f"{count} {what}" for what, count in counts.items()))
+
+
+def main():
+    parser = argparse.ArgumentParser()
+    parser.add_argument("--kills", type=int, default=0)
+    kills = parser.parse_args().kills
+    if not os.access(PROGRAM, os.X_OK):
+        print("migrate.py: dlm is not built")
+        return 1
+    tests = [(function.__name__, function) for function in TESTS]
+    if kills > 0:
+        tests.append(("kill", lambda: kill(kills)))
+    wrong = 0
+    # In memory where there is such a folder: what is tested is the order of the calls, not the device.
+    place = "/dev/shm" if os.access("/dev/shm", os.W_OK) else None
+    for name, function in tests:
+        with tempfile.TemporaryDirectory(dir=place) as folder:
+            os.chdir(folder)
+            try:
+                function()
+            except Differs as difference:
+                print(f"{name}: {difference}")
+                wrong += 1
+            os.chdir(TOP)
+    print(f"migrate.py: {len(tests)} tests, {wrong} wrong")
+    return 1 if wrong else 0
+
+
+sys.exit(main())
