@@ -18,7 +18,7 @@ unfolding header_by short_bytes number_bytes
 length-header header =
     omega (arith, length-append (short_bytes header.slots) (number_bytes header.cluster ++ zeros 1008), length-append (number_bytes header.cluster) (zeros 1008), length-bytes_high_first 4 header.slots, length-bytes_high_first 8 header.cluster, length-zeros 1008)
 
-length-body : (value : List ℕ) → length value ≡ VALUE_LENGTH → length (body_saying (vote_for value)) ≡ BODY_LENGTH
+pub length-body : (value : List ℕ) → length value ≡ VALUE_LENGTH → length (body_saying (vote_for value)) ≡ BODY_LENGTH
 unfolding body_by heading_by
 length-body value long =
     omega (arith, long, length-append (number_bytes 1) (number_bytes 1 ++ (value ++ zeros 48)), length-append (number_bytes 1) (value ++ zeros 48), length-append value (zeros 48), length-zeros 48, length-number 1)

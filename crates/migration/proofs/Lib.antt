@@ -7,4 +7,5 @@ pub mod Lengths
 pub mod Outcomes
 pub mod Puts
 pub mod Reading
+pub mod Rows
 pub mod Stepping

@@ -38,7 +38,7 @@ put_middle a b c x place at as_long =
     ∙ ap (λ (l : List ℕ). a ++ x ++ l) back
     ∙ append_assoc a x c
 
-put_in_zeros : (before x : List ℕ) (place n : ℕ) → length before ≡ place → length x ≤ n → put_at (before ++ zeros n) place x ≡ before ++ (x ++ zeros (n - length x))
+pub put_in_zeros : (before x : List ℕ) (place n : ℕ) → length before ≡ place → length x ≤ n → put_at (before ++ zeros n) place x ≡ before ++ (x ++ zeros (n - length x))
 put_in_zeros before x place n at fits =
     let sum : n ≡ length x + (n - length x) = omega arith in
     ap (λ (k : ℕ). put_at (before ++ zeros k) place x) sum
@@ -48,7 +48,7 @@ put_in_zeros before x place n at fits =
 -- THE ROWS
 
 -- the rows of a log are written into zeros
-rows_written : (log : List (List ℕ)) (n k : ℕ) (before : List ℕ) (more : List Put) → length before ≡ row_place k → length log ≤ n → All (λ value. length value ≡ VALUE_LENGTH) log
+pub rows_written : (log : List (List ℕ)) (n k : ℕ) (before : List ℕ) (more : List Put) → length before ≡ row_place k → length log ≤ n → All (λ value. length value ≡ VALUE_LENGTH) log
     → puts (before ++ zeros (ROW_LENGTH * n)) (blocks_from k log ++ more) ≡ puts (before ++ (rows_for log ++ zeros (ROW_LENGTH * (n - length log)))) more
 rows_written [] n k before more at within long = let same : n ≡ n - 0 = omega arith in ap (λ (m : ℕ). puts (before ++ zeros (ROW_LENGTH * m)) more) same
 rows_written (value ∷ log) n k before more at within long =

@@ -46,7 +46,7 @@ abbrev AreApart : ℕ → ℕ → List Put → Type 0
 AreApart size place [] = Unit {0}
 AreApart size place (w ∷ ws) = (w.0 + length w.1 ≤ size) × ((w.0 + length w.1 ≤ place) ⊎ (place + BLOCK_LENGTH ≤ w.0)) × AreApart size place ws
 
-puts_elsewhere : (size place : ℕ) (bytes : List ℕ) (ws : List Put) → length bytes ≡ size → place + BLOCK_LENGTH ≤ size → AreApart size place ws → block_in place (puts bytes ws) ≡ block_in place bytes
+pub puts_elsewhere : (size place : ℕ) (bytes : List ℕ) (ws : List Put) → length bytes ≡ size → place + BLOCK_LENGTH ≤ size → AreApart size place ws → block_in place (puts bytes ws) ≡ block_in place bytes
 puts_elsewhere size place bytes [] long room apart = refl
 puts_elsewhere size place bytes (w ∷ ws) long room (fits, aside, apart) =
     let within : w.0 + length w.1 ≤ length bytes = omega (arith, long, fits) in
@@ -57,7 +57,7 @@ puts_elsewhere size place bytes (w ∷ ws) long room (fits, aside, apart) =
 
 module _ (slots : ℕ) (more : List Put) where
   -- they are apart from every other block
-  apart_from : (spot : Spot) → IsSpot slots spot → AreApart (image_length slots) (place_of spot) more → (k : ℕ) (log : List (List ℕ)) → k + length log ≤ slots → All (λ value. length value ≡ VALUE_LENGTH) log
+  pub apart_from : (spot : Spot) → IsSpot slots spot → AreApart (image_length slots) (place_of spot) more → (k : ℕ) (log : List (List ℕ)) → k + length log ≤ slots → All (λ value. length value ≡ VALUE_LENGTH) log
       → ((i : ℕ) → k ≤ i → i < k + length log → spot ≢ VoteOf i 0) → AreApart (image_length slots) (place_of spot) (blocks_from k log ++ more)
   apart_from spot is rest k [] within values other = rest
   apart_from spot is rest k (value ∷ log) within values other =
@@ -72,7 +72,7 @@ module _ (slots : ℕ) (more : List Put) where
       )
 
   -- each is there
-  stands : ((spot : Spot) → IsSpot slots spot → AreApart (image_length slots) (place_of spot) more) → (k : ℕ) (log : List (List ℕ)) (bytes : List ℕ) → length bytes ≡ image_length slots → k + length log ≤ slots → All (λ value. length value ≡ VALUE_LENGTH) log
+  pub stands : ((spot : Spot) → IsSpot slots spot → AreApart (image_length slots) (place_of spot) more) → (k : ℕ) (log : List (List ℕ)) (bytes : List ℕ) → length bytes ≡ image_length slots → k + length log ≤ slots → All (λ value. length value ≡ VALUE_LENGTH) log
       → (i : ℕ) (value : List ℕ) → slice_get log i ≡ Some value → block_in (place_of (VoteOf (k + i) 0)) (puts bytes (blocks_from k log ++ more)) ≡ block_for value
   stands rest k [] bytes long within values i value is = absurd (cc)
   stands rest k (first ∷ log) bytes long within values zero value is =
@@ -95,6 +95,20 @@ module _ (slots : ℕ) (more : List Put) where
       let number : k + suc i ≡ suc k + i = omega arith in
       ap (λ (j : ℕ). block_in (place_of (VoteOf j 0)) (puts bytes (blocks_from k (first ∷ log) ++ more))) number
       ∙ stands rest (suc k) log (put_at bytes place (block_for first)) (length-put bytes place (block_for first) fits 0 ∙ long) (omega (arith, within)) (λ i d inside. values (suc i) d (omega arith)) i value is
+
+-- a block of an image of zeros
+pub blank_block : (slots place : ℕ) → place + BLOCK_LENGTH ≤ image_length slots → block_in place (zeros (image_length slots)) ≡ zeros BLOCK_LENGTH
+unfolding zeros
+blank_block slots place room =
+    let n = image_length slots in
+    let size : (place + BLOCK_LENGTH) - place ≡ BLOCK_LENGTH = omega arith in
+    ap (take ((place + BLOCK_LENGTH) - place)) (drop-replicate place n 0) ∙ take-replicate ((place + BLOCK_LENGTH) - place) (n - place) 0 (omega arith) ∙ ap (λ (k : ℕ). replicate k 0) size
+
+-- how long the rows are
+pub length-rows : (log : List (List ℕ)) → All (λ value. length value ≡ VALUE_LENGTH) log → length (rows_for log) ≡ ROW_LENGTH * length log
+length-rows [] values = refl
+length-rows (value ∷ log) values =
+    omega (arith, length-block value (values 0 [] (omega arith)), length-rows log (λ i d inside. values (suc i) d (omega arith)), length-append (row_for value) (rows_for log), length-append (block_for value) (zeros (ROW_LENGTH - BLOCK_LENGTH)), length-zeros (ROW_LENGTH - BLOCK_LENGTH))
 
 -- A COMPLETE IMAGE
 
@@ -127,27 +141,15 @@ module _ (s : Setup) (d : ℕ) (fits : Fits s) where
       ∙ ap (λ (j : ℕ). block_in (place_of (VoteOf j 0)) (puts (zeros (image_length s.slots)) (blocks_from 0 s.log ++ header_puts))) number
       ∙ stands s.slots header_puts header_apart 0 s.log (zeros (image_length s.slots)) (length-zeros (image_length s.slots)) (let n = fits.room.log in omega (arith, n)) fits.values k value is
 
-  blank_block : (place : ℕ) → place + BLOCK_LENGTH ≤ image_length s.slots → block_in place (zeros (image_length s.slots)) ≡ zeros BLOCK_LENGTH
-  unfolding zeros
-  blank_block place room =
-      let n = image_length s.slots in
-      let size : (place + BLOCK_LENGTH) - place ≡ BLOCK_LENGTH = omega arith in
-      ap (take ((place + BLOCK_LENGTH) - place)) (drop-replicate place n 0) ∙ take-replicate ((place + BLOCK_LENGTH) - place) (n - place) 0 (omega arith) ∙ ap (λ (k : ℕ). replicate k 0) size
-
   pub holds_no_more : HoldsNoMore s d
   holds_no_more spot is other =
       let room = spot_fits cluster_version s.slots spot is in
       ap (block_in (place_of spot)) made
       ∙ puts_elsewhere (image_length s.slots) (place_of spot) (zeros (image_length s.slots)) (blocks_from 0 s.log ++ header_puts) (length-zeros (image_length s.slots)) room
       (apart_from s.slots header_puts spot is (header_apart spot is) 0 s.log (let n = fits.room.log in omega (arith, n)) fits.values (λ i from below. other i (omega (arith, below))))
-      ∙ blank_block (place_of spot) room
+      ∙ blank_block s.slots (place_of spot) room
 
   -- how long it is
-  length-rows : (log : List (List ℕ)) → All (λ value. length value ≡ VALUE_LENGTH) log → length (rows_for log) ≡ ROW_LENGTH * length log
-  length-rows [] values = refl
-  length-rows (value ∷ log) values =
-      omega (arith, length-block value (values 0 [] (omega arith)), length-rows log (λ i d inside. values (suc i) d (omega arith)), length-append (row_for value) (rows_for log), length-append (block_for value) (zeros (ROW_LENGTH - BLOCK_LENGTH)), length-zeros (ROW_LENGTH - BLOCK_LENGTH))
-
   pub length-image : length (image_of s d) ≡ image_length s.slots
   length-image =
       let some = fits.room.log in

@@ -20,7 +20,7 @@ use Rattle.host.specs.declared.answer.HostAnswer.{HostAnswer}
 use Rattle.host.specs.declared.answer.HostAnswer.TheVariants.{Refused}
 use Rattle.host.specs.Host.{Operation, Submitting, Recovering, Looking, Doing, Beats, Memory, Host, Stopped, Running, fresh, says, begins, goes_on, full_answer, spent_answer, learns, is_submitted, after_learning, takes, tries_again, with_floor, ended, by_status, with_heard, setup_of, Marking, beat_of, beat_by, hears_beat, hears_beside, hears_marking, marking_by, marking_with, marking_of, with_marking, starts_marking, hears_from, rests, is_idle, is_idle_in, said_of, learned_of}
 use Rattle.world.specs.Entry as entries
-use Rattle.world.specs.Entry.{Filled, Called, Torn, Crashed, Lost, host_step, host_after}
+use Rattle.world.specs.Entry.{Filled, Called, Torn, Crashed, Lost, Migrated, host_step, host_after}
 use Rattle.world.specs.Account.{Ending, ending_by, ending_in, ending_at, endings, read_as, committed_by, committed, outran, greatest_on, one_if_outrun, outruns, beat_ended_by, beat_ended_in, beat_ended_at, beats_ended, read_by, last_read, floor_of, readings_of, GoesOn, AllGoOn, AccountsFor, BeginsWith, IsCalled, AllCalled, GivesUp}
 
 -- SUMS OF ENDINGS
@@ -207,6 +207,7 @@ one_accounts c h (Running m) past (Called g d call answer left) on is = hearing 
 one_accounts c h (Running m) past (Torn g d call left) on is = absurd on
 one_accounts c h (Running m) past (Crashed d left) on is = same_account m m past refl refl is
 one_accounts c h (Running m) past (Lost d) on is = same_account m m past refl refl is
+one_accounts c h (Running m) past (Migrated disks log) on is = same_account m m past refl refl is
 
 all_account : (c : Shape) (h : ℕ) (es : List Filled) (host : Host) (past : List Ending) → AllGoOn es → AccountsAt host past → AccountsAt (host_after c h host es) (past ++ endings c h host es)
 all_account c h [] host past on is = subst (AccountsAt host) (sym (append-nil past)) is
@@ -310,6 +311,7 @@ one_read c h Stopped (Called g d call answer left) on = refl
 one_read c h Stopped (Torn g d call left) on = refl
 one_read c h Stopped (Crashed d left) on = refl
 one_read c h Stopped (Lost d) on = refl
+one_read c h Stopped (Migrated disks log) on = refl
 one_read c h (Running m) (entries.Start g) on = refl
 one_read c h (Running m) (entries.Stop g) on = absurd on
 one_read c h (Running m) (entries.Submit g command tries) on = ap (λ (b : Beats). b.readings) (beats_on c m (Submitting command) tries)
@@ -321,6 +323,7 @@ one_read c h (Running m) (Called g d call answer left) on = read_hearing c h m m
 one_read c h (Running m) (Torn g d call left) on = absurd on
 one_read c h (Running m) (Crashed d left) on = refl
 one_read c h (Running m) (Lost d) on = refl
+one_read c h (Running m) (Migrated disks log) on = refl
 
 all_read : (c : Shape) (h : ℕ) (es : List Filled) (host : Host) → AllGoOn es → readings_of (host_after c h host es) ≡ option_or (last_read (beats_ended c h host es)) (readings_of host)
 all_read c h [] host on = refl

@@ -16,8 +16,8 @@ use Rattle.beats.proofs.Histories.{fits_too, starts}
 use Rattle.slot_log.specs.Shape.{Shape}
 use Rattle.host.specs.Host.{Operation, Submitting, Recovering, Looking, Doing, Memory, Host, Stopped, Running, Marking, hears_from, hears_beside, hears_marking, marking_by, marking_with, marking_of, with_marking, beat_by, beat_of, is_idle, is_idle_in, next_beside, next_marking, next_doing, next_of}
 use Rattle.host.proofs.Hosts.{beats-goes_on, beats_heard}
-use Rattle.world.specs.Entry.{Filled, Start, Stop, Submit, Recover, Look, Beat, Mark, Called, Torn, Crashed, Lost, is_of, host_step, started, beats, marks, begins_on}
-use Rattle.world.specs.World.{World, world, MayFollow, IsRun}
+use Rattle.world.specs.Entry.{Filled, Start, Stop, Submit, Recover, Look, Beat, Mark, Called, Torn, Crashed, Lost, Migrated, is_of, host_step, started, beats, marks, begins_on}
+use Rattle.world.specs.World.{World, world, MayBegin, IsRun}
 use Rattle.world.proofs.Histories.{step_fits, has_call}
 use Rattle.world.proofs.Projections.{host_here, host_there}
 use Rattle.world.proofs.Runs.{by_run}
@@ -94,7 +94,7 @@ module _ (c : Shape) (h : ℕ) where
   start_heard (Running m) is = is
 
   -- an entry of the host keeps it so
-  step_heard : (w : World) (e : Filled) → is_of h e ≡ true → MayFollow c w e → IsHeard (w.host h) → IsHeard (host_step c h (w.host h) e)
+  step_heard : (w : World) (e : Filled) → is_of h e ≡ true → MayBegin c w e → IsHeard (w.host h) → IsHeard (host_step c h (w.host h) e)
   step_heard w (Start g) of m is = start_heard (w.host h) is
   step_heard w (Stop g) of m is = tt
   step_heard w (Submit g command tries) of m is = operated (w.host h) (Submitting command) tries is
@@ -108,6 +108,7 @@ module _ (c : Shape) (h : ℕ) where
   step_heard w (Torn g k call left) of m is = tt
   step_heard w (Crashed k left) of m is = absurd (cc)
   step_heard w (Lost k) of m is = absurd (cc)
+  step_heard w (Migrated disks log) of m is = absurd (cc)
 
 -- every beat of a run has heard a history
 run_heard : (c : Shape) (log : List Filled) → IsRun c log → (h : ℕ) → IsHeard c h ((world c log).host h)

@@ -34,8 +34,8 @@ use Rattle.host.specs.Host.{Operation, Submitting, Recovering, Looking, Doing, M
 use Rattle.beats.specs.Answers as beat_answers
 use Rattle.beats.specs.Status as beat
 use Rattle.marks.specs.Status as mark
-use Rattle.world.specs.Entry.{Filled, Start, Stop, Submit, Recover, Look, Beat, Mark, Called, Torn, Crashed, Lost, is_of, host_step, started, beats, marks, begins_on}
-use Rattle.world.specs.World.{World, world, MayFollow, IsRun}
+use Rattle.world.specs.Entry.{Filled, Start, Stop, Submit, Recover, Look, Beat, Mark, Called, Torn, Crashed, Lost, Migrated, is_of, host_step, started, beats, marks, begins_on}
+use Rattle.world.specs.World.{World, world, MayBegin, IsRun}
 use Rattle.world.proofs.Projections.{host_here, host_there}
 use Rattle.world.specs.Chosen.{at, Hears, IsChosenAt}
 use Rattle.world.proofs.Runs.{by_run, beginning, each}
@@ -203,7 +203,7 @@ module _ (c : Shape) (h : ℕ) where
   start_heard (Running m) is = is
 
   -- an entry of the host keeps it so
-  step_heard : (w : World) (e : Filled) → is_of h e ≡ true → MayFollow c w e → IsHeard (w.host h) → IsHeard (host_step c h (w.host h) e)
+  step_heard : (w : World) (e : Filled) → is_of h e ≡ true → MayBegin c w e → IsHeard (w.host h) → IsHeard (host_step c h (w.host h) e)
   step_heard w (Start g) of m is = start_heard (w.host h) is
   step_heard w (Stop g) of m is = tt
   step_heard w (Submit g command tries) of m is = operated (w.host h) (Submitting command) tries (Submit g command tries) refl
@@ -217,6 +217,7 @@ module _ (c : Shape) (h : ℕ) where
   step_heard w (Torn g k call left) of m is = tt
   step_heard w (Crashed k left) of m is = absurd (cc)
   step_heard w (Lost k) of m is = absurd (cc)
+  step_heard w (Migrated disks log) of m is = absurd (cc)
 
 -- every host of a run has heard histories
 pub run_heard : (c : Shape) (log : List Filled) → IsRun c log → (h : ℕ) → IsHeard c h ((world c log).host h)

@@ -13,7 +13,7 @@ use Rattle.lock_command.specs.declared.command.Command.{Command}
 use Rattle.lock_command.specs.Reading.{decoded}
 use Rattle.slot_log.specs.Shape.{Shape}
 use Rattle.host.specs.Host.{Operation, Looking, Doing, Memory, Running, floor_for, setup_of, says, begins, full_answer, spent_answer, goes_on, is_submitted, after_learning, learns, takes, by_status, with_heard, hears_from, next_doing, next_of}
-use Rattle.world.specs.Entry.{Filled, Start, Stop, Submit, Recover, Look, Beat, Mark, Called, Torn, Crashed, Lost, is_of, called_by, disk_step}
+use Rattle.world.specs.Entry.{Filled, Start, Stop, Submit, Recover, Look, Beat, Mark, Called, Torn, Crashed, Lost, Migrated, is_of, called_by, disk_step}
 use Rattle.world.specs.Looks.{SaysLooking}
 use Rattle.world.specs.World.{World, world, MayFollow, IsRun}
 use Rattle.world.proofs.Histories as histories
@@ -122,3 +122,4 @@ module _ (c : Shape) (w : World) (h d : ℕ) (m : Memory) (t : Doing) (running :
   bytes_stay (Torn g k call left) may of = absurd (torn g k call left (eqb-true g h of) may)
   bytes_stay (Crashed k left) may of = absurd (cc)
   bytes_stay (Lost k) may of = absurd (cc)
+  bytes_stay (Migrated disks log) may of = absurd may

@@ -15,13 +15,13 @@ use Rattle.lock_command.specs.declared.command.Command.{Command}
 use Rattle.slot_log.specs.Shape.{Shape}
 use Rattle.host.specs.Host.{next_of}
 use Rattle.world.specs.Entry as entries
-use Rattle.world.specs.Entry.{Filled, Called, Torn, Crashed, Lost, torn_by, called_by, disk_step, host_step, hears_on, is_on, is_of}
-use Rattle.world.specs.World.{World, world, MayFollow, IsRun, HasDisk}
+use Rattle.world.specs.Entry.{Filled, Called, Torn, Crashed, Lost, Migrated, torn_by, called_by, disk_step, host_step, hears_on, is_on, is_of}
+use Rattle.world.specs.World.{World, world, MayFollow, MayBegin, IsRun, HasDisk}
 use Rattle.world.specs.Happens as events
-use Rattle.world.specs.Happens.{Event, Start, Stop, Submit, Recover, Look, Beat, Mark, Step, Tear, FailCall, DiskCrash, DiskGone, answer_by, answer_of, spread_over, stepped, failed_entry, failed, torn, brings_if, are_some, has_disk, submitted, entry_of, with_entry, run}
-use Rattle.world.specs.Lines.{BringsSuch, EventsReachEach, EventsReachAll}
+use Rattle.world.specs.Happens.{Event, Start, Stop, Submit, Recover, Look, Beat, Mark, Step, Tear, FailCall, DiskCrash, DiskGone, answer_by, answer_of, spread_over, stepped, failed_entry, failed, torn, brings_if, are_some, has_disk, submitted, entry_of, with_entry, happen}
+use Rattle.world.specs.Lines.{BringsSuch, beginning, EventsReachEach, EventsReachAll}
 use Rattle.world.proofs.Projections.{disk_here, disk_there, host_here, host_there}
-use Rattle.world.proofs.Runs.{run_whole, by_run, more, one_more}
+use Rattle.world.proofs.Runs.{run_whole, by_run_from, more, happen_more}
 
 -- BYTES THAT ARE GIVEN
 
@@ -248,6 +248,7 @@ module _ (c : Shape) (w : World) (whole : (k : ℕ) → IsWhole (w.disk k)) wher
   reached (Torn h k (Sync boot) left) may = absurd may.1
   reached (Crashed k left) may = crashing k left may
   reached (Lost k) may = (DiskGone k, itself (DiskGone k) _ (brought_if _ _ (has k may)))
+  reached (Migrated disks log) may = absurd may
 
 pub events_reach_each : EventsReachEach
 events_reach_each c log e r may = reached c (world c log) (run_whole c log r) e may
@@ -271,17 +272,23 @@ same_world c first second event e same such = λ i. record { disk = λ k. disk k
       | inr off ↦ host_there c first such.brought h (such.of_host h ∙ off) ∙ ap (λ (w : World). w.host h) same ∙ sym (host_there c second e h off)
     ]
 
--- some events leave this world
-abbrev Left : Shape → List Filled → Type 0
-Left c log = IsRun c log × ((evs : List Event) × (world c (run c evs) ≡ world c log))
+-- behind this beginning some events leave this world
+abbrev Left : Shape → List Filled → List Filled → Type 0
+Left c start log = IsRun c log × ((evs : List Event) × (world c (happen c start evs) ≡ world c log))
 
-one_further : (c : Shape) (log : List Filled) (e : Filled) → MayFollow c (world c log) e → Left c log → Left c (log ++ e ∷ [])
-one_further c log e may (r, (evs, same)) =
+one_further : (c : Shape) (start log : List Filled) (e : Filled) → MayFollow c (world c log) e → Left c start log → Left c start (log ++ e ∷ [])
+one_further c start log e may (r, (evs, same)) =
     let found = events_reach_each c log e r may in
-    let brings : entry_of c (world c (run c evs)) found.0 ≡ Some found.1.brought = ap (λ (w : World). entry_of c w found.0) same ∙ found.1.is in (
+    let brings : entry_of c (world c (happen c start evs)) found.0 ≡ Some found.1.brought = ap (λ (w : World). entry_of c w found.0) same ∙ found.1.is in (
       more c log e r may,
-      (evs ++ found.0 ∷ [], ap (world c) (one_more c evs found.0 ∙ ap (with_entry (run c evs)) brings) ∙ same_world c (run c evs) log found.0 e same found.1),
+      (evs ++ found.0 ∷ [], ap (world c) (happen_more c start evs found.0 ∙ ap (with_entry (happen c start evs)) brings) ∙ same_world c (happen c start evs) log found.0 e same found.1),
     )
 
+-- so the first entry does, whatever comes behind it
+begun : (c : Shape) (e : Filled) (es : List Filled) → MayBegin c (world c []) e → Left c (beginning (e ∷ es)) (e ∷ [])
+begun c (Migrated disks log) es may = ((may, tt), ([], refl))
+begun c other es may = one_further c [] [] other may (tt, ([], refl))
+
 pub events_reach_all : EventsReachAll
-events_reach_all c log r = (by_run c (Left c) (tt, ([], refl)) (one_further c) log r).1
+events_reach_all c [] r = ([], refl)
+events_reach_all c (e ∷ es) r = (by_run_from c (Left c (beginning (e ∷ es))) (one_further c (beginning (e ∷ es))) (e ∷ []) es (begun c e es r.0) r.1).1

@@ -1,17 +1,21 @@
 -- The list that events make is a run, and the disks of a run keep a flag for each byte.
-use Rattle.std.specs.Prelude.{take, drop, replicate, min, ◌-◌}
-use Rattle.std.proofs.Common.{ℕ, zero, suc, slice_get, ◌+◌, ◌≡◌, true, false, Option, Some, None, List, [], ◌∷◌, ◌++◌, length, refl, sym, subst, ap, ◌∙◌, arith, length-append, length-drop, append_assoc, append-nil, inl, inr}
+use Rattle.std.specs.Prelude.{take, drop, replicate, map, min, ◌<◌, ◌≤◌, ◌-◌}
+use Rattle.std.proofs.Common.{ℕ, zero, suc, slice_get, ◌+◌, ◌≡◌, ◌⊎◌, true, false, Option, Some, None, List, [], ◌∷◌, ◌++◌, length, refl, sym, subst, ap, ◌∙◌, arith, length-append, length-drop, append_assoc, append-nil, inl, inr}
 use Rattle.std.proofs.lemmas.List.{length-take, length-replicate}
 use Rattle.std.proofs.lemmas.Bool.{cases_Bool, eqb-true}
 use Rattle.disk.specs.declared.fault.DiskFault.TheVariants.{Reset, Failed, Gone}
 use Rattle.disk.specs.Disk.{DiskState, Call, Attach, Read, Write, Sync, Answer, Booted, Told, Done, Fault, written, done_by, put_at}
 use Rattle.disk.specs.Crash.{IsWhole}
 use Rattle.disk.specs.Simulated.{fresh_disk}
-use Rattle.paxos_block.specs.Places.{image_length}
+use Rattle.paxos_block.specs.Places.{image_length, row_place}
+use Rattle.migration.specs.Image.{rows_for}
+use Rattle.lock_command.specs.declared.command.Command.{Command}
+use Rattle.lock_command.specs.Command.{spelling}
 use Rattle.slot_log.specs.Shape.{Shape}
-use Rattle.world.specs.Entry.{Filled, Start, Stop, Submit, Recover, Look, Beat, Mark, Called, Torn, Crashed, Lost, is_on, torn_by, called_by, disk_step}
-use Rattle.world.specs.World.{World, world, MayFollow, IsRunFrom, IsRun}
-use Rattle.world.specs.Happens.{Event, entry_of, with_entry, happens, happen, run, Line, lines_at, answers_from, answers}
+use Rattle.world.specs.Entry.{Filled, Start, Stop, Submit, Recover, Look, Beat, Mark, Called, Torn, Crashed, Lost, Migrated, is_on, is_of, torn_by, called_by, disk_step}
+use Rattle.world.specs.World.{World, world, ReadsBack, MayFollow, CanMigrate, MayBegin, IsRunFrom, IsRun}
+use Rattle.world.specs.Happens.{Event, entry_of, with_entry, happens, happen, run, run_after, Line, lines_at, answers_from, answers}
+use Rattle.world.specs.Chosen.{migrated, IsMigrated, Submits}
 use Rattle.world.proofs.Projections.{disk_here, disk_there}
 use Rattle.world.proofs.Follow.{may_follow}
 
@@ -49,7 +53,7 @@ called_whole old call (Booted boot) left is = done_whole old call is
 called_whole old call (Told bytes) left is = done_whole old call is
 called_whole old call Done left is = done_whole old call is
 
-step_whole : (c : Shape) (w : World) (k : ℕ) (e : Filled) → is_on k e ≡ true → MayFollow c w e → ((j : ℕ) → IsWhole (w.disk j)) → IsWhole (disk_step (w.disk k) e)
+step_whole : (c : Shape) (w : World) (k : ℕ) (e : Filled) → is_on k e ≡ true → MayBegin c w e → ((j : ℕ) → IsWhole (w.disk j)) → IsWhole (disk_step (w.disk k) e)
 step_whole c w k (Start h) on m is = absurd (cc)
 step_whole c w k (Stop h) on m is = absurd (cc)
 step_whole c w k (Submit h command tries) on m is = absurd (cc)
@@ -64,6 +68,7 @@ step_whole c w k (Crashed d left) on m is =
     let long : length left ≡ length (w.disk d).bytes = m.2.bytes.as_many in
     length-replicate (length (w.disk k).bytes) false ∙ sym (long ∙ ap (λ j. length (w.disk j).bytes) same)
 step_whole c w k (Lost d) on m is = is k
+step_whole c w k (Migrated disks log) on m is = length-replicate (length (written (w.disk k) (row_place 0) (rows_for (map spelling log))).bytes) false
 
 -- each disk of the world has a flag for each byte
 abbrev pub AreWhole : Shape → List Filled → Type 0
@@ -73,20 +78,75 @@ whole_first : (c : Shape) → AreWhole c []
 unfolding fresh_disk
 whole_first c k = length-replicate (image_length c.slots) false ∙ sym (length-replicate (image_length c.slots) 0)
 
-whole_next : (c : Shape) (log : List Filled) (e : Filled) → MayFollow c (world c log) e → AreWhole c log → AreWhole c (log ++ e ∷ [])
+whole_next : (c : Shape) (log : List Filled) (e : Filled) → MayBegin c (world c log) e → AreWhole c log → AreWhole c (log ++ e ∷ [])
 whole_next c log e m is k = elim (cases_Bool (is_on k e)) [
   | inl on ↦ subst IsWhole (sym (disk_here c log e k on)) (step_whole c (world c log) k e on m is)
   | inr off ↦ subst IsWhole (sym (disk_there c log e k off)) (is k)
 ]
 
--- what holds at first, and with each entry that may follow, holds after every run
-module _ (c : Shape) (P : List Filled → Type 0) (first : P []) (next : (log : List Filled) (e : Filled) → MayFollow c (world c log) e → P log → P (log ++ e ∷ [])) where
-  by_run_from : (before log : List Filled) → P before → IsRunFrom c before log → P (before ++ log)
-  by_run_from before [] is r = subst P (sym (append-nil before)) is
-  by_run_from before (x ∷ log) is r = subst P (append_assoc before (x ∷ []) log) (by_run_from (before ++ x ∷ []) log (next before x r.0 is) r.1)
+-- whatever may follow may be the first
+pub may_begin : (c : Shape) (w : World) (e : Filled) → MayFollow c w e → MayBegin c w e
+may_begin c w (Migrated disks log) m = absurd m
+may_begin c w other m = m
 
-  pub by_run : (log : List Filled) → IsRun c log → P log
-  by_run log r = by_run_from [] log first r
+-- the entry is a migration of a log on all disks
+pub record IsMigration (c : Shape) (e : Filled) : Type 0 where
+  pub commands : List Command
+  pub is : e ≡ Migrated c.disks commands
+  pub can : CanMigrate c commands
+
+-- what may be the first is a migration, or may follow
+pub follows_or : (c : Shape) (w : World) (e : Filled) → MayBegin c w e → MayFollow c w e ⊎ IsMigration c e
+follows_or c w (Migrated disks log) m = inr (record { commands = log; is = ap (λ (n : ℕ). Migrated n log) m.0; can = m.1 })
+follows_or c w other m = inl m
+
+-- an entry of a host is none
+pub follows_of : (c : Shape) (w : World) (h : ℕ) (e : Filled) → is_of h e ≡ true → MayBegin c w e → MayFollow c w e
+follows_of c w h (Migrated disks log) of m = absurd (cc)
+follows_of c w h other of m = m
+
+-- what was migrated is the first entry
+pub migrated_is : (log : List Filled) (disks : ℕ) (commands : List Command) → slice_get log 0 ≡ Some (Migrated disks commands) → migrated log ≡ commands
+migrated_is [] disks commands at = absurd (cc)
+migrated_is (e ∷ es) disks commands at = let same : e ≡ Migrated disks commands = cc in ap (λ (x : Filled). migrated (x ∷ es)) same
+
+pub record BeginsMigrated (log : List Filled) (slot : ℕ) (value : List ℕ) : Type 0 where
+  pub disks : ℕ
+  pub commands : List Command
+  pub first : slice_get log 0 ≡ Some (Migrated disks commands)
+  pub there : slice_get (map spelling commands) slot ≡ Some value
+
+pub begins_migrated : (log : List Filled) (slot : ℕ) (value : List ℕ) → IsMigrated log slot value → BeginsMigrated log slot value
+begins_migrated [] slot value is = absurd (cc)
+begins_migrated (Migrated disks log ∷ es) slot value is = record { disks = disks; commands = log; first = refl; there = is }
+begins_migrated (other ∷ es) slot value is = absurd (cc)
+
+-- what was migrated has a slot for each command, and each reads back
+pub migrated_fits : (c : Shape) (log : List Filled) → IsRun c log → length (migrated log) ≤ c.slots
+migrated_fits c [] r = omega arith
+migrated_fits c (Migrated disks log ∷ es) r = r.0.1.slots
+migrated_fits c (other ∷ es) r = omega arith
+
+pub migrated_reads : (c : Shape) (log : List Filled) → IsRun c log → (k : ℕ) (command : Command) → slice_get (migrated log) k ≡ Some command → ReadsBack command
+migrated_reads c [] r k command is = absurd (cc)
+migrated_reads c (Migrated disks log ∷ es) r k command is = r.0.1.reads k command is
+migrated_reads c (other ∷ es) r k command is = absurd (cc)
+
+-- what is submitted reads back
+pub submits_reads : (c : Shape) (w : World) (e : Filled) (command : Command) → MayBegin c w e → Submits e command → ReadsBack command
+submits_reads c w (Submit h given tries) command m is = subst ReadsBack is m.1
+submits_reads c w (Migrated disks log) command m is = m.1.reads is.0 command is.1
+submits_reads c w other command m is = absurd is
+
+-- what holds before, and with each entry that may follow, holds behind the entries
+pub by_run_from : (c : Shape) (P : List Filled → Type 0) → ((log : List Filled) (e : Filled) → MayFollow c (world c log) e → P log → P (log ++ e ∷ [])) → (before log : List Filled) → P before → IsRunFrom c before log → P (before ++ log)
+by_run_from c P next before [] is r = subst P (sym (append-nil before)) is
+by_run_from c P next before (x ∷ log) is r = subst P (append_assoc before (x ∷ []) log) (by_run_from c P next (before ++ x ∷ []) log (next before x r.0 is) r.1)
+
+-- what holds at first, and with each entry that may be the first, holds after every run
+pub by_run : (c : Shape) (P : List Filled → Type 0) → P [] → ((log : List Filled) (e : Filled) → MayBegin c (world c log) e → P log → P (log ++ e ∷ [])) → (log : List Filled) → IsRun c log → P log
+by_run c P first next [] r = first
+by_run c P first next (e ∷ es) r = by_run_from c P (λ log x m. next log x (may_begin c (world c log) x m)) (e ∷ []) es (next [] e r.0 first) r.1
 
 pub run_whole : (c : Shape) (log : List Filled) → IsRun c log → AreWhole c log
 run_whole c log r = by_run c (AreWhole c) (whole_first c) (whole_next c) log r
@@ -97,17 +157,9 @@ run_more : (c : Shape) (before log : List Filled) (e : Filled) → IsRunFrom c b
 run_more c before [] e is m = (subst (λ l. MayFollow c (world c l) e) (append-nil before) m, tt)
 run_more c before (x ∷ log) e is m = (is.0, run_more c (before ++ x ∷ []) log e is.1 (subst (λ l. MayFollow c (world c l) e) (sym (append_assoc before (x ∷ []) log)) m))
 
-run_less : (c : Shape) (before log : List Filled) (e : Filled) → IsRunFrom c before (log ++ e ∷ []) → IsRunFrom c before log × MayFollow c (world c (before ++ log)) e
-run_less c before [] e is = (tt, subst (λ l. MayFollow c (world c l) e) (sym (append-nil before)) is.0)
-run_less c before (x ∷ log) e is =
-    let rest = run_less c (before ++ x ∷ []) log e is.1 in
-    ((is.0, rest.0), subst (λ l. MayFollow c (world c l) e) (append_assoc before (x ∷ []) log) rest.1)
-
 pub more : (c : Shape) (log : List Filled) (e : Filled) → IsRun c log → MayFollow c (world c log) e → IsRun c (log ++ e ∷ [])
-more c log e is m = run_more c [] log e is m
-
-pub less : (c : Shape) (log : List Filled) (e : Filled) → IsRun c (log ++ e ∷ []) → IsRun c log × MayFollow c (world c log) e
-less c log e is = run_less c [] log e is
+more c [] e is m = (may_begin c (world c []) e m, tt)
+more c (x ∷ log) e is m = (is.0, run_more c (x ∷ []) log e is.1 m)
 
 -- every beginning of a run is one
 take_from : (c : Shape) (before log : List Filled) (i : ℕ) → IsRunFrom c before log → IsRunFrom c before (take i log)
@@ -117,7 +169,10 @@ take_from c before (x ∷ log) zero r = tt
 take_from c before (x ∷ log) (suc i) r = (r.0, take_from c (before ++ x ∷ []) log i r.1)
 
 pub beginning : (c : Shape) (log : List Filled) (i : ℕ) → IsRun c log → IsRun c (take i log)
-beginning c log i r = take_from c [] log i r
+beginning c [] zero r = tt
+beginning c [] (suc i) r = tt
+beginning c (x ∷ log) zero r = tt
+beginning c (x ∷ log) (suc i) r = (r.0, take_from c (x ∷ []) log i r.1)
 
 -- each entry of a run may follow those before it
 each_from : (c : Shape) (before log : List Filled) (i : ℕ) (e : Filled) → IsRunFrom c before log → slice_get log i ≡ Some e → MayFollow c (world c (before ++ take i log)) e
@@ -126,8 +181,21 @@ each_from c before (x ∷ log) zero e r at = let same : x ≡ e = cc in subst (M
 each_from c before (x ∷ log) (suc i) e r at =
     subst (λ l. MayFollow c (world c l) e) (append_assoc before (x ∷ []) (take i log)) (each_from c (before ++ x ∷ []) log i e r.1 at)
 
-pub each : (c : Shape) (log : List Filled) (i : ℕ) (e : Filled) → IsRun c log → slice_get log i ≡ Some e → MayFollow c (world c (take i log)) e
-each c log i e r at = each_from c [] log i e r at
+pub each : (c : Shape) (log : List Filled) (i : ℕ) (e : Filled) → IsRun c log → slice_get log i ≡ Some e → MayBegin c (world c (take i log)) e
+each c [] i e r at = absurd (cc)
+each c (x ∷ log) zero e r at = let same : x ≡ e = cc in subst (MayBegin c (world c [])) same r.0
+each c (x ∷ log) (suc i) e r at = may_begin c (world c (x ∷ take i log)) e (each_from c (x ∷ []) log i e r.1 at)
+
+-- and only the first need not
+pub each_behind : (c : Shape) (log : List Filled) (i : ℕ) (e : Filled) → IsRun c log → 0 < i → slice_get log i ≡ Some e → MayFollow c (world c (take i log)) e
+each_behind c [] i e r behind at = absurd (cc)
+each_behind c (x ∷ log) zero e r behind at = absurd (omega arith)
+each_behind c (x ∷ log) (suc i) e r behind at = each_from c (x ∷ []) log i e r.1 at
+
+-- so a migration is the first
+pub migrated_first : (c : Shape) (log : List Filled) (i disks : ℕ) (commands : List Command) → IsRun c log → slice_get log i ≡ Some (Migrated disks commands) → i ≡ 0
+migrated_first c log zero disks commands r at = refl
+migrated_first c log (suc i) disks commands r at = absurd (each_behind c log (suc i) (Migrated disks commands) r (omega arith) at)
 
 -- EVENTS
 
@@ -141,14 +209,17 @@ happens_run c log event r = go (entry_of c (world c log) event) refl
     go None e = r
     go (Some x) e = more c log x r (follows c log event x r e)
 
-happen_run : (c : Shape) (log : List Filled) (events : List Event) → IsRun c log → IsRun c (happen c log events)
+pub happen_run : (c : Shape) (log : List Filled) (events : List Event) → IsRun c log → IsRun c (happen c log events)
 happen_run c log [] r = r
 happen_run c log (e ∷ es) r = happen_run c (happens c log e) es (happens_run c log e r)
 
 pub run_is_run : (c : Shape) (events : List Event) → IsRun c (run c events)
 run_is_run c events = happen_run c [] events tt
 
-happen_more : (c : Shape) (log : List Filled) (events : List Event) (event : Event) → happen c log (events ++ event ∷ []) ≡ happens c (happen c log events) event
+pub run_after_is_run : (c : Shape) (log : List Command) (events : List Event) → CanMigrate c log → IsRun c (run_after c log events)
+run_after_is_run c log events can = happen_run c (Migrated c.disks log ∷ []) events ((refl, can), tt)
+
+pub happen_more : (c : Shape) (log : List Filled) (events : List Event) (event : Event) → happen c log (events ++ event ∷ []) ≡ happens c (happen c log events) event
 happen_more c log [] event = refl
 happen_more c log (e ∷ es) event = happen_more c (happens c log e) es event
 

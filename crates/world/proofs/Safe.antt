@@ -21,7 +21,7 @@ module _ (c : Shape) (log : List Filled) (commands : List Command) (safe : IsSaf
 
   module _ (values : List (List ℕ)) (is : IsLog c log values) where
     its : (s : ℕ) (value : List ℕ) → slice_get values s ≡ Some value → slice_get all s ≡ Some value
-    its s value at = let chosen = is.chosen s value at in safe.one chosen.0 s value chosen.1
+    its s value at = safe.one s value (is.chosen s value at)
 
     as_many : length values ≡ length all
     as_many = elim (cases_lt (length values) (length all)) [

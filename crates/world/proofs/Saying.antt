@@ -8,7 +8,7 @@ use Rattle.slot_log.specs.Shape.{Shape}
 use Rattle.host.specs.declared.answer.HostAnswer.{HostAnswer}
 use Rattle.host.specs.Host.{said_of}
 use Rattle.world.specs.Entry as entries
-use Rattle.world.specs.Entry.{Filled, Called, Torn, Crashed, Lost, is_of}
+use Rattle.world.specs.Entry.{Filled, Called, Torn, Crashed, Lost, Migrated, is_of}
 use Rattle.world.specs.World.{world}
 use Rattle.world.specs.Happens.{Event, Line, host_of, entry_of, with_entry, happens, happen, run, line, lines_after, lines_at, answers_from}
 use Rattle.world.specs.Chosen.{SaysAt}
@@ -46,6 +46,7 @@ own (Called g k call answer left) h is = let same : g ≡ h = cc in eq-eqb g h s
 own (Torn g k call left) h is = let same : g ≡ h = cc in eq-eqb g h same
 own (Crashed k left) h is = absurd (cc)
 own (Lost k) h is = absurd (cc)
+own (Migrated disks log) h is = absurd (cc)
 
 owner : (e : Filled) (h : ℕ) → is_of h e ≡ true → host_of e ≡ Some h
 owner (entries.Start g) h is = ap Some (eqb-true g h is)
@@ -59,6 +60,7 @@ owner (Called g k call answer left) h is = ap Some (eqb-true g h is)
 owner (Torn g k call left) h is = ap Some (eqb-true g h is)
 owner (Crashed k left) h is = absurd (cc)
 owner (Lost k) h is = absurd (cc)
+owner (Migrated disks log) h is = absurd (cc)
 
 -- AN ENTRY AMONG OTHERS
 

@@ -19,7 +19,7 @@ use Rattle.host.specs.Host.{Operation, Submitting, Doing, Memory, Host, Stopped,
 use Rattle.world.specs.Entry as entries
 use Rattle.world.specs.Entry.{Filled, Called, is_of}
 use Rattle.world.specs.Happens.{Event, Line, run, answers}
-use Rattle.world.specs.Chosen.{at, IsSubmittedBefore, SaysAt, IsAcknowledgedAt, IsCallOf, IsRecovery}
+use Rattle.world.specs.Chosen.{at, Submits, IsSubmittedBefore, SaysAt, IsAcknowledgedAt, IsCallOf, IsRecovery}
 use Rattle.world.specs.Headline.{IsAcknowledgedBefore}
 use Rattle.world.specs.Lines.{place_of}
 use Rattle.world.specs.Examples.{one_disk, takes_db, submitting, submission, recovering, recovery}
@@ -139,6 +139,7 @@ only_acknowledged i host slot command reply is =
 
 abbrev command_in : Filled → List Command
 command_in (entries.Submit h command tries) = command ∷ []
+command_in (entries.Migrated disks log) = log
 command_in other = []
 
 abbrev commands_in : List Filled → List Command
@@ -149,11 +150,25 @@ further : (a b : List Command) (k : ℕ) (x : Command) → slice_get b k ≡ Som
 further [] b k x at = (k, at)
 further (y ∷ a) b k x at = let rest = further a b k x at in (suc rest.0, rest.1)
 
--- whatever is submitted is among these
-among : (log : List Filled) (k h tries : ℕ) (command : Command) → slice_get log k ≡ Some (entries.Submit h command tries) → (j : ℕ) × (slice_get (commands_in log) j ≡ Some command)
-among [] k h tries command at = absurd (cc)
-among (e ∷ es) zero h tries command at = let same : e ≡ entries.Submit h command tries = cc in (0, ap (λ (x : Filled). slice_get (command_in x ++ commands_in es) 0) same)
-among (e ∷ es) (suc k) h tries command at = let rest = among es k h tries command at in further (command_in e) (commands_in es) rest.0 command rest.1
+-- whatever an entry submits is among its own
+of_entry : (e : Filled) (command : Command) → Submits e command → (j : ℕ) × (slice_get (command_in e) j ≡ Some command)
+of_entry (entries.Submit h given tries) command is = (0, ap Some is)
+of_entry (entries.Migrated disks log) command is = is
+of_entry other command is = absurd is
+
+nearer : (a b : List Command) (j : ℕ) (x : Command) → slice_get a j ≡ Some x → slice_get (a ++ b) j ≡ Some x
+nearer [] b j x at = absurd (cc)
+nearer (y ∷ a) b zero x at = at
+nearer (y ∷ a) b (suc j) x at = nearer a b j x at
+
+-- and among these
+among : (log : List Filled) (k : ℕ) (e : Filled) (command : Command) → slice_get log k ≡ Some e → Submits e command → (j : ℕ) × (slice_get (commands_in log) j ≡ Some command)
+among [] k e command at is = absurd (cc)
+among (x ∷ es) zero e command at is =
+    let same : e ≡ x = (let one : x ≡ e = cc in sym one) in
+    let own = of_entry x command (subst (λ (y : Filled). Submits y command) same is) in
+    (own.0, nearer (command_in x) (commands_in es) own.0 command own.1)
+among (x ∷ es) (suc k) e command at is = let rest = among es k e command at is in further (command_in x) (commands_in es) rest.0 command rest.1
 
 commands_of_submission : commands_in submission ≡ takes_db ∷ []
 unfolding submission fresh_disk sequence_of body_of number_bytes tail_with copy_in decoded_row zeros heading body_saying number_at claim_of is_said number lock_at request_at mode_of name_at enqueue_at action_at command_at applied
@@ -168,13 +183,13 @@ unfolding submission fresh_disk sequence_of body_of number_bytes tail_with copy_
 first_entry = refl
 
 pub submitted : IsSubmittedBefore submission 2 (spelling takes_db)
-submitted = record { place = 1; host = 0; command = takes_db; tries = 1; before = omega arith; entry = second_entry; spelled = refl }
+submitted = record { place = 1; entry = entries.Submit 0 takes_db 1; command = takes_db; before = omega arith; is = second_entry; submits = refl; spelled = refl }
 
 pub not_submitted : (value : List ℕ) → IsSubmittedBefore submission 1 value → ⊥
-not_submitted value is = go is.place is.before is.entry
+not_submitted value is = go is.place is.before is.is
   where
-    go : (place : ℕ) → place < 1 → slice_get submission place ≡ Some (entries.Submit is.host is.command is.tries) → ⊥
-    go zero before at = let both : Some (entries.Start 0) ≡ Some (entries.Submit is.host is.command is.tries) = sym first_entry ∙ at in cc
+    go : (place : ℕ) → place < 1 → slice_get submission place ≡ Some is.entry → ⊥
+    go zero before at = let both : Some is.entry ≡ Some (entries.Start 0) = sym at ∙ first_entry in let same : is.entry ≡ entries.Start 0 = cc in subst (λ (e : Filled). Submits e is.command) same is.submits
     go (suc place) before at = omega arith
 
 one_command : (x y : Command) (k : ℕ) → slice_get (x ∷ []) k ≡ Some y → x ≡ y
@@ -183,7 +198,7 @@ one_command x y (suc k) at = absurd (cc)
 
 pub only_submitted : (i : ℕ) (value : List ℕ) → IsSubmittedBefore submission i value → value ≡ spelling takes_db
 only_submitted i value is =
-    let found = among submission is.place is.host is.tries is.command is.entry in
+    let found = among submission is.place is.entry is.command is.is is.submits in
     let one : takes_db ≡ is.command = one_command takes_db is.command found.0 (sym (ap (λ (l : List Command). slice_get l found.0) commands_of_submission) ∙ found.1) in
     is.spelled ∙ ap spelling (sym one)
 

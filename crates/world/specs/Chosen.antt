@@ -1,5 +1,5 @@
 -- What is chosen for a slot, the log of a list of entries, and what hosts acknowledge and recover.
-use Rattle.std.specs.Prelude.{◌≡◌, ◌+◌, ◌<◌, ◌≤◌, ℕ, true, List, length, take, slice_get, Some}
+use Rattle.std.specs.Prelude.{◌≡◌, ◌⊎◌, ◌+◌, ◌<◌, ◌≤◌, ℕ, true, List, [], ◌∷◌, length, map, take, slice_get, Some}
 use Rattle.disk.specs.Disk.{Call, Answer}
 use Rattle.attempt.specs.Answers.{Answered, on, heard_as}
 use Rattle.attempt.specs.Setup.{Setup}
@@ -11,7 +11,7 @@ use Rattle.slot_log.specs.Shape.{Shape}
 use Rattle.host.specs.declared.answer.HostAnswer.{HostAnswer}
 use Rattle.host.specs.declared.answer.HostAnswer.TheVariants.{Ack, Recovered}
 use Rattle.host.specs.Host.{Submitting, Doing, Memory, Running, setup_of, with_heard, said_of}
-use Rattle.world.specs.Entry.{Filled, Submit, Recover, Called, is_of}
+use Rattle.world.specs.Entry.{Filled, Submit, Recover, Called, Migrated, is_of}
 use Rattle.world.specs.World.{World, world}
 
 -- the world before entry i
@@ -43,8 +43,19 @@ pub record IsChosenAt (c : Shape) (log : List Filled) (i slot : ℕ) (value : Li
   pub on_slot : setup.slot ≡ slot
   pub chooses : Chooses setup (on heard) value
 
+-- the commands that the disks of a list begin with, as a migration left them
+abbrev pub migrated : List Filled → List Command
+migrated [] = []
+migrated (Migrated disks log ∷ es) = log
+migrated (other ∷ es) = []
+
+-- the value is the spelling of the migrated command of this slot
+abbrev pub IsMigrated : List Filled → ℕ → List ℕ → Type 0
+IsMigrated log slot value = slice_get (map spelling (migrated log)) slot ≡ Some value
+
+-- A value is chosen for a slot by an answer, or it was migrated there.
 abbrev pub IsChosen : Shape → List Filled → ℕ → List ℕ → Type 0
-IsChosen c log slot value = (i : ℕ) × IsChosenAt c log i slot value
+IsChosen c log slot value = ((i : ℕ) × IsChosenAt c log i slot value) ⊎ IsMigrated log slot value
 
 -- THE LOG
 
@@ -53,14 +64,20 @@ pub record IsLog (c : Shape) (log : List Filled) (values : List (List ℕ)) : Ty
   pub chosen : (s : ℕ) (value : List ℕ) → slice_get values s ≡ Some value → IsChosen c log s value
   pub whole : (value : List ℕ) → IsChosen c log (length values) value → ⊥
 
+-- the entry submits the command, or migrates it
+abbrev pub Submits : Filled → Command → Type 0
+Submits (Submit host given tries) command = given ≡ command
+Submits (Migrated disks log) command = (slot : ℕ) × (slice_get log slot ≡ Some command)
+Submits other command = ⊥
+
 -- a command of this spelling was submitted before entry i
 pub record IsSubmittedBefore (log : List Filled) (i : ℕ) (value : List ℕ) : Type 0 where
   pub place : ℕ
-  pub host : ℕ
+  pub entry : Filled
   pub command : Command
-  pub tries : ℕ
   pub before : place < i
-  pub entry : slice_get log place ≡ Some (Submit host command tries)
+  pub is : slice_get log place ≡ Some entry
+  pub submits : Submits entry command
   pub spelled : value ≡ spelling command
 
 -- WHAT HOSTS SAY

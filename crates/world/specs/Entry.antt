@@ -1,8 +1,11 @@
 -- The entries of a list, with the bytes that faults left open, and what each makes of its disk and of its host.
-use Rattle.std.specs.Prelude.{◌+◌, ◌==◌, ℕ, Bool, false, List, [], ◌∷◌, length, replicate, filter}
+use Rattle.std.specs.Prelude.{◌+◌, ◌==◌, ℕ, Bool, false, List, [], ◌∷◌, length, map, replicate, filter, nat_lt}
 use Rattle.disk.specs.declared.fault.DiskFault.TheVariants.{Reset, Failed, Gone}
-use Rattle.disk.specs.Disk.{DiskState, Call, Attach, Read, Write, Sync, Answer, Fault, written, done_by, lost}
+use Rattle.disk.specs.Disk.{DiskState, Call, Attach, Read, Write, Sync, Answer, Fault, written, synced, done_by, lost}
+use Rattle.paxos_block.specs.Places.{row_place}
+use Rattle.migration.specs.Image.{rows_for}
 use Rattle.lock_command.specs.declared.command.Command.{Command}
+use Rattle.lock_command.specs.Command.{spelling}
 use Rattle.slot_log.specs.Shape.{Shape}
 use Rattle.host.specs.Host.{Operation, Submitting, Recovering, Looking, Host, Stopped, Running, fresh, goes_on, starts_beat, starts_marking, hears_from}
 
@@ -22,6 +25,8 @@ pub data Filled : Type 0 where
   Crashed : (disk : ℕ) → (left : List ℕ) → Filled
   -- a disk is lost for good
   Lost : (disk : ℕ) → Filled
+  -- so many disks begin as a complete migration of these commands left them
+  Migrated : (disks : ℕ) → (log : List Command) → Filled
 
 -- WHOSE IT IS
 
@@ -30,6 +35,7 @@ is_on k (Called h d call answer left) = d == k
 is_on k (Torn h d call left) = d == k
 is_on k (Crashed d left) = d == k
 is_on k (Lost d) = d == k
+is_on k (Migrated disks log) = nat_lt k disks
 is_on k other = false
 
 abbrev pub is_of : ℕ → Filled → Bool
@@ -71,11 +77,16 @@ called_by old call answer left = done_by old call
 abbrev pub crashed_to : DiskState → List ℕ → DiskState
 crashed_to old left = record { bytes = left; unsynced = replicate (length old.bytes) false; boot = old.boot + 1; gone = old.gone }
 
+-- a migration leaves a row for each command, from the first slot on, and nothing unsynced
+abbrev pub migrated_to : DiskState → List Command → DiskState
+migrated_to old log = synced (written old (row_place 0) (rows_for (map spelling log)))
+
 abbrev pub disk_step : DiskState → Filled → DiskState
 disk_step old (Called h d call answer left) = called_by old call answer left
 disk_step old (Torn h d call left) = torn_by old call left
 disk_step old (Crashed d left) = crashed_to old left
 disk_step old (Lost d) = lost old
+disk_step old (Migrated disks log) = migrated_to old log
 disk_step old other = old
 
 -- what entries, one after the other, make of a disk

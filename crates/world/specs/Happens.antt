@@ -13,7 +13,7 @@ use Rattle.slot_log.specs.Shape.{Shape}
 use Rattle.host.specs.declared.answer.HostAnswer.{HostAnswer}
 use Rattle.host.specs.Host.{next_of, is_stopped, idles, said_of}
 use Rattle.world.specs.Entry as entries
-use Rattle.world.specs.Entry.{Filled, Called, Torn, Crashed, Lost}
+use Rattle.world.specs.Entry.{Filled, Called, Torn, Crashed, Lost, Migrated}
 use Rattle.world.specs.World.{World, world}
 
 pub data Event : Type 0 where
@@ -124,6 +124,10 @@ happen c log (e ∷ es) = happen c (happens c log e) es
 abbrev pub run : Shape → List Event → List Filled
 run c events = happen c [] events
 
+-- and the one that they make after a migration of this log
+abbrev pub run_after : Shape → List Command → List Event → List Filled
+run_after c log events = happen c (Migrated c.disks log ∷ []) events
+
 -- ANSWERS
 
 -- what a host says, with the number of the event that made it do so
@@ -144,6 +148,7 @@ host_of (Called h k call answer left) = Some h
 host_of (Torn h k call left) = Some h
 host_of (Crashed k left) = None
 host_of (Lost k) = None
+host_of (Migrated disks log) = None
 
 abbrev pub line : ℕ → ℕ → Option HostAnswer → List Line
 line place h None = []

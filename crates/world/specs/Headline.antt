@@ -8,9 +8,9 @@ use Rattle.slot_log.specs.Shape.{Shape}
 use Rattle.host.specs.declared.answer.HostAnswer.TheVariants.{Ack, Recovered, Looked}
 use Rattle.host.specs.Host.{learned_of, reply_after}
 use Rattle.world.specs.Entry.{Filled}
-use Rattle.world.specs.World.{IsRun}
-use Rattle.world.specs.Happens.{Event, run}
-use Rattle.world.specs.Chosen.{at, IsChosenAt, IsLog, IsSubmittedBefore, SaysAt, IsAcknowledgedAt, IsRecovery}
+use Rattle.world.specs.World.{CanMigrate, IsRun}
+use Rattle.world.specs.Happens.{Event, run, run_after}
+use Rattle.world.specs.Chosen.{at, IsChosenAt, migrated, IsChosen, IsLog, IsSubmittedBefore, SaysAt, IsAcknowledgedAt, IsRecovery}
 
 -- the second list begins with the first
 abbrev pub IsPrefix : {A : Type 0} → List A → List A → Type 0
@@ -36,8 +36,10 @@ pub record IsSafe (c : Shape) (log : List Filled) (commands : List Command) : Ty
   -- they are its log
   pub is_log : IsLog c log (map spelling commands)
   -- what is chosen for a slot is the command there
-  pub one : (i slot : ℕ) (value : List ℕ) → IsChosenAt c log i slot value → slice_get (map spelling commands) slot ≡ Some value
-  -- and was submitted before
+  pub one : (slot : ℕ) (value : List ℕ) → IsChosen c log slot value → slice_get (map spelling commands) slot ≡ Some value
+  -- the commands that were migrated begin it
+  pub begun : IsPrefix (migrated log) commands
+  -- what an answer chooses was submitted before
   pub submitted : (i slot : ℕ) (value : List ℕ) → IsChosenAt c log i slot value → IsSubmittedBefore log i value
   -- at every place each host has learned a beginning of the log
   pub prefix : (i host : ℕ) → IsPrefix (prefix_at c log i host) commands
@@ -53,6 +55,8 @@ pub record IsSafe (c : Shape) (log : List Filled) (commands : List Command) : Ty
   pub table : (i host n : ℕ) → SaysAt c log i host (Recovered n) → table_at c log (i + 1) host ≡ table_after (take n commands)
   -- each command that was acknowledged before the recovery began is among them
   pub holds : (i j host n slot : ℕ) (command : Command) → IsRecovery c log i j host n → IsAcknowledgedBefore c log i slot command → slot < n
+  -- and so is each command that was migrated
+  pub keeps : (i host n : ℕ) → SaysAt c log i host (Recovered n) → length (migrated log) ≤ n
   -- a look has learned as many commands of the log as it says, though more may have been acknowledged before
   pub looked : (i host n : ℕ) → SaysAt c log i host (Looked n) → (n ≤ length commands) × (prefix_at c log (i + 1) host ≡ take n commands)
 
@@ -78,6 +82,10 @@ pub record HasOneLog (c : Shape) (log : List Filled) : Type 0 where
 abbrev pub Headline : Type 0
 Headline = (c : Shape) (log : List Filled) → IsRun c log → HasOneLog c log
 
--- and so with the run that any list of events makes.
+-- with the run that any list of events makes,
 abbrev pub HeadlineOfEvents : Type 0
 HeadlineOfEvents = (c : Shape) (events : List Event) → HasOneLog c (run c events)
+
+-- and so with the run that they make after a migration.
+abbrev pub HeadlineOfMigrated : Type 0
+HeadlineOfMigrated = (c : Shape) (log : List Command) (events : List Event) → CanMigrate c log → HasOneLog c (run_after c log events)

@@ -1,10 +1,10 @@
 -- What the answers of events owe to what hosts say, and the events to what may follow.
-use Rattle.std.specs.Prelude.{◌≡◌, ℕ, true, List, length, take, slice_get, Some}
+use Rattle.std.specs.Prelude.{◌≡◌, ℕ, true, List, [], ◌∷◌, length, take, slice_get, Some}
 use Rattle.slot_log.specs.Shape.{Shape}
 use Rattle.host.specs.declared.answer.HostAnswer.{HostAnswer}
-use Rattle.world.specs.Entry.{Filled, is_on, is_of, disk_step, host_step}
+use Rattle.world.specs.Entry.{Filled, Migrated, is_on, is_of, disk_step, host_step}
 use Rattle.world.specs.World.{World, world, MayFollow, IsRun}
-use Rattle.world.specs.Happens.{Event, Line, entry_of, run, answers}
+use Rattle.world.specs.Happens.{Event, Line, entry_of, happen, run, answers}
 use Rattle.world.specs.Chosen.{SaysAt}
 
 -- LINES
@@ -34,6 +34,12 @@ pub record BringsSuch (c : Shape) (w : World) (event : Event) (e : Filled) : Typ
 abbrev pub EventsReachEach : Type 0
 EventsReachEach = (c : Shape) (log : List Filled) (e : Filled) → IsRun c log → MayFollow c (world c log) e → (event : Event) × BringsSuch c (world c log) event e
 
--- so whatever disks and hosts a run leaves, a run of events leaves them
+-- how a list begins: with a migration, or with nothing
+abbrev pub beginning : List Filled → List Filled
+beginning [] = []
+beginning (Migrated disks log ∷ es) = Migrated disks log ∷ []
+beginning (other ∷ es) = []
+
+-- so whatever disks and hosts a run leaves, events leave them after its beginning
 abbrev pub EventsReachAll : Type 0
-EventsReachAll = (c : Shape) (log : List Filled) → IsRun c log → (events : List Event) × (world c (run c events) ≡ world c log)
+EventsReachAll = (c : Shape) (log : List Filled) → IsRun c log → (events : List Event) × (world c (happen c (beginning log) events) ≡ world c log)

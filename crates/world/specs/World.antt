@@ -1,5 +1,5 @@
 -- The world after a list of entries, which entry may follow, and what a run is.
-use Rattle.std.specs.Prelude.{◌≡◌, ◌<◌, ◌^◌, ℕ, false, IsTrue, List, [], ◌∷◌, ◌++◌, length, Some}
+use Rattle.std.specs.Prelude.{◌≡◌, ◌<◌, ◌≤◌, ◌^◌, ℕ, false, IsTrue, List, [], ◌∷◌, ◌++◌, length, slice_get, Some}
 use Rattle.disk.specs.Disk.{DiskState, Call, Attach, Read, Write, Sync, Step, Crashes}
 use Rattle.disk.specs.Disk as device
 use Rattle.disk.specs.Simulated.{fresh_disk}
@@ -10,7 +10,7 @@ use Rattle.lock_command.specs.Command.{spelling}
 use Rattle.lock_command.specs.Reading.{decoded}
 use Rattle.slot_log.specs.Shape.{Shape}
 use Rattle.host.specs.Host.{Host, Stopped, next_of, is_stopped, idles}
-use Rattle.world.specs.Entry.{Filled, Start, Stop, Submit, Recover, Look, Beat, Mark, Called, Torn, Crashed, Lost, on_disk, of_host, disk_step, disk_after, host_after}
+use Rattle.world.specs.Entry.{Filled, Start, Stop, Submit, Recover, Look, Beat, Mark, Called, Torn, Crashed, Lost, Migrated, on_disk, of_host, disk_step, disk_after, host_after}
 
 -- THE WORLD
 
@@ -63,11 +63,24 @@ MayFollow c w (Torn h k call left) = IsNext c w h k call × Tears call (w.disk k
 MayFollow c w (Crashed k left) =
     HasDisk c w k × ((w.disk k).boot < 2 ^ 62) × Crashes (w.disk k) (disk_step (w.disk k) (Crashed k left))
 MayFollow c w (Lost k) = HasDisk c w k
+MayFollow c w (Migrated disks log) = ⊥
 
 -- each of the entries may follow those before it
 abbrev pub IsRunFrom : Shape → List Filled → List Filled → Type 0
 IsRunFrom c before [] = Unit {0}
 IsRunFrom c before (e ∷ es) = MayFollow c (world c before) e × IsRunFrom c (before ++ e ∷ []) es
 
+-- A log can be migrated where there is a disk, and a slot for each command, and each reads back.
+pub record CanMigrate (c : Shape) (log : List Command) : Type 0 where
+  pub disk : 1 ≤ c.disks
+  pub slots : length log ≤ c.slots
+  pub reads : (k : ℕ) (command : Command) → slice_get log k ≡ Some command → ReadsBack command
+
+-- The entry may be the first in this world: a migration on all disks, or what may follow.
+abbrev pub MayBegin : Shape → World → Filled → Type 0
+MayBegin c w (Migrated disks log) = (disks ≡ c.disks) × CanMigrate c log
+MayBegin c w other = MayFollow c w other
+
 abbrev pub IsRun : Shape → List Filled → Type 0
-IsRun c log = IsRunFrom c [] log
+IsRun c [] = Unit {0}
+IsRun c (e ∷ es) = MayBegin c (world c []) e × IsRunFrom c (e ∷ []) es

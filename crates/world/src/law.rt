@@ -16,12 +16,12 @@ ghost use Rattle.slot_log.specs.Shape.{Shape};
 ghost use Rattle.host.specs.Host.{Doing, Looking, Marking, Memory, Running, goes_on, hears_from, setup_of, beat_of, marking_of, is_idle, next_of};
 ghost use Rattle.world.specs.Entry.{Filled, is_on, is_of, disk_step, host_step};
 ghost use Rattle.world.specs.Looks.{SaysLooking};
-ghost use Rattle.world.specs.World.{world, ReadsBack, MayFollow, IsRun};
-ghost use Rattle.world.specs.Happens.{Event, entry_of, happens, run, lines_at, answers};
+ghost use Rattle.world.specs.World.{world, ReadsBack, MayFollow, CanMigrate, MayBegin, IsRun};
+ghost use Rattle.world.specs.Happens.{Event, entry_of, happens, run, run_after, lines_at, answers};
 ghost use Rattle.world.specs.Chosen.{at, Hears, IsChosenAt};
 ghost use Rattle.world.specs.Account.{AccountsFor, GivesUp};
 ghost use Rattle.world.specs.Lines.{LinesAreSaid, EventsReachEach, EventsReachAll};
-ghost use Rattle.world.specs.Headline.{IsSafe, HasNoSecondLog, OneBeginsOther, Headline, HeadlineOfEvents};
+ghost use Rattle.world.specs.Headline.{IsSafe, HasNoSecondLog, OneBeginsOther, Headline, HeadlineOfEvents, HeadlineOfMigrated};
 
 /// An entry is a step of its own disk and of its own host, and changes no other.
 pub fn changes_its_own()
@@ -35,26 +35,30 @@ pub fn changes_its_own()
         (world c (log ++ e ∷ [])).host h ≡ (world c log).host h }
 {}
 
-/// A run goes on by any entry that may follow it. Each beginning of a run is one, and each entry
-/// may follow those before it.
+/// A run goes on by any entry that may follow it. Each beginning of a run is one. Its first entry may begin a run,
+/// and each other entry may follow those before it.
 pub fn goes_on()
     ensures empty { (c : Shape) → IsRun c [] }
     ensures more { (c : Shape) (log : List Filled) (e : Filled) →
         IsRun c log → MayFollow c (world c log) e → IsRun c (log ++ e ∷ []) }
     ensures beginnings { (c : Shape) (log : List Filled) (i : ℕ) →
         IsRun c log → IsRun c (take i log) }
+    ensures first { (c : Shape) (log : List Filled) (e : Filled) →
+        IsRun c log → slice_get log 0 ≡ Some e → MayBegin c (world c []) e }
     ensures each { (c : Shape) (log : List Filled) (i : ℕ) (e : Filled) →
-        IsRun c log → slice_get log i ≡ Some e → MayFollow c (at c log i) e }
+        IsRun c log → 0 < i → slice_get log i ≡ Some e → MayFollow c (at c log i) e }
     ensures whole { (c : Shape) (log : List Filled) (k : ℕ) →
         IsRun c log → IsWhole ((world c log).disk k) }
 {}
 
-/// The entry that an event brings may follow, so every list of events makes a run. One event more
+/// The entry that an event brings may follow, so every list of events makes a run, after a migration too. One event more
 /// appends its entry, and what the host of that says then.
 pub fn events_make_a_run()
     ensures follows { (c : Shape) (log : List Filled) (event : Event) (e : Filled) → IsRun c log →
         entry_of c (world c log) event ≡ Some e → MayFollow c (world c log) e }
     ensures run { (c : Shape) (events : List Event) → IsRun c (run c events) }
+    ensures migrated { (c : Shape) (log : List Command) (events : List Event) → CanMigrate c log →
+        IsRun c (run_after c log events) }
     ensures one_more { (c : Shape) (events : List Event) (event : Event) →
         run c (events ++ event ∷ []) ≡ happens c (run c events) event }
     ensures one_answer_more { (c : Shape) (events : List Event) (event : Event) →
@@ -69,7 +73,7 @@ pub fn lines_are_said()
 {}
 
 /// No run is left out by the events: whatever entry may follow a run, some event brings such an
-/// entry; so whatever disks and hosts a run leaves, a run of events leaves them.
+/// entry; so whatever disks and hosts a run leaves, events leave them after its beginning.
 pub fn events_reach_all()
     ensures each { EventsReachEach }
     ensures all { EventsReachAll }
@@ -153,11 +157,12 @@ pub fn looks_only_read()
 {}
 
 /// A list whose log is known has no other, and of two hosts' prefixes one begins the other. What
-/// holds of every run holds of the run that any list of events makes.
+/// holds of every run holds of the run that any list of events makes, at first or after a migration.
 pub fn safe_lists_have_one_log()
     ensures one { (c : Shape) (log : List Filled) (commands : List Command) →
         IsSafe c log commands → HasNoSecondLog c log }
     ensures prefixes { (c : Shape) (log : List Filled) (commands : List Command) →
         IsSafe c log commands → OneBeginsOther c log }
     ensures events { Headline → HeadlineOfEvents }
+    ensures migrated { Headline → HeadlineOfMigrated }
 {}

@@ -1,5 +1,6 @@
 -- What a block on a disk stands for, call by call: bytes and registers.
 pub mod Standing
+pub mod Migrated
 pub mod Keeping
 pub mod Within
 pub mod Owning

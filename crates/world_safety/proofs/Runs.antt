@@ -2,6 +2,7 @@
 pub mod Worlds
 pub mod Places
 pub mod Showing
+pub mod Migrated
 pub mod Tracks
 pub mod Knowing
 pub mod Deciding

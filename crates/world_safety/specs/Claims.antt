@@ -16,7 +16,7 @@ use Rattle.world.specs.Entry.{Filled, Recover}
 use Rattle.world.specs.World.{World}
 use Rattle.host.specs.declared.answer.HostAnswer.TheVariants.{Ack, Recovered}
 use Rattle.host.specs.Host.{Submitting}
-use Rattle.world.specs.Chosen.{at, Hears, IsChosenAt, IsLog, SaysAt, IsRecovery}
+use Rattle.world.specs.Chosen.{at, Hears, IsChosenAt, IsMigrated, IsLog, SaysAt, IsRecovery}
 use Rattle.world_safety.specs.Goes.{IsTryingAt}
 use Rattle.world.specs.Headline.{IsPrefix}
 use Rattle.world_safety.specs.Marks.{AllMarksTrue}
@@ -41,6 +41,10 @@ pub record IsProposedAt (c : Shape) (log : List Filled) (i slot b : ℕ) (value 
 -- What is chosen in a ballot is the proposal of it, and of each greater one: before and after, by whatever host.
 abbrev pub BindsGreater : Shape → List Filled → Type 0
 BindsGreater c log = (i j slot b d : ℕ) (value other : List ℕ) → IsChosenIn c log i slot b value → b ≤ d → IsProposedAt c log j slot d other → other ≡ value
+
+-- What was migrated is the proposal of each ballot.
+abbrev pub BindsAll : Shape → List Filled → Type 0
+BindsAll c log = (j slot d : ℕ) (value other : List ℕ) → IsMigrated log slot value → IsProposedAt c log j slot d other → other ≡ value
 
 -- A ballot has one proposal, of one host, over all its incarnations.
 pub record IsOneProposal {c : Shape} {log : List Filled} {i j slot b : ℕ} {value other : List ℕ} (first : IsProposedAt c log i slot b value) (second : IsProposedAt c log j slot b other) : Type 0 where
@@ -74,12 +78,12 @@ HasHeardNothing w host slot = (trying : IsTryingAt w host slot) → trying.doing
 -- not try slot n, or its attempt had heard nothing: so nothing before the attempt that found the slot empty made its first call, on whichever try.
 abbrev pub EmptyShows : Shape → List Filled → Type 0
 EmptyShows c log =
-    (i j host n place slot : ℕ) (value : List ℕ) → HasHeardNothing (at c log i) host n → i ≤ j → SaysAt c log j host (Recovered n) → place < i → IsChosenAt c log place slot value → slot < n
+    (i j host n slot : ℕ) (value : List ℕ) → HasHeardNothing (at c log i) host n → i ≤ j → SaysAt c log j host (Recovered n) → IsChosenBefore c log i slot value → slot < n
 
 -- A recovery of any host that answers holds whatever was chosen before it began, for any host: what it has learned is longer.
 abbrev pub MissesNothing : Shape → List Filled → Type 0
 MissesNothing c log =
-    (i j host n place slot : ℕ) (value : List ℕ) → IsRecovery c log i j host n → place < i → IsChosenAt c log place slot value → slot < n
+    (i j host n slot : ℕ) (value : List ℕ) → IsRecovery c log i j host n → IsChosenBefore c log i slot value → slot < n
 
 -- No recovery is shorter than one that had answered before it began.
 abbrev pub NoneShorter : Shape → List Filled → Type 0

@@ -1,5 +1,5 @@
 -- What stands at each place of a list of entries.
-use Rattle.std.specs.Prelude.{◌≡◌, ◌<◌, ℕ, List, length, slice_get, Option, Some}
+use Rattle.std.specs.Prelude.{◌≡◌, ◌⊎◌, ◌<◌, ℕ, List, length, slice_get, Option, Some}
 use Rattle.attempt.specs.Answers.{on}
 use Rattle.lock_command.specs.declared.command.Command.{Command}
 use Rattle.lock_command.specs.Command.{spelling}
@@ -9,14 +9,18 @@ use Rattle.host.specs.declared.answer.HostAnswer.TheVariants.{Recovered, Looked}
 use Rattle.host.specs.Host.{Operation, Submitting, Doing, Memory, Host, Stopped, Running}
 use Rattle.world.specs.Entry.{Filled, Submit}
 use Rattle.world.specs.World.{ReadsBack}
-use Rattle.world.specs.Chosen.{IsChosenAt}
+use Rattle.world.specs.Chosen.{IsChosenAt, IsMigrated}
 use Rattle.world_safety.specs.Marks.{TellsTrueMarks}
 
--- the value was chosen for the slot before place i
-pub record IsChosenBefore (c : Shape) (log : List Filled) (i slot : ℕ) (value : List ℕ) : Type 0 where
+-- the value was chosen for the slot by an answer before place i
+pub record IsAnsweredBefore (c : Shape) (log : List Filled) (i slot : ℕ) (value : List ℕ) : Type 0 where
   pub place : ℕ
   pub before : place < i
   pub is : IsChosenAt c log place slot value
+
+-- the value was chosen for the slot before place i: by an answer, or it was migrated there
+abbrev pub IsChosenBefore : Shape → List Filled → ℕ → ℕ → List ℕ → Type 0
+IsChosenBefore c log i slot value = IsAnsweredBefore c log i slot value ⊎ ((0 < i) × IsMigrated log slot value)
 
 -- each command that was learned is one that reads back, and was chosen before for its slot
 abbrev pub AreChosen : Shape → List Filled → ℕ → List Command → Type 0

@@ -3,25 +3,27 @@ ghost use Rattle.std.specs.Prelude.{List};
 ghost use Rattle.slot_log.specs.Shape.{Shape};
 ghost use Rattle.world.specs.Entry.{Filled};
 ghost use Rattle.world.specs.World.{IsRun};
-ghost use Rattle.world.specs.Headline.{Headline, HeadlineOfEvents};
-ghost use Rattle.world_safety.specs.Claims.{BindsGreater, OneProposal, ProposesInOrder};
+ghost use Rattle.world.specs.Headline.{Headline, HeadlineOfEvents, HeadlineOfMigrated};
+ghost use Rattle.world_safety.specs.Claims.{BindsGreater, BindsAll, OneProposal, ProposesInOrder};
 ghost use Rattle.world_safety.specs.Claims.{LogGrows, AllBegun, EmptyShows, MissesNothing, NoneShorter};
 ghost use Rattle.world_safety.specs.Claims.{AcknowledgesByMajority, RecoversByMajority};
 ghost use Rattle.world_safety.specs.Claims.{MarksChosen, DecidesChosenBefore};
 
 /// One log, whatever happens, and nothing that was acknowledged is lost: so it is with every run,
-/// however it came about, and with every list of events. The log only grows.
+/// however it came about, and with every list of events, at first or after a migration. The log only grows.
 pub fn one_log_and_nothing_lost()
     ensures headline { Headline }
     ensures events { HeadlineOfEvents }
+    ensures migrated { HeadlineOfMigrated }
     ensures grows { (c : Shape) (log : List Filled) → IsRun c log → LogGrows c log }
 {}
 
-/// What is chosen in a ballot is the proposal of it and of each greater one, voted for or not. A
-/// ballot has one proposal, over all incarnations of its host, and a slot none before each earlier
+/// What is chosen in a ballot is the proposal of it and of each greater one, voted for or not. What was migrated
+/// is the proposal of every ballot. A ballot has one proposal, over all incarnations of its host, and a slot none before each earlier
 /// slot has a chosen value.
 pub fn ballots_agree()
     ensures greater { (c : Shape) (log : List Filled) → IsRun c log → BindsGreater c log }
+    ensures migrated { (c : Shape) (log : List Filled) → IsRun c log → BindsAll c log }
     ensures one { (c : Shape) (log : List Filled) → IsRun c log → OneProposal c log }
     ensures in_order { (c : Shape) (log : List Filled) → IsRun c log → ProposesInOrder c log }
 {}

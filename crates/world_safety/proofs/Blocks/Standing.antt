@@ -77,7 +77,7 @@ blank_closed block is Second =
     (both_closed (is_open (copy_of First block)) (is_open (copy_of Second block)) (nat_lt (sequence_of (copy_of First block)) (sequence_of (copy_of Second block))) (copy_of First block) (copy_of Second block) is).1
 
 -- so it is sound
-blank_sound : (host : ℕ) (block : List ℕ) → value_of block ≡ None → IsSoundBlock (IsSound host) block
+pub blank_sound : (host : ℕ) (block : List ℕ) → value_of block ≡ None → IsSoundBlock (IsSound host) block
 blank_sound host block is =
     record {
       copies = λ half opened. absurd (true≢false (sym opened ∙ blank_closed block is half));

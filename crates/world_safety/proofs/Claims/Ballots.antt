@@ -1,8 +1,8 @@
 -- What is chosen in a ballot binds the proposals of it and of greater ones; a ballot has one proposal; and slots get theirs in order.
-use Rattle.std.proofs.Common.{◌%◌, ◌-◌, ℕ, suc, ◌+◌, ◌<◌, ◌≡◌, List, length, sym, subst, ap, ◌∙◌, arith}
+use Rattle.std.proofs.Common.{◌%◌, ◌-◌, ℕ, suc, ◌+◌, ◌<◌, ◌≤◌, ◌≡◌, List, length, sym, subst, ap, ◌∙◌, arith}
 use Rattle.torn_block.specs.Layout.{Version, cluster_version, hosts_in}
 use Rattle.torn_block.specs.declared.layout.TheConstants.{HOSTS}
-use Rattle.paxos_block.proofs.VoteLemmas.{owned}
+use Rattle.paxos_block.proofs.VoteLemmas.{above, owned}
 use Rattle.attempt.specs.Answers.{on}
 use Rattle.attempt.specs.Proposal.{highest, ballot}
 use Rattle.attempt.specs.Setup.{Setup}
@@ -18,12 +18,12 @@ use Rattle.agreement.proofs.Agreeing.{bound, one_proposed}
 use Rattle.agreement.proofs.Invariant.{Holds}
 use Rattle.agreement.proofs.Runs.{holds_reached}
 use Rattle.agreement.proofs.Slots.{value_below}
-use Rattle.world_safety.specs.Claims.{IsProposedAt, BindsGreater, OneProposal, ProposesInOrder}
+use Rattle.world_safety.specs.Claims.{IsProposedAt, BindsGreater, BindsAll, OneProposal, ProposesInOrder}
 use Rattle.world_safety.specs.Tied.{machine, IsRunning, HostAt}
 use Rattle.world_safety.specs.Tracks.{IsChosenBefore, IsTrue, IsTrueOf}
 use Rattle.world_safety.proofs.Runs.Tracks.{all_true}
 use Rattle.world_safety.proofs.Moves.Machines.{machine_runs}
-use Rattle.world_safety.proofs.Runs.Tracks.{moves_at, tied_at, carries_then, proposed_by, chosen_by_then, stays_by}
+use Rattle.world_safety.proofs.Runs.Tracks.{moves_at, tied_at, carries_then, proposed_by, chosen_by_then, migrated_by_then, stays_by}
 
 module _ (c : Shape) (log : List Filled) (run : IsRun c log) where
   -- the machine of a slot at a place is sound
@@ -77,6 +77,15 @@ module _ (c : Shape) (log : List Filled) (run : IsRun c log) where
       subst (λ (k : ℕ). IsChosenBy c.disks (machine (moves_at c log run (suc i)) slot) k value) chosen.in_ballot (chosen_by_then c log run i slot value chosen.is) in
       bound c.disks (machine (moves_at c log run n) slot) (holds_at n slot) b value (stays_by c log run (suc i) n slot b value (omega arith) by) d other le
       (proposed_by c log run (suc j) n slot d other (omega arith) (proposed_then j slot d other proposed))
+
+  -- a ballot is above 0
+  positive : (j slot d : ℕ) (other : List ℕ) → IsProposedAt c log j slot d other → 1 ≤ d
+  positive j slot d other is = let over = above is.setup.version is.setup.host (highest is.setup (on is.heard)) in let same = is.in_ballot in omega arith
+
+  pub binds_all : BindsAll c log
+  binds_all j slot d value other migrated proposed =
+      let n = suc j in
+      bound c.disks (machine (moves_at c log run n) slot) (holds_at n slot) 1 value (migrated_by_then c log run n slot value (omega arith) migrated) d other (positive j slot d other proposed) (proposed_then j slot d other proposed)
 
   pub one_proposal : OneProposal c log
   one_proposal i j slot b value other first second =

@@ -17,8 +17,8 @@ use Rattle.slot_log.specs.declared.outcome.Refusal.TheVariants as refusal
 use Rattle.host.specs.declared.answer.HostAnswer.TheVariants.{Recovered, Refused}
 use Rattle.host.specs.Host.{Operation, Submitting, Recovering, Looking, Doing, Memory, Host, Stopped, Running, setup_of, says, begins, full_answer, goes_on, with_floor, learns, is_submitted, after_learning, takes, tries_again, by_status, with_heard, hears_from, hears_beat, hears_beside, is_stopped, Marking, hears_marking, marking_with, marking_of}
 use Rattle.marks.specs.Status as mark
-use Rattle.world.specs.Entry.{Filled, Start, Stop, Submit, Recover, Look, Beat, Mark, Called, Torn, Crashed, Lost, is_of, started, beats, marks, begins_on, host_step}
-use Rattle.world.specs.World.{MayFollow, IsRun}
+use Rattle.world.specs.Entry.{Filled, Start, Stop, Submit, Recover, Look, Beat, Mark, Called, Torn, Crashed, Lost, Migrated, is_of, started, beats, marks, begins_on, host_step}
+use Rattle.world.specs.World.{MayBegin, IsRun}
 use Rattle.world.specs.Chosen.{at, SaysAt, IsCallOf, IsRecovery}
 use Rattle.world_safety.specs.Claims.{AllBegun}
 use Rattle.world_safety.proofs.Moves.Beating.{hears_none}
@@ -177,7 +177,7 @@ module _ (c : Shape) (log : List Filled) (h : ℕ) where
   started_begun i Stopped stopped = λ t does recovers. absurd (cc)
   started_begun i (Running m) stopped = absurd (cc)
 
-  step_begun : (i : ℕ) (e : Filled) → slice_get log i ≡ Some e → MayFollow c (at c log i) e → is_of h e ≡ true → HasBegun log i h ((at c log i).host h) → HasBegun log (suc i) h (host_step c h ((at c log i).host h) e)
+  step_begun : (i : ℕ) (e : Filled) → slice_get log i ≡ Some e → MayBegin c (at c log i) e → is_of h e ≡ true → HasBegun log i h ((at c log i).host h) → HasBegun log (suc i) h (host_step c h ((at c log i).host h) e)
   step_begun i (Start g) is may of known = started_begun i ((at c log i).host h) (subst (λ (j : ℕ). IsTrue (is_stopped ((at c log i).host j))) (eqb-true g h of) may.1)
   step_begun i (Stop g) is may of known = tt
   step_begun i (Submit g command tries) is may of known = submitted_begun i command tries ((at c log i).host h)
@@ -189,8 +189,9 @@ module _ (c : Shape) (log : List Filled) (h : ℕ) where
   step_begun i (Torn g k call left) is may of known = tt
   step_begun i (Crashed k left) is may of known = absurd (cc)
   step_begun i (Lost k) is may of known = absurd (cc)
+  step_begun i (Migrated disks commands) is may of known = absurd (cc)
 
-  by_own : (i : ℕ) (e : Filled) → slice_get log i ≡ Some e → MayFollow c (at c log i) e → HasBegun log i h ((at c log i).host h) → HasBegun log (suc i) h (cond (is_of h e) (host_step c h ((at c log i).host h) e) ((at c log i).host h))
+  by_own : (i : ℕ) (e : Filled) → slice_get log i ≡ Some e → MayBegin c (at c log i) e → HasBegun log i h ((at c log i).host h) → HasBegun log (suc i) h (cond (is_of h e) (host_step c h ((at c log i).host h) e) ((at c log i).host h))
   by_own i e is may known = go (is_of h e) refl
     where
       go : (b : Bool) → is_of h e ≡ b → HasBegun log (suc i) h (cond b (host_step c h ((at c log i).host h) e) ((at c log i).host h))

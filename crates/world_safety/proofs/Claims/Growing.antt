@@ -7,14 +7,15 @@ use Rattle.lock_command.specs.Command.{spelling}
 use Rattle.slot_log.specs.Shape.{Shape}
 use Rattle.host.specs.declared.answer.HostAnswer.TheVariants.{Recovered}
 use Rattle.host.specs.Host.{learned_of}
-use Rattle.world.specs.Entry.{Filled}
+use Rattle.world.specs.Entry.{Filled, Migrated}
 use Rattle.world.specs.World.{World, world, IsRun}
-use Rattle.world.specs.Chosen.{at, IsChosenAt, SaysAt}
+use Rattle.world.specs.Chosen.{at, IsChosenAt, IsMigrated, IsChosen, SaysAt}
 use Rattle.world.proofs.Safe.{its_log}
 use Rattle.agreement.proofs.Slots.{value_below}
 use Rattle.world_safety.specs.Claims.{LogGrows, NoneShorter}
 use Rattle.world_safety.specs.Tracks.{IsChosenBefore}
 use Rattle.world_safety.proofs.Runs.Commands.{begins_by}
+use Rattle.world_safety.proofs.Runs.Knowing.{chosen_upto}
 use Rattle.world_safety.proofs.Runs.Tracks.{all_true}
 use Rattle.world_safety.proofs.Claims.Recovering.{misses_nothing}
 use Rattle.world_safety.proofs.Claims.Safety.{commands, is_safe, as_many, learned_true}
@@ -25,6 +26,13 @@ get_taken l zero k x is = absurd (cc)
 get_taken [] (suc i) k x is = absurd (cc)
 get_taken (y ∷ l) (suc i) zero x is = (omega arith, is)
 get_taken (y ∷ l) (suc i) (suc k) x is = let rest = get_taken l i k x is in (omega (arith, rest.0), rest.1)
+
+-- what was migrated in a beginning was in the whole
+of_beginning : (log : List Filled) (i slot : ℕ) (v : List ℕ) → IsMigrated (take i log) slot v → IsMigrated log slot v
+of_beginning log zero slot v is = absurd (cc)
+of_beginning [] (suc i) slot v is = is
+of_beginning (Migrated disks moved ∷ es) (suc i) slot v is = is
+of_beginning (other ∷ es) (suc i) slot v is = is
 
 module _ (c : Shape) (log : List Filled) (run : IsRun c log) where
   -- what is chosen in a beginning is chosen in the whole
@@ -54,12 +62,15 @@ module _ (c : Shape) (log : List Filled) (run : IsRun c log) where
         chooses = is.chooses;
       }
 
+  chosen_in : (i slot : ℕ) (v : List ℕ) → IsChosen c (take i log) slot v → IsChosen c log slot v
+  chosen_in i slot v (inl chosen) = inl (chosen.0, chosen_whole i chosen.0 slot v chosen.1)
+  chosen_in i slot v (inr is) = inr (of_beginning log i slot v is)
+
   pub log_grows : LogGrows c log
   log_grows i values longer is whole =
       let safe = is_safe c log run in
       let same = its_log c log (commands c log run) safe longer whole in
-      begins_by values longer (λ k v found. (let chosen = is.chosen k v found in
-      subst (λ (l : List (List ℕ)). slice_get l k ≡ Some v) (sym same) (safe.one chosen.0 k v (chosen_whole i chosen.0 k v chosen.1))))
+      begins_by values longer (λ k v found. subst (λ (l : List (List ℕ)). slice_get l k ≡ Some v) (sym same) (safe.one k v (chosen_in i k v (is.chosen k v found))))
 
   -- RECOVERIES
 
@@ -75,6 +86,5 @@ module _ (c : Shape) (log : List Filled) (run : IsRun c log) where
   none_shorter i j k l host other n m first second before = elim (cases_lt m n) [
     | inr not_less ↦ not_less
     | inl shorter ↦ (let chosen = recovered_chosen j host n m first.says shorter in
-        let earlier = chosen.1.before in
-        absurd (let below = misses_nothing c log run k l other m chosen.1.place m chosen.0 second (omega arith) chosen.1.is in omega arith))
+        absurd (let below = misses_nothing c log run k l other m m chosen.0 second (chosen_upto c log (j + 1) k m chosen.0 (omega arith) chosen.1) in omega arith))
   ]

@@ -1,8 +1,11 @@
 -- A recovery that answers has missed nothing that was chosen before it began, nor before the attempt that found its slot empty.
-use Rattle.std.specs.Prelude.{IsTrue, slice_get}
+use Rattle.std.specs.Prelude.{IsTrue, slice_get, map}
 use Rattle.std.proofs.Common.{ℕ, zero, suc, ◌+◌, ◌-◌, ◌<◌, ◌≤◌, ◌≡◌, ◌⊎◌, inl, inr, Bool, true, false, Option, Some, None, List, [], ◌∷◌, ◌++◌, length, append_assoc, refl, sym, subst, ap, ap₂, ◌∙◌, arith}
 use Rattle.std.proofs.Math.Path.{fun_ext}
 use Rattle.std.proofs.lemmas.Bool.{cases_Bool, cases_eq}
+use Rattle.std.proofs.lemmas.List.{length-map}
+use Rattle.std.proofs.lemmas.Option.{slice_get_within}
+use Rattle.lock_command.specs.Command.{spelling}
 use Rattle.attempt.specs.Answers.{Answered, on}
 use Rattle.attempt.specs.Calls as attempt
 use Rattle.attempt.specs.Setup.{Setup}
@@ -12,9 +15,9 @@ use Rattle.host.specs.declared.answer.HostAnswer.TheVariants.{Recovered}
 use Rattle.host.specs.Host.{Doing, Memory, Host, Stopped, Running, setup_of, is_idle_in, idles, said_of}
 use Rattle.world.specs.Entry.{Filled, Recover, is_of, host_step}
 use Rattle.world.specs.World.{World, IsRun}
-use Rattle.world.specs.Chosen.{at, IsChosenAt}
+use Rattle.world.specs.Chosen.{at, IsChosenAt, migrated}
 use Rattle.world.proofs.Histories.{starts}
-use Rattle.world.proofs.Runs.{each}
+use Rattle.world.proofs.Runs.{each, migrated_fits}
 use Rattle.agreement.specs.Majority.{IsMajority}
 use Rattle.agreement.specs.State.{put, Cell, away, read_one, none_opened, Mind}
 use Rattle.agreement.specs.State.Mind.{Opening}
@@ -32,12 +35,12 @@ use Rattle.attempt_safety.proofs.Beginning.{mind_none}
 use Rattle.world_safety.specs.Goes.{Has, IsTryingAt}
 use Rattle.world_safety.specs.Claims.{HasHeardNothing, EmptyShows, MissesNothing}
 use Rattle.world_safety.specs.Tied.{Moves, machine, HostAt, IsDoing, IsRunning, IsTrying}
-use Rattle.world_safety.specs.Tracks.{Counts, IsTrue as IsTrueOfHost, IsTrueOf}
+use Rattle.world_safety.specs.Tracks.{IsChosenBefore, Counts, IsTrue as IsTrueOfHost, IsTrueOf}
 use Rattle.world_safety.proofs.Moves.Moving.{chosen_later}
 use Rattle.world_safety.proofs.Runs.Tracks.{all_true}
 use Rattle.world_safety.proofs.Moves.Machines.{machine_is}
 use Rattle.world_safety.proofs.Runs.Places.{host_next, host_stays, at_end}
-use Rattle.world_safety.proofs.Runs.Tracks.{moves_at, tied_at, step_at, later_places, chosen_then, stays_at}
+use Rattle.world_safety.proofs.Runs.Tracks.{moves_at, tied_at, step_at, later_places, chosen_before}
 
 -- WHERE NOTHING WAS HEARD
 
@@ -126,7 +129,7 @@ module _ (c : Shape) (log : List Filled) (run : IsRun c log) where
 
     own_step : (j : ℕ) → i ≤ j → BegunSince j → (e : Filled) → slice_get log j ≡ Some e → is_of h e ≡ true → BegunSince (suc j)
     own_step j le before e found of trying =
-        let step = step_at c log run j e found in
+        let step = step_at c log run j h e found of in
         let now : host_step c h ((at c log j).host h) e ≡ Running trying.memory = sym (host_next c log j e h found of) ∙ trying.running in
         elim ((step.goes.host h of).begun trying.memory trying.doing now trying.does) [
           | inl was ↦ since_later i j (suc j) h n (omega arith) (before (subst (IsTryingAt (at c log j) h) trying.is was))
@@ -156,20 +159,20 @@ module _ (c : Shape) (log : List Filled) (run : IsRun c log) where
     -- SO IT MISSES NOTHING
 
     -- what was chosen before is below an empty slot
-    below_empty : (j place slot : ℕ) (value : List ℕ) → Since i j h n → IsEmpty c.disks (machine (moves_at c log run j) n) h → place < i → IsChosenAt c log place slot value → slot < n
-    below_empty j place slot value since empty before chosen =
+    below_empty : (j slot : ℕ) (value : List ℕ) → Since i j h n → IsEmpty c.disks (machine (moves_at c log run j) n) h → IsChosenBefore c log i slot value → slot < n
+    below_empty j slot value since empty chosen =
         let start = moves_at c log run i in
         let all = tied_at c log run j in
         let history = subst (IsHistory c.disks) since.is all.history in
         let found = subst (λ (m : Machine). IsEmpty c.disks m h) (sym (machine_is ((start ++ since.early) ++ At n (Starts h) ∷ since.late) n)) (subst (λ (l : Moves). IsEmpty c.disks (machine l n) h) since.is empty) in
         let below = (no_shorter c.disks (start ++ since.early) since.late n h history found).0 in
-        let at_i = stays_at c log run (suc place) i slot value (omega arith) (chosen_then c log run place slot value chosen) in
+        let at_i = chosen_before c log run i slot value chosen in
         let early_history = may_early moved (MayMove c.disks) none_learned (start ++ since.early) (At n (Starts h) ∷ since.late) history in
         let then_chosen = chosen_later c.disks start since.early slot value early_history at_i in
         below slot value (subst (λ (m : Machine). IsChosen c.disks m value) (sym (machine_is (start ++ since.early) slot)) then_chosen)
 
-    begun_below : (j place slot : ℕ) (value : List ℕ) → i ≤ j → IsTryingAt (at c log j) h n → IsEmpty c.disks (machine (moves_at c log run (suc j)) n) h → place < i → IsChosenAt c log place slot value → slot < n
-    begun_below j place slot value le trying empty before chosen = below_empty (suc j) place slot value (since_later i j (suc j) h n (omega arith) (begun_at j le trying)) empty before chosen
+    begun_below : (j slot : ℕ) (value : List ℕ) → i ≤ j → IsTryingAt (at c log j) h n → IsEmpty c.disks (machine (moves_at c log run (suc j)) n) h → IsChosenBefore c log i slot value → slot < n
+    begun_below j slot value le trying empty chosen = below_empty (suc j) slot value (since_later i j (suc j) h n (omega arith) (begun_at j le trying)) empty chosen
 
   -- A host tries slot n at place i, and its attempt has heard nothing: it might as well begin now.
   module _ (i h n : ℕ) (trying : IsTryingAt (at c log i) h n) (nothing : trying.doing.heard ≡ []) where
@@ -198,8 +201,8 @@ module _ (c : Shape) (log : List Filled) (run : IsRun c log) where
         again now n (Starts h) (started_again (now.slot n) h (stands.mind ∙ sym (mind_none own)) (λ d. stands.stages d refl))
 
     -- so what was chosen before is below the slot, where it is found empty
-    fresh_below : (j place slot : ℕ) (value : List ℕ) → 1 ≤ c.disks → i ≤ j → IsEmpty c.disks (machine (moves_at c log run j) n) h → place < i → IsChosenAt c log place slot value → slot < n
-    fresh_below j place slot value some le empty before chosen =
+    fresh_below : (j slot : ℕ) (value : List ℕ) → 1 ≤ c.disks → i ≤ j → IsEmpty c.disks (machine (moves_at c log run j) n) h → IsChosenBefore c log i slot value → slot < n
+    fresh_below j slot value some le empty chosen =
         let later = later_places c log run i j le in
         let history : IsHistory c.disks (start_moves ++ later.more) = subst (IsHistory c.disks) later.is (tied_at c log run j).history in
         let first = may_early moved (MayMove c.disks) none_learned start_moves later.more history in
@@ -210,13 +213,13 @@ module _ (c : Shape) (log : List Filled) (run : IsRun c log) where
         (subst (λ (m : Machine). IsEmpty c.disks m h) (sym (machine_is (start_moves ++ later.more) n)) (subst (λ (l : Moves). IsEmpty c.disks (machine l n) h) later.is empty)) in
         let below = chosen_below c.disks now (holds_all_reached c.disks start_moves first) later.more n h
         (subst (λ (x : Slots (List ℕ)). AllMayMove c.disks x later.more) same rest) (subst (λ (x : Slots (List ℕ)). IsEmpty c.disks ((moves x later.more).slot n) h) same found) in
-        below slot value (subst (λ (m : Machine). IsChosen c.disks m value) (sym (machine_is start_moves slot)) (stays_at c log run (suc place) i slot value (omega arith) (chosen_then c log run place slot value chosen)))
+        below slot value (subst (λ (m : Machine). IsChosen c.disks m value) (sym (machine_is start_moves slot)) (chosen_before c log run i slot value chosen))
 
   -- WHERE A RECOVERY ANSWERS
 
   -- every chosen slot is one of the cluster's
-  slot_fits : (place slot : ℕ) (value : List ℕ) → IsChosenAt c log place slot value → slot < c.slots
-  slot_fits place slot value chosen =
+  answer_fits : (place slot : ℕ) (value : List ℕ) → IsChosenAt c log place slot value → slot < c.slots
+  answer_fits place slot value chosen =
       let hears = chosen.hears in
       let running : IsRunning c (at c log place) (moves_at c log run place) hears.host hears.memory = subst (HostAt c (at c log place) (moves_at c log run place) hears.host) hears.running ((tied_at c log run place).hosts hears.host) in
       let trying : IsTrying c (at c log place) (moves_at c log run place) hears.host hears.memory hears.doing = subst (IsDoing c (at c log place) (moves_at c log run place) hears.host hears.memory) hears.does running.doing in
@@ -224,29 +227,33 @@ module _ (c : Shape) (log : List Filled) (run : IsRun c log) where
       let fits = trying.fits in
       omega arith
 
+  slot_fits : (i slot : ℕ) (value : List ℕ) → IsChosenBefore c log i slot value → slot < c.slots
+  slot_fits i slot value (inl is) = answer_fits is.place slot value is.is
+  slot_fits i slot value (inr is) = let few = migrated_fits c log run in let within = slice_get_within (map spelling (migrated log)) slot value is.1 in let size = length-map (migrated log) spelling in omega arith
+
   -- a slot that is found empty was asked of some disk
   some_disk : (m : Machine) (h : ℕ) → IsEmpty c.disks m h → 1 ≤ c.disks
   some_disk m h empty = majority_asks c.disks (is_at read_one (m.cell h)) empty.prepared.majority
 
   -- at place i the host has heard nothing of slot n
-  below_by : (i h n : ℕ) → HasHeardNothing (at c log i) h n → (j place slot : ℕ) (value : List ℕ) → i ≤ j → IsTryingAt (at c log j) h n → IsEmpty c.disks (machine (moves_at c log run (suc j)) n) h → place < i → IsChosenAt c log place slot value → slot < n
-  below_by i h n nothing j place slot value le trying empty before chosen = elim (tries_or_not (at c log i) h n) [
-    | inl tries ↦ fresh_below i h n tries (nothing tries) (suc j) place slot value (some_disk (machine (moves_at c log run (suc j)) n) h empty) (omega arith) empty before chosen
-    | inr not_yet ↦ begun_below i h n not_yet j place slot value le trying empty before chosen
+  below_by : (i h n : ℕ) → HasHeardNothing (at c log i) h n → (j slot : ℕ) (value : List ℕ) → i ≤ j → IsTryingAt (at c log j) h n → IsEmpty c.disks (machine (moves_at c log run (suc j)) n) h → IsChosenBefore c log i slot value → slot < n
+  below_by i h n nothing j slot value le trying empty chosen = elim (tries_or_not (at c log i) h n) [
+    | inl tries ↦ fresh_below i h n tries (nothing tries) (suc j) slot value (some_disk (machine (moves_at c log run (suc j)) n) h empty) (omega arith) empty chosen
+    | inr not_yet ↦ begun_below i h n not_yet j slot value le trying empty chosen
   ]
 
-  answered : (i h n : ℕ) → HasHeardNothing (at c log i) h n → (j place slot : ℕ) (value : List ℕ) → i ≤ j → (e : Filled) → slice_get log j ≡ Some e → is_of h e ≡ true → (m : Memory) → (at c log (suc j)).host h ≡ Running m → m.said ≡ Some (Recovered n) → n ≡ length m.learned
-      → place < i → IsChosenAt c log place slot value → slot < n
-  answered i h n nothing j place slot value le e found of m running said n_is before chosen =
-      let step = step_at c log run j e found in
+  answered : (i h n : ℕ) → HasHeardNothing (at c log i) h n → (j slot : ℕ) (value : List ℕ) → i ≤ j → (e : Filled) → slice_get log j ≡ Some e → is_of h e ≡ true → (m : Memory) → (at c log (suc j)).host h ≡ Running m → m.said ≡ Some (Recovered n) → n ≡ length m.learned
+      → IsChosenBefore c log i slot value → slot < n
+  answered i h n nothing j slot value le e found of m running said n_is chosen =
+      let step = step_at c log run j h e found of in
       let now : host_step c h ((at c log j).host h) e ≡ Running m = sym (host_next c log j e h found of) ∙ running in
       elim ((step.goes.host h of).empty m n now said) [
-        | inl full ↦ (let fits = slot_fits place slot value chosen in omega arith)
+        | inl full ↦ (let fits = slot_fits i slot value chosen in omega arith)
         | inr empty ↦
             (let trying : IsTryingAt (at c log j) h n = subst (IsTryingAt (at c log j) h) (sym n_is) empty.0 in
             let none : IsEmpty c.disks (machine (moves_at c log run (suc j)) n) h =
             subst (λ (l : Moves). IsEmpty c.disks (machine l n) h) (sym step.is) (subst (λ (k : ℕ). IsEmpty c.disks (machine (moves_at c log run j ++ step.goes.more) k) h) (sym n_is) empty.1) in
-            below_by i h n nothing j place slot value le trying none before chosen)
+            below_by i h n nothing j slot value le trying none chosen)
       ]
 
   said_by : (host : Host) (n : ℕ) → said_of host ≡ Some (Recovered n) → (m : Memory) × (host ≡ Running m) × (m.said ≡ Some (Recovered n))
@@ -254,14 +261,14 @@ module _ (c : Shape) (log : List Filled) (run : IsRun c log) where
   said_by (Running m) n is = (m, refl, is)
 
   pub empty_shows : EmptyShows c log
-  empty_shows i j host n place slot value nothing le says before chosen =
+  empty_shows i j host n slot value nothing le says chosen =
       let number : j + 1 ≡ suc j = omega arith in
       let who = said_by ((at c log (suc j)).host host) n (subst (λ (k : ℕ). said_of ((at c log k).host host) ≡ Some (Recovered n)) number says.says) in
       let known : IsTrueOfHost c log (suc j) host who.0 = subst (IsTrueOf c log (suc j) host) who.1 (all_true c log run (suc j) host) in
-      answered i host n nothing j place slot value le says.entry says.is says.of_host who.0 who.1 who.2 (subst (λ (o : Option HostAnswer). Counts o (length who.0.learned)) who.2 known.counts) before chosen
+      answered i host n nothing j slot value le says.entry says.is says.of_host who.0 who.1 who.2 (subst (λ (o : Option HostAnswer). Counts o (length who.0.learned)) who.2 known.counts) chosen
 
   -- a recovery begins where its host tries nothing
   pub misses_nothing : MissesNothing c log
-  misses_nothing i j host n place slot value is before chosen =
+  misses_nothing i j host n slot value is chosen =
       let idle : IsTrue (idles ((at c log i).host host)) = (each c log i (Recover host is.tries) run is.begins).0 in
-      empty_shows i j host n place slot value (λ trying. absurd (idle_before ((at c log i).host host) trying.memory trying.doing idle trying.running trying.does)) is.order is.says before chosen
+      empty_shows i j host n slot value (λ trying. absurd (idle_before ((at c log i).host host) trying.memory trying.doing idle trying.running trying.does)) is.order is.says chosen

@@ -1,7 +1,9 @@
 -- Every run has a log, by which all that hosts choose, learn and say goes.
 use Rattle.std.specs.Prelude.{slice_get, map, take}
-use Rattle.std.proofs.Common.{ℕ, ◌+◌, ◌<◌, ◌≤◌, ◌≡◌, Option, Some, List, [], ◌∷◌, ◌++◌, length, refl, sym, subst, ap, ◌∙◌, arith}
+use Rattle.std.proofs.Common.{ℕ, ◌+◌, ◌<◌, ◌≤◌, ◌≡◌, inl, inr, Option, Some, List, [], ◌∷◌, ◌++◌, length, refl, sym, subst, ap, ◌∙◌, arith}
+use Rattle.std.proofs.lemmas.Bool.{cases_lt, cases_eq}
 use Rattle.std.proofs.lemmas.List.{length-take}
+use Rattle.agreement.proofs.Slots.{value_below}
 use Rattle.lock_command.specs.declared.command.Command.{Command}
 use Rattle.lock_command.specs.Command.{spelling}
 use Rattle.lock_table.specs.declared.reply.Reply.{Reply}
@@ -10,22 +12,24 @@ use Rattle.slot_log.specs.Shape.{Shape}
 use Rattle.host.specs.declared.answer.HostAnswer.{HostAnswer}
 use Rattle.host.specs.declared.answer.HostAnswer.TheVariants.{Ack, Recovered, Looked}
 use Rattle.host.specs.Host.{Submitting, Doing, Memory, Host, Stopped, Running, learned_of, reply_after, said_of}
-use Rattle.world.specs.Entry.{Filled}
+use Rattle.world.specs.Entry.{Filled, Recover, Migrated}
 use Rattle.world.specs.World.{IsRun}
-use Rattle.world.specs.Happens.{run as happened}
-use Rattle.world.specs.Chosen.{at, IsChosenAt, IsLog, SaysAt, IsAcknowledgedAt, IsRecovery}
-use Rattle.world.specs.Headline.{IsPrefix, prefix_at, IsAcknowledgedBefore, IsSafe, Headline, HeadlineOfEvents}
-use Rattle.world.proofs.Runs.{each, run_is_run}
+use Rattle.world.specs.Happens.{run as happened, run_after}
+use Rattle.world.specs.Chosen.{at, migrated, IsChosen, IsLog, SaysAt, IsAcknowledgedAt, IsRecovery}
+use Rattle.world.specs.Headline.{IsPrefix, prefix_at, IsAcknowledgedBefore, IsSafe, Headline, HeadlineOfEvents, HeadlineOfMigrated}
+use Rattle.world.proofs.Runs.{each, run_is_run, run_after_is_run, begins_migrated, migrated_reads, submits_reads}
 use Rattle.world.proofs.Safe.{one_log, one_begins_other}
 use Rattle.world_safety.specs.Acks.{AcksAt}
 use Rattle.world_safety.specs.Log.{IsLogBefore}
 use Rattle.world_safety.specs.Tracks.{IsChosenBefore, AreChosen, Counts, IsTrue, IsTrueOf}
 use Rattle.world_safety.proofs.Claims.Acknowledging.{acks_at}
-use Rattle.world_safety.proofs.Runs.Commands.{IsSpelling, AreSpelled, commands_of, one_command, stands_where, begins_by}
+use Rattle.world_safety.proofs.Runs.Commands.{IsSpelling, AreSpelled, commands_of, one_command, map_there, stands_where, begins_by}
 use Rattle.world_safety.proofs.Runs.Tracks.{all_true}
-use Rattle.world_safety.proofs.Runs.OneLog.{get_last, log_before, log_is, log_one}
+use Rattle.world_safety.proofs.Runs.OneLog.{get_last, log_before, is_chosen, log_is, log_one}
+use Rattle.world_safety.proofs.Claims.Begun.{all_begun}
 use Rattle.world_safety.proofs.Claims.Recovering.{misses_nothing}
-use Rattle.world_safety.proofs.Runs.Tracks.{submitted_before}
+use Rattle.world_safety.proofs.Runs.Knowing.{chosen_upto}
+use Rattle.world_safety.proofs.Runs.Tracks.{submitted_before, all_submitted_before}
 
 module _ (c : Shape) (log : List Filled) (run : IsRun c log) where
   -- THE COMMANDS OF THE LOG
@@ -39,9 +43,12 @@ module _ (c : Shape) (log : List Filled) (run : IsRun c log) where
   -- each value is the spelling of a command that was submitted
   value_spells : (k : ℕ) (v : List ℕ) → slice_get values k ≡ Some v → IsSpelling v
   value_spells k v found =
-      let chosen = logged.chosen k v found in
-      let submitted = submitted_before c log run chosen.place k v chosen.is in
-      record { command = submitted.command; reads = (each c log submitted.place _ run submitted.entry).1; is = submitted.spelled }
+      let submitted = all_submitted_before c log run (length log) k v (logged.chosen k v found) in
+      record {
+        command = submitted.command;
+        reads = submits_reads c (at c log submitted.place) submitted.entry submitted.command (each c log submitted.place submitted.entry run submitted.is) submitted.submits;
+        is = submitted.spelled;
+      }
 
   pub spelled : AreSpelled values
   spelled = commands_of values value_spells
@@ -52,8 +59,12 @@ module _ (c : Shape) (log : List Filled) (run : IsRun c log) where
   is_log : IsLog c log (map spelling commands)
   is_log = subst (IsLog c log) (sym spelled.spelled) (log_is c log run values logged)
 
-  one : (i slot : ℕ) (value : List ℕ) → IsChosenAt c log i slot value → slice_get (map spelling commands) slot ≡ Some value
-  one i slot value chosen = subst (λ (l : List (List ℕ)). slice_get l slot ≡ Some value) (sym spelled.spelled) (log_one c log run values logged i slot value chosen)
+  one : (slot : ℕ) (value : List ℕ) → IsChosen c log slot value → slice_get (map spelling commands) slot ≡ Some value
+  one slot value chosen = subst (λ (l : List (List ℕ)). slice_get l slot ≡ Some value) (sym spelled.spelled) (log_one c log run values logged slot value chosen)
+
+  -- what was migrated begins it
+  begun : IsPrefix (migrated log) commands
+  begun = begins_by (migrated log) commands (λ k command found. stands_where commands spelled.reads k command (migrated_reads c log run k command found) (one k (spelling command) (inr (map_there (migrated log) k command found))))
 
   -- WHAT HOSTS LEARN
 
@@ -61,7 +72,7 @@ module _ (c : Shape) (log : List Filled) (run : IsRun c log) where
   stands : (i : ℕ) (learned : List Command) → AreChosen c log i learned → (k : ℕ) (command : Command) → slice_get learned k ≡ Some command → slice_get commands k ≡ Some command
   stands i learned are k command found =
       let known = are k command found in
-      stands_where commands spelled.reads k command known.0 (one known.1.place k (spelling command) known.1.is)
+      stands_where commands spelled.reads k command known.0 (one k (spelling command) (is_chosen c log run i k (spelling command) known.1))
 
   pub learned_true : (i : ℕ) (host : Host) (h : ℕ) → IsTrueOf c log i h host → AreChosen c log i (learned_of host)
   learned_true i Stopped h is = λ k command found. absurd (cc)
@@ -161,8 +172,23 @@ module _ (c : Shape) (log : List Filled) (run : IsRun c log) where
   holds i j host n slot command recovery acked =
       let chosen = acked_chosen acked.place acked.host slot acked.reply acked.is.says in
       let before = acked.before in
-      let then_before = chosen.1.before in
-      misses_nothing c log run i j host n chosen.1.place slot chosen.0 recovery (omega arith) chosen.1.is
+      misses_nothing c log run i j host n slot chosen.0 recovery (chosen_upto c log (acked.place + 1) i slot chosen.0 (omega arith) chosen.1)
+
+  -- so is each command that was migrated: a recovery does not begin with the first entry
+  keeps : (i host n : ℕ) → SaysAt c log i host (Recovered n) → length (migrated log) ≤ n
+  keeps i host n says = elim (cases_lt n (length (migrated log))) [
+    | inr not_less ↦ not_less
+    | inl less ↦
+        (let recovery = all_begun c log run i host n says in
+        let found = value_below (migrated log) n less in
+        let is = map_there (migrated log) n found.0 found.1 in
+        let first = begins_migrated log n (spelling found.0) is in
+        let behind : 0 < recovery.0 = elim (cases_eq recovery.0 0) [
+          | inr other ↦ omega arith
+          | inl zero_is ↦ absurd (let both : Some (Migrated first.disks first.commands) ≡ Some (Recover host recovery.1.tries) = sym first.first ∙ ap (slice_get log) (sym zero_is) ∙ recovery.1.begins in cc)
+        ] in
+        absurd (let below = misses_nothing c log run recovery.0 i host n n (spelling found.0) recovery.1 (inr (behind, is)) in omega arith))
+  ]
 
   -- THE RUN IS SAFE
 
@@ -171,6 +197,7 @@ module _ (c : Shape) (log : List Filled) (run : IsRun c log) where
       record {
         is_log = is_log;
         one = one;
+        begun = begun;
         submitted = λ i slot value chosen. submitted_before c log run i slot value chosen;
         prefix = prefix;
         placed = placed;
@@ -179,6 +206,7 @@ module _ (c : Shape) (log : List Filled) (run : IsRun c log) where
         recovered = recovered;
         table = λ i host n says. ap table_after (recovered i host n says).1;
         holds = holds;
+        keeps = keeps;
         looked = looked;
       }
 
@@ -191,3 +219,7 @@ headline c log run =
 -- So it is with every list of events.
 pub headline_of_events : HeadlineOfEvents
 headline_of_events c events = headline c (happened c events) (run_is_run c events)
+
+-- and with every list of events after a migration.
+pub headline_of_migrated : HeadlineOfMigrated
+headline_of_migrated c log events can = headline c (run_after c log events) (run_after_is_run c log events can)

@@ -1,7 +1,7 @@
 -- Each entry that may follow is a few moves of the machines.
 use Rattle.std.proofs.Common.{refl, inl, inr}
 use Rattle.slot_log.specs.Shape.{Shape}
-use Rattle.world.specs.Entry.{Filled, Start, Stop, Submit, Recover, Look, Beat, Mark, Called, Torn, Crashed, Lost}
+use Rattle.world.specs.Entry.{Filled, Start, Stop, Submit, Recover, Look, Beat, Mark, Called, Torn, Crashed, Lost, Migrated}
 use Rattle.world.specs.World.{World, MayFollow}
 use Rattle.world_safety.specs.Goes.{DecidesChosen, Goes}
 use Rattle.world_safety.specs.Tied.{Moves, Tied}
@@ -35,3 +35,4 @@ module _ (c : Shape) (w : World) (ms : Moves) (tied : Tied c w ms) where
   ]
   goes (Crashed k left) may decides = crash_goes c w ms tied k left may.2
   goes (Lost k) may decides = lost_goes c w ms tied k
+  goes (Migrated disks log) may decides = absurd may

@@ -39,10 +39,15 @@ pub one_command : (a b : Command) → ReadsBack a → ReadsBack b → spelling a
 one_command a b reads_a reads_b same = let both : Some a ≡ Some b = sym reads_a ∙ ap decoded same ∙ reads_b in cc
 
 -- an item of a mapped list
-map_item : (commands : List Command) (k : ℕ) (v : List ℕ) → slice_get (map spelling commands) k ≡ Some v → (command : Command) × (slice_get commands k ≡ Some command) × (spelling command ≡ v)
+pub map_item : (commands : List Command) (k : ℕ) (v : List ℕ) → slice_get (map spelling commands) k ≡ Some v → (command : Command) × (slice_get commands k ≡ Some command) × (spelling command ≡ v)
 map_item [] k v is = absurd (cc)
 map_item (command ∷ commands) zero v is = (command, refl, (let same : spelling command ≡ v = cc in same))
 map_item (command ∷ commands) (suc k) v is = map_item commands k v is
+
+pub map_there : (commands : List Command) (k : ℕ) (command : Command) → slice_get commands k ≡ Some command → slice_get (map spelling commands) k ≡ Some (spelling command)
+map_there [] k command is = absurd (cc)
+map_there (first ∷ commands) zero command is = let same : first ≡ command = cc in ap (λ (c : Command). Some (spelling c)) same
+map_there (first ∷ commands) (suc k) command is = map_there commands k command is
 
 -- so a command stands where its spelling does
 pub stands_where : (commands : List Command) → ((k : ℕ) (command : Command) → slice_get commands k ≡ Some command → ReadsBack command) → (k : ℕ) (command : Command) → ReadsBack command

@@ -12,7 +12,7 @@ use Rattle.attempt.specs.Standing.{HasBallot, HasProposal}
 use Rattle.attempt.specs.Visits.{visited, are_enough}
 use Rattle.slot_log.specs.Shape.{Shape}
 use Rattle.host.specs.Host.{Doing, Memory, Host, Stopped, Running, setup_of}
-use Rattle.world.specs.Entry.{Filled, Start, Stop, Submit, Recover, Look, Beat, Mark, Called, Torn, Crashed, Lost}
+use Rattle.world.specs.Entry.{Filled, Start, Stop, Submit, Recover, Look, Beat, Mark, Called, Torn, Crashed, Lost, Migrated}
 use Rattle.world.specs.Chosen.{at, IsChosenAt}
 
 -- either so, or not
@@ -144,6 +144,7 @@ module _ (c : Shape) (log : List Filled) (i : ℕ) where
   entry_tells (Torn h k call left) is = not_called (Torn h k call left) is (λ g k call answer left same. absurd (cc))
   entry_tells (Crashed k left) is = not_called (Crashed k left) is (λ g k call answer left same. absurd (cc))
   entry_tells (Lost k) is = not_called (Lost k) is (λ g k call answer left same. absurd (cc))
+  entry_tells (Migrated disks commands) is = not_called (Migrated disks commands) is (λ g k call answer left same. absurd (cc))
 
   -- so whether an entry chooses can be told
   pub chooses_at : Told ChoosesAt

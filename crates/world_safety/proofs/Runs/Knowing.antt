@@ -1,6 +1,6 @@
 -- What a running host has learned was chosen, and what it submits was submitted.
 use Rattle.std.specs.Prelude.{nat_lt, nat_le, max, slice_get, ◌-◌, cond, if◌then◌else◌}
-use Rattle.std.proofs.Common.{ℕ, suc, ◌≡◌, inl, inr, Bool, true, false, Option, Some, None, List, [], ◌∷◌, ◌++◌, length, refl, sym, subst, ap, ◌∙◌, arith}
+use Rattle.std.proofs.Common.{ℕ, suc, ◌≤◌, ◌≡◌, inl, inr, Bool, true, false, Option, Some, None, List, [], ◌∷◌, ◌++◌, length, refl, sym, subst, ap, ◌∙◌, arith}
 use Rattle.std.proofs.lemmas.Bool.{eqb-true}
 use Rattle.disk.specs.Disk.{Call, Answer}
 use Rattle.paxos_block.specs.Row.{DecodedBlock}
@@ -21,8 +21,8 @@ use Rattle.host.specs.Host.{Operation, Submitting, Recovering, Looking, Doing, M
 use Rattle.beats.specs.Answers as beat_answers
 use Rattle.beats.specs.Status as beat
 use Rattle.host.proofs.Hosts.{decoded_spelled}
-use Rattle.world.specs.Entry.{Filled, Start, Stop, Submit, Recover, Look, Beat, Mark, Called, Torn, Crashed, Lost, is_of, started, beats, marks, host_step}
-use Rattle.world.specs.World.{World, ReadsBack, MayFollow, IsRun}
+use Rattle.world.specs.Entry.{Filled, Start, Stop, Submit, Recover, Look, Beat, Mark, Called, Torn, Crashed, Lost, Migrated, is_of, started, beats, marks, host_step}
+use Rattle.world.specs.World.{World, ReadsBack, MayBegin, IsRun}
 use Rattle.world.proofs.Runs.{each}
 use Rattle.world.specs.Chosen.{at, Hears}
 use Rattle.world.proofs.Histories.{committed}
@@ -40,7 +40,13 @@ module _ (c : Shape) (log : List Filled) where
   -- IT STAYS TRUE
 
   pub later_chosen : (i k : ℕ) (value : List ℕ) → IsChosenBefore c log i k value → IsChosenBefore c log (suc i) k value
-  later_chosen i k value is = record { place = is.place; before = (let b = is.before in omega arith); is = is.is }
+  later_chosen i k value (inl is) = inl (record { place = is.place; before = (let b = is.before in omega arith); is = is.is })
+  later_chosen i k value (inr is) = inr (omega arith, is.1)
+
+  -- until any later place
+  pub chosen_upto : (i j k : ℕ) (value : List ℕ) → i ≤ j → IsChosenBefore c log i k value → IsChosenBefore c log j k value
+  chosen_upto i j k value le (inl is) = inl (record { place = is.place; before = (let b = is.before in omega arith); is = is.is })
+  chosen_upto i j k value le (inr is) = inr (let b = is.0 in omega arith, is.1)
 
   later_learned : (i : ℕ) (learned : List Command) → AreChosen c log i learned → AreChosen c log (suc i) learned
   later_learned i learned are k command is = let known = are k command is in (known.0, later_chosen i k (spelling command) known.1)
@@ -154,7 +160,7 @@ module _ (c : Shape) (log : List Filled) where
           is_setup = refl;
           is_heard = refl;
         } in
-        record { place = i; before = omega arith; is = committed c log i s (t.heard ++ x ∷ []) value run hears ended }
+        inl (record { place = i; before = omega arith; is = committed c log i s (t.heard ++ x ∷ []) value run hears ended })
 
     -- a beat tells nothing of the log
     beaten_true : (m : Memory) (bs : Beats) (said : Option HostAnswer) → IsTrue c log (suc i) h m → Counts said (length m.learned) → IsTrue c log (suc i) h (with_beats m bs said)
@@ -232,7 +238,7 @@ module _ (c : Shape) (log : List Filled) where
     started_true Stopped known = record { learned = λ k command is. absurd (cc); begun = λ t is. absurd (cc); counts = tt; told = λ t is. absurd (cc) }
     started_true (Running m) known = known
 
-    step_true : (e : Filled) → slice_get log i ≡ Some e → MayFollow c (at c log i) e → is_of h e ≡ true → IsTrueOf c log (suc i) h ((at c log i).host h) → IsTrueOf c log (suc i) h (host_step c h ((at c log i).host h) e)
+    step_true : (e : Filled) → slice_get log i ≡ Some e → MayBegin c (at c log i) e → is_of h e ≡ true → IsTrueOf c log (suc i) h ((at c log i).host h) → IsTrueOf c log (suc i) h (host_step c h ((at c log i).host h) e)
     step_true (Start g) is may of known = started_true ((at c log i).host h) known
     step_true (Stop g) is may of known = tt
     step_true (Submit g command tries) is may of known =
@@ -250,6 +256,7 @@ module _ (c : Shape) (log : List Filled) where
     step_true (Torn g k call left) is may of known = tt
     step_true (Crashed k left) is may of known = absurd (cc)
     step_true (Lost k) is may of known = absurd (cc)
+    step_true (Migrated disks commands) is may of known = absurd (cc)
 
   -- what each host knows is true, and stays so
   pub true_next : IsRun c log → (i h : ℕ) → ShowsTrue i h → IsTrueOf c log i h ((at c log i).host h) → IsTrueOf c log (suc i) h ((at c log (suc i)).host h)

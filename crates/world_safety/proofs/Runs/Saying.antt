@@ -17,8 +17,8 @@ use Rattle.host.specs.declared.answer.HostAnswer.{HostAnswer}
 use Rattle.host.specs.declared.answer.HostAnswer.TheVariants.{Ack, Recovered, Looked, Beaten, Marked, Refused}
 use Rattle.host.specs.Host.{Operation, Submitting, Recovering, Looking, Doing, Memory, Host, Stopped, Running, setup_of, says, begins, full_answer, spent_answer, goes_on, with_floor, learns, is_submitted, after_learning, takes, tries_again, by_status, with_heard, goes_by, hears_from, hears_beside, beat_by, beat_of, is_stopped, next_of, said_of, Marking, hears_marking, marking_by, marking_with, marking_of, with_marking}
 use Rattle.marks.specs.Status as mark
-use Rattle.world.specs.Entry.{Filled, Start, Stop, Submit, Recover, Look, Beat, Mark, Called, Torn, Crashed, Lost, is_of, started, beats, marks, begins_on, host_step}
-use Rattle.world.specs.World.{MayFollow, IsRun}
+use Rattle.world.specs.Entry.{Filled, Start, Stop, Submit, Recover, Look, Beat, Mark, Called, Torn, Crashed, Lost, Migrated, is_of, started, beats, marks, begins_on, host_step}
+use Rattle.world.specs.World.{MayBegin, IsRun}
 use Rattle.world.specs.Chosen.{at, Hears, SaysAt}
 use Rattle.world.proofs.Runs.{each}
 use Rattle.world_safety.proofs.Moves.Hosts.{spent_recovers}
@@ -300,7 +300,7 @@ module _ (c : Shape) (log : List Filled) (i h : ℕ) (said : HostAnswer) where
       ∙ ap (λ (o : Option Marking). Running (hears_marking c h m o x)) who.marks in
       marking_says m (marking_with t x) st said of (ap said_of (sym goes) ∙ is)
 
-  whence_by : IsOfLog said → (e : Filled) → slice_get log i ≡ Some e → MayFollow c (at c log i) e → is_of h e ≡ true → (at c log (i + 1)).host h ≡ host_step c h ((at c log i).host h) e → said_of (host_step c h ((at c log i).host h) e) ≡ Some said → Whence
+  whence_by : IsOfLog said → (e : Filled) → slice_get log i ≡ Some e → MayBegin c (at c log i) e → is_of h e ≡ true → (at c log (i + 1)).host h ≡ host_step c h ((at c log i).host h) e → said_of (host_step c h ((at c log i).host h) e) ≡ Some said → Whence
   whence_by log_says (Start g) entry may of now is = begun ((at c log i).host h) (subst (λ (j : ℕ). IsTrue (is_stopped ((at c log i).host j))) (eqb-true g h of) may.1) is
   whence_by log_says (Stop g) entry may of now is = absurd (cc)
   whence_by log_says (Submit g command tries) entry may of now is =
@@ -321,6 +321,7 @@ module _ (c : Shape) (log : List Filled) (i h : ℕ) (said : HostAnswer) where
   whence_by log_says (Torn g k call left) entry may of now is = absurd (cc)
   whence_by log_says (Crashed k left) entry may of now is = absurd (cc)
   whence_by log_says (Lost k) entry may of now is = absurd (cc)
+  whence_by log_says (Migrated disks commands) entry may of now is = absurd (cc)
 
   -- each acknowledgement and each recovery comes from one of the two
   pub whence : IsOfLog said → IsRun c log → SaysAt c log i h said → Whence

@@ -1,6 +1,6 @@
 -- The machines at each place of a run, and what is chosen there.
 use Rattle.std.specs.Prelude.{slice_get, ◌-◌}
-use Rattle.std.proofs.Common.{ℕ, zero, suc, ◌+◌, ◌<◌, ◌≤◌, ◌≡◌, inl, inr, Option, Some, None, List, [], ◌∷◌, ◌++◌, length, append-nil, append_assoc, refl, sym, subst, ap, ◌∙◌, arith}
+use Rattle.std.proofs.Common.{ℕ, zero, suc, ◌+◌, ◌<◌, ◌≤◌, ◌≡◌, ◌⊎◌, true, inl, inr, Option, Some, None, List, [], ◌∷◌, ◌++◌, length, append-nil, append_assoc, refl, sym, subst, ap, ◌∙◌, arith}
 use Rattle.disk.proofs.StepLemmas.{shape_fresh}
 use Rattle.paxos_block.specs.Places.{image_length}
 use Rattle.attempt.specs.Answers.{Answered, Answers, on, heard_as}
@@ -14,11 +14,12 @@ use Rattle.slot_log.specs.Shape.{Shape}
 use Rattle.disk.specs.Disk.{Call, Answer}
 use Rattle.attempt.specs.Status.{Ended, Decided, status}
 use Rattle.host.specs.Host.{Doing, Memory, Running, Operation, Submitting, Recovering, Looking, input_of, setup_of}
-use Rattle.world.specs.Entry.{Filled, Called}
-use Rattle.world.specs.World.{World, IsRun}
-use Rattle.world.specs.Chosen.{at, Hears, IsChosenAt, IsSubmittedBefore}
-use Rattle.world.proofs.Runs.{each}
+use Rattle.world.specs.Entry.{Filled, Submit, Called, Migrated, is_of}
+use Rattle.world.specs.World.{World, MayFollow, CanMigrate, IsRun}
+use Rattle.world.specs.Chosen.{at, Hears, IsChosenAt, IsMigrated, IsSubmittedBefore}
+use Rattle.world.proofs.Runs.{each, follows_or, follows_of, migrated_first, begins_migrated}
 use Rattle.agreement.specs.Event.{Event}
+use Rattle.attempt_safety.specs.Machine.{Machine}
 use Rattle.agreement.specs.Chosen.{IsInput, IsProposed, IsChosen, IsChosenBy}
 use Rattle.agreement.specs.Log.{IsHistory, events_of_slot}
 use Rattle.agreement.proofs.Agreeing.{one_chosen}
@@ -33,9 +34,11 @@ use Rattle.world_safety.specs.Marks.{AllMarksTrue, TellsTrueMarks, KeepsMarks}
 use Rattle.world_safety.proofs.Runs.Knowing.{later_chosen, ShowsTrue, true_next}
 use Rattle.world_safety.proofs.Runs.Showing.{tells_more, decided_known, marks_kept, row_true}
 use Rattle.attempt_safety.proofs.Slotting.{events_append}
-use Rattle.world_safety.proofs.Moves.Machines.{machine_runs, input_append}
+use Rattle.world_safety.proofs.Moves.Machines.{machine_is, machine_runs, input_append}
 use Rattle.world_safety.proofs.Runs.Places.{at_next, at_end}
+use Rattle.world_safety.proofs.Runs.Commands.{map_item}
 use Rattle.world_safety.proofs.Blocks.Standing.{stands_fresh, fresh_unmarked}
+use Rattle.world_safety.proofs.Runs.Migrated.{moves_first, are, is_next, tied_begun, migrated_here, migrated_there, marks_begun}
 
 -- at first
 tied_first : (c : Shape) → Tied c (at c [] zero) []
@@ -66,6 +69,7 @@ module _ (c : Shape) (log : List Filled) (run : IsRun c log) where
     pub hosts : (h : ℕ) → IsTrueOf c log i h ((at c log i).host h)
     pub marks : AllMarksTrue c (at c log i) (IsChosenBefore c log i)
     pub chosen : (slot : ℕ) (v : List ℕ) → IsChosenBefore c log i slot v → IsChosen c.disks (machine ms slot) v
+    pub first : i ≡ zero → ms ≡ []
 
   module _ (i : ℕ) (ms : Moves) (sound : Sound i ms) where
     knows_true : (h : ℕ) (m : Memory) → (at c log i).host h ≡ Running m → IsTrue c log i h m
@@ -95,36 +99,91 @@ module _ (c : Shape) (log : List Filled) (run : IsRun c log) where
     decides_by (Called h k call answer left) is = λ m t v running does ended. sound.chosen (length m.learned) v (decided_by h k call answer left is m t v running does ended)
     decides_by other is = tt
 
+  -- with entry i the value is put into slot j: by its host, or as it was migrated there
+  abbrev PutsIn : ℕ → ℕ → List ℕ → Type 0
+  PutsIn i j v = ((e : Filled) × (slice_get log i ≡ Some e) × IsInputAt c (at c log i) j e v) ⊎ ((i ≡ zero) × IsMigrated log j v)
+
   -- one place further
   record Further (i : ℕ) (ms : Moves) : Type 0 where
     pub more : Moves
     pub tied : Tied c (at c log (suc i)) (ms ++ more)
-    pub goes_by : (e : Filled) → slice_get log i ≡ Some e → (g : Goes c (at c log i) e ms) × (g.more ≡ more)
-    pub keeps : KeepsMarks c (at c log i) (at c log (suc i))
+    pub goes_by : (e : Filled) → slice_get log i ≡ Some e → MayFollow c (at c log i) e → (g : Goes c (at c log i) e ms) × (g.more ≡ more)
+    pub marks : AllMarksTrue c (at c log (suc i)) (IsChosenBefore c log (suc i))
+    pub puts : (j : ℕ) (v : List ℕ) → IsInput (events_of_slot j more) v → PutsIn i j v
+    -- what was migrated is chosen with the first entry, by ballot 1
+    pub begun : i ≡ zero → (slot : ℕ) (v : List ℕ) → IsMigrated log slot v → IsChosenBy c.disks (machine (ms ++ more) slot) 1 v
 
-  further_by : (i : ℕ) (ms : Moves) → Sound i ms → (o : Option Filled) → slice_get log i ≡ o → Further i ms
-  further_by i ms sound None is =
+  -- the first entry is the migration
+  no_other : (i : ℕ) (o : Option Filled) → slice_get log i ≡ o → i ≡ zero → (slot : ℕ) (v : List ℕ) (is : IsMigrated log slot v) → Some (Migrated (begins_migrated log slot v is).disks (begins_migrated log slot v is).commands) ≡ o
+  no_other i o at zero_is slot v is = sym (begins_migrated log slot v is).first ∙ sym (ap (slice_get log) zero_is) ∙ at
+
+  -- A MIGRATION
+
+  further_first : (commands : List Command) → slice_get log zero ≡ Some (Migrated c.disks commands) → CanMigrate c commands → Further zero []
+  further_first commands at_first can =
+      let ms = moves_first c log commands at_first can in
+      let placed = are c log commands at_first can in
+      let there = is_next c log commands at_first can in
+      record {
+        more = ms;
+        tied = subst (λ (w : World). Tied c w ms) (sym there) (tied_begun c log commands at_first can);
+        goes_by = λ e found may. absurd (let both : Some e ≡ Some (Migrated c.disks commands) = sym found ∙ at_first in let same : e ≡ Migrated c.disks commands = cc in subst (MayFollow c (at c log zero)) same may);
+        marks = subst (λ (w : World). AllMarksTrue c w (IsChosenBefore c log (suc zero))) (sym there) (marks_begun c log commands at_first can);
+        puts = λ j v input. inr (refl, migrated_there c log commands at_first can j v (placed.inputs j v input));
+        begun = λ first slot v is. subst (λ (m : Machine). IsChosenBy c.disks m 1 v) (machine_is ms slot) (placed.chosen slot v (migrated_here c log commands at_first can slot v is));
+      }
+
+  -- ANY ENTRY
+
+  marks_next : (i : ℕ) (ms : Moves) → Sound i ms → KeepsMarks c (at c log i) (at c log (suc i)) → AllMarksTrue c (at c log (suc i)) (IsChosenBefore c log (suc i))
+  marks_next i ms sound keeps slot host d slot_below below bytes left marked =
+      let b = marks_kept c (at c log i) (at c log (suc i)) (IsChosenBefore c log i) keeps (λ h m k command running at. ((knows_true i ms sound h m running).learned k command at).1) sound.marks slot host d slot_below below bytes left marked in
+      (b.0, b.1, later_chosen c log i slot b.0 b.2)
+
+  further_none : (i : ℕ) (ms : Moves) → Sound i ms → slice_get log i ≡ None → Further i ms
+  further_none i ms sound is =
       record {
         more = [];
         tied = subst (λ (w : World). Tied c w (ms ++ [])) (sym (at_end c log i is)) (subst (λ (l : Moves). Tied c (at c log i) l) (sym (append-nil ms)) sound.tied);
         goes_by = λ e found. absurd (let both : None ≡ Some e = sym is ∙ found in cc);
-        keeps = subst (λ (w : World). KeepsMarks c (at c log i) w) (sym (at_end c log i is)) (λ slot host d slot_below below bytes left marked. inl (bytes, left, refl));
+        marks = marks_next i ms sound (subst (λ (w : World). KeepsMarks c (at c log i) w) (sym (at_end c log i is)) (λ slot host d slot_below below bytes left marked. inl (bytes, left, refl)));
+        puts = λ j v input. absurd input;
+        begun = λ first slot v migrated. absurd (let both = no_other i None is first slot v migrated in cc);
       }
-  further_by i ms sound (Some e) is =
-      let g = goes c (at c log i) ms sound.tied e (each c log i e run is) (decides_by i ms sound e is) in
+
+  further_with : (i : ℕ) (ms : Moves) → Sound i ms → (e : Filled) → slice_get log i ≡ Some e → MayFollow c (at c log i) e → Further i ms
+  further_with i ms sound e is may =
+      let g = goes c (at c log i) ms sound.tied e may (decides_by i ms sound e is) in
       record {
         more = g.more;
         tied = subst (λ (w : World). Tied c w (ms ++ g.more)) (sym (at_next c log i e is)) g.tied;
-        goes_by = λ other found. (let both : Some e ≡ Some other = sym is ∙ found in let same : e ≡ other = cc in
+        goes_by = λ other found other_may. (let both : Some e ≡ Some other = sym is ∙ found in let same : e ≡ other = cc in
             subst (λ (x : Filled). (y : Goes c (at c log i) x ms) × (y.more ≡ g.more)) same (g, refl));
-        keeps = subst (λ (w : World). KeepsMarks c (at c log i) w) (sym (at_next c log i e is)) g.marks;
+        marks = marks_next i ms sound (subst (λ (w : World). KeepsMarks c (at c log i) w) (sym (at_next c log i e is)) g.marks);
+        puts = λ j v input. inl (e, is, g.inputs j v input);
+        begun = λ first slot v migrated. absurd (
+            let found = begins_migrated log slot v migrated in
+            let both : Some (Migrated found.disks found.commands) ≡ Some e = no_other i (Some e) is first slot v migrated in
+            let same : e ≡ Migrated found.disks found.commands = (let one : Migrated found.disks found.commands ≡ e = cc in sym one) in
+            subst (MayFollow c (at c log i)) same may);
       }
+
+  further_by : (i : ℕ) (ms : Moves) → Sound i ms → (o : Option Filled) → slice_get log i ≡ o → Further i ms
+  further_by i ms sound None is = further_none i ms sound is
+  further_by i ms sound (Some e) is = elim (follows_or c (at c log i) e (each c log i e run is)) [
+    | inl may ↦ further_with i ms sound e is may
+    | inr migration ↦
+        (let at_i : slice_get log i ≡ Some (Migrated c.disks migration.commands) = is ∙ ap Some migration.is in
+        let zero_is = migrated_first c log i c.disks migration.commands run at_i in
+        let there = further_first migration.commands (ap (slice_get log) (sym zero_is) ∙ at_i) migration.can in
+        subst (λ (l : Moves). Further i l) (sym (sound.first zero_is)) (subst (λ (k : ℕ). Further k []) (sym zero_is) there))
+  ]
 
   -- what is chosen with the entry is chosen in the machine
   chosen_by_entry : (i : ℕ) (ms : Moves) (next : Further i ms) (slot : ℕ) (v : List ℕ) → IsChosenAt c log i slot v → IsChosen c.disks (machine (ms ++ next.more) slot) v
   chosen_by_entry i ms next slot v is =
       let hears = is.hears in
-      let by = next.goes_by _ hears.entry in
+      let by = next.goes_by _ hears.entry (each c log i _ run hears.entry) in
       let own = setup_of c hears.host hears.memory hears.doing.operation in
       let all : List Answered = hears.doing.heard ++ record { disk = hears.disk; heard = heard_as hears.answer } ∷ [] in
       let here : Carries (machine (ms ++ next.more) own.slot) own (on all) =
@@ -138,19 +197,30 @@ module _ (c : Shape) (log : List Filled) (run : IsRun c log) where
             (subst (λ (n : ℕ). IsChosenBy n (machine (ms ++ next.more) is.setup.slot) (ballot is.setup (on is.heard)) v) disks (there.chosen v is.chooses)),
       )
 
+  -- what was chosen before the next place is chosen in the machine
+  chosen_next : (i : ℕ) (ms : Moves) → Sound i ms → (next : Further i ms) → (slot : ℕ) (v : List ℕ) → IsChosenBefore c log (suc i) slot v → IsChosen c.disks (machine (ms ++ next.more) slot) v
+  chosen_next i ms sound next slot v (inl is) = elim (cases_eq is.place i) [
+    | inl same ↦ chosen_by_entry i ms next slot v (subst (λ (j : ℕ). IsChosenAt c log j slot v) same is.is)
+    | inr less ↦ chosen_later c.disks ms next.more slot v next.tied.history (sound.chosen slot v (inl (record { place = is.place; before = (let b = is.before in omega arith); is = is.is })))
+  ]
+  chosen_next i ms sound next slot v (inr is) = elim (cases_eq i zero) [
+    | inl first ↦ (1, next.begun first slot v is.1)
+    | inr behind ↦ chosen_later c.disks ms next.more slot v next.tied.history (sound.chosen slot v (inr (omega arith, is.1)))
+  ]
+
   sound_next : (i : ℕ) (ms : Moves) → Sound i ms → (next : Further i ms) → Sound (suc i) (ms ++ next.more)
   sound_next i ms sound next =
       record {
         tied = next.tied;
         hosts = λ h. true_next c log run i h (shows_by i ms sound h) (sound.hosts h);
-        marks = λ slot host d slot_below below bytes left marked.
-            (let b = marks_kept c (at c log i) (at c log (suc i)) (IsChosenBefore c log i) next.keeps (λ h m k command running at. ((knows_true i ms sound h m running).learned k command at).1) sound.marks slot host d slot_below below bytes left marked in
-            (b.0, b.1, later_chosen c log i slot b.0 b.2));
-        chosen = λ slot v is. elim (cases_eq is.place i) [
-          | inl same ↦ chosen_by_entry i ms next slot v (subst (λ (j : ℕ). IsChosenAt c log j slot v) same is.is)
-          | inr less ↦ chosen_later c.disks ms next.more slot v next.tied.history (sound.chosen slot v (record { place = is.place; before = (let b = is.before in omega arith); is = is.is }))
-        ];
+        marks = next.marks;
+        chosen = chosen_next i ms sound next;
+        first = λ same. absurd (cc);
       }
+
+  pub none_before : (slot : ℕ) (v : List ℕ) → ¬ IsChosenBefore c log zero slot v
+  none_before slot v (inl is) = let b = is.before in omega arith
+  none_before slot v (inr is) = let b = is.0 in omega arith
 
   sound_first : Sound zero []
   sound_first =
@@ -158,7 +228,8 @@ module _ (c : Shape) (log : List Filled) (run : IsRun c log) where
         tied = tied_first c;
         hosts = λ h. tt;
         marks = λ slot host d slot_below below bytes left marked. absurd (fresh_unmarked (image_length c.slots) slot host bytes left marked);
-        chosen = λ slot v is. absurd (let b = is.before in omega arith);
+        chosen = λ slot v is. absurd (none_before slot v is);
+        first = λ same. refl;
       }
 
   -- the moves before each place
@@ -191,16 +262,31 @@ module _ (c : Shape) (log : List Filled) (run : IsRun c log) where
     pub goes : Goes c (at c log i) e (moves_at i)
     pub is : moves_at (suc i) ≡ moves_at i ++ goes.more
 
-  pub step_at : (i : ℕ) (e : Filled) → slice_get log i ≡ Some e → Step i e
-  unfolding moves_at track
-  step_at i e found =
-      let next = further_by i (track i).0 (track i).1 (slice_get log i) refl in
-      let by = next.goes_by e found in
-      record { goes = by.0; is = ap (λ (l : Moves). (track i).0 ++ l) (sym by.1) }
+  further_at : (i : ℕ) → Further i (moves_at i)
+  unfolding moves_at
+  further_at i = further_by i (track i).0 (track i).1 (slice_get log i) refl
+
+  moves_next : (i : ℕ) → moves_at (suc i) ≡ moves_at i ++ (further_at i).more
+  unfolding moves_at track further_at
+  moves_next i = refl
+
+  -- where it may follow
+  step_by : (i : ℕ) (e : Filled) → slice_get log i ≡ Some e → MayFollow c (at c log i) e → Step i e
+  step_by i e found may =
+      let by = (further_at i).goes_by e found may in
+      record { goes = by.0; is = moves_next i ∙ ap (λ (l : Moves). moves_at i ++ l) (sym by.1) }
+
+  -- as an entry of a host does
+  pub step_at : (i h : ℕ) (e : Filled) → slice_get log i ≡ Some e → is_of h e ≡ true → Step i e
+  step_at i h e found of = step_by i e found (follows_of c (at c log i) h e of (each c log i e run found))
 
   later_next : (i : ℕ) → Later (moves_at i) (moves_at (suc i))
-  unfolding moves_at track
-  later_next i = record { more = (further_by i (track i).0 (track i).1 (slice_get log i) refl).more; is = refl }
+  later_next i = record { more = (further_at i).more; is = moves_next i }
+
+  -- what was chosen before a place is chosen in the machine
+  pub chosen_before : (i slot : ℕ) (v : List ℕ) → IsChosenBefore c log i slot v → IsChosen c.disks (machine (moves_at i) slot) v
+  unfolding moves_at
+  chosen_before i slot v is = (track i).1.chosen slot v is
 
   -- at later places there are more
   pub later_at : (i n : ℕ) → Later (moves_at i) (moves_at (n + i))
@@ -238,7 +324,7 @@ module _ (c : Shape) (log : List Filled) (run : IsRun c log) where
   -- what an attempt proposes and chooses with an entry is so in the machine, by its ballot
   pub carries_then : (i : ℕ) (s : Setup) (heard : List Answered) (hears : Hears c log i s heard) → Carries (machine (moves_at (suc i)) s.slot) s (on heard)
   carries_then i s heard hears =
-      let step = step_at i _ hears.entry in
+      let step = step_by i _ hears.entry (each c log i _ run hears.entry) in
       let own = setup_of c hears.host hears.memory hears.doing.operation in
       let all : List Answered = hears.doing.heard ++ record { disk = hears.disk; heard = heard_as hears.answer } ∷ [] in
       let here : Carries (machine (moves_at (suc i)) own.slot) own (on all) =
@@ -259,7 +345,21 @@ module _ (c : Shape) (log : List Filled) (run : IsRun c log) where
   pub chosen_then : (i slot : ℕ) (v : List ℕ) → IsChosenAt c log i slot v → IsChosen c.disks (machine (moves_at (suc i)) slot) v
   chosen_then i slot v is = (ballot is.setup (on is.heard), chosen_by_then i slot v is)
 
-  -- so at any two entries it is one value
+  -- what was migrated is chosen there by ballot 1
+  pub migrated_by_then : (i slot : ℕ) (v : List ℕ) → 0 < i → IsMigrated log slot v → IsChosenBy c.disks (machine (moves_at i) slot) 1 v
+  migrated_by_then i slot v behind is =
+      stays_by (suc zero) i slot 1 v (omega arith) (subst (λ (l : Moves). IsChosenBy c.disks (machine l slot) 1 v) (sym (moves_next zero)) ((further_at zero).begun refl slot v is))
+
+  -- so at any two places it is one value
+  pub one_before : (i j slot : ℕ) (v u : List ℕ) → IsChosenBefore c log i slot v → IsChosenBefore c log j slot u → u ≡ v
+  one_before i j slot v u first second =
+      let n = i + j in
+      let events = events_of_slot slot (moves_at n) in
+      one_chosen c.disks (machine (moves_at n) slot) (holds_reached c.disks events (machine_runs c.disks (moves_at n) slot (tied_at n).history)) v u
+      (stays_at i n slot v (omega arith) (chosen_before i slot v first))
+      (stays_at j n slot u (omega arith) (chosen_before j slot u second))
+
+  -- and at any two entries
   pub one_value : (i j slot : ℕ) (v u : List ℕ) → IsChosenAt c log i slot v → IsChosenAt c log j slot u → u ≡ v
   one_value i j slot v u first second =
       let n = suc (i + j) in
@@ -281,47 +381,61 @@ module _ (c : Shape) (log : List Filled) (run : IsRun c log) where
       let by = input_is put.doing.operation v put.input in
       let known : IsTrue c log i put.host put.memory = subst (IsTrueOf c log i put.host) put.running (all_true i put.host) in
       let submitted = known.begun put.doing put.does by.0 by.1 in
-      record { place = submitted.place; host = put.host; command = by.0; tries = submitted.tries; before = submitted.before; entry = submitted.entry; spelled = by.2 }
+      record { place = submitted.place; entry = Submit put.host by.0 submitted.tries; command = by.0; before = submitted.before; is = submitted.entry; submits = refl; spelled = by.2 }
+
+  -- what was migrated was submitted with the first entry
+  migrated_before : (i slot : ℕ) (v : List ℕ) → 0 < i → IsMigrated log slot v → IsSubmittedBefore log i v
+  migrated_before i slot v behind is =
+      let found = begins_migrated log slot v is in
+      let item = map_item found.commands slot v found.there in
+      record { place = 0; entry = Migrated found.disks found.commands; command = item.0; before = behind; is = found.first; submits = (slot, item.1); spelled = sym item.2 }
 
   later_submitted : (i : ℕ) (v : List ℕ) → IsSubmittedBefore log i v → IsSubmittedBefore log (suc i) v
-  later_submitted i v is = record { place = is.place; host = is.host; command = is.command; tries = is.tries; before = (let b = is.before in omega arith); entry = is.entry; spelled = is.spelled }
+  later_submitted i v is = record { place = is.place; entry = is.entry; command = is.command; before = (let b = is.before in omega arith); is = is.is; submits = is.submits; spelled = is.spelled }
 
   no_first : (j : ℕ) (v : List ℕ) → ¬ IsInput (events_of_slot j (moves_at zero)) v
   unfolding moves_at track
   no_first j v input = input
 
-  -- so it is with all that was put in before a place
-  inputs_next : (i j : ℕ) (v : List ℕ) → (IsInput (events_of_slot j (moves_at i)) v → IsSubmittedBefore log i v) → (e : Filled) → slice_get log i ≡ Some e → IsInput (events_of_slot j (moves_at (suc i))) v → IsSubmittedBefore log i v
-  inputs_next i j v before e is input =
-      let step = step_at i e is in
-      elim (input_append (events_of_slot j (moves_at i)) (events_of_slot j step.goes.more) v (subst (λ (es : List (Event (List ℕ))). IsInput es v) (ap (events_of_slot j) step.is ∙ events_append j (moves_at i) step.goes.more) input)) [
-        | inl old ↦ before old
-        | inr new ↦ put_before i j e v (step.goes.inputs j v new)
+  -- what was put in before the next place was so before, or is with the entry
+  input_next : (i j : ℕ) (v : List ℕ) → IsInput (events_of_slot j (moves_at (suc i))) v → IsInput (events_of_slot j (moves_at i)) v ⊎ PutsIn i j v
+  input_next i j v input =
+      let more = (further_at i).more in
+      elim (input_append (events_of_slot j (moves_at i)) (events_of_slot j more) v (subst (λ (es : List (Event (List ℕ))). IsInput es v) (ap (events_of_slot j) (moves_next i) ∙ events_append j (moves_at i) more) input)) [
+        | inl old ↦ inl old
+        | inr new ↦ inr ((further_at i).puts j v new)
       ]
 
-  nothing_more : (i : ℕ) → slice_get log i ≡ None → moves_at (suc i) ≡ moves_at i
-  unfolding moves_at further_by track
-  nothing_more i is = go (slice_get log i) refl
-    where
-      go : (o : Option Filled) (same : slice_get log i ≡ o) → (track i).0 ++ (further_by i (track i).0 (track i).1 o same).more ≡ (track i).0
-      go None same = append-nil (track i).0
-      go (Some e) same = absurd (let both : None ≡ Some e = sym is ∙ same in cc)
+  -- so it is with all that was put in before a place
+  submitted_next : (i j : ℕ) (v : List ℕ) → PutsIn i j v → IsSubmittedBefore log (suc i) v
+  submitted_next i j v (inl put) = later_submitted i v (put_before i j put.0 v put.2)
+  submitted_next i j v (inr migrated) = migrated_before (suc i) j v (omega arith) migrated.1
 
   all_submitted : (i j : ℕ) (v : List ℕ) → IsInput (events_of_slot j (moves_at i)) v → IsSubmittedBefore log i v
   all_submitted zero j v input = absurd (no_first j v input)
-  all_submitted (suc i) j v input = later_submitted i v (by_entry i j v (all_submitted i j v) (slice_get log i) refl input)
-    where
-      by_entry : (i j : ℕ) (v : List ℕ) → (IsInput (events_of_slot j (moves_at i)) v → IsSubmittedBefore log i v) → (o : Option Filled) → slice_get log i ≡ o → IsInput (events_of_slot j (moves_at (suc i))) v → IsSubmittedBefore log i v
-      by_entry i j v before None is input = before (subst (λ (l : Moves). IsInput (events_of_slot j l) v) (nothing_more i is) input)
-      by_entry i j v before (Some e) is input = inputs_next i j v before e is input
+  all_submitted (suc i) j v input = elim (input_next i j v input) [ inl old ↦ later_submitted i v (all_submitted i j v old) | inr new ↦ submitted_next i j v new ]
+
+  -- what is chosen in a machine was put in
+  put_in : (i slot : ℕ) (v : List ℕ) → IsChosen c.disks (machine (moves_at i) slot) v → IsInput (events_of_slot slot (moves_at i)) v
+  put_in i slot v chosen =
+      let events = events_of_slot slot (moves_at i) in
+      only_inputs c.disks events (machine_runs c.disks (moves_at i) slot (tied_at i).history) chosen.0 v chosen.1.proposed
+
+  -- the migration is no answer
+  no_answer : (i slot j : ℕ) (v u : List ℕ) → IsChosenAt c log i slot v → i ≡ zero → IsMigrated log j u → ⊥
+  no_answer i slot j v u is zero_is migrated = let both = no_other i (Some _) is.hears.entry zero_is j u migrated in cc
 
   -- what is chosen with an entry was submitted before it
   pub submitted_before : (i slot : ℕ) (v : List ℕ) → IsChosenAt c log i slot v → IsSubmittedBefore log i v
-  submitted_before i slot v is =
-      let chosen = chosen_then i slot v is in
-      let events = events_of_slot slot (moves_at (suc i)) in
-      let put = only_inputs c.disks events (machine_runs c.disks (moves_at (suc i)) slot (tied_at (suc i)).history) chosen.0 v chosen.1.proposed in
-      inputs_next i slot v (all_submitted i slot v) _ is.hears.entry put
+  submitted_before i slot v is = elim (input_next i slot v (put_in (suc i) slot v (chosen_then i slot v is))) [
+    | inl old ↦ all_submitted i slot v old
+    | inr (inl put) ↦ put_before i slot put.0 v put.2
+    | inr (inr migrated) ↦ absurd (no_answer i slot slot v v is migrated.0 migrated.1)
+  ]
+
+  -- so was what was chosen before a place
+  pub all_submitted_before : (i slot : ℕ) (v : List ℕ) → IsChosenBefore c log i slot v → IsSubmittedBefore log i v
+  all_submitted_before i slot v is = all_submitted i slot v (put_in i slot v (chosen_before i slot v is))
 
   -- WHO PUT IT IN
 
@@ -333,25 +447,18 @@ module _ (c : Shape) (log : List Filled) (run : IsRun c log) where
     pub is : slice_get log place ≡ Some entry
     pub put : IsInputAt c (at c log place) slot entry v
 
-  later_put : (i slot : ℕ) (v : List ℕ) → IsPutBefore i slot v → IsPutBefore (suc i) slot v
-  later_put i slot v is = record { place = is.place; before = (let b = is.before in omega arith); entry = is.entry; is = is.is; put = is.put }
+  later_put : (i slot : ℕ) (v : List ℕ) → IsPutBefore i slot v ⊎ IsMigrated log slot v → IsPutBefore (suc i) slot v ⊎ IsMigrated log slot v
+  later_put i slot v (inl is) = inl (record { place = is.place; before = (let b = is.before in omega arith); entry = is.entry; is = is.is; put = is.put })
+  later_put i slot v (inr migrated) = inr migrated
 
-  put_next : (i j : ℕ) (v : List ℕ) → (IsInput (events_of_slot j (moves_at i)) v → IsPutBefore i j v) → (o : Option Filled) → slice_get log i ≡ o → IsInput (events_of_slot j (moves_at (suc i))) v → IsPutBefore (suc i) j v
-  put_next i j v before None is input = later_put i j v (before (subst (λ (l : Moves). IsInput (events_of_slot j l) v) (nothing_more i is) input))
-  put_next i j v before (Some e) is input =
-      let step = step_at i e is in
-      elim (input_append (events_of_slot j (moves_at i)) (events_of_slot j step.goes.more) v (subst (λ (es : List (Event (List ℕ))). IsInput es v) (ap (events_of_slot j) step.is ∙ events_append j (moves_at i) step.goes.more) input)) [
-        | inl old ↦ later_put i j v (before old)
-        | inr new ↦ record { place = i; before = omega arith; entry = e; is = is; put = step.goes.inputs j v new }
-      ]
+  put_next : (i j : ℕ) (v : List ℕ) → PutsIn i j v → IsPutBefore (suc i) j v ⊎ IsMigrated log j v
+  put_next i j v (inl put) = inl (record { place = i; before = omega arith; entry = put.0; is = put.1; put = put.2 })
+  put_next i j v (inr migrated) = inr migrated.1
 
-  all_put : (i j : ℕ) (v : List ℕ) → IsInput (events_of_slot j (moves_at i)) v → IsPutBefore i j v
+  all_put : (i j : ℕ) (v : List ℕ) → IsInput (events_of_slot j (moves_at i)) v → IsPutBefore i j v ⊎ IsMigrated log j v
   all_put zero j v input = absurd (no_first j v input)
-  all_put (suc i) j v input = put_next i j v (all_put i j v) (slice_get log i) refl input
+  all_put (suc i) j v input = elim (input_next i j v input) [ inl old ↦ later_put i j v (all_put i j v old) | inr new ↦ put_next i j v new ]
 
-  -- what is chosen with an entry was put in by then
-  pub put_by_then : (i slot : ℕ) (v : List ℕ) → IsChosenAt c log i slot v → IsPutBefore (suc i) slot v
-  put_by_then i slot v is =
-      let chosen = chosen_then i slot v is in
-      let events = events_of_slot slot (moves_at (suc i)) in
-      all_put (suc i) slot v (only_inputs c.disks events (machine_runs c.disks (moves_at (suc i)) slot (tied_at (suc i)).history) chosen.0 v chosen.1.proposed)
+  -- what was chosen before a place was put in by then, or migrated
+  pub put_by_then : (i slot : ℕ) (v : List ℕ) → IsChosenBefore c log i slot v → IsPutBefore i slot v ⊎ IsMigrated log slot v
+  put_by_then i slot v is = all_put i slot v (put_in i slot v (chosen_before i slot v is))

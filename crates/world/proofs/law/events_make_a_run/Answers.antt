@@ -7,6 +7,9 @@ returns-clause-follows c = runs.follows
 pub returns-clause-run : goal.returns-clause-run
 returns-clause-run c = runs.run_is_run
 
+pub returns-clause-migrated : goal.returns-clause-migrated
+returns-clause-migrated c = runs.run_after_is_run
+
 pub returns-clause-one_more : goal.returns-clause-one_more
 returns-clause-one_more c = runs.one_more
 

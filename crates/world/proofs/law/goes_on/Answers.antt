@@ -11,7 +11,10 @@ pub returns-clause-beginnings : goal.returns-clause-beginnings
 returns-clause-beginnings c = runs.beginning
 
 pub returns-clause-each : goal.returns-clause-each
-returns-clause-each c = runs.each
+returns-clause-each c = runs.each_behind
+
+pub returns-clause-first : goal.returns-clause-first
+returns-clause-first c = λ shape log e is found. runs.each shape log 0 e is found
 
 pub returns-clause-whole : goal.returns-clause-whole
 returns-clause-whole c = λ shape log k is. runs.run_whole shape log is k

@@ -1,5 +1,5 @@
-use Rattle.world.specs.Happens.{run}
-use Rattle.world.proofs.Runs.{run_is_run}
+use Rattle.world.specs.Happens.{run, run_after}
+use Rattle.world.proofs.Runs.{run_is_run, run_after_is_run}
 use Rattle.world.proofs.Safe as safe
 use Rattle.world.proofs.law.safe_lists_have_one_log.Goals as goal
 
@@ -11,3 +11,6 @@ returns-clause-prefixes c = safe.one_begins_other
 
 pub returns-clause-events : goal.returns-clause-events
 returns-clause-events c = λ headline shape events. headline shape (run shape events) (run_is_run shape events)
+
+pub returns-clause-migrated : goal.returns-clause-migrated
+returns-clause-migrated c = λ headline shape log events can. headline shape (run_after shape log events) (run_after_is_run shape log events can)
