@@ -16,7 +16,7 @@ use Rattle.slot_log.specs.declared.outcome.Refusal.TheVariants as refusal
 use Rattle.world.specs.Entry.{Filled, Mark, Called, is_of, host_step, marks}
 use Rattle.world.specs.World.{World, MayFollow, IsRun}
 use Rattle.world.specs.Chosen.{at}
-use Rattle.world.proofs.Runs.{each}
+use Rattle.world.proofs.Runs.{each, follows_of}
 use Rattle.world_safety.specs.Next.{next_world}
 use Rattle.world_safety.proofs.Moves.Due.{Attempts, IsBeatCall, IsMarkCall, busy}
 use Rattle.world_safety.proofs.Moves.Moving.{idle_is}
@@ -99,7 +99,7 @@ module _ (c : Shape) (log : List Filled) (run : IsRun c log) (i j host slot n : 
   e = is.says.entry
 
   may : MayFollow c here e
-  may = each c log j e run is.says.is
+  may = follows_of c here host e is.says.of_host (each c log j e run is.says.is)
 
   now : at c log (j + 1) ≡ next_world c here e
   now = let number : suc j ≡ j + 1 = omega arith in subst (λ (k : ℕ). at c log k ≡ next_world c here e) number (at_next c log j e is.says.is)

@@ -1,7 +1,7 @@
 -- What is marked on more than half of the disks is found by each attempt that begins later, and so by each look.
-use Rattle.std.specs.Prelude.{IsTrue, ◌*◌, if◌then◌else◌}
-use Rattle.std.proofs.Common.{ℕ, zero, suc, ◌+◌, ◌<◌, ◌≤◌, ◌≡◌, inl, inr, Bool, true, false, cond, Option, Some, None, List, length, refl, sym, subst, ap, ◌∙◌, arith}
-use Rattle.std.proofs.lemmas.Bool.{cases_lt, ltb-true, both_ways}
+use Rattle.std.specs.Prelude.{IsTrue, slice_get, ◌*◌, if◌then◌else◌}
+use Rattle.std.proofs.Common.{ℕ, zero, suc, ◌+◌, ◌<◌, ◌≤◌, ◌≡◌, inl, inr, Bool, true, false, cond, Option, Some, None, List, [], ◌∷◌, length, refl, sym, subst, ap, ◌∙◌, arith}
+use Rattle.std.proofs.lemmas.Bool.{cases_lt, cases_eq, ltb-true, both_ways}
 use Rattle.torn_block.specs.Layout.{hosts_in}
 use Rattle.torn_block.specs.declared.layout.TheConstants.{HOSTS}
 use Rattle.paxos_block.specs.Saying.{Said as PBlock}
@@ -15,27 +15,37 @@ use Rattle.attempt.specs.Proposal.{decided}
 use Rattle.attempt.specs.Setup.{Setup}
 use Rattle.attempt.specs.Status.{Ended, NoMajority, next_or, unless_decided, balloting, status, taken}
 use Rattle.attempt.specs.Visits.{visited, is_left, are_enough}
+use Rattle.attempt.proofs.Firsts.{count_all}
 use Rattle.attempt.proofs.Histories.{history_reached}
 use Rattle.attempt.proofs.Visitors.{left_is, left_over}
+use Rattle.lock_command.specs.Command.{spelling}
 use Rattle.slot_log.specs.Shape.{Shape}
 use Rattle.host.specs.declared.answer.HostAnswer.TheVariants as said
 use Rattle.host.specs.Host.{Memory, Host, Stopped, Running, setup_of, with_heard, idles}
-use Rattle.world.specs.Entry.{Filled, Look, Mark}
+use Rattle.world.specs.Entry.{Filled, Look, Mark, Migrated}
 use Rattle.world.specs.World.{World, IsRun}
-use Rattle.world.specs.Chosen.{at, Hears}
+use Rattle.world.specs.Chosen.{at, migrated, Hears}
 use Rattle.world.proofs.Histories.{heard_then}
-use Rattle.world.proofs.Runs.{each}
+use Rattle.world.proofs.Runs.{each, begins_migrated, migrated_fits}
 use Rattle.world_safety.specs.Claims.{HasHeardNothing}
 use Rattle.world_safety.proofs.Moves.Moving.{IsIdle, idle_is, running_at}
+use Rattle.world_safety.proofs.Runs.Commands.{map_there}
+use Rattle.world_safety.proofs.Runs.Migrated.{is_next, marked_first}
 use Rattle.world_safety.proofs.Runs.Saying.{heard_at, hears_at, whence}
 use Rattle.world_safety.proofs.Runs.Tracks.{moves_at, tied_at}
-use Rattle.world_marks.specs.Found.{IsMarkedOn, IsMarkedOnMany, IsMarkedBefore, FindsMark, AttemptsFind, HasLooked, LooksFind}
+use Rattle.world_marks.specs.Found.{IsMarkedOn, IsMarkedOnMany, IsMarkedBefore, IsFoundBefore, FindsMark, AttemptsFind, HasLooked, LooksFind, LooksFindMigrated}
 use Rattle.world_marks.proofs.Counting.{counts_marked}
 use Rattle.world_marks.proofs.Keeping.{some_row, undecided_block}
 use Rattle.world_marks.proofs.Places.{stays_marked}
 use Rattle.world_marks.proofs.Saying.{full_looks, status_looks}
 use Rattle.world_marks.proofs.Showing.{IsMarkShown, Shown, shown_more, shown_at}
 use Rattle.world_marks.proofs.Steps.{tries_at}
+
+-- a list has an item at each place below its length
+item_below : {A : Type 0} (l : List A) (k : ℕ) → k < length l → (x : A) × (slice_get l k ≡ Some x)
+item_below [] k less = absurd (omega arith)
+item_below (x ∷ l) zero less = (x, refl)
+item_below (x ∷ l) (suc k) less = item_below l k (omega arith)
 
 -- TWO MAJORITIES MEET
 
@@ -107,28 +117,68 @@ module _ (c : Shape) (log : List Filled) (run : IsRun c log) where
       let idle = idle_host w marked.host (w.host marked.host) refl (each c log marked.from (Mark marked.host slot) run marked.marking.begins).0 in
       (running_at c w (moves_at c log run marked.from) (tied_at c log run marked.from) marked.host idle.0 idle.1).below
 
-  attempt_finds : (i j : ℕ) (s : Setup) (heard : List Answered) (hears : Hears c log j s heard) → i ≤ j → IsMarkedBefore c log i s.slot → HasHeardNothing (at c log i) hears.host s.slot → FindsMark (status s (on heard))
-  attempt_finds i j s heard hears later marked nothing =
+  -- on these disks, which are more than half, a host's block of the slot is marked at place i
+  record IsMarkedThere (i slot : ℕ) : Type 0 where
+    pub host : ℕ
+    pub below : host < HOSTS
+    pub slot_below : slot < c.slots
+    pub n : ℕ
+    pub most : c.disks < 2 * n
+    pub those : ℕ → Bool
+    pub many : count c.disks those ≡ n
+    pub firm : (d : ℕ) → d < c.disks → those d ≡ true → IsMarkedOn (at c log i) slot host d
+
+  marked_there : (i slot : ℕ) → IsFoundBefore c log i slot → IsMarkedThere i slot
+  marked_there i slot (inl marked) =
+      let many : IsMarkedOnMany c (at c log (marked.to + 1)) slot marked.host marked.n = counts_marked c log run marked.from marked.to marked.host slot marked.n marked.marking in
+      record {
+        host = marked.host;
+        below = marker_is i slot marked;
+        slot_below = slot_is i slot marked;
+        n = marked.n;
+        most = marked.most;
+        those = many.those;
+        many = many.many;
+        firm = λ d inside those. stays_marked c log run (marked.to + 1) i slot marked.host d (let before = marked.before in omega arith) (slot_is i slot marked) (marker_is i slot marked) (many.each d inside those);
+      }
+  marked_there i slot (inr found) =
+      let item = item_below (migrated log) slot found.1 in
+      let first = begins_migrated log slot (spelling item.0) (map_there (migrated log) slot item.0 item.1) in
+      let may = each c log 0 (Migrated first.disks first.commands) run first.first in
+      let begins : slice_get log 0 ≡ Some (Migrated c.disks first.commands) = first.first ∙ ap (λ (n : ℕ). Some (Migrated n first.commands)) may.0 in
+      let fits = migrated_fits c log run in
+      record {
+        host = 0;
+        below = omega arith;
+        slot_below = (let within = found.1 in omega arith);
+        n = c.disks;
+        most = (let some = may.1.disk in omega arith);
+        those = λ d. true;
+        many = count_all c.disks;
+        firm = λ d inside those. stays_marked c log run 1 i slot 0 d (let behind = found.0 in omega arith) (let within = found.1 in omega arith) (omega arith)
+            (subst (λ (w : World). IsMarkedOn w slot 0 d) (sym (is_next c log first.commands begins may.1)) (marked_first c log first.commands begins may.1 slot d (spelling item.0) inside first.there));
+      }
+
+  attempt_finds : (i j : ℕ) (s : Setup) (heard : List Answered) (hears : Hears c log j s heard) → i ≤ j → IsFoundBefore c log i s.slot → HasHeardNothing (at c log i) hears.host s.slot → FindsMark (status s (on heard))
+  attempt_finds i j s heard hears later found nothing =
       let m = hears.memory in
       let t = hears.doing in
       let h = hears.host in
+      let marked = marked_there i s.slot found in
       let g = marked.host in
-      let below = marker_is i s.slot marked in
-      let slot_below = slot_is i s.slot marked in
-      let many : IsMarkedOnMany c (at c log (marked.to + 1)) s.slot g marked.n = counts_marked c log run marked.from marked.to g s.slot marked.n marked.marking in
-      let firm : (d : ℕ) → d < c.disks → many.those d ≡ true → IsMarkedOn (at c log i) s.slot g d =
-      λ d inside those. stays_marked c log run (marked.to + 1) i s.slot g d (let before = marked.before in omega arith) slot_below below (many.each d inside those) in
+      let below = marked.below in
+      let slot_below = marked.slot_below in
       let on_slot : length m.learned ≡ s.slot = ap (λ (q : Setup). q.slot) (sym hears.is_setup) in
       let disks : s.disks ≡ c.disks = ap (λ (q : Setup). q.disks) hears.is_setup in
       let within : g < hosts_in s.version = omega (arith, below, ap (λ (q : Setup). hosts_in q.version) hears.is_setup) in
       let before = tries_at (Shown c log run i s.slot g slot_below below h) ((at c log j).host h) m t (shown_at c log run i s.slot g slot_below below h nothing j later) hears.running hears.does in
       let behind = shown_more c log run i s.slot g slot_below below h j later m t hears.running hears.does hears.disk hears.call hears.answer hears.left hears.entry before in
-      finds s heard (heard_then c log j s heard run hears) g marked.n within many.those (ap (λ (q : ℕ). count q many.those) disks ∙ many.many) (let most = marked.most in omega (arith, most, disks))
-      (λ d inside those row read. behind on_slot d (firm d (omega (arith, inside, disks)) those) row (ap (λ (xs : List Answered). row_in Opening (on xs d)) (sym hears.is_heard) ∙ read))
+      finds s heard (heard_then c log j s heard run hears) g marked.n within marked.those (ap (λ (q : ℕ). count q marked.those) disks ∙ marked.many) (let most = marked.most in omega (arith, most, disks))
+      (λ d inside those row read. behind on_slot d (marked.firm d (omega (arith, inside, disks)) those) row (ap (λ (xs : List Answered). row_in Opening (on xs d)) (sym hears.is_heard) ∙ read))
 
   -- LOOKS
 
-  module _ (i j host n k : ℕ) (look : HasLooked c log i j host n) (marked : (slot : ℕ) → slot ≤ k → IsMarkedBefore c log i slot) where
+  module _ (i j host n k : ℕ) (look : HasLooked c log i j host n) (marked : (slot : ℕ) → slot ≤ k → IsFoundBefore c log i slot) where
     -- the host was idle where the look begins
     nothing_yet : (slot : ℕ) → HasHeardNothing (at c log i) host slot
     nothing_yet slot trying =
@@ -145,16 +195,16 @@ module _ (c : Shape) (log : List Filled) (run : IsRun c log) where
       | inl first ↦
           (let many = full_looks first.operation (length first.memory.learned) n first.says.0 in
           let full = first.says.1 in
-          let fits = slot_is i k (marked k (omega arith)) in
+          let fits = (marked_there i k (marked k (omega arith))).slot_below in
           omega (arith, many, full, fits, short))
       | inr later ↦
           (let call = later.0 in
           let heard = heard_at c log j host (said.Looked n) call in
           let s = setup_of c host call.memory call.doing.operation in
           elim (status_looks c call.memory (with_heard call.doing (record { disk = call.disk; heard = heard_as call.answer })) (taken s (on heard)) (status s (on heard)) n later.1) [
-            | inl full ↦ (let fits = slot_is i k (marked k (omega arith)) in omega (arith, full, fits, short))
+            | inl full ↦ (let fits = (marked_there i k (marked k (omega arith))).slot_below in omega (arith, full, fits, short))
             | inr spent ↦
-                (let found = attempt_finds i j s heard (hears_at c log j host (said.Looked n) call) look.order (subst (IsMarkedBefore c log i) (sym spent.1) (marked n short)) (nothing_yet s.slot) in
+                (let found = attempt_finds i j s heard (hears_at c log j host (said.Looked n) call) look.order (subst (IsFoundBefore c log i) (sym spent.1) (marked n short)) (nothing_yet s.slot) in
                 subst FindsMark spent.0 found)
           ])
     ]
@@ -164,6 +214,19 @@ module _ (c : Shape) (log : List Filled) (run : IsRun c log) where
 
 pub attempts_find : (c : Shape) (log : List Filled) → IsRun c log → AttemptsFind c log
 attempts_find c log run i j s heard hears later marked nothing = attempt_finds c log run i j s heard hears later marked nothing
+
+pub looks_find_migrated : (c : Shape) (log : List Filled) → IsRun c log → LooksFindMigrated c log
+looks_find_migrated c log run i j host n look = elim (cases_lt n (length (migrated log))) [
+  | inr over ↦ over
+  | inl short ↦
+      (let item = item_below (migrated log) n short in
+      let first = begins_migrated log n (spelling item.0) (map_there (migrated log) n item.0 item.1) in
+      let behind : 0 < i = elim (cases_eq i 0) [
+        | inr other ↦ omega arith
+        | inl zero_is ↦ absurd (let both : Some (Migrated first.disks first.commands) ≡ Some (Look host) = sym first.first ∙ ap (slice_get log) (sym zero_is) ∙ look.begins in cc)
+      ] in
+      absurd (let more = look_finds c log run i j host n n look (λ slot le. inr (behind, omega arith)) in omega arith))
+]
 
 pub looks_find : (c : Shape) (log : List Filled) → IsRun c log → LooksFind c log
 looks_find c log run i j host n k look marked = look_finds c log run i j host n k look marked

@@ -15,7 +15,7 @@ use Rattle.slot_log.specs.declared.outcome.Refusal.TheVariants as refusal
 use Rattle.host.specs.declared.answer.HostAnswer.TheVariants.{Refused}
 use Rattle.host.specs.Host.{Operation, Submitting, Recovering, Looking, Doing, Marking, Memory, Host, Stopped, Running, setup_of, says, begins, full_answer, goes_on, learns, with_floor, is_submitted, after_learning, takes, tries_again, ended, by_status, with_heard, hears_from, hears_beat, hears_beside, hears_marking, beat_by, beat_of, marking_by, marking_with, marking_of, with_marking}
 use Rattle.host.proofs.Hosts.{marking-goes_on, marking_heard}
-use Rattle.world.specs.Entry.{Filled, Start, Stop, Submit, Recover, Look, Beat, Mark, Called, Torn, Crashed, Lost, is_on, is_of, disk_step, host_step, started, beats, marks, begins_on}
+use Rattle.world.specs.Entry.{Filled, Start, Stop, Submit, Recover, Look, Beat, Mark, Called, Torn, Crashed, Lost, Migrated, is_on, is_of, disk_step, host_step, started, beats, marks, begins_on}
 use Rattle.world.specs.World.{World}
 use Rattle.world_safety.specs.Next.{next_world}
 
@@ -157,6 +157,7 @@ module _ (c : Shape) (h : ℕ) (P : ℕ → List Answered → Type 0) (fresh : (
     step_tries (Torn g k call left) same of is = tt
     step_tries (Crashed k left) same of is = absurd (cc)
     step_tries (Lost k) same of is = absurd (cc)
+    step_tries (Migrated disks log) same of is = absurd (cc)
 
     -- so it is of the attempt that is under way behind the entry
     pub tries_next : Tries P (w.host h) → Tries P ((next_world c w e).host h)
@@ -249,6 +250,7 @@ module _ (c : Shape) (h : ℕ) (P : ℕ → List Answered → Type 0) (w : World
   step_marks (Torn g k call left) same of is = tt
   step_marks (Crashed k left) same of is = absurd (cc)
   step_marks (Lost k) same of is = absurd (cc)
+  step_marks (Migrated disks log) same of is = absurd (cc)
 
   -- so it is of the marking that is under way behind the entry
   pub marks_next : Marks P (w.host h) → Marks P ((next_world c w e).host h)

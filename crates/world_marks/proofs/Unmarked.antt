@@ -19,7 +19,7 @@ use Rattle.attempt.proofs.More.{on_more, by_disk}
 use Rattle.lock_command.specs.declared.command.Command.{Command}
 use Rattle.slot_log.specs.Shape.{Shape}
 use Rattle.host.specs.Host.{Doing, Memory, Running, setup_of}
-use Rattle.world.specs.Entry.{Filled, Start, Stop, Submit, Recover, Look, Beat, Mark, Called, Torn, Crashed, Lost, torn_by, called_by, disk_step}
+use Rattle.world.specs.Entry.{Filled, Start, Stop, Submit, Recover, Look, Beat, Mark, Called, Torn, Crashed, Lost, Migrated, torn_by, called_by, disk_step}
 use Rattle.world.specs.World.{World, MayFollow}
 use Rattle.world_safety.specs.Knows.{IsCurrent}
 use Rattle.world_safety.specs.Marks.{AllSay, HasLearned, KeepsMarks}
@@ -92,6 +92,7 @@ step_boot old (Called h d call answer left) = let same = called_boot old call an
 step_boot old (Torn h d call left) = let same = torn_boot old call left in omega arith
 step_boot old (Crashed d left) = omega arith
 step_boot old (Lost d) = omega arith
+step_boot old (Migrated disks log) = omega arith
 
 boots_rise : (c : Shape) (w : World) (e : Filled) (d : ℕ) → (w.disk d).boot ≤ ((next_world c w e).disk d).boot
 boots_rise c w e d = disk_by c w e d (λ disk. (w.disk d).boot ≤ disk.boot) (λ on. step_boot (w.disk d) e) (omega arith)

@@ -1,5 +1,5 @@
 -- When a block stays marked, when a slot is marked on most disks, and what attempts and looks find of that.
-use Rattle.std.specs.Prelude.{◌≡◌, ◌*◌, ◌+◌, ◌<◌, ◌≤◌, ℕ, Bool, true, List, slice_get, Some}
+use Rattle.std.specs.Prelude.{◌≡◌, ◌⊎◌, ◌*◌, ◌+◌, ◌<◌, ◌≤◌, ℕ, Bool, true, List, length, slice_get, Some}
 use Rattle.torn_block.specs.declared.layout.TheConstants.{HOSTS}
 use Rattle.paxos_block.specs.Places.{VoteOf, place_of}
 use Rattle.attempt.specs.Answers.{Answered, on}
@@ -11,7 +11,7 @@ use Rattle.slot_log.specs.Shape.{Shape}
 use Rattle.host.specs.declared.answer.HostAnswer.TheVariants.{Looked, Marked}
 use Rattle.world.specs.Entry.{Filled, Look, Mark, is_of}
 use Rattle.world.specs.World.{World}
-use Rattle.world.specs.Chosen.{at, Hears, SaysAt, IsCallOf}
+use Rattle.world.specs.Chosen.{at, migrated, Hears, SaysAt, IsCallOf}
 use Rattle.world_safety.specs.Claims.{HasHeardNothing}
 use Rattle.world_safety.specs.Marks.{AllSay}
 
@@ -68,10 +68,14 @@ FindsMark (Ended (Outrun mbal)) = ⊥
 FindsMark (Ended NoMajority) = Unit {0}
 FindsMark (Ended BallotsSpent) = ⊥
 
+-- before entry i the slot was marked on more than half of the disks: by some host, or as it was migrated
+abbrev pub IsFoundBefore : Shape → List Filled → (i slot : ℕ) → Type 0
+IsFoundBefore c log i slot = IsMarkedBefore c log i slot ⊎ ((0 < i) × (slot < length (migrated log)))
+
 -- So it is with each attempt, of whatever operation, that has heard nothing yet when its slot is marked on more than half of the disks.
 abbrev pub AttemptsFind : Shape → List Filled → Type 0
 AttemptsFind c log =
-    (i j : ℕ) (s : Setup) (heard : List Answered) (hears : Hears c log j s heard) → i ≤ j → IsMarkedBefore c log i s.slot → HasHeardNothing (at c log i) hears.host s.slot → FindsMark (status s (on heard))
+    (i j : ℕ) (s : Setup) (heard : List Answered) (hears : Hears c log j s heard) → i ≤ j → IsFoundBefore c log i s.slot → HasHeardNothing (at c log i) hears.host s.slot → FindsMark (status s (on heard))
 
 -- A look of the host begins at entry i, and at entry j this one, or a later one, answers that it has learned n commands.
 pub record HasLooked (c : Shape) (log : List Filled) (i j host n : ℕ) : Type 0 where
@@ -81,4 +85,8 @@ pub record HasLooked (c : Shape) (log : List Filled) (i j host n : ℕ) : Type 0
 
 -- A look that begins when each slot up to k is marked on more than half of the disks, and answers, has learned more than k commands.
 abbrev pub LooksFind : Shape → List Filled → Type 0
-LooksFind c log = (i j host n k : ℕ) → HasLooked c log i j host n → ((slot : ℕ) → slot ≤ k → IsMarkedBefore c log i slot) → k < n
+LooksFind c log = (i j host n k : ℕ) → HasLooked c log i j host n → ((slot : ℕ) → slot ≤ k → IsFoundBefore c log i slot) → k < n
+
+-- So each look that answers has learned all that was migrated.
+abbrev pub LooksFindMigrated : Shape → List Filled → Type 0
+LooksFindMigrated c log = (i j host n : ℕ) → HasLooked c log i j host n → length (migrated log) ≤ n

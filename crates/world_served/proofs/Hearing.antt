@@ -17,11 +17,11 @@ use Rattle.attempt.proofs.More.{on_more, by_disk}
 use Rattle.beats.specs.Answers as beat_answers
 use Rattle.slot_log.specs.Shape.{Shape}
 use Rattle.host.specs.Host.{Looking, Doing, Memory, Host, Running, setup_of, beat_of, next_of}
-use Rattle.world.specs.Entry.{Filled, Start, Stop, Submit, Recover, Look, Beat, Mark, Called, Torn, Crashed, Lost, is_on, is_of, disk_step}
+use Rattle.world.specs.Entry.{Filled, Start, Stop, Submit, Recover, Look, Beat, Mark, Called, Torn, Crashed, Lost, Migrated, is_on, is_of, disk_step}
 use Rattle.world.specs.World.{World, IsRun}
 use Rattle.world.specs.Chosen.{at}
 use Rattle.world.proofs.Looks.{reads_only}
-use Rattle.world.proofs.Runs.{each}
+use Rattle.world.proofs.Runs.{each, migrated_first}
 use Rattle.world_safety.specs.Tied.{Moves, IsTrying, IsDoing, IsRunning, HostAt, Tied}
 use Rattle.world_safety.proofs.Blocks.Marked.{promised}
 use Rattle.world_safety.proofs.Blocks.Owning.{boot_kept}
@@ -45,6 +45,7 @@ IsQuietCall c g k call host = IsBeatCall c g k call host ⊎ (IsMarkCall c g k c
 abbrev pub IsQuiet : Shape → World → Filled → Type 0
 IsQuiet c w (Called g k call answer left) = IsQuietCall c g k call (w.host g) × Step (w.disk k) call answer (disk_step (w.disk k) (Called g k call answer left))
 IsQuiet c w (Torn g k call left) = IsQuietCall c g k call (w.host g) × Step (w.disk k) call (Fault Failed) (disk_step (w.disk k) (Torn g k call left))
+IsQuiet c w (Migrated disks log) = ⊥
 IsQuiet c w other = Unit {0}
 
 -- an attempt that looks only reads
@@ -84,6 +85,7 @@ module _ (c : Shape) (log : List Filled) (run : IsRun c log) (i j host : ℕ) (a
       )
   others_quiet (Crashed d left) is off = tt
   others_quiet (Lost d) is off = tt
+  others_quiet (Migrated disks commands) is off = absurd (let first = migrated_first c log k disks commands run is in omega arith)
 
 module _ (c : Shape) (w : World) (ms : Moves) (tied : Tied c w ms) (h : ℕ) (m : Memory) (t : Doing) (running : w.host h ≡ Running m) (does : m.doing ≡ Some t) where
   abbrev s : Setup
@@ -225,3 +227,4 @@ module _ (c : Shape) (w : World) (ms : Moves) (tied : Tied c w ms) (h : ℕ) (m 
       go : (b : Bool) → RestsOn h slot (cond b (disk_step (w.disk d) (Lost k)) (w.disk d)) (f d)
       go true = rests_on h slot (w.disk d) (disk_step (w.disk d) (Lost k)) (f d) (λ current. (record { good = current.good; boot = current.boot }, λ g off. refl)) (before d)
       go false = before d
+  rests_still (Migrated disks log) quiet before d = absurd quiet

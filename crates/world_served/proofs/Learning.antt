@@ -1,7 +1,9 @@
 -- A submission that is left alone hears an answer: it goes on, is served, or learns another command for a slot that is marked.
-use Rattle.std.specs.Prelude.{slice_get, cond, bytes_eq}
+use Rattle.std.specs.Prelude.{slice_get, map, cond, bytes_eq}
 use Rattle.std.proofs.Common.{ℕ, suc, ◌+◌, ◌*◌, ◌<◌, ◌≤◌, ◌≡◌, inl, inr, Bool, true, false, Option, Some, None, List, [], ◌∷◌, ◌++◌, length, length-append, refl, sym, subst, ap, ◌∙◌, arith}
 use Rattle.std.proofs.lemmas.Bool.{cases_order, both_ways, eq-eqb, eqb-true}
+use Rattle.std.proofs.lemmas.List.{length-map}
+use Rattle.std.proofs.lemmas.Option.{slice_get_within}
 use Rattle.std.proofs.lemmas.Slice.Eq.{bytes_eq-Decides}
 use Rattle.disk.specs.Disk.{Call, Answer}
 use Rattle.attempt.specs.Answers.{Answered, on, heard_as}
@@ -20,14 +22,15 @@ use Rattle.lock_command.specs.Reading.{decoded}
 use Rattle.slot_log.specs.Shape.{Shape}
 use Rattle.host.specs.Host.{Operation, Submitting, Looking, spent_answer, Doing, Memory, Host, Running, setup_of, input_of, learned_of, does, learns, is_submitted, after_learning, takes, by_status, hears_from, Beats}
 use Rattle.host.proofs.Hosts.{beats_heard, marking_heard}
-use Rattle.world.specs.Entry.{Filled, Start, Stop, Submit, Recover, Look, Beat, Mark, Called, Torn, Crashed, Lost, is_of, host_step}
+use Rattle.world.specs.Entry.{Filled, Start, Stop, Submit, Recover, Look, Beat, Mark, Called, Torn, Crashed, Lost, Migrated, is_of, host_step}
 use Rattle.world.specs.World.{World, MayFollow, IsRun}
-use Rattle.world.specs.Chosen.{at, Hears}
+use Rattle.world.specs.Chosen.{at, migrated, Hears}
 use Rattle.world.proofs.Histories.{heard_then, committed}
-use Rattle.world.proofs.Runs.{each}
+use Rattle.world.proofs.Runs.{each, submits_reads}
 use Rattle.world_safety.specs.Goes.{ProposesWith}
 use Rattle.world_safety.specs.Next.{next_world}
-use Rattle.world_safety.proofs.Runs.Tracks.{moves_at, tied_at, submitted_before, IsPutBefore, put_by_then, decided_at}
+use Rattle.world_safety.proofs.Runs.Knowing.{later_chosen}
+use Rattle.world_safety.proofs.Runs.Tracks.{moves_at, tied_at, all_submitted_before, IsPutBefore, put_by_then, decided_at}
 use Rattle.world_safety.specs.Tracks.{IsChosenBefore}
 use Rattle.world_served.specs.Alone.{LooksAtMost, TriesNone}
 use Rattle.world_served.specs.Served.{IsServedBy}
@@ -124,18 +127,11 @@ module _ (c : Shape) (log : List Filled) (run : IsRun c log) (some : 1 ≤ c.dis
       -- it spells a command that was submitted
       reads : (found : Command) × (decoded value ≡ Some found)
       reads =
-          let by = submitted_before c log run chosen.place (length m.learned) value chosen.is in
-          let allowed = each c log by.place _ run by.entry in
-          (by.command, ap decoded by.spelled ∙ allowed.1)
+          let by = all_submitted_before c log run (suc k) (length m.learned) value chosen in
+          (by.command, ap decoded by.spelled ∙ submits_reads c (at c log by.place) by.entry by.command (each c log by.place by.entry run by.is) by.submits)
 
-      -- where it is not this one, the slot had a proposal
-      module _ (other : bytes_eq (spelling command) value ≡ false) where
-        -- some host put it in by then
-        by : IsPutBefore c log run (suc k) (length m.learned) value
-        by =
-            let put = put_by_then c log run chosen.place (length m.learned) value chosen.is in
-            record { place = put.place; before = (let b = put.before in let early = chosen.before in omega arith); entry = put.entry; is = put.is; put = put.put }
-
+      -- where it is not this one, and some host put it in by then, the slot had a proposal
+      module _ (other : bytes_eq (spelling command) value ≡ false) (by : IsPutBefore c log run (suc k) (length m.learned) value) where
         -- not this host behind the submission, which puts in its own
         put_own : (h : ℕ) → h ≡ host → (q : Memory) (u : Doing) → (at c log by.place).host h ≡ Running q → q.doing ≡ Some u → input_of u.operation ≡ Some value → i < by.place → ⊥
         put_own h same q u runs does input late =
@@ -166,6 +162,7 @@ module _ (c : Shape) (log : List Filled) (run : IsRun c log) (some : 1 ≤ c.dis
         put_late (Torn g n other_call bytes) found of votes late = votes
         put_late (Crashed n bytes) found of votes late = votes
         put_late (Lost n) found of votes late = votes
+        put_late (Migrated n log_of) found of votes late = votes
 
         -- nor with it
         put_now : i ≡ by.place → ⊥
@@ -185,7 +182,7 @@ module _ (c : Shape) (log : List Filled) (run : IsRun c log) (some : 1 ≤ c.dis
         put_early (Mark g slot) found of votes early = absurd votes
         put_early (Called g n other_call other_answer bytes) found of votes early =
             let put = by.put in
-            alone.marked (length m.learned) by.place (ballot (setup_of c put.host put.memory put.doing.operation) (on (put.doing.heard ++ record { disk = n; heard = heard_as other_answer } ∷ []))) value early
+            alone.marked.proposed (length m.learned) by.place (ballot (setup_of c put.host put.memory put.doing.operation) (on (put.doing.heard ++ record { disk = n; heard = heard_as other_answer } ∷ []))) value early
             (record {
               setup = setup_of c put.host put.memory put.doing.operation;
               heard = put.doing.heard ++ record { disk = n; heard = heard_as other_answer } ∷ [];
@@ -211,21 +208,32 @@ module _ (c : Shape) (log : List Filled) (run : IsRun c log) (some : 1 ≤ c.dis
         put_early (Torn g n other_call bytes) found of votes early = absurd votes
         put_early (Crashed n bytes) found of votes early = absurd votes
         put_early (Lost n) found of votes early = absurd votes
+        put_early (Migrated n log_of) found of votes early = absurd votes
 
-        is_marked : marks (length m.learned) ≡ true
-        is_marked = elim (cases_order by.place i) [
+        put_marked : marks (length m.learned) ≡ true
+        put_marked = elim (cases_order by.place i) [
           | inl same ↦ absurd (put_now (sym same))
           | inr (inl early) ↦ put_early by.entry by.is by.put.of by.put.proposes early
           | inr (inr late) ↦ absurd (put_late by.entry by.is by.put.of by.put.proposes late)
         ]
 
-        -- as are all that were learned meanwhile
-        all_marked : (slot : ℕ) → base ≤ slot → slot < base + suc is.past → marks slot ≡ true
-        all_marked slot above below = elim (cases_order slot (length m.learned)) [
-          | inl same ↦ ap marks same ∙ is_marked
-          | inr (inl less) ↦ is.marked slot above (let learned = is.learned in omega arith)
-          | inr (inr more) ↦ absurd (let learned = is.learned in omega arith)
-        ]
+      -- or it was migrated: so its slot is marked
+      is_marked : bytes_eq (spelling command) value ≡ false → marks (length m.learned) ≡ true
+      is_marked other = elim (put_by_then c log run (suc k) (length m.learned) value chosen) [
+        | inl by ↦ put_marked other by
+        | inr migrated_so ↦
+            (let within = slice_get_within (map spelling (migrated log)) (length m.learned) value migrated_so in
+            let size = length-map (migrated log) spelling in
+            alone.marked.migrated (length m.learned) (omega arith) (let learned = is.learned in omega arith))
+      ]
+
+      -- as are all that were learned meanwhile
+      all_marked : bytes_eq (spelling command) value ≡ false → (slot : ℕ) → base ≤ slot → slot < base + suc is.past → marks slot ≡ true
+      all_marked other slot above below = elim (cases_order slot (length m.learned)) [
+        | inl same ↦ ap marks same ∙ is_marked other
+        | inr (inl less) ↦ is.marked slot above (let learned = is.learned in omega arith)
+        | inr (inr more) ↦ absurd (let learned = is.learned in omega arith)
+      ]
 
       -- its own command is acknowledged, with another the next slot is tried
       learned_so : (found : Command) (own : Bool) → bytes_eq (spelling command) value ≡ own → SoFar (calls + 1) after (after_learning c m going found own) (after_learning c m going found own).doing
@@ -250,10 +258,9 @@ module _ (c : Shape) (log : List Filled) (run : IsRun c log) (some : 1 ≤ c.dis
     status_so : (b : ℕ) (st : Status) → status s (on heard) ≡ st → IsServed s heard st → SoFar (calls + 1) after (by_status c m going b st) (by_status c m going b st).doing
     status_so b (Due p n) so serves =
         record { quiet = refl; operation = is.operation; past = is.past; learned = is.learned; marked = is.marked; fits = is.fits; short = serves; bound = counted; rests = rests }
-    status_so b (Ended (attempt.Committed value)) so serves = taken_so value (record { place = k; before = omega arith; is = committed c log k s heard value run hears_it so }) b
+    status_so b (Ended (attempt.Committed value)) so serves = taken_so value (inl (record { place = k; before = omega arith; is = committed c log k s heard value run hears_it so })) b
     status_so b (Ended (attempt.Decided value)) so serves =
-        let before = decided_at c log run k host d call answer left entry m t value running doing so in
-        taken_so value (record { place = before.place; before = (let n = before.before in omega arith); is = before.is }) b
+        taken_so value (later_chosen c log k (length m.learned) value (decided_at c log run k host d call answer left entry m t value running doing so)) b
     status_so b (Ended attempt.Empty) so serves =
         let none : HasNone s (on heard) = told_by s (on heard) (Ended attempt.Empty) so in
         absurd (has_value (best s (on heard)).inp (spelling command) (subst (λ (o : Operation). or_else (best s (on heard)).inp (input_of o) ≡ None) is.operation none.none))

@@ -28,7 +28,7 @@ use Rattle.world.specs.Entry.{Filled, Start, Stop, Submit, Called, Torn, of_host
 use Rattle.world.specs.World.{world}
 use Rattle.world.specs.Happens as events
 use Rattle.world.specs.Happens.{Event, entry_of, with_entry, happens, happen}
-use Rattle.world.specs.Chosen.{at, Hears, IsCallOf}
+use Rattle.world.specs.Chosen.{at, migrated, Hears, IsCallOf}
 use Rattle.world.proofs.Projections.{disk_there, host_here}
 use Rattle.world_safety.specs.Claims.{IsProposedAt}
 use Rattle.world_served.specs.Reached.{one_disk, first_command, steps, first_submission, none_open, second_command, second_submission, first_open}
@@ -172,11 +172,22 @@ none_proposed k slot b value less is =
     let there = hears_in one_disk first_submission first_two 2 k is.setup is.heard first_plays.begins (omega arith) is.hears in
     not_first k there.host there.disk there.call there.answer there.left (omega arith) there.entry
 
+-- a list that begins with a start has nothing migrated
+none_migrated : (log : List Filled) (h : ℕ) → slice_get log 0 ≡ Some (Start h) → migrated log ≡ []
+none_migrated [] h is = refl
+none_migrated (e ∷ es) h is = let same : e ≡ Start h = cc in ap (λ (x : Filled). migrated (x ∷ es)) same
+
+first_is : slice_get first_submission 0 ≡ Some (Start 0)
+first_is = sym (get_take first_submission 2 0 (omega arith)) ∙ ap (λ (l : List Filled). slice_get l 0) first_plays.begins
+
 -- it is left alone and answered
 pub left_alone : IsLeftAlone one_disk first_submission 1 19 0 1 first_command none_open
 left_alone =
     left_alone_by one_disk 0 first_two first_submission first_last.0.0 first_last.0.1 1 17 refl first_plays first_command 1 none_open refl
-    (λ slot k b value less proposed le. absurd (none_proposed k slot b value less proposed))
+    (record {
+      proposed = λ slot k b value less proposed le. absurd (none_proposed k slot b value less proposed);
+      migrated = λ slot within le. absurd (let none = ap length (none_migrated first_submission 0 first_is) in omega arith);
+    })
 
 -- by seventeen calls
 pub seventeen : calls_between first_submission 1 19 0 ≡ 17
@@ -307,10 +318,17 @@ before_slot k s heard less hears =
       | inr behind ↦ absurd (not_between k there.host there.disk there.call there.answer there.left behind less there.entry)
     ]
 
+second_starts : slice_get second_submission 0 ≡ Some (Start 0)
+second_starts =
+    let size = begun_long in
+    sym (get_take second_submission (length begun_again) 0 (omega arith)) ∙ ap (λ (l : List Filled). slice_get l 0) second_plays.begins
+    ∙ sym (get_take begun_again 19 0 (omega arith)) ∙ ap (λ (l : List Filled). slice_get l 0) stopped_first ∙ first_is
+
 marks_first : MarksOpen one_disk second_submission 21 0 first_open
-marks_first slot k b value less proposed le =
-    let none : slot ≡ 0 = sym proposed.on_slot ∙ before_slot k proposed.setup proposed.heard less proposed.hears in
-    ap first_open none
+marks_first = record {
+  proposed = λ slot k b value less proposed le. ap first_open (sym proposed.on_slot ∙ before_slot k proposed.setup proposed.heard less proposed.hears);
+  migrated = λ slot within le. absurd (let none = ap length (none_migrated second_submission 0 second_starts) in omega arith);
+}
 
 -- THE SECOND SUBMISSION
 

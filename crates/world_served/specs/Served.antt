@@ -8,14 +8,14 @@ use Rattle.host.specs.declared.answer.HostAnswer.{HostAnswer}
 use Rattle.host.specs.declared.answer.HostAnswer.TheVariants.{Ack, Refused}
 use Rattle.host.specs.Host.{learned_of, said_of}
 use Rattle.world.specs.Entry.{Filled, Submit, of_host}
-use Rattle.world.specs.Chosen.{at}
+use Rattle.world.specs.Chosen.{at, migrated}
 use Rattle.world_safety.specs.Claims.{IsProposedAt}
 use Rattle.world_served.specs.Alone.{IsAlone, IsAnsweredWell}
 
--- Each slot that the host has not learned before entry i, and for which some attempt of any host had a proposal before, is marked.
-abbrev pub MarksOpen : Shape → List Filled → (i host : ℕ) → (ℕ → Bool) → Type 0
-MarksOpen c log i host marks =
-    (slot k b : ℕ) (value : List ℕ) → k < i → IsProposedAt c log k slot b value → length (learned_of ((at c log i).host host)) ≤ slot → marks slot ≡ true
+-- Each slot that the host has not learned before entry i is marked, if some attempt of any host had a proposal for it before, or if it was migrated.
+pub record MarksOpen (c : Shape) (log : List Filled) (i host : ℕ) (marks : ℕ → Bool) : Type 0 where
+  pub proposed : (slot k b : ℕ) (value : List ℕ) → k < i → IsProposedAt c log k slot b value → length (learned_of ((at c log i).host host)) ≤ slot → marks slot ≡ true
+  pub migrated : (slot : ℕ) → slot < length (migrated log) → length (learned_of ((at c log i).host host)) ≤ slot → marks slot ≡ true
 
 -- So many calls were made, of at most so many, and nothing is said yet; or the command is acknowledged, or refused for want of slots or of ballots.
 abbrev pub IsServedBy : (most calls : ℕ) → Option HostAnswer → Type 0

@@ -160,20 +160,20 @@ module _ (c : Shape) (log : List Command) (can : CanMigrate c log) where
   abbrev pub value_in : ℕ → ℕ → Option (List ℕ)
   value_in slot host = cond (host == 0) (slice_get values slot) None
 
+  long_in_log : (slot : ℕ) (value : List ℕ) → slice_get values slot ≡ Some value → length value ≡ VALUE_LENGTH
+  long_in_log slot value is =
+      let within = slice_get_within values slot value is in
+      let both : Some (get_or values slot value) ≡ Some value = sym (slice_get-get_or values slot value within) ∙ is in
+      let same : get_or values slot value ≡ value = cc in
+      subst (λ (v : List ℕ). length v ≡ VALUE_LENGTH) same (long_values slot value within)
+
   long_in : (slot host : ℕ) → IsLong (value_in slot host)
   long_in slot host = go (host == 0) (slice_get values slot) refl
     where
-      long_item : (items : List (List ℕ)) → All (λ value. length value ≡ VALUE_LENGTH) items → (k : ℕ) (value : List ℕ) → slice_get items k ≡ Some value → length value ≡ VALUE_LENGTH
-      long_item items all k value is =
-          let within = slice_get_within items k value is in
-          let both : Some (get_or items k value) ≡ Some value = sym (slice_get-get_or items k value within) ∙ is in
-          let same : get_or items k value ≡ value = cc in
-          subst (λ (v : List ℕ). length v ≡ VALUE_LENGTH) same (all k value within)
-
       go : (b : Bool) (o : Option (List ℕ)) → slice_get values slot ≡ o → IsLong (cond b o None)
       go false o is = tt
       go true None is = tt
-      go true (Some value) is = long_item values long_values slot value is
+      go true (Some value) is = long_in_log slot value is
 
   holds : (slot host : ℕ) → slot < c.slots → host < HOSTS → block_in (place_of (VoteOf slot host)) disk.bytes ≡ block_at (value_in slot host)
   holds slot host slot_below below = by (cases_Bool (host == 0)) (slice_get values slot) refl
@@ -211,6 +211,12 @@ module _ (c : Shape) (log : List Command) (can : CanMigrate c log) where
         reads = λ bytes left. inl (ap (λ (block : List ℕ). said (value_of block)) (there bytes left) ∙ at_says (value_in slot host) (long_in slot host) ∙ sym confirmed);
         sound = λ bytes left. subst (IsSoundBlock (IsSound host)) (sym (there bytes left)) (at_sound host (value_in slot host) (long_in slot host) (of_zero slot host));
       }
+
+  -- host 0's block of a slot of the log is marked
+  pub marked_migrated : (slot : ℕ) (value : List ℕ) → slot < c.slots → slice_get values slot ≡ Some value → AllSay (λ says. says.mark ≡ true) (place_of (VoteOf slot 0)) disk
+  marked_migrated slot value slot_below is bytes left =
+      let there : block_in (place_of (VoteOf slot 0)) bytes ≡ block_for value = ap (block_in (place_of (VoteOf slot 0))) (leaves bytes left) ∙ holds slot 0 slot_below (omega arith) ∙ ap block_at is in
+      ap (λ (block : List ℕ). (says_of (value_of block)).mark) there ∙ ap (λ s. s.mark) (block_says value (long_in_log slot value is))
 
   -- and what is marked is of the log
   pub marks_migrated : (Known : List ℕ → Type 0) (slot host : ℕ) → slot < c.slots → host < HOSTS → ((value : List ℕ) → slice_get values slot ≡ Some value → Known value) → AllSay (IsMarkTrue Known) (place_of (VoteOf slot host)) disk

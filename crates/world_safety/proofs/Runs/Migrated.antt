@@ -1,6 +1,9 @@
 -- Where the machines have come to, and which marks are true, behind a migration of a log.
 use Rattle.std.specs.Prelude.{slice_get, cond, map, nat_lt, ◌==◌}
 use Rattle.std.proofs.Common.{ℕ, zero, suc, ◌<◌, ◌≡◌, Bool, true, false, inr, Some, None, List, refl, sym, subst, ap, ◌∙◌, arith}
+use Rattle.std.proofs.lemmas.Bool.{lt-ltb}
+use Rattle.std.proofs.lemmas.List.{length-map}
+use Rattle.std.proofs.lemmas.Option.{slice_get_within}
 use Rattle.disk.specs.Disk.{DiskState}
 use Rattle.disk.specs.Simulated.{fresh_disk}
 use Rattle.disk.proofs.StepLemmas.{shape_fresh}
@@ -24,7 +27,7 @@ use Rattle.world_safety.specs.Next.{next_world}
 use Rattle.world_safety.specs.Tied.{Moves, machine, Tied}
 use Rattle.world_safety.specs.Tracks.{IsChosenBefore}
 use Rattle.world_safety.proofs.Blocks.Standing.{stands_fresh, fresh_unmarked}
-use Rattle.world_safety.proofs.Blocks.Migrated.{image, stands_migrated, marks_migrated}
+use Rattle.world_safety.proofs.Blocks.Migrated.{image, stands_migrated, marked_migrated, marks_migrated}
 use Rattle.world_safety.proofs.Moves.Machines.{machine_is}
 use Rattle.world_safety.proofs.Runs.Places.{at_next}
 
@@ -82,6 +85,12 @@ module _ (c : Shape) (log : List Filled) (commands : List Command) (at_first : s
         stands = stand;
         hosts = λ h. are.learned h;
       }
+
+  -- the block of each slot of the log is marked on each disk
+  pub marked_first : (slot d : ℕ) (v : List ℕ) → d < c.disks → slice_get values slot ≡ Some v → AllSay (λ says. says.mark ≡ true) (place_of (VoteOf slot 0)) (begun_world.disk d)
+  marked_first slot d v inside is =
+      let below : slot < c.slots = let within = slice_get_within values slot v is in let few = can.slots in let size = length-map commands spelling in omega arith in
+      subst (λ (b : Bool). AllSay (λ says. says.mark ≡ true) (place_of (VoteOf slot 0)) (cond b (migrated_to (opening_disk c) commands) (fresh_disk (image_length c.slots)))) (sym (lt-ltb d c.disks inside)) (marked_migrated c commands can slot v below is)
 
   pub migrated_here : (slot : ℕ) (v : List ℕ) → IsMigrated log slot v → slice_get values slot ≡ Some v
   migrated_here slot v is = ap (λ (l : List Command). slice_get (map spelling l) slot) (sym (migrated_is log c.disks commands at_first)) ∙ is

@@ -13,11 +13,11 @@ use Rattle.lock_command.specs.Command.{spelling}
 use Rattle.slot_log.specs.Shape.{Shape}
 use Rattle.disk.specs.Disk.{Call, Answer}
 use Rattle.attempt.specs.Status.{Ended, Decided, status}
-use Rattle.host.specs.Host.{Doing, Memory, Running, Operation, Submitting, Recovering, Looking, input_of, setup_of}
+use Rattle.host.specs.Host.{Doing, Memory, Stopped, Running, Operation, Submitting, Recovering, Looking, input_of, setup_of}
 use Rattle.world.specs.Entry.{Filled, Submit, Called, Migrated, is_of}
 use Rattle.world.specs.World.{World, MayFollow, CanMigrate, IsRun}
 use Rattle.world.specs.Chosen.{at, Hears, IsChosenAt, IsMigrated, IsSubmittedBefore}
-use Rattle.world.proofs.Runs.{each, follows_or, follows_of, migrated_first, begins_migrated}
+use Rattle.world.proofs.Runs.{IsMigration, each, follows_or, follows_of, migrated_first, begins_migrated}
 use Rattle.agreement.specs.Event.{Event}
 use Rattle.attempt_safety.specs.Machine.{Machine}
 use Rattle.agreement.specs.Chosen.{IsInput, IsProposed, IsChosen, IsChosenBy}
@@ -30,6 +30,7 @@ use Rattle.world_safety.specs.Tied.{Moves, machine, Tied}
 use Rattle.world_safety.specs.Tracks.{IsChosenBefore, IsTrue, IsTrueOf}
 use Rattle.world_safety.proofs.Moves.Entries.{goes}
 use Rattle.world_safety.proofs.Moves.Moving.{proposed_by_later, chosen_by_later, chosen_later}
+use Rattle.world_safety.specs.Next.{next_world}
 use Rattle.world_safety.specs.Marks.{AllMarksTrue, TellsTrueMarks, KeepsMarks}
 use Rattle.world_safety.proofs.Runs.Knowing.{later_chosen, ShowsTrue, true_next}
 use Rattle.world_safety.proofs.Runs.Showing.{tells_more, decided_known, marks_kept, row_true}
@@ -271,10 +272,17 @@ module _ (c : Shape) (log : List Filled) (run : IsRun c log) where
   moves_next i = refl
 
   -- where it may follow
-  step_by : (i : ℕ) (e : Filled) → slice_get log i ≡ Some e → MayFollow c (at c log i) e → Step i e
+  pub step_by : (i : ℕ) (e : Filled) → slice_get log i ≡ Some e → MayFollow c (at c log i) e → Step i e
   step_by i e found may =
       let by = (further_at i).goes_by e found may in
       record { goes = by.0; is = moves_next i ∙ ap (λ (l : Moves). moves_at i ++ l) (sym by.1) }
+
+  -- where it is the migration, no host has started yet
+  pub stopped_behind : (i : ℕ) (e : Filled) → slice_get log i ≡ Some e → IsMigration c e → (h : ℕ) → (next_world c (at c log i) e).host h ≡ Stopped
+  stopped_behind i e found migration h =
+      let at_i : slice_get log i ≡ Some (Migrated c.disks migration.commands) = found ∙ ap Some migration.is in
+      let first = migrated_first c log i c.disks migration.commands run at_i in
+      ap (λ (x : Filled). (next_world c (at c log i) x).host h) migration.is ∙ ap (λ (j : ℕ). (at c log j).host h) first
 
   -- as an entry of a host does
   pub step_at : (i h : ℕ) (e : Filled) → slice_get log i ≡ Some e → is_of h e ≡ true → Step i e

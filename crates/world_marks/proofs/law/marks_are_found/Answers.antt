@@ -1,4 +1,4 @@
-use Rattle.world_marks.proofs.Finding.{attempts_find, looks_find}
+use Rattle.world_marks.proofs.Finding.{attempts_find, looks_find, looks_find_migrated}
 use Rattle.world_marks.proofs.law.marks_are_found.Goals as goal
 
 pub returns-clause-attempts : goal.returns-clause-attempts
@@ -6,3 +6,6 @@ returns-clause-attempts c = attempts_find
 
 pub returns-clause-looks : goal.returns-clause-looks
 returns-clause-looks c = looks_find
+
+pub returns-clause-migrated : goal.returns-clause-migrated
+returns-clause-migrated c = looks_find_migrated
