@@ -1,11 +1,11 @@
 -- A world kept beside the list of entries, so that each event costs one step, gives the same answers as the list alone.
-use Rattle.std.specs.Prelude.{◌+◌, ◌==◌, ℕ, if◌then◌else◌}
+use Rattle.std.specs.Prelude.{◌+◌, ◌==◌, ℕ, nat_lt, if◌then◌else◌}
 use Rattle.std.proofs.Common.{◌≡◌, Bool, true, false, Option, Some, None, List, [], ◌∷◌, ◌++◌, refl, sym, ap, ◌∙◌, inl, inr}
 use Rattle.std.proofs.lemmas.Bool.{cases_Bool, eqb-true}
 use Rattle.disk.specs.Disk.{DiskState}
 use Rattle.slot_log.specs.Shape.{Shape}
 use Rattle.host.specs.Host.{Host}
-use Rattle.world.specs.Entry.{Filled, Start, Stop, Submit, Recover, Look, Beat, Mark, Called, Torn, Crashed, Lost, is_on, is_of, disk_step, host_step}
+use Rattle.world.specs.Entry.{Filled, Start, Stop, Submit, Recover, Look, Beat, Mark, Called, Torn, Crashed, Lost, Migrated, is_on, is_of, disk_step, host_step}
 use Rattle.world.specs.World.{World, world}
 use Rattle.world.specs.Happens.{Event, Line, entry_of, host_of, happens, happen, with_entry, lines_after, lines_at, answers_from, answers}
 use Rattle.world.proofs.Projections.{disk_here, disk_there, host_here, host_there}
@@ -20,6 +20,7 @@ disks_after disks (Called h d call answer left) = at_one disks d (disk_step (dis
 disks_after disks (Torn h d call left) = at_one disks d (disk_step (disks d) (Torn h d call left))
 disks_after disks (Crashed d left) = at_one disks d (disk_step (disks d) (Crashed d left))
 disks_after disks (Lost d) = at_one disks d (disk_step (disks d) (Lost d))
+disks_after disks (Migrated n log) = λ k. if nat_lt k n then disk_step (disks k) (Migrated n log) else disks k
 disks_after disks other = disks
 
 abbrev pub hosts_after : Shape → (ℕ → Host) → Filled → ℕ → Host
@@ -88,6 +89,10 @@ module _ (c : Shape) (log : List Filled) where
   disks_next (Torn h d call left) k = disk_at (Torn h d call left) d (λ j. refl) k
   disks_next (Crashed d left) k = disk_at (Crashed d left) d (λ j. refl) k
   disks_next (Lost d) k = disk_at (Lost d) d (λ j. refl) k
+  disks_next (Migrated n commands) k = elim (cases_Bool (nat_lt k n)) [
+    | inl is ↦ ap (λ (b : Bool). if b then disk_step ((world c log).disk k) (Migrated n commands) else (world c log).disk k) is ∙ sym (disk_here c log (Migrated n commands) k is)
+    | inr is ↦ ap (λ (b : Bool). if b then disk_step ((world c log).disk k) (Migrated n commands) else (world c log).disk k) is ∙ sym (disk_there c log (Migrated n commands) k is)
+  ]
 
   hosts_next : (e : Filled) (g : ℕ) → hosts_after c (world c log).host e g ≡ (world c (log ++ e ∷ [])).host g
   hosts_next (Start h) g = host_at (Start h) h (λ j. refl) g
@@ -101,12 +106,13 @@ module _ (c : Shape) (log : List Filled) where
   hosts_next (Torn h d call left) g = host_at (Torn h d call left) h (λ j. refl) g
   hosts_next (Crashed d left) g = sym (host_there c log (Crashed d left) g refl)
   hosts_next (Lost d) g = sym (host_there c log (Lost d) g refl)
+  hosts_next (Migrated n commands) g = sym (host_there c log (Migrated n commands) g refl)
 
   world_next : (e : Filled) → stepped c (world c log) e ≡ world c (log ++ e ∷ [])
   world_next e = λ i. record { disk = λ k. disks_next e k i; host = λ g. hosts_next e g i }
 
 -- whether an event brings an entry or not
-event_next : (c : Shape) (log : List Filled) (o : Option Filled) → world_then c (world c log) o ≡ world c (with_entry log o)
+pub event_next : (c : Shape) (log : List Filled) (o : Option Filled) → world_then c (world c log) o ≡ world c (with_entry log o)
 event_next c log None = refl
 event_next c log (Some e) = world_next c log e
 
@@ -114,7 +120,7 @@ lines_next : (c : Shape) (log : List Filled) (place : ℕ) (o : Option Filled) �
 lines_next c log place None = refl
 lines_next c log place (Some e) = refl
 
-same_from : (c : Shape) (log : List Filled) (place : ℕ) (events : List Event) → answers_in c (world c log) place events ≡ answers_from c log place events
+pub same_from : (c : Shape) (log : List Filled) (place : ℕ) (events : List Event) → answers_in c (world c log) place events ≡ answers_from c log place events
 same_from c log place [] = refl
 same_from c log place (e ∷ es) =
     let entry = entry_of c (world c log) e in

@@ -1,22 +1,25 @@
 -- A world whose disks are kept in pieces goes on as the world does, with the same answers.
-use Rattle.std.specs.Prelude.{◌+◌, ◌==◌, ℕ, if◌then◌else◌, option_map, length, replicate}
+use Rattle.std.specs.Prelude.{◌+◌, ◌==◌, ℕ, map, nat_lt, if◌then◌else◌, option_map, length, replicate}
 use Rattle.std.proofs.Common.{◌≡◌, Bool, true, false, Option, Some, None, List, [], ◌∷◌, ◌++◌, refl, ap, ◌∙◌, append-nil}
 use Rattle.disk.specs.declared.fault.DiskFault.{DiskFault}
 use Rattle.disk.specs.declared.fault.DiskFault.TheVariants.{Reset, Failed, Gone}
-use Rattle.disk.specs.Disk.{DiskState, Call, Attach, Read, Write, Sync, Answer, Booted, Told, Done, Fault, put_at, written, done_by, success_of}
+use Rattle.disk.specs.Disk.{DiskState, Call, Attach, Read, Write, Sync, Answer, Booted, Told, Done, Fault, put_at, written, synced, done_by, success_of}
 use Rattle.disk.specs.Simulated.{fresh_disk, refusal_of}
-use Rattle.paxos_block.specs.Places.{image_length}
+use Rattle.paxos_block.specs.Places.{image_length, row_place}
+use Rattle.migration.specs.Image.{rows_for}
+use Rattle.lock_command.specs.declared.command.Command.{Command}
+use Rattle.lock_command.specs.Command.{spelling}
 use Rattle.attempt.specs.Answers.{Heard, heard_as}
 use Rattle.attempt.specs.Answers as hearing
 use Rattle.attempt.specs.Heard as any
 use Rattle.slot_log.specs.Shape.{Shape}
 use Rattle.host.specs.Host.{Host, Stopped, Running, Memory, Doing, next_of, hears, hears_marking, hears_beside, hears_from}
-use Rattle.world.specs.Entry.{Filled, Start, Stop, Submit, Recover, Look, Beat, Mark, Called, Torn, Crashed, Lost, torn_by, called_by, disk_step, host_step}
+use Rattle.world.specs.Entry.{Filled, Start, Stop, Submit, Recover, Look, Beat, Mark, Called, Torn, Crashed, Lost, Migrated, torn_by, called_by, disk_step, host_step}
 use Rattle.world.specs.World.{World, world}
 use Rattle.world.specs.Happens.{Event, Line, Step, entry_of, stepped, answer_by}
 use Rattle.worked_rows.proofs.Pieces.{Piece, Zeros, whole, flat, put_in, range_in, flat-put, flat-range}
 use Rattle.worked_rows.proofs.Blocks.{said_in, said_so}
-use Rattle.worked_rows.proofs.Beside.{at_one, disks_after, hosts_after, lines_then, world_then, answers_in, world_in}
+use Rattle.worked_rows.proofs.Beside.{at_one, event_next, disks_after, hosts_after, lines_then, world_then, answers_in, world_in}
 
 -- A DISK
 
@@ -57,6 +60,7 @@ step_in d (Called h k call answer left) = called_in d call answer left
 step_in d (Torn h k call left) = torn_in d call left
 step_in d (Crashed k left) = record { pieces = whole left ∷ []; unsynced = replicate (length (flat d.pieces)) false; boot = d.boot + 1; gone = d.gone }
 step_in d (Lost k) = record { pieces = d.pieces; unsynced = d.unsynced; boot = d.boot; gone = true }
+step_in d (Migrated n log) = done_in (written_in d (row_place 0) (rows_for (map spelling log))) (Sync d.boot)
 step_in d other = d
 
 written_so : (d : Pieced) (at : ℕ) (from : List ℕ) → shown (written_in d at from) ≡ written (shown d) at from
@@ -94,6 +98,7 @@ step_so d (Called h k call answer left) = called_so d call answer left
 step_so d (Torn h k call left) = torn_so d call left
 step_so d (Crashed k left) = λ i. record { bytes = append-nil left i; unsynced = replicate (length (flat d.pieces)) false; boot = d.boot + 1; gone = d.gone }
 step_so d (Lost k) = refl
+step_so d (Migrated n log) = ap synced (written_so d (row_place 0) (rows_for (map spelling log)))
 
 -- AN ANSWER
 
@@ -194,13 +199,14 @@ disks_in disks (Other (Called h d call answer left)) = at_one disks d (step_in (
 disks_in disks (Other (Torn h d call left)) = at_one disks d (step_in (disks d) (Torn h d call left))
 disks_in disks (Other (Crashed d left)) = at_one disks d (step_in (disks d) (Crashed d left))
 disks_in disks (Other (Lost d)) = at_one disks d (step_in (disks d) (Lost d))
+disks_in disks (Other (Migrated n log)) = λ k. if nat_lt k n then step_in (disks k) (Migrated n log) else disks k
 disks_in disks (Other other) = disks
 
 abbrev hosts_in : Shape → (ℕ → Host) → Deed → ℕ → Host
 hosts_in c hosts (Asked h d call g) = at_one hosts h (host_in c h (hosts h) d g)
 hosts_in c hosts (Other e) = hosts_after c hosts e
 
-abbrev kept_then : Shape → Kept → Option Deed → Kept
+abbrev pub kept_then : Shape → Kept → Option Deed → Kept
 kept_then c w None = w
 kept_then c w (Some deed) = record { disk = disks_in w.disk deed; host = hosts_in c w.host deed }
 
@@ -228,13 +234,14 @@ disks_so disks (Other (Called h d call answer left)) k = if_shown (d == k) (step
 disks_so disks (Other (Torn h d call left)) k = if_shown (d == k) (step_in (disks d) (Torn h d call left)) (disks k) _ (step_so (disks d) (Torn h d call left))
 disks_so disks (Other (Crashed d left)) k = if_shown (d == k) (step_in (disks d) (Crashed d left)) (disks k) _ (step_so (disks d) (Crashed d left))
 disks_so disks (Other (Lost d)) k = if_shown (d == k) (step_in (disks d) (Lost d)) (disks k) _ (step_so (disks d) (Lost d))
+disks_so disks (Other (Migrated n log)) k = if_shown (nat_lt k n) (step_in (disks k) (Migrated n log)) (disks k) _ (step_so (disks k) (Migrated n log))
 disks_so disks (Other other) k = refl
 
 hosts_so : (c : Shape) (hosts : ℕ → Host) (deed : Deed) (k : ℕ) → hosts_in c hosts deed k ≡ hosts_after c hosts (entry deed) k
 hosts_so c hosts (Asked h d call g) k = ap (λ new. at_one hosts h new k) (host_so c h (hosts h) d call g)
 hosts_so c hosts (Other e) k = refl
 
-then_so : (c : Shape) (w : Kept) (deed : Option Deed) → world_of (kept_then c w deed) ≡ world_then c (world_of w) (option_map entry deed)
+pub then_so : (c : Shape) (w : Kept) (deed : Option Deed) → world_of (kept_then c w deed) ≡ world_then c (world_of w) (option_map entry deed)
 then_so c w None = refl
 then_so c w (Some deed) = λ i. record { disk = λ k. disks_so w.disk deed k i; host = λ k. hosts_so c w.host deed k i }
 
@@ -283,3 +290,13 @@ opening_so c = λ i.
       disk = λ k. record { bytes = append-nil (replicate (image_length c.slots) 0) i; unsynced = replicate (image_length c.slots) false; boot = 1; gone = false };
       host = λ h. Stopped;
     }
+
+-- behind a migration of this log
+abbrev pub migrated_opening : Shape → List Command → Kept
+migrated_opening c log = kept_then c (opening c) (Some (Other (Migrated c.disks log)))
+
+pub migrated_so : (c : Shape) (log : List Command) → world_of (migrated_opening c log) ≡ world c (Migrated c.disks log ∷ [])
+migrated_so c log =
+    then_so c (opening c) (Some (Other (Migrated c.disks log)))
+    ∙ ap (λ w. world_then c w (Some (Migrated c.disks log))) (opening_so c)
+    ∙ event_next c [] (Some (Migrated c.disks log))

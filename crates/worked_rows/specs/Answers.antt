@@ -1,6 +1,7 @@
 -- What the hosts of a cluster answer at events, the lines in which they do, and what is known and written then.
 use Rattle.std.specs.Prelude.{ℕ, List, [], ◌∷◌, Option, Some, option_map}
 use Rattle.lock_modes.specs.declared.mode.Mode.TheVariants.{Exclusive}
+use Rattle.lock_command.specs.declared.command.Command.{Command}
 use Rattle.lock_table.specs.declared.record.LockRecord.{LockRecord}
 use Rattle.lock_table.specs.declared.record.LockState.{LockState}
 use Rattle.lock_table.specs.declared.record.LockState.TheVariants.{Granted}
@@ -19,7 +20,7 @@ use Rattle.slot_log.specs.declared.outcome.Refusal.{Refusal}
 use Rattle.host.specs.declared.answer.HostAnswer.TheVariants.{Ack, Recovered, Looked, Beaten, Marked, Refused}
 use Rattle.host.specs.Host.{Host, Stopped, Running, learned_of}
 use Rattle.world.specs.World.{World, world}
-use Rattle.world.specs.Happens.{Event, Line, run, answers}
+use Rattle.world.specs.Happens.{Event, Line, run, answers, answers_after}
 
 -- a cluster of so many disks and slots
 abbrev pub sized : ℕ → ℕ → Shape
@@ -28,6 +29,10 @@ sized disks slots = record { disks = disks; slots = slots }
 -- what its hosts answer at these events, one after the other
 unfoldable pub said_over : ℕ → ℕ → List Event → List Line
 said_over disks slots events = answers (sized disks slots) events
+
+-- and after a migration of this log
+unfoldable pub said_after : ℕ → ℕ → List Command → List Event → List Line
+said_after disks slots log events = answers_after (sized disks slots) log events
 
 -- its disks and hosts behind these events
 unfoldable pub world_over : ℕ → ℕ → List Event → World

@@ -333,3 +333,17 @@ look_behind_a_mark = submits ++ steps 0 17 ++ marks_first ++ steps 0 9 ++ Start 
 -- it looks where nothing is marked
 abbrev pub look_without_a_mark : List Event
 look_without_a_mark = submits ++ steps 0 17 ++ Start 1 ∷ Look 1 ∷ steps 1 3
+
+-- BEHIND A MIGRATION
+
+-- the log that was migrated
+abbrev pub migrated_log : List Command
+migrated_log = takes_db 0 ∷ []
+
+-- host 1 learns it, and finds no more
+abbrev pub recovery_of_a_migrated_log : List Event
+recovery_of_a_migrated_log = recovers 1 ++ steps 1 39
+
+-- or looks
+abbrev pub look_at_a_migrated_log : List Event
+look_at_a_migrated_log = Start 1 ∷ Look 1 ∷ steps 1 6

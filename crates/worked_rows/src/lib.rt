@@ -7,6 +7,7 @@ mod faults;
 mod heartbeats;
 mod locks;
 mod markings;
+mod migrations;
 mod remains;
 mod stops;
 
@@ -37,6 +38,7 @@ pub use locks::{
 pub use markings::{
     look_behind_a_mark, look_without_a_mark, recovery_by_marks, slot_that_is_not_learned, torn_mark,
 };
+pub use migrations::{look_at_a_migrated_log, recovery_of_a_migrated_log};
 pub use remains::{
     body_torn_to_three_bytes, crash_behind_a_body, crashes_within_a_recovery,
     disk_that_crashes_again, failed_last_read, failed_write_leaves_a_gate_shut,

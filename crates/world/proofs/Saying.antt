@@ -1,18 +1,19 @@
 -- The answers of events are what hosts say, each at the entry of its event.
 use Rattle.std.specs.Prelude.{take}
-use Rattle.std.proofs.Common.{ℕ, zero, suc, ◌+◌, ◌<◌, ◌≤◌, ◌≡◌, ◌⊎◌, true, Option, Some, None, List, [], ◌∷◌, ◌++◌, length, slice_get, refl, sym, subst, ap, ◌∙◌, inl, inr, arith, append_assoc, append-nil, length-append}
+use Rattle.std.proofs.Common.{ℕ, zero, suc, ◌+◌, ◌<◌, ◌≤◌, ◌≡◌, ◌⊎◌, true, false, Option, Some, None, List, [], ◌∷◌, ◌++◌, length, slice_get, refl, sym, subst, ap, ◌∙◌, inl, inr, arith, append_assoc, append-nil, length-append}
 use Rattle.std.proofs.lemmas.Bool.{cases_lt, eqb-true, eq-eqb}
 use Rattle.std.proofs.lemmas.Option.{slice_get_within}
 use Rattle.std.proofs.Math.Seq.{take-append_seam}
+use Rattle.lock_command.specs.declared.command.Command.{Command}
 use Rattle.slot_log.specs.Shape.{Shape}
 use Rattle.host.specs.declared.answer.HostAnswer.{HostAnswer}
 use Rattle.host.specs.Host.{said_of}
 use Rattle.world.specs.Entry as entries
 use Rattle.world.specs.Entry.{Filled, Called, Torn, Crashed, Lost, Migrated, is_of}
 use Rattle.world.specs.World.{world}
-use Rattle.world.specs.Happens.{Event, Line, host_of, entry_of, with_entry, happens, happen, run, line, lines_after, lines_at, answers_from}
+use Rattle.world.specs.Happens.{Event, Line, host_of, entry_of, with_entry, happens, happen, line, lines_after, lines_at, answers_from}
 use Rattle.world.specs.Chosen.{SaysAt}
-use Rattle.world.specs.Lines.{place_of, LinesAreSaid}
+use Rattle.world.specs.Lines.{place_from, LinesAreSaidFrom, LinesAreSaid, LinesAreSaidAfter}
 
 -- WHAT EVENTS ADD
 
@@ -179,14 +180,29 @@ told_from c log place (e ∷ es) i h said low says =
           (there.0, suc n, there.1, placed))
     ]
 
-pub lines_are_said : (c : Shape) (events : List Event) → LinesAreSaid c events
-lines_are_said c events = record {
+-- what is said behind a beginning at which no host says anything is so
+lines_from : (c : Shape) (begun : List Filled) (events : List Event) → ((i h : ℕ) (said : HostAnswer) → SaysAt c (happen c begun events) i h said → length begun ≤ i) → LinesAreSaidFrom c begun events
+lines_from c begun events behind = record {
   said = λ k x at.
-      let is = said_from c [] 0 events k x at in
+      let is = said_from c begun 0 events k x at in
       let same : is.n ≡ x.place = omega (arith, is.placed) in
-      subst (λ (n : ℕ). SaysAt c (run c events) (place_of c events n) x.host x.said) same is.says;
+      subst (λ (n : ℕ). SaysAt c (happen c begun events) (place_from c begun events n) x.host x.said) same is.says;
   told = λ i h said says.
-      let (k, n, at, placed) = told_from c [] 0 events i h said (omega arith) says in
+      let (k, n, at, placed) = told_from c begun 0 events i h said (behind i h said says) says in
       let same : 0 + n ≡ n = omega arith in
       (k, n, at ∙ ap (λ (m : ℕ). Some (record { place = m; host = h; said = said })) same, placed);
 }
+
+pub lines_are_said : (c : Shape) (events : List Event) → LinesAreSaid c events
+lines_are_said c events = lines_from c [] events (λ i h said says. omega arith)
+
+-- nobody says anything at a migration
+pub lines_are_said_after : (c : Shape) (log : List Command) (events : List Event) → LinesAreSaidAfter c log events
+lines_are_said_after c log events = lines_from c (Migrated c.disks log ∷ []) events (λ i h said says. behind i h says.entry says.is says.of_host)
+  where
+    first : slice_get (happen c (Migrated c.disks log ∷ []) events) 0 ≡ Some (Migrated c.disks log)
+    first = ap (λ (l : List Filled). slice_get l 0) (begins_with c (Migrated c.disks log ∷ []) events).1
+
+    behind : (i h : ℕ) (e : Filled) → slice_get (happen c (Migrated c.disks log ∷ []) events) i ≡ Some e → is_of h e ≡ true → 1 ≤ i
+    behind zero h e is of = absurd (let both : Some (Migrated c.disks log) ≡ Some e = sym first ∙ is in let same : Migrated c.disks log ≡ e = cc in let off : false ≡ true = ap (is_of h) same ∙ of in cc)
+    behind (suc i) h e is of = omega arith

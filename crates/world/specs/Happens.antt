@@ -171,3 +171,7 @@ answers_from c log place (e ∷ es) =
 -- the answers in their order; events are numbered from 0, whether they apply or not
 abbrev pub answers : Shape → List Event → List Line
 answers c events = answers_from c [] 0 events
+
+-- and those of events after a migration of this log, which are numbered from 0 too
+abbrev pub answers_after : Shape → List Command → List Event → List Line
+answers_after c log events = answers_from c (Migrated c.disks log ∷ []) 0 events

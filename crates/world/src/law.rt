@@ -20,7 +20,7 @@ ghost use Rattle.world.specs.World.{world, ReadsBack, MayFollow, CanMigrate, May
 ghost use Rattle.world.specs.Happens.{Event, entry_of, happens, run, run_after, lines_at, answers};
 ghost use Rattle.world.specs.Chosen.{at, Hears, IsChosenAt};
 ghost use Rattle.world.specs.Account.{AccountsFor, GivesUp};
-ghost use Rattle.world.specs.Lines.{LinesAreSaid, EventsReachEach, EventsReachAll};
+ghost use Rattle.world.specs.Lines.{LinesAreSaid, LinesAreSaidAfter, EventsReachEach, EventsReachAll};
 ghost use Rattle.world.specs.Headline.{IsSafe, HasNoSecondLog, OneBeginsOther, Headline, HeadlineOfEvents, HeadlineOfMigrated};
 
 /// An entry is a step of its own disk and of its own host, and changes no other.
@@ -67,9 +67,11 @@ pub fn events_make_a_run()
 {}
 
 /// The answers of any events are what their hosts say: each line is said at the entry of its event,
-/// and whatever a host says at an entry is a line.
+/// and whatever a host says at an entry is a line. So it is after a migration.
 pub fn lines_are_said()
-    ensures { (c : Shape) (events : List Event) → LinesAreSaid c events }
+    ensures events { (c : Shape) (events : List Event) → LinesAreSaid c events }
+    ensures migrated { (c : Shape) (log : List Command) (events : List Event) →
+        LinesAreSaidAfter c log events }
 {}
 
 /// No run is left out by the events: whatever entry may follow a run, some event brings such an
