@@ -15,6 +15,7 @@ use Rattle.world.specs.Chosen.{at, IsLog, SaysAt}
 use Rattle.world.specs.Headline.{IsPrefix, prefix_at, IsSafe}
 use Rattle.world.proofs.Safe.{one_log}
 use Rattle.world_safety.specs.Tracks.{IsChosenBefore, Counts}
+use Rattle.world_safety.proofs.Runs.Knowing.{chosen_upto}
 use Rattle.world_safety.proofs.Runs.Tracks.{all_true}
 use Rattle.world_safety.proofs.Claims.Recovering.{idle_before, empty_shows}
 use Rattle.world_safety.proofs.Claims.Safety.{commands, is_safe, prefix, acked_chosen, counts_all, learned_true}
@@ -44,9 +45,8 @@ module _ (c : Shape) (log : List Filled) (run : IsRun c log) where
       → place < i → SaysAt c log place other (Ack slot reply) → slot < n
   misses_nothing i j host n place other slot reply idle le says before acked =
       let chosen = acked_chosen c log run place other slot reply acked in
-      let early = chosen.1.before in
-      empty_shows c log run i j host n chosen.1.place slot chosen.0
-      (λ trying. absurd (idle_before c log run ((at c log i).host host) trying.memory trying.doing idle trying.running trying.does)) le says (omega arith) chosen.1.is
+      empty_shows c log run i j host n slot chosen.0
+      (λ trying. absurd (idle_before c log run ((at c log i).host host) trying.memory trying.doing idle trying.running trying.does)) le says (chosen_upto c log (place + 1) i slot chosen.0 (omega arith) chosen.1)
 
   -- all that a host has learned was chosen by then
   learned_chosen : (place host slot : ℕ) → slot < length (prefix_at c log place host) → (v : List ℕ) × IsChosenBefore c log place slot v
@@ -61,9 +61,8 @@ module _ (c : Shape) (log : List Filled) (run : IsRun c log) where
   holds_learned i j host n place other idle le says before = elim (cases_lt n (length (prefix_at c log place other))) [
     | inr not_less ↦ not_less
     | inl shorter ↦ (let chosen = learned_chosen place other n shorter in
-        let earlier = chosen.1.before in
-        absurd (let below = empty_shows c log run i j host n chosen.1.place n chosen.0
-        (λ trying. absurd (idle_before c log run ((at c log i).host host) trying.memory trying.doing idle trying.running trying.does)) le says (omega arith) chosen.1.is in omega arith))
+        absurd (let below = empty_shows c log run i j host n n chosen.0
+        (λ trying. absurd (idle_before c log run ((at c log i).host host) trying.memory trying.doing idle trying.running trying.does)) le says (chosen_upto c log place i n chosen.0 before chosen.1) in omega arith))
   ]
 
   -- whoever counts what it has learned counts all

@@ -1,4 +1,4 @@
-use Rattle.std.proofs.Common.{◌≡◌, ◌<◌, length, false, [], get_or, refl, arith}
+use Rattle.std.proofs.Common.{◌<◌, length, false, [], get_or, refl, arith}
 use Rattle.std.proofs.lemmas.List.{get_or_default}
 use Rattle.lock_table.specs.declared.reply.LockValue.{LockValue}
 use Rattle.simulator.proofs.Comparing.{one_same, all_same}

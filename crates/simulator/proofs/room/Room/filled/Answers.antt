@@ -1,4 +1,4 @@
-use Rattle.std.proofs.Common.{◌≡◌, ℕ, Option, Some, None, slice_index_or, sym, subst}
+use Rattle.std.proofs.Common.{◌≡◌, ℕ, Some, None, slice_index_or, sym, subst}
 use Rattle.lock_table.specs.Apply.{table_after}
 use Rattle.lock_table.specs.Picture.{IsPictureOf, Shown}
 use Rattle.host.specs.Host.{Host, learned_of}
