@@ -90,17 +90,17 @@ module _ (bytes : List ℕ) (n : ℕ) (rest : List ℕ) (said : SoFar) (read : I
         (all, ap (λ k. take k (lines_of bytes)) all ∙ take-length (lines_of bytes))
     by_rest (byte ∷ left) none zero_left = absurd (omega arith)
 
-  pub is_script : (shape : Shape) → length rest ≡ 0 → said.shape ≡ Some shape → IsScript (lines_of bytes) (record { shape = shape; events = said.events; shows = said.shows })
+  pub is_script : (shape : Shape) → length rest ≡ 0 → said.shape ≡ Some shape → IsScript (lines_of bytes) (record { shape = shape; log = said.log; events = said.events; shows = said.shows })
   is_script shape empty opened =
       let at_end : Says (lines_of bytes) said = subst (λ (l : List (List ℕ)). Says l said) (whole empty).1 read.says in
-      subst (λ (o : Option Shape). Says (lines_of bytes) (record { shape = o; events = said.events; shows = said.shows })) opened at_end
+      subst (λ (o : Option Shape). Says (lines_of bytes) (record { shape = o; log = said.log; events = said.events; shows = said.shows })) opened at_end
 
   pub no_cluster : (m : ℕ) → length rest ≡ 0 → said.shape ≡ None → n + 1 ≡ m → IsFirstBad (lines_of bytes) m
   no_cluster m empty unopened number =
       let end = whole empty in
       let at_end : Says (lines_of bytes) said = subst (λ (l : List (List ℕ)). Says l said) end.1 read.says in
-      let none : Says (lines_of bytes) (record { shape = None; events = said.events; shows = said.shows }) =
-      subst (λ (o : Option Shape). Says (lines_of bytes) (record { shape = o; events = said.events; shows = said.shows })) unopened at_end in
+      let none : Says (lines_of bytes) (record { shape = None; log = said.log; events = said.events; shows = said.shows }) =
+      subst (λ (o : Option Shape). Says (lines_of bytes) (record { shape = o; log = said.log; events = said.events; shows = said.shows })) unopened at_end in
       let before : n + 1 - 1 ≡ n = omega arith in
       let all = end.0 in
       subst (IsFirstBad (lines_of bytes)) number (record {

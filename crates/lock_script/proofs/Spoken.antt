@@ -11,10 +11,10 @@ use Rattle.lock_script.specs.declared.event.Event.TheVariants.{Start, Stop, Subm
 use Rattle.lock_script.specs.declared.line.Line.{Line}
 use Rattle.lock_script.specs.declared.show.View.{View}
 use Rattle.lock_script.specs.declared.show.View.TheVariants.{Queues, Blocking}
-use Rattle.lock_script.specs.declared.line.Line.TheVariants.{Cluster, Once, Steps, Show}
+use Rattle.lock_script.specs.declared.line.Line.TheVariants.{Cluster, Log, Once, Steps, Show}
 use Rattle.lock_script.specs.Words.{first_word, words_behind, last_word}
-use Rattle.lock_script.specs.Reading.{number_in, host_of, disk_of, slot_of, tries_of, times_of, given_of, command_at, cluster_at, submit_at, recover_at, mark_at, step_at, tear_at, fail_at, crash_at, plain_at, show_at, said_at, line_at}
-use Rattle.lock_script.specs.Spelling.{hex_word, command_words, view_word, line_words, IsTries, FitsEvent, FitsFirst, FitsBehind}
+use Rattle.lock_script.specs.Reading.{number_in, host_of, disk_of, slot_of, tries_of, times_of, given_of, command_at, cluster_at, log_at, submit_at, recover_at, mark_at, step_at, tear_at, fail_at, crash_at, plain_at, show_at, said_at, line_at}
+use Rattle.lock_script.specs.Spelling.{hex_word, command_words, view_word, line_words, IsTries, FitsSubmitted, FitsEvent, FitsFirst, FitsBehind}
 use Rattle.lock_script.proofs.Readings.{bound, picked, one_read}
 use Rattle.lock_script.proofs.Numbers.{number_in-found, number_in-only}
 use Rattle.lock_script.proofs.Givens.{given_of-found, given_of-only}
@@ -27,6 +27,7 @@ largest = record { disks = DISKS; slots = SLOTS }
 -- the numbers of a line are in their ranges, whatever the cluster
 abbrev pub FitsLine : Line → Type 0
 FitsLine (Cluster shape) = FitsFirst shape
+FitsLine (Log command) = FitsSubmitted command
 FitsLine (Once event) = FitsEvent largest event
 FitsLine (Steps host times) = FitsBehind largest (Steps host times)
 FitsLine (Show view host) = FitsBehind largest (Show view host)
@@ -135,6 +136,26 @@ step_found kind (a ∷ b ∷ []) line named h =
     subst (Spells (kind ∷ a ∷ b ∷ [])) e (record { words_are = is; fits = (range, s.low, s.high) })
 step_found kind (a ∷ b ∷ c ∷ words) line named h = absurd (nothing (host_of a) line h)
 
+-- a host's word, and those of a command that it submits
+command_read : (word : List ℕ) (rest : List (List ℕ)) (host : ℕ) (c : Command) → host_of word ≡ Some host → command_at host rest ≡ Some c → (word ≡ decimal c.host) × (rest ≡ command_words c) × FitsSubmitted c
+command_read word rest host c named found =
+    let d = number_in-found 0 (HOSTS - 1) word host named in
+    let s = command_at-found host rest c found in
+    let range : c.host < HOSTS = omega (arith, d.high, s.host_is) in
+    let fits : FitsCommand c = record { host = range; client = s.client; request = s.request; action = s.action } in
+    (d.spelled ∙ ap decimal (sym s.host_is), s.words_are, record { fits = fits; said = s.said })
+
+log_found : (kind : List ℕ) (words : List (List ℕ)) (line : Line) → kind ≡ codes "log" → log_at words ≡ Some line → Spells (kind ∷ words) line
+unfolding log_at
+log_found kind [] line named h = absurd (cc)
+log_found kind (a ∷ rest) line named h =
+    let host = bound (host_of a) (λ x. command_at x rest >>= λ z. Some (Log z)) line h in
+    let command = bound (command_at host.0 rest) (λ z. Some (Log z)) line host.2 in
+    let c = command_read a rest host.0 command.0 host.1 command.1 in
+    let e : Log command.0 ≡ line = cc in
+    let is : kind ∷ a ∷ rest ≡ codes "log" ∷ decimal command.0.host ∷ command_words command.0 = cc (named, c.0, c.1) in
+    subst (Spells (kind ∷ a ∷ rest)) e (record { words_are = is; fits = c.2 })
+
 submit_found : (kind : List ℕ) (words : List (List ℕ)) (line : Line) → kind ≡ codes "submit" → submit_at words ≡ Some line → Spells (kind ∷ words) line
 unfolding submit_at
 submit_found kind [] line named h = absurd (cc)
@@ -143,14 +164,11 @@ submit_found kind (a ∷ b ∷ rest) line named h =
     let host = bound (host_of a) (λ x. tries_of b >>= λ y. command_at x rest >>= λ z. Some (Once (Submit z y))) line h in
     let tries = bound (tries_of b) (λ y. command_at host.0 rest >>= λ z. Some (Once (Submit z y))) line host.2 in
     let command = bound (command_at host.0 rest) (λ z. Some (Once (Submit z tries.0))) line tries.2 in
-    let d = number_in-found 0 (HOSTS - 1) a host.0 host.1 in
     let s = number_in-found 1 255 b tries.0 tries.1 in
-    let c = command_at-found host.0 rest command.0 command.1 in
+    let c = command_read a rest host.0 command.0 host.1 command.1 in
     let e : Once (Submit command.0 tries.0) ≡ line = cc in
-    let is : kind ∷ a ∷ b ∷ rest ≡ codes "submit" ∷ decimal command.0.host ∷ decimal tries.0 ∷ command_words command.0 = cc (named, d.spelled, s.spelled, c.words_are, ap decimal c.host_is) in
-    let range : command.0.host < HOSTS = omega (arith, d.high, c.host_is) in
-    let fits : FitsCommand command.0 = record { host = range; client = c.client; request = c.request; action = c.action } in
-    subst (Spells (kind ∷ a ∷ b ∷ rest)) e (record { words_are = is; fits = (record { fits = fits; said = c.said }, (s.low, s.high)) })
+    let is : kind ∷ a ∷ b ∷ rest ≡ codes "submit" ∷ decimal command.0.host ∷ decimal tries.0 ∷ command_words command.0 = cc (named, c.0, s.spelled, c.1) in
+    subst (Spells (kind ∷ a ∷ b ∷ rest)) e (record { words_are = is; fits = (c.2, (s.low, s.high)) })
 
 -- a host alone
 host_alone : (kind : List ℕ) (words : List (List ℕ)) (make : ℕ → Line) (line : Line)
@@ -215,9 +233,12 @@ plain_found kind words line h =
                         | inl p ↦ show_found Queues kind words line p.0 p.1
                         | inr other ↦ elim (picked kind (codes "blocking") _ _ line other) [
                           | inl p ↦ show_found Blocking kind words line p.0 p.1
-                          | inr other ↦ elim (picked kind (codes "cluster") _ _ line other) [
-                            | inl p ↦ cluster_found kind words line p.0 p.1
-                            | inr other ↦ absurd (cc)
+                          | inr other ↦ elim (picked kind (codes "log") _ _ line other) [
+                            | inl p ↦ log_found kind words line p.0 p.1
+                            | inr other ↦ elim (picked kind (codes "cluster") _ _ line other) [
+                              | inl p ↦ cluster_found kind words line p.0 p.1
+                              | inr other ↦ absurd (cc)
+                            ]
                           ]
                         ]
                       ]
@@ -259,11 +280,14 @@ tries_of-only : (tries : ℕ) → IsTries tries → tries_of (decimal tries) ≡
 tries_of-only tries is = number_in-only 1 255 tries is.0 is.1 (omega (arith, is.1))
 
 pub line_at-only : (line : Line) → FitsLine line → line_at (line_words line) ≡ Some line
-unfolding line_at said_at plain_at show_at cluster_at submit_at recover_at mark_at step_at tear_at fail_at crash_at
+unfolding line_at said_at plain_at show_at cluster_at log_at submit_at recover_at mark_at step_at tear_at fail_at crash_at
 line_at-only (Cluster shape) fits =
     two_spelled (number_in 1 7) (number_in 1 4096) (λ d s. Cluster (record { disks = d; slots = s })) (decimal shape.disks) (decimal shape.slots) shape.disks shape.slots
     (number_in-only 1 7 shape.disks fits.disks.0 fits.disks.1 (omega (arith, fits.disks.1)))
     (number_in-only 1 4096 shape.slots fits.slots.0 fits.slots.1 (omega (arith, fits.slots.1)))
+line_at-only (Log command) fits =
+    ap (λ (found : Option ℕ). found >>= λ h. command_at h (command_words command) >>= λ c. Some (Log c)) (host_of-only command.host fits.fits.host)
+    ∙ ap (λ (found : Option Command). found >>= λ c. Some (Log c)) (command_at-only command fits.fits fits.said)
 line_at-only (Once (Start host)) fits = ap (λ (found : Option ℕ). found >>= λ h. Some (Once (Start h))) (host_of-only host fits)
 line_at-only (Once (Stop host)) fits = ap (λ (found : Option ℕ). found >>= λ h. Some (Once (Stop h))) (host_of-only host fits)
 line_at-only (Once (Submit command tries)) fits =

@@ -14,7 +14,7 @@ use Rattle.lock_script.specs.declared.event.Event.TheVariants.{Start, Stop, Subm
 use Rattle.lock_script.specs.declared.line.Line.{Line}
 use Rattle.lock_script.specs.declared.show.View.{View}
 use Rattle.lock_script.specs.declared.show.View.TheVariants.{Queues, Blocking}
-use Rattle.lock_script.specs.declared.line.Line.TheVariants.{Cluster, Once, Steps, Show}
+use Rattle.lock_script.specs.declared.line.Line.TheVariants.{Cluster, Log, Once, Steps, Show}
 use Rattle.lock_script.specs.Words.{first_word, words_behind, no_words, begins_with, behind_word, last_word}
 
 -- NUMBERS
@@ -182,6 +182,12 @@ cluster_at words = do
   slots ← last_word (words_behind words) >>= number_in 1 4096
   Some (Cluster (record { disks = disks; slots = slots }))
 
+unfoldable pub log_at : List (List ℕ) → Option Line
+log_at words = do
+  host ← next_host words
+  command ← command_at host (words_behind words)
+  Some (Log command)
+
 unfoldable pub submit_at : List (List ℕ) → Option Line
 submit_at words = do
   host ← next_host words
@@ -243,6 +249,7 @@ plain_at kind words =
     else if bytes_eq kind (codes "gone") then (do disk ← last_word words >>= disk_of; Some (Once (DiskGone disk)))
     else if bytes_eq kind (codes "show") then show_at Queues words
     else if bytes_eq kind (codes "blocking") then show_at Blocking words
+    else if bytes_eq kind (codes "log") then log_at words
     else if bytes_eq kind (codes "cluster") then cluster_at words
     else None
 

@@ -14,7 +14,7 @@ use Rattle.lock_script.specs.declared.event.Event.TheVariants.{Start, Stop, Subm
 use Rattle.lock_script.specs.declared.line.Line.{Line}
 use Rattle.lock_script.specs.declared.show.View.{View}
 use Rattle.lock_script.specs.declared.show.View.TheVariants.{Queues, Blocking}
-use Rattle.lock_script.specs.declared.line.Line.TheVariants.{Cluster, Once, Steps, Show}
+use Rattle.lock_script.specs.declared.line.Line.TheVariants.{Cluster, Log, Once, Steps, Show}
 
 -- WORDS
 
@@ -106,6 +106,7 @@ CanBeSaid (Release lock value) = AreBytes value
 CanBeSaid (QuietPurge host) = ⊥
 CanBeSaid _ = ⊤
 
+-- a command that a line can say
 pub record FitsSubmitted (command : Command) : Type 0 where
   pub fits : FitsCommand command
   pub said : CanBeSaid command.action
@@ -137,6 +138,7 @@ view_word Blocking = codes "blocking"
 
 abbrev pub line_words : Line → List (List ℕ)
 line_words (Cluster shape) = codes "cluster" ∷ decimal shape.disks ∷ decimal shape.slots ∷ []
+line_words (Log command) = codes "log" ∷ decimal command.host ∷ command_words command
 line_words (Once event) = event_words event
 line_words (Steps host times) = codes "step" ∷ decimal host ∷ decimal times ∷ []
 line_words (Show view host) = view_word view ∷ decimal host ∷ []
@@ -146,9 +148,10 @@ pub record FitsFirst (shape : Shape) : Type 0 where
   pub disks : (1 ≤ shape.disks) × (shape.disks ≤ DISKS)
   pub slots : (1 ≤ shape.slots) × (shape.slots ≤ SLOTS)
 
--- a line that may stand behind the first, in a cluster of this shape
+-- a line that may stand behind the first and those of the log, in a cluster of this shape
 abbrev pub FitsBehind : Shape → Line → Type 0
 FitsBehind c (Cluster shape) = ⊥
+FitsBehind c (Log command) = ⊥
 FitsBehind c (Once event) = FitsEvent c event
 FitsBehind c (Steps host times) = (host < HOSTS) × (1 ≤ times) × (times ≤ 100000)
 FitsBehind c (Show view host) = host < HOSTS

@@ -7,7 +7,7 @@ use crate::events::{Events, MOST_EVENTS};
 use crate::line::{Line, line_of};
 use crate::script::ScriptFault;
 use crate::show::{Show, View};
-use lock_command::HostNumber;
+use lock_command::{Command, HostNumber, ValueBytes};
 use slot_log::Config;
 use std::alloc::{AllocError, Global};
 
@@ -44,6 +44,7 @@ impl From<AllocError> for LineFault {
 #[derive(Drop)]
 pub struct Draft {
     pub config: Option<Config>,
+    pub log: Vec<Command>,
     pub events: Events,
     pub shows: Vec<Show>,
 }
@@ -53,10 +54,11 @@ impl Draft {
     ghost use Rattle.lock_script.specs.Draft.{so_far, added, read_line};
 
     pub fn new(alloc: Global) -> Self
-        ensures { so_far result ≡ record { shape = None; events = []; shows = [] } }
+        ensures { so_far result ≡ record { shape = None; log = []; events = []; shows = [] } }
     {
         Draft {
             config: None,
+            log: Vec::new(alloc),
             events: Events::new(alloc),
             shows: Vec::new(alloc),
         }
@@ -80,6 +82,7 @@ impl Draft {
     {
         match line {
             Line::Cluster(config) => self.cluster(config),
+            Line::Log(command) => self.log(command),
             Line::Once(event) => self.once(event),
             Line::Steps { host, times } => self.steps(host, times),
             Line::Show { view, host } => self.show(view, host),
@@ -95,6 +98,27 @@ impl Draft {
         }
         self.config = Some(config);
         Ok(())
+    }
+
+    fn log(&mut self, command: Command) -> Result<(), LineFault>
+        ensures added { OnOk result (Some (so_far self.new) ≡ added (so_far self.old) (Line.Log command)) }
+        ensures bad { result ≡ Err LineFault.Bad → added (so_far self.old) (Line.Log command) ≡ None }
+    {
+        let Some(config) = self.config else {
+            return Err(LineFault::Bad);
+        };
+        // A line of any other kind adds an event or a table, and ends the log's place.
+        let ended = self.events.len() > 0 || !self.shows.is_empty();
+        if ended || self.log.len() >= usize::from(config.slots()) {
+            return Err(LineFault::Bad);
+        }
+        // These two lines do nothing when they run. Without them the checker does not load the types inside `Command`, and the proof fails.
+        let _action = &command.action;
+        let _no_value: Option<ValueBytes> = None;
+        match self.log.push(command) {
+            Ok(()) => Ok(()),
+            Err(_) => Err(LineFault::NoMemory),
+        }
     }
 
     fn once(&mut self, event: Event) -> Result<(), LineFault>

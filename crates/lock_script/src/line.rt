@@ -11,7 +11,7 @@ use crate::given::Given;
 use crate::number::number_in;
 use crate::show::View;
 use crate::words::Words;
-use lock_command::HostNumber;
+use lock_command::{Command, HostNumber};
 use slot_log::Config;
 use std::alloc::{AllocError, Global};
 use torn_block::{DISKS, SLOTS};
@@ -26,6 +26,7 @@ const MOST_SLOTS: u64 = SLOTS as u64;
 #[derive(Drop)]
 pub enum Line {
     Cluster(Config),
+    Log(Command),
     Once(Event),
     Steps { host: HostNumber, times: u32 },
     Show { view: View, host: HostNumber },
@@ -78,6 +79,8 @@ fn plain_at(kind: &[u8], words: &mut Words<'_>) -> Option<Line>
         show_at(View::Queues, words)
     } else if is(kind, b"blocking") {
         show_at(View::Blocking, words)
+    } else if is(kind, b"log") {
+        log_at(words)
     } else if is(kind, b"cluster") {
         cluster_at(words)
     } else {
@@ -92,6 +95,15 @@ fn cluster_at(words: &mut Words<'_>) -> Option<Line>
     let disks = number_in(words.next()?, 1, MOST_DISKS)? as u8;
     let slots = number_in(words.last()?, 1, MOST_SLOTS)? as u16;
     Some(Line::Cluster(Config::new(disks, slots)?))
+}
+
+#[tactic(auto, unfolding(crate::specs::Reading::log_at))]
+fn log_at(words: &mut Words<'_>) -> Option<Line>
+    ensures { result ≡ Read.log_at words.old }
+{
+    let host = next_host(words)?;
+    let command = command_at(host, words)?;
+    Some(Line::Log(command))
 }
 
 #[tactic(auto, unfolding(crate::specs::Reading::submit_at))]

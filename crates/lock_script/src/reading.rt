@@ -28,12 +28,14 @@ pub fn read_script(alloc: Global, bytes: &[u8]) -> Result<Script, ScriptFault>
     }
     let Draft {
         config,
+        log,
         events,
         shows,
     } = draft;
     match config {
         Some(config) => Ok(Script {
             config,
+            log,
             events,
             shows,
         }),

@@ -1,12 +1,15 @@
 use crate::events::Events;
 use crate::show::Show;
+use lock_command::Command;
 use slot_log::Config;
 use thiserror::Error;
 
-/// What is to happen to a cluster, and when its tables are to be shown.
+/// What a cluster begins with, what is to happen to it, and when its tables are to be shown.
 #[derive(Drop)]
 pub struct Script {
     pub config: Config,
+    /// The commands that a migration moved into the log before, at most one for each slot.
+    pub log: Vec<Command>,
     pub events: Events,
     /// By rising place.
     pub shows: Vec<Show>,

@@ -1,6 +1,6 @@
 -- A migrator over simulated disks, and which events lead to that.
 use Rattle.std.specs.Prelude.{◌≡◌, ◌<◌, ℕ, Bool, true, false, List, length, map, Option, Some, None, slice_index_or}
-use Rattle.disk.specs.Disk.{DiskState, Answer, Call, Attach, Read, Write, Sync}
+use Rattle.disk.specs.Disk.{DiskState, Answer, Call, Write}
 use Rattle.disk.specs.Simulated.{SimState, fresh_disk}
 use Rattle.migration.specs.Events.{Event, Step, Tear, FailCall, DiskCrash, DiskGone, run}
 use Rattle.migration.specs.Fits.{Fits}

@@ -5,7 +5,8 @@ ghost use Rattle.migration.specs.Image as images;
 
 use paxos_block::{PBlock, Value, encode};
 use torn_block::{
-    BLOCK_LENGTH, BODY_LENGTH, COPY_LENGTH, ClusterLayout, HEADING_LENGTH, OPEN_GATE, put_number,
+    BLOCK_LENGTH, BODY_LENGTH, COPY_LENGTH, ClusterLayout, HEADING_LENGTH, OPEN_GATE, ROW_LENGTH,
+    put_number,
 };
 
 /// The block of host 0 in a row of a migrated log.
@@ -22,6 +23,16 @@ pub fn block_for(value: &Value) -> [u8; BLOCK_LENGTH]
     let mut block = [0; BLOCK_LENGTH];
     put_block(&mut block, &body.bytes);
     block
+}
+
+/// A row of a migrated log: this block of host 0, and blank blocks of all other hosts.
+pub fn row_for(value: &Value) -> [u8; ROW_LENGTH]
+    ensures { result ≡ images.row_for value.now }
+{
+    let mut row = [0; ROW_LENGTH];
+    let (first, _) = row.split_at_mut(BLOCK_LENGTH);
+    first.copy_from_slice(&block_for(value));
+    row
 }
 
 fn put_block(block: &mut [u8], body: &[u8])

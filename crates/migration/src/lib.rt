@@ -11,6 +11,7 @@ mod notes;
 mod run;
 mod running;
 
+pub use block::row_for;
 pub use end::End;
 pub use event::MigrationEvent;
 pub use law::migrates_all_or_nothing;

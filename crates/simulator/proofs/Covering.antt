@@ -13,8 +13,9 @@ use Rattle.host.specs.declared.answer.HostAnswer.{HostAnswer}
 use Rattle.host.specs.declared.answer.HostAnswer.TheVariants.{Ack, Recovered, Looked, Beaten, Marked, Refused}
 use Rattle.host.specs.Host.{Host, is_stopped, idles, learned_of}
 use Rattle.host.specs.Kept as hosts
-use Rattle.world.specs.World.{world}
-use Rattle.world.specs.Happens.{Event, Start, Stop, Recover, Step, Line, run, answers}
+use Rattle.world.specs.Happens.{Event, Start, Stop, Recover, Step, Line}
+use Rattle.world.specs.World.{IsRun}
+use Rattle.world.specs.Opening.{Opening, CanBegin, run_of, world_after, answers_to}
 use Rattle.world.specs.Headline.{IsPrefix}
 use Rattle.world.specs.Told.{prefix_before, BeganSince}
 use Rattle.world_safety.specs.Tracks.{Counts}
@@ -28,14 +29,15 @@ use Rattle.simulator.specs.Past.{Past, world_of, answers_of}
 use Rattle.simulator.specs.Replayed.{GoesOn, Says, HasLearned, HasKept, IsListed, Lists}
 use Rattle.simulator.specs.Sweeping.{recovery, stops}
 use Rattle.simulator.proofs.Judged.{IsWithin, all_go}
+use Rattle.simulator.proofs.Opened.{run_is_run}
 use Rattle.simulator.proofs.Recovering.{EndsRecovery, IsToldBy, begun, is_fresh, Whole, whole, stays_behind, stopped_behind}
 use Rattle.simulator.proofs.Replaying.{more_answered}
 use Rattle.simulator.proofs.Shown.{running_by}
 use Rattle.simulator.proofs.Telling.{told_at, misses_nothing, holds_learned, counted, tells}
 
 -- an answer has the number of an event
-pub line_within : (c : Shape) (events : List Event) (x : Line) → Contains (answers c events) x → x.place < length events
-line_within c events x in_x = let t = told_at c events x in_x in slice_get_within events x.place t.brought.event t.brought.is
+pub line_within : (o : Opening) (events : List Event) (x : Line) → Contains (answers_to o events) x → x.place < length events
+line_within o events x in_x = let t = told_at o events x in_x in slice_get_within events x.place t.brought.event t.brought.is
 
 -- WHAT A RECOVERY COVERS
 
@@ -52,13 +54,13 @@ wider n m le (Marked count) is = tt
 wider n m le (Refused refusal) is = tt
 
 -- what was answered before a recovery began
-module _ (c : Shape) (events : List Event) (x : Line) (i n : ℕ) (in_x : Contains (answers c events) x) (x_says : x.said ≡ Recovered n) (since : BeganSince c events i x) where
-  module _ (y : Line) (in_y : Contains (answers c events) y) (early : y.place < i) where
-    as_much : (m : ℕ) → m ≡ length (prefix_before c events (y.place + 1) y.host) → m ≤ n
-    as_much m is = subst (λ (k : ℕ). k ≤ n) (sym is) (holds_learned c events x i n (y.place + 1) y.host in_x x_says since (omega (arith, early)))
+module _ (o : Opening) (events : List Event) (r : IsRun o.shape (run_of o events)) (x : Line) (i n : ℕ) (in_x : Contains (answers_to o events) x) (x_says : x.said ≡ Recovered n) (since : BeganSince o events i x) where
+  module _ (y : Line) (in_y : Contains (answers_to o events) y) (early : y.place < i) where
+    as_much : (m : ℕ) → m ≡ length (prefix_before o events (y.place + 1) y.host) → m ≤ n
+    as_much m is = subst (λ (k : ℕ). k ≤ n) (sym is) (holds_learned o events r x i n (y.place + 1) y.host in_x x_says since (omega (arith, early)))
 
-    by_said : (said : HostAnswer) → y.said ≡ said → Counts (Some said) (length (prefix_before c events (y.place + 1) y.host)) → IsWithin n said
-    by_said (Ack slot reply) is counts = misses_nothing c events x y i n slot reply in_x x_says since in_y is early
+    by_said : (said : HostAnswer) → y.said ≡ said → Counts (Some said) (length (prefix_before o events (y.place + 1) y.host)) → IsWithin n said
+    by_said (Ack slot reply) is counts = misses_nothing o events r x y i n slot reply in_x x_says since in_y is early
     by_said (Recovered m) is counts = as_much m counts
     by_said (Looked m) is counts = as_much m counts
     by_said (Beaten host) is counts = tt
@@ -66,7 +68,7 @@ module _ (c : Shape) (events : List Event) (x : Line) (i n : ℕ) (in_x : Contai
     by_said (Refused refusal) is counts = tt
 
     earlier_within : IsWithin n y.said
-    earlier_within = by_said y.said refl (counted c events y in_y)
+    earlier_within = by_said y.said refl (counted o events r y in_y)
 
 -- and what it answered itself
 own_within : (n learned : ℕ) → learned ≡ n → (said : HostAnswer) → EndsRecovery said learned → IsWithin n said
@@ -77,15 +79,15 @@ own_within n learned same (Looked m) ends = absurd ends
 own_within n learned same (Beaten host) ends = absurd ends
 own_within n learned same (Marked count) ends = absurd ends
 
-module _ (p : Past) (h : ℕ) (items : List Command) (within : h < HOSTS) (stopped : is_stopped ((world_of p).host h) ≡ true) where
+module _ (p : Past) (can : CanBegin p.opening) (h : ℕ) (items : List Command) (within : h < HOSTS) (stopped : is_stopped ((world_of p).host h) ≡ true) where
   abbrev after : Past
-  after = record p { events = p.events ++ recovery p.shape h }
+  after = record p { events = p.events ++ recovery p.opening.shape h }
 
   abbrev started : Past
   started = begun p h within stopped
 
   rest : List Event
-  rest = Recover h 255 ∷ replicate (17 * p.shape.disks * (p.shape.slots + 1)) (Step h) ++ Stop h ∷ []
+  rest = Recover h 255 ∷ replicate (17 * p.opening.shape.disks * (p.opening.shape.slots + 1)) (Step h) ++ Stop h ∷ []
 
   -- it began with the event behind the start
   before_it : take (length started.events) after.events ≡ started.events
@@ -97,30 +99,30 @@ module _ (p : Past) (h : ℕ) (items : List Command) (within : h < HOSTS) (stopp
       let w : Whole p h within stopped = whole p h within stopped in
       let x = has.line in
       let of_it : IsToldBy started h w.learned x = elim (Contains-append_cases (answers_of p) w.lines x (subst (λ (l : List Line). Contains l x) w.answered has.among)) [
-        | inl early ↦ absurd (omega (arith, line_within p.shape p.events x early, has.since))
+        | inl early ↦ absurd (omega (arith, line_within p.opening p.events x early, has.since))
         | inr late ↦ All-contains (IsToldBy started h w.learned) w.lines x w.told late
       ] in
       let same : w.learned ≡ length items = sym (subst (λ (s : HostAnswer). EndsRecovery s w.learned) has.says of_it.2) in
-      let since : BeganSince p.shape after.events (length started.events) x = record {
+      let since : BeganSince p.opening after.events (length started.events) x = record {
         order = of_it.0;
         idle =
-            ap (λ (l : List Event). idles ((world p.shape (run p.shape l)).host x.host)) before_it
+            ap (λ (l : List Event). idles ((world_after p.opening l).host x.host)) before_it
             ∙ ap (λ (k : ℕ). idles ((world_of started).host k)) of_it.1
             ∙ ap idles (is_fresh p h within stopped);
       } in
       let early : (y : Line) → Contains (answers_of p) y → IsWithin (length items) y.said = λ y in_y.
-      earlier_within p.shape after.events x (length started.events) (length items) has.among has.says since y
+      earlier_within p.opening after.events (run_is_run p.opening after.events can) x (length started.events) (length items) has.among has.says since y
       (subst (λ (l : List Line). Contains l y) (sym w.answered) (Contains-append_left (answers_of p) w.lines y in_y))
-      (omega (arith, line_within p.shape p.events y in_y, length-append p.events (Start h ∷ []))) in
+      (omega (arith, line_within p.opening p.events y in_y, length-append p.events (Start h ∷ []))) in
       subst (All (λ (y : Line). IsWithin (length items) y.said)) (sym w.answered)
       (All-append (λ (y : Line). IsWithin (length items) y.said) (answers_of p) w.lines
       (All-weaker (Contains (answers_of p)) (λ (y : Line). IsWithin (length items) y.said) early (answers_of p) (All-contains_itself (answers_of p)))
       (All-weaker (IsToldBy started h w.learned) (λ (y : Line). IsWithin (length items) y.said) (λ y told. own_within (length items) w.learned same y.said told.2) w.lines w.told))
 
-pub recovery_covers : (p now : Past) (h : ℕ) (items : List Command) → h < HOSTS → is_stopped ((world_of p).host h) ≡ true → GoesOn p now (recovery p.shape h)
+pub recovery_covers : (p now : Past) → CanBegin p.opening → (h : ℕ) (items : List Command) → h < HOSTS → is_stopped ((world_of p).host h) ≡ true → GoesOn p now (recovery p.opening.shape h)
     → HasLearned p now items → Covers now (length items)
-recovery_covers p now h items within stopped on =
-    subst (λ (q : Past). HasLearned p q items → Covers q (length items)) (sym on) (covers p h items within stopped)
+recovery_covers p now can h items within stopped on =
+    subst (λ (q : Past). HasLearned p q items → Covers q (length items)) (sym on) (covers p can h items within stopped)
 
 -- WHAT IS KEPT OF IT
 
@@ -132,7 +134,7 @@ module _ (start old : Past) (events : List Event) (items : List Command) (has : 
   lasts : HasLearned start longer items
   lasts =
       let x = has.line in
-      let there = line_within old.shape old.events x has.among in
+      let there = line_within old.opening old.events x has.among in
       let more = more_answered old events in
       record {
         line = x;
@@ -141,7 +143,7 @@ module _ (start old : Past) (events : List Event) (items : List Command) (has : 
         says = has.says;
         are =
             has.are
-            ∙ ap (λ (l : List Event). learned_of ((world old.shape (run old.shape l)).host x.host)) (sym (take-append-le (x.place + 1) old.events events (omega (arith, there))));
+            ∙ ap (λ (l : List Event). learned_of ((world_after old.opening l).host x.host)) (sym (take-append-le (x.place + 1) old.events events (omega (arith, there))));
       }
 
 pub learned_still : (start old new : Past) (events : List Event) (items : List Command) → GoesOn old new events → HasLearned start old items → HasLearned start new items
@@ -159,17 +161,17 @@ pub nothing_kept : (p : Past) → HasKept p p None
 nothing_kept p = record { later = omega arith; has = tt }
 
 -- what a host that answers has learned then
-pub kept_now : (start old new : Past) (event : Event) (said : Said) (n : ℕ) (items : List Command) (before : Option (List Command)) → GoesOn old new (event ∷ []) → Says old new (Some said)
+pub kept_now : (start old new : Past) → CanBegin new.opening → (event : Event) (said : Said) (n : ℕ) (items : List Command) (before : Option (List Command)) → GoesOn old new (event ∷ []) → Says old new (Some said)
     → said.answer ≡ Recovered n → items ≡ learned_of ((world_of new).host said.host) → HasKept start old before → HasKept start new (Some items)
-kept_now start old new event said n items before on says is are kept =
+kept_now start old new can event said n items before on says is are kept =
     let x : Line = record { place = length old.events; host = said.host; said = said.answer } in
     let in_x : Contains (answers_of new) x = subst (λ (l : List Line). Contains l x) (sym says.answered) (Contains-push (answers_of old) x) in
     let long : length new.events ≡ length old.events + 1 = ap (λ (q : Past). length q.events) on ∙ length-append old.events (event ∷ []) in
     let all : take (length old.events + 1) new.events ≡ new.events = ap (λ (k : ℕ). take k new.events) (sym long) ∙ take-length new.events in
-    let then_all : items ≡ prefix_before new.shape new.events (length old.events + 1) said.host =
-    are ∙ ap (λ (l : List Event). learned_of ((world new.shape (run new.shape l)).host said.host)) (sym all) in
-    let many : n ≡ length (prefix_before new.shape new.events (length old.events + 1) said.host) =
-    subst (λ (s : HostAnswer). Counts (Some s) (length (prefix_before new.shape new.events (length old.events + 1) said.host))) is (counted new.shape new.events x in_x) in
+    let then_all : items ≡ prefix_before new.opening new.events (length old.events + 1) said.host =
+    are ∙ ap (λ (l : List Event). learned_of ((world_after new.opening l).host said.host)) (sym all) in
+    let many : n ≡ length (prefix_before new.opening new.events (length old.events + 1) said.host) =
+    subst (λ (s : HostAnswer). Counts (Some s) (length (prefix_before new.opening new.events (length old.events + 1) said.host))) is (counted new.opening new.events (run_is_run new.opening new.events can) x in_x) in
     record {
       later = omega (arith, long, kept.later);
       has = record {
@@ -186,20 +188,20 @@ kept_now start old new event said n items before on says is are kept =
 Contains-map : {A B : Type 0} (f : A → B) (xs : List A) (x : A) → Contains xs x → Contains (map f xs) (f x)
 Contains-map f xs x is = (is.0, subst (λ (n : ℕ). is.0 < n) (sym (length-map xs f)) is.1, get_or-map f xs is.0 x (f x) is.1 ∙ ap f is.2)
 
-pub begins_log : (start p : Past) (items : List Command) → HasLearned start p items → (log : List Command) → IsOneLog p.shape p.events log → IsPrefix items log
+pub begins_log : (start p : Past) (items : List Command) → HasLearned start p items → (log : List Command) → IsOneLog p.opening p.events log → IsPrefix items log
 begins_log start p items has log one = subst (λ (l : List Command). IsPrefix l log) (sym has.are) (one.begins (has.line.place + 1) has.line.host)
 
-pub all_by : (p : Past) (report : List Answer) (items : List Command) (n : ℕ) → Lists p report → Covers p n → n ≤ length items
-    → ((log : List Command) → IsOneLog p.shape p.events log → IsPrefix items log) → AllGoBy items report
-all_by p report items n lists covered many begins =
-    let t = tells p.shape p.events report lists.lines (All-weaker (IsListed p) (IsPicturedIn p.shape p.events) (λ a is. is.1) report lists.pictures) in
+pub all_by : (p : Past) → CanBegin p.opening → (report : List Answer) (items : List Command) (n : ℕ) → Lists p report → Covers p n → n ≤ length items
+    → ((log : List Command) → IsOneLog p.opening p.events log → IsPrefix items log) → AllGoBy items report
+all_by p can report items n lists covered many begins =
+    let t = tells p.opening p.events (run_is_run p.opening p.events can) report lists.lines (All-weaker (IsListed p) (IsPicturedIn p.opening p.events) (λ a is. is.1) report lists.pictures) in
     let is : items ≡ take (length items) t.log = begins t.log t.one in
     let long : length items ≤ length t.log = omega (arith, ap length is, length-take (length items) t.log) in
     let at_most : (a : Answer) → Contains report a → IsWithin (length items) a.said = λ a in_a.
     wider n (length items) many a.said
     (All-contains (λ (x : Line). IsWithin n x.said) (answers_of p) (line_of a) covered (subst (λ (l : List Line). Contains l (line_of a)) lists.lines (Contains-map line_of report a in_a))) in
     subst (λ (l : List Command). AllGoBy l report) (sym is)
-    (all_go p.shape p.events t.log (length items) long report (λ k other inside. (at_most (get_or report k other) (Contains-get_or report k other inside), t.answers k other inside)))
+    (all_go p.opening p.events t.log (length items) long report (λ k other inside. (at_most (get_or report k other) (Contains-get_or report k other inside), t.answers k other inside)))
 
 -- what a running host tells of itself
 pub learned_is : (c : Shape) (h : ℕ) (x : Host) (k : hosts.Kept) → IsHost c h x (Some k) → k.prefix ≡ learned_of x
@@ -208,18 +210,20 @@ learned_is c h x k is = let r = running_by c h x k is in r.2.prefix ∙ sym (ap 
 -- A SCRIPT'S END
 
 -- Behind the stops the first host has recovered, and then the last: the longer of what they learned bears out all that was answered.
-pub ended_right : (q0 q1 q2 q3 : Past) (first last longest : List Command) (report : List Answer)
-    → GoesOn q0 q1 stops → GoesOn q1 q2 (recovery q1.shape 0) → GoesOn q2 q3 (recovery q2.shape (HOSTS - 1)) → HasLearned q1 q2 first → HasLearned q2 q3 last → Lists q3 report
+pub ended_right : (q0 q1 q2 q3 : Past) → CanBegin q1.opening → (first last longest : List Command) (report : List Answer)
+    → GoesOn q0 q1 stops → GoesOn q1 q2 (recovery q1.opening.shape 0) → GoesOn q2 q3 (recovery q2.opening.shape (HOSTS - 1)) → HasLearned q1 q2 first → HasLearned q2 q3 last → Lists q3 report
     → ((longest ≡ first) × (length last ≤ length first)) ⊎ (longest ≡ last) → AllGoBy longest report
-ended_right q0 q1 q2 q3 first last longest report stopped one two has_first has_last lists is_longest =
+ended_right q0 q1 q2 q3 can first last longest report stopped one two has_first has_last lists is_longest =
     let rests : is_stopped ((world_of q2).host (HOSTS - 1)) ≡ true =
     ap is_stopped (stays_behind q1 q2 0 (HOSTS - 1) one (λ same. absurd (omega (arith, same)))) ∙ stopped_behind q0 q1 (HOSTS - 1) (HOSTS - 1) stopped refl in
     let is_host : HOSTS - 1 < HOSTS = omega arith in
-    let covered = recovery_covers q2 q3 (HOSTS - 1) last is_host rests two has_last in
+    let can_2 : CanBegin q2.opening = subst (λ (q : Past). CanBegin q.opening) (sym one) can in
+    let can_3 : CanBegin q3.opening = subst (λ (q : Past). CanBegin q.opening) (sym two) can_2 in
+    let covered = recovery_covers q2 q3 can_2 (HOSTS - 1) last is_host rests two has_last in
     elim is_longest [
       | inl is ↦ subst (λ (l : List Command). AllGoBy l report) (sym is.0)
-          (all_by q3 report first (length last) lists covered is.1 (begins_log q1 q3 first (learned_still q1 q2 q3 (recovery q2.shape (HOSTS - 1)) first two has_first)))
-      | inr is ↦ subst (λ (l : List Command). AllGoBy l report) (sym is) (all_by q3 report last (length last) lists covered (omega arith) (begins_log q2 q3 last has_last))
+          (all_by q3 can_3 report first (length last) lists covered is.1 (begins_log q1 q3 first (learned_still q1 q2 q3 (recovery q2.opening.shape (HOSTS - 1)) first two has_first)))
+      | inr is ↦ subst (λ (l : List Command). AllGoBy l report) (sym is) (all_by q3 can_3 report last (length last) lists covered (omega arith) (begins_log q2 q3 last has_last))
     ]
 
 pub has_some : {X : Type 0} (o : Option X) (x : X) → o ≡ Some x → (items : X → List Command) (start now : Past) → IfSome (option_map items o) (HasLearned start now)

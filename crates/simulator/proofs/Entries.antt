@@ -9,9 +9,8 @@ use Rattle.slot_log.specs.Shape.{Shape}
 use Rattle.host.specs.Host.{said_of}
 use Rattle.world.specs.Entry.{Filled, Start, Stop, Submit, Recover, Look, Beat, Mark, Called, Torn, Crashed, Lost, Migrated, is_of}
 use Rattle.world.specs.World.{world}
-use Rattle.world.specs.Happens.{Event, Line, entry_of, with_entry, happens, happen, run, host_of, lines_at, answers_from, answers}
+use Rattle.world.specs.Happens.{Event, Line, entry_of, with_entry, happens, happen, host_of, lines_at, answers_from}
 use Rattle.world.specs.Chosen.{at, SaysAt}
-use Rattle.world.proofs.Runs.{one_more}
 use Rattle.simulator.proofs.Lines.{behind}
 
 -- LISTS
@@ -39,13 +38,43 @@ take_next l n x is = take_more l n x (slice_get_within l n x is) ∙ ap (λ y. t
 -- ONE LIST BEGINS ANOTHER
 
 -- entries come behind those that are there
-extends : (c : Shape) (log : List Filled) (events : List Event) → (rest : List Filled) × (happen c log events ≡ log ++ rest)
+pub extends : (c : Shape) (log : List Filled) (events : List Event) → (rest : List Filled) × (happen c log events ≡ log ++ rest)
 extends c log [] = ([], sym (append-nil log))
 extends c log (e ∷ es) = go (entry_of c (world c log) e) (λ (l : List Filled). extends c l es)
   where
     go : (o : Option Filled) → ((l : List Filled) → (rest : List Filled) × (happen c l es ≡ l ++ rest)) → (rest : List Filled) × (happen c (with_entry log o) es ≡ log ++ rest)
     go None more = more log
     go (Some f) more = ((f ∷ (more (log ++ f ∷ [])).0), (more (log ++ f ∷ [])).1 ∙ append_assoc log (f ∷ []) (more (log ++ f ∷ [])).0)
+
+-- events happen one after the other
+pub happen_on : (c : Shape) (log : List Filled) (a b : List Event) → happen c log (a ++ b) ≡ happen c (happen c log a) b
+happen_on c log [] b = refl
+happen_on c log (e ∷ a) b = happen_on c (happens c log e) a b
+
+-- and what is answered with the later ones comes behind the rest
+pub answers_on : (c : Shape) (log : List Filled) (place : ℕ) (events more : List Event)
+    → answers_from c log place (events ++ more) ≡ answers_from c log place events ++ answers_from c (happen c log events) (place + length events) more
+answers_on c log place [] more = ap (λ (n : ℕ). answers_from c log n more) (the_same place)
+  where
+    the_same : (n : ℕ) → n ≡ n + 0
+    the_same n = omega arith
+answers_on c log place (e ∷ es) more =
+    let here = lines_at c log place (entry_of c (world c log) e) in
+    let far : (place + 1) + length es ≡ place + suc (length es) = omega arith in
+    ap (λ (l : List Line). here ++ l) (answers_on c (happens c log e) (place + 1) es more)
+    ∙ sym (append_assoc here (answers_from c (happens c log e) (place + 1) es) _)
+    ∙ ap (λ (n : ℕ). (here ++ answers_from c (happens c log e) (place + 1) es) ++ answers_from c (happen c log (e ∷ es)) n more) far
+
+counted : (n : ℕ) → 0 + n ≡ n
+counted n = omega arith
+
+pub one_answer_more : (c : Shape) (log : List Filled) (events : List Event) (e : Event)
+    → answers_from c log 0 (events ++ e ∷ []) ≡ answers_from c log 0 events ++ lines_at c (happen c log events) (length events) (entry_of c (world c (happen c log events)) e)
+one_answer_more c log events e =
+    let now = happen c log events in
+    answers_on c log 0 events (e ∷ [])
+    ∙ ap (λ (l : List Line). answers_from c log 0 events ++ l) (append-nil (lines_at c now (0 + length events) (entry_of c (world c now) e)))
+    ∙ ap (λ (n : ℕ). answers_from c log 0 events ++ lines_at c now n (entry_of c (world c now) e)) (counted (length events))
 
 happen_parts : (c : Shape) (log : List Filled) (events : List Event) (n : ℕ) → happen c log events ≡ happen c (happen c log (take n events)) (drop n events)
 happen_parts c log [] zero = refl
@@ -73,17 +102,14 @@ by_first c log x es p e (Some f) is found = elim (get_either log (f ∷ []) p e 
       inr (record { n = 0; event = x; is = refl; brings = is ∙ ap Some one.1; at = omega (arith, there.1, one.0) }))
 ]
 
-from_event : (c : Shape) (log : List Filled) (events : List Event) (p : ℕ) (e : Filled) → slice_get (happen c log events) p ≡ Some e
+-- each entry was there at first, or is of one event
+pub from_event : (c : Shape) (log : List Filled) (events : List Event) (p : ℕ) (e : Filled) → slice_get (happen c log events) p ≡ Some e
     → (slice_get log p ≡ Some e) ⊎ From c log events p e
 from_event c log [] p e found = inl found
 from_event c log (x ∷ es) p e found = elim (from_event c (happens c log x) es p e found) [
   | inl there ↦ by_first c log x es p e (entry_of c (world c log) x) refl there
   | inr f ↦ inr (record { n = suc f.n; event = f.event; is = f.is; brings = f.brings; at = f.at })
 ]
-
--- each entry of a run is of one event
-pub of_event : (c : Shape) (events : List Event) (p : ℕ) (e : Filled) → slice_get (run c events) p ≡ Some e → From c [] events p e
-of_event c events p e found = elim (from_event c [] events p e found) [ inl none ↦ absurd (cc) | inr f ↦ f ]
 
 -- A LINE AND ITS EVENT
 
@@ -127,25 +153,25 @@ own (Migrated disks log) h is = absurd (cc)
 
 -- BEFORE AN EVENT
 
-module _ (c : Shape) (events : List Event) where
+module _ (c : Shape) (start : List Filled) (events : List Event) where
   -- the entries that the events before event n have brought
   abbrev pub before : ℕ → List Filled
-  before n = run c (take n events)
+  before n = happen c start (take n events)
 
-  rest_of : (n : ℕ) → (rest : List Filled) × (run c events ≡ before n ++ rest)
-  rest_of n = let more = extends c (before n) (drop n events) in (more.0, happen_parts c [] events n ∙ more.1)
+  rest_of : (n : ℕ) → (rest : List Filled) × (happen c start events ≡ before n ++ rest)
+  rest_of n = let more = extends c (before n) (drop n events) in (more.0, happen_parts c start events n ∙ more.1)
 
   -- they begin the whole list
-  pub begins_with : (n : ℕ) → take (length (before n)) (run c events) ≡ before n
+  pub begins_with : (n : ℕ) → take (length (before n)) (happen c start events) ≡ before n
   begins_with n = let more = rest_of n in ap (take (length (before n))) more.1 ∙ take-append_seam (before n) more.0
 
   -- the more events, the more entries
   pub fewer : (n m : ℕ) → n ≤ m → length (before n) ≤ length (before m)
   fewer n m le =
-      let more = extends c (happen c [] (take n (take m events))) (drop n (take m events)) in
-      let all : before m ≡ happen c [] (take n (take m events)) ++ more.0 = happen_parts c [] (take m events) n ∙ more.1 in
-      let same : happen c [] (take n (take m events)) ≡ before n = ap (run c) (take-take n m events le) in
-      omega (arith, ap length all, length-append (happen c [] (take n (take m events))) more.0, ap length same)
+      let more = extends c (happen c start (take n (take m events))) (drop n (take m events)) in
+      let all : before m ≡ happen c start (take n (take m events)) ++ more.0 = happen_parts c start (take m events) n ∙ more.1 in
+      let same : happen c start (take n (take m events)) ≡ before n = ap (happen c start) (take-take n m events le) in
+      omega (arith, ap length all, length-append (happen c start (take n (take m events))) more.0, ap length same)
 
   pub earlier : (n m : ℕ) → length (before n) < length (before m) → n < m
   earlier n m less = elim (cases_lt n m) [ inl is ↦ is | inr not ↦ absurd (omega (arith, fewer m n not, less)) ]
@@ -158,19 +184,19 @@ module _ (c : Shape) (events : List Event) where
 
   module _ (n : ℕ) (e : Filled) (brought : Brought n e) where
     pub after : before (n + 1) ≡ before n ++ e ∷ []
-    after = ap (run c) (take_next events n brought.event brought.is) ∙ one_more c (take n events) brought.event ∙ ap (with_entry (before n)) brought.brings
+    after = ap (happen c start) (take_next events n brought.event brought.is) ∙ happen_on c start (take n events) (brought.event ∷ []) ∙ ap (with_entry (before n)) brought.brings
 
-    stands : slice_get (run c events) (length (before n)) ≡ Some e
+    stands : slice_get (happen c start events) (length (before n)) ≡ Some e
     stands =
         let more = rest_of (n + 1) in
         ap (λ (l : List Filled). slice_get l (length (before n))) (more.1 ∙ ap (λ (l : List Filled). l ++ more.0) after ∙ append_assoc (before n) (e ∷ []) more.0)
         ∙ get_behind (before n) e more.0
 
     -- behind that entry stands what is before the next event
-    up_to : take (length (before n) + 1) (run c events) ≡ before (n + 1)
+    up_to : take (length (before n) + 1) (happen c start events) ≡ before (n + 1)
     up_to =
         let long : length (before (n + 1)) ≡ length (before n) + 1 = ap length after ∙ length-append (before n) (e ∷ []) in
-        subst (λ (k : ℕ). take k (run c events) ≡ before (n + 1)) long (begins_with (n + 1))
+        subst (λ (k : ℕ). take k (happen c start events) ≡ before (n + 1)) long (begins_with (n + 1))
 
   -- a line is of the entry that its event brings
   pub record Told (n : ℕ) (x : Line) : Type 0 where
@@ -179,14 +205,14 @@ module _ (c : Shape) (events : List Event) where
     pub of : host_of entry ≡ Some x.host
     pub says : said_of ((world c (before n ++ entry ∷ [])).host x.host) ≡ Some x.said
 
-  pub told : (k : ℕ) (x : Line) → slice_get (answers c events) k ≡ Some x → Told x.place x
+  pub told : (k : ℕ) (x : Line) → slice_get (answers_from c start 0 events) k ≡ Some x → Told x.place x
   told k x found =
-      let f = told_from c [] 0 events k x found in
+      let f = told_from c start 0 events k x found in
       let same : f.n ≡ x.place = omega (arith, f.at) in
       subst (λ (n : ℕ). Told n x) same (record { entry = f.entry; brought = record { event = f.event; is = f.is; brings = f.brings }; of = f.of; says = f.says })
 
   -- so its host says it there, in the words of the list
-  pub says_at : (n : ℕ) (x : Line) → Told n x → SaysAt c (run c events) (length (before n)) x.host x.said
+  pub says_at : (n : ℕ) (x : Line) → Told n x → SaysAt c (happen c start events) (length (before n)) x.host x.said
   says_at n x t =
       record {
         entry = t.entry;
@@ -196,5 +222,5 @@ module _ (c : Shape) (events : List Event) where
       }
 
   -- the world behind it is the one that the event left
-  pub left_at : (n : ℕ) (x : Line) → Told n x → world c (before (n + 1)) ≡ at c (run c events) (length (before n) + 1)
+  pub left_at : (n : ℕ) (x : Line) → Told n x → world c (before (n + 1)) ≡ at c (happen c start events) (length (before n) + 1)
   left_at n x t = ap (world c) (sym (up_to n t.entry t.brought))

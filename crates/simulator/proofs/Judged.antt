@@ -6,11 +6,11 @@ use Rattle.std.proofs.lemmas.List.Elements.{All-weaker}
 use Rattle.lock_command.specs.declared.command.Command.{Command}
 use Rattle.lock_table.specs.Apply.{table_after}
 use Rattle.lock_table.specs.Picture.{IsPictureOf, Shown}
-use Rattle.slot_log.specs.Shape.{Shape}
 use Rattle.host.specs.declared.answer.HostAnswer.{HostAnswer}
 use Rattle.host.specs.declared.answer.HostAnswer.TheVariants.{Ack, Recovered, Looked, Beaten, Marked, Refused}
 use Rattle.host.specs.Host.{reply_after}
 use Rattle.world.specs.Happens.{Event, Line}
+use Rattle.world.specs.Opening.{Opening}
 use Rattle.world.specs.Told as logged
 use Rattle.world.specs.Told.{ShowsTable}
 use Rattle.simulator.specs.declared.answer.Answer.{Answer}
@@ -43,8 +43,8 @@ shown log n m (Some picture) long less is =
       table = subst (λ (l : List Command). IsPictureOf picture (table_after l)) (sym (take-take m n log less)) is;
     }
 
-module _ (c : Shape) (events : List Event) (log : List Command) (n : ℕ) (long : n ≤ length log) where
-  by_said : (x : Line) (picture : Option Shown) (said : HostAnswer) → IsWithin n said → logged.goes_by c events log x picture said → judging.goes_by (take n log) picture said
+module _ (o : Opening) (events : List Event) (log : List Command) (n : ℕ) (long : n ≤ length log) where
+  by_said : (x : Line) (picture : Option Shown) (said : HostAnswer) → IsWithin n said → logged.goes_by o events log x picture said → judging.goes_by (take n log) picture said
   by_said x picture (Ack slot reply) within is =
       record {
         command = is.command;
@@ -57,8 +57,8 @@ module _ (c : Shape) (events : List Event) (log : List Command) (n : ℕ) (long 
   by_said x picture (Marked count) within is = tt
   by_said x picture (Refused refusal) within is = tt
 
-  pub goes : (a : Answer) → IsWithin n a.said × GoesBy c events log a → GoesByCommands (take n log) a
+  pub goes : (a : Answer) → IsWithin n a.said × GoesBy o events log a → GoesByCommands (take n log) a
   goes a both = by_said (line_of a) a.picture a.said both.0 both.1
 
-  pub all_go : (report : List Answer) → All (λ a. IsWithin n a.said × GoesBy c events log a) report → AllGoBy (take n log) report
-  all_go report all = All-weaker (λ a. IsWithin n a.said × GoesBy c events log a) (GoesByCommands (take n log)) goes report all
+  pub all_go : (report : List Answer) → All (λ a. IsWithin n a.said × GoesBy o events log a) report → AllGoBy (take n log) report
+  all_go report all = All-weaker (λ a. IsWithin n a.said × GoesBy o events log a) (GoesByCommands (take n log)) goes report all

@@ -10,7 +10,9 @@ pub mod Judged
 pub mod Learning
 pub mod Lines
 pub mod Listing
+pub mod Moved
 pub mod OneMore
+pub mod Opened
 pub mod Owed
 pub mod Recovering
 pub mod Replaying

@@ -20,9 +20,10 @@ use Rattle.torn_block.specs.declared.layout.TheConstants.{HOSTS}
 use Rattle.world.specs.Entry as entries
 use Rattle.world.specs.Entry.{Filled, Called, is_of, host_step}
 use Rattle.world.specs.World.{World, world}
-use Rattle.world.specs.Happens.{Event, Start, Stop, Recover, Step, Line, stepped, brings_if, entry_of, with_entry, happens, happen, host_of, lines_after, lines_at, line, answer_of, run, answers}
+use Rattle.world.specs.Happens.{Event, Start, Stop, Recover, Step, Line, stepped, brings_if, entry_of, with_entry, happens, happen, host_of, lines_after, lines_at, line, answer_of}
+use Rattle.world.specs.Opening.{begun as beginning, run_of, answers_to}
 use Rattle.world.proofs.Projections.{host_here, host_there}
-use Rattle.world.proofs.Runs.{one_more, one_answer_more}
+use Rattle.simulator.proofs.Entries.{happen_on, one_answer_more}
 use Rattle.simulator.specs.Past.{Past, world_of, answers_of}
 use Rattle.simulator.specs.Replayed.{GoesOn}
 use Rattle.simulator.specs.Sweeping.{recovery, stops}
@@ -191,10 +192,6 @@ module _ (c : Shape) (log : List Filled) where
 
 -- ALL OF A LIST OF EVENTS
 
-happen_on : (c : Shape) (log : List Filled) (a b : List Event) → happen c log (a ++ b) ≡ happen c (happen c log a) b
-happen_on c log [] b = refl
-happen_on c log (e ∷ a) b = happen_on c (happens c log e) a b
-
 stops_keep : (c : Shape) (log : List Filled) (hs : List ℕ) (g : ℕ) → is_stopped ((world c log).host g) ≡ true → is_stopped ((world c (happen c log (map Stop hs))).host g) ≡ true
 stops_keep c log [] g is = is
 stops_keep c log (h ∷ hs) g is = stops_keep c (happens c log (Stop h)) hs g (stop_there c log h g is)
@@ -210,8 +207,8 @@ stops_one c log (h ∷ hs) g (suc k) found = stops_one c (happens c log (Stop h)
 pub stopped_behind : (p now : Past) (g k : ℕ) → GoesOn p now stops → slice_get (range_with_len 0 HOSTS) k ≡ Some g → is_stopped ((world_of now).host g) ≡ true
 stopped_behind p now g k on found =
     subst (λ (q : Past). is_stopped ((world_of q).host g) ≡ true) (sym on)
-    (ap (λ (l : List Filled). is_stopped ((world p.shape l).host g)) (happen_on p.shape [] p.events stops)
-    ∙ stops_one p.shape (run p.shape p.events) (range_with_len 0 HOSTS) g k found)
+    (ap (λ (l : List Filled). is_stopped ((world p.opening.shape l).host g)) (happen_on p.opening.shape (beginning p.opening) p.events stops)
+    ∙ stops_one p.opening.shape (run_of p.opening p.events) (range_with_len 0 HOSTS) g k found)
 
 steps_leave : (c : Shape) (log : List Filled) (n h g : ℕ) → (h ≡ g → ⊥) → (world c (happen c log (replicate n (Step h) ++ Stop h ∷ []))).host g ≡ (world c log).host g
 steps_leave c log zero h g other = leaves_stop c log h g other
@@ -223,11 +220,11 @@ recovery_leaves c log h g other =
     ∙ leaves_recover c (happens c log (Start h)) h g other ∙ leaves_start c log h g other
 
 -- a recovery leaves the other hosts
-pub stays_behind : (p now : Past) (h g : ℕ) → GoesOn p now (recovery p.shape h) → (h ≡ g → ⊥) → (world_of now).host g ≡ (world_of p).host g
+pub stays_behind : (p now : Past) (h g : ℕ) → GoesOn p now (recovery p.opening.shape h) → (h ≡ g → ⊥) → (world_of now).host g ≡ (world_of p).host g
 stays_behind p now h g on other =
     ap (λ (q : Past). (world_of q).host g) on
-    ∙ ap (λ (l : List Filled). (world p.shape l).host g) (happen_on p.shape [] p.events (recovery p.shape h))
-    ∙ recovery_leaves p.shape (run p.shape p.events) h g other
+    ∙ ap (λ (l : List Filled). (world p.opening.shape l).host g) (happen_on p.opening.shape (beginning p.opening) p.events (recovery p.opening.shape h))
+    ∙ recovery_leaves p.opening.shape (run_of p.opening p.events) h g other
 
 -- SINCE THE START
 
@@ -260,10 +257,10 @@ said_then start h place m r later = elim r.either [
 
 module _ (start now : Past) (h : ℕ) (e : Event) where
   abbrev c : Shape
-  c = now.shape
+  c = now.opening.shape
 
   abbrev log : List Filled
-  log = run c now.events
+  log = run_of now.opening now.events
 
   abbrev next : Past
   next = record now { events = now.events ++ e ∷ [] }
@@ -276,9 +273,9 @@ module _ (start now : Past) (h : ℕ) (e : Event) where
   nothing s none =
       record {
         lines = s.lines;
-        answered = one_answer_more c now.events e ∙ ap (λ (o : Option Filled). answers_of now ++ lines_at c log (length now.events) o) none ∙ append-nil (answers_of now) ∙ s.answered;
+        answered = one_answer_more c (beginning now.opening) now.events e ∙ ap (λ (o : Option Filled). answers_of now ++ lines_at c log (length now.events) o) none ∙ append-nil (answers_of now) ∙ s.answered;
         memory = s.memory;
-        runs = ap (λ (l : List Filled). (world c l).host h) (one_more c now.events e ∙ ap (with_entry log) none) ∙ s.runs;
+        runs = ap (λ (l : List Filled). (world c l).host h) (happen_on c (beginning now.opening) now.events (e ∷ []) ∙ ap (with_entry log) none) ∙ s.runs;
         recovers = s.recovers;
         quiet = s.quiet;
         told = s.told;
@@ -294,13 +291,13 @@ module _ (start now : Past) (h : ℕ) (e : Event) where
       record {
         lines = line place h m.said;
         answered =
-            one_answer_more c now.events e
+            one_answer_more c (beginning now.opening) now.events e
             ∙ ap (λ (o : Option Filled). answers_of now ++ lines_at c log place o) brings
             ∙ ap (λ (o : Option ℕ). answers_of now ++ lines_after (world c (log ++ f ∷ [])) place o) of
             ∙ ap (λ (x : Host). answers_of now ++ line place h (said_of x)) left
             ∙ ap (λ (l : List Line). l ++ line place h m.said) quiet;
         memory = m;
-        runs = ap (λ (l : List Filled). (world c l).host h) (one_more c now.events e ∙ ap (with_entry log) brings) ∙ left;
+        runs = ap (λ (l : List Filled). (world c l).host h) (happen_on c (beginning now.opening) now.events (e ∷ []) ∙ ap (with_entry log) brings) ∙ left;
         recovers = r;
         quiet = says.0;
         told = says.1;
@@ -310,7 +307,7 @@ module _ (start now : Past) (h : ℕ) (e : Event) where
 -- a step of the host
 module _ (start now : Past) (h : ℕ) (s : Since start now h) where
   abbrev shape : Shape
-  shape = now.shape
+  shape = now.opening.shape
 
   abbrev w : World
   w = world_of now
@@ -327,7 +324,7 @@ module _ (start now : Past) (h : ℕ) (s : Since start now h) where
       moved start now h (Step h) (stepped w h call) (hears shape h s.memory (Some u.doing) (record { disk = call.0; heard = heard_as answer }))
       (s.answered ∙ ap (λ (l : List Line). answers_of start ++ l) (s.quiet u) ∙ append-nil (answers_of start)) s.later
       (ap (option_map (stepped w h)) due) refl
-      (host_here shape (run shape now.events) (stepped w h call) h (own h)
+      (host_here shape (run_of now.opening now.events) (stepped w h call) h (own h)
       ∙ ap (λ (x : Host). host_step shape h x (stepped w h call)) s.runs
       ∙ ap (λ (d : Option Doing). Running (hears_from shape h s.memory d call.0 answer)) u.does)
       (hears_one shape h s.memory u.doing _ u.recovers s.recovers.no_beat s.recovers.no_marking)
@@ -356,35 +353,35 @@ module _ (p : Past) (h : ℕ) (within : h < HOSTS) (stopped : is_stopped ((world
   begun = record p { events = p.events ++ Start h ∷ [] }
 
   pub is_fresh : (world_of begun).host h ≡ Running fresh
-  is_fresh = ap (λ (l : List Filled). (world p.shape l).host h) (one_more p.shape p.events (Start h)) ∙ start_here p.shape (run p.shape p.events) h within stopped
+  is_fresh = ap (λ (l : List Filled). (world p.opening.shape l).host h) (happen_on p.opening.shape (beginning p.opening) p.events (Start h ∷ [])) ∙ start_here p.opening.shape (run_of p.opening p.events) h within stopped
 
   begun_quiet : answers_of begun ≡ answers_of p
   begun_quiet =
-      one_answer_more p.shape p.events (Start h)
-      ∙ ap (λ (l : List Line). answers_of p ++ l) (start_is_quiet p.shape (run p.shape p.events) h within stopped (length p.events)) ∙ append-nil (answers_of p)
+      one_answer_more p.opening.shape (beginning p.opening) p.events (Start h)
+      ∙ ap (λ (l : List Line). answers_of p ++ l) (start_is_quiet p.opening.shape (run_of p.opening p.events) h within stopped (length p.events)) ∙ append-nil (answers_of p)
 
   asked : Since begun (record begun { events = begun.events ++ Recover h 255 ∷ [] }) h
   asked =
-      let log = run p.shape begun.events in
-      moved begun begun h (Recover h 255) (entries.Recover h 255) (goes_on p.shape fresh Recovering 255) refl (omega arith)
+      let log = run_of p.opening begun.events in
+      moved begun begun h (Recover h 255) (entries.Recover h 255) (goes_on p.opening.shape fresh Recovering 255) refl (omega arith)
       (ap (λ (x : Host). brings_if (idles x && nat_lt 0 255) (Some (entries.Recover h 255))) is_fresh) refl
-      (host_here p.shape log (entries.Recover h 255) h (own h) ∙ ap (λ (x : Host). entries.begins_on p.shape x Recovering 255) is_fresh)
-      (tries_next p.shape fresh 255 refl refl)
+      (host_here p.opening.shape log (entries.Recover h 255) h (own h) ∙ ap (λ (x : Host). entries.begins_on p.opening.shape x Recovering 255) is_fresh)
+      (tries_next p.opening.shape fresh 255 refl refl)
 
   -- these are the answers to it, if any
   pub record Whole : Type 0 where
     pub lines : List Line
     pub learned : ℕ
-    pub answered : answers_of (record p { events = p.events ++ recovery p.shape h }) ≡ answers_of p ++ lines
+    pub answered : answers_of (record p { events = p.events ++ recovery p.opening.shape h }) ≡ answers_of p ++ lines
     pub told : All (IsToldBy begun h learned) lines
 
   pub whole : Whole
   whole =
-      let n = 17 * p.shape.disks * (p.shape.slots + 1) in
+      let n = 17 * p.opening.shape.disks * (p.opening.shape.slots + 1) in
       let steps = replicate n (Step h) in
       let s = all_steps begun (record begun { events = begun.events ++ Recover h 255 ∷ [] }) h n asked in
       let before : List Event = (begun.events ++ Recover h 255 ∷ []) ++ steps in
-      let all : before ++ Stop h ∷ [] ≡ p.events ++ recovery p.shape h =
+      let all : before ++ Stop h ∷ [] ≡ p.events ++ recovery p.opening.shape h =
       ap (λ (l : List Event). (l ++ steps) ++ Stop h ∷ []) (append_assoc p.events (Start h ∷ []) (Recover h 255 ∷ []))
       ∙ ap (λ (l : List Event). l ++ Stop h ∷ []) (append_assoc p.events (Start h ∷ Recover h 255 ∷ []) steps)
       ∙ append_assoc p.events (Start h ∷ Recover h 255 ∷ steps) (Stop h ∷ []) in
@@ -392,9 +389,9 @@ module _ (p : Past) (h : ℕ) (within : h < HOSTS) (stopped : is_stopped ((world
         lines = s.lines;
         learned = length s.memory.learned;
         answered =
-            ap (answers p.shape) (sym all)
-            ∙ one_answer_more p.shape before (Stop h)
-            ∙ ap (λ (l : List Line). answers p.shape before ++ l) (stop_is_quiet p.shape (run p.shape before) h (length before)) ∙ append-nil (answers p.shape before)
+            ap (answers_to p.opening) (sym all)
+            ∙ one_answer_more p.opening.shape (beginning p.opening) before (Stop h)
+            ∙ ap (λ (l : List Line). answers_to p.opening before ++ l) (stop_is_quiet p.opening.shape (run_of p.opening before) h (length before)) ∙ append-nil (answers_to p.opening before)
             ∙ s.answered ∙ ap (λ (l : List Line). l ++ s.lines) begun_quiet;
         told = s.told;
       }

@@ -1,7 +1,7 @@
 -- How a replay goes on, and what is heard meanwhile.
 use Rattle.std.specs.Prelude.{◌*◌, ◌||◌, All, replicate, slice_get, take}
 use Rattle.std.specs.List.{list_any}
-use Rattle.std.proofs.Common.{ℕ, suc, ◌+◌, ◌≡◌, Bool, true, false, Option, Some, None, List, [], ◌∷◌, ◌++◌, length, refl, sym, ap, ◌∙◌, subst, arith, append-nil, append_assoc, length-append}
+use Rattle.std.proofs.Common.{ℕ, ◌+◌, ◌≡◌, Bool, true, false, Option, Some, None, List, [], ◌∷◌, ◌++◌, length, refl, sym, ap, ◌∙◌, subst, arith, append-nil, append_assoc, length-append}
 use Rattle.std.proofs.lemmas.List.{append_cancel_left, map-append, take_all, take-append-le}
 use Rattle.std.proofs.lemmas.List.Elements.{All-push, All-weaker}
 use Rattle.std.proofs.lemmas.List.Folds.{list_any-append}
@@ -11,8 +11,8 @@ use Rattle.host.specs.declared.answer.HostAnswer.TheVariants.{Ack, Recovered, Lo
 use Rattle.host.specs.Host.{Host, Stopped, Running, is_stopped, said_of}
 use Rattle.world.specs.Entry.{Filled}
 use Rattle.world.specs.World.{world}
-use Rattle.world.specs.Happens.{Event, Start, Stop, Recover, Step, Line, entry_of, with_entry, happens, happen, lines_at, run, answers, answers_from}
-use Rattle.world.proofs.Runs.{one_more, one_answer_more}
+use Rattle.world.specs.Happens.{Event, Start, Stop, Recover, Step, Line, entry_of, with_entry, lines_at, answers_from}
+use Rattle.world.specs.Opening.{Opening, begun, run_of, world_after, answers_to}
 use Rattle.simulator.specs.declared.answer.Answer.{Answer}
 use Rattle.simulator.specs.declared.parts.Said.{Said}
 use Rattle.simulator.specs.Answers.{line_of, lines_in, IsPictured}
@@ -20,28 +20,30 @@ use Rattle.simulator.specs.Events.{lines_of}
 use Rattle.simulator.specs.Past.{Past, world_of, answers_of}
 use Rattle.simulator.specs.Replayed.{GoesOn, Says, Heard, IsListed, Lists}
 use Rattle.simulator.specs.Sweeping.{is_recovery, recovery}
+use Rattle.simulator.proofs.Entries.{happen_on, answers_on, one_answer_more}
 use Rattle.simulator.proofs.Lines.{behind}
 
 -- WHAT IS SAID WITH AN EVENT
 
 -- the line is that of the last event, whose host says this then
-pub record Spoken (c : Shape) (events : List Event) (event : Event) (x : Line) : Type 0 where
+pub record Spoken (o : Opening) (events : List Event) (event : Event) (x : Line) : Type 0 where
   pub last : x.place ≡ length events
-  pub says : said_of ((world c (run c (events ++ event ∷ []))).host x.host) ≡ Some x.said
+  pub says : said_of ((world_after o (events ++ event ∷ [])).host x.host) ≡ Some x.said
 
-pub spoken : (c : Shape) (events : List Event) (event : Event) (x : Line) → answers c (events ++ event ∷ []) ≡ answers c events ++ x ∷ [] → Spoken c events event x
-spoken c events event x is =
-    let log = run c events in
+pub spoken : (o : Opening) (events : List Event) (event : Event) (x : Line) → answers_to o (events ++ event ∷ []) ≡ answers_to o events ++ x ∷ [] → Spoken o events event x
+spoken o events event x is =
+    let c = o.shape in
+    let log = run_of o events in
     let entry = entry_of c (world c log) event in
-    let here : lines_at c log (length events) entry ≡ x ∷ [] = append_cancel_left (answers c events) _ _ (sym (one_answer_more c events event) ∙ is) in
+    let here : lines_at c log (length events) entry ≡ x ∷ [] = append_cancel_left (answers_to o events) _ _ (sym (one_answer_more c (begun o) events event) ∙ is) in
     let found = behind c log (length events) entry 0 x (ap (λ (l : List Line). slice_get l 0) here) in
-    let after : run c (events ++ event ∷ []) ≡ log ++ found.entry ∷ [] = one_more c events event ∙ ap (with_entry log) found.is in
+    let after : run_of o (events ++ event ∷ []) ≡ log ++ found.entry ∷ [] = happen_on c (begun o) events (event ∷ []) ∙ ap (with_entry log) found.is in
     record { last = found.at; says = subst (λ (l : List Filled). said_of ((world c l).host x.host) ≡ Some x.said) (sym after) found.says }
 
 pub says_it : (old new : Past) (event : Event) (a : Answer) → GoesOn old new (event ∷ []) → answers_of new ≡ answers_of old ++ lines_in (Some a)
     → Says old new (Some (record { host = a.host; answer = a.said }))
 says_it old new event a on lines =
-    let s = spoken old.shape old.events event (line_of a) (sym (ap answers_of on) ∙ lines) in
+    let s = spoken old.opening old.events event (line_of a) (sym (ap answers_of on) ∙ lines) in
     record {
       answered = lines ∙ ap (λ (n : ℕ). answers_of old ++ record { place = n; host = a.host; said = a.said } ∷ []) s.last;
       runs = subst (λ (p : Past). said_of ((world_of p).host a.host) ≡ Some a.said) (sym on) s.says;
@@ -60,7 +62,7 @@ speaker_is_running old new said says = running _ said.answer says.runs
 -- ONE AFTER THE OTHER
 
 pub goes_nowhere : (p : Past) → GoesOn p p []
-goes_nowhere p = ap (λ (l : List Event). record { shape = p.shape; events = l }) (sym (append-nil p.events))
+goes_nowhere p = ap (λ (l : List Event). record { opening = p.opening; events = l }) (sym (append-nil p.events))
 
 pub goes_further : (start old new : Past) (more events : List Event) → GoesOn start old more → GoesOn old new events → GoesOn start new (more ++ events)
 goes_further start old new more events before after =
@@ -72,12 +74,12 @@ recovery_is : (c : Shape) (h n : ℕ) → n ≡ 17 * c.disks * (c.slots + 1) →
 recovery_is c h n many = ap (λ (k : ℕ). Start h ∷ Recover h 255 ∷ replicate k (Step h) ++ Stop h ∷ []) many
 
 pub recovery_goes : (start a b d now : Past) (h host n : ℕ) → GoesOn start a (Start h ∷ []) → GoesOn a b (Recover h 255 ∷ []) → GoesOn b d (replicate n (Step h)) → GoesOn d now (Stop h ∷ [])
-    → h ≡ host → n ≡ 17 * start.shape.disks * (start.shape.slots + 1) → GoesOn start now (recovery start.shape host)
+    → h ≡ host → n ≡ 17 * start.opening.shape.disks * (start.opening.shape.slots + 1) → GoesOn start now (recovery start.opening.shape host)
 recovery_goes start a b d now h host n starts recovers steps stops same many =
     let begun = goes_further start a b (Start h ∷ []) (Recover h 255 ∷ []) starts recovers in
     let stepped = goes_further start b d (Start h ∷ Recover h 255 ∷ []) (replicate n (Step h)) begun steps in
     goes_further start d now (Start h ∷ Recover h 255 ∷ replicate n (Step h)) (Stop h ∷ []) stepped stops
-    ∙ ap (λ (l : List Event). record start { events = start.events ++ l }) (recovery_is start.shape h n many ∙ ap (recovery start.shape) same)
+    ∙ ap (λ (l : List Event). record start { events = start.events ++ l }) (recovery_is start.opening.shape h n many ∙ ap (recovery start.opening.shape) same)
 
 -- WHAT IS HEARD
 
@@ -131,36 +133,24 @@ hears_other start old new has said other says before =
 
 -- WHAT WAS ANSWERED BY THEN
 
-happen_behind : (c : Shape) (log : List Filled) (place : ℕ) (events more : List Event)
-    → answers_from c log place (events ++ more) ≡ answers_from c log place events ++ answers_from c (happen c log events) (place + length events) more
-happen_behind c log place [] more = ap (λ (n : ℕ). answers_from c log n more) (the_same place)
-  where
-    the_same : (n : ℕ) → n ≡ n + 0
-    the_same n = omega arith
-happen_behind c log place (e ∷ es) more =
-    let here = lines_at c log place (entry_of c (world c log) e) in
-    let far : (place + 1) + length es ≡ place + suc (length es) = omega arith in
-    ap (λ (l : List Line). here ++ l) (happen_behind c (happens c log e) (place + 1) es more)
-    ∙ sym (append_assoc here (answers_from c (happens c log e) (place + 1) es) _)
-    ∙ ap (λ (n : ℕ). (here ++ answers_from c (happens c log e) (place + 1) es) ++ answers_from c (happen c log (e ∷ es)) n more) far
-
 counted : (n : ℕ) → 0 + n ≡ n
 counted n = omega arith
 
 -- what was answered stays, and more comes behind it
 pub more_answered : (old : Past) (events : List Event) → (more : List Line) × (answers_of (record old { events = old.events ++ events }) ≡ answers_of old ++ more)
 more_answered old events =
-    let c = old.shape in
-    (answers_from c (run c old.events) (0 + length old.events) events, happen_behind c [] 0 old.events events)
+    let c = old.opening.shape in
+    (answers_from c (run_of old.opening old.events) (0 + length old.events) events, answers_on c (begun old.opening) 0 old.events events)
 
 -- what was heard since the start is among the answers of the events since
 pub all_heard : (start now : Past) (has : Bool) (events : List Event) → GoesOn start now events → Heard start now has
-    → has ≡ list_any is_recovery (answers_from start.shape (run start.shape start.events) (length start.events) events)
+    → has ≡ list_any is_recovery (answers_from start.opening.shape (run_of start.opening start.events) (length start.events) events)
 all_heard start now has events on heard =
-    let c = start.shape in
-    let behind_them : answers_of now ≡ answers_of start ++ answers_from c (run c start.events) (length start.events) events =
-    ap answers_of on ∙ happen_behind c [] 0 start.events events
-    ∙ ap (λ (n : ℕ). answers_of start ++ answers_from c (run c start.events) n events) (counted (length start.events)) in
+    let c = start.opening.shape in
+    let log = run_of start.opening start.events in
+    let behind_them : answers_of now ≡ answers_of start ++ answers_from c log (length start.events) events =
+    ap answers_of on ∙ answers_on c (begun start.opening) 0 start.events events
+    ∙ ap (λ (n : ℕ). answers_of start ++ answers_from c log n events) (counted (length start.events)) in
     heard.among ∙ ap (list_any is_recovery) (append_cancel_left (answers_of start) _ _ (sym heard.answered ∙ behind_them))
 
 -- WHAT IS LISTED
@@ -168,7 +158,7 @@ all_heard start now has events on heard =
 -- an answer and the answers before it, with the event that brought it
 module _ (old : Past) (event : Event) (report : List Answer) (before : Lists old report) where
   abbrev more : Past
-  more = record { shape = old.shape; events = old.events ++ event ∷ [] }
+  more = record { opening = old.opening; events = old.events ++ event ∷ [] }
 
   one_longer : length (old.events ++ event ∷ []) ≡ length old.events + 1
   one_longer = length-append old.events (event ∷ [])
@@ -178,7 +168,7 @@ module _ (old : Past) (event : Event) (report : List Answer) (before : Lists old
       let many = one_longer in
       let same : take (a.place + 1) old.events ≡ take (a.place + 1) (old.events ++ event ∷ []) =
       sym (take-append-le (a.place + 1) old.events (event ∷ []) (omega (arith, is.0))) in
-      (omega (arith, is.0, many), subst (λ (l : List Event). IsPictured (world old.shape (run old.shape l)) a) same is.1)
+      (omega (arith, is.0, many), subst (λ (l : List Event). IsPictured (world_after old.opening l) a) same is.1)
 
   stay : All (IsListed more) report
   stay = All-weaker (IsListed old) (IsListed more) still report before.pictures
@@ -188,11 +178,11 @@ module _ (old : Past) (event : Event) (report : List Answer) (before : Lists old
 
   pub lists_one : (a : Answer) → answers_of more ≡ answers_of old ++ lines_in (Some a) → IsPictured (world_of more) a → Lists more (report ++ a ∷ [])
   lists_one a one pictured =
-      let s = spoken old.shape old.events event (line_of a) one in
+      let s = spoken old.opening old.events event (line_of a) one in
       let many = one_longer in
       let whole : take (a.place + 1) (old.events ++ event ∷ []) ≡ old.events ++ event ∷ [] = take_all (a.place + 1) (old.events ++ event ∷ []) (omega (arith, s.last, many)) in
       record {
         lines = map-append line_of report (a ∷ []) ∙ ap (λ (l : List Line). l ++ line_of a ∷ []) before.lines ∙ sym one;
         pictures = All-push (IsListed more) report a stay
-            (omega (arith, s.last, many), subst (λ (l : List Event). IsPictured (world old.shape (run old.shape l)) a) (sym whole) pictured);
+            (omega (arith, s.last, many), subst (λ (l : List Event). IsPictured (world_after old.opening l) a) (sym whole) pictured);
       }

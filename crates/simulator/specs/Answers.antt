@@ -2,12 +2,12 @@
 use Rattle.std.specs.Prelude.{◌≡◌, ◌+◌, Bool, true, false, List, [], ◌∷◌, take, Option, Some, None}
 use Rattle.lock_table.specs.Apply.{Plain, table_after}
 use Rattle.lock_table.specs.Picture.{Shown}
-use Rattle.slot_log.specs.Shape.{Shape}
 use Rattle.host.specs.declared.answer.HostAnswer.{HostAnswer}
 use Rattle.host.specs.declared.answer.HostAnswer.TheVariants.{Ack, Recovered, Looked, Beaten, Marked, Refused}
 use Rattle.host.specs.Host.{learned_of}
-use Rattle.world.specs.World.{World, world}
-use Rattle.world.specs.Happens.{Event, Recover, Look, Step, FailCall, Line, run}
+use Rattle.world.specs.World.{World}
+use Rattle.world.specs.Happens.{Event, Recover, Look, Step, FailCall, Line}
+use Rattle.world.specs.Opening.{Opening, world_after}
 use Rattle.world.specs.Told.{ShowsTable}
 use Rattle.simulator.specs.declared.answer.Answer.{Answer}
 
@@ -47,5 +47,5 @@ abbrev pub IsPictured : World → Answer → Type 0
 IsPictured w a = IsPicturedBy a.said a.picture (table_after (learned_of (w.host a.host)))
 
 -- the world is that which the answer's event left
-abbrev pub IsPicturedIn : Shape → List Event → Answer → Type 0
-IsPicturedIn c events a = IsPictured (world c (run c (take (a.place + 1) events))) a
+abbrev pub IsPicturedIn : Opening → List Event → Answer → Type 0
+IsPicturedIn o events a = IsPictured (world_after o (take (a.place + 1) events)) a

@@ -2,6 +2,8 @@
 use Rattle.std.specs.Prelude.{ℕ, List, [], ◌∷◌, map, Option, Some, None}
 use Rattle.lock_script.specs.declared.event.Event as code
 use Rattle.lock_script.specs.declared.event.Event.TheVariants as of_code
+use Rattle.lock_script.specs.declared.script.Script.{Script}
+use Rattle.world.specs.Opening.{Opening}
 use Rattle.world.specs.Happens.{Event, Start, Stop, Submit, Recover, Look, Beat, Mark, Step, Tear, FailCall, DiskCrash, DiskGone, Line}
 use Rattle.simulator.specs.declared.parts.Said.{Said}
 
@@ -21,6 +23,10 @@ event_of (of_code.DiskGone disk) = DiskGone disk
 
 abbrev pub events_of : List code.Event → List Event
 events_of events = map event_of events
+
+-- how the cluster of a script begins
+abbrev pub opening_of : Script → Opening
+opening_of script = record { shape = script.config; moved = script.log.items }
 
 -- what was said, with the number of its event
 abbrev pub lines_of : ℕ → Option Said → List Line

@@ -34,7 +34,7 @@ pub record HasLearned (start now : Past) (commands : List Command) : Type 0 wher
   pub among : Contains (answers_of now) line
   pub since : length start.events ≤ line.place
   pub says : line.said ≡ Recovered (length commands)
-  pub are : commands ≡ prefix_before now.shape now.events (line.place + 1) line.host
+  pub are : commands ≡ prefix_before now.opening now.events (line.place + 1) line.host
 
 -- So it is of what is kept, if anything is.
 pub record HasKept (start now : Past) (learned : Option (List Command)) : Type 0 where
@@ -43,7 +43,7 @@ pub record HasKept (start now : Past) (learned : Option (List Command)) : Type 0
 
 -- an answer to one of the events, with its picture
 abbrev pub IsListed : Past → Answer → Type 0
-IsListed p a = (a.place < length p.events) × IsPicturedIn p.shape p.events a
+IsListed p a = (a.place < length p.events) × IsPicturedIn p.opening p.events a
 
 -- the report lists all that was answered
 pub record Lists (p : Past) (report : List Answer) : Type 0 where

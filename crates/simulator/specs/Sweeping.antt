@@ -9,7 +9,8 @@ use Rattle.host.specs.declared.answer.HostAnswer.{HostAnswer}
 use Rattle.host.specs.declared.answer.HostAnswer.TheVariants.{Recovered}
 use Rattle.host.specs.Host.{next_of}
 use Rattle.world.specs.World.{World, world}
-use Rattle.world.specs.Happens.{Event, Start, Stop, Recover, Step, Tear, DiskCrash, Line, run, answers_from}
+use Rattle.world.specs.Happens.{Event, Start, Stop, Recover, Step, Tear, DiskCrash, Line, answers_from}
+use Rattle.world.specs.Opening.{Opening, run_of, world_after}
 use Rattle.world.specs.Entry.{Filled}
 use Rattle.simulator.specs.Calls.{is_write}
 use Rattle.simulator.specs.Kept.{Kept, LeadsTo}
@@ -48,8 +49,8 @@ abbrev pub changes_before : Shape → World → Option Event → List Event
 changes_before c w None = []
 changes_before c w (Some event) = changes c w event
 
-abbrev pub changes_at : Shape → List Event → ℕ → List Event
-changes_at c events i = changes_before c (world c (run c (take i events))) (slice_get events i)
+abbrev pub changes_at : Opening → List Event → ℕ → List Event
+changes_at o events i = changes_before o.shape (world_after o (take i events)) (slice_get events i)
 
 -- WHAT FOLLOWS
 
@@ -72,16 +73,16 @@ abbrev pub changed : List Event → ℕ → Event → List Event
 changed events i change = take i events ++ change ∷ drop i events
 
 -- those of event i, without their endings
-abbrev pub variants_at : Shape → List Event → ℕ → List (List Event)
-variants_at c events i = map (changed events i) (changes_at c events i)
+abbrev pub variants_at : Opening → List Event → ℕ → List (List Event)
+variants_at o events i = map (changed events i) (changes_at o events i)
 
 -- those of the first n events, and of all
-abbrev pub variants_below : Shape → List Event → ℕ → List (List Event)
-variants_below c events zero = []
-variants_below c events (suc n) = variants_below c events n ++ variants_at c events n
+abbrev pub variants_below : Opening → List Event → ℕ → List (List Event)
+variants_below o events zero = []
+variants_below o events (suc n) = variants_below o events n ++ variants_at o events n
 
-abbrev pub variants : Shape → List Event → List (List Event)
-variants c events = variants_below c events (length events)
+abbrev pub variants : Opening → List Event → List (List Event)
+variants o events = variants_below o events (length events)
 
 -- HOW THEY END
 
@@ -93,14 +94,14 @@ abbrev pub is_recovery : Line → Bool
 is_recovery x = tells_recovery x.said
 
 -- behind these events a recovery of the host answers
-abbrev pub recovers : Shape → List Event → ℕ → Bool
-recovers c events h = list_any is_recovery (answers_from c (run c events) (length events) (recovery c h))
+abbrev pub recovers : Opening → List Event → ℕ → Bool
+recovers o events h = list_any is_recovery (answers_from o.shape (run_of o events) (length events) (recovery o.shape h))
 
 abbrev pub one_if : Bool → ℕ
 one_if answers = if answers then 1 else 0
 
 -- how many of the two recoveries behind these events answer
-abbrev pub recovered_behind : Shape → List Event → ℕ
-recovered_behind c events =
+abbrev pub recovered_behind : Opening → List Event → ℕ
+recovered_behind o events =
     let stopped = events ++ stops in
-    one_if (recovers c stopped 0) + one_if (recovers c (stopped ++ recovery c 0) (HOSTS - 1))
+    one_if (recovers o stopped 0) + one_if (recovers o (stopped ++ recovery o.shape 0) (HOSTS - 1))

@@ -5,6 +5,7 @@ mod answer;
 mod device_call;
 mod interrupting;
 mod judging;
+mod migrated;
 mod parts;
 mod replay;
 mod report;
@@ -19,7 +20,7 @@ pub use lock_script::{
     Event, Given, MOST_EVENTS, Run, Script, ScriptFault, Show, View, read_script,
 };
 pub use parts::{Parts, Said};
-pub use report::{Report, run};
+pub use report::{Report, run, run_migrated};
 pub use sim::Sim;
 pub use sweeping::sweep;
 pub use tally::Sweep;

@@ -1,15 +1,17 @@
-ghost use Rattle.std.specs.Prelude.{◌≡◌, ℕ, List, [], Some, None, slice_index_or, length, replicate, ◌<◌, ◌&&◌, is_none, IfOk, OnErr};
+ghost use Rattle.std.specs.Prelude.{◌≡◌, ℕ, List, [], Some, None, slice_index_or, length, replicate, ◌<◌, ◌≤◌, ◌&&◌, is_none, IfOk, OnErr};
 ghost use Rattle.disk.specs.Simulated.{fresh_disk};
 ghost use Rattle.paxos_block.specs.Places.{image_length};
 ghost use Rattle.std.specs.Option.{option_map};
 ghost use Rattle.slot_log.specs.Shape.{Shape};
 ghost use Rattle.world.specs.Entry.{Filled};
+ghost use Rattle.world.specs.Opening.{CanBegin, begun};
 ghost use Rattle.world.specs.Happens.{Start, Stop, Submit, Recover, Look, Beat, Mark, Step, Tear, FailCall, DiskCrash, DiskGone};
 ghost use Rattle.simulator.specs.Events.{event_of};
 ghost use Rattle.simulator.specs.Sweeping.{TellsNext};
 ghost use Rattle.simulator.specs.Kept.{Kept, LeadsTo, Brings, calm, is_busy, is_free};
 
 use crate::device_call::{crash_disk, is_write, lose_disk, make, refusal_of, spoil};
+use crate::migrated::migrated_disks;
 use disk::{DiskFault, NoMemory, SimDisk};
 use host::{HostAnswer, HostCore};
 use lock_command::{Command, HOSTS, HostNumber};
@@ -53,6 +55,23 @@ impl Parts {
         ensures leads { IfOk result (λ parts. LeadsTo [] parts) }
     {
         let disks = fresh_disks(alloc, config)?;
+        let hosts = stopped_hosts(alloc)?;
+        Ok(Parts {
+            config,
+            disks,
+            hosts,
+            row: [0; ROW_LENGTH],
+        })
+    }
+
+    /// Disks as a complete migration of these commands left them, and hosts that are all stopped.
+    pub fn migrated(alloc: Global, config: Config, log: &[Command]) -> Result<Parts, NoMemory>
+        requires { length log.now ≤ config.slots }
+        ensures shape { IfOk result (λ parts. parts.shape ≡ config) }
+        ensures leads { IfOk result (λ parts. LeadsTo (begun (record { shape = config; moved = log.now })) parts) }
+        ensures can { IfOk result (λ _. CanBegin (record { shape = config; moved = log.now })) }
+    {
+        let disks = migrated_disks(alloc, config, log)?;
         let hosts = stopped_hosts(alloc)?;
         Ok(Parts {
             config,

@@ -1,8 +1,9 @@
-ghost use Rattle.std.specs.Prelude.{◌≡◌, ◌<◌, ◌≤◌, ◌∷◌, [], true, false, replicate, is_some, IfOk, IfSome, OnOk};
+ghost use Rattle.std.specs.Prelude.{◌≡◌, ◌<◌, ◌≤◌, ◌∷◌, [], true, false, length, replicate, is_some, IfOk, IfSome, OnOk};
 ghost use Rattle.torn_block.specs.declared.layout.TheConstants.{HOSTS};
 ghost use Rattle.std.specs.Option.{option_map};
 ghost use Rattle.host.specs.Host.{is_stopped, learned_of};
 ghost use Rattle.world.specs.Happens as happens;
+ghost use Rattle.world.specs.Opening.{CanBegin};
 ghost use Rattle.simulator.specs.Events.{event_of, events_of};
 ghost use Rattle.simulator.specs.Past.{Past, world_of};
 ghost use Rattle.simulator.specs.Replayed.{GoesOn, Says, Heard, HasLearned, HasKept};
@@ -34,6 +35,7 @@ pub struct Replay {
 
 impl Model for Replay {
     ghost use Rattle.std.specs.Prelude.{◌≡◌};
+    ghost use Rattle.world.specs.Opening.{CanBegin};
     ghost use Rattle.simulator.specs.Past.{Past};
     ghost use Rattle.simulator.specs.Replayed.{Lists};
 
@@ -41,17 +43,18 @@ impl Model for Replay {
 
     ghost view = { λ r. r.sim };
 
-    ghost invariant = { λ r. (r.config ≡ r.sim.shape) × Lists r.sim r.answers.items };
+    ghost invariant = { λ r. (r.config ≡ r.sim.opening.shape) × CanBegin r.sim.opening × Lists r.sim r.answers.items };
 }
 
 impl Replay {
-    /// Nothing has happened yet.
-    pub fn new(alloc: Global, config: Config) -> Result<Replay, NoMemory>
-        ensures { IfOk result (λ replay. replay ≡ record { shape = config; events = [] }) }
+    /// The disks begin as a complete migration of these commands left them, and nothing has happened yet.
+    pub fn new(alloc: Global, config: Config, log: &[Command]) -> Result<Replay, NoMemory>
+        requires { length log.now ≤ config.slots }
+        ensures { IfOk result (λ replay. replay ≡ record { opening = record { shape = config; moved = log.now }; events = [] }) }
     {
         Ok(Replay {
             config,
-            sim: Sim::new(alloc, config)?,
+            sim: Sim::migrated(alloc, config, log)?,
             answers: Vec::new(alloc),
         })
     }
@@ -91,7 +94,7 @@ impl Replay {
     /// go by the longer of what they learned, where both answered.
     pub fn end(mut self, alloc: Global) -> Result<(usize, bool), NoMemory>
         ensures few { IfOk result (λ end. end.0 ≤ 2) }
-        ensures recovered { IfOk result (λ end. end.0 ≡ recovered_behind self.shape self.events) }
+        ensures recovered { IfOk result (λ end. end.0 ≡ recovered_behind self.opening self.events) }
         ensures right { IfOk result (λ end. end.1 ≡ true) }
     {
         self.stop_all(alloc)?;
@@ -127,8 +130,8 @@ impl Replay {
     /// A stopped host starts, recovers and stops. Gives what it has learned, if it answers.
     fn recover(&mut self, alloc: Global, number: u8) -> Result<Option<Vec<Command>>, NoMemory>
         requires { number < HOSTS }
-        ensures happened { OnOk result (GoesOn self.old self.new (recovery self.old.shape number)) }
-        ensures learned { IfOk result (λ learned. is_some learned ≡ recovers self.old.shape self.old.events number) }
+        ensures happened { OnOk result (GoesOn self.old self.new (recovery self.old.opening.shape number)) }
+        ensures learned { IfOk result (λ learned. is_some learned ≡ recovers self.old.opening self.old.events number) }
         ensures kept { IfOk result (λ learned. IfSome (option_map (λ commands. commands.items) learned) (HasLearned self.old self.new)) }
     {
         let Some(host) = HostNumber::new(number) else {
@@ -186,7 +189,8 @@ impl Replay {
     /// What a running host has learned.
     fn learned_by(&self, alloc: Global, host: HostNumber) -> Result<Vec<Command>, NoMemory>
         requires { is_stopped ((world_of self.now).host host) ≡ false }
-        ensures { IfOk result (λ learned. learned.items ≡ learned_of ((world_of self.now).host host)) }
+        ensures learned { IfOk result (λ learned. learned.items ≡ learned_of ((world_of self.now).host host)) }
+        ensures can { CanBegin self.now.opening }
     {
         let Some(core) = self.sim.host(host.get()) else {
             unreachable!()

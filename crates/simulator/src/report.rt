@@ -1,6 +1,6 @@
-ghost use Rattle.std.specs.Prelude.{◌≡◌, ◌+◌, IfOk, All, map, take};
-ghost use Rattle.world.specs.World.{world};
+ghost use Rattle.std.specs.Prelude.{◌≡◌, ◌≤◌, IfOk, All, length, map};
 ghost use Rattle.world.specs.Happens.{run, answers};
+ghost use Rattle.world.specs.Opening.{blank, run_of, answers_to};
 ghost use Rattle.world_served.specs.Served.{ServesAlone};
 ghost use Rattle.simulator.specs.Events.{events_of};
 ghost use Rattle.simulator.specs.Answers.{line_of, IsPicturedIn};
@@ -10,6 +10,7 @@ use crate::answer::Answer;
 use crate::parts::Parts;
 use crate::room::Room;
 use disk::NoMemory;
+use lock_command::Command;
 use lock_script::Event;
 use slot_log::Config;
 use std::alloc::Global;
@@ -50,14 +51,30 @@ impl Report {
 /// Lets events happen to a new cluster, one after the other, and lists what its hosts answer.
 pub fn run(alloc: Global, config: Config, events: &[Event]) -> Result<Report, NoMemory>
     ensures answers { IfOk result (λ report. map line_of report ≡ answers config (events_of events.now)) }
-    ensures pictures { IfOk result (λ report. All (IsPicturedIn config (events_of events.now)) report) }
-    ensures one_log { IfOk result (λ report. TellsOneLog config (events_of events.now) report) }
+    ensures pictures { IfOk result (λ report. All (IsPicturedIn (blank config) (events_of events.now)) report) }
+    ensures one_log { IfOk result (λ report. TellsOneLog (blank config) (events_of events.now) report) }
     // Of these events, whatever is listed: a submission whose host is left alone is served, within seventeen calls a disk and slot.
     ensures alone { IfOk result (λ _. ServesAlone config (run config (events_of events.now))) }
 {
+    run_migrated(alloc, config, &[], events)
+}
+
+/// The same, where the disks begin as a complete migration of these commands left them.
+pub fn run_migrated(
+    alloc: Global,
+    config: Config,
+    log: &[Command],
+    events: &[Event],
+) -> Result<Report, NoMemory>
+    requires { length log.now ≤ config.slots }
+    ensures answers { IfOk result (λ report. map line_of report ≡ answers_to (record { shape = config; moved = log.now }) (events_of events.now)) }
+    ensures pictures { IfOk result (λ report. All (IsPicturedIn (record { shape = config; moved = log.now }) (events_of events.now)) report) }
+    ensures one_log { IfOk result (λ report. TellsOneLog (record { shape = config; moved = log.now }) (events_of events.now) report) }
+    ensures alone { IfOk result (λ _. ServesAlone config (run_of (record { shape = config; moved = log.now }) (events_of events.now))) }
+{
     let _disks = config.disks();
     alone_submissions_are_served();
-    let mut parts = Parts::new(alloc, config)?;
+    let mut parts = Parts::migrated(alloc, config, log)?;
     let mut room = Room::new();
     let mut answers = Vec::new(alloc);
     for (place, event) in events.iter().enumerate() {

@@ -1,5 +1,6 @@
-ghost use Rattle.std.specs.Prelude.{◌≡◌, ◌++◌, ◌∷◌, [], IfOk, IfSome, OnErr, OnOk};
+ghost use Rattle.std.specs.Prelude.{◌≡◌, ◌≤◌, ◌++◌, ◌∷◌, [], length, IfOk, IfSome, OnErr, OnOk};
 ghost use Rattle.std.specs.Option.{option_map};
+ghost use Rattle.world.specs.Opening.{blank, CanBegin};
 ghost use Rattle.simulator.specs.Events.{event_of};
 ghost use Rattle.simulator.specs.Kept.{IsHost};
 ghost use Rattle.simulator.specs.Answers.{lines_in, IsPictured};
@@ -11,47 +12,69 @@ use crate::parts::Parts;
 use crate::room::Room;
 use disk::NoMemory;
 use host::HostCore;
+use lock_command::Command;
 use lock_script::Event;
 use slot_log::Config;
 use std::alloc::Global;
 use std::marker::Model;
 
-/// A simulated cluster, to which one event after the other happens. It keeps them.
+/// A simulated cluster, to which one event after the other happens. It keeps them, and the log that it began with.
 #[derive(Drop)]
 pub struct Sim {
     parts: Parts,
+    log: Vec<Command>,
     events: Vec<Event>,
     room: Room,
 }
 
 impl Model for Sim {
-    ghost use Rattle.world.specs.Happens.{run};
+    ghost use Rattle.world.specs.Opening.{run_of};
     ghost use Rattle.simulator.specs.Events.{events_of};
     ghost use Rattle.simulator.specs.Kept.{LeadsTo};
     ghost use Rattle.simulator.specs.Past.{Past};
 
     ghost Value = { Past };
 
-    ghost view = { λ s. record { shape = s.parts.shape; events = events_of s.events.items } };
+    ghost view = { λ s. record { opening = record { shape = s.parts.shape; moved = s.log.items }; events = events_of s.events.items } };
 
-    ghost invariant = { λ s. LeadsTo (run s.parts.shape (events_of s.events.items)) s.parts };
+    ghost invariant = { λ s. LeadsTo (run_of (record { shape = s.parts.shape; moved = s.log.items }) (events_of s.events.items)) s.parts };
 }
 
 impl Sim {
     /// Disks of zeros and stopped hosts, to which nothing has happened.
     pub fn new(alloc: Global, config: Config) -> Result<Sim, NoMemory>
-        ensures { IfOk result (λ sim. sim ≡ record { shape = config; events = [] }) }
+        ensures { IfOk result (λ sim. sim ≡ record { opening = blank config; events = [] }) }
     {
         Ok(Sim {
             parts: Parts::new(alloc, config)?,
+            log: Vec::new(alloc),
             events: Vec::new(alloc),
             room: Room::new(),
         })
     }
 
+    /// Disks as a complete migration of these commands left them, and stopped hosts.
+    pub fn migrated(alloc: Global, config: Config, log: &[Command]) -> Result<Sim, NoMemory>
+        requires { length log.now ≤ config.slots }
+        ensures sim { IfOk result (λ sim. sim ≡ record { opening = record { shape = config; moved = log.now }; events = [] }) }
+        ensures can { IfOk result (λ _. CanBegin (record { shape = config; moved = log.now })) }
+    {
+        let parts = Parts::migrated(alloc, config, log)?;
+        let mut kept = Vec::new(alloc);
+        match kept.extend_from_slice(log) {
+            Ok(()) => Ok(Sim {
+                parts,
+                log: kept,
+                events: Vec::new(alloc),
+                room: Room::new(),
+            }),
+            Err(_) => Err(NoMemory),
+        }
+    }
+
     /// A running host.
     pub fn host(&self, host: u8) -> Option<&HostCore>
-        ensures host { IsHost self.now.shape host ((world_of self.now).host host) (option_map (λ core. core.now) result) }
+        ensures host { IsHost self.now.opening.shape host ((world_of self.now).host host) (option_map (λ core. core.now) result) }
         ensures begins { IfSome result (λ core. BeginsTheLog self.now core.now.prefix) }
     {
         self.parts.host(host)

@@ -1,5 +1,5 @@
 ghost use Rattle.std.specs.Prelude.{◌≡◌, ◌+◌, ◌*◌, ◌≤◌, true, None, length, sum_by, IfOk, OnOk};
-ghost use Rattle.simulator.specs.Events.{event_of, events_of};
+ghost use Rattle.simulator.specs.Events.{event_of, events_of, opening_of};
 ghost use Rattle.simulator.specs.Sweeping.{changed, recovered_behind, variants};
 
 use crate::interrupting::changes;
@@ -7,6 +7,7 @@ use crate::parts::Parts;
 use crate::replay::Replay;
 use crate::tally::Sweep;
 use disk::NoMemory;
+use lock_command::Command;
 use lock_script::{Event, Script};
 use slot_log::Config;
 use std::alloc::Global;
@@ -14,21 +15,30 @@ use std::alloc::Global;
 /// Runs each variant of a script: its events with one put before a step that applies, and then a recovery of the first host
 /// and one of the last.
 pub fn sweep(alloc: Global, script: &Script) -> Result<Sweep, NoMemory>
-    ensures runs { IfOk result (λ swept. swept.runs ≡ length (variants script.now.config (events_of script.now.events))) }
+    requires { length script.now.log.items ≤ script.now.config.slots }
+    ensures runs { IfOk result (λ swept. swept.runs ≡ length (variants (opening_of script.now) (events_of script.now.events))) }
     ensures recovered { IfOk result (λ swept. swept.recovered ≡
-        sum_by (recovered_behind script.now.config) (variants script.now.config (events_of script.now.events))) }
+        sum_by (recovered_behind (opening_of script.now)) (variants (opening_of script.now) (events_of script.now.events))) }
     ensures wrong { IfOk result (λ swept. swept.wrong ≡ 0) }
     ensures first { IfOk result (λ swept. swept.first ≡ None) }
 {
     // Called for its contract only: a script has at most a million events.
     let _few = script.events.len();
     let events = script.events.to_vec(alloc)?;
-    let mut parts = Parts::new(alloc, script.config)?;
+    let mut parts = Parts::migrated(alloc, script.config, &script.log)?;
     let mut sweep = Sweep::none();
     for place in 0..events.len() {
         let event = &events[place];
         let changes = changes(alloc, &mut parts, event)?;
-        sweep_place(alloc, script.config, &events, place, &changes, &mut sweep)?;
+        sweep_place(
+            alloc,
+            script.config,
+            &script.log,
+            &events,
+            place,
+            &changes,
+            &mut sweep,
+        )?;
         parts.event(alloc, event)?;
     }
     Ok(sweep)
@@ -38,22 +48,24 @@ pub fn sweep(alloc: Global, script: &Script) -> Result<Sweep, NoMemory>
 fn sweep_place(
     alloc: Global,
     config: Config,
+    log: &[Command],
     events: &[Event],
     place: usize,
     changes: &[Event],
     sweep: &mut Sweep,
 ) -> Result<(), NoMemory>
+    requires log { length log.now ≤ config.slots }
     requires place { place ≤ length events.now }
     requires few { (length changes.now ≤ 6) × (sweep.old.runs ≤ 6000000) }
     requires counted { (sweep.old.recovered ≤ 2 * sweep.old.runs) × (sweep.old.wrong ≤ sweep.old.runs) }
     ensures runs { OnOk result (sweep.new.runs ≡ sweep.old.runs + length changes.now) }
     ensures recovered { OnOk result (sweep.new.recovered ≡ sweep.old.recovered
-        + sum_by (λ change. recovered_behind config (changed (events_of events.now) place (event_of change))) changes.now) }
+        + sum_by (λ change. recovered_behind (record { shape = config; moved = log.now }) (changed (events_of events.now) place (event_of change))) changes.now) }
     ensures counted { (sweep.new.recovered ≤ 2 * sweep.new.runs) × (sweep.new.wrong ≤ sweep.new.runs) }
     ensures right { OnOk result ((sweep.new.wrong ≡ sweep.old.wrong) × (sweep.new.first ≡ sweep.old.first)) }
 {
     for change in changes {
-        let (recovered, right) = run_variant(alloc, config, events, place, change)?;
+        let (recovered, right) = run_variant(alloc, config, log, events, place, change)?;
         sweep.count(recovered, right);
     }
     Ok(())
@@ -64,16 +76,18 @@ fn sweep_place(
 fn run_variant(
     alloc: Global,
     config: Config,
+    log: &[Command],
     events: &[Event],
     place: usize,
     change: &Event,
 ) -> Result<(usize, bool), NoMemory>
-    requires { place ≤ length events.now }
+    requires log { length log.now ≤ config.slots }
+    requires place { place ≤ length events.now }
     ensures few { IfOk result (λ end. end.0 ≤ 2) }
     ensures right { IfOk result (λ end. end.1 ≡ true) }
-    ensures recovered { IfOk result (λ end. end.0 ≡ recovered_behind config (changed (events_of events.now) place (event_of change.now))) }
+    ensures recovered { IfOk result (λ end. end.0 ≡ recovered_behind (record { shape = config; moved = log.now }) (changed (events_of events.now) place (event_of change.now))) }
 {
-    let mut replay = Replay::new(alloc, config)?;
+    let mut replay = Replay::new(alloc, config, log)?;
     replay.follow(alloc, &events[..place])?;
     replay.happen(alloc, change)?;
     replay.follow(alloc, &events[place..])?;

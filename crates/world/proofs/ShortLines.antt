@@ -16,6 +16,7 @@ use Rattle.lock_table.specs.Locks.{is_lock}
 use Rattle.host.specs.declared.answer.HostAnswer.TheVariants.{Ack, Recovered}
 use Rattle.host.specs.Host.{Submitting, idles, reply_after}
 use Rattle.world.specs.Happens.{Submit, Step, Line}
+use Rattle.world.specs.Opening.{blank}
 use Rattle.world.specs.Told.{host_before, IsSubmittedBefore, IsAcknowledged, goes_by, BeganSince, MissesNothing}
 use Rattle.world.specs.Examples.{one_disk, takes_db, submitting, told_at}
 use Rattle.world.proofs.ShortRuns.{operation_of, operation_in, busy_with, operation_told}
@@ -45,7 +46,7 @@ only_submitted i value is = is.spelled ∙ ap spelling (sym (which is.place is.h
 
 -- WHAT IS ACKNOWLEDGED
 
-busy_then : operation_of (host_before one_disk submitting 18 0) ≡ Some (Submitting takes_db)
+busy_then : operation_of (host_before (blank one_disk) submitting 18 0) ≡ Some (Submitting takes_db)
 unfolding operation_in fresh_disk sequence_of body_of number_bytes tail_with copy_in decoded_row zeros heading body_saying number_at claim_of is_said number lock_at request_at mode_of name_at enqueue_at action_at command_at applied
 busy_then = refl
 
@@ -53,9 +54,9 @@ reply_then : reply_after [] takes_db ≡ granted
 unfolding fresh_disk sequence_of body_of number_bytes tail_with copy_in decoded_row zeros heading body_saying number_at claim_of is_said number lock_at request_at mode_of name_at enqueue_at action_at command_at applied
 reply_then = refl
 
-pub acknowledged : goes_by one_disk submitting (takes_db ∷ []) (told_at 18 (Ack 0 granted)) None (Ack 0 granted)
+pub acknowledged : goes_by (blank one_disk) submitting (takes_db ∷ []) (told_at 18 (Ack 0 granted)) None (Ack 0 granted)
 acknowledged =
-    let busy = busy_with (host_before one_disk submitting 18 0) (Submitting takes_db) busy_then in
+    let busy = busy_with (host_before (blank one_disk) submitting 18 0) (Submitting takes_db) busy_then in
     record {
       command = takes_db;
       submitting = record { memory = busy.memory; doing = busy.doing; running = busy.running; does = busy.does; is = busy.is };
@@ -67,34 +68,34 @@ one_there : (slot : ℕ) (command : Command) → slice_get (takes_db ∷ []) slo
 one_there zero command at = (refl, cc)
 one_there (suc slot) command at = absurd (cc)
 
-pub only_acknowledged : (place slot : ℕ) (reply : Reply) → IsAcknowledged one_disk submitting (takes_db ∷ []) (told_at place (Ack slot reply)) slot reply → (slot ≡ 0) × (reply ≡ granted)
+pub only_acknowledged : (place slot : ℕ) (reply : Reply) → IsAcknowledged (blank one_disk) submitting (takes_db ∷ []) (told_at place (Ack slot reply)) slot reply → (slot ≡ 0) × (reply ≡ granted)
 only_acknowledged place slot reply is =
     let there = one_there slot is.command is.in_log in
     (there.0, is.replied ∙ ap (λ (n : ℕ). reply_after (take n (takes_db ∷ [])) is.command) there.0 ∙ ap (reply_after []) (sym there.1) ∙ reply_then)
 
-idle_then : operation_of (host_before one_disk submitting 19 0) ≡ None
+idle_then : operation_of (host_before (blank one_disk) submitting 19 0) ≡ None
 unfolding operation_in fresh_disk sequence_of body_of number_bytes tail_with copy_in decoded_row zeros heading body_saying number_at claim_of is_said number lock_at request_at mode_of name_at enqueue_at action_at command_at applied
 idle_then = refl
 
-pub not_idle : (slot : ℕ) (reply : Reply) → IsAcknowledged one_disk submitting (takes_db ∷ []) (told_at 19 (Ack slot reply)) slot reply → ⊥
+pub not_idle : (slot : ℕ) (reply : Reply) → IsAcknowledged (blank one_disk) submitting (takes_db ∷ []) (told_at 19 (Ack slot reply)) slot reply → ⊥
 not_idle slot reply is =
     let carries = is.submitting in
-    let told = operation_told (host_before one_disk submitting 19 0) carries.memory carries.doing (Submitting is.command) carries.running carries.does carries.is in
+    let told = operation_told (host_before (blank one_disk) submitting 19 0) carries.memory carries.doing (Submitting is.command) carries.running carries.does carries.is in
     let neither : None ≡ Some (Submitting is.command) = sym idle_then ∙ told in
     cc
 
 -- WHAT IS RECOVERED
 
-pub of_none : (place : ℕ) (picture : Shown) → goes_by one_disk submitting (takes_db ∷ []) (told_at place (Recovered 0)) (Some picture) (Recovered 0) → filter (is_lock 1) picture.locks ≡ []
+pub of_none : (place : ℕ) (picture : Shown) → goes_by (blank one_disk) submitting (takes_db ∷ []) (told_at place (Recovered 0)) (Some picture) (Recovered 0) → filter (is_lock 1) picture.locks ≡ []
 of_none place picture is = is.table.locks.numbers 1
 
 -- WHAT IS MISSED
 
-idles_then : idles (host_before one_disk submitting 19 0) ≡ true
+idles_then : idles (host_before (blank one_disk) submitting 19 0) ≡ true
 unfolding fresh_disk sequence_of body_of number_bytes tail_with copy_in decoded_row zeros heading body_saying number_at claim_of is_said number lock_at request_at mode_of name_at enqueue_at action_at command_at applied
 idles_then = refl
 
-works_then : idles (host_before one_disk submitting 4 0) ≡ false
+works_then : idles (host_before (blank one_disk) submitting 4 0) ≡ false
 unfolding fresh_disk sequence_of body_of number_bytes tail_with copy_in decoded_row zeros heading body_saying number_at claim_of is_said number lock_at request_at mode_of name_at enqueue_at action_at command_at applied
 works_then = refl
 
@@ -122,30 +123,30 @@ module _ (slot p q n : ℕ) where
   ]
 
   -- so nothing is missed where nothing is by that recovery
-  missed_by : ((i : ℕ) → p < i → BeganSince one_disk submitting i (told_at q (Recovered n)) → slot < n) → MissesNothing one_disk submitting lines
+  missed_by : ((i : ℕ) → p < i → BeganSince (blank one_disk) submitting i (told_at q (Recovered n)) → slot < n) → MissesNothing (blank one_disk) submitting lines
   missed_by holds x y i m s reply in_x x_says since in_y y_says before =
       let r = recovery_is x m in_x x_says in
       let a = ack_is y s reply in_y y_says in
       let there : y.place ≡ p = ap (λ (l : Line). l.place) a.0 in
       let early : p < i = omega arith in
-      let below : slot < n = holds i early (subst (BeganSince one_disk submitting i) r.0 since) in
+      let below : slot < n = holds i early (subst (BeganSince (blank one_disk) submitting i) r.0 since) in
       omega (arith, r.1, a.1, below)
 
-pub misses : MissesNothing one_disk submitting (told_at 18 (Ack 0 granted) ∷ told_at 19 (Recovered 0) ∷ []) → ⊥
+pub misses : MissesNothing (blank one_disk) submitting (told_at 18 (Ack 0 granted) ∷ told_at 19 (Recovered 0) ∷ []) → ⊥
 misses all =
     let below : 0 < 0 = all (told_at 19 (Recovered 0)) (told_at 18 (Ack 0 granted)) 19 0 0 granted (1, omega arith, refl) refl (record { order = omega arith; idle = idles_then }) (0, omega arith, refl) refl (omega arith) in
     omega arith
 
-pub holds : MissesNothing one_disk submitting (told_at 18 (Ack 0 granted) ∷ told_at 19 (Recovered 1) ∷ [])
+pub holds : MissesNothing (blank one_disk) submitting (told_at 18 (Ack 0 granted) ∷ told_at 19 (Recovered 1) ∷ [])
 holds = missed_by 0 18 19 1 (λ i before since. omega arith)
 
-pub at_once : MissesNothing one_disk submitting (told_at 18 (Ack 0 granted) ∷ told_at 18 (Recovered 0) ∷ [])
+pub at_once : MissesNothing (blank one_disk) submitting (told_at 18 (Ack 0 granted) ∷ told_at 18 (Recovered 0) ∷ [])
 at_once = missed_by 0 18 18 0 (λ i before since. let order = since.order in absurd (omega arith))
 
-pub busy : MissesNothing one_disk submitting (told_at 3 (Ack 0 granted) ∷ told_at 4 (Recovered 0) ∷ [])
+pub busy : MissesNothing (blank one_disk) submitting (told_at 3 (Ack 0 granted) ∷ told_at 4 (Recovered 0) ∷ [])
 busy = missed_by 0 3 4 0 (λ i before since.
     let order = since.order in
     let here : i ≡ 4 = omega arith in
-    let idle : idles (host_before one_disk submitting 4 0) ≡ true = subst (λ (k : ℕ). idles (host_before one_disk submitting k 0) ≡ true) here since.idle in
+    let idle : idles (host_before (blank one_disk) submitting 4 0) ≡ true = subst (λ (k : ℕ). idles (host_before (blank one_disk) submitting k 0) ≡ true) here since.idle in
     let both : true ≡ false = sym idle ∙ works_then in
     absurd (cc))

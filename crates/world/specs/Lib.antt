@@ -7,5 +7,6 @@ pub mod Headline
 pub mod Lines
 pub mod Looks
 pub mod Account
+pub mod Opening
 pub mod Told
 pub mod Examples

@@ -9,6 +9,7 @@ ghost use Rattle.lock_table.specs.Locks.{is_lock};
 ghost use Rattle.host.specs.declared.answer.HostAnswer.TheVariants.{Ack, Recovered, Looked};
 ghost use Rattle.world.specs.Chosen.{IsSubmittedBefore, IsAcknowledgedAt, IsRecovery};
 ghost use Rattle.world.specs.Headline.{IsAcknowledgedBefore};
+ghost use Rattle.world.specs.Opening.{blank};
 ghost use Rattle.world.specs.Told.{IsSubmittedBefore as IsSubmittedByEvents, IsAcknowledged, goes_by, MissesNothing};
 ghost use Rattle.world.specs.Examples.{one_disk, takes_db, submitting, submission, recovery, told_at};
 
@@ -43,20 +44,20 @@ pub fn first_answer_goes_by_its_log()
     ensures not_before { (value : List ℕ) → ¬ IsSubmittedByEvents submitting 1 value }
     ensures only_that { (i : ℕ) (value : List ℕ) →
         IsSubmittedByEvents submitting i value → value ≡ spelling takes_db }
-    ensures acknowledged { goes_by one_disk submitting (takes_db ∷ [])
+    ensures acknowledged { goes_by (blank one_disk) submitting (takes_db ∷ [])
         (told_at 18 (Ack 0 granted)) None (Ack 0 granted) }
     ensures only_then { (place slot : ℕ) (reply : Reply) →
-        IsAcknowledged one_disk submitting (takes_db ∷ []) (told_at place (Ack slot reply)) slot reply →
+        IsAcknowledged (blank one_disk) submitting (takes_db ∷ []) (told_at place (Ack slot reply)) slot reply →
         (slot ≡ 0) × (reply ≡ granted) }
     ensures not_idle { (slot : ℕ) (reply : Reply) →
-        ¬ IsAcknowledged one_disk submitting (takes_db ∷ []) (told_at 19 (Ack slot reply)) slot reply }
-    ensures most { (place n : ℕ) (picture : Shown) → goes_by one_disk submitting (takes_db ∷ [])
+        ¬ IsAcknowledged (blank one_disk) submitting (takes_db ∷ []) (told_at 19 (Ack slot reply)) slot reply }
+    ensures most { (place n : ℕ) (picture : Shown) → goes_by (blank one_disk) submitting (takes_db ∷ [])
         (told_at place (Recovered n)) (Some picture) (Recovered n) → n ≤ 1 }
-    ensures looked { (place n : ℕ) (picture : Shown) → goes_by one_disk submitting (takes_db ∷ [])
+    ensures looked { (place n : ℕ) (picture : Shown) → goes_by (blank one_disk) submitting (takes_db ∷ [])
         (told_at place (Looked n)) (Some picture) (Looked n) → n ≤ 1 }
     ensures pictured { (place n : ℕ) →
-        ¬ goes_by one_disk submitting (takes_db ∷ []) (told_at place (Recovered n)) None (Recovered n) }
-    ensures of_none { (place : ℕ) (picture : Shown) → goes_by one_disk submitting (takes_db ∷ [])
+        ¬ goes_by (blank one_disk) submitting (takes_db ∷ []) (told_at place (Recovered n)) None (Recovered n) }
+    ensures of_none { (place : ℕ) (picture : Shown) → goes_by (blank one_disk) submitting (takes_db ∷ [])
         (told_at place (Recovered 0)) (Some picture) (Recovered 0) → filter (is_lock 1) picture.locks ≡ [] }
 {}
 
@@ -64,12 +65,12 @@ pub fn first_answer_goes_by_its_log()
 /// recovery of one command has not. Nor has one that answers with the same event, or whose host was busy since
 /// before the acknowledgement.
 pub fn recovery_that_misses_is_told()
-    ensures misses { ¬ MissesNothing one_disk submitting
+    ensures misses { ¬ MissesNothing (blank one_disk) submitting
         (told_at 18 (Ack 0 granted) ∷ told_at 19 (Recovered 0) ∷ []) }
-    ensures holds { MissesNothing one_disk submitting
+    ensures holds { MissesNothing (blank one_disk) submitting
         (told_at 18 (Ack 0 granted) ∷ told_at 19 (Recovered 1) ∷ []) }
-    ensures at_once { MissesNothing one_disk submitting
+    ensures at_once { MissesNothing (blank one_disk) submitting
         (told_at 18 (Ack 0 granted) ∷ told_at 18 (Recovered 0) ∷ []) }
-    ensures busy { MissesNothing one_disk submitting
+    ensures busy { MissesNothing (blank one_disk) submitting
         (told_at 3 (Ack 0 granted) ∷ told_at 4 (Recovered 0) ∷ []) }
 {}

@@ -12,7 +12,7 @@ returns-clause-recovered c =
     let put = c.happen.new.self in
     let rest : take (length events - c.args.place) (drop c.args.place events) ≡ drop c.args.place events =
     take_all (length events - c.args.place) (drop c.args.place events) (omega (arith, length-drop c.args.place events)) in
-    let same = variant_goes c.args.config events c.args.place c.args.change.now c.in_ok-replay.replay c.follow.new.self put c.follow-2.new.self
+    let same = variant_goes (record { shape = c.args.config; moved = c.args.log.now }) events c.args.place c.args.change.now c.in_ok-replay.replay c.follow.new.self put c.follow-2.new.self
     c.in_ok-replay.ensures c.in_ok-follow.ensures c.in_ok-happen.ensures.happened
     (c.in_ok-follow-2.ensures ∙ ap (λ (l : List code.Event). record put { events = put.events ++ events_of l }) rest) in
     subst (λ (n : ℕ). IfOk c.end.result (λ end. end.0 ≡ n)) same c.end.ensures.recovered

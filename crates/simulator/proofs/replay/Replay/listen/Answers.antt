@@ -10,8 +10,8 @@ returns-in_ok-learned_by-clause-kept c =
     let old = c.args.self.now in
     let new = c.happen.new.self in
     λ start kept.
-    kept_now start old new (event_of c.args.event.now) c.in-Some.said c.in-Recovered.length c.in_ok-learned_by.field-0.items _
-    c.in_ok-said.ensures.happened (subst (Says old new) c.in-Some.is c.in_ok-said.ensures.said) c.in-Recovered.is c.in_ok-learned_by.ensures kept
+    kept_now start old new c.learned_by.ensures.can (event_of c.args.event.now) c.in-Some.said c.in-Recovered.length c.in_ok-learned_by.field-0.items _
+    c.in_ok-said.ensures.happened (subst (Says old new) c.in-Some.is c.in_ok-said.ensures.said) c.in-Recovered.is c.in_ok-learned_by.ensures.learned kept
 
 pub returns-in_default-answer : goal.returns-in_default-answer
 returns-in_default-answer c =

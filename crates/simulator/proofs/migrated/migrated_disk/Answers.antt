@@ -1,0 +1,77 @@
+use Rattle.std.proofs.Common.{ℕ, ◌≡◌, List, [], length, take, get_or, sym, ap, ◌∙◌, subst, arith}
+use Rattle.std.proofs.lemmas.List.{length-take-le, take_all, take_more}
+use Rattle.disk.specs.Disk.{written, synced}
+use Rattle.disk.specs.Simulated.{SimState, fresh_disk}
+use Rattle.torn_block.specs.declared.layout.TheConstants.{ROW_LENGTH}
+use Rattle.paxos_block.specs.Places.{image_length, row_place}
+use Rattle.migration.specs.Image.{rows_for}
+use Rattle.simulator.specs.Kept.{calm}
+use Rattle.simulator.proofs.Moved.{HasRows, no_rows, one_row_more, takes_row}
+use Rattle.simulator.proofs.migrated.migrated_disk.Goals as goal
+
+pub loop-slot-init : goal.loop-slot-init
+loop-slot-init c =
+    let slots = c.args.config.slots in
+    subst (HasRows slots []) (sym (c.in_ok-disk.ensures.fresh ∙ ap (λ (n : ℕ). calm (fresh_disk n)) c.image_length.ensures)) (no_rows slots)
+
+pub write-requires-clause-calm : goal.write-requires-clause-calm
+write-requires-clause-calm c =
+    let at = c.loop-slot in
+    let values = c.args.values.now in
+    let many = length-take-le at.slot values (omega (arith, at.auto.slot-end)) in
+    (takes_row c.args.config.slots (take at.slot values) at.disk (omega (arith, many, c.loop-slot-test.true, c.requires)) at.invariant).calm
+
+pub write-requires-clause-there : goal.write-requires-clause-there
+write-requires-clause-there c =
+    let at = c.loop-slot in
+    let values = c.args.values.now in
+    let many = length-take-le at.slot values (omega (arith, at.auto.slot-end)) in
+    let takes = takes_row c.args.config.slots (take at.slot values) at.disk (omega (arith, many, c.loop-slot-test.true, c.requires)) at.invariant in
+    (takes.there.0, sym takes.there.1)
+
+pub write-requires-clause-range : goal.write-requires-clause-range
+write-requires-clause-range c =
+    let at = c.loop-slot in
+    let values = c.args.values.now in
+    let many = length-take-le at.slot values (omega (arith, at.auto.slot-end)) in
+    let takes = takes_row c.args.config.slots (take at.slot values) at.disk (omega (arith, many, c.loop-slot-test.true, c.requires)) at.invariant in
+    let room = takes.room in
+    let long : length c.row_for.result ≡ ROW_LENGTH = omega arith in
+    omega (arith, room, long, c.row_place.ensures, c.loop-slot-test.true, c.requires)
+
+pub loop-slot-preserved : goal.loop-slot-preserved
+loop-slot-preserved c =
+    let at = c.loop-slot in
+    let slots = c.args.config.slots in
+    let values = c.args.values.now in
+    let value = get_or values at.slot [] in
+    let many = length-take-le at.slot values (omega (arith, at.auto.slot-end)) in
+    let long : length c.row_for.result ≡ ROW_LENGTH = omega arith in
+    let place : c.row_place.result ≡ row_place (length (take at.slot values)) = c.row_place.ensures ∙ ap row_place (sym many) in
+    let wrote = c.write.ensures
+    ∙ ap (λ (n : ℕ). record at.disk { disk = written at.disk.disk n c.row_for.result }) place
+    ∙ ap (λ (l : List ℕ). record at.disk { disk = written at.disk.disk (row_place (length (take at.slot values))) l }) c.row_for.ensures in
+    subst (λ (l : List (List ℕ)). HasRows slots l c.write.new.disk) (sym (take_more values at.slot [] c.loop-slot-test.true))
+    (one_row_more slots (take at.slot values) value at.disk c.write.new.disk (omega (arith, many, c.loop-slot-test.true, c.requires)) (ap length (sym c.row_for.ensures) ∙ long) at.invariant wrote)
+
+pub sync-requires-clause-calm : goal.sync-requires-clause-calm
+sync-requires-clause-calm c =
+    let at = c.loop-slot in
+    let values = c.args.values.now in
+    let many = length-take-le at.slot values (omega (arith, at.auto.slot-end)) in
+    (takes_row c.args.config.slots (take at.slot values) at.disk (omega (arith, many, at.auto.slot-end, c.requires)) at.invariant).calm
+
+pub sync-requires-clause-there : goal.sync-requires-clause-there
+sync-requires-clause-there c =
+    let at = c.loop-slot in
+    let values = c.args.values.now in
+    let many = length-take-le at.slot values (omega (arith, at.auto.slot-end)) in
+    let takes = takes_row c.args.config.slots (take at.slot values) at.disk (omega (arith, many, at.auto.slot-end, c.requires)) at.invariant in
+    (takes.there.0, sym takes.there.1)
+
+pub returns : goal.returns
+returns c =
+    let at = c.loop-slot in
+    let values = c.args.values.now in
+    c.sync.ensures ∙ ap (λ (s : SimState). record s { disk = synced s.disk }) at.invariant.is
+    ∙ ap (λ (l : List (List ℕ)). calm (synced (written (fresh_disk (image_length c.args.config.slots)) (row_place 0) (rows_for l)))) (take_all at.slot values c.loop-slot-test.false)

@@ -1,0 +1,89 @@
+// Simulated disks as a migration left them.
+ghost use Rattle.std.specs.Prelude.{◌≡◌, ◌+◌, ◌*◌, ◌≤◌, ◌<◌, ℕ, false, None, Some, IfOk, length, map, replicate, slice_get};
+ghost use Rattle.disk.specs.Disk.{written, synced};
+ghost use Rattle.disk.specs.Simulated.{fresh_disk};
+ghost use Rattle.paxos_block.specs.Places.{image_length, row_place};
+ghost use Rattle.migration.specs.Image.{rows_for};
+ghost use Rattle.lock_command.specs.declared.command.Command.{Command};
+ghost use Rattle.lock_command.specs.Command.{spelling};
+ghost use Rattle.world.specs.Entry.{migrated_to};
+ghost use Rattle.world.specs.World.{ReadsBack};
+ghost use Rattle.world.specs.Opening.{CanBegin};
+ghost use Rattle.simulator.specs.Kept.{calm};
+
+use disk::{Boot, Disk, NoMemory, SimDisk};
+use lock_command::{Command, Value};
+use migration::row_for;
+use paxos_block::row_place;
+use slot_log::Config;
+use std::alloc::Global;
+use torn_block::ClusterLayout;
+
+/// The disks of a cluster, on each of which a complete migration left these commands.
+pub fn migrated_disks(
+    alloc: Global,
+    config: Config,
+    log: &[Command],
+) -> Result<Vec<SimDisk>, NoMemory>
+    requires { length log.now ≤ config.slots }
+    ensures disks { IfOk result (λ disks. disks.items ≡ replicate config.disks (calm (migrated_to (fresh_disk (image_length config.slots)) log.now))) }
+    ensures can { IfOk result (λ _. CanBegin (record { shape = config; moved = log.now })) }
+{
+    let values = spellings(alloc, log)?;
+    let count = usize::from(config.disks());
+    let mut disks = Vec::with_capacity(alloc, count)?;
+    for _ in 0..count {
+        disks.push_reserved(migrated_disk(alloc, config, &values)?);
+    }
+    Ok(disks)
+}
+
+/// The spellings of these commands.
+fn spellings(alloc: Global, log: &[Command]) -> Result<Vec<Value>, NoMemory>
+    ensures values { IfOk result (λ values. values.items ≡ map spelling log.now) }
+    ensures reads { IfOk result (λ _. (k : ℕ) (command : Command) → slice_get log.now k ≡ Some command → ReadsBack command) }
+{
+    let mut values = Vec::with_capacity(alloc, log.len())?;
+    for command in log {
+        values.push_reserved(command.encode());
+    }
+    Ok(values)
+}
+
+/// A disk of zeros, but for a row for each of these values from the first slot on. Nothing on it is unsynced.
+fn migrated_disk(alloc: Global, config: Config, values: &[Value]) -> Result<SimDisk, NoMemory>
+    requires { length values.now ≤ config.slots }
+    ensures { IfOk result (λ disk. disk ≡ calm (synced (written (fresh_disk (image_length config.slots)) (row_place 0) (rows_for values.now)))) }
+{
+    let mut disk = SimDisk::new(alloc, config.image_length())?;
+    let boot = Boot { number: 1 };
+    for (slot, value) in values.iter().enumerate() {
+        write(
+            &mut disk,
+            boot,
+            row_place::<ClusterLayout>(slot as u32),
+            &row_for(value),
+        );
+    }
+    sync(&mut disk, boot);
+    Ok(disk)
+}
+
+/// A write on a disk that is there, and that no failure was asked of. So it succeeds.
+fn write(disk: &mut SimDisk, boot: Boot, at: u64, from: &[u8])
+    requires calm { disk.old.failing ≡ None }
+    requires there { (disk.old.disk.gone ≡ false) × (boot.number ≡ disk.old.disk.boot) }
+    requires range { at + length from.now ≤ length disk.old.disk.bytes }
+    ensures { disk.new ≡ record disk.old { disk = written disk.old.disk at from.now } }
+{
+    let _ = disk.write(boot, at, from);
+}
+
+/// A sync of such a disk.
+fn sync(disk: &mut SimDisk, boot: Boot)
+    requires calm { disk.old.failing ≡ None }
+    requires there { (disk.old.disk.gone ≡ false) × (boot.number ≡ disk.old.disk.boot) }
+    ensures { disk.new ≡ record disk.old { disk = synced disk.old.disk } }
+{
+    let _ = disk.sync(boot);
+}
