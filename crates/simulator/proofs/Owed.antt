@@ -1,7 +1,7 @@
 -- What the code of the parts owes, in the code's own terms.
 use Rattle.std.specs.Prelude.{replicate, is_some}
 use Rattle.std.specs.Option.{option_map}
-use Rattle.std.proofs.Common.{ℕ, ◌<◌, ◌≡◌, Bool, true, false, Option, Some, None, List, [], length, get_or, refl, sym, ap, ◌∙◌, subst, zero, suc}
+use Rattle.std.proofs.Common.{arith, ℕ, ◌<◌, ◌≡◌, Bool, true, false, Option, Some, None, List, [], length, get_or, refl, sym, ap, ◌∙◌, subst, zero, suc}
 use Rattle.std.proofs.Math.ListN.{set}
 use Rattle.std.proofs.lemmas.List.{get_or_read, set-get_or, length-replicate, get_or-replicate}
 use Rattle.disk.specs.declared.fault.DiskFault.{DiskFault}
@@ -176,74 +176,114 @@ module _ (old : Kept) (h i : ℕ) (same : i ≡ h) (within : i < HOSTS) where
       subst (λ (j : ℕ). Brings log (Beat j) old (record old { hosts = set old.hosts i (Some new) }) None) same
       (events.beats log old leads i core new within found idle goes)
 
-  -- A CALL
+-- A CALL
 
-  module _ (core : hosts.Kept) (need : Need) (j : ℕ) (x : SimState) (found : get_or old.hosts i None ≡ Some core)
-      (next : (c : Shape) (g : ℕ) (m : Memory) → hosts.LeadsTo c g m core → next_in c g m ≡ Some (call_of_need need))
-      (due : call_of_need need ≡ hosts.due_call core)
-      (on : j ≡ need.disk) (inside : j < old.shape.disks) (value : x ≡ get_or old.disks j x) where
-    call : Call
-    call = device_call_of need.call
+-- the next call of a host, and the disk that it is on
+pub record Due (old : Kept) (h : ℕ) : Type 0 where
+  pub i : ℕ
+  pub same : i ≡ h
+  pub within : i < HOSTS
+  pub core : hosts.Kept
+  pub found : get_or old.hosts i None ≡ Some core
+  pub need : Need
+  pub next : (c : Shape) (g : ℕ) (m : Memory) → hosts.LeadsTo c g m core → next_in c g m ≡ Some (call_of_need need)
+  pub due : call_of_need need ≡ hosts.due_call core
+  pub j : ℕ
+  pub on : j ≡ need.disk
+  pub inside : j < old.shape.disks
+  pub x : SimState
+  pub value : x ≡ get_or old.disks j x
 
-    next_at : (c : Shape) (g : ℕ) (m : Memory) → hosts.LeadsTo c g m core → next_in c g m ≡ Some (j, device_call_of need.call)
-    next_at c g m leads = next c g m leads ∙ ap (λ (k : ℕ). Some (k, device_call_of need.call)) (sym on)
+module _ (old : Kept) (is : IsReached old) (h i : ℕ) (same : i ≡ h) (within : h < HOSTS) (o : Option hosts.Kept) (value : o ≡ get_or old.hosts i o) (core : hosts.Kept) (some : o ≡ Some core)
+    (need : Need) (on_its : need.disk < core.learner.shape.disks) (j : ℕ) (on : j ≡ need.disk) where
+  pub here : i < HOSTS
+  here = omega (arith, same, within)
 
-    due_disk : (hosts.due_call core).0 ≡ j
-    due_disk = ap (λ (p : ℕ × Call). p.0) (sym due) ∙ sym on
+  pub found : get_or old.hosts i None ≡ Some core
+  found = read_at old i o (omega (arith, here, is.leads.shows.host_count)) value ∙ some
 
-    -- it hears on this disk
-    hears_at : (heard other : Answer) (new : hosts.Kept) → heard ≡ other
-        → ((c : Shape) (g : ℕ) (m : Memory) → hosts.LeadsTo c g m core → hosts.LeadsTo c g (hears_from c g m m.doing (hosts.due_call core).0 heard) new)
-        → (c : Shape) (g : ℕ) (m : Memory) → hosts.LeadsTo c g m core → hosts.LeadsTo c g (hears_from c g m m.doing j other) new
-    hears_at heard other new alike hears_then c g m leads =
-        subst (λ (e : Answer). hosts.LeadsTo c g (hears_from c g m m.doing j e) new) alike
-        (subst (λ (k : ℕ). hosts.LeadsTo c g (hears_from c g m m.doing k heard) new) due_disk (hears_then c g m leads))
+  pub inside : j < old.shape.disks
+  inside = subst (λ (k : ℕ). k < old.shape.disks) (sym on) (on_disk old is i core found need.disk on_its)
 
-    pub steps : (new : hosts.Kept) (there : SimState) (heard : Answer) (said : Option Said)
-        → there ≡ record x { disk = called_by x.disk (device_call_of need.call) (answer_of x.disk (device_call_of need.call)) [] }
-        → length there.disk.bytes ≡ length x.disk.bytes
-        → heard ≡ answer_of x.disk (device_call_of need.call)
-        → ((c : Shape) (g : ℕ) (m : Memory) → hosts.LeadsTo c g m core → hosts.LeadsTo c g (hears_from c g m m.doing (hosts.due_call core).0 heard) new)
-        → said ≡ option_map (λ answer. record { host = h; answer = answer }) new.said
-        → (log : List Filled) → LeadsTo log old → Brings log (Step h) old (record { shape = old.shape; disks = set old.disks j there; hosts = set old.hosts i (Some new) }) said
-    steps new there heard said left as_long alike hears_then is_said log leads =
-        named Step log old (record { shape = old.shape; disks = set old.disks j there; hosts = set old.hosts i (Some new) }) i h new.said said same is_said
-        (calls.steps log old leads i core j (device_call_of need.call) x within found next_at inside (sym value) there new left as_long (hears_at heard _ new alike hears_then))
+  -- the disk is there
+  pub is_there : j < length old.disks
+  is_there = omega (arith, inside, is.leads.shows.disk_count)
 
-    pub fails : (given : List ℕ) (new : hosts.Kept) (there : SimState) (said : Option Said) → 0 < length given
-        → refusal_of x.disk (device_call_of need.call) ≡ None
-        → there ≡ record x { disk = called_by x.disk (device_call_of need.call) (Fault Failed) (spread_over (device_call_of need.call) given) }
-        → length there.disk.bytes ≡ length x.disk.bytes
-        → ((c : Shape) (g : ℕ) (m : Memory) → hosts.LeadsTo c g m core
-        → hosts.LeadsTo c g (hears_from c g m m.doing (hosts.due_call core).0 (Fault Failed)) new)
-        → said ≡ option_map (λ answer. record { host = h; answer = answer }) new.said
-        → (log : List Filled) → LeadsTo log old
-        → Brings log (FailCall h given) old (record { shape = old.shape; disks = set old.disks j there; hosts = set old.hosts i (Some new) }) said
-    fails given new there said some clear left as_long hears_then is_said log leads =
-        named (λ k. FailCall k given) log old (record { shape = old.shape; disks = set old.disks j there; hosts = set old.hosts i (Some new) }) i h new.said said same is_said
-        (calls.fails log old leads i core j (device_call_of need.call) x within found next_at inside (sym value) given there new some clear left as_long
-        (hears_at _ _ new refl hears_then))
+  abbrev pub due_of : ((c : Shape) (g : ℕ) (m : Memory) → hosts.LeadsTo c g m core → next_in c g m ≡ Some (call_of_need need)) → call_of_need need ≡ hosts.due_call core
+      → (x : SimState) → x ≡ get_or old.disks j x → Due old h
+  due_of next due x is_x = record { i = i; same = same; within = here; core = core; found = found; need = need; next = next; due = due; j = j; on = on; inside = inside; x = x; value = is_x }
 
-    pub fails_refused : (given : List ℕ) (fault : DiskFault) → 0 < length given → refusal_of x.disk (device_call_of need.call) ≡ Some fault
-        → (log : List Filled) → LeadsTo log old → Brings log (FailCall h given) old old None
-    fails_refused given fault some refused log leads =
-        subst (λ (k : ℕ). Brings log (FailCall k given) old old None) same
-        (calls.fails_refused log old leads i core j (device_call_of need.call) x within found next_at inside (sym value) given fault some refused)
+module _ (old : Kept) (h : ℕ) (d : Due old h) where
+  abbrev call : Call
+  call = device_call_of d.need.call
 
-    pub tears_refused : (given : List ℕ) (fault : DiskFault) → 0 < length given → refusal_of x.disk (device_call_of need.call) ≡ Some fault
-        → (log : List Filled) → LeadsTo log old → Brings log (Tear h given) old old None
-    tears_refused given fault some refused log leads =
-        subst (λ (k : ℕ). Brings log (Tear k given) old old None) same
-        (calls.tears_refused log old leads i core j (device_call_of need.call) x within found next_at inside (sym value) given fault some refused)
+  next_at : (c : Shape) (g : ℕ) (m : Memory) → hosts.LeadsTo c g m d.core → next_in c g m ≡ Some (d.j, call)
+  next_at c g m leads = d.next c g m leads ∙ ap (λ (k : ℕ). Some (k, call)) (sym d.on)
 
-    pub tears : (given : List ℕ) (there : SimState) → is_write (device_call_of need.call) ≡ true → 0 < length given
-        → refusal_of x.disk (device_call_of need.call) ≡ None
-        → there ≡ record x { disk = called_by x.disk (device_call_of need.call) (Fault Failed) (spread_over (device_call_of need.call) given) }
-        → length there.disk.bytes ≡ length x.disk.bytes
-        → (log : List Filled) → LeadsTo log old → Brings log (Tear h given) old (record { shape = old.shape; disks = set old.disks j there; hosts = set old.hosts i None }) None
-    tears given there is_one some clear left as_long log leads =
-        subst (λ (k : ℕ). Brings log (Tear k given) old (record { shape = old.shape; disks = set old.disks j there; hosts = set old.hosts i None }) None) same
-        (calls.tears log old leads i core j (device_call_of need.call) x within found next_at inside (sym value) given there is_one some clear left as_long)
+  -- the disk behind the call, and the host
+  abbrev pub after : SimState → Option hosts.Kept → Kept
+  after there host = record { shape = old.shape; disks = set old.disks d.j there; hosts = set old.hosts d.i host }
+
+  -- no failure was asked for of the disk
+  pub is_calm : IsReached old → d.x.failing ≡ None
+  is_calm is = calm_at old is d.j d.x d.inside d.value
+
+  -- and the call is within it
+  pub is_within : IsReached old → IsWithin (image_length d.core.learner.shape.slots) d.need.call → IsWithin (length d.x.disk.bytes) d.need.call
+  is_within is within = in_range old is d.i d.core d.found d.j d.x d.need.call d.inside d.value within
+
+  -- it hears on this disk
+  hears_at : (heard other : Answer) (new : hosts.Kept) → heard ≡ other
+      → ((c : Shape) (g : ℕ) (m : Memory) → hosts.LeadsTo c g m d.core → hosts.LeadsTo c g (hears_from c g m m.doing (hosts.due_call d.core).0 heard) new)
+      → (c : Shape) (g : ℕ) (m : Memory) → hosts.LeadsTo c g m d.core → hosts.LeadsTo c g (hears_from c g m m.doing d.j other) new
+  hears_at heard other new alike hears_then c g m leads =
+      subst (λ (e : Answer). hosts.LeadsTo c g (hears_from c g m m.doing d.j e) new) alike
+      (subst (λ (k : ℕ). hosts.LeadsTo c g (hears_from c g m m.doing k heard) new) (ap (λ (p : ℕ × Call). p.0) (sym d.due) ∙ sym d.on) (hears_then c g m leads))
+
+  pub steps : (new : hosts.Kept) (there : SimState) (heard : Answer) (said : Option Said)
+      → there ≡ record d.x { disk = called_by d.x.disk call (answer_of d.x.disk call) [] }
+      → length there.disk.bytes ≡ length d.x.disk.bytes
+      → heard ≡ answer_of d.x.disk call
+      → ((c : Shape) (g : ℕ) (m : Memory) → hosts.LeadsTo c g m d.core → hosts.LeadsTo c g (hears_from c g m m.doing (hosts.due_call d.core).0 heard) new)
+      → said ≡ option_map (λ answer. record { host = h; answer = answer }) new.said
+      → (log : List Filled) → LeadsTo log old → Brings log (Step h) old (after there (Some new)) said
+  steps new there heard said left as_long alike hears_then is_said log leads =
+      named Step log old (after there (Some new)) d.i h new.said said d.same is_said
+      (calls.steps log old leads d.i d.core d.j call d.x d.within d.found next_at d.inside (sym d.value) there new left as_long (hears_at heard _ new alike hears_then))
+
+  pub fails : (given : List ℕ) (new : hosts.Kept) (there : SimState) (said : Option Said) → 0 < length given
+      → refusal_of d.x.disk call ≡ None
+      → there ≡ record d.x { disk = called_by d.x.disk call (Fault Failed) (spread_over call given) }
+      → length there.disk.bytes ≡ length d.x.disk.bytes
+      → ((c : Shape) (g : ℕ) (m : Memory) → hosts.LeadsTo c g m d.core
+      → hosts.LeadsTo c g (hears_from c g m m.doing (hosts.due_call d.core).0 (Fault Failed)) new)
+      → said ≡ option_map (λ answer. record { host = h; answer = answer }) new.said
+      → (log : List Filled) → LeadsTo log old → Brings log (FailCall h given) old (after there (Some new)) said
+  fails given new there said some clear left as_long hears_then is_said log leads =
+      named (λ k. FailCall k given) log old (after there (Some new)) d.i h new.said said d.same is_said
+      (calls.fails log old leads d.i d.core d.j call d.x d.within d.found next_at d.inside (sym d.value) given there new some clear left as_long
+      (hears_at _ _ new refl hears_then))
+
+  pub fails_refused : (given : List ℕ) (fault : DiskFault) → 0 < length given → refusal_of d.x.disk call ≡ Some fault
+      → (log : List Filled) → LeadsTo log old → Brings log (FailCall h given) old old None
+  fails_refused given fault some refused log leads =
+      subst (λ (k : ℕ). Brings log (FailCall k given) old old None) d.same
+      (calls.fails_refused log old leads d.i d.core d.j call d.x d.within d.found next_at d.inside (sym d.value) given fault some refused)
+
+  pub tears_refused : (given : List ℕ) (fault : DiskFault) → 0 < length given → refusal_of d.x.disk call ≡ Some fault
+      → (log : List Filled) → LeadsTo log old → Brings log (Tear h given) old old None
+  tears_refused given fault some refused log leads =
+      subst (λ (k : ℕ). Brings log (Tear k given) old old None) d.same
+      (calls.tears_refused log old leads d.i d.core d.j call d.x d.within d.found next_at d.inside (sym d.value) given fault some refused)
+
+  pub tears : (given : List ℕ) (there : SimState) → is_write call ≡ true → 0 < length given
+      → refusal_of d.x.disk call ≡ None
+      → there ≡ record d.x { disk = called_by d.x.disk call (Fault Failed) (spread_over call given) }
+      → length there.disk.bytes ≡ length d.x.disk.bytes
+      → (log : List Filled) → LeadsTo log old → Brings log (Tear h given) old (after there None) None
+  tears given there is_one some clear left as_long log leads =
+      subst (λ (k : ℕ). Brings log (Tear k given) old (after there None) None) d.same
+      (calls.tears log old leads d.i d.core d.j call d.x d.within d.found next_at d.inside (sym d.value) given there is_one some clear left as_long)
 
 -- WHAT WAS PUT BACK
 
