@@ -35,7 +35,7 @@ expect() {
     fi
 }
 
-expect 'dlm ' '<check> <format> <mark> <race> <run> <submit> <sweep> <table>'
+expect 'dlm ' '<check> <format> <mark> <migrate> <race> <run> <submit> <sweep> <table>'
 expect 'dlm f' '<format>'
 expect 'dlm race ' '<race> <1> <2> <3> <4> <5> <6> <7> <8> <9> <10> <11> <12> <13> <14> <15> <16>'
 expect 'dlm run o' '<run> <one.dlm>'
@@ -45,6 +45,7 @@ expect 'dlm check im' '<check> <images>'
 expect 'dlm format im' '<format> <images>'
 expect 'dlm format images ' '<format> <images> <1> <2> <3> <4> <5> <6> <7>'
 expect 'dlm table images ' '<table> <images> <0> <1> <2> <3> <4> <5> <6> <7> <8> <9> <10> <11> <12> <13> <14> <15>'
+expect 'dlm migrate images ' '<migrate> <images> <images> <more images>'
 expect 'dlm mark images ' '<mark> <images> <0> <1> <2> <3> <4> <5> <6> <7> <8> <9> <10> <11> <12> <13> <14> <15>'
 expect 'dlm submit images 0 ' '<submit> <images> <0> <cancel> <convert> <enqueue> <purge> <release> <status>'
 expect 'dlm submit images 0 c' '<submit> <images> <0> <cancel> <convert>'
@@ -70,7 +71,7 @@ asked() {
 }
 
 if command -v fish >/dev/null; then
-    asked 'dlm ' 'check format mark race run submit sweep table'
+    asked 'dlm ' 'check format mark migrate race run submit sweep table'
     asked 'dlm table ' 'images/ more images/'
     asked 'dlm submit images 0 ' 'cancel convert enqueue purge release status'
     asked 'dlm submit images 0 enqueue 1 1 1 ' 'CR CW EX NL PR PW'

@@ -1,7 +1,8 @@
 #!/usr/bin/env python3
 """migrate.py [--kills N]: moves folders of the first layout with `dlm migrate`. What it prints, what it tells on standard error, its status, the
-bytes of the new images, and what is left alone. Then it kills as many migrations (none given: none) at random moments (`kill -9`), and looks
-after each that the next run ends it or is refused, and that no state of the new folder reads as a cluster that lacks a command.
+bytes of the new images, and what is left alone. Then it kills as many migrations (none given: none) at random moments (`kill -9`): of three
+one at any, one once a new image is there, one once a gate is open. After each it looks that the next run ends it or is refused, and that no
+state of the new folder reads as a cluster that lacks a command.
 
 The old images are written here byte by byte, by docs/FORMAT.md. It prints each difference, and how many there were; the status is 1 where
 there was one. The program has to be built: `./dlm` does so.
@@ -226,9 +227,9 @@ def empty_log():
 
 # KILLS
 
-COMMANDS = [enqueue(lock % 32, lock, lock, 0, b"a") for lock in range(1, 25)]
-TABLE = "recovered 24\na\n" + "".join(f"  granted {lock} {lock % 32} 0 NL\n" for lock in range(1, 25))
-MIGRATED = "migrated 24 commands, 3 disks, 32 slots\n"
+COMMANDS = [enqueue(lock % 32, lock, lock, 0, b"a") for lock in range(1, 9)]
+TABLE = "recovered 8\na\n" + "".join(f"  granted {lock} {lock % 32} 0 NL\n" for lock in range(1, 9))
+MIGRATED = "migrated 8 commands, 3 disks, 32 slots\n"
 # Of what a folder tells whose images are not all open, or not all there.
 NOT_READY = ("dlm: 24 ", "dlm: 25 ", "dlm: 26 ", "dlm: 7 ")
 
@@ -267,6 +268,22 @@ def goes_on(counts):
     wants("what is read", looks("new"), True)
 
 
+def wait_until(process, is_so):
+    while process.poll() is None and not is_so():
+        pass
+
+
+def is_there():
+    return os.path.exists("new/disk0.img")
+
+
+def is_open():
+    try:
+        return bytes_of("new/disk0.img")[:1] == b"\xa5"
+    except FileNotFoundError:
+        return False
+
+
 def kill(kills):
     make_old("old", 3, 32, COMMANDS)
     os.mkdir("new")
@@ -278,8 +295,13 @@ def kill(kills):
         shutil.rmtree("new")
         os.mkdir("new")
         with subprocess.Popen([PROGRAM, "migrate", "old", "new", "32"], stdout=subprocess.PIPE, stderr=subprocess.PIPE) as process:
-            # Half of them near the end, where the gates are.
-            time.sleep(long * random.choice([random.uniform(0, 1.1), random.uniform(0.8, 1.05)]))
+            if counts["killed"] % 3 == 0:
+                time.sleep(random.uniform(0, long))
+            elif counts["killed"] % 3 == 1:
+                wait_until(process, is_there)
+                time.sleep(random.uniform(0, long / 20))
+            else:
+                wait_until(process, is_open)
             process.kill()
             process.communicate()
         if process.returncode == 0:
@@ -303,10 +325,9 @@ def main():
     if kills > 0:
         tests.append(("kill", lambda: kill(kills)))
     wrong = 0
-    # In memory where there is such a folder: what is tested is the order of the calls, not the device.
-    place = "/dev/shm" if os.access("/dev/shm", os.W_OK) else None
     for name, function in tests:
-        with tempfile.TemporaryDirectory(dir=place) as folder:
+        # Not in memory: there a migration is over before it is killed.
+        with tempfile.TemporaryDirectory() as folder:
             os.chdir(folder)
             try:
                 function()

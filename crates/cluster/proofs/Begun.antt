@@ -13,7 +13,7 @@ use Rattle.host.specs.Kept.{Kept, LeadsTo}
 use Rattle.slot_log.specs.declared.outcome.Refusal.TheVariants as refusal
 use Rattle.host.specs.declared.answer.HostAnswer.TheVariants.{Refused}
 use Rattle.world.specs.Entry.{Filled, Start, Stop, Submit, Recover, Look, Beat, Mark, host_step, is_of}
-use Rattle.world.specs.World.{world, IsRun}
+use Rattle.world.specs.World.{world, IsFreshRun}
 use Rattle.world.specs.declared.entry.Entry.{Entry}
 use Rattle.world.specs.declared.entry.Entry.TheVariants as kept
 use Rattle.world.proofs.Runs as runs
@@ -116,19 +116,19 @@ pub idle_there : (c : Shape) (log : List Filled) (seat : Own) → idles (host_in
 idle_there c log seat idle of_seat = ap idles (host_is c log seat of_seat) ∙ idle
 
 -- a run goes on by the start of a host that has no entry
-pub starts : (c : Shape) (log : List Filled) (h : ℕ) → IsRun c log → [] ≡ of_host h log → h < HOSTS → IsRun c (log ++ Start h ∷ [])
+pub starts : (c : Shape) (log : List Filled) (h : ℕ) → IsFreshRun c log → [] ≡ of_host h log → h < HOSTS → IsFreshRun c (log ++ Start h ∷ [])
 starts c log h run none is_host =
-    runs.more c log (Start h) run (is_host, ap is_stopped (host_is c log (own_of h []) none))
+    runs.fresh_more c log (Start h) run (is_host, ap is_stopped (host_is c log (own_of h []) none))
 
 pub is_itself : (n : ℕ) → (n == n) ≡ true
 is_itself n = grind (arith, nat_tests)
 
 -- and by a restart
-pub restarts : (c : Shape) (log : List Filled) (seat : Own) → IsRun c log → seat.entries ≡ of_host seat.number log → is_stopped (host_in c seat) ≡ false → seat.number < HOSTS → IsRun c ((log ++ Stop seat.number ∷ []) ++ Start seat.number ∷ [])
+pub restarts : (c : Shape) (log : List Filled) (seat : Own) → IsFreshRun c log → seat.entries ≡ of_host seat.number log → is_stopped (host_in c seat) ≡ false → seat.number < HOSTS → IsFreshRun c ((log ++ Stop seat.number ∷ []) ++ Start seat.number ∷ [])
 restarts c log seat run of_seat up is_host =
-    let stopped = runs.more c log (Stop seat.number) run (ap is_stopped (host_is c log seat of_seat) ∙ up) in
+    let stopped = runs.fresh_more c log (Stop seat.number) run (ap is_stopped (host_is c log seat of_seat) ∙ up) in
     let own : is_of seat.number (Stop seat.number) ≡ true = is_itself seat.number in
-    runs.more c (log ++ Stop seat.number ∷ []) (Start seat.number) stopped (is_host, ap is_stopped (host_here c log (Stop seat.number) seat.number own))
+    runs.fresh_more c (log ++ Stop seat.number ∷ []) (Start seat.number) stopped (is_host, ap is_stopped (host_here c log (Stop seat.number) seat.number own))
 
 -- the host then knows nothing
 pub restarted : (c : Shape) (own : Own) (at next : ℕ) → host_in c (adds (adds own at (Stop own.number)) next (Start own.number)) ≡ Running fresh

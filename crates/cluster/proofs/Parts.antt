@@ -1,5 +1,5 @@
 -- A disk and a host of the world are what their own entries make of them, so a run goes on by their next call.
-use Rattle.std.proofs.Common.{◌≡◌, ◌⊎◌, inl, inr, ◌<◌, ◌≤◌, ◌^◌, ℕ, Bool, true, false, cond, List, [], ◌∷◌, ◌++◌, length, refl, sym, ap, subst, ◌∙◌, arith, append_assoc, append-nil}
+use Rattle.std.proofs.Common.{◌≡◌, ◌<◌, ◌≤◌, ◌^◌, ℕ, Bool, true, false, cond, List, [], ◌∷◌, ◌++◌, length, refl, sym, ap, subst, ◌∙◌, arith, append_assoc, append-nil}
 use Rattle.std.proofs.lemmas.Bool.{eqb-true}
 use Rattle.disk.specs.Disk.{DiskState, Answer, Step, Crashes}
 use Rattle.disk.specs.Steps.{WritesOn}
@@ -8,9 +8,8 @@ use Rattle.slot_log.specs.Shape.{Shape}
 use Rattle.host.specs.Host.{Stopped, is_stopped, idles, next_of}
 use Rattle.world.specs.Entry.{Filled, Start, Stop, Submit, Recover, Look, Beat, Mark, Called, Torn, Crashed, Lost, Migrated, is_of, disk_after, host_after}
 use Rattle.world.specs.Entry as entry
-use Rattle.world.specs.World.{world, opening_disk, MayFollow, IsRunFrom, IsRun}
+use Rattle.world.specs.World.{world, opening_disk, MayFollow, IsRunFrom, IsFreshRun}
 use Rattle.world.proofs.Runs as runs
-use Rattle.world.proofs.Runs.{IsMigration, follows_or}
 use Rattle.cluster_tie.specs.Parts.{Placed, Own, own_of, on_disk, of_host, entries}
 use Rattle.cluster_tie.proofs.Places.{without}
 use Rattle.cluster_tie.proofs.Steps.{part_grows}
@@ -29,19 +28,19 @@ disk_is c log own part =
 
 -- a run goes on by a host's next call
 pub calls : (c : Shape) (log : List Filled) (seat book : Own) (answer : Answer) (disk : DiskState)
-    → IsRun c log
+    → IsFreshRun c log
     → seat.entries ≡ of_host seat.number log
     → book.entries ≡ on_disk book.number log
     → IsDueOn c seat book.number
     → WritesOn (disk_in c book) (due_in c seat).1
     → Step (disk_in c book) (due_in c seat).1 answer disk
-    → IsRun c (log ++ Called seat.number book.number (due_in c seat).1 answer (left_by (due_in c seat).1 disk) ∷ [])
+    → IsFreshRun c (log ++ Called seat.number book.number (due_in c seat).1 answer (left_by (due_in c seat).1 disk) ∷ [])
 calls c log seat book answer disk run of_seat of_book due fits step =
     let call = (due_in c seat).1 in
     let e = Called seat.number book.number call answer (left_by call disk) in
     let there : disk ≡ entry.disk_step (disk_in c book) e = leaves (disk_in c book) disk call answer fits step in
     let done : Step (disk_in c book) call answer (entry.disk_step (disk_in c book) e) = subst (λ (d : DiskState). Step (disk_in c book) call answer d) there step in
-    runs.more c log e run (
+    runs.fresh_more c log e run (
       ap (next_of c seat.number) (host_is c log seat of_seat) ∙ due,
       subst (λ (d : DiskState). Step d call answer (entry.disk_step d e)) (sym (disk_is c log book of_book)) done,
     )
@@ -90,10 +89,5 @@ none_from c h above before (e ∷ es) none run =
     ap (of_host h) (sym (append_assoc before (e ∷ []) es)) ∙ none_from c h above (before ++ e ∷ []) es (none_next c h above before none e run.0) run.1
 
 -- a host of no such number has no entry in a run
-pub none_above : (c : Shape) (log : List Filled) (h : ℕ) → HOSTS ≤ h → IsRun c log → of_host h log ≡ []
-none_above c [] h above run = refl
-none_above c (e ∷ es) h above run = none_from c h above (e ∷ []) es (first (follows_or c (world c []) e run.0)) run.1
-  where
-    first : MayFollow c (world c []) e ⊎ IsMigration c e → of_host h (e ∷ []) ≡ []
-    first (inl may) = none_next c h above [] refl e may
-    first (inr m) = ap (λ (x : Filled). of_host h (x ∷ [])) m.is
+pub none_above : (c : Shape) (log : List Filled) (h : ℕ) → HOSTS ≤ h → IsFreshRun c log → of_host h log ≡ []
+none_above c log h above run = none_from c h above [] log refl run

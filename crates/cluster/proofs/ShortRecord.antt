@@ -15,7 +15,7 @@ use Rattle.lock_command.specs.Reading.{lock_at, request_at, mode_of, name_at, en
 use Rattle.lock_table.specs.Apply.{applied, granted}
 use Rattle.host.specs.Host.{learned_of, reply_after}
 use Rattle.world.specs.Entry.{Filled, Start, Stop, Submit, Recover, Look, Beat, Mark, Called, Torn, Crashed, Lost, Migrated, is_of}
-use Rattle.world.specs.World.{IsRun}
+use Rattle.world.specs.World.{IsFreshRun}
 use Rattle.world.specs.Plain.{plain, plains}
 use Rattle.world.specs.Headline.{HasOneLog}
 use Rattle.world.specs.declared.entry.Entry.{Entry}
@@ -108,9 +108,9 @@ part : ArePartsOf submission (first_seat ∷ [])
 part zero d less = refl
 part (suc i) d less = absurd (omega arith)
 
-pub run : IsRun one_disk submission
+pub run : IsFreshRun one_disk submission
 unfolding submission
-run = runs.run_is_run one_disk submitting
+run = runs.run_is_fresh one_disk submitting
 
 pub is_record : HasOneLog one_disk submission → IsRecord one_disk (plains submission) (first_seat ∷ [])
 is_record one = recorded one_disk submission (plains submission) (first_seat ∷ []) refl run covers part one

@@ -1,6 +1,6 @@
 use Rattle.std.proofs.Common.{◌≡◌, ◌++◌, ◌∷◌, [], sym, ap, subst, ◌∙◌, arith}
 use Rattle.world.specs.Plain.{plains}
-use Rattle.world.specs.World.{world, MayFollow, IsRun}
+use Rattle.world.specs.World.{world, MayFollow, IsFreshRun}
 use Rattle.world.proofs.Runs as runs
 use Rattle.cluster_tie.specs.Parts.{of_host}
 use Rattle.cluster.specs.Journal.{JournalState}
@@ -21,7 +21,7 @@ invariant_of-self-2 g c =
     record {
       config = j.config;
       kept = p.items ∙ (λ i. (c.has_room.ensures.items ∙ j.kept) i ++ c.requires.told i ∷ []) ∙ sym (plains_more log e) ∙ ap plains (sym a.journal);
-      run = subst (IsRun shape) (sym a.journal) (runs.more shape log e j.run may);
+      run = subst (IsFreshRun shape) (sym a.journal) (runs.fresh_more shape log e j.run may);
       room = omega (arith, p.len, p.capacity, ok.0);
       most = omega (arith, p.len, ok.1);
       total = j.total;
