@@ -114,7 +114,8 @@ impl<N: Named> DiskBook<N, SimDisk> {
     }
 }
 
-// Makes the host's next device call on a disk.
+// Makes the host's next device call on a disk. Not by `phases::answer_of`: its contract says neither which step the disk's bytes
+// take, nor what is in the row after the answer is dropped.
 fn make<N: Named, D: Disk>(disk: &mut D, row: &mut [u8; ROW_LENGTH], seat: &HostSeat<N>) -> Outcome
     requires busy { idles (host_in N.shape seat.now) ≡ false }
     requires tells { IsTrue (D.device disk.old).tells }
