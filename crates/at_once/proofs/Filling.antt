@@ -6,17 +6,21 @@ use Rattle.std.proofs.lemmas.Bool.Decides.{nat_tests}
 use Rattle.std.proofs.lemmas.List.{take-map}
 use Rattle.disk.specs.declared.fault.DiskFault.TheVariants.{Reset, Failed, Gone}
 use Rattle.disk.specs.Disk.{DiskState, Call, Attach, Read, Write, Sync, Answer, Booted, Told, Done, Fault, Step, Crashes, lost}
+use Rattle.disk.proofs.StepLemmas.{shape_fresh}
+use Rattle.paxos_block.specs.Places.{IsImage, image_length}
+use Rattle.lock_command.specs.declared.command.Command.{Command}
 use Rattle.slot_log.specs.Shape.{Shape}
 use Rattle.host.specs.Host.{Host, Stopped}
-use Rattle.world.specs.Entry.{Filled, Start, Stop, Submit, Recover, Look, Beat, Mark, Called, Torn, Crashed, Lost, is_on, is_of, on_disk, of_host, torn_by, called_by, crashed_to, disk_step, host_step, host_after}
-use Rattle.world.specs.World.{World, Tears, opening_disk, world, MayFollow, IsRunFrom, IsRun}
-use Rattle.world.proofs.Runs.{more}
+use Rattle.world.specs.Entry.{Filled, Start, Stop, Submit, Recover, Look, Beat, Mark, Called, Torn, Crashed, Lost, Migrated, is_on, is_of, on_disk, of_host, torn_by, called_by, crashed_to, disk_step, host_step, host_after}
+use Rattle.world.specs.World.{World, Tears, opening_disk, world, MayFollow, CanMigrate, IsRunFrom, IsRun}
+use Rattle.world.proofs.Runs.{more, fresh_is_run}
 use Rattle.world.proofs.Projections.{disk_here, disk_there, host_here, host_there}
+use Rattle.world_safety.proofs.Blocks.Migrated.{image}
 use Rattle.world_safety.proofs.Claims.Safety.{headline}
 use Rattle.at_once.specs.Images.{used}
-use Rattle.at_once.proofs.Headless.{IsThere, used_steps, there_after, used_tears, there_torn, used_crashes, there_crashed, there_first}
+use Rattle.at_once.proofs.Headless.{IsThere, used_steps, there_after, used_tears, there_torn, used_crashes, there_crashed, there_begun}
 use Rattle.at_once.proofs.Lying.{lies}
-use Rattle.at_once.specs.AtOnce.{Does, Serves, IsAtOnce, bare, IsRunOf}
+use Rattle.at_once.specs.AtOnce.{Does, Serves, IsDeed, AreDeeds, IsAtOnceFrom, IsAtOnce, IsAtOnceAfter, bare, IsRunOf}
 
 is_itself : (n : ℕ) → (n == n) ≡ true
 is_itself n = grind (arith, nat_tests)
@@ -115,15 +119,15 @@ module _ (c : Shape) (before : List Filled) (run : IsRun c before) where
   abbrev w : World
   w = world c before
 
-  pub filling : (e : Filled) (es : List Filled) → Ahead c before e es → Filling c before e es
-  filling (Start h) es a = quiet c before (Start h) es a (λ k. refl) (of_here c before (Start h) es a h (is_itself h)).0
-  filling (Stop h) es a = quiet c before (Stop h) es a (λ k. refl) (of_here c before (Stop h) es a h (is_itself h)).0
-  filling (Submit h command tries) es a = quiet c before (Submit h command tries) es a (λ k. refl) (of_here c before (Submit h command tries) es a h (is_itself h)).0
-  filling (Recover h tries) es a = quiet c before (Recover h tries) es a (λ k. refl) (of_here c before (Recover h tries) es a h (is_itself h)).0
-  filling (Look h) es a = quiet c before (Look h) es a (λ k. refl) (of_here c before (Look h) es a h (is_itself h)).0
-  filling (Beat h) es a = quiet c before (Beat h) es a (λ k. refl) (of_here c before (Beat h) es a h (is_itself h)).0
-  filling (Mark h slot) es a = quiet c before (Mark h slot) es a (λ k. refl) (of_here c before (Mark h slot) es a h (is_itself h)).0
-  filling (Called h d call answer left) es a =
+  pub filling : (e : Filled) (es : List Filled) → IsDeed e → Ahead c before e es → Filling c before e es
+  filling (Start h) es deed a = quiet c before (Start h) es a (λ k. refl) (of_here c before (Start h) es a h (is_itself h)).0
+  filling (Stop h) es deed a = quiet c before (Stop h) es a (λ k. refl) (of_here c before (Stop h) es a h (is_itself h)).0
+  filling (Submit h command tries) es deed a = quiet c before (Submit h command tries) es a (λ k. refl) (of_here c before (Submit h command tries) es a h (is_itself h)).0
+  filling (Recover h tries) es deed a = quiet c before (Recover h tries) es a (λ k. refl) (of_here c before (Recover h tries) es a h (is_itself h)).0
+  filling (Look h) es deed a = quiet c before (Look h) es a (λ k. refl) (of_here c before (Look h) es a h (is_itself h)).0
+  filling (Beat h) es deed a = quiet c before (Beat h) es a (λ k. refl) (of_here c before (Beat h) es a h (is_itself h)).0
+  filling (Mark h slot) es deed a = quiet c before (Mark h slot) es a (λ k. refl) (of_here c before (Mark h slot) es a h (is_itself h)).0
+  filling (Called h d call answer left) es deed a =
       let e = Called h d call answer left in
       let does = of_here c before e es a h (is_itself h) in
       let on = on_here c before e es a d (is_itself d) in
@@ -135,7 +139,7 @@ module _ (c : Shape) (before : List Filled) (run : IsRun c before) where
       fills c before e es a x (λ g. refl) (λ k. refl) (λ g old. refl)
       (serves_on c before e es a x d (record { image = new; there = there_after c.slots on.image new call answer on.there inside on.serves.1; is = sym found.is; serves = on.serves.2 })) refl
       (does.0, subst (λ (s : DiskState). Step (w.disk d) call answer s) (sym found.is) step)
-  filling (Torn h d call left) es a =
+  filling (Torn h d call left) es deed a =
       let e = Torn h d call left in
       let does = of_here c before e es a h (is_itself h) in
       let on = on_here c before e es a d (is_itself d) in
@@ -147,7 +151,7 @@ module _ (c : Shape) (before : List Filled) (run : IsRun c before) where
       fills c before e es a x (λ g. refl) (λ k. refl) (λ g old. refl)
       (serves_on c before e es a x d (record { image = new; there = there_torn c.slots on.image new call on.there inside on.serves.1; is = sym found.is; serves = on.serves.2 })) refl
       (does.0, subst (λ (s : DiskState). Tears call (w.disk d) s) (sym found.is) tears)
-  filling (Crashed d left) es a =
+  filling (Crashed d left) es deed a =
       let e = Crashed d left in
       let on = on_here c before e es a d (is_itself d) in
       let new = on.serves.0 in
@@ -158,13 +162,14 @@ module _ (c : Shape) (before : List Filled) (run : IsRun c before) where
       fills c before e es a x (λ g. refl) (λ k. refl) (λ g old. refl)
       (serves_on c before e es a x d (record { image = new; there = there_crashed c.slots on.image new on.there goes.3; is = sym is; serves = on.serves.2 })) refl
       ((goes.0, ap (λ (s : DiskState). s.gone) (sym on.is) ∙ goes.1), subst (λ (s : DiskState). s.boot < 2 ^ 62) on.is goes.2, subst (λ (s : DiskState). Crashes (w.disk d) s) (sym is) crashes)
-  filling (Lost d) es a =
+  filling (Lost d) es deed a =
       let e = Lost d in
       let on = on_here c before e es a d (is_itself d) in
       let goes = on.serves.1 in
       fills c before e es a e (λ g. refl) (λ k. refl) (λ g old. refl)
       (serves_on c before e es a e d (record { image = lost on.image; there = on.there; is = ap lost on.is; serves = subst (λ (s : DiskState). Serves c d s (on_disk d es)) goes.2 on.serves.2 })) refl
       (goes.0, ap (λ (s : DiskState). s.gone) (sym on.is) ∙ goes.1)
+  filling (Migrated disks commands) es deed a = absurd deed
 
 -- ALL ENTRIES
 
@@ -173,11 +178,11 @@ pub record Filled_all (c : Shape) (before es : List Filled) : Type 0 where
   pub same : map bare run ≡ map bare es
   pub is : IsRunFrom c before run
 
-fill : (c : Shape) (before es : List Filled) → IsRun c before → ((h : ℕ) → Does c h ((world c before).host h) (of_host h es)) → ((k : ℕ) → IsUsedOf c k ((world c before).disk k) (on_disk k es)) → Filled_all c before es
-fill c before [] run hosts disks = record { run = []; same = refl; is = tt }
-fill c before (e ∷ es) run hosts disks =
-    let f = filling c before run e es (record { hosts = hosts; disks = disks }) in
-    let rest = fill c (before ++ f.entry ∷ []) es (more c before f.entry run f.may) f.hosts f.disks in
+fill : (c : Shape) (before es : List Filled) → IsRun c before → AreDeeds es → ((h : ℕ) → Does c h ((world c before).host h) (of_host h es)) → ((k : ℕ) → IsUsedOf c k ((world c before).disk k) (on_disk k es)) → Filled_all c before es
+fill c before [] run deeds hosts disks = record { run = []; same = refl; is = tt }
+fill c before (e ∷ es) run deeds hosts disks =
+    let f = filling c before run e es deeds.0 (record { hosts = hosts; disks = disks }) in
+    let rest = fill c (before ++ f.entry ∷ []) es (more c before f.entry run f.may) deeds.1 f.hosts f.disks in
     record { run = f.entry ∷ rest.run; same = λ i. f.same i ∷ rest.same i; is = (f.may, rest.is) }
 
 -- HOSTS OVERLOOK THE FILLING
@@ -199,6 +204,7 @@ module _ (c : Shape) (h : ℕ) where
   bare_step (Torn g k call left) old = refl
   bare_step (Crashed k left) old = refl
   bare_step (Lost k) old = refl
+  bare_step (Migrated disks commands) old = refl
 
   bare_host : (xs : List Filled) (old : Host) → host_after c h old (of_host h (map bare xs)) ≡ host_after c h old (of_host h xs)
   bare_host [] old = refl
@@ -214,10 +220,31 @@ module _ (c : Shape) (h : ℕ) where
       ∙ ap (λ (l : List Filled). host_after c h Stopped (of_host h l)) (sym (take-map bare i xs) ∙ ap (take i) same ∙ take-map bare i ys)
       ∙ bare_host (take i ys) Stopped
 
-opening_used : (c : Shape) (images : ℕ → DiskState) (log : List Filled) → IsAtOnce c images log → (k : ℕ) → IsUsedOf c k (opening_disk c) (on_disk k log)
-opening_used c images log a k = record { image = images k; there = there_first c.slots (images k) (a.blank k); is = a.blank k; serves = a.disks k }
+-- an image whose used part is what a list leaves serves what is done to it
+begun_used : (c : Shape) (begun : List Filled) (images : ℕ → DiskState) (log : List Filled) → IsAtOnceFrom c begun images log → ((k : ℕ) → IsImage c.slots ((world c begun).disk k)) → (k : ℕ) → IsUsedOf c k ((world c begun).disk k) (on_disk k log)
+begun_used c begun images log a are k = record { image = images k; there = there_begun c.slots (images k) ((world c begun).disk k) (a.held k) (are k); is = a.held k; serves = a.disks k }
+
+opening_image : (c : Shape) → IsImage c.slots (opening_disk c)
+opening_image c = let shape = shape_fresh (image_length c.slots) in record { whole = shape.0; long = shape.1 }
 
 pub at_once_makes_a_run : (c : Shape) (images : ℕ → DiskState) (log : List Filled) → IsAtOnce c images log → IsRunOf c log
 at_once_makes_a_run c images log a =
-    let f = fill c [] log tt a.hosts (opening_used c images log a) in
-    record { run = f.run; same = f.same; is = f.is; hosts = λ i h. same_host c h f.run log f.same i; one = headline c f.run f.is }
+    let f = fill c [] log tt a.deeds a.hosts (begun_used c [] images log a (λ k. opening_image c)) in
+    let run = fresh_is_run c f.run f.is in
+    record { run = f.run; same = f.same; is = run; hosts = λ i h. same_host c h f.run log f.same i; one = headline c f.run run }
+
+-- AFTER A MIGRATION
+
+begun_image : (c : Shape) (commands : List Command) → CanMigrate c commands → (k : ℕ) → IsImage c.slots ((world c (Migrated c.disks commands ∷ [])).disk k)
+begun_image c commands can k = elim (cases_Bool (is_on k (Migrated c.disks commands))) [
+  | inl on ↦ subst (IsImage c.slots) (sym (disk_here c [] (Migrated c.disks commands) k on)) (image c commands can)
+  | inr off ↦ subst (IsImage c.slots) (sym (disk_there c [] (Migrated c.disks commands) k off)) (opening_image c)
+]
+
+pub after_migration_makes_a_run : (c : Shape) (commands : List Command) (images : ℕ → DiskState) (log : List Filled) → CanMigrate c commands → IsAtOnceAfter c commands images log → IsRunOf c (Migrated c.disks commands ∷ log)
+after_migration_makes_a_run c commands images log can a =
+    let first = Migrated c.disks commands in
+    let f = fill c (first ∷ []) log ((refl, can), tt) a.deeds a.hosts (begun_used c (first ∷ []) images log a (begun_image c commands can)) in
+    let run : IsRun c (first ∷ f.run) = ((refl, can), f.is) in
+    let same : map bare (first ∷ f.run) ≡ map bare (first ∷ log) = λ i. first ∷ f.same i in
+    record { run = first ∷ f.run; same = same; is = run; hosts = λ i h. same_host c h (first ∷ f.run) (first ∷ log) same i; one = headline c (first ∷ f.run) run }

@@ -8,7 +8,7 @@ use Rattle.disk.specs.Simulated.{fresh_disk}
 use Rattle.disk.specs.Cut.{cut, HasFirst, IsInFirst}
 use Rattle.disk.proofs.CutLemmas.{cut_steps, first_stay}
 use Rattle.torn_block.specs.declared.layout.TheConstants.{HEADER_LENGTH}
-use Rattle.paxos_block.specs.Places.{image_length}
+use Rattle.paxos_block.specs.Places.{IsImage, image_length}
 use Rattle.world.specs.World.{Tears}
 use Rattle.at_once.specs.Images.{headed, headless, used, HoldsNothing, LaidOutHoldsNothing}
 
@@ -275,11 +275,10 @@ module _ (slots : ℕ) where
   pub used_lost : (disk : DiskState) → used slots (lost disk) ≡ lost (used slots disk)
   used_lost disk = refl
 
-  pub there_first : (disk : DiskState) → HoldsNothing slots disk → IsThere disk
-  unfolding fresh_disk
-  there_first disk blank =
-      let bytes : length (headed HEADER_LENGTH 0 (take n disk.bytes)) ≡ n = ap (λ (d : DiskState). length d.bytes) blank ∙ length-replicate n 0 in
-      let flags : length (headed HEADER_LENGTH false (take n disk.unsynced)) ≡ n = ap (λ (d : DiskState). length d.unsynced) blank ∙ length-replicate n false in
+  pub there_begun : (disk shows : DiskState) → used slots disk ≡ shows → IsImage slots shows → IsThere disk
+  there_begun disk shows is image =
+      let bytes : length (headed HEADER_LENGTH 0 (take n disk.bytes)) ≡ n = ap (λ (d : DiskState). length d.bytes) is ∙ image.long in
+      let flags : length (headed HEADER_LENGTH false (take n disk.unsynced)) ≡ n = ap (λ (d : DiskState). length d.unsynced) is ∙ image.whole ∙ image.long in
       (long_headed 0 HEADER_LENGTH n disk.bytes long_enough bytes, long_headed false HEADER_LENGTH n disk.unsynced long_enough flags)
 
   -- an image of zeros is one of those

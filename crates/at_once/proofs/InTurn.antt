@@ -15,7 +15,7 @@ use Rattle.world.specs.Entry.{Filled, Start, Called, is_of, is_on, on_disk, of_h
 use Rattle.world.specs.World.{opening_disk}
 use Rattle.dlm_images.specs.declared.disk_host.Acknowledgement.{Acknowledgement}
 use Rattle.dlm_images.specs.Operations.{Made, Gave, Standing, IsAcknowledged}
-use Rattle.at_once.specs.AtOnce.{Does, Serves, IsAtOnce}
+use Rattle.at_once.specs.AtOnce.{Does, Serves, IsDeed, AreDeeds, IsAtOnce}
 use Rattle.at_once.specs.Deeds.{calls, beginning, HasDone}
 use Rattle.at_once.specs.Images.{HoldsNothing}
 use Rattle.at_once.specs.InTurn.{Gives, IsTurn, NoTwoAtOneSlot, TurnsAgree, HasSubmitted}
@@ -97,6 +97,23 @@ nowhere k h (x ∷ xs) old new gave none =
     ]
 
 -- AT ONCE
+
+-- what a host does in a turn are deeds
+calls_deeds : (h : ℕ) (made : List Made) → AreDeeds (calls h made)
+calls_deeds h [] = tt
+calls_deeds h (x ∷ made) = (tt, calls_deeds h made)
+
+begins_deed : (h : ℕ) (operation : Operation) (tries : ℕ) → IsDeed (beginning h operation tries)
+begins_deed h (Submitting command) tries = tt
+begins_deed h Recovering tries = tt
+begins_deed h Looking tries = tt
+
+turn_deeds : (h : ℕ) (operation : Operation) (tries : ℕ) (made : List Made) → AreDeeds (turn h operation tries made)
+turn_deeds h operation tries made = (tt, (begins_deed h operation tries, calls_deeds h made))
+
+both_deeds : (first second : List Filled) → AreDeeds first → AreDeeds second → AreDeeds (first ++ second)
+both_deeds [] second are more = more
+both_deeds (e ∷ first) second are more = (are.0, both_deeds first second are.1 more)
 
 image_of : Shape → Option SimState → DiskState
 image_of c None = opening_disk c
@@ -183,7 +200,8 @@ module _ (c : Shape) (g h : ℕ) (first second : Operation) (tries more : ℕ) (
   at_once : IsAtOnce c images log
   at_once = record {
     hosts = hosts;
-    blank = λ k. blank_by k (slice_get disks k) refl;
+    deeds = both_deeds one two (turn_deeds g first tries a.did.made) (turn_deeds h second more b.did.made);
+    held = λ k. blank_by k (slice_get disks k) refl;
     disks = λ k. subst (λ (l : List Filled). Serves c k (images k) l) (sym (on_both k)) (serves_by k (slice_get disks k) refl);
   }
 

@@ -8,10 +8,10 @@ use Rattle.disk.specs.Disk as device
 use Rattle.slot_log.specs.Shape.{Shape}
 use Rattle.host.specs.Host.{Host, Stopped, Running}
 use Rattle.host.specs.Kept.{Kept}
-use Rattle.world.specs.Entry.{Filled, Start, Stop, Submit, Recover, Look, Beat, Mark, Called, Torn, Crashed, Lost, is_on, is_of, on_disk, of_host, host_step, host_after}
+use Rattle.world.specs.Entry.{Filled, Start, Stop, Submit, Recover, Look, Beat, Mark, Called, Torn, Crashed, Lost, Migrated, is_on, is_of, on_disk, of_host, host_step, host_after}
 use Rattle.world.specs.World.{Tears}
 use Rattle.world.specs.Chosen.{IsCallOf}
-use Rattle.at_once.specs.AtOnce.{MayDo, Does, Goes, Serves}
+use Rattle.at_once.specs.AtOnce.{MayDo, Does, Goes, Serves, IsDeed, AreDeeds}
 use Rattle.at_once.specs.Joined.{HasCome, HasRecovered}
 use Rattle.at_once.specs.Power.{LosesPower, GoesOn, ServesOn, later, call_later, answer_later, entry_later, losses_with, renumbered_from, renumbered, LossesAreCrashes, LossesAreJoined}
 use Rattle.at_once.proofs.Joined.{deeds_are_joined}
@@ -113,6 +113,7 @@ module _ (losses : ℕ → ℕ) where
   on_same k (Torn g d call left) = refl
   on_same k (Crashed d left) = refl
   on_same k (Lost d) = refl
+  on_same k (Migrated disks commands) = refl
 
   pub of_same : (h : ℕ) (e : Filled) → is_of h (entry_later losses e) ≡ is_of h e
   of_same h (Start g) = refl
@@ -126,6 +127,7 @@ module _ (losses : ℕ → ℕ) where
   of_same h (Torn g d call left) = refl
   of_same h (Crashed d left) = refl
   of_same h (Lost d) = refl
+  of_same h (Migrated disks commands) = refl
 
   -- a loss of power elsewhere does not count here
   elsewhere : (k : ℕ) (e : Filled) → is_on k e ≡ false → losses_with losses e k ≡ losses k
@@ -140,6 +142,7 @@ module _ (losses : ℕ → ℕ) where
   elsewhere k (Torn g d call left) off = refl
   elsewhere k (Crashed d left) off = ap (λ (b : Bool). cond b (suc (losses k)) (losses k)) off
   elsewhere k (Lost d) off = refl
+  elsewhere k (Migrated disks commands) off = refl
 
   at_most_one : (k : ℕ) (b : Bool) → cond b (suc (losses k)) (losses k) ≤ losses k + 1
   at_most_one k true = omega arith
@@ -160,6 +163,7 @@ module _ (losses : ℕ → ℕ) where
   one_more k (Torn g d call left) = itself k
   one_more k (Crashed d left) = at_most_one k (d == k)
   one_more k (Lost d) = itself k
+  one_more k (Migrated disks commands) = itself k
 
   goes : (c : Shape) (k : ℕ) (old new : DiskState) (e : Filled) → losses k + 1 < 2 ^ 62 → is_on k e ≡ true → GoesOn c k old e new →
       Goes c k (disk_later (losses k) old) (entry_later losses e) (disk_later (losses_with losses e k) new)
@@ -183,6 +187,7 @@ module _ (losses : ℕ → ℕ) where
     subst (λ (n : ℕ). Crashes (disk_later (losses k) old) (disk_later n new)) (ap (λ (b : Bool). cond b (suc (losses k)) (losses k)) (sym on)) (crashes (losses k) old new s.2),
   )
   goes c k old new (Lost d) few on s = (s.0, s.1, ap (disk_later (losses k)) s.2)
+  goes c k old new (Migrated disks commands) few on s = absurd s
 
 serves : (c : Shape) (k : ℕ) (losses : ℕ → ℕ) (old : DiskState) (es : List Filled) → losses k + length es < 2 ^ 62 → ServesOn c k old (on_disk k es) →
     Serves c k (disk_later (losses k) old) (on_disk k (renumbered_from losses es))
@@ -218,6 +223,7 @@ may_do c h losses host (Called g k call answer left) m = next_of_later losses c 
 may_do c h losses host (Torn g k call left) m = next_of_later losses c h host ∙ ap (due_later losses) m
 may_do c h losses host (Crashed k left) m = absurd m
 may_do c h losses host (Lost k) m = absurd m
+may_do c h losses host (Migrated disks commands) m = absurd m
 
 -- where an image lost power the host has stopped
 abbrev IsDark : Shape → ℕ → Host → List Filled → Type 0
@@ -245,6 +251,7 @@ module _ (c : Shape) (h : ℕ) where
       let stopped : host ≡ Stopped = dark 0 d left refl in
       ap (host_later (losses_with losses (Crashed d left))) stopped ∙ ap (host_later losses) (sym stopped)
   same_host losses host (Lost d) es dark = refl
+  same_host losses host (Migrated disks commands) es dark = refl
 
   -- a host that has done nothing since
   same_dark : (host : Host) (e : Filled) (es : List Filled) → is_of h e ≡ false → IsDark c h host (e ∷ es) → IsDark c h host es
@@ -265,6 +272,7 @@ module _ (c : Shape) (h : ℕ) where
   keeps_counts losses host (Torn g d call left) own = refl
   keeps_counts losses host (Crashed d left) own = absurd (true≢false (sym own))
   keeps_counts losses host (Lost d) own = absurd (true≢false (sym own))
+  keeps_counts losses host (Migrated disks commands) own = absurd (true≢false (sym own))
 
   renumbers : (i : ℕ) (losses : ℕ → ℕ) (host : Host) (es : List Filled) → IsDark c h host es → Does c h host (of_host h (take i es)) →
       Renumbers c h host (of_host h (take i es)) (host_later losses host) (of_host h (take i (renumbered_from losses es)))
@@ -318,13 +326,33 @@ as_long : (losses : ℕ → ℕ) (es : List Filled) → length (renumbered_from 
 as_long losses [] = refl
 as_long losses (e ∷ es) = ap (λ (n : ℕ). suc n) (as_long (losses_with losses e) es)
 
+-- a deed stays one
+deed_later : (losses : ℕ → ℕ) (e : Filled) → IsDeed e → IsDeed (entry_later losses e)
+deed_later losses (Migrated disks commands) is = absurd is
+deed_later losses (Called h d call answer left) is = tt
+deed_later losses (Torn h d call left) is = tt
+deed_later losses (Crashed d left) is = tt
+deed_later losses (Lost d) is = tt
+deed_later losses (Start g) is = tt
+deed_later losses (Stop g) is = tt
+deed_later losses (Submit g command tries) is = tt
+deed_later losses (Recover g tries) is = tt
+deed_later losses (Look g) is = tt
+deed_later losses (Beat g) is = tt
+deed_later losses (Mark g slot) is = tt
+
+deeds_later : (losses : ℕ → ℕ) (es : List Filled) → AreDeeds es → AreDeeds (renumbered_from losses es)
+deeds_later losses [] are = tt
+deeds_later losses (e ∷ es) are = (deed_later losses e are.0, deeds_later (losses_with losses e) es are.1)
+
 pub losses_are_crashes : LossesAreCrashes
 losses_are_crashes c images log s = record {
   hosts = λ h.
       let all : take (length log) (renumbered log) ≡ renumbered log = ap (λ (n : ℕ). take n (renumbered log)) (sym (as_long (λ k. 0) log)) ∙ all_of (renumbered log) in
       let mine : Does c h Stopped (of_host h (take (length log) log)) = subst (λ (l : List Filled). Does c h Stopped (of_host h l)) (sym (all_of log)) (s.hosts h) in
       subst (λ (l : List Filled). Does c h Stopped (of_host h l)) all (renumbers c h (length log) (λ k. 0) Stopped log (λ i k left is. s.dark i k h left is) mine).does;
-  blank = s.blank;
+  deeds = deeds_later (λ k. 0) log s.deeds;
+  held = s.blank;
   disks = λ k.
       let few : 0 + length log < 2 ^ 62 = omega (arith, s.few) in
       subst (λ (disk : DiskState). Serves c k disk (on_disk k (renumbered log))) (disk_none (images k)) (serves c k (λ d. 0) (images k) log few (s.disks k));

@@ -4,11 +4,11 @@ use Rattle.std.proofs.lemmas.Bool.{cases_Bool, eqb-true}
 use Rattle.disk.specs.Disk.{DiskState}
 use Rattle.slot_log.specs.Shape.{Shape}
 use Rattle.host.specs.Host.{Host}
-use Rattle.world.specs.Entry.{Filled, Start, Stop, Submit, Recover, Look, Beat, Mark, Called, Torn, Crashed, Lost, is_on, is_of, on_disk, of_host, disk_step}
-use Rattle.world.specs.World.{World, opening_disk, world, MayFollow, IsRunFrom, IsRun}
+use Rattle.world.specs.Entry.{Filled, Start, Stop, Submit, Recover, Look, Beat, Mark, Called, Torn, Crashed, Lost, Migrated, is_on, is_of, on_disk, of_host, disk_step}
+use Rattle.world.specs.World.{World, opening_disk, world, MayFollow, IsRunFrom, IsFreshRun}
 use Rattle.world.proofs.Projections.{disk_here, disk_there, host_here, host_there}
 use Rattle.at_once.proofs.Headless.{zeros_hold_nothing}
-use Rattle.at_once.specs.AtOnce.{MayDo, Does, Goes, Serves, IsAtOnce}
+use Rattle.at_once.specs.AtOnce.{MayDo, Does, Goes, Serves, IsDeed, AreDeeds, IsAtOnce}
 
 module _ (c : Shape) (w : World) where
   at_own : (e : Filled) (g h : ℕ) → (g == h) ≡ true → MayDo c g (w.host g) e → MayDo c h (w.host h) e
@@ -26,6 +26,7 @@ module _ (c : Shape) (w : World) where
   may_do (Torn g k call left) m h is = at_own (Torn g k call left) g h is m.0
   may_do (Crashed k left) m h is = absurd (cc)
   may_do (Lost k) m h is = absurd (cc)
+  may_do (Migrated disks commands) m h is = absurd m
 
   on_own : (e : Filled) (d k : ℕ) → (d == k) ≡ true → Goes c d (w.disk d) e (disk_step (w.disk d) e) → Goes c k (w.disk k) e (disk_step (w.disk k) e)
   on_own e d k is m = subst (λ (n : ℕ). Goes c n (w.disk n) e (disk_step (w.disk n) e)) (eqb-true d k is) m
@@ -42,6 +43,7 @@ module _ (c : Shape) (w : World) where
   goes (Torn g d call left) m k is = on_own (Torn g d call left) d k is m.1
   goes (Crashed d left) m k is = on_own (Crashed d left) d k is (m.0.0, m.0.1, m.1, m.2)
   goes (Lost d) m k is = on_own (Lost d) d k is (m.0, m.1, refl)
+  goes (Migrated disks commands) m k is = absurd m
 
 module _ (c : Shape) where
   does_from : (before es : List Filled) → IsRunFrom c before es → (h : ℕ) → Does c h ((world c before).host h) (of_host h es)
@@ -68,5 +70,14 @@ module _ (c : Shape) where
             (subst (λ (disk : DiskState). Serves c k disk (on_disk k es)) (disk_there c before e k is) rest)
       ]
 
-pub runs_are_at_once : (c : Shape) (log : List Filled) → IsRun c log → IsAtOnce c (λ k. opening_disk c) log
-runs_are_at_once c log r = record { hosts = does_from c [] log r; blank = λ k. zeros_hold_nothing c.slots; disks = serves_from c [] log r }
+-- no entry that follows is a migration
+deed_by : (c : Shape) (w : World) (e : Filled) → MayFollow c w e → IsDeed e
+deed_by c w (Migrated disks commands) m = absurd m
+deed_by c w other m = tt
+
+deeds_from : (c : Shape) (before es : List Filled) → IsRunFrom c before es → AreDeeds es
+deeds_from c before [] r = tt
+deeds_from c before (e ∷ es) r = (deed_by c (world c before) e r.0, deeds_from c (before ++ e ∷ []) es r.1)
+
+pub runs_are_at_once : (c : Shape) (log : List Filled) → IsFreshRun c log → IsAtOnce c (λ k. opening_disk c) log
+runs_are_at_once c log r = record { hosts = does_from c [] log r; deeds = deeds_from c [] log r; held = λ k. zeros_hold_nothing c.slots; disks = serves_from c [] log r }

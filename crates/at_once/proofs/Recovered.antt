@@ -8,12 +8,13 @@ use Rattle.slot_log.specs.Shape.{Shape}
 use Rattle.host.specs.declared.answer.HostAnswer.TheVariants.{Recovered}
 use Rattle.host.specs.Host.{said_of}
 use Rattle.host.specs.Kept.{Kept}
-use Rattle.world.specs.Entry.{Filled, Start, Stop, Submit, Recover, Look, Beat, Mark, Called, Torn, Crashed, Lost, is_of}
+use Rattle.world.specs.Entry.{Filled, Start, Stop, Submit, Recover, Look, Beat, Mark, Called, Torn, Crashed, Lost, Migrated, is_of}
 use Rattle.world.specs.Chosen.{at, SaysAt, IsCallOf, IsRecovery}
 use Rattle.world.specs.Headline.{prefix_at}
 use Rattle.world_safety.specs.Tracks.{AreChosen}
 use Rattle.world_safety.proofs.Claims.Recovering.{misses_nothing}
 use Rattle.world_safety.proofs.Claims.Safety.{learned_true}
+use Rattle.world_safety.proofs.Runs.Knowing.{chosen_upto}
 use Rattle.world_safety.proofs.Runs.Tracks.{all_true}
 use Rattle.at_once.specs.AtOnce.{bare, IsRunOf}
 use Rattle.at_once.specs.Joined.{HasRecovered}
@@ -62,6 +63,7 @@ bare_of h (Called g k call answer left) = refl
 bare_of h (Torn g k call left) = refl
 bare_of h (Crashed k left) = refl
 bare_of h (Lost k) = refl
+bare_of h (Migrated disks commands) = refl
 
 bare_recover : (x : Filled) (h tries : ℕ) → bare x ≡ Recover h tries → x ≡ Recover h tries
 bare_recover (Start g) h tries is = absurd (cc)
@@ -75,6 +77,7 @@ bare_recover (Called g k call answer left) h tries is = absurd (cc)
 bare_recover (Torn g k call left) h tries is = absurd (cc)
 bare_recover (Crashed k left) h tries is = absurd (cc)
 bare_recover (Lost k) h tries is = absurd (cc)
+bare_recover (Migrated disks commands) h tries is = absurd (cc)
 
 bare_called : (x : Filled) (h d : ℕ) (call : Call) (answer : Answer) → bare x ≡ Called h d call answer [] → IsCallOf h x
 bare_called (Start g) h d call answer is = absurd (cc)
@@ -90,6 +93,7 @@ bare_called (Called g k made told left) h d call answer is =
 bare_called (Torn g k made left) h d call answer is = absurd (cc)
 bare_called (Crashed k left) h d call answer is = absurd (cc)
 bare_called (Lost k) h d call answer is = absurd (cc)
+bare_called (Migrated disks commands) h d call answer is = absurd (cc)
 
 module _ (c : Shape) (log : List Filled) (of : IsRunOf c log) where
   -- what stands in the run where this stands in the list
@@ -130,5 +134,4 @@ module _ (c : Shape) (log : List Filled) (of : IsRunOf c log) where
         subst (λ (l : List Command). length l ≤ n) same
         (all_below (prefix_at c of.run k g) n (λ m command found.
         let known = chosen m command found in
-        let before : known.1.place < k = known.1.before in
-        misses_nothing c of.run of.is i j h n known.1.place m (spelling command) recovery (omega (arith, before, by)) known.1.is))
+        misses_nothing c of.run of.is i j h n m (spelling command) recovery (chosen_upto c of.run k i m (spelling command) by known.1)))

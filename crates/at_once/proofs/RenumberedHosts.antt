@@ -22,7 +22,7 @@ use Rattle.slot_log.specs.Shape.{Shape}
 use Rattle.slot_log.specs.declared.outcome.Refusal.TheVariants as refusal
 use Rattle.host.specs.declared.answer.HostAnswer.TheVariants.{Refused}
 use Rattle.host.specs.Host.{Operation, Submitting, Recovering, Looking, Doing, Beats, Marking, Memory, Host, Stopped, Running, says, begins, learns, goes_on, after_learning, is_submitted, takes, tries_again, with_floor, ended, by_status, with_heard, goes_by, hears, setup_of, beat_of, beat_ended, beat_by, hears_beat, marking_of, starts_marking, marking_ended, marking_by, marking_with, with_marking, hears_marking, hears_beside, hears_from, full_answer, is_idle, is_idle_in, rests, idles, is_stopped, next_marking, next_beside, next_doing, next_in, next_of}
-use Rattle.world.specs.Entry.{Filled, Start, Stop, Submit, Recover, Look, Beat, Mark, Called, Torn, Crashed, Lost, host_step}
+use Rattle.world.specs.Entry.{Filled, Start, Stop, Submit, Recover, Look, Beat, Mark, Called, Torn, Crashed, Lost, Migrated, host_step}
 use Rattle.at_once.specs.Power.{answer_later, entry_later}
 use Rattle.at_once.proofs.Renumbering.{heard_later, one_later, all_later, on_later, due_later, status_later, taken_later, next_later}
 use Rattle.at_once.proofs.RenumberedBeside.{beat_status_later, beat_next_later, mark_status_later, mark_next_later}
@@ -283,3 +283,4 @@ module _ (losses : ℕ → ℕ) where
   step_later c h host (Torn g d call left) = refl
   step_later c h host (Crashed d left) = refl
   step_later c h host (Lost d) = refl
+  step_later c h host (Migrated disks commands) = refl

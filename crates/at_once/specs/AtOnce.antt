@@ -3,13 +3,14 @@
 use Rattle.std.specs.Prelude.{◌≡◌, ◌<◌, ◌^◌, ℕ, false, IsTrue, List, [], ◌∷◌, map, take, Some}
 use Rattle.disk.specs.Disk.{DiskState, Step, Crashes, lost}
 use Rattle.torn_block.specs.declared.layout.TheConstants.{HOSTS}
+use Rattle.lock_command.specs.declared.command.Command.{Command}
 use Rattle.slot_log.specs.Shape.{Shape}
 use Rattle.host.specs.Host.{Host, Stopped, next_of, is_stopped, idles}
-use Rattle.world.specs.Entry.{Filled, Start, Stop, Submit, Recover, Look, Beat, Mark, Called, Torn, Crashed, Lost, on_disk, of_host, host_step, host_after}
-use Rattle.world.specs.World.{ReadsBack, Tears, opening_disk, IsRun}
+use Rattle.world.specs.Entry.{Filled, Start, Stop, Submit, Recover, Look, Beat, Mark, Called, Torn, Crashed, Lost, Migrated, on_disk, of_host, host_step, host_after}
+use Rattle.world.specs.World.{ReadsBack, Tears, opening_disk, world, CanMigrate, IsFreshRun, IsRun}
 use Rattle.world.specs.Chosen.{at}
 use Rattle.world.specs.Headline.{HasOneLog}
-use Rattle.at_once.specs.Images.{HoldsNothing}
+use Rattle.at_once.specs.Images.{used}
 
 -- WHAT A HOST DOES
 
@@ -26,6 +27,7 @@ MayDo c h host (Called g k call answer left) = next_of c h host ≡ Some (k, cal
 MayDo c h host (Torn g k call left) = next_of c h host ≡ Some (k, call)
 MayDo c h host (Crashed k left) = ⊥
 MayDo c h host (Lost k) = ⊥
+MayDo c h host (Migrated disks log) = ⊥
 
 -- one after the other
 abbrev pub Does : Shape → ℕ → Host → List Filled → Type 0
@@ -47,6 +49,7 @@ Goes c k old (Called h d call answer left) new = Step old call answer new
 Goes c k old (Torn h d call left) new = Tears call old new
 Goes c k old (Crashed d left) new = (k < c.disks) × (old.gone ≡ false) × (old.boot < 2 ^ 62) × Crashes old new
 Goes c k old (Lost d) new = (k < c.disks) × (old.gone ≡ false) × (new ≡ lost old)
+Goes c k old (Migrated disks log) new = ⊥
 
 -- one after the other, with some disk behind each
 abbrev pub Serves : Shape → ℕ → DiskState → List Filled → Type 0
@@ -55,11 +58,30 @@ Serves c k old (e ∷ es) = (new : DiskState) × Goes c k old e new × Serves c 
 
 -- AT ONCE
 
--- In this order, each host did by itself what it may, and each image by itself served what was done to it. At first none held a block.
-pub record IsAtOnce (c : Shape) (images : ℕ → DiskState) (log : List Filled) : Type 0 where
+-- each entry is of a host or on a disk, and none is a migration
+abbrev pub IsDeed : Filled → Type 0
+IsDeed (Migrated disks log) = ⊥
+IsDeed other = Unit {0}
+
+abbrev pub AreDeeds : List Filled → Type 0
+AreDeeds [] = Unit {0}
+AreDeeds (e ∷ es) = IsDeed e × AreDeeds es
+
+-- In this order, each host did by itself what it may, and each image by itself served what was done to it. At first the used part of each image was
+-- what such a beginning leaves.
+pub record IsAtOnceFrom (c : Shape) (begun : List Filled) (images : ℕ → DiskState) (log : List Filled) : Type 0 where
   pub hosts : (h : ℕ) → Does c h Stopped (of_host h log)
-  pub blank : (k : ℕ) → HoldsNothing c.slots (images k)
+  pub deeds : AreDeeds log
+  pub held : (k : ℕ) → used c.slots (images k) ≡ (world c begun).disk k
   pub disks : (k : ℕ) → Serves c k (images k) (on_disk k log)
+
+-- At first no image held a block,
+abbrev pub IsAtOnce : Shape → (ℕ → DiskState) → List Filled → Type 0
+IsAtOnce c images log = IsAtOnceFrom c [] images log
+
+-- or all held what a migration of this log left.
+abbrev pub IsAtOnceAfter : Shape → List Command → (ℕ → DiskState) → List Filled → Type 0
+IsAtOnceAfter c commands images log = IsAtOnceFrom c (Migrated c.disks commands ∷ []) images log
 
 -- without the bytes that a fault left
 abbrev pub bare : Filled → Filled
@@ -80,6 +102,11 @@ pub record IsRunOf (c : Shape) (log : List Filled) : Type 0 where
 abbrev pub AtOnceMakesARun : Type 0
 AtOnceMakesARun = (c : Shape) (images : ℕ → DiskState) (log : List Filled) → IsAtOnce c images log → IsRunOf c log
 
--- nor is any run left out
+-- so it is after a migration
+abbrev pub AfterMigrationMakesARun : Type 0
+AfterMigrationMakesARun =
+    (c : Shape) (commands : List Command) (images : ℕ → DiskState) (log : List Filled) → CanMigrate c commands → IsAtOnceAfter c commands images log → IsRunOf c (Migrated c.disks commands ∷ log)
+
+-- nor is any run left out that begins on zeros
 abbrev pub RunsAreAtOnce : Type 0
-RunsAreAtOnce = (c : Shape) (log : List Filled) → IsRun c log → IsAtOnce c (λ k. opening_disk c) log
+RunsAreAtOnce = (c : Shape) (log : List Filled) → IsFreshRun c log → IsAtOnce c (λ k. opening_disk c) log

@@ -5,7 +5,7 @@ use Rattle.disk.specs.Disk.{DiskState, Call, Attach, Read, Write, Sync, Answer, 
 use Rattle.slot_log.specs.Shape.{Shape}
 use Rattle.host.specs.Host.{Stopped}
 use Rattle.world.specs.Entry.{Filled, Called, Torn, Crashed, on_disk, of_host, host_after}
-use Rattle.at_once.specs.AtOnce.{Does, Goes, IsAtOnce, IsRunOf}
+use Rattle.at_once.specs.AtOnce.{Does, Goes, AreDeeds, IsAtOnce, IsRunOf}
 use Rattle.at_once.specs.Images.{HoldsNothing}
 use Rattle.at_once.specs.Joined.{IsJoined}
 
@@ -33,6 +33,7 @@ ServesOn c k old (e ∷ es) = (new : DiskState) × GoesOn c k old e new × Serve
 -- Where an image lost power every host has stopped.
 pub record IsOverLosses (c : Shape) (images : ℕ → DiskState) (log : List Filled) : Type 0 where
   pub hosts : (h : ℕ) → Does c h Stopped (of_host h log)
+  pub deeds : AreDeeds log
   pub blank : (k : ℕ) → HoldsNothing c.slots (images k)
   pub disks : (k : ℕ) → ServesOn c k (images k) (on_disk k log)
   pub dark : (i k h : ℕ) (left : List ℕ) → slice_get log i ≡ Some (Crashed k left) → host_after c h Stopped (of_host h (take i log)) ≡ Stopped

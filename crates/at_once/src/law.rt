@@ -1,5 +1,5 @@
 // What hosts over the same images make together, if each of their device calls takes effect at one moment.
-ghost use Rattle.at_once.specs.AtOnce.{AtOnceMakesARun, RunsAreAtOnce};
+ghost use Rattle.at_once.specs.AtOnce.{AtOnceMakesARun, AfterMigrationMakesARun, RunsAreAtOnce};
 ghost use Rattle.at_once.specs.Deeds.{Marks, Operates, Starts};
 ghost use Rattle.at_once.specs.Disks.{EachGave, GivingServes, SimulatedSteps};
 ghost use Rattle.at_once.specs.Images.{LaidOutHoldsNothing};
@@ -15,7 +15,9 @@ use disk::Disk;
 /// An image has a header, and may be longer than its slots need.
 pub fn calls_made_at_once_make_a_run()
     ensures makes { AtOnceMakesARun }
-    // And no run is left out.
+    // So it is over images that a migration of a log left.
+    ensures migrated { AfterMigrationMakesARun }
+    // And no run is left out that begins on zeros.
     ensures all { RunsAreAtOnce }
     // An image that was laid out holds nothing at first.
     ensures blank { LaidOutHoldsNothing }

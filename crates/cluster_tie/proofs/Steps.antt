@@ -9,7 +9,7 @@ use native.Mathlib.Decide.{dec_lt}
 use Rattle.atomic_table.specs.Table.{keeps, Me, step, Allows, Splits, Joins}
 use Rattle.atomic_table.proofs.Lists.{at_set, set_again}
 use Rattle.torn_block.specs.declared.layout.TheConstants.{HOSTS}
-use Rattle.world.specs.Entry.{Filled, Lost}
+use Rattle.world.specs.Entry.{Filled, Lost, Migrated}
 use Rattle.cluster_tie.specs.Parts.{Placed, belongs, placed, disk_of, host_of, Own, own_of, AreFresh}
 use Rattle.cluster_tie.specs.View.{Part, Known, part, keeper, holder, kept_back, handed, lent, own, parts_from, host_parts, all_parts}
 use Rattle.cluster_tie.specs.Rules.{same_role, Each, IsPartOf, Fits, Kept, Tied, grown, Agrees, appended, seen}
@@ -231,18 +231,29 @@ abbrev number_of : Bool → Filled → Option ℕ
 number_of true e = disk_of e
 number_of false e = host_of e
 
+-- it names a disk or a host, as all entries do but a migration
+abbrev Names : Filled → Type 0
+Names (Migrated disks log) = ⊥
+Names other = Unit {0}
+
+names_one : (kind : Bool) (e : Filled) (k : ℕ) → number_of kind e ≡ Some k → Names e
+names_one true (Migrated disks log) k is = absurd (cc)
+names_one true other k is = tt
+names_one false (Migrated disks log) k is = absurd (cc)
+names_one false other k is = tt
+
 -- it belongs there, and nowhere else
-belongs_named : (kind : Bool) (n : ℕ) (e : Filled) → belongs kind n e ≡ named n (number_of kind e)
-belongs_named true n (Lost k) = refl
-belongs_named true n other = refl
-belongs_named false n (Lost k) = refl
-belongs_named false n other = refl
+belongs_named : (kind : Bool) (n : ℕ) (e : Filled) → Names e → belongs kind n e ≡ named n (number_of kind e)
+belongs_named true n (Migrated disks log) names = absurd names
+belongs_named true n other names = refl
+belongs_named false n (Migrated disks log) names = absurd names
+belongs_named false n other names = refl
 
 belongs_to : (kind : Bool) {k : ℕ} {xs : List Placed} {o : Own} (n : ℕ) (e : Filled) → own_of k xs ≡ o → number_of kind e ≡ Some o.number → belongs kind n e ≡ true → (kind ≡ kind) × (k ≡ n)
-belongs_to kind {k} n e own is b = (refl, same_number k n (sym (belongs_named kind n e ∙ ap (named n) (is ∙ ap (λ (z : Own). Some z.number) (sym own))) ∙ b))
+belongs_to kind {k} {xs} {o} n e own is b = (refl, same_number k n (sym (belongs_named kind n e (names_one kind e o.number is) ∙ ap (named n) (is ∙ ap (λ (z : Own). Some z.number) (sym own))) ∙ b))
 
-belongs_to_none : (kind : Bool) (n : ℕ) (e : Filled) → number_of kind e ≡ None → belongs kind n e ≡ true → ⊥
-belongs_to_none kind n e is b = off (sym (belongs_named kind n e ∙ ap (named n) is) ∙ b)
+belongs_to_none : (kind : Bool) (n : ℕ) (e : Filled) → Names e → number_of kind e ≡ None → belongs kind n e ≡ true → ⊥
+belongs_to_none kind n e names is b = off (sym (belongs_named kind n e names ∙ ap (named n) is) ∙ b)
 
 -- So the part of this disk and that of this host are all to which an entry of the two belongs; or the one, where it is of one alone.
 pub covers_two : {k h : ℕ} {xs zs : List Placed} {d o : Own} (e : Filled) → own_of k xs ≡ d → own_of h zs ≡ o → (disk_of e ≡ Some d.number) × (host_of e ≡ Some o.number) → Covers e (part true k xs ∷ part false h zs ∷ [])
@@ -251,10 +262,10 @@ covers_two e disk host is false n b = inr (inl (belongs_to false n e host is.1 b
 
 pub covers_disk : {k : ℕ} {xs : List Placed} {d : Own} (e : Filled) → own_of k xs ≡ d → (disk_of e ≡ Some d.number) × (host_of e ≡ None) → Covers e (part true k xs ∷ [])
 covers_disk e disk is true n b = inl (belongs_to true n e disk is.0 b)
-covers_disk e disk is false n b = absurd (belongs_to_none false n e is.1 b)
+covers_disk {d = d} e disk is false n b = absurd (belongs_to_none false n e (names_one true e d.number is.0) is.1 b)
 
 pub covers_host : {h : ℕ} {zs : List Placed} {o : Own} (e : Filled) → own_of h zs ≡ o → (disk_of e ≡ None) × (host_of e ≡ Some o.number) → Covers e (part false h zs ∷ [])
-covers_host e host is true n b = absurd (belongs_to_none true n e is.0 b)
+covers_host {o = o} e host is true n b = absurd (belongs_to_none true n e (names_one false e o.number is.1) is.0 b)
 covers_host e host is false n b = inl (belongs_to false n e host is.1 b)
 
 each_is_part : (kind : Bool) (n count : ℕ) → Each (IsPartOf 0 (λ _ _. 0) []) (parts_from kind n count)

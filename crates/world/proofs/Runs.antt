@@ -13,7 +13,7 @@ use Rattle.lock_command.specs.declared.command.Command.{Command}
 use Rattle.lock_command.specs.Command.{spelling}
 use Rattle.slot_log.specs.Shape.{Shape}
 use Rattle.world.specs.Entry.{Filled, Start, Stop, Submit, Recover, Look, Beat, Mark, Called, Torn, Crashed, Lost, Migrated, is_on, is_of, torn_by, called_by, disk_step}
-use Rattle.world.specs.World.{World, world, ReadsBack, MayFollow, CanMigrate, MayBegin, IsRunFrom, IsRun}
+use Rattle.world.specs.World.{World, world, ReadsBack, MayFollow, CanMigrate, MayBegin, IsRunFrom, IsFreshRun, IsRun}
 use Rattle.world.specs.Happens.{Event, entry_of, with_entry, happens, happen, run, run_after, Line, lines_at, answers_from, answers}
 use Rattle.world.specs.Chosen.{migrated, IsMigrated, Submits}
 use Rattle.world.proofs.Projections.{disk_here, disk_there}
@@ -161,6 +161,14 @@ pub more : (c : Shape) (log : List Filled) (e : Filled) → IsRun c log → MayF
 more c [] e is m = (may_begin c (world c []) e m, tt)
 more c (x ∷ log) e is m = (is.0, run_more c (x ∷ []) log e is.1 m)
 
+-- a run over disks of zeros is one
+pub fresh_is_run : (c : Shape) (log : List Filled) → IsFreshRun c log → IsRun c log
+fresh_is_run c [] r = tt
+fresh_is_run c (e ∷ es) r = (may_begin c (world c []) e r.0, r.1)
+
+pub fresh_more : (c : Shape) (log : List Filled) (e : Filled) → IsFreshRun c log → MayFollow c (world c log) e → IsFreshRun c (log ++ e ∷ [])
+fresh_more c log e is m = run_more c [] log e is m
+
 -- every beginning of a run is one
 take_from : (c : Shape) (before log : List Filled) (i : ℕ) → IsRunFrom c before log → IsRunFrom c before (take i log)
 take_from c before [] zero r = tt
@@ -215,6 +223,21 @@ happen_run c log (e ∷ es) r = happen_run c (happens c log e) es (happens_run c
 
 pub run_is_run : (c : Shape) (events : List Event) → IsRun c (run c events)
 run_is_run c events = happen_run c [] events tt
+
+happens_fresh : (c : Shape) (log : List Filled) (event : Event) → IsFreshRun c log → IsFreshRun c (happens c log event)
+happens_fresh c log event r = go (entry_of c (world c log) event) refl
+  where
+    go : (o : Option Filled) → entry_of c (world c log) event ≡ o → IsFreshRun c (with_entry log o)
+    go None e = r
+    go (Some x) e = fresh_more c log x r (follows c log event x (fresh_is_run c log r) e)
+
+happen_fresh : (c : Shape) (log : List Filled) (events : List Event) → IsFreshRun c log → IsFreshRun c (happen c log events)
+happen_fresh c log [] r = r
+happen_fresh c log (e ∷ es) r = happen_fresh c (happens c log e) es (happens_fresh c log e r)
+
+-- the disks of which begin as zeros
+pub run_is_fresh : (c : Shape) (events : List Event) → IsFreshRun c (run c events)
+run_is_fresh c events = happen_fresh c [] events tt
 
 pub run_after_is_run : (c : Shape) (log : List Command) (events : List Event) → CanMigrate c log → IsRun c (run_after c log events)
 run_after_is_run c log events can = happen_run c (Migrated c.disks log ∷ []) events ((refl, can), tt)

@@ -81,6 +81,10 @@ abbrev pub MayBegin : Shape → World → Filled → Type 0
 MayBegin c w (Migrated disks log) = (disks ≡ c.disks) × CanMigrate c log
 MayBegin c w other = MayFollow c w other
 
+-- a run over disks that begin as zeros
+abbrev pub IsFreshRun : Shape → List Filled → Type 0
+IsFreshRun c log = IsRunFrom c [] log
+
 abbrev pub IsRun : Shape → List Filled → Type 0
 IsRun c [] = Unit {0}
 IsRun c (e ∷ es) = MayBegin c (world c []) e × IsRunFrom c (e ∷ []) es

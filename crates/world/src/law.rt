@@ -16,7 +16,7 @@ ghost use Rattle.slot_log.specs.Shape.{Shape};
 ghost use Rattle.host.specs.Host.{Doing, Looking, Marking, Memory, Running, goes_on, hears_from, setup_of, beat_of, marking_of, is_idle, next_of};
 ghost use Rattle.world.specs.Entry.{Filled, is_on, is_of, disk_step, host_step};
 ghost use Rattle.world.specs.Looks.{SaysLooking};
-ghost use Rattle.world.specs.World.{world, ReadsBack, MayFollow, CanMigrate, MayBegin, IsRun};
+ghost use Rattle.world.specs.World.{world, ReadsBack, MayFollow, CanMigrate, MayBegin, IsFreshRun, IsRun};
 ghost use Rattle.world.specs.Happens.{Event, entry_of, happens, run, run_after, lines_at, answers};
 ghost use Rattle.world.specs.Chosen.{at, Hears, IsChosenAt};
 ghost use Rattle.world.specs.Account.{AccountsFor, GivesUp};
@@ -41,6 +41,7 @@ pub fn goes_on()
     ensures empty { (c : Shape) → IsRun c [] }
     ensures more { (c : Shape) (log : List Filled) (e : Filled) →
         IsRun c log → MayFollow c (world c log) e → IsRun c (log ++ e ∷ []) }
+    ensures fresh { (c : Shape) (log : List Filled) → IsFreshRun c log → IsRun c log }
     ensures beginnings { (c : Shape) (log : List Filled) (i : ℕ) →
         IsRun c log → IsRun c (take i log) }
     ensures first { (c : Shape) (log : List Filled) (e : Filled) →
@@ -56,7 +57,7 @@ pub fn goes_on()
 pub fn events_make_a_run()
     ensures follows { (c : Shape) (log : List Filled) (event : Event) (e : Filled) → IsRun c log →
         entry_of c (world c log) event ≡ Some e → MayFollow c (world c log) e }
-    ensures run { (c : Shape) (events : List Event) → IsRun c (run c events) }
+    ensures run { (c : Shape) (events : List Event) → IsFreshRun c (run c events) }
     ensures migrated { (c : Shape) (log : List Command) (events : List Event) → CanMigrate c log →
         IsRun c (run_after c log events) }
     ensures one_more { (c : Shape) (events : List Event) (event : Event) →

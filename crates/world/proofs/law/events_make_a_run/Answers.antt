@@ -5,7 +5,7 @@ pub returns-clause-follows : goal.returns-clause-follows
 returns-clause-follows c = runs.follows
 
 pub returns-clause-run : goal.returns-clause-run
-returns-clause-run c = runs.run_is_run
+returns-clause-run c = runs.run_is_fresh
 
 pub returns-clause-migrated : goal.returns-clause-migrated
 returns-clause-migrated c = runs.run_after_is_run

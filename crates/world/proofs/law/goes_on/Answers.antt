@@ -7,6 +7,9 @@ returns-clause-empty c = λ shape. tt
 pub returns-clause-more : goal.returns-clause-more
 returns-clause-more c = runs.more
 
+pub returns-clause-fresh : goal.returns-clause-fresh
+returns-clause-fresh c = runs.fresh_is_run
+
 pub returns-clause-beginnings : goal.returns-clause-beginnings
 returns-clause-beginnings c = runs.beginning
 
