@@ -109,7 +109,7 @@ begins_deed h Recovering tries = tt
 begins_deed h Looking tries = tt
 
 turn_deeds : (h : ℕ) (operation : Operation) (tries : ℕ) (made : List Made) → AreDeeds (turn h operation tries made)
-turn_deeds h operation tries made = (tt, begins_deed h operation tries, calls_deeds h made)
+turn_deeds h operation tries made = (tt, (begins_deed h operation tries, calls_deeds h made))
 
 both_deeds : (first second : List Filled) → AreDeeds first → AreDeeds second → AreDeeds (first ++ second)
 both_deeds [] second are more = more

@@ -1,3 +1,5 @@
+ghost use Rattle.std.specs.Prelude.{◌≤◌, length};
+
 use crate::call::{Call, Kind, Phase};
 use crate::failure::Failure;
 use crate::moment::{Happened, Moment, Turn};
@@ -8,9 +10,11 @@ use simulator::{Parts, Script};
 use std::alloc::{AllocError, Global};
 
 /// Lets a script's events happen, and gives those that changed something.
-pub fn moments_of(alloc: Global, script: &Script) -> Result<Vec<Moment>, Failure> {
+pub fn moments_of(alloc: Global, script: &Script) -> Result<Vec<Moment>, Failure>
+    requires { length script.now.log.items ≤ script.now.config.slots }
+{
     let events = script.events.to_vec(alloc)?;
-    let mut parts = Parts::new(alloc, script.config)?;
+    let mut parts = Parts::migrated(alloc, script.config, &script.log)?;
     let mut watch = Watch::new(alloc, script.config.disks())?;
     let mut moments = Vec::new(alloc);
     for (place, event) in events.iter().enumerate() {
