@@ -14,7 +14,7 @@ use Rattle.host.specs.Kept.{Kept, LeadsTo}
 use Rattle.slot_log.specs.declared.outcome.Refusal.TheVariants as refusal
 use Rattle.host.specs.declared.answer.HostAnswer.TheVariants.{Refused}
 use Rattle.world.specs.Entry.{Filled, Start, Stop, Submit, Recover, Look, Beat, Mark, host_step, is_of}
-use Rattle.world.specs.World.{IsRun}
+use Rattle.world.specs.World.{IsFreshRun}
 use Rattle.world.proofs.Runs as runs
 use Rattle.world.proofs.Projections.{host_here}
 use Rattle.world.proofs.Follow.{command_reads_back}
@@ -140,37 +140,37 @@ module _ (c : Shape) (own : Own) (core new : Kept) (sub : Option Command) (at sl
 -- RUNS
 
 -- a run goes on by a submission
-pub submits : (c : Shape) (log : List Filled) (seat : Own) (command : Command) (tries : ℕ) → IsRun c log → seat.entries ≡ of_host seat.number log → idles (host_in c seat) ≡ true → FitsCommand command → command.host ≡ seat.number → 1 ≤ tries → IsRun c (log ++ Submit seat.number command tries ∷ [])
+pub submits : (c : Shape) (log : List Filled) (seat : Own) (command : Command) (tries : ℕ) → IsFreshRun c log → seat.entries ≡ of_host seat.number log → idles (host_in c seat) ≡ true → FitsCommand command → command.host ≡ seat.number → 1 ≤ tries → IsFreshRun c (log ++ Submit seat.number command tries ∷ [])
 submits c log seat command tries run of_seat idle fits is_host tried =
-    runs.more c log (Submit seat.number command tries) run (ap idles (host_is c log seat of_seat) ∙ idle, command_reads_back command fits, is_host, omega (arith, tried))
+    runs.fresh_more c log (Submit seat.number command tries) run (ap idles (host_is c log seat of_seat) ∙ idle, command_reads_back command fits, is_host, omega (arith, tried))
 
-pub recovers : (c : Shape) (log : List Filled) (seat : Own) (tries : ℕ) → IsRun c log → seat.entries ≡ of_host seat.number log → idles (host_in c seat) ≡ true → 1 ≤ tries → IsRun c (log ++ Recover seat.number tries ∷ [])
+pub recovers : (c : Shape) (log : List Filled) (seat : Own) (tries : ℕ) → IsFreshRun c log → seat.entries ≡ of_host seat.number log → idles (host_in c seat) ≡ true → 1 ≤ tries → IsFreshRun c (log ++ Recover seat.number tries ∷ [])
 recovers c log seat tries run of_seat idle tried =
-    runs.more c log (Recover seat.number tries) run (ap idles (host_is c log seat of_seat) ∙ idle, omega (arith, tried))
+    runs.fresh_more c log (Recover seat.number tries) run (ap idles (host_is c log seat of_seat) ∙ idle, omega (arith, tried))
 
-pub looks : (c : Shape) (log : List Filled) (seat : Own) → IsRun c log → seat.entries ≡ of_host seat.number log → idles (host_in c seat) ≡ true → IsRun c (log ++ Look seat.number ∷ [])
-looks c log seat run of_seat idle = runs.more c log (Look seat.number) run (ap idles (host_is c log seat of_seat) ∙ idle)
+pub looks : (c : Shape) (log : List Filled) (seat : Own) → IsFreshRun c log → seat.entries ≡ of_host seat.number log → idles (host_in c seat) ≡ true → IsFreshRun c (log ++ Look seat.number ∷ [])
+looks c log seat run of_seat idle = runs.fresh_more c log (Look seat.number) run (ap idles (host_is c log seat of_seat) ∙ idle)
 
-pub beats : (c : Shape) (log : List Filled) (seat : Own) → IsRun c log → seat.entries ≡ of_host seat.number log → idles (host_in c seat) ≡ true → IsRun c (log ++ Beat seat.number ∷ [])
-beats c log seat run of_seat idle = runs.more c log (Beat seat.number) run (ap idles (host_is c log seat of_seat) ∙ idle)
+pub beats : (c : Shape) (log : List Filled) (seat : Own) → IsFreshRun c log → seat.entries ≡ of_host seat.number log → idles (host_in c seat) ≡ true → IsFreshRun c (log ++ Beat seat.number ∷ [])
+beats c log seat run of_seat idle = runs.fresh_more c log (Beat seat.number) run (ap idles (host_is c log seat of_seat) ∙ idle)
 
-pub marks : (c : Shape) (log : List Filled) (seat : Own) (slot : ℕ) → IsRun c log → seat.entries ≡ of_host seat.number log → idles (host_in c seat) ≡ true → slot < c.slots → IsRun c (log ++ Mark seat.number slot ∷ [])
-marks c log seat slot run of_seat idle inside = runs.more c log (Mark seat.number slot) run (ap idles (host_is c log seat of_seat) ∙ idle, inside)
+pub marks : (c : Shape) (log : List Filled) (seat : Own) (slot : ℕ) → IsFreshRun c log → seat.entries ≡ of_host seat.number log → idles (host_in c seat) ≡ true → slot < c.slots → IsFreshRun c (log ++ Mark seat.number slot ∷ [])
+marks c log seat slot run of_seat idle inside = runs.fresh_more c log (Mark seat.number slot) run (ap idles (host_is c log seat of_seat) ∙ idle, inside)
 
 -- and by the start of a host that has no entry
-pub starts : (c : Shape) (log : List Filled) (h : ℕ) → IsRun c log → [] ≡ of_host h log → h < HOSTS → IsRun c (log ++ Start h ∷ [])
+pub starts : (c : Shape) (log : List Filled) (h : ℕ) → IsFreshRun c log → [] ≡ of_host h log → h < HOSTS → IsFreshRun c (log ++ Start h ∷ [])
 starts c log h run none is_host =
-    runs.more c log (Start h) run (is_host, ap is_stopped (host_is c log (own_of h []) none))
+    runs.fresh_more c log (Start h) run (is_host, ap is_stopped (host_is c log (own_of h []) none))
 
 pub is_itself : (n : ℕ) → (n == n) ≡ true
 is_itself n = grind (arith, nat_tests)
 
 -- and by a restart
-pub restarts : (c : Shape) (log : List Filled) (seat : Own) → IsRun c log → seat.entries ≡ of_host seat.number log → is_stopped (host_in c seat) ≡ false → seat.number < HOSTS → IsRun c ((log ++ Stop seat.number ∷ []) ++ Start seat.number ∷ [])
+pub restarts : (c : Shape) (log : List Filled) (seat : Own) → IsFreshRun c log → seat.entries ≡ of_host seat.number log → is_stopped (host_in c seat) ≡ false → seat.number < HOSTS → IsFreshRun c ((log ++ Stop seat.number ∷ []) ++ Start seat.number ∷ [])
 restarts c log seat run of_seat up is_host =
-    let stopped = runs.more c log (Stop seat.number) run (ap is_stopped (host_is c log seat of_seat) ∙ up) in
+    let stopped = runs.fresh_more c log (Stop seat.number) run (ap is_stopped (host_is c log seat of_seat) ∙ up) in
     let own : is_of seat.number (Stop seat.number) ≡ true = is_itself seat.number in
-    runs.more c (log ++ Stop seat.number ∷ []) (Start seat.number) stopped (is_host, ap is_stopped (host_here c log (Stop seat.number) seat.number own))
+    runs.fresh_more c (log ++ Stop seat.number ∷ []) (Start seat.number) stopped (is_host, ap is_stopped (host_here c log (Stop seat.number) seat.number own))
 
 -- the host then knows nothing
 pub restarted : (c : Shape) (own : Own) (at next : ℕ) → host_in c (adds (adds own at (Stop own.number)) next (Start own.number)) ≡ Running fresh

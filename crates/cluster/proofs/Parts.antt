@@ -6,9 +6,9 @@ use Rattle.disk.specs.Steps.{WritesOn}
 use Rattle.torn_block.specs.declared.layout.TheConstants.{HOSTS}
 use Rattle.slot_log.specs.Shape.{Shape}
 use Rattle.host.specs.Host.{Stopped, is_stopped, idles, next_of}
-use Rattle.world.specs.Entry.{Filled, Start, Stop, Submit, Recover, Look, Beat, Mark, Called, Torn, Crashed, Lost, is_of, disk_after, host_after}
+use Rattle.world.specs.Entry.{Filled, Start, Stop, Submit, Recover, Look, Beat, Mark, Called, Torn, Crashed, Lost, Migrated, is_of, disk_after, host_after}
 use Rattle.world.specs.Entry as entry
-use Rattle.world.specs.World.{world, opening_disk, MayFollow, IsRunFrom, IsRun}
+use Rattle.world.specs.World.{world, opening_disk, MayFollow, IsRunFrom, IsFreshRun}
 use Rattle.world.proofs.Runs as runs
 use Rattle.cluster_tie.specs.Parts.{Placed, Own, own_of, on_disk, of_host, entries}
 use Rattle.cluster_tie.proofs.Places.{without}
@@ -28,39 +28,39 @@ disk_is c log own part =
 
 -- a run goes on by a host's next call
 pub calls : (c : Shape) (log : List Filled) (seat book : Own) (answer : Answer) (disk : DiskState)
-    → IsRun c log
+    → IsFreshRun c log
     → seat.entries ≡ of_host seat.number log
     → book.entries ≡ on_disk book.number log
     → IsDueOn c seat book.number
     → WritesOn (disk_in c book) (due_in c seat).1
     → Step (disk_in c book) (due_in c seat).1 answer disk
-    → IsRun c (log ++ Called seat.number book.number (due_in c seat).1 answer (left_by (due_in c seat).1 disk) ∷ [])
+    → IsFreshRun c (log ++ Called seat.number book.number (due_in c seat).1 answer (left_by (due_in c seat).1 disk) ∷ [])
 calls c log seat book answer disk run of_seat of_book due fits step =
     let call = (due_in c seat).1 in
     let e = Called seat.number book.number call answer (left_by call disk) in
     let there : disk ≡ entry.disk_step (disk_in c book) e = leaves (disk_in c book) disk call answer fits step in
     let done : Step (disk_in c book) call answer (entry.disk_step (disk_in c book) e) = subst (λ (d : DiskState). Step (disk_in c book) call answer d) there step in
-    runs.more c log e run (
+    runs.fresh_more c log e run (
       ap (next_of c seat.number) (host_is c log seat of_seat) ∙ due,
       subst (λ (d : DiskState). Step d call answer (entry.disk_step d e)) (sym (disk_is c log book of_book)) done,
     )
 
 -- by a crash of a disk, which left this
 pub crashes : (c : Shape) (log : List Filled) (book : Own) (left : List ℕ) (new : DiskState)
-    → IsRun c log → book.entries ≡ on_disk book.number log → book.number < c.disks
+    → IsFreshRun c log → book.entries ≡ on_disk book.number log → book.number < c.disks
     → (disk_in c book).gone ≡ false → (disk_in c book).boot < 2 ^ 62
     → Crashes (disk_in c book) new → new ≡ entry.crashed_to (disk_in c book) left
-    → IsRun c (log ++ Crashed book.number left ∷ [])
+    → IsFreshRun c (log ++ Crashed book.number left ∷ [])
 crashes c log book left new run of_book is_disk there low step is =
     let same = sym (disk_is c log book of_book) in
-    runs.more c log (Crashed book.number left) run
+    runs.fresh_more c log (Crashed book.number left) run
     (subst (λ (d : DiskState). ((book.number < c.disks) × (d.gone ≡ false)) × (d.boot < 2 ^ 62) × Crashes d (entry.crashed_to d left)) same
     ((is_disk, there), low, subst (λ (d : DiskState). Crashes (disk_in c book) d) is step))
 
 -- and by a loss
-pub loses : (c : Shape) (log : List Filled) (book : Own) → IsRun c log → book.entries ≡ on_disk book.number log → book.number < c.disks → (disk_in c book).gone ≡ false → IsRun c (log ++ Lost book.number ∷ [])
+pub loses : (c : Shape) (log : List Filled) (book : Own) → IsFreshRun c log → book.entries ≡ on_disk book.number log → book.number < c.disks → (disk_in c book).gone ≡ false → IsFreshRun c (log ++ Lost book.number ∷ [])
 loses c log book run of_book is_disk there =
-    runs.more c log (Lost book.number) run (is_disk, ap (λ (d : DiskState). d.gone) (disk_is c log book of_book) ∙ there)
+    runs.fresh_more c log (Lost book.number) run (is_disk, ap (λ (d : DiskState). d.gone) (disk_is c log book of_book) ∙ there)
 
 -- HOSTS THAT THERE ARE NOT
 
@@ -80,6 +80,7 @@ module _ (c : Shape) (h : ℕ) (above : HOSTS ≤ h) (before : List Filled) (non
   not_its (Torn g k call left) may is = let no = sym may.0 ∙ ap (next_of c g) (stopped g (eqb-true g h is)) in cc no
   not_its (Crashed k left) may is = cc is
   not_its (Lost k) may is = cc is
+  not_its (Migrated disks commands) may is = absurd may
 
   none_next : (e : Filled) → MayFollow c (world c before) e → of_host h (before ++ e ∷ []) ≡ []
   none_next e may = part_grows false h before e ∙ (λ i. none i ++ cond (off (is_of h e) refl i) ((length before, e) ∷ []) [])
@@ -94,5 +95,5 @@ none_from c h above before (e ∷ es) none run =
     ap (of_host h) (sym (append_assoc before (e ∷ []) es)) ∙ none_from c h above (before ++ e ∷ []) es (none_next c h above before none e run.0) run.1
 
 -- a host of no such number has no entry in a run
-pub none_above : (c : Shape) (log : List Filled) (h : ℕ) → HOSTS ≤ h → IsRun c log → of_host h log ≡ []
+pub none_above : (c : Shape) (log : List Filled) (h : ℕ) → HOSTS ≤ h → IsFreshRun c log → of_host h log ≡ []
 none_above c log h above run = none_from c h above [] log refl run

@@ -12,7 +12,7 @@ use Rattle.host.specs.declared.answer.HostAnswer.{HostAnswer}
 use Rattle.host.specs.declared.answer.HostAnswer.TheVariants.{Ack, Recovered, Looked, Beaten, Marked, Refused}
 use Rattle.host.specs.Host.{Operation, Submitting, Recovering, Looking, Doing, Memory, Host, Stopped, Running, said_of, learned_of}
 use Rattle.world.specs.Entry.{Filled, Start, is_of, host_step}
-use Rattle.world.specs.World.{world, IsRun}
+use Rattle.world.specs.World.{world, IsFreshRun}
 use Rattle.world.specs.Plain.{plains}
 use Rattle.world.specs.Chosen.{at}
 use Rattle.world.specs.Headline.{IsPrefix, HasOneLog, IsSafe}
@@ -141,14 +141,14 @@ module _ (c : Shape) (log : List Filled) (own : Own) (part : own.entries ≡ of_
 -- WHAT IS LEFT
 
 -- each host with an entry has a seat where those do whose numbers there are
-pub covered : (c : Shape) (log : List Filled) (seats : List Own) → IsRun c log → ((h : ℕ) → h < HOSTS → of_host h log ≢ [] → HasSeat seats h) → AreCovered log seats
+pub covered : (c : Shape) (log : List Filled) (seats : List Own) → IsFreshRun c log → ((h : ℕ) → h < HOSTS → of_host h log ≢ [] → HasSeat seats h) → AreCovered log seats
 covered c log seats run has h some = go (nat_lt h HOSTS) refl
   where
     go : (b : Bool) → nat_lt h HOSTS ≡ b → HasSeat seats h
     go true below = has h (ltb-true h HOSTS below) some
     go false above = absurd (some (none_above c log h (ltb-false h HOSTS above) run))
 
-pub recorded : (c : Shape) (log : List Filled) (kept : List Entry) (seats : List Own) → kept ≡ plains log → IsRun c log → AreCovered log seats → ArePartsOf log seats → HasOneLog c log → IsRecord c kept seats
+pub recorded : (c : Shape) (log : List Filled) (kept : List Entry) (seats : List Own) → kept ≡ plains log → IsFreshRun c log → AreCovered log seats → ArePartsOf log seats → HasOneLog c log → IsRecord c kept seats
 recorded c log kept seats is run covers parts one =
     record {
       log = log;

@@ -14,8 +14,8 @@ use Rattle.lock_command.specs.Command.{number}
 use Rattle.lock_command.specs.Reading.{lock_at, request_at, mode_of, name_at, enqueue_at, action_at, command_at}
 use Rattle.lock_table.specs.Apply.{applied, granted}
 use Rattle.host.specs.Host.{learned_of, reply_after}
-use Rattle.world.specs.Entry.{Filled, Start, Stop, Submit, Recover, Look, Beat, Mark, Called, Torn, Crashed, Lost, is_of}
-use Rattle.world.specs.World.{IsRun}
+use Rattle.world.specs.Entry.{Filled, Start, Stop, Submit, Recover, Look, Beat, Mark, Called, Torn, Crashed, Lost, Migrated, is_of}
+use Rattle.world.specs.World.{IsFreshRun}
 use Rattle.world.specs.Plain.{plain, plains}
 use Rattle.world.specs.Headline.{HasOneLog}
 use Rattle.world.specs.declared.entry.Entry.{Entry}
@@ -84,6 +84,7 @@ of_one h other (Called g k call answer left) is = not_both g h is other
 of_one h other (Torn g k call left) is = not_both g h is other
 of_one h other (Crashed k left) is = refl
 of_one h other (Lost k) is = refl
+of_one h other (Migrated disks log) is = refl
 
 both : (s t : Bool) → cond s t false ≡ true → (s ≡ true) × (t ≡ true)
 both true t is = (refl, is)
@@ -107,9 +108,9 @@ part : ArePartsOf submission (first_seat ∷ [])
 part zero d less = refl
 part (suc i) d less = absurd (omega arith)
 
-pub run : IsRun one_disk submission
+pub run : IsFreshRun one_disk submission
 unfolding submission
-run = runs.run_is_run one_disk submitting
+run = runs.run_is_fresh one_disk submitting
 
 pub is_record : HasOneLog one_disk submission → IsRecord one_disk (plains submission) (first_seat ∷ [])
 is_record one = recorded one_disk submission (plains submission) (first_seat ∷ []) refl run covers part one
@@ -128,6 +129,7 @@ starts (Called h k call answer left) is = absurd (cc is)
 starts (Torn h k call left) is = absurd (cc is)
 starts (Crashed k left) is = absurd (cc is)
 starts (Lost k) is = absurd (cc is)
+starts (Migrated disks log) is = absurd (cc is)
 
 has_started : (log : List Filled) → slice_get (plains log) 0 ≡ Some (kept.Start 0) → of_host 0 log ≢ []
 has_started [] at none = let no : None ≡ Some (kept.Start 0) = at in cc no

@@ -4,7 +4,7 @@ use Rattle.lock_command.specs.declared.command.Command.{Command}
 use Rattle.slot_log.specs.Shape.{Shape}
 use Rattle.host.specs.Host.{learned_of, reply_after}
 use Rattle.world.specs.Entry.{Filled}
-use Rattle.world.specs.World.{world, IsRun}
+use Rattle.world.specs.World.{world, IsFreshRun}
 use Rattle.world.specs.Plain.{plains}
 use Rattle.world.specs.Chosen.{IsAcknowledgedAt}
 use Rattle.world.specs.Headline.{IsPrefix, IsSafe, HasNoSecondLog}
@@ -37,7 +37,7 @@ LacksSeat log seats = (h : ℕ) × (of_host h log ≢ []) × (¬ HasSeat seats h
 
 -- these are not all seats of some run
 abbrev pub AreNotAll : Shape → List Own → Type 0
-AreNotAll c seats = (log : List Filled) × IsRun c log × ArePartsOf log seats × LacksSeat log seats
+AreNotAll c seats = (log : List Filled) × IsFreshRun c log × ArePartsOf log seats × LacksSeat log seats
 
 -- A receipt is the acknowledgement of its host that stands in the log at its place.
 pub record IsReceipt (c : Shape) (log : List Filled) (h : ℕ) (r : Receipt) : Type 0 where
@@ -59,7 +59,7 @@ pub record IsRecord (c : Shape) (kept : List Entry) (seats : List Own) : Type 0 
   pub log : List Filled
   pub kept_is : kept ≡ plains log
   -- they are a run of the world,
-  pub run : IsRun c log
+  pub run : IsFreshRun c log
   -- each host with an entry has a seat,
   pub covers : AreCovered log seats
   -- and each seat's list is its host's entries, in order; so its prefix and its table are those of its host after the run,

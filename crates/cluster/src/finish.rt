@@ -1,7 +1,7 @@
 ghost use Rattle.std.specs.Prelude.{◌≡◌, ◌≢◌, ◌↔◌, ◌<◌, [], ℕ, true, false, Err, IsTrue, IfOk, IfErr};
 ghost use Rattle.torn_block.specs.declared.layout.TheConstants.{HOSTS};
 ghost use Rattle.world.specs.Plain.{plains};
-ghost use Rattle.world.specs.World.{IsRun};
+ghost use Rattle.world.specs.World.{IsFreshRun};
 ghost use Rattle.cluster_tie.specs.Parts.{of_host};
 ghost use Rattle.cluster.specs.Record.{ArePartsOf, HasSeat, LacksSeat, AreNotAll, IsRecord};
 
@@ -48,7 +48,7 @@ impl<'a, N: Named> Journal<'a, N> {
         ensures record { IfOk result (λ r. IsRecord N.shape r.entries.items r.seats.items) }
         ensures cause { IfErr result (λ fault. fault ≡ HostFault.SeatsMissing) }
         ensures missing { result ≡ Err HostFault.SeatsMissing ↔ LacksSeat self.entry.log seats.items }
-        ensures run { IsRun N.shape self.entry.log }
+        ensures run { IsFreshRun N.shape self.entry.log }
         ensures parts { ArePartsOf self.entry.log seats.items }
     {
         let mut journal = self;
@@ -80,7 +80,7 @@ impl<'a, N: Named> Journal<'a, N> {
     // The entries, once nobody needs the journal any more.
     fn into_entries(self) -> Vec<Entry>
         ensures entries { result.items ≡ plains self.entry.log }
-        ensures run { IsRun N.shape self.entry.log }
+        ensures run { IsFreshRun N.shape self.entry.log }
     {
         let Journal {
             config: _,

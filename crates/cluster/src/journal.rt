@@ -4,7 +4,7 @@ ghost use Rattle.host.specs.Host.{fresh};
 ghost use Rattle.host.specs.Kept.{LeadsTo};
 ghost use Rattle.world.specs.Entry.{Start};
 ghost use Rattle.world.specs.Plain.{plains};
-ghost use Rattle.world.specs.World.{IsRun};
+ghost use Rattle.world.specs.World.{IsFreshRun};
 ghost use Rattle.cluster_tie.specs.Parts.{own_of, of_host};
 ghost use Rattle.cluster.specs.Journal.{AreWaiting, KeepsTokens};
 
@@ -47,7 +47,7 @@ pub struct Journal<'a, N: Named> {
 impl<'a, N: Named> Model for Journal<'a, N> {
     ghost use Rattle.std.specs.Prelude.{◌≡◌, ◌+◌, ◌≤◌, ◌<◌, vec_len, vec_capacity};
     ghost use Rattle.world.specs.Plain.{plains};
-    ghost use Rattle.world.specs.World.{IsRun};
+    ghost use Rattle.world.specs.World.{IsFreshRun};
     ghost use Rattle.cluster.specs.Journal.{JournalState, KeepsTokens};
     ghost use Rattle.cluster.specs.declared.journal.TheConstants.{MOST};
 
@@ -58,7 +58,7 @@ impl<'a, N: Named> Model for Journal<'a, N> {
     ghost invariant = { λ j. record {
       config : j.config ≡ N.shape;
       kept : j.entries.items ≡ plains j.tie;
-      run : IsRun N.shape j.tie;
+      run : IsFreshRun N.shape j.tie;
       room : vec_len j.entries + j.promised ≤ vec_capacity j.entries;
       most : vec_len j.entries + j.promised ≤ MOST;
       total : j.promises.total ≡ j.promised;
@@ -100,7 +100,7 @@ impl<'a, N: Named> Journal<'a, N> {
     /// The entries, in the order in which they were kept.
     pub fn entries(&self) -> &[Entry]
         ensures entries { result.now ≡ plains self.now.log }
-        ensures run { IsRun N.shape self.now.log }
+        ensures run { IsFreshRun N.shape self.now.log }
     {
         &self.entries
     }

@@ -4,7 +4,7 @@ use Rattle.lock_command.specs.declared.command.Command.{Command}
 use Rattle.slot_log.specs.Shape.{Shape}
 use Rattle.host.specs.Host.{learned_of}
 use Rattle.world.specs.Entry.{Filled, of_host}
-use Rattle.world.specs.World.{world, IsRun}
+use Rattle.world.specs.World.{world, IsFreshRun}
 use Rattle.world.specs.Headline.{IsSafe, HasNoSecondLog}
 use Rattle.cluster_tie.specs.Parts.{Own}
 use Rattle.race.specs.Agreement.{Agree}
@@ -23,7 +23,7 @@ HostsAgree log hosts =
 -- What so many hosts left: one run, in which no other host took part, with one log,
 pub record IsRace (hosts : ℕ) (answers : List Answer) (agree : Bool) : Type 0 where
   pub log : List Filled
-  pub run : IsRun track log
+  pub run : IsFreshRun track log
   pub alone : (h : ℕ) → hosts ≤ h → of_host h log ≡ []
   pub commands : List Command
   pub safe : IsSafe track log commands

@@ -99,7 +99,7 @@ impl Replay {
                 call,
                 fault,
             } => self.calls(*host, *disk, *call, *fault, place)?,
-            Entry::Torn { .. } => false,
+            Entry::Torn { .. } | Entry::Migrated(_) => false,
             Entry::DiskCrash(disk) => self.crashes(*disk, given),
             Entry::DiskGone(disk) => self.loses(*disk),
         })

@@ -1,5 +1,5 @@
 -- Entries as a journal keeps them: the kinds of calls and answers, and none of their bytes.
-use Rattle.std.specs.Prelude.{List, [], ◌∷◌, ◌++◌, Option, Some, None}
+use Rattle.std.specs.Prelude.{List, map, Option, Some, None}
 use Rattle.disk.specs.declared.fault.DiskFault.{DiskFault}
 use Rattle.disk.specs.Disk.{Call, Attach, Read, Write, Sync, Answer, Fault}
 use Rattle.world.specs.declared.entry.Entry.{Entry}
@@ -18,22 +18,20 @@ abbrev pub fault_in : Answer → Option DiskFault
 fault_in (Fault fault) = Some fault
 fault_in other = None
 
--- an entry as it is kept; of a migration, which no journal sees, nothing is
-abbrev pub plain : Filled → List Entry
-plain (Start h) = kept.Start h ∷ []
-plain (Stop h) = kept.Stop h ∷ []
-plain (Submit h command tries) = kept.Submit h command tries ∷ []
-plain (Recover h tries) = kept.Recover h tries ∷ []
-plain (Look h) = kept.Look h ∷ []
-plain (Beat h) = kept.Beat h ∷ []
-plain (Mark h slot) = kept.Mark h slot ∷ []
-plain (Called h k call answer left) = kept.Called h k (kind_of call) (fault_in answer) ∷ []
-plain (Torn h k call left) = kept.Torn h k ∷ []
-plain (Crashed k left) = kept.DiskCrash k ∷ []
-plain (Lost k) = kept.DiskGone k ∷ []
-plain (Migrated disks log) = []
+abbrev pub plain : Filled → Entry
+plain (Start h) = kept.Start h
+plain (Stop h) = kept.Stop h
+plain (Submit h command tries) = kept.Submit h command tries
+plain (Recover h tries) = kept.Recover h tries
+plain (Look h) = kept.Look h
+plain (Beat h) = kept.Beat h
+plain (Mark h slot) = kept.Mark h slot
+plain (Called h k call answer left) = kept.Called h k (kind_of call) (fault_in answer)
+plain (Torn h k call left) = kept.Torn h k
+plain (Crashed k left) = kept.DiskCrash k
+plain (Lost k) = kept.DiskGone k
+plain (Migrated disks log) = kept.Migrated disks
 
 -- a list of entries as it is kept
 abbrev pub plains : List Filled → List Entry
-plains [] = []
-plains (e ∷ es) = plain e ++ plains es
+plains log = map plain log

@@ -45,4 +45,6 @@ pub enum Entry {
     },
     DiskCrash(u8),
     DiskGone(u8),
+    /// So many disks began as a migration of a log left them. Which log is not kept.
+    Migrated(u8),
 }

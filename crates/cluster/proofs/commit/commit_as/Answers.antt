@@ -6,7 +6,7 @@ use Rattle.host.specs.Host.{Memory, hears_from, is_idle}
 use Rattle.host.specs.Kept.{LeadsTo}
 use Rattle.world.specs.Entry.{Filled, disk_step}
 use Rattle.world.specs.Plain.{plain, plains, kind_of}
-use Rattle.world.specs.World.{IsRun}
+use Rattle.world.specs.World.{IsFreshRun}
 use Rattle.world.specs.declared.entry.Entry.{Entry}
 use Rattle.world.specs.declared.entry.Entry.TheVariants as kept
 use Rattle.cluster_tie.specs.Parts.{Own, adds}
@@ -40,7 +40,7 @@ module _ (g : _) (c : goal.After-book-1 g) where
   made : Makes shape own book.own.number (answer_in c.args.touched.outcome book.row) (disk_in shape book.own) book.disk
   made = subst (λ (p : Own × BookState g.row.D.Denot). Makes shape p.0 p.1.own.number (answer_in c.args.touched.outcome p.1.row) (disk_in shape p.1.own) p.1.disk) (λ i. (sym c.seat.view_is i, sym c.book.view_is i)) c.requires.made
 
-  run : IsRun shape (log ++ called_by shape own book c.args.touched.outcome ∷ [])
+  run : IsFreshRun shape (log ++ called_by shape own book c.args.touched.outcome ∷ [])
   run = calls shape log own book.own (answer_in c.args.touched.outcome book.row) book.disk c.journal.invariant.run c.append.ensures.parts.1 c.append.ensures.parts.0 made.due made.fits made.step
 
   due : ◌≡◌ {A = ℕ × Call} (book.own.number, (due_in shape own).1) (call_of_need c.call.result)
@@ -75,7 +75,7 @@ invariant_of-journal g c =
     record {
       config = j.config;
       kept = p.items ∙ (λ i. j.kept i ++ entry_is g c i ∷ []) ∙ sym (plains_more (log g c) (called_by (shape g c) (own g c) (book g c) c.args.touched.outcome)) ∙ ap (λ (x : Filled). plains (log g c ++ x ∷ [])) (sym (is g c)) ∙ ap plains (sym c.append.ensures.journal);
-      run = subst (IsRun (shape g c)) (ap (λ (x : Filled). log g c ++ x ∷ []) (sym (is g c)) ∙ sym c.append.ensures.journal) (run g c);
+      run = subst (IsFreshRun (shape g c)) (ap (λ (x : Filled). log g c ++ x ∷ []) (sym (is g c)) ∙ sym c.append.ensures.journal) (run g c);
       room = omega (arith, p.len, p.capacity, j.room, t.total, j.total);
       most = omega (arith, p.len, j.most, t.total, j.total);
       total = omega (arith, t.total, j.total);

@@ -6,7 +6,7 @@ use Rattle.paxos_block.specs.Places.{image_length}
 use Rattle.slot_log.specs.Shape.{Shape}
 use Rattle.world.specs.Entry.{Filled, Lost, disk_step}
 use Rattle.world.specs.Plain.{plain, plains}
-use Rattle.world.specs.World.{IsRun}
+use Rattle.world.specs.World.{IsFreshRun}
 use Rattle.world.specs.declared.entry.Entry.{Entry}
 use Rattle.world.specs.declared.entry.Entry.TheVariants as kept
 use Rattle.cluster_tie.specs.Parts.{Own, adds}
@@ -49,7 +49,7 @@ module _ (g : _) (c : After-lose g) where
   new_disk : image_on shape c.lose.new.disk.disk ≡ disk_step (disk_in shape own) e
   new_disk = ap (λ (s : SimState). image_on shape s.disk) c.lose.ensures ∙ ap lost left
 
-  run : IsRun shape (log ++ e ∷ [])
+  run : IsFreshRun shape (log ++ e ∷ [])
   run = loses shape log own c.journal.invariant.run c.append_disk.ensures.parts c.book.invariant.so.number there
 
   entry_is : ◌≡◌ {A = Entry} (kept.DiskGone c.book.inside.number) (plain e)
@@ -63,7 +63,7 @@ invariant_of-journal g c =
     record {
       config = j.config;
       kept = p.items ∙ (λ i. j.kept i ++ entry_is g c i ∷ []) ∙ sym (plains_more (log g c) (e g c)) ∙ ap (λ (x : Filled). plains (log g c ++ x ∷ [])) (sym (is g c)) ∙ ap plains (sym c.append_disk.ensures.journal);
-      run = subst (IsRun (shape g c)) (ap (λ (x : Filled). log g c ++ x ∷ []) (sym (is g c)) ∙ sym c.append_disk.ensures.journal) (run g c);
+      run = subst (IsFreshRun (shape g c)) (ap (λ (x : Filled). log g c ++ x ∷ []) (sym (is g c)) ∙ sym c.append_disk.ensures.journal) (run g c);
       room = omega (arith, p.len, p.capacity, j.room, t.total, j.total);
       most = omega (arith, p.len, j.most, t.total, j.total);
       total = omega (arith, t.total, j.total);

@@ -2,7 +2,8 @@ use Rattle.std.proofs.Common.{◌≡◌, ◌≢◌, ◌<◌, ◌++◌, ℕ, List
 use Rattle.std.proofs.lemmas.Grind.{common_steps}
 use Rattle.torn_block.specs.declared.layout.TheConstants.{HOSTS}
 use Rattle.world.specs.Entry.{Filled}
-use Rattle.world.specs.World.{IsRun}
+use Rattle.world.specs.World.{IsFreshRun}
+use Rattle.world.proofs.Runs.{fresh_is_run}
 use Rattle.cluster_tie.specs.Parts.{Own, of_host}
 use Rattle.cluster.specs.Journal.{JournalState}
 use Rattle.cluster.specs.Record.{ArePartsOf, HasSeat, AreCovered, LacksSeat}
@@ -23,7 +24,7 @@ module _ (g : _) (c : After-one_log_and_nothing_lost g) where
   parts : ArePartsOf log c.args.seats.items
   parts = subst (λ (j : JournalState). ArePartsOf j.log c.args.seats.items) (sym same) (subst (λ (s : List Own). ArePartsOf c.args.self.log s) c.as_mut_slice.ensures.value c.meet_all.ensures.parts)
 
-  run : IsRun g.N.Named.shape log
+  run : IsFreshRun g.N.Named.shape log
   run = c.into_entries-entries.ensures.run
 
   has : (h : ℕ) → h < HOSTS → of_host h log ≢ [] → HasSeat c.args.seats.items h
@@ -37,7 +38,7 @@ module _ (g : _) (c : After-one_log_and_nothing_lost g) where
 pub returns-clause-record : goal.returns-clause-record
 returns-clause-record g c =
     recorded g.N.Named.shape (log g c) _ _ c.into_entries-entries.ensures.entries (run g c) (subst (AreCovered (log g c)) (sym (all g c)) (covers g c)) (subst (ArePartsOf (log g c)) (sym (all g c)) (parts g c))
-    (c.one_log_and_nothing_lost.ensures.headline g.N.Named.shape (log g c) (run g c))
+    (c.one_log_and_nothing_lost.ensures.headline g.N.Named.shape (log g c) (fresh_is_run g.N.Named.shape (log g c) (run g c)))
 
 pub returns-clause-missing : goal.returns-clause-missing
 returns-clause-missing g c =

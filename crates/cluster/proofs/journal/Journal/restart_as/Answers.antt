@@ -5,7 +5,7 @@ use Rattle.host.specs.Host.{fresh, is_stopped}
 use Rattle.host.specs.Kept.{LeadsTo}
 use Rattle.world.specs.Entry.{Filled, Start, Stop}
 use Rattle.world.specs.Plain.{plains}
-use Rattle.world.specs.World.{IsRun}
+use Rattle.world.specs.World.{IsFreshRun}
 use Rattle.world.specs.declared.entry.Entry.TheVariants as kept
 use Rattle.cluster_tie.specs.Parts.{Own, adds}
 use Rattle.cluster.specs.Receipts.{receipts_of}
@@ -38,7 +38,7 @@ invariant_of-self-2 g c =
     record {
       config = j.config;
       kept = q.items ∙ (λ i. first i ++ kept.Start (same_host i) ∷ []) ∙ sym (plains_more (log ++ s ∷ []) t) ∙ ap plains is_log;
-      run = subst (IsRun shape) is_log (restarts shape log own j.run a.parts up is_host);
+      run = subst (IsFreshRun shape) is_log (restarts shape log own j.run a.parts up is_host);
       room = omega (arith, p.len, p.capacity, q.len, q.capacity, ok.0);
       most = omega (arith, p.len, q.len, ok.1);
       total = j.total;

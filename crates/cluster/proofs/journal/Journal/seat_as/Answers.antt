@@ -4,7 +4,7 @@ use Rattle.host.specs.Host.{fresh}
 use Rattle.host.specs.Kept.{LeadsTo}
 use Rattle.world.specs.Entry.{Filled, Start, is_of}
 use Rattle.world.specs.Plain.{plain, plains}
-use Rattle.world.specs.World.{IsRun}
+use Rattle.world.specs.World.{IsFreshRun}
 use Rattle.world.specs.declared.entry.Entry.{Entry}
 use Rattle.cluster_tie.specs.Parts.{Own, own_of, adds, of_host}
 use Rattle.cluster.specs.Receipts.{receipts_of}
@@ -53,7 +53,7 @@ invariant_of-self-2 g c =
     record {
       config = j.config;
       kept = p.items ∙ ap (λ (l : List Entry). l ++ plain e ∷ []) (c.has_room.ensures.items ∙ j.kept) ∙ sym (plains_more log e) ∙ ap (λ (x : Filled). plains (log ++ x ∷ [])) (sym c.requires.told) ∙ ap plains (sym a.journal);
-      run = subst (IsRun shape) (ap (λ (x : Filled). log ++ x ∷ []) (sym c.requires.told) ∙ sym a.journal) run;
+      run = subst (IsFreshRun shape) (ap (λ (x : Filled). log ++ x ∷ []) (sym c.requires.told) ∙ sym a.journal) run;
       room = omega (arith, p.len, p.capacity, ok.0);
       most = omega (arith, p.len, ok.1);
       total = j.total;

@@ -2,7 +2,7 @@ use Rattle.std.proofs.Common.{◌≡◌, ◌++◌, ◌∷◌, [], Some, length, 
 use Rattle.host.specs.Host.{Submitting, idles}
 use Rattle.world.specs.Entry.{Filled, Submit}
 use Rattle.world.specs.Plain.{plains}
-use Rattle.world.specs.World.{IsRun}
+use Rattle.world.specs.World.{IsFreshRun}
 use Rattle.world.specs.declared.entry.Entry.TheVariants as kept
 use Rattle.cluster_tie.specs.Parts.{Own, adds}
 use Rattle.cluster.specs.Receipts.{receipts_of}
@@ -30,7 +30,7 @@ invariant_of-self-2 g c =
     record {
       config = j.config;
       kept = p.items ∙ (λ i. (c.has_room.ensures.items ∙ j.kept) i ++ kept.Submit (same_host i) c.args.command c.args.tries ∷ []) ∙ sym (plains_more log e) ∙ ap (λ (x : Filled). plains (log ++ x ∷ [])) (sym is) ∙ ap plains (sym a.journal);
-      run = subst (IsRun shape) (ap (λ (x : Filled). log ++ x ∷ []) (sym is) ∙ sym a.journal) run;
+      run = subst (IsFreshRun shape) (ap (λ (x : Filled). log ++ x ∷ []) (sym is) ∙ sym a.journal) run;
       room = omega (arith, p.len, p.capacity, ok.ok.0);
       most = omega (arith, p.len, ok.ok.1);
       total = j.total;
