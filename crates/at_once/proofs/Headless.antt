@@ -44,13 +44,13 @@ module _ {A : Type 0} (x : A) where
   flat_headed (suc h) [] b has = absurd (omega (arith, has))
   flat_headed (suc h) (y ∷ old) b has = ap (λ (l : List Bool). b ∷ l) (flat_headed h old b (omega (arith, has)))
 
-  same_headed : (h n : ℕ) → h ≤ n → headed h x (replicate n x) ≡ replicate n x
+  pub same_headed : (h n : ℕ) → h ≤ n → headed h x (replicate n x) ≡ replicate n x
   unfolding headed
   same_headed zero n has = refl
   same_headed (suc h) zero has = absurd (omega (arith, has))
   same_headed (suc h) (suc n) has = ap (λ (l : List A). x ∷ l) (same_headed h n (omega (arith, has)))
 
-  take_same : (n size : ℕ) → n ≤ size → take n (replicate size x) ≡ replicate n x
+  pub take_same : (n size : ℕ) → n ≤ size → take n (replicate size x) ≡ replicate n x
   take_same zero size fits = refl
   take_same (suc n) zero fits = absurd (omega (arith, fits))
   take_same (suc n) (suc size) fits = ap (λ (l : List A). x ∷ l) (take_same n size (omega (arith, fits)))

@@ -5,6 +5,7 @@ pub mod InTurn
 pub mod Joined
 pub mod Losses
 pub mod Lying
+pub mod Migrated
 pub mod Parting
 pub mod Recovered
 pub mod RenumberedBeside

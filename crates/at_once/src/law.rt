@@ -2,7 +2,7 @@
 ghost use Rattle.at_once.specs.AtOnce.{AtOnceMakesARun, AfterMigrationMakesARun, RunsAreAtOnce};
 ghost use Rattle.at_once.specs.Deeds.{Marks, Operates, Starts};
 ghost use Rattle.at_once.specs.Disks.{EachGave, GivingServes, SimulatedSteps};
-ghost use Rattle.at_once.specs.Images.{LaidOutHoldsNothing};
+ghost use Rattle.at_once.specs.Images.{LaidOutHoldsNothing, MigratedHoldsLog};
 ghost use Rattle.at_once.specs.InTurn.{TurnsAgree};
 ghost use Rattle.at_once.specs.Joined.{DeedsAreJoined};
 ghost use Rattle.at_once.specs.Power.{LossesAreCrashes, LossesAreJoined};
@@ -21,6 +21,8 @@ pub fn calls_made_at_once_make_a_run()
     ensures all { RunsAreAtOnce }
     // An image that was laid out holds nothing at first.
     ensures blank { LaidOutHoldsNothing }
+    // A complete image of a migration holds its log.
+    ensures held { MigratedHoldsLog }
 {}
 
 /// What a host does by its operations and markings over disks is what it may do; and what it keeps is what it then knows.

@@ -18,9 +18,9 @@ module _ (slots : ℕ) (log : List (List ℕ)) (few : length log ≤ slots) (val
   abbrev pub with_rows : List ℕ
   with_rows = put_at (zeros (image_length slots)) (row_place 0) (rows_for log)
 
-  -- row by row it is the same
-  row_by_row : with_rows ≡ puts (zeros (image_length slots)) (blocks_from 0 log ++ [])
-  row_by_row =
+  -- part by part: zeros, the rows, and zeros for the slots that are left
+  pub part_by_part : with_rows ≡ zeros (row_place 0) ++ (rows_for log ++ zeros (ROW_LENGTH * (slots - length log)))
+  part_by_part =
       let sum : image_length slots ≡ row_place 0 + ROW_LENGTH * slots = omega arith in
       let size = length-rows log values in
       let left : ROW_LENGTH * slots - length (rows_for log) ≡ ROW_LENGTH * (slots - length log) = omega (arith, size, few) in
@@ -28,6 +28,12 @@ module _ (slots : ℕ) (log : List (List ℕ)) (few : length log ≤ slots) (val
       ∙ ap (λ (l : List ℕ). put_at l (row_place 0) (rows_for log)) (zeros_joined (row_place 0) (ROW_LENGTH * slots))
       ∙ put_in_zeros (zeros (row_place 0)) (rows_for log) (row_place 0) (ROW_LENGTH * slots) (length-zeros (row_place 0)) (omega (arith, size, few))
       ∙ ap (λ (n : ℕ). zeros (row_place 0) ++ (rows_for log ++ zeros n)) left
+
+  -- row by row it is the same
+  row_by_row : with_rows ≡ puts (zeros (image_length slots)) (blocks_from 0 log ++ [])
+  row_by_row =
+      let sum : image_length slots ≡ row_place 0 + ROW_LENGTH * slots = omega arith in
+      part_by_part
       ∙ sym (rows_written log slots 0 (zeros (row_place 0)) [] (length-zeros (row_place 0)) few values)
       ∙ ap (λ (l : List ℕ). puts l (blocks_from 0 log ++ [])) (sym (zeros_joined (row_place 0) (ROW_LENGTH * slots)))
       ∙ ap (λ (n : ℕ). puts (zeros n) (blocks_from 0 log ++ [])) (sym sum)
