@@ -1,7 +1,7 @@
 // Worked runs, through every call that may want memory.
 use crate::replies::GRANTED;
 use host::HostAnswer;
-use simulator::{Parts, Report, Sim, read_script, run, sweep};
+use simulator::{Parts, Report, Sim, read_script, run, run_migrated, sweep};
 use std::alloc::{AllocError, Global};
 use std::test::Fail;
 
@@ -21,6 +21,10 @@ stop 0\ngone 2\nstart 1\nrecover 1 1\nstep 1 56\n";
 const LOOKED: &[u8] =
     b"cluster 1 2\nstart 0\nsubmit 0 1 enqueue 1 1 1 EX db\nstep 0 17\nmark 0 0\nstep 0 9\n\
 start 1\nlook 1\nstep 1 6\n";
+
+// A migration left one command, and a host recovers it.
+const MIGRATED: &[u8] =
+    b"cluster 3 4\nlog 0 enqueue 1 1 1 EX db\nstart 1\nrecover 1 1\nstep 1 39\n";
 
 // A submission over three disks, none of whose calls is made.
 const SUBMITTED: &str = "cluster 3 2\nstart 0\nsubmit 0 1 enqueue 1 1 1 EX db\n";
@@ -91,6 +95,27 @@ fn looked(rt: HostRuntime) -> Result<(), Fail> {
     let picture = answers[2].picture.as_ref().ok_or("picture")?;
     assert_eq!(rt; picture.locks().len(), 1);
     assert_eq!(rt; picture.locks()[0].lock.get(), 1);
+    Ok(())
+}
+
+#[test]
+fn migrated_log(rt: HostRuntime) -> Result<(), Fail> {
+    let script = read_script(rt.alloc(), MIGRATED)?;
+    let events = script.events.to_vec(rt.alloc())?;
+    let report = run_migrated(rt.alloc(), script.config, &script.log, &events)?;
+    let answers = report.answers();
+    assert_eq!(rt; answers.len(), 1);
+    assert_eq!(rt; answers[0].place, 40);
+    assert_eq!(rt; answers[0].said, HostAnswer::Recovered { length: 1 });
+    let picture = answers[0].picture.as_ref().ok_or("picture")?;
+    assert_eq!(rt; picture.locks().len(), 1);
+
+    let mut sim = Sim::migrated(rt.alloc(), script.config, &script.log)?;
+    for event in &events {
+        sim.event(rt.alloc(), event)?;
+    }
+    let host = sim.host(1).ok_or("host 1")?;
+    assert_eq!(rt; host.prefix().len(), 1);
     Ok(())
 }
 
