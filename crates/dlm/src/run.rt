@@ -1,4 +1,4 @@
-ghost use Rattle.std.specs.Prelude.{◌≤◌, ◌+◌, List, OnOk};
+ghost use Rattle.std.specs.Prelude.{◌≤◌, ◌+◌, List, OnOk, length};
 ghost use Rattle.world.specs.Entry.{Filled};
 ghost use Rattle.simulator.specs.Kept.{LeadsTo};
 ghost use Rattle.dlm.specs.Printed.{WritesAnswer};
@@ -12,10 +12,12 @@ use std::alloc::Global;
 use std::io;
 use std::io::Write;
 
-/// Lets the script's events happen in turn. Prints what the hosts answer, each with its event's number, and between the
+/// Lets the script's events happen in turn, to a cluster that begins with the script's log. Prints what the hosts answer, each with its event's number, and between the
 /// events the tables that are to be shown there.
-pub fn run_script<O: Write>(alloc: Global, script: &Script, out: &mut O) -> Result<(), Failure> {
-    let mut parts = Parts::new(alloc, script.config).map_err(Fault::from)?;
+pub fn run_script<O: Write>(alloc: Global, script: &Script, out: &mut O) -> Result<(), Failure>
+    requires { length script.now.log.items ≤ script.now.config.slots }
+{
+    let mut parts = Parts::migrated(alloc, script.config, &script.log).map_err(Fault::from)?;
     let mut shows = script.shows.as_slice();
     let mut place = 0;
     // A table is shown between two lines of the script, and so between two runs of events.

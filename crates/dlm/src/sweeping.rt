@@ -1,3 +1,5 @@
+ghost use Rattle.std.specs.Prelude.{◌≤◌, length};
+
 use crate::failure::Failure;
 use crate::fault::Fault;
 use simulator::{Script, sweep};
@@ -6,7 +8,9 @@ use std::io::Write;
 
 /// Runs the variants of a script, and prints how many there were, how many of their last recoveries answered, and how many
 /// runs were wrong. The first wrong one is the refusal.
-pub fn print_sweep<O: Write>(alloc: Global, script: &Script, out: &mut O) -> Result<(), Failure> {
+pub fn print_sweep<O: Write>(alloc: Global, script: &Script, out: &mut O) -> Result<(), Failure>
+    requires { length script.now.log.items ≤ script.now.config.slots }
+{
     let swept = sweep(alloc, script).map_err(Fault::from)?;
     let runs = swept.runs;
     let recovered = swept.recovered;

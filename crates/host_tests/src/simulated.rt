@@ -1,7 +1,7 @@
 // Worked runs, through every call that may want memory.
 use crate::replies::GRANTED;
 use host::HostAnswer;
-use simulator::{Answer, Event, Parts, Report, Sim, read_script, run, sweep};
+use simulator::{Answer, Event, Parts, Report, Sim, read_script, run, run_migrated, sweep};
 use std::alloc::{AllocError, Global};
 use std::test::Fail;
 
@@ -21,6 +21,10 @@ stop 0\ngone 2\nstart 1\nrecover 1 1\nstep 1 56\n";
 const LOOKED: &[u8] =
     b"cluster 1 2\nstart 0\nsubmit 0 1 enqueue 1 1 1 EX db\nstep 0 17\nmark 0 0\nstep 0 9\n\
 start 1\nlook 1\nstep 1 6\n";
+
+// A migration left one command, and a host recovers it.
+const MIGRATED: &[u8] =
+    b"cluster 3 4\nlog 0 enqueue 1 1 1 EX db\nstart 1\nrecover 1 1\nstep 1 39\n";
 
 // A submission over three disks, none of whose calls is made.
 const SUBMITTED: &str = "cluster 3 2\nstart 0\nsubmit 0 1 enqueue 1 1 1 EX db\n";
@@ -144,6 +148,35 @@ fn first_said(alloc: Global) -> Result<Vec<(usize, u8)>, Fail> {
     let events = script.events.to_vec(alloc)?;
     let mut parts = Parts::new(alloc, script.config)?;
     said_by(alloc, &mut parts, &events)
+}
+
+// What is answered to the events of the script that begins with a log.
+fn reported_after_a_log(alloc: Global) -> Result<Vec<Shown>, Fail> {
+    let script = read_script(alloc, MIGRATED)?;
+    let events = script.events.to_vec(alloc)?;
+    let report = run_migrated(alloc, script.config, &script.log, &events)?;
+    all_shown(alloc, &report)
+}
+
+// How many commands its host has learned in the end.
+fn learned_after_a_log(alloc: Global) -> Result<Option<usize>, Fail> {
+    let script = read_script(alloc, MIGRATED)?;
+    let events = script.events.to_vec(alloc)?;
+    let mut sim = Sim::migrated(alloc, script.config, &script.log)?;
+    let _answers = answered(alloc, &mut sim, &events)?;
+    Ok(sim.host(1).map(|host| host.prefix().len()))
+}
+
+#[test]
+fn migrated_log(rt: HostRuntime) -> Result<(), Fail> {
+    let answers = reported_after_a_log(rt.alloc())?;
+    let recovered = HostAnswer::Recovered { length: 1 };
+    assert_eq!(rt;
+        answers.as_slice(),
+        [(40, recovered, Some((1, Some(1))))].as_slice()
+    );
+    assert_eq!(rt; learned_after_a_log(rt.alloc())?, Some(1));
+    Ok(())
 }
 
 #[test]
