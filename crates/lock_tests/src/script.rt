@@ -158,8 +158,16 @@ fn log_lines(rt: HostRuntime) -> Result<(), Fail> {
         (b"cluster 1 2\nstart 0\n", 0, 1),
         (b"cluster 1 2\nlog 0 enqueue 1 1 1 EX db", 1, 0),
         (b"cluster 1 1\nlog 0 purge 1 1 15\nshow 0\n", 1, 0),
-        (b"cluster 1 2\n\n# old\nlog 0 enqueue 1 1 1 EX db\n#\n\nlog 15 status 1 2 1\n# new\nstart 0\n", 2, 1),
-        (b"cluster 1 2\nlog 0 release 1 1 1 value 0123456789abcdef0123456789abcdef\n", 1, 0),
+        (
+            b"cluster 1 2\n\n# old\nlog 0 enqueue 1 1 1 EX db\n#\n\nlog 15 status 1 2 1\n# new\nstart 0\n",
+            2,
+            1,
+        ),
+        (
+            b"cluster 1 2\nlog 0 release 1 1 1 value 0123456789abcdef0123456789abcdef\n",
+            1,
+            0,
+        ),
     ];
     for (script, commands, events) in good {
         let whole = read_script(rt.alloc(), script)?;
@@ -168,9 +176,15 @@ fn log_lines(rt: HostRuntime) -> Result<(), Fail> {
     let bad: [(&[u8], usize); 9] = [
         (b"log 0 enqueue 1 1 1 EX db\ncluster 1 2\n", 1),
         (b"cluster 1 2\nstart 0\nlog 0 enqueue 1 1 1 EX db\n", 3),
-        (b"cluster 1 2\nlog 0 enqueue 1 1 1 EX db\nshow 0\nlog 0 status 1 2 1\n", 4),
+        (
+            b"cluster 1 2\nlog 0 enqueue 1 1 1 EX db\nshow 0\nlog 0 status 1 2 1\n",
+            4,
+        ),
         (b"cluster 1 2\nlog 0 enqueue 1 1 1 EX db\ncluster 1 2\n", 3),
-        (b"cluster 1 1\nlog 0 enqueue 1 1 1 EX db\n#\nlog 0 status 1 2 1\n", 4),
+        (
+            b"cluster 1 1\nlog 0 enqueue 1 1 1 EX db\n#\nlog 0 status 1 2 1\n",
+            4,
+        ),
         (b"cluster 1 2\nlog 16 enqueue 1 1 1 EX db\n", 2),
         (b"cluster 1 2\nlog 0 1 enqueue 1 1 1 EX db\n", 2),
         (b"cluster 1 2\nlog 0 purge 1 1 16\n", 2),
