@@ -24,7 +24,7 @@ use Rattle.folder_migration.specs.declared.fault.MoveFault.TheVariants.{NoMemory
 use Rattle.folder_migration.specs.declared.gate.Gate.{Gate}
 use Rattle.folder_migration.specs.declared.gate.Gate.TheVariants.{Open, Closed}
 use Rattle.folder_migration.specs.declared.migrate.Moved.{Moved}
-use Rattle.folder_migration.specs.declared.migrate.Moved.TheVariants.{Moved as All, Finished}
+use Rattle.folder_migration.specs.declared.migrate.Moved.TheVariants.{Moved as WasMoved, Finished}
 
 -- the same disks, with so many slots
 abbrev pub with_slots : Shape → ℕ → Shape
@@ -109,7 +109,7 @@ pub record HasFinished (slots disks : ℕ) : Type 0 where
   pub disks_is : disks ≡ config.disks
 
 abbrev pub CameTo : ℕ → Moved → Type 0
-CameTo slots (All commands disks) = HasWritten slots commands disks end.Migrated
+CameTo slots (WasMoved commands disks) = HasWritten slots commands disks end.Migrated
 CameTo slots (Finished disks) = HasFinished slots disks
 
 -- WHY IT IS REFUSED
