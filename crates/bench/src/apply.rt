@@ -1,5 +1,5 @@
+use crate::bench_failure::BenchFailure;
 use crate::benchmark::Benchmark;
-use crate::failure::Failure;
 use lock_command::{
     Action, ClientNumber, Command, HostNumber, LockName, LockNumber, RequestNumber,
 };
@@ -21,19 +21,19 @@ pub struct Apply {
 }
 
 impl Benchmark for Apply {
-    fn new(alloc: Global) -> Result<Self, Failure> {
+    fn new(alloc: Global) -> Result<Self, BenchFailure> {
         let mut table = Table::new(alloc)?;
         stand_all(&mut table)?;
         Ok(Apply { table })
     }
 
-    fn run(&mut self, count: u32) -> Result<(), Failure> {
+    fn run(&mut self, count: u32) -> Result<(), BenchFailure> {
         for place in 0..count {
             let Some(command) = command_at(place) else {
-                return Err(Failure::Wrong);
+                return Err(BenchFailure::Wrong);
             };
             if let Answer::Refused(_) = self.table.apply(&command).answer {
-                return Err(Failure::Wrong);
+                return Err(BenchFailure::Wrong);
             }
         }
         Ok(())
@@ -41,13 +41,13 @@ impl Benchmark for Apply {
 }
 
 /// Puts all locks into the table that stand there all the while.
-fn stand_all(table: &mut Table) -> Result<(), Failure> {
+fn stand_all(table: &mut Table) -> Result<(), BenchFailure> {
     for place in 0..STANDING {
         let Some(command) = standing_at(place) else {
-            return Err(Failure::Wrong);
+            return Err(BenchFailure::Wrong);
         };
         if table.apply(&command).answer != Answer::Granted {
-            return Err(Failure::Wrong);
+            return Err(BenchFailure::Wrong);
         }
     }
     Ok(())

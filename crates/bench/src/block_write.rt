@@ -1,7 +1,7 @@
 ghost use Rattle.std.specs.Prelude.{◌≡◌, ◌≤◌, ◌+◌, length};
 
+use crate::bench_failure::BenchFailure;
 use crate::benchmark::Benchmark;
-use crate::failure::Failure;
 use disk::{Boot, Disk, SimDisk};
 use std::alloc::Global;
 use torn_block::{BLOCK_LENGTH, BODY_ROOM, BlockNeed, Body, ClusterLayout, WriteSteps, read_block};
@@ -14,12 +14,12 @@ pub struct BlockWrite {
 }
 
 impl Benchmark for BlockWrite {
-    fn new(alloc: Global) -> Result<Self, Failure> {
+    fn new(alloc: Global) -> Result<Self, BenchFailure> {
         let disk = SimDisk::new(alloc, 2048)?;
         Ok(BlockWrite { disk })
     }
 
-    fn run(&mut self, count: u32) -> Result<(), Failure> {
+    fn run(&mut self, count: u32) -> Result<(), BenchFailure> {
         let boot = self.disk.attach()?;
         let mut body = Body {
             bytes: [0; BODY_ROOM],
@@ -33,7 +33,7 @@ impl Benchmark for BlockWrite {
 }
 
 /// Reads the block at this place, and writes the body over it in six calls.
-pub fn write_block(disk: &mut SimDisk, boot: Boot, at: u32, body: &Body) -> Result<(), Failure>
+pub fn write_block(disk: &mut SimDisk, boot: Boot, at: u32, body: &Body) -> Result<(), BenchFailure>
     requires { at + BLOCK_LENGTH ≤ length disk.old.disk.bytes }
     ensures { length disk.new.disk.bytes ≡ length disk.old.disk.bytes }
 {
@@ -50,7 +50,7 @@ pub fn write_block(disk: &mut SimDisk, boot: Boot, at: u32, body: &Body) -> Resu
         steps.done();
     }
     if !steps.is_done() {
-        return Err(Failure::Wrong);
+        return Err(BenchFailure::Wrong);
     }
     Ok(())
 }

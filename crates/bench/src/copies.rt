@@ -2,8 +2,8 @@ ghost use Rattle.std.specs.Prelude.{◌≡◌, ◌≤◌, ◌<◌, ◌+◌, vec_
 ghost use Rattle.torn_block.specs.declared.layout.TheConstants.{COPY_LENGTH, DISKS, ROW_LENGTH, SLOTS};
 ghost use Rattle.paxos_block.specs.Places;
 
+use crate::bench_failure::BenchFailure;
 use crate::benchmark::Benchmark;
-use crate::failure::Failure;
 use paxos_block::{image_length, row_place};
 use std::alloc::{AllocError, Global};
 use torn_block::{COPY_LENGTH, ClusterLayout, DISKS, ROW_LENGTH, SLOTS};
@@ -69,7 +69,7 @@ impl Buffer {
 }
 
 impl Benchmark for Copies {
-    fn new(alloc: Global) -> Result<Self, Failure> {
+    fn new(alloc: Global) -> Result<Self, BenchFailure> {
         let mut buffers = Vec::new(alloc);
         'buffers: for _ in 0..DISKS {
             buffers.push(Buffer::new(alloc)?).map_err(AllocError::from)?;
@@ -80,14 +80,14 @@ impl Benchmark for Copies {
         })
     }
 
-    fn run(&mut self, count: u32) -> Result<(), Failure> {
+    fn run(&mut self, count: u32) -> Result<(), BenchFailure> {
         if SLOTS < count {
-            return Err(Failure::Wrong);
+            return Err(BenchFailure::Wrong);
         }
         for slot in 0..count {
             self.copy(slot as u16);
             if self.row[COPY_LENGTH] != BYTE {
-                return Err(Failure::Wrong);
+                return Err(BenchFailure::Wrong);
             }
         }
         Ok(())

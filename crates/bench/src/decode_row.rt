@@ -1,6 +1,6 @@
+use crate::bench_failure::BenchFailure;
 use crate::benchmark::Benchmark;
 use crate::block_write::write_block;
-use crate::failure::Failure;
 use disk::{Disk, SimDisk};
 use paxos_block::{PBlock, Row, Value, decode_row, encode, may_say};
 use std::alloc::Global;
@@ -16,7 +16,7 @@ pub struct DecodeRow {
 }
 
 impl Benchmark for DecodeRow {
-    fn new(alloc: Global) -> Result<Self, Failure> {
+    fn new(alloc: Global) -> Result<Self, BenchFailure> {
         let mut disk = SimDisk::new(alloc, ROW_LENGTH as u64)?;
         let boot = disk.attach()?;
         'hosts: for host in 0..HOSTS {
@@ -35,7 +35,7 @@ impl Benchmark for DecodeRow {
             };
             'copies: for says in [promise, vote] {
                 if !may_say::<ClusterLayout>(host as u8, &says) {
-                    return Err(Failure::Wrong);
+                    return Err(BenchFailure::Wrong);
                 }
                 let body = encode::<ClusterLayout>(host as u8, &says);
                 write_block(&mut disk, boot, (host * BLOCK_LENGTH) as u32, &body)?;
@@ -46,14 +46,14 @@ impl Benchmark for DecodeRow {
         Ok(DecodeRow { row })
     }
 
-    fn run(&mut self, count: u32) -> Result<(), Failure> {
+    fn run(&mut self, count: u32) -> Result<(), BenchFailure> {
         for time in 0..count {
             // The last byte of the last host's input differs from time to time.
             let last = (time % 251) as u8;
             self.row[ROW_LENGTH - COPY_LENGTH + INPUT_AT + VALUE_LENGTH - 1] = last;
             let row = decode_row::<ClusterLayout>(&self.row)?;
             if !has_votes(&row, last) {
-                return Err(Failure::Wrong);
+                return Err(BenchFailure::Wrong);
             }
         }
         Ok(())

@@ -1,5 +1,5 @@
+use crate::bench_failure::BenchFailure;
 use crate::benchmark::Benchmark;
-use crate::failure::Failure;
 use crate::first_path::{SLOTS, command_at};
 use disk::SimDisk;
 use dlm_images::DiskHost;
@@ -15,9 +15,9 @@ pub struct Direct {
 }
 
 impl Benchmark for Direct {
-    fn new(alloc: Global) -> Result<Self, Failure> {
+    fn new(alloc: Global) -> Result<Self, BenchFailure> {
         let (Some(config), Some(number)) = (Config::new(1, SLOTS), HostNumber::new(0)) else {
-            return Err(Failure::Wrong);
+            return Err(BenchFailure::Wrong);
         };
         let mut disks = Vec::new(alloc);
         disks
@@ -28,14 +28,14 @@ impl Benchmark for Direct {
         })
     }
 
-    fn run(&mut self, count: u32) -> Result<(), Failure> {
+    fn run(&mut self, count: u32) -> Result<(), BenchFailure> {
         for place in 0..count {
             let Some(command) = command_at(self.host.host(), place) else {
-                return Err(Failure::Wrong);
+                return Err(BenchFailure::Wrong);
             };
             match self.host.submit(command, 1) {
                 Ok(done) if !matches!(done.reply.answer, Answer::Refused(_)) => {}
-                _ => return Err(Failure::Wrong),
+                _ => return Err(BenchFailure::Wrong),
             }
         }
         Ok(())

@@ -1,7 +1,7 @@
 ghost use Rattle.std.specs.Prelude.{◌≤◌, length};
 
+use crate::bench_failure::BenchFailure;
 use crate::benchmark::Benchmark;
-use crate::failure::Failure;
 use disk::{Disk, SimDisk};
 use std::alloc::Global;
 
@@ -19,12 +19,12 @@ pub struct DiskCalls<const MORE: u16> {
 }
 
 impl<const MORE: u16> Benchmark for DiskCalls<MORE> {
-    fn new(alloc: Global) -> Result<Self, Failure> {
+    fn new(alloc: Global) -> Result<Self, BenchFailure> {
         let disk = SimDisk::new(alloc, LEAST + 1024 * u64::from(MORE))?;
         Ok(DiskCalls { disk })
     }
 
-    fn run(&mut self, count: u32) -> Result<(), Failure> {
+    fn run(&mut self, count: u32) -> Result<(), BenchFailure> {
         let first = self.disk.size() - LEAST;
         let mut boot = self.disk.attach()?;
         let mut row = [0; 1024];

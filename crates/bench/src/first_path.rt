@@ -1,10 +1,10 @@
 ghost use Rattle.std.specs.Prelude.{◌≡◌, IfSome};
 ghost use Rattle.cluster.specs.Opening.{IsNamed};
 
-use crate::failure::Failure;
+use crate::bench_failure::BenchFailure;
 use crate::tables::row_name;
 use crate::timing::{ROUNDS, Timing};
-use cluster::{Cluster, Config, HostSeat, Named, OpenGate, Opening};
+use cluster::{Cluster, ClusterName, Config, HostSeat, OpenGate, Opening};
 use disk::SimDisk;
 use lock_command::{Action, ClientNumber, Command, HostNumber, LockNumber, RequestNumber};
 use lock_modes::Mode;
@@ -27,7 +27,7 @@ const CLIENTS: u32 = 32;
 pub fn best_first_path<R: Wait + Clock + AllocGlobal>(
     rt: &R,
     count: u32,
-) -> Result<Timing, Failure> {
+) -> Result<Timing, BenchFailure> {
     let mut spent = u64::MAX;
     for _ in 0..ROUNDS {
         spent = spent.min(first_path(rt, count)?);
@@ -36,19 +36,19 @@ pub fn best_first_path<R: Wait + Clock + AllocGlobal>(
 }
 
 /// So many submissions to host 0 over one simulated disk, each through the locks to its acknowledgement. Gives the nanoseconds.
-pub fn first_path<R: Wait + Clock + AllocGlobal>(rt: &R, count: u32) -> Result<u64, Failure> {
+pub fn first_path<R: Wait + Clock + AllocGlobal>(rt: &R, count: u32) -> Result<u64, BenchFailure> {
     let Some(config) = Config::new(1, SLOTS) else {
-        return Err(Failure::Wrong);
+        return Err(BenchFailure::Wrong);
     };
     let opening = Opening::new(rt.alloc(), config)?;
     submissions::<Brand, R>(rt, opening, count)
 }
 
-fn submissions<N: Named, R: Wait + Clock + AllocGlobal>(
+fn submissions<N: ClusterName, R: Wait + Clock + AllocGlobal>(
     rt: &R,
     opening: Opening,
     count: u32,
-) -> Result<u64, Failure>
+) -> Result<u64, BenchFailure>
     requires { IsNamed opening N.shape N.table N.name N.parts N.all }
 {
     let alloc = rt.alloc();
@@ -58,26 +58,26 @@ fn submissions<N: Named, R: Wait + Clock + AllocGlobal>(
 }
 
 // Starts host 0, and gives the nanoseconds of its submissions.
-fn time_host<N: Named, R: Wait + Clock>(
+fn time_host<N: ClusterName, R: Wait + Clock>(
     rt: &R,
     alloc: Global,
     cluster: &Cluster<'_, N, SimDisk>,
     count: u32,
-) -> Result<u64, Failure> {
+) -> Result<u64, BenchFailure> {
     let Some(host) = HostNumber::new(0) else {
-        return Err(Failure::Wrong);
+        return Err(BenchFailure::Wrong);
     };
     let mut seat = cluster.seat(rt, alloc, host)?;
     time_each(rt, cluster, &mut seat, count)
 }
 
 // The nanoseconds of so many submissions. The seat is lent, so that no way out has to drop it.
-fn time_each<N: Named, R: Wait + Clock>(
+fn time_each<N: ClusterName, R: Wait + Clock>(
     rt: &R,
     cluster: &Cluster<'_, N, SimDisk>,
     seat: &mut HostSeat<N>,
     count: u32,
-) -> Result<u64, Failure> {
+) -> Result<u64, BenchFailure> {
     let start = Instant::now(rt)?;
     submit_each(rt, cluster, seat, count)?;
     let spent = start.elapsed(rt)?;
@@ -85,33 +85,33 @@ fn time_each<N: Named, R: Wait + Clock>(
 }
 
 // So many submissions, one after the other.
-fn submit_each<N: Named>(
+fn submit_each<N: ClusterName>(
     rt: &impl Wait,
     cluster: &Cluster<'_, N, SimDisk>,
     seat: &mut HostSeat<N>,
     count: u32,
-) -> Result<(), Failure> {
+) -> Result<(), BenchFailure> {
     for place in 0..count {
         submit_at(rt, cluster, seat, place)?;
     }
     Ok(())
 }
 
-fn submit_at<N: Named>(
+fn submit_at<N: ClusterName>(
     rt: &impl Wait,
     cluster: &Cluster<'_, N, SimDisk>,
     seat: &mut HostSeat<N>,
     place: u32,
-) -> Result<(), Failure> {
+) -> Result<(), BenchFailure> {
     let Some(command) = command_at(seat.host(), place) else {
-        return Err(Failure::Wrong);
+        return Err(BenchFailure::Wrong);
     };
     if !seat.idle() {
-        return Err(Failure::Wrong);
+        return Err(BenchFailure::Wrong);
     }
     let receipt = cluster.submit(rt, seat, &mut OpenGate, command, 1)?;
     match receipt.reply.answer {
-        Answer::Refused(_) => Err(Failure::Wrong),
+        Answer::Refused(_) => Err(BenchFailure::Wrong),
         _ => Ok(()),
     }
 }

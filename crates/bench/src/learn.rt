@@ -2,11 +2,11 @@ ghost use Rattle.std.specs.Prelude.{◌≡◌, false, None};
 ghost use Rattle.torn_block.specs.declared.layout.TheConstants.{SLOTS};
 ghost use Rattle.slot_log.specs.Kept.{is_idle, offered_of};
 
+use crate::bench_failure::BenchFailure;
 use crate::benchmark::Benchmark;
-use crate::failure::Failure;
 use crate::image::Image;
 use paxos_block::Value;
-use slot_log::{Config, Learner, Outcome};
+use slot_log::{Config, Learner, LogOutcome};
 use std::alloc::Global;
 use torn_block::{ClusterLayout, ROW_LENGTH, SLOTS, VALUE_LENGTH};
 
@@ -24,25 +24,25 @@ pub struct Learn<const LEARNED: u16> {
 
 impl<const LEARNED: u16> Learn<LEARNED> {
     /// Learns a value at the next slot. That takes all calls that an attempt may make, and no less.
-    fn learn_next(&mut self) -> Result<(), Failure> {
+    fn learn_next(&mut self) -> Result<(), BenchFailure> {
         if !self.learner.idle() {
-            return Err(Failure::Wrong);
+            return Err(BenchFailure::Wrong);
         }
         let slot = self.learner.learned().len() as u16;
         let value = value_at(slot);
         self.learner.place(value, 1);
         for _ in 0..CALLS {
             if self.learner.idle() || self.learner.offered().is_some() {
-                return Err(Failure::Wrong);
+                return Err(BenchFailure::Wrong);
             }
             self.step();
         }
         if self.learner.offered() != Some(value) {
-            return Err(Failure::Wrong);
+            return Err(BenchFailure::Wrong);
         }
         self.learner.take(true);
-        if self.learner.said() != Some(Outcome::Placed { slot }) {
-            return Err(Failure::Wrong);
+        if self.learner.said() != Some(LogOutcome::Placed { slot }) {
+            return Err(BenchFailure::Wrong);
         }
         Ok(())
     }
@@ -59,9 +59,9 @@ impl<const LEARNED: u16> Learn<LEARNED> {
 }
 
 impl<const LEARNED: u16> Benchmark for Learn<LEARNED> {
-    fn new(alloc: Global) -> Result<Self, Failure> {
+    fn new(alloc: Global) -> Result<Self, BenchFailure> {
         let Some(config) = Config::new(1, SLOTS as u16) else {
-            return Err(Failure::Wrong);
+            return Err(BenchFailure::Wrong);
         };
         let mut log = Learn {
             learner: Learner::<ClusterLayout>::new(alloc, 0, config)?,
@@ -74,7 +74,7 @@ impl<const LEARNED: u16> Benchmark for Learn<LEARNED> {
         Ok(log)
     }
 
-    fn run(&mut self, count: u32) -> Result<(), Failure> {
+    fn run(&mut self, count: u32) -> Result<(), BenchFailure> {
         for _ in 0..count {
             self.learn_next()?;
         }

@@ -3,13 +3,13 @@
 
 mod apply;
 mod ballast;
+mod bench_failure;
 mod benchmark;
 mod block_write;
 mod copies;
 mod decode_row;
 mod direct;
 mod disk_calls;
-mod failure;
 mod first_path;
 mod image;
 mod learn;
@@ -24,18 +24,18 @@ mod waits;
 mod whole_attempt;
 mod words;
 
-use failure::Failure;
+use bench_failure::BenchFailure;
 use run::{print_refusals, print_threads, run_all};
 use std::env;
 use std::process::ExitCode;
 use tables::print_tables;
-use words::{Task, task_of};
+use words::{BenchTask, task_of};
 
 fn main(rt: HostRuntime) -> ExitCode {
     let ended = match asked(&rt) {
-        Ok(Task::Threads) => print_threads(&rt),
-        Ok(Task::Tables) => print_tables(&rt),
-        Ok(Task::Refused) => print_refusals(&rt),
+        Ok(BenchTask::Threads) => print_threads(&rt),
+        Ok(BenchTask::Tables) => print_tables(&rt),
+        Ok(BenchTask::Refused) => print_refusals(&rt),
         Ok(task) => run_all(&rt, task),
         Err(failure) => Err(failure),
     };
@@ -49,7 +49,7 @@ fn main(rt: HostRuntime) -> ExitCode {
 }
 
 /// What the program's own words ask for.
-fn asked(rt: &HostRuntime) -> Result<Task, Failure> {
+fn asked(rt: &HostRuntime) -> Result<BenchTask, BenchFailure> {
     let alloc = rt.alloc();
     let arguments: Vec<String> = env::args(rt)?.skip(1).collect(alloc)?;
     let words: Vec<&str> = arguments.iter().map(|word| word.as_str()).collect(alloc)?;

@@ -1,9 +1,9 @@
 ghost use Rattle.std.specs.Prelude.{◌≡◌};
 ghost use Rattle.cluster.specs.Opening.{IsNamed};
 
-use crate::failure::Failure;
+use crate::bench_failure::BenchFailure;
 use crate::slow_disk::{SlowDisk, two_slow_disks};
-use cluster::{Cluster, Config, Entry, Gate, HostSeat, Named, OpenGate, Opening};
+use cluster::{Cluster, ClusterName, Config, Entry, Gate, HostSeat, OpenGate, Opening};
 use lock_command::HostNumber;
 use std::alloc::{AllocError, AllocGlobal, Global};
 use std::marker::Brand;
@@ -40,19 +40,19 @@ pub enum Order {
 pub fn slow_recoveries<R: Threads + Wait + Clock + AllocGlobal + Sync>(
     rt: &R,
     order: Order,
-) -> Result<Calls, Failure> {
+) -> Result<Calls, BenchFailure> {
     let Some(config) = Config::new(2, 1) else {
-        return Err(Failure::Wrong);
+        return Err(BenchFailure::Wrong);
     };
     let opening = Opening::new(rt.alloc(), config)?;
     recoveries_of::<Brand, R>(rt, opening, order)
 }
 
-fn recoveries_of<N: Named + Send + Sync, R: Threads + Wait + Clock + AllocGlobal + Sync>(
+fn recoveries_of<N: ClusterName + Send + Sync, R: Threads + Wait + Clock + AllocGlobal + Sync>(
     rt: &R,
     opening: Opening,
     order: Order,
-) -> Result<Calls, Failure>
+) -> Result<Calls, BenchFailure>
     requires named { IsNamed opening N.shape N.table N.name N.parts N.all }
     requires two { opening.shape.disks ≡ 2 }
 {
@@ -64,12 +64,12 @@ fn recoveries_of<N: Named + Send + Sync, R: Threads + Wait + Clock + AllocGlobal
 }
 
 // The calls that two hosts have made.
-fn calls_of<N: Named + Send + Sync, R: Threads + Wait + Clock + Sync>(
+fn calls_of<N: ClusterName + Send + Sync, R: Threads + Wait + Clock + Sync>(
     rt: &R,
     alloc: Global,
     cluster: Cluster<'_, N, SlowDisk<'_, R>>,
     order: Order,
-) -> Result<Calls, Failure> {
+) -> Result<Calls, BenchFailure> {
     let (seats, spent) = time_both(rt, alloc, &cluster, order)?;
     let record = cluster.finish(seats)?;
     Ok(Calls {
@@ -79,12 +79,12 @@ fn calls_of<N: Named + Send + Sync, R: Threads + Wait + Clock + Sync>(
 }
 
 // The seats of two hosts once both are done, and the nanoseconds that this took.
-fn time_both<N: Named + Send + Sync, R: Threads + Wait + Clock + Sync>(
+fn time_both<N: ClusterName + Send + Sync, R: Threads + Wait + Clock + Sync>(
     rt: &R,
     alloc: Global,
     cluster: &Cluster<'_, N, SlowDisk<'_, R>>,
     order: Order,
-) -> Result<(Vec<HostSeat<N>>, u64), Failure> {
+) -> Result<(Vec<HostSeat<N>>, u64), BenchFailure> {
     let one = seat_of(rt, alloc, cluster, 0)?;
     let other = seat_of(rt, alloc, cluster, 1)?;
     let start = Instant::now(rt);
@@ -94,32 +94,32 @@ fn time_both<N: Named + Send + Sync, R: Threads + Wait + Clock + Sync>(
 }
 
 // The callers hold seats. A `?` there would have to drop them, so the `?` is in here.
-fn spent_since<R: Clock>(rt: &R, start: io::Result<Instant>) -> Result<u64, Failure> {
+fn spent_since<R: Clock>(rt: &R, start: io::Result<Instant>) -> Result<u64, BenchFailure> {
     let spent = start?.elapsed(rt)?;
     Ok(u64::try_from(spent.as_nanos()).unwrap_or(u64::MAX))
 }
 
-fn seat_of<N: Named, R: Wait + Clock>(
+fn seat_of<N: ClusterName, R: Wait + Clock>(
     rt: &R,
     alloc: Global,
     cluster: &Cluster<'_, N, SlowDisk<'_, R>>,
     host: u8,
-) -> Result<HostSeat<N>, Failure> {
+) -> Result<HostSeat<N>, BenchFailure> {
     let Some(host) = HostNumber::new(host) else {
-        return Err(Failure::Wrong);
+        return Err(BenchFailure::Wrong);
     };
     Ok(cluster.seat(rt, alloc, host)?)
 }
 
-fn both<N: Named>(
+fn both<N: ClusterName>(
     alloc: Global,
     one: HostSeat<N>,
     other: HostSeat<N>,
-) -> Result<Vec<HostSeat<N>>, Failure> {
+) -> Result<Vec<HostSeat<N>>, BenchFailure> {
     Ok(vec![in alloc; one, other].map_err(AllocError::from)?)
 }
 
-fn recover_both<N: Named + Send + Sync, R: Threads + Wait + Clock + Sync>(
+fn recover_both<N: ClusterName + Send + Sync, R: Threads + Wait + Clock + Sync>(
     rt: &R,
     cluster: &Cluster<'_, N, SlowDisk<'_, R>>,
     one: HostSeat<N>,
@@ -136,7 +136,7 @@ fn recover_both<N: Named + Send + Sync, R: Threads + Wait + Clock + Sync>(
 }
 
 /// Each host in a thread of its own.
-fn at_once<N: Named + Send + Sync, R: Threads + Wait + Clock + Sync>(
+fn at_once<N: ClusterName + Send + Sync, R: Threads + Wait + Clock + Sync>(
     rt: &R,
     cluster: &Cluster<'_, N, SlowDisk<'_, R>>,
     one: HostSeat<N>,
@@ -179,7 +179,7 @@ fn wait_for<R: Clock>(rt: &R, flag: &AtomicBool) {
 }
 
 /// Recovers so often, refused or not.
-fn recovers<N: Named, R: Wait + Clock, G: Gate>(
+fn recovers<N: ClusterName, R: Wait + Clock, G: Gate>(
     rt: &R,
     cluster: &Cluster<'_, N, SlowDisk<'_, R>>,
     seat: HostSeat<N>,
@@ -190,7 +190,7 @@ fn recovers<N: Named, R: Wait + Clock, G: Gate>(
     seat
 }
 
-fn recover_each<N: Named, R: Wait + Clock, G: Gate>(
+fn recover_each<N: ClusterName, R: Wait + Clock, G: Gate>(
     rt: &R,
     cluster: &Cluster<'_, N, SlowDisk<'_, R>>,
     seat: &mut HostSeat<N>,

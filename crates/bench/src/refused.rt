@@ -1,9 +1,11 @@
 ghost use Rattle.cluster.specs.Opening.{IsNamed};
 
 use crate::ballast::Ballast;
-use crate::failure::Failure;
+use crate::bench_failure::BenchFailure;
 use crate::first_path::command_at;
-use cluster::{Cluster, Config, HostFault, HostSeat, Named, OpenGate, Opening, Receipt, Resumed};
+use cluster::{
+    Cluster, ClusterName, Config, HostFault, HostSeat, OpenGate, Opening, Receipt, Resumed,
+};
 use disk::SimDisk;
 use lock_command::HostNumber;
 use lock_table::Answer;
@@ -53,7 +55,7 @@ struct Came {
 }
 
 /// Goes through all trials. Wherever memory is refused it is given back, and the call is made again: it has to come to what it comes to where none is refused.
-pub fn refused<R: Wait + AllocGlobal>(rt: &R) -> Result<Refusals, Failure> {
+pub fn refused<R: Wait + AllocGlobal>(rt: &R) -> Result<Refusals, BenchFailure> {
     let mut refusals = Refusals {
         submissions: 0,
         calls: 0,
@@ -88,9 +90,9 @@ fn try_once<R: Wait + AllocGlobal>(
     rt: &R,
     trial: Trial,
     refusals: &mut Refusals,
-) -> Result<(), Failure> {
+) -> Result<(), BenchFailure> {
     let Some(config) = Config::new(DISKS, 2) else {
-        return Err(Failure::Wrong);
+        return Err(BenchFailure::Wrong);
     };
     let opening = Opening::new(rt.alloc(), config)?;
     let (came, entries) = entries_of::<Brand, R>(rt, opening, trial, refusals)?;
@@ -104,18 +106,18 @@ fn try_once<R: Wait + AllocGlobal>(
         || came.marked != DISKS
         || entries != before + 52 + 28 + 2
     {
-        return Err(Failure::Wrong);
+        return Err(BenchFailure::Wrong);
     }
     Ok(())
 }
 
 /// Makes a cluster, lets its host 0 go through a trial, and counts the entries of the journal.
-fn entries_of<N: Named, R: Wait + AllocGlobal>(
+fn entries_of<N: ClusterName, R: Wait + AllocGlobal>(
     rt: &R,
     opening: Opening,
     trial: Trial,
     refusals: &mut Refusals,
-) -> Result<(Came, usize), Failure>
+) -> Result<(Came, usize), BenchFailure>
     requires { IsNamed opening N.shape N.table N.name N.parts N.all }
 {
     let alloc = rt.alloc();
@@ -124,28 +126,28 @@ fn entries_of<N: Named, R: Wait + AllocGlobal>(
     come_to(rt, alloc, cluster, trial, refusals)
 }
 
-fn come_to<N: Named, R: Wait>(
+fn come_to<N: ClusterName, R: Wait>(
     rt: &R,
     alloc: Global,
     cluster: Cluster<'_, N, SimDisk>,
     trial: Trial,
     refusals: &mut Refusals,
-) -> Result<(Came, usize), Failure> {
+) -> Result<(Came, usize), BenchFailure> {
     let (came, seat) = go_from_the_start(rt, alloc, &cluster, trial, refusals)?;
     let entries = finish(alloc, cluster, seat)?;
     Ok((came?, entries))
 }
 
 // Starts host 0, and lets it go through the trial. Gives its seat as well.
-fn go_from_the_start<N: Named>(
+fn go_from_the_start<N: ClusterName>(
     rt: &impl Wait,
     alloc: Global,
     cluster: &Cluster<'_, N, SimDisk>,
     trial: Trial,
     refusals: &mut Refusals,
-) -> Result<(Result<Came, Failure>, HostSeat<N>), Failure> {
+) -> Result<(Result<Came, BenchFailure>, HostSeat<N>), BenchFailure> {
     let Some(host) = HostNumber::new(0) else {
-        return Err(Failure::Wrong);
+        return Err(BenchFailure::Wrong);
     };
     let mut seat = cluster.seat(rt, alloc, host)?;
     let came = go_through(rt, alloc, cluster, &mut seat, trial, refusals);
@@ -153,33 +155,36 @@ fn go_from_the_start<N: Named>(
 }
 
 /// How many entries a cluster has left, all of whose seats are this one.
-fn finish<N: Named>(
+fn finish<N: ClusterName>(
     alloc: Global,
     cluster: Cluster<'_, N, SimDisk>,
     seat: HostSeat<N>,
-) -> Result<usize, Failure> {
+) -> Result<usize, BenchFailure> {
     let seats = alone(alloc, seat)?;
     let record = cluster.finish(seats)?;
     Ok(record.entries.len())
 }
 
-fn alone<N: Named>(alloc: Global, seat: HostSeat<N>) -> Result<Vec<HostSeat<N>>, Failure> {
+fn alone<N: ClusterName>(
+    alloc: Global,
+    seat: HostSeat<N>,
+) -> Result<Vec<HostSeat<N>>, BenchFailure> {
     Ok(vec![in alloc; seat].map_err(AllocError::from)?)
 }
 
-fn go_through<N: Named>(
+fn go_through<N: ClusterName>(
     rt: &impl Wait,
     alloc: Global,
     cluster: &Cluster<'_, N, SimDisk>,
     seat: &mut HostSeat<N>,
     trial: Trial,
     refusals: &mut Refusals,
-) -> Result<Came, Failure> {
+) -> Result<Came, BenchFailure> {
     let mut ballast = Ballast::new(alloc);
     operate(rt, alloc, cluster, seat, trial, &mut ballast, refusals)
 }
 
-fn operate<N: Named>(
+fn operate<N: ClusterName>(
     rt: &impl Wait,
     alloc: Global,
     cluster: &Cluster<'_, N, SimDisk>,
@@ -187,7 +192,7 @@ fn operate<N: Named>(
     trial: Trial,
     ballast: &mut Ballast,
     refusals: &mut Refusals,
-) -> Result<Came, Failure> {
+) -> Result<Came, BenchFailure> {
     if trial.recovers {
         recover(rt, cluster, seat)?;
     }
@@ -204,25 +209,25 @@ fn operate<N: Named>(
     Ok(Came { receipt, marked })
 }
 
-fn recover<N: Named>(
+fn recover<N: ClusterName>(
     rt: &impl Wait,
     cluster: &Cluster<'_, N, SimDisk>,
     seat: &mut HostSeat<N>,
-) -> Result<(), Failure> {
+) -> Result<(), BenchFailure> {
     if !seat.idle() {
-        return Err(Failure::Wrong);
+        return Err(BenchFailure::Wrong);
     }
     cluster.recover(rt, seat, &mut OpenGate, 1)?;
     Ok(())
 }
 
-fn restart_often<N: Named>(
+fn restart_often<N: ClusterName>(
     rt: &impl Wait,
     alloc: Global,
     cluster: &Cluster<'_, N, SimDisk>,
     seat: &mut HostSeat<N>,
     times: u8,
-) -> Result<(), Failure> {
+) -> Result<(), BenchFailure> {
     for _ in 0..times {
         cluster.restart(rt, alloc, seat)?;
     }
@@ -230,15 +235,15 @@ fn restart_often<N: Named>(
 }
 
 /// Submits. Where memory is refused, that is done again, or gone on with.
-fn submit<N: Named>(
+fn submit<N: ClusterName>(
     rt: &impl Wait,
     cluster: &Cluster<'_, N, SimDisk>,
     seat: &mut HostSeat<N>,
     ballast: &mut Ballast,
     refusals: &mut Refusals,
-) -> Result<Receipt, Failure> {
+) -> Result<Receipt, BenchFailure> {
     match submit_once(rt, cluster, seat) {
-        Err(Failure::Host(HostFault::NoMemory)) => {
+        Err(BenchFailure::Host(HostFault::NoMemory)) => {
             ballast.let_go();
             if seat.idle() {
                 refusals.submissions = refusals.submissions.saturating_add(1);
@@ -247,7 +252,7 @@ fn submit<N: Named>(
                 refusals.calls = refusals.calls.saturating_add(1);
                 match resume(rt, cluster, seat)? {
                     Resumed::Submitted(receipt) => Ok(receipt),
-                    _ => Err(Failure::Wrong),
+                    _ => Err(BenchFailure::Wrong),
                 }
             }
         }
@@ -255,42 +260,42 @@ fn submit<N: Named>(
     }
 }
 
-fn submit_once<N: Named>(
+fn submit_once<N: ClusterName>(
     rt: &impl Wait,
     cluster: &Cluster<'_, N, SimDisk>,
     seat: &mut HostSeat<N>,
-) -> Result<Receipt, Failure> {
+) -> Result<Receipt, BenchFailure> {
     let Some(command) = command_at(seat.host(), 0) else {
-        return Err(Failure::Wrong);
+        return Err(BenchFailure::Wrong);
     };
     if !seat.idle() {
-        return Err(Failure::Wrong);
+        return Err(BenchFailure::Wrong);
     }
     Ok(cluster.submit(rt, seat, &mut OpenGate, command, 1)?)
 }
 
-fn resume<N: Named>(
+fn resume<N: ClusterName>(
     rt: &impl Wait,
     cluster: &Cluster<'_, N, SimDisk>,
     seat: &mut HostSeat<N>,
-) -> Result<Resumed, Failure> {
+) -> Result<Resumed, BenchFailure> {
     if seat.idle() {
-        return Err(Failure::Wrong);
+        return Err(BenchFailure::Wrong);
     }
     Ok(cluster.resume(rt, seat, &mut OpenGate)?)
 }
 
 /// Marks a slot, as `submit` submits.
-fn mark<N: Named>(
+fn mark<N: ClusterName>(
     rt: &impl Wait,
     cluster: &Cluster<'_, N, SimDisk>,
     seat: &mut HostSeat<N>,
     slot: u16,
     ballast: &mut Ballast,
     refusals: &mut Refusals,
-) -> Result<u8, Failure> {
+) -> Result<u8, BenchFailure> {
     match mark_once(rt, cluster, seat, slot) {
-        Err(Failure::Host(HostFault::NoMemory)) => {
+        Err(BenchFailure::Host(HostFault::NoMemory)) => {
             ballast.let_go();
             refusals.marks = refusals.marks.saturating_add(1);
             if seat.idle() {
@@ -298,7 +303,7 @@ fn mark<N: Named>(
             } else {
                 match resume(rt, cluster, seat)? {
                     Resumed::Marked(count) => Ok(count),
-                    _ => Err(Failure::Wrong),
+                    _ => Err(BenchFailure::Wrong),
                 }
             }
         }
@@ -306,37 +311,37 @@ fn mark<N: Named>(
     }
 }
 
-fn mark_once<N: Named>(
+fn mark_once<N: ClusterName>(
     rt: &impl Wait,
     cluster: &Cluster<'_, N, SimDisk>,
     seat: &mut HostSeat<N>,
     slot: u16,
-) -> Result<u8, Failure> {
+) -> Result<u8, BenchFailure> {
     if !seat.idle() || slot >= cluster.slots() {
-        return Err(Failure::Wrong);
+        return Err(BenchFailure::Wrong);
     }
     Ok(cluster.mark(rt, seat, &mut OpenGate, slot)?)
 }
 
 /// Restarts. Where memory is refused, the host runs still and knows what it knew.
-fn restart<N: Named>(
+fn restart<N: ClusterName>(
     rt: &impl Wait,
     alloc: Global,
     cluster: &Cluster<'_, N, SimDisk>,
     seat: &mut HostSeat<N>,
     ballast: &mut Ballast,
     refusals: &mut Refusals,
-) -> Result<(), Failure> {
+) -> Result<(), BenchFailure> {
     if let Err(fault) = cluster.restart(rt, alloc, seat) {
         ballast.let_go();
         if fault != HostFault::NoMemory || seat.prefix().len() != 1 || seat.acks().len() != 1 {
-            return Err(Failure::Wrong);
+            return Err(BenchFailure::Wrong);
         }
         refusals.restarts = refusals.restarts.saturating_add(1);
         cluster.restart(rt, alloc, seat)?;
     }
     if !seat.prefix().is_empty() || !seat.acks().is_empty() {
-        return Err(Failure::Wrong);
+        return Err(BenchFailure::Wrong);
     }
     Ok(())
 }

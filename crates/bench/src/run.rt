@@ -1,11 +1,11 @@
 use crate::apply::Apply;
+use crate::bench_failure::BenchFailure;
 use crate::benchmark::Benchmark;
 use crate::block_write::BlockWrite;
 use crate::copies::Copies;
 use crate::decode_row::DecodeRow;
 use crate::direct::Direct;
 use crate::disk_calls::DiskCalls;
-use crate::failure::Failure;
 use crate::first_path::{best_first_path, first_path};
 use crate::learn::Learn;
 use crate::overlap::{Order, slow_recoveries};
@@ -14,7 +14,7 @@ use crate::threads::work_done;
 use crate::timing::{Ratio, Timing};
 use crate::waits::Waits;
 use crate::whole_attempt::WholeAttempt;
-use crate::words::Task;
+use crate::words::BenchTask;
 use cluster::Entry;
 use std::sync::Wait;
 use std::thread::Threads;
@@ -24,7 +24,10 @@ use std::time::Clock;
 const FEW: u32 = 48;
 
 /// Runs each benchmark, and prints a line for it.
-pub fn run_all<R: Print + Wait + Clock + AllocGlobal>(rt: &R, task: Task) -> Result<(), Failure> {
+pub fn run_all<R: Print + Wait + Clock + AllocGlobal>(
+    rt: &R,
+    task: BenchTask,
+) -> Result<(), BenchFailure> {
     let small = run_one::<R, DiskCalls<0>>(rt, task, "disk_calls_2k", 1_000_000)?;
     let large = run_one::<R, DiskCalls<4094>>(rt, task, "disk_calls_4m", 1_000_000)?;
     print_ratio(rt, "disk_calls_4m/disk_calls_2k", large, small)?;
@@ -50,29 +53,29 @@ pub fn run_all<R: Print + Wait + Clock + AllocGlobal>(rt: &R, task: Task) -> Res
 /// Runs a few submissions through the locks of a cluster, or measures a whole log of them.
 fn run_first_path<R: Print + Wait + Clock + AllocGlobal>(
     rt: &R,
-    task: Task,
-) -> Result<Option<Timing>, Failure> {
+    task: BenchTask,
+) -> Result<Option<Timing>, BenchFailure> {
     match task {
-        Task::Check => {
+        BenchTask::Check => {
             first_path(rt, FEW)?;
             println!(rt; "first_path: ran")?;
             Ok(None)
         }
-        Task::Measure => {
+        BenchTask::Measure => {
             let timing = best_first_path(rt, 4096)?;
             let rate = timing.rate();
             println!(rt; "first_path {timing}")?;
             println!(rt; "first_path/second {rate}")?;
             Ok(Some(timing))
         }
-        Task::Threads | Task::Tables | Task::Refused => Ok(None),
+        BenchTask::Threads | BenchTask::Tables | BenchTask::Refused => Ok(None),
     }
 }
 
 /// Prints what hosts get done, in threads of their own, how large an entry is, and whether the work of two slow disks overlaps.
 pub fn print_threads<R: Print + Threads + Wait + Clock + AllocGlobal + Sync>(
     rt: &R,
-) -> Result<(), Failure> {
+) -> Result<(), BenchFailure> {
     for (hosts, rounds) in [(1, 128), (2, 64), (4, 32), (8, 16)] {
         let work = work_done(rt, hosts, rounds)?;
         let rate = (work.acks as u64).saturating_mul(1_000_000_000) / work.spent.max(1);
@@ -95,7 +98,7 @@ pub fn print_threads<R: Print + Threads + Wait + Clock + AllocGlobal + Sync>(
 }
 
 /// Prints how often memory was refused to a host's operations, and where.
-pub fn print_refusals<R: Print + Wait + AllocGlobal>(rt: &R) -> Result<(), Failure> {
+pub fn print_refusals<R: Print + Wait + AllocGlobal>(rt: &R) -> Result<(), BenchFailure> {
     let refusals = refused(rt)?;
     println!(rt; "submissions {}", refusals.submissions)?;
     println!(rt; "calls {}", refusals.calls)?;
@@ -107,22 +110,22 @@ pub fn print_refusals<R: Print + Wait + AllocGlobal>(rt: &R) -> Result<(), Failu
 /// Runs a benchmark a few times, or measures it over so many.
 fn run_one<R: Print + Clock + AllocGlobal, B: Benchmark>(
     rt: &R,
-    task: Task,
+    task: BenchTask,
     name: &str,
     count: u32,
-) -> Result<Option<Timing>, Failure> {
+) -> Result<Option<Timing>, BenchFailure> {
     match task {
-        Task::Check => {
+        BenchTask::Check => {
             B::new(rt.alloc())?.run(FEW)?;
             println!(rt; "{name}: ran")?;
             Ok(None)
         }
-        Task::Measure => {
+        BenchTask::Measure => {
             let timing = Timing::best_of::<R, B>(rt, rt.alloc(), count)?;
             println!(rt; "{name} {timing}")?;
             Ok(Some(timing))
         }
-        Task::Threads | Task::Tables | Task::Refused => Ok(None),
+        BenchTask::Threads | BenchTask::Tables | BenchTask::Refused => Ok(None),
     }
 }
 
@@ -132,7 +135,7 @@ fn print_ratio<R: Print>(
     name: &str,
     these: Option<Timing>,
     those: Option<Timing>,
-) -> Result<(), Failure> {
+) -> Result<(), BenchFailure> {
     if let (Some(these), Some(those)) = (these, those) {
         let ratio = Ratio { these, those };
         println!(rt; "{name} {ratio}")?;

@@ -1,4 +1,4 @@
-use crate::failure::Failure;
+use crate::bench_failure::BenchFailure;
 use lock_command::{
     Action, ClientNumber, Command, HostNumber, LockName, LockNumber, RequestNumber,
 };
@@ -53,7 +53,7 @@ struct Shape {
 }
 
 /// Prints what a command of each kind takes in tables of some 8 and 256 locks: `KIND_LOCKS_NAMES` and nanoseconds.
-pub fn print_tables<R: Print + Clock + AllocGlobal>(rt: &R) -> Result<(), Failure> {
+pub fn print_tables<R: Print + Clock + AllocGlobal>(rt: &R) -> Result<(), BenchFailure> {
     for (locks, standing) in [(8, 4), (256, 248)] {
         for (names, one_name) in [("one", true), ("own", false)] {
             let best = best_of(rt, rt.alloc(), Shape { standing, one_name })?;
@@ -74,7 +74,7 @@ pub fn print_tables<R: Print + Clock + AllocGlobal>(rt: &R) -> Result<(), Failur
 }
 
 /// The shortest nanoseconds that the commands of each kind take in all turns.
-fn best_of<R: Clock>(rt: &R, alloc: Global, shape: Shape) -> Result<[u64; 8], Failure> {
+fn best_of<R: Clock>(rt: &R, alloc: Global, shape: Shape) -> Result<[u64; 8], BenchFailure> {
     let mut best = [u64::MAX; 8];
     for _ in 0..ROUNDS {
         let spent = spent_in(rt, alloc, shape)?;
@@ -86,12 +86,12 @@ fn best_of<R: Clock>(rt: &R, alloc: Global, shape: Shape) -> Result<[u64; 8], Fa
 }
 
 /// The nanoseconds that the commands of each kind take in all turns, in a table made anew.
-fn spent_in<R: Clock>(rt: &R, alloc: Global, shape: Shape) -> Result<[u64; 8], Failure> {
+fn spent_in<R: Clock>(rt: &R, alloc: Global, shape: Shape) -> Result<[u64; 8], BenchFailure> {
     let mut table = standing(alloc, shape)?;
     all_turns(rt, &mut table, shape)
 }
 
-fn all_turns<R: Clock>(rt: &R, table: &mut Table, shape: Shape) -> Result<[u64; 8], Failure> {
+fn all_turns<R: Clock>(rt: &R, table: &mut Table, shape: Shape) -> Result<[u64; 8], BenchFailure> {
     let mut spent = [0u64; 8];
     for turn in 0..TURNS {
         for at in 0..KINDS.len() {
@@ -103,20 +103,20 @@ fn all_turns<R: Clock>(rt: &R, table: &mut Table, shape: Shape) -> Result<[u64; 
 }
 
 /// A table with the locks that stand all the while.
-fn standing(alloc: Global, shape: Shape) -> Result<Table, Failure> {
+fn standing(alloc: Global, shape: Shape) -> Result<Table, BenchFailure> {
     let mut table = Table::new(alloc)?;
     stand_all(&mut table, shape)?;
     Ok(table)
 }
 
-fn stand_all(table: &mut Table, shape: Shape) -> Result<(), Failure> {
+fn stand_all(table: &mut Table, shape: Shape) -> Result<(), BenchFailure> {
     for place in 0..shape.standing {
         let client = CLIENTS as u8;
         let Some(command) = command_at(shape, Kind::Enqueue, client, place, u64::from(place)) else {
-            return Err(Failure::Wrong);
+            return Err(BenchFailure::Wrong);
         };
         if table.apply(&command).answer != Answer::Granted {
-            return Err(Failure::Wrong);
+            return Err(BenchFailure::Wrong);
         }
     }
     Ok(())
@@ -129,15 +129,15 @@ fn together<R: Clock>(
     shape: Shape,
     kind: Kind,
     request: u64,
-) -> Result<u64, Failure> {
+) -> Result<u64, BenchFailure> {
     let Some(first) = command_at(shape, kind, 0, shape.standing, request) else {
-        return Err(Failure::Wrong);
+        return Err(BenchFailure::Wrong);
     };
     let mut commands = [first; CLIENTS];
     for at in 1..CLIENTS {
         let place = shape.standing.saturating_add(at as u16);
         let Some(next) = command_at(shape, kind, at as u8, place, request) else {
-            return Err(Failure::Wrong);
+            return Err(BenchFailure::Wrong);
         };
         commands[at] = next;
     }
@@ -145,7 +145,7 @@ fn together<R: Clock>(
     let start = Instant::now(rt)?;
     for command in &commands[..few] {
         if let Answer::Refused(_) = table.apply(command).answer {
-            return Err(Failure::Wrong);
+            return Err(BenchFailure::Wrong);
         }
     }
     let taken = start.elapsed(rt)?;

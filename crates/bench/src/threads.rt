@@ -1,8 +1,8 @@
 ghost use Rattle.cluster.specs.Opening.{IsNamed};
 
-use crate::failure::Failure;
+use crate::bench_failure::BenchFailure;
 use crate::first_path::command_at;
-use cluster::{Cluster, Config, HostFault, HostSeat, Named, OpenGate, Opening, Receipt};
+use cluster::{Cluster, ClusterName, Config, HostFault, HostSeat, OpenGate, Opening, Receipt};
 use disk::SimDisk;
 use lock_command::HostNumber;
 use std::alloc::{AllocGlobal, Global};
@@ -28,20 +28,20 @@ pub fn work_done<R: Threads + Wait + Clock + AllocGlobal + Sync>(
     rt: &R,
     hosts: u8,
     rounds: u32,
-) -> Result<Work, Failure> {
+) -> Result<Work, BenchFailure> {
     let Some(config) = Config::new(3, SLOTS) else {
-        return Err(Failure::Wrong);
+        return Err(BenchFailure::Wrong);
     };
     let opening = Opening::new(rt.alloc(), config)?;
     work_of::<Brand, R>(rt, opening, hosts, rounds)
 }
 
-fn work_of<N: Named + Send + Sync, R: Threads + Wait + Clock + AllocGlobal + Sync>(
+fn work_of<N: ClusterName + Send + Sync, R: Threads + Wait + Clock + AllocGlobal + Sync>(
     rt: &R,
     opening: Opening,
     hosts: u8,
     rounds: u32,
-) -> Result<Work, Failure>
+) -> Result<Work, BenchFailure>
     requires { IsNamed opening N.shape N.table N.name N.parts N.all }
 {
     let alloc = rt.alloc();
@@ -51,13 +51,13 @@ fn work_of<N: Named + Send + Sync, R: Threads + Wait + Clock + AllocGlobal + Syn
 }
 
 // Lets the hosts work, and counts what they have left.
-fn let_work<N: Named + Send + Sync, R: Threads + Wait + Clock + Sync>(
+fn let_work<N: ClusterName + Send + Sync, R: Threads + Wait + Clock + Sync>(
     rt: &R,
     alloc: Global,
     cluster: Cluster<'_, N, SimDisk>,
     hosts: u8,
     rounds: u32,
-) -> Result<Work, Failure> {
+) -> Result<Work, BenchFailure> {
     let (left, spent) = time_all(rt, alloc, &cluster, hosts, rounds)?;
     let seats = seats_in(alloc, left)?;
     let record = cluster.finish(seats)?;
@@ -69,26 +69,26 @@ fn let_work<N: Named + Send + Sync, R: Threads + Wait + Clock + Sync>(
 }
 
 // The seats of the hosts once all are done, and the nanoseconds that this took.
-fn time_all<N: Named + Send + Sync, R: Threads + Wait + Clock + Sync>(
+fn time_all<N: ClusterName + Send + Sync, R: Threads + Wait + Clock + Sync>(
     rt: &R,
     alloc: Global,
     cluster: &Cluster<'_, N, SimDisk>,
     hosts: u8,
     rounds: u32,
-) -> Result<(Vec<Option<HostSeat<N>>>, u64), Failure> {
+) -> Result<(Vec<Option<HostSeat<N>>>, u64), BenchFailure> {
     let start = Instant::now(rt)?;
     let left = work_all(rt, alloc, cluster, hosts, rounds)?;
     let spent = start.elapsed(rt)?;
     Ok((left, u64::try_from(spent.as_nanos()).unwrap_or(u64::MAX)))
 }
 
-fn work_all<N: Named + Send + Sync, R: Threads + Wait + Clock + Sync>(
+fn work_all<N: ClusterName + Send + Sync, R: Threads + Wait + Clock + Sync>(
     rt: &R,
     alloc: Global,
     cluster: &Cluster<'_, N, SimDisk>,
     hosts: u8,
     rounds: u32,
-) -> Result<Vec<Option<HostSeat<N>>>, Failure> {
+) -> Result<Vec<Option<HostSeat<N>>>, BenchFailure> {
     Ok(map_indices(
         rt,
         alloc,
@@ -101,23 +101,23 @@ fn work_all<N: Named + Send + Sync, R: Threads + Wait + Clock + Sync>(
 }
 
 // The seats, where each host has left one.
-fn seats_in<N: Named>(
+fn seats_in<N: ClusterName>(
     alloc: Global,
     left: Vec<Option<HostSeat<N>>>,
-) -> Result<Vec<HostSeat<N>>, Failure> {
+) -> Result<Vec<HostSeat<N>>, BenchFailure> {
     let mut seats = Vec::new(alloc);
     for seat in left {
         let Some(seat) = seat else {
-            return Err(Failure::Wrong);
+            return Err(BenchFailure::Wrong);
         };
         if seats.push(seat).is_err() {
-            return Err(Failure::NoMemory);
+            return Err(BenchFailure::NoMemory);
         }
     }
     Ok(seats)
 }
 
-fn acks_of<N: Named>(seats: &[HostSeat<N>]) -> usize {
+fn acks_of<N: ClusterName>(seats: &[HostSeat<N>]) -> usize {
     let mut acks: usize = 0;
     for seat in seats {
         acks = acks.saturating_add(seat.acks().len());
@@ -126,7 +126,7 @@ fn acks_of<N: Named>(seats: &[HostSeat<N>]) -> usize {
 }
 
 /// Submits so many commands, of which some may be refused.
-fn submits<N: Named>(
+fn submits<N: ClusterName>(
     rt: &impl Wait,
     alloc: Global,
     cluster: &Cluster<'_, N, SimDisk>,
@@ -138,7 +138,7 @@ fn submits<N: Named>(
     Some(seat)
 }
 
-fn submit_each<N: Named>(
+fn submit_each<N: ClusterName>(
     rt: &impl Wait,
     cluster: &Cluster<'_, N, SimDisk>,
     seat: &mut HostSeat<N>,
@@ -151,7 +151,7 @@ fn submit_each<N: Named>(
 }
 
 // Submits the command of this round, refused or not.
-fn submit_once<N: Named>(
+fn submit_once<N: ClusterName>(
     rt: &impl Wait,
     cluster: &Cluster<'_, N, SimDisk>,
     seat: &mut HostSeat<N>,

@@ -1,5 +1,5 @@
+use crate::bench_failure::BenchFailure;
 use crate::benchmark::Benchmark;
-use crate::failure::Failure;
 use std::alloc::Global;
 use std::fmt;
 use std::time::{Clock, Instant};
@@ -21,7 +21,7 @@ impl Timing {
         clock: &C,
         alloc: Global,
         count: u32,
-    ) -> Result<Timing, Failure> {
+    ) -> Result<Timing, BenchFailure> {
         let mut spent = u64::MAX;
         for _ in 0..ROUNDS {
             spent = spent.min(time_once::<C, B>(clock, alloc, count)?);
@@ -36,7 +36,11 @@ impl Timing {
 }
 
 /// The nanoseconds that a round takes. What is made ready for it is not counted.
-fn time_once<C: Clock, B: Benchmark>(clock: &C, alloc: Global, count: u32) -> Result<u64, Failure> {
+fn time_once<C: Clock, B: Benchmark>(
+    clock: &C,
+    alloc: Global,
+    count: u32,
+) -> Result<u64, BenchFailure> {
     let mut benchmark = B::new(alloc)?;
     let start = Instant::now(clock)?;
     benchmark.run(count)?;

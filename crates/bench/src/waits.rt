@@ -1,5 +1,5 @@
+use crate::bench_failure::BenchFailure;
 use crate::benchmark::Benchmark;
-use crate::failure::Failure;
 use inspect::{Blocking, blocking};
 use lock_command::{
     Action, ClientNumber, Command, HostNumber, LockName, LockNumber, RequestNumber,
@@ -19,16 +19,16 @@ pub struct Waits {
 }
 
 impl Benchmark for Waits {
-    fn new(alloc: Global) -> Result<Self, Failure> {
+    fn new(alloc: Global) -> Result<Self, BenchFailure> {
         Ok(Waits {
             picture: crowded(alloc)?,
         })
     }
 
-    fn run(&mut self, count: u32) -> Result<(), Failure> {
+    fn run(&mut self, count: u32) -> Result<(), BenchFailure> {
         for _ in 0..count {
             if let Blocking::Cycle(_) = blocking(&self.picture) {
-                return Err(Failure::Wrong);
+                return Err(BenchFailure::Wrong);
             }
         }
         Ok(())
@@ -36,19 +36,19 @@ impl Benchmark for Waits {
 }
 
 /// A table with all locks.
-fn crowded(alloc: Global) -> Result<Picture, Failure> {
+fn crowded(alloc: Global) -> Result<Picture, BenchFailure> {
     let mut table = Table::new(alloc)?;
     enqueue_all(&mut table)?;
     Ok(table.picture(alloc)?)
 }
 
-fn enqueue_all(table: &mut Table) -> Result<(), Failure> {
+fn enqueue_all(table: &mut Table) -> Result<(), BenchFailure> {
     for place in 0..256 {
         let Some(command) = enqueue_at(place) else {
-            return Err(Failure::Wrong);
+            return Err(BenchFailure::Wrong);
         };
         if let Answer::Refused(_) = table.apply(&command).answer {
-            return Err(Failure::Wrong);
+            return Err(BenchFailure::Wrong);
         }
     }
     Ok(())

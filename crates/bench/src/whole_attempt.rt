@@ -2,8 +2,8 @@ ghost use Rattle.std.specs.Prelude.{◌≡◌, ◌<◌, vec_len, None};
 ghost use Rattle.torn_block.specs.declared.layout.TheConstants.{DISKS, SLOTS};
 ghost use Rattle.bench.specs.WholeAttempt.{IsOnImages};
 
+use crate::bench_failure::BenchFailure;
 use crate::benchmark::Benchmark;
-use crate::failure::Failure;
 use crate::image::Image;
 use paxos_block::Value;
 use phases::{Attempt, End};
@@ -23,19 +23,19 @@ pub struct WholeAttempt {
 
 impl WholeAttempt {
     /// Commits an input for the slot. That takes all calls that an attempt may make, and no less.
-    fn commit(&mut self, slot: u16) -> Result<(), Failure>
+    fn commit(&mut self, slot: u16) -> Result<(), BenchFailure>
         requires { slot < SLOTS }
     {
         let input: Value = [7; VALUE_LENGTH];
         let mut attempt = Attempt::<ClusterLayout>::new(0, slot, DISKS, 0, Some(input));
         'calls: for _ in 0..CALLS * u32::from(DISKS) {
             if attempt.end().is_some() {
-                return Err(Failure::Wrong);
+                return Err(BenchFailure::Wrong);
             }
             self.step(&mut attempt);
         }
         if attempt.end() != Some(End::Committed(input)) {
-            return Err(Failure::Wrong);
+            return Err(BenchFailure::Wrong);
         }
         Ok(())
     }
@@ -54,7 +54,7 @@ impl WholeAttempt {
 }
 
 impl Benchmark for WholeAttempt {
-    fn new(alloc: Global) -> Result<Self, Failure> {
+    fn new(alloc: Global) -> Result<Self, BenchFailure> {
         let mut images = Vec::new(alloc);
         'images: for _ in 0..DISKS {
             images.push(Image::new(alloc)?).map_err(AllocError::from)?;
@@ -65,9 +65,9 @@ impl Benchmark for WholeAttempt {
         })
     }
 
-    fn run(&mut self, count: u32) -> Result<(), Failure> {
+    fn run(&mut self, count: u32) -> Result<(), BenchFailure> {
         if SLOTS < count {
-            return Err(Failure::Wrong);
+            return Err(BenchFailure::Wrong);
         }
         for slot in 0..count {
             self.commit(slot as u16)?;

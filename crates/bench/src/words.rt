@@ -1,8 +1,8 @@
-use crate::failure::Failure;
+use crate::bench_failure::BenchFailure;
 
 /// What the program is asked to do with each benchmark.
 #[derive(Clone, Copy, PartialEq, Eq)]
-pub enum Task {
+pub enum BenchTask {
     /// Run it a few times, and tell that it ran.
     Check,
     /// Run it many times, and tell how long that took.
@@ -16,13 +16,13 @@ pub enum Task {
 }
 
 /// The task that the words name.
-pub fn task_of(words: &[&str]) -> Result<Task, Failure> {
+pub fn task_of(words: &[&str]) -> Result<BenchTask, BenchFailure> {
     match words {
-        [] => Ok(Task::Check),
-        ["times"] => Ok(Task::Measure),
-        ["threads"] => Ok(Task::Threads),
-        ["tables"] => Ok(Task::Tables),
-        ["refused"] => Ok(Task::Refused),
-        _ => Err(Failure::Usage),
+        [] => Ok(BenchTask::Check),
+        ["times"] => Ok(BenchTask::Measure),
+        ["threads"] => Ok(BenchTask::Threads),
+        ["tables"] => Ok(BenchTask::Tables),
+        ["refused"] => Ok(BenchTask::Refused),
+        _ => Err(BenchFailure::Usage),
     }
 }

@@ -6,13 +6,13 @@ use Rattle.slot_log.specs.Shape.{Shape}
 use Rattle.world.specs.Entry.{Filled, disk_step}
 use Rattle.cluster_tie.specs.Parts.{Own, adds}
 use Rattle.cluster.specs.Book.{BookState, disk_in, IsFollowedBy, IsBook}
-use Rattle.cluster.specs.declared.touched.Outcome.{Outcome}
+use Rattle.cluster.specs.declared.touched.CallOutcome.{CallOutcome}
 use Rattle.cluster.proofs.Adding.{disk_adds}
 
 module _ {D : Type 0} (c : Shape) (old : BookState D) (is : IsBook c old) (closed : old.open_call ≡ None) where
   -- its disk was as its entries left it
   pub as_left : old.disk ≡ disk_in c old.own
-  as_left = subst (λ (o : Option Outcome). IsFollowedBy o old.row (disk_in c old.own) old.disk) closed is.disk
+  as_left = subst (λ (o : Option CallOutcome). IsFollowedBy o old.row (disk_in c old.own) old.disk) closed is.disk
 
   -- and is so with the entry of what befell it
   pub befell : (new : BookState D) (at : ℕ) (e : Filled) → new.own ≡ adds old.own at e → new.open_call ≡ None → IsTrue new.device.tells → image_length c.slots ≤ new.device.size
@@ -21,6 +21,6 @@ module _ {D : Type 0} (c : Shape) (old : BookState D) (is : IsBook c old) (close
     number = subst (λ (o : Own). o.number < c.disks) (sym grown) is.number;
     tells = tells;
     size = size;
-    disk = subst (λ (o : Option Outcome). IsFollowedBy o new.row (disk_in c new.own) new.disk) (sym shut)
+    disk = subst (λ (o : Option CallOutcome). IsFollowedBy o new.row (disk_in c new.own) new.disk) (sym shut)
         (left ∙ ap (λ (d : DiskState). disk_step d e) as_left ∙ sym (disk_adds c old.own at e) ∙ ap (disk_in c) (sym grown));
   }

@@ -25,7 +25,7 @@ use Rattle.cluster.specs.declared.fault.HostFault.TheVariants as fault
 use Rattle.cluster.specs.declared.receipt.Receipt.{Receipt}
 use Rattle.cluster.specs.Cluster.{IsStep, Ends, AreSteps, GoesOn}
 use Rattle.cluster.specs.declared.operate.Resumed.TheVariants.{Submitted}
-use Rattle.cluster.specs.Operations.{IsLast, HasAnswered, Stops, Task, Attempting, Beating, MarkingSlot, IsAnswer, IsCarriedInMarking, IsCarriedBeside, IsCarried, HasReceipt, Carries, IsRefusedBy}
+use Rattle.cluster.specs.Operations.{IsLast, HasAnswered, Stops, HostTask, Attempting, Beating, MarkingSlot, IsAnswer, IsCarriedInMarking, IsCarriedBeside, IsCarried, HasReceipt, Carries, IsRefusedBy}
 use Rattle.cluster.specs.Receipts.{receipt_by, receipts_of, doing_of}
 use Rattle.cluster.specs.Seat.{host_in, due_in, IsSilentInMarking, IsSilentInBeat, IsDoing}
 use Rattle.cluster.proofs.Adding.{host_adds, receipts_adds}
@@ -63,7 +63,7 @@ recovers (Submitting command) learned is = absurd (cc is)
 recovers Recovering learned is = refl
 recovers Looking learned is = absurd (cc is)
 
-abbrev So : Task → Memory → Type 0
+abbrev So : HostTask → Memory → Type 0
 So task m = IsCarried task m m.doing
 
 -- neither a beat nor a marking is under way
@@ -71,7 +71,7 @@ abbrev Rests : Memory → Type 0
 Rests m = (m.beats.heard ≡ None) × (m.marking ≡ None)
 
 -- so the task is over
-over : (task : Task) (m : Memory) → Rests m → IsAnswer task m.learned m.said → IsCarriedBeside task m m.beats.heard
+over : (task : HostTask) (m : Memory) → Rests m → IsAnswer task m.learned m.said → IsCarriedBeside task m m.beats.heard
 over task m rest is = subst (IsCarriedBeside task m) (sym rest.0) (subst (IsCarriedInMarking task m) (sym rest.1) is)
 
 going : (c : Shape) (o : Operation) (m : Memory) (tries : ℕ) → Rests m → So (Attempting o) (goes_on c m o tries)
@@ -82,7 +82,7 @@ going c o m tries rest = go (nat_lt (length m.learned) c.slots)
     go false = over (Attempting o) (says m (full_answer o (length m.learned))) rest (full_answers o m.learned)
 
 module _ (c : Shape) (t : Doing) where
-  abbrev its : Task
+  abbrev its : HostTask
   its = Attempting t.operation
 
   learned_so : (m : Memory) → Rests m → (command : Command) (value : List ℕ) (own : Bool) → is_submitted t.operation value ≡ own → So its (after_learning c m t command own)
@@ -172,7 +172,7 @@ due_task c h m due is = go m.doing refl is
     go None none next = by_beat m.beats.heard none refl next
     go (Some t) does next = Tries t does
 
-module _ (c : Shape) (task : Task) (old new : Own) (carries : Carries c task old) (step : IsStep c old new) where
+module _ (c : Shape) (task : HostTask) (old new : Own) (carries : Carries c task old) (step : IsStep c old new) where
   abbrev m : Memory
   m = carries.memory
 
@@ -192,12 +192,12 @@ module _ (c : Shape) (task : Task) (old new : Own) (carries : Carries c task old
       let known = subst (λ (d : Option Doing). IsCarried task m d) does carries.doing in
       let after : Memory = hears c old.number m (Some t) x in
       let is : host_in c next ≡ Running after = hears_it ∙ ap (λ (d : Option Doing). Running (hears_from c old.number m d step.disk step.answer)) does in
-      let so : So task after = subst (λ (k : Task). So k after) known.0 (heard_so c old.number m (known.2, known.3) t x) in
+      let so : So task after = subst (λ (k : HostTask). So k after) known.0 (heard_so c old.number m (known.2, known.3) t x) in
       let all : receipts_of c next ≡ receipts_of c old ++ receipt_by old.number step.place (Some t) after.said =
       receipts_adds c old step.place e
       ∙ (λ i. receipts_of c old ++ receipt_by old.number step.place ((ap doing_of carries.is ∙ does) i) (said_of ((sym (host_adds c old step.place e) ∙ is) i))) in
       let acked = acked_by c old step.place (receipts_of c old) t t.operation after.said next refl refl all in
-      record { memory = after; is = is; doing = so; receipt = subst (λ (k : Task). HasReceipt c next k after.said) known.0 acked }
+      record { memory = after; is = is; doing = so; receipt = subst (λ (k : HostTask). HasReceipt c next k after.said) known.0 acked }
 
   beats_on : m.doing ≡ None → (heard : List beat_answers.Answered) → m.beats.heard ≡ Some heard → Carries c task next
   beats_on none heard beats =
@@ -209,7 +209,7 @@ module _ (c : Shape) (task : Task) (old new : Own) (carries : Carries c task old
       hears_it ∙ ap (λ (d : Option Doing). Running (hears_from c old.number m d step.disk step.answer)) none
       ∙ ap (λ (o : Option (List beat_answers.Answered)). Running (hears_beside c old.number m o step.disk step.answer)) beats in
       let there : Carries c Beating next = record { memory = after; is = is; doing = beat_so old.number m known.2 all (beat.status (beat_of c old.number) (beat_answers.on all)); receipt = tt } in
-      subst (λ (k : Task). Carries c k next) (sym known.0) there
+      subst (λ (k : HostTask). Carries c k next) (sym known.0) there
 
   marks_on : (t : Marking) → m.doing ≡ None → m.beats.heard ≡ None → m.marking ≡ Some t → Carries c task next
   marks_on t none rest marks =
@@ -223,7 +223,7 @@ module _ (c : Shape) (task : Task) (old new : Own) (carries : Carries c task old
       ∙ ap (λ (o : Option (List beat_answers.Answered)). Running (hears_beside c old.number m o step.disk step.answer)) rest
       ∙ ap (λ (o : Option Marking). Running (hears_marking c old.number m o x)) marks in
       let there : Carries c MarkingSlot next = record { memory = after; is = is; doing = mark_so m rest (marking_with t x) st; receipt = tt } in
-      subst (λ (k : Task). Carries c k next) (sym known.0) there
+      subst (λ (k : HostTask). Carries c k next) (sym known.0) there
 
   carried_on : IsUnderWay m → Carries c task next
   carried_on (Tries t does) = attempts_on t does
@@ -235,7 +235,7 @@ module _ (c : Shape) (task : Task) (old new : Own) (carries : Carries c task old
       subst (Carries c task) (sym step.is)
       (carried_on (due_task c old.number m (step.disk, (due_in c old).1) (sym (ap (next_of c old.number) carries.is) ∙ step.due)))
 
-pub goes_on_so : (c : Shape) (task : Task) (old new : Own) → Carries c task old → GoesOn c old new → Carries c task new
+pub goes_on_so : (c : Shape) (task : HostTask) (old new : Own) → Carries c task old → GoesOn c old new → Carries c task new
 goes_on_so c task old new carries goes = subst (Carries c task) (sym goes.is) (go old goes.added carries goes.steps)
   where
     go : (own : Own) (xs : List Placed) → Carries c task own → AreSteps c own xs → Carries c task (own_of own.number (own.entries ++ xs))
@@ -325,7 +325,7 @@ beating_by c own new at idle is = subst (Carries c Beating) (sym is) (beating c 
 -- AT THE END
 
 -- what was said was said by an idle host
-pub said_idle : (c : Shape) (task : Task) (own : Own) → Carries c task own → (said : HostAnswer) → said_of (host_in c own) ≡ Some said → idles (host_in c own) ≡ true
+pub said_idle : (c : Shape) (task : HostTask) (own : Own) → Carries c task own → (said : HostAnswer) → said_of (host_in c own) ≡ Some said → idles (host_in c own) ≡ true
 said_idle c task own carries said is = ap idles carries.is ∙ go carries.memory.doing carries.doing
   where
     not_said : carries.memory.said ≡ None → ⊥
@@ -344,7 +344,7 @@ said_idle c task own carries said is = ap idles carries.is ∙ go carries.memory
     go (Some t) k = absurd (not_said k.1)
 
 -- an idle host has answered its task
-pub answered : (c : Shape) (task : Task) (own : Own) → Carries c task own → idles (host_in c own) ≡ true → IsAnswer task (learned_of (host_in c own)) (said_of (host_in c own))
+pub answered : (c : Shape) (task : HostTask) (own : Own) → Carries c task own → idles (host_in c own) ≡ true → IsAnswer task (learned_of (host_in c own)) (said_of (host_in c own))
 answered c task own carries idle = subst (λ (s : Host). IsAnswer task (learned_of s) (said_of s)) (sym carries.is) (go carries.memory.doing carries.doing (sym (ap idles carries.is) ∙ idle))
   where
     by_marking : (o : Option Marking) → IsCarriedInMarking task carries.memory o → not (is_some o) ≡ true → IsAnswer task carries.memory.learned carries.memory.said
@@ -360,7 +360,7 @@ answered c task own carries idle = subst (λ (s : Host). IsAnswer task (learned_
     go (Some t) k is = absurd (cc is)
 
 -- and what it has said answers the task
-pub answered_by : (c : Shape) (task : Task) (own : Own) → Carries c task own → (said : HostAnswer) → said_of (host_in c own) ≡ Some said → IsAnswer task (learned_of (host_in c own)) (Some said)
+pub answered_by : (c : Shape) (task : HostTask) (own : Own) → Carries c task own → (said : HostAnswer) → said_of (host_in c own) ≡ Some said → IsAnswer task (learned_of (host_in c own)) (Some said)
 answered_by c task own carries said is = subst (λ (s : Option HostAnswer). IsAnswer task (learned_of (host_in c own)) s) is (answered c task own carries (said_idle c task own carries said is))
 
 -- a submission does nothing else
@@ -438,7 +438,7 @@ pub acked_for : (c : Shape) (command : Command) (own : Own) → Carries c (Attem
 acked_for c command own carries slot reply is =
     subst (HasReceipt c own (Attempting (Submitting command))) (sym (ap said_of carries.is) ∙ is) carries.receipt
 
-pub acked : (c : Shape) (task : Task) (own : Own) → Carries c task own → (slot : ℕ) (reply : Reply) → said_of (host_in c own) ≡ Some (Ack slot reply) → IsAcked c own slot reply
+pub acked : (c : Shape) (task : HostTask) (own : Own) → Carries c task own → (slot : ℕ) (reply : Reply) → said_of (host_in c own) ≡ Some (Ack slot reply) → IsAcked c own slot reply
 acked c (Attempting (Submitting command)) own carries slot reply is = let r = acked_for c command own carries slot reply is in record { command = command; place = r.0; last = r.1 }
 acked c (Attempting Recovering) own carries slot reply is = absurd (only_recovers c own carries slot reply is)
 acked c (Attempting Looking) own carries slot reply is = absurd (looks_unacknowledged c own carries slot reply is)
@@ -446,7 +446,7 @@ acked c Beating own carries slot reply is = absurd (beats_unacknowledged c own c
 acked c MarkingSlot own carries slot reply is = absurd (marks_unacknowledged c own carries slot reply is)
 
 -- a step that was refused, or could not be made, stops the task
-pub stops : (c : Shape) (o : Task) (f : HostFault) (old mid new : Own) → Carries c o old → GoesOn c old mid → idles (host_in c mid) ≡ false → Ends c f mid new → Stops c f old new
+pub stops : (c : Shape) (o : HostTask) (f : HostFault) (old mid new : Own) → Carries c o old → GoesOn c old mid → idles (host_in c mid) ≡ false → Ends c f mid new → Stops c f old new
 stops c o (fault.Refused r) old mid new carries goes busy is =
     let all = more c old mid new goes is.0 in
     (all, said_idle c o new (goes_on_so c o old new carries all) (Refused r) is.1, is.1)
@@ -457,7 +457,7 @@ stops c o fault.SeatTaken old mid new carries goes busy is = absurd is
 stops c o fault.SeatsMissing old mid new carries goes busy is = absurd is
 
 -- a task that is over was refused
-pub refused : (c : Shape) (o : Task) (f : HostFault) (old new : Own) → Carries c o old → GoesOn c old new → IsRefusedBy c f new → Stops c f old new
+pub refused : (c : Shape) (o : HostTask) (f : HostFault) (old new : Own) → Carries c o old → GoesOn c old new → IsRefusedBy c f new → Stops c f old new
 refused c o (fault.Refused r) old new carries goes is = (goes, said_idle c o new (goes_on_so c o old new carries goes) (Refused r) is, is)
 refused c o fault.NoMemory old new carries goes is = absurd is
 refused c o fault.JournalFull old new carries goes is = absurd is
@@ -467,7 +467,7 @@ refused c o fault.SeatsMissing old new carries goes is = absurd is
 
 -- WHILE IT IS UNDER WAY
 
-no_receipt : (c : Shape) (own : Own) (task : Task) → HasReceipt c own task None
+no_receipt : (c : Shape) (own : Own) (task : HostTask) → HasReceipt c own task None
 no_receipt c own (Attempting (Submitting command)) = tt
 no_receipt c own (Attempting Recovering) = tt
 no_receipt c own (Attempting Looking) = tt
@@ -475,28 +475,28 @@ no_receipt c own Beating = tt
 no_receipt c own MarkingSlot = tt
 
 -- a host that is not idle carries a task out
-pub carries_one : (c : Shape) (own : Own) (m : Memory) (submitting : Option Command) → host_in c own ≡ Running m → IsDoing c m m.doing submitting → idles (host_in c own) ≡ false → (task : Task) × Carries c task own
+pub carries_one : (c : Shape) (own : Own) (m : Memory) (submitting : Option Command) → host_in c own ≡ Running m → IsDoing c m m.doing submitting → idles (host_in c own) ≡ false → (task : HostTask) × Carries c task own
 carries_one c own m submitting is doing busy = go m.doing refl doing (sym (ap idles is) ∙ busy)
   where
-    quiet : (task : Task) → m.said ≡ None → IsCarried task m m.doing → (k : Task) × Carries c k own
+    quiet : (task : HostTask) → m.said ≡ None → IsCarried task m m.doing → (k : HostTask) × Carries c k own
     quiet task none carried = (
       task,
       record { memory = m; is = is; doing = carried; receipt = subst (HasReceipt c own task) (sym none) (no_receipt c own task) },
     )
 
-    by_marking : (o : Option Marking) → m.doing ≡ None → m.beats.heard ≡ None → m.marking ≡ o → IsSilentInMarking m o → not (is_some o) ≡ false → (task : Task) × Carries c task own
+    by_marking : (o : Option Marking) → m.doing ≡ None → m.beats.heard ≡ None → m.marking ≡ o → IsSilentInMarking m o → not (is_some o) ≡ false → (task : HostTask) × Carries c task own
     by_marking None none rest unmarked known off = absurd (cc off)
     by_marking (Some t) none rest marks known off =
         quiet MarkingSlot known (subst (λ (d : Option Doing). IsCarried MarkingSlot m d) (sym none)
         (subst (λ (o : Option (List beat_answers.Answered)). IsCarriedBeside MarkingSlot m o) (sym rest)
         (subst (λ (o : Option Marking). IsCarriedInMarking MarkingSlot m o) (sym marks) (refl, known))))
 
-    by_beat : (o : Option (List beat_answers.Answered)) → m.doing ≡ None → m.beats.heard ≡ o → IsSilentInBeat m o → (rests o && not (is_some m.marking)) ≡ false → (task : Task) × Carries c task own
+    by_beat : (o : Option (List beat_answers.Answered)) → m.doing ≡ None → m.beats.heard ≡ o → IsSilentInBeat m o → (rests o && not (is_some m.marking)) ≡ false → (task : HostTask) × Carries c task own
     by_beat None none rest known off = by_marking m.marking none rest refl known off
     by_beat (Some heard) none beats known off =
         quiet Beating known.0 (subst (λ (d : Option Doing). IsCarried Beating m d) (sym none) (subst (λ (o : Option (List beat_answers.Answered)). IsCarriedBeside Beating m o) (sym beats) (refl, known.0, known.1)))
 
-    go : (d : Option Doing) → m.doing ≡ d → IsDoing c m d submitting → is_idle_in m d ≡ false → (task : Task) × Carries c task own
+    go : (d : Option Doing) → m.doing ≡ d → IsDoing c m d submitting → is_idle_in m d ≡ false → (task : HostTask) × Carries c task own
     go None none known off = by_beat m.beats.heard none refl known off
     go (Some t) does known off = quiet (Attempting t.operation) known.2 (subst (λ (d : Option Doing). IsCarried (Attempting t.operation) m d) (sym does) (refl, known.2, known.3, known.4))
 

@@ -10,8 +10,8 @@ use Rattle.world.specs.Entry.{disk_after}
 use Rattle.world.specs.World.{opening_disk}
 use Rattle.cluster_tie.specs.Parts.{Own, entries}
 use Rattle.cluster.specs.Seat.{due_in, IsDueOn}
-use Rattle.cluster.specs.declared.touched.Outcome.{Outcome}
-use Rattle.cluster.specs.declared.touched.Outcome.TheVariants.{Booted, Done, Told, Fault}
+use Rattle.cluster.specs.declared.touched.CallOutcome.{CallOutcome}
+use Rattle.cluster.specs.declared.touched.CallOutcome.TheVariants.{Booted, Done, Told, Fault}
 
 -- an image on a disk, which may be larger
 abbrev pub image_on : Shape → DiskState → DiskState
@@ -23,14 +23,14 @@ pub record BookState (D : Type 0) : Type 0 where
   pub medium : D
   pub device : Device
   pub disk : DiskState
-  pub open_call : Option Outcome
+  pub open_call : Option CallOutcome
   pub row : List ℕ
 
 -- what the disk's entries make of an opening one
 abbrev pub disk_in : Shape → Own → DiskState
 disk_in c own = disk_after (opening_disk c) (entries own.entries)
 
-abbrev pub answer_in : Outcome → List ℕ → Answer
+abbrev pub answer_in : CallOutcome → List ℕ → Answer
 answer_in (Booted boot) row = device.Booted boot.number
 answer_in Done row = device.Done
 answer_in Told row = device.Told row
@@ -43,7 +43,7 @@ pub record Follows (answer : Answer) (old new : DiskState) : Type 0 where
   pub step : Step old call answer new
 
 -- the disk is as its entries leave it, or the open call followed
-abbrev pub IsFollowedBy : Option Outcome → List ℕ → DiskState → DiskState → Type 0
+abbrev pub IsFollowedBy : Option CallOutcome → List ℕ → DiskState → DiskState → Type 0
 IsFollowedBy None row left disk = disk ≡ left
 IsFollowedBy (Some outcome) row left disk = Follows (answer_in outcome row) left disk
 

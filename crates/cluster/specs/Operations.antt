@@ -76,13 +76,13 @@ Restarts old new = (place : ℕ) × (new ≡ adds (adds old place (Stop old.numb
 -- WHILE A TASK IS UNDER WAY
 
 -- what a host carries out: an operation on the log, a beat, or the marking of a slot
-pub data Task : Type 0 where
-  Attempting : (operation : Operation) → Task
-  Beating : Task
-  MarkingSlot : Task
+pub data HostTask : Type 0 where
+  Attempting : (operation : Operation) → HostTask
+  Beating : HostTask
+  MarkingSlot : HostTask
 
 -- the host may answer the task so
-abbrev pub IsAnswer : Task → List Command → Option HostAnswer → Type 0
+abbrev pub IsAnswer : HostTask → List Command → Option HostAnswer → Type 0
 IsAnswer task learned None = ⊥
 IsAnswer (Attempting (Submitting command)) learned (Some (said.Ack slot reply)) = Unit {0}
 IsAnswer (Attempting Recovering) learned (Some (said.Recovered n)) = n ≡ length learned
@@ -93,28 +93,28 @@ IsAnswer task learned (Some (said.Refused refusal)) = Unit {0}
 IsAnswer task learned other = ⊥
 
 -- the marking is under way, or the task was answered
-abbrev pub IsCarriedInMarking : Task → Memory → Option Marking → Type 0
+abbrev pub IsCarriedInMarking : HostTask → Memory → Option Marking → Type 0
 IsCarriedInMarking task m None = IsAnswer task m.learned m.said
 IsCarriedInMarking task m (Some t) = (task ≡ MarkingSlot) × (m.said ≡ None)
 
 -- or the beat is, and no marking
-abbrev pub IsCarriedBeside : Task → Memory → Option (List Answered) → Type 0
+abbrev pub IsCarriedBeside : HostTask → Memory → Option (List Answered) → Type 0
 IsCarriedBeside task m None = IsCarriedInMarking task m m.marking
 IsCarriedBeside task m (Some heard) = (task ≡ Beating) × (m.said ≡ None) × (m.marking ≡ None)
 
 -- or the operation is, and neither of them
-abbrev pub IsCarried : Task → Memory → Option Doing → Type 0
+abbrev pub IsCarried : HostTask → Memory → Option Doing → Type 0
 IsCarried task m None = IsCarriedBeside task m m.beats.heard
 IsCarried task m (Some t) = (Attempting t.operation ≡ task) × (m.said ≡ None) × (m.beats.heard ≡ None) × (m.marking ≡ None)
 
 -- a submission that was acknowledged has the last receipt
-abbrev pub HasReceipt : Shape → Own → Task → Option HostAnswer → Type 0
+abbrev pub HasReceipt : Shape → Own → HostTask → Option HostAnswer → Type 0
 HasReceipt c own (Attempting (Submitting command)) (Some (said.Ack slot reply)) =
     (place : ℕ) × IsLast (record { host = own.number; command = command; slot = slot; reply = reply; place = place }) (receipts_of c own)
 HasReceipt c own task said = Unit {0}
 
 -- so it is of the host that its own list leads to
-pub record Carries (c : Shape) (task : Task) (own : Own) : Type 0 where
+pub record Carries (c : Shape) (task : HostTask) (own : Own) : Type 0 where
   pub memory : Memory
   pub is : host_in c own ≡ Running memory
   pub doing : IsCarried task memory memory.doing
@@ -122,7 +122,7 @@ pub record Carries (c : Shape) (task : Task) (own : Own) : Type 0 where
 
 -- whichever task it is
 abbrev pub CarriesOne : Shape → Own → Type 0
-CarriesOne c own = (task : Task) × Carries c task own
+CarriesOne c own = (task : HostTask) × Carries c task own
 
 -- the task that is over was refused so
 abbrev pub IsRefusedBy : Shape → HostFault → Own → Type 0

@@ -7,16 +7,16 @@ ghost use Rattle.cluster_tie.specs.Parts.{adds, disk_of, host_of, of_host};
 ghost use Rattle.cluster.specs.Seat.{host_in};
 ghost use Rattle.cluster.specs.declared.journal.TheConstants.{MOST};
 
+use crate::cluster_name::ClusterName;
 use crate::fault::HostFault;
 use crate::journal::{Journal, has_room};
-use crate::named::Named;
 use crate::seat::HostSeat;
-use cluster_tie::{HostTie, Told};
+use cluster_tie::{HostTie, TiedEntry};
 use lock_command::Command;
 use std::marker::Brand;
 use world::Entry;
 
-impl<'a, N: Named> Journal<'a, N> {
+impl<'a, N: ClusterName> Journal<'a, N> {
     // The host begins to put a command into the log.
     pub(crate) fn submit(
         &mut self,
@@ -112,7 +112,7 @@ impl<'a, N: Named> Journal<'a, N> {
     }
 
     // Keeps the entry with which a host begins, if there is room for it.
-    fn begin<E: Told>(&mut self, host: &mut HostTie<N>, entry: Entry) -> Result<(), HostFault>
+    fn begin<E: TiedEntry>(&mut self, host: &mut HostTie<N>, entry: Entry) -> Result<(), HostFault>
         requires told { entry ≡ plain E.entry }
         requires own { (disk_of E.entry ≡ None) × (host_of E.entry ≡ Some host.old.number) }
         requires may { host.old.entries ≡ of_host host.old.number self.old.log → MayFollow N.shape (world N.shape self.old.log) E.entry }

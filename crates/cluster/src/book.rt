@@ -7,9 +7,9 @@ ghost use Rattle.cluster.specs.Book.{answer_in, disk_in, image_on, Makes};
 ghost use Rattle.host.specs.Host.{idles};
 ghost use Rattle.cluster.specs.Seat.{host_in, due_in};
 
-use crate::named::Named;
+use crate::cluster_name::ClusterName;
 use crate::seat::HostSeat;
-use crate::touched::{Outcome, Touched};
+use crate::touched::{CallOutcome, Touched};
 use cluster_tie::DiskTie;
 use disk::{Disk, SimDisk};
 use phases::DeviceCall;
@@ -19,15 +19,15 @@ use torn_block::ROW_LENGTH;
 /// A disk, and the call on it that is not in the journal yet, if there is one. If the disk is larger than an image, contracts
 /// see only the image, at its start.
 #[derive(Drop)]
-pub struct DiskBook<N: Named, D: Disk> {
+pub struct DiskBook<N: ClusterName, D: Disk> {
     pub(crate) number: u8,
     pub(crate) disk: D,
     pub(crate) row: [u8; ROW_LENGTH],
-    pub(crate) open_call: Option<Outcome>,
+    pub(crate) open_call: Option<CallOutcome>,
     pub(crate) tie: DiskTie<N>,
 }
 
-impl<N: Named, D: Disk> Model for DiskBook<N, D> {
+impl<N: ClusterName, D: Disk> Model for DiskBook<N, D> {
     ghost use Rattle.std.specs.Prelude.{◌≡◌};
     ghost use Rattle.disk.specs.Cut.{HasFirst};
     ghost use Rattle.paxos_block.specs.Places.{image_length};
@@ -44,7 +44,7 @@ impl<N: Named, D: Disk> Model for DiskBook<N, D> {
     } };
 }
 
-impl<N: Named, D: Disk> DiskBook<N, D> {
+impl<N: ClusterName, D: Disk> DiskBook<N, D> {
     // The book of a disk with a fresh image.
     #[tactic(auto, using(crate::proofs::Imaged::opened))]
     pub(crate) fn new(number: u8, disk: D, tie: DiskTie<N>) -> DiskBook<N, D>
@@ -98,7 +98,7 @@ impl<N: Named, D: Disk> DiskBook<N, D> {
     }
 }
 
-impl<N: Named> DiskBook<N, SimDisk> {
+impl<N: ClusterName> DiskBook<N, SimDisk> {
     /// Whether the disk is there still, and may crash once more.
     pub fn may_crash(&self) -> bool
         ensures { result ≡ true ↔ (self.now.disk.gone ≡ false) × (self.now.disk.boot < 2 ^ 62) }
@@ -116,7 +116,11 @@ impl<N: Named> DiskBook<N, SimDisk> {
 
 // Makes the host's next device call on a disk. Not by `phases::answer_of`: its contract says neither which step the disk's bytes
 // take, nor what is in the row after the answer is dropped.
-fn make<N: Named, D: Disk>(disk: &mut D, row: &mut [u8; ROW_LENGTH], seat: &HostSeat<N>) -> Outcome
+fn make<N: ClusterName, D: Disk>(
+    disk: &mut D,
+    row: &mut [u8; ROW_LENGTH],
+    seat: &HostSeat<N>,
+) -> CallOutcome
     requires busy { idles (host_in N.shape seat.now) ≡ false }
     requires tells { IsTrue (D.device disk.old).tells }
     requires large { image_length N.shape.slots ≤ (D.device disk.old).size }
@@ -128,17 +132,17 @@ fn make<N: Named, D: Disk>(disk: &mut D, row: &mut [u8; ROW_LENGTH], seat: &Host
 {
     match seat.call().call {
         DeviceCall::Attach => match disk.attach() {
-            Ok(boot) => Outcome::Booted(boot),
-            Err(fault) => Outcome::Fault(fault),
+            Ok(boot) => CallOutcome::Booted(boot),
+            Err(fault) => CallOutcome::Fault(fault),
         },
         DeviceCall::Read { boot, at } => {
             let told = disk.read(boot, at, row);
-            Outcome::of(told, Outcome::Told)
+            CallOutcome::of(told, CallOutcome::Told)
         }
         DeviceCall::Write { boot, at, bytes } => {
             let done = disk.write(boot, at, bytes);
-            Outcome::of(done, Outcome::Done)
+            CallOutcome::of(done, CallOutcome::Done)
         }
-        DeviceCall::Sync { boot } => Outcome::of(disk.sync(boot), Outcome::Done),
+        DeviceCall::Sync { boot } => CallOutcome::of(disk.sync(boot), CallOutcome::Done),
     }
 }

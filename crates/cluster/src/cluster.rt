@@ -12,10 +12,10 @@ ghost use Rattle.cluster.specs.Operations.{IsStarted};
 ghost use Rattle.cluster.specs.Seat.{host_in};
 
 use crate::book::DiskBook;
+use crate::cluster_name::ClusterName;
 use crate::commit::commit_step;
 use crate::fault::HostFault;
 use crate::journal::Journal;
-use crate::named::Named;
 use crate::opening::Foundation;
 use crate::seat::HostSeat;
 use cluster_tie::{DiskTie, HostTie, Ties, Tokens};
@@ -27,7 +27,7 @@ use std::sync::{Mutex, Wait};
 
 /// A lock for each disk, and one for the journal.
 #[derive(Drop)]
-pub struct Cluster<'a, N: Named, D: Disk> {
+pub struct Cluster<'a, N: ClusterName, D: Disk> {
     pub(crate) books: Vec<Mutex<DiskBook<N, D>>>,
     pub(crate) journal: Mutex<Journal<'a, N>>,
     pub(crate) slots: u16,
@@ -36,7 +36,7 @@ pub struct Cluster<'a, N: Named, D: Disk> {
     ghost long: { slots ≡ N.shape.slots },
 }
 
-impl<'a, N: Named, D: Disk + Drop> Cluster<'a, N, D> {
+impl<'a, N: ClusterName, D: Disk + Drop> Cluster<'a, N, D> {
     /// Hosts that have not started, over fresh disks. Each disk begins with as many zeros as an image takes, all of them synced,
     /// and its boot number is 1. Bytes after those are not looked at.
     pub fn new(
@@ -121,7 +121,7 @@ impl<'a, N: Named, D: Disk + Drop> Cluster<'a, N, D> {
     }
 }
 
-impl<'a, N: Named> Cluster<'a, N, SimDisk> {
+impl<'a, N: ClusterName> Cluster<'a, N, SimDisk> {
     /// Hosts that have not started, over simulated disks of zeros.
     pub fn simulated(
         alloc: Global,
@@ -145,7 +145,7 @@ fn fresh_disks(alloc: Global, config: Config) -> Result<Vec<SimDisk>, NoMemory>
 }
 
 // A book for each disk, with the token of its number.
-fn books_of<N: Named, D: Disk + Drop>(
+fn books_of<N: ClusterName, D: Disk + Drop>(
     alloc: Global,
     disks: Vec<D>,
     marks: Vec<DiskTie<N>>,
@@ -178,7 +178,7 @@ fn books_of<N: Named, D: Disk + Drop>(
 
 // The tokens, each of which waits for its host.
 #[tactic(auto, using(crate::proofs::Journals::fresh_wait))]
-fn waiting<N: Named>(
+fn waiting<N: ClusterName>(
     alloc: Global,
     hosts: Vec<HostTie<N>>,
 ) -> Result<Vec<Option<HostTie<N>>>, NoMemory>
@@ -188,7 +188,7 @@ fn waiting<N: Named>(
     somes(alloc, hosts)
 }
 
-fn somes<N: Named>(
+fn somes<N: ClusterName>(
     alloc: Global,
     hosts: Vec<HostTie<N>>,
 ) -> Result<Vec<Option<HostTie<N>>>, NoMemory>

@@ -6,18 +6,18 @@ ghost use Rattle.cluster.specs.Book.{answer_in, disk_in, Makes};
 ghost use Rattle.cluster.specs.Commit.{called_by};
 
 use crate::book::DiskBook;
+use crate::cluster_name::ClusterName;
 use crate::journal::{Journal, Promise};
-use crate::named::Named;
 use crate::seat::{HostSeat, hear};
 use crate::touched::Touched;
-use cluster_tie::Told;
+use cluster_tie::TiedEntry;
 use disk::Disk;
 use phases::DeviceCall;
 use std::marker::Brand;
 use world::{CallKind, Entry};
 
 /// Puts the open call of a book into the journal, and lets the host hear its answer. Takes no memory.
-pub fn commit_step<N: Named, D: Disk>(
+pub fn commit_step<N: ClusterName, D: Disk>(
     journal: &mut Journal<'_, N>,
     book: &mut DiskBook<N, D>,
     seat: &mut HostSeat<N>,
@@ -33,7 +33,7 @@ pub fn commit_step<N: Named, D: Disk>(
     commit_as::<Brand, N, D>(journal, book, seat, promise, touched)
 }
 
-fn commit_as<E: Told, N: Named, D: Disk>(
+fn commit_as<E: TiedEntry, N: ClusterName, D: Disk>(
     journal: &mut Journal<'_, N>,
     book: &mut DiskBook<N, D>,
     seat: &mut HostSeat<N>,

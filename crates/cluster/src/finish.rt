@@ -6,9 +6,9 @@ ghost use Rattle.cluster_tie.specs.Parts.{of_host};
 ghost use Rattle.cluster.specs.Record.{ArePartsOf, HasSeat, LacksSeat, AreNotAll, IsRecord};
 
 use crate::cluster::Cluster;
+use crate::cluster_name::ClusterName;
 use crate::fault::HostFault;
 use crate::journal::Journal;
-use crate::named::Named;
 use crate::seat::HostSeat;
 use disk::Disk;
 use torn_block::HOSTS;
@@ -17,12 +17,12 @@ use world_safety::one_log_and_nothing_lost;
 
 /// What is left of a cluster: all entries, and the seats, with their receipts and tables.
 #[derive(Drop)]
-pub struct Record<N: Named> {
+pub struct Record<N: ClusterName> {
     pub entries: Vec<Entry>,
     pub seats: Vec<HostSeat<N>>,
 }
 
-impl<'a, N: Named, D: Disk + Drop> Cluster<'a, N, D> {
+impl<'a, N: ClusterName, D: Disk + Drop> Cluster<'a, N, D> {
     /// The journal, and the seats, whose lists are its parts. Refused where a host was started whose seat is not among these.
     pub fn finish(self, seats: Vec<HostSeat<N>>) -> Result<Record<N>, HostFault>
         ensures same { IfOk result (λ r. r.seats.items ≡ seats.items) }
@@ -41,7 +41,7 @@ impl<'a, N: Named, D: Disk + Drop> Cluster<'a, N, D> {
     }
 }
 
-impl<'a, N: Named> Journal<'a, N> {
+impl<'a, N: ClusterName> Journal<'a, N> {
     // What is left, once nobody needs the journal any more.
     fn finish(self, seats: Vec<HostSeat<N>>) -> Result<Record<N>, HostFault>
         ensures same { IfOk result (λ r. r.seats.items ≡ seats.items) }
@@ -97,7 +97,7 @@ impl<'a, N: Named> Journal<'a, N> {
 }
 
 // Whether the host has a seat among these.
-fn has_seat<N: Named>(seats: &[HostSeat<N>], host: usize) -> bool
+fn has_seat<N: ClusterName>(seats: &[HostSeat<N>], host: usize) -> bool
     ensures { IsTrue result ↔ HasSeat seats.now host }
 {
     seats
@@ -105,7 +105,7 @@ fn has_seat<N: Named>(seats: &[HostSeat<N>], host: usize) -> bool
         .any(|seat| usize::from(seat.host().get()) == host)
 }
 
-fn meet<N: Named>(journal: &mut Journal<'_, N>, seat: &mut HostSeat<N>)
+fn meet<N: ClusterName>(journal: &mut Journal<'_, N>, seat: &mut HostSeat<N>)
     ensures same { (journal.new ≡ journal.old) × (seat.new ≡ seat.old) }
     ensures part { seat.old.entries ≡ of_host seat.old.number journal.old.log }
 {
@@ -113,7 +113,7 @@ fn meet<N: Named>(journal: &mut Journal<'_, N>, seat: &mut HostSeat<N>)
 }
 
 // Each seat meets the journal.
-fn meet_all<N: Named>(journal: &mut Journal<'_, N>, seats: &mut [HostSeat<N>])
+fn meet_all<N: ClusterName>(journal: &mut Journal<'_, N>, seats: &mut [HostSeat<N>])
     ensures same { (journal.new ≡ journal.old) × (seats.new ≡ seats.old) }
     ensures parts { ArePartsOf journal.old.log seats.old }
 {

@@ -9,17 +9,17 @@ ghost use Rattle.cluster_tie.specs.Parts.{adds, disk_of, host_of, on_disk};
 
 use crate::book::DiskBook;
 use crate::cluster::Cluster;
+use crate::cluster_name::ClusterName;
 use crate::fault::HostFault;
 use crate::journal::{Journal, Promise};
-use crate::named::Named;
-use cluster_tie::{DiskTie, Told};
+use cluster_tie::{DiskTie, TiedEntry};
 use disk::SimDisk;
 use std::marker::Brand;
 use std::sync::Wait;
 use world::Entry;
 
 /// The disk crashes: its unsynced positions take the given bytes. Takes no memory.
-pub fn commit_crash<N: Named>(
+pub fn commit_crash<N: ClusterName>(
     journal: &mut Journal<'_, N>,
     book: &mut DiskBook<N, SimDisk>,
     promise: Promise<N>,
@@ -37,7 +37,7 @@ pub fn commit_crash<N: Named>(
     commit_crash_as::<Brand, N>(journal, book, promise, given)
 }
 
-fn commit_crash_as<E: Told, N: Named>(
+fn commit_crash_as<E: TiedEntry, N: ClusterName>(
     journal: &mut Journal<'_, N>,
     book: &mut DiskBook<N, SimDisk>,
     promise: Promise<N>,
@@ -58,7 +58,7 @@ fn commit_crash_as<E: Told, N: Named>(
 }
 
 /// The disk is lost for good. Takes no memory.
-pub fn commit_loss<N: Named>(
+pub fn commit_loss<N: ClusterName>(
     journal: &mut Journal<'_, N>,
     book: &mut DiskBook<N, SimDisk>,
     promise: Promise<N>,
@@ -74,9 +74,9 @@ pub fn commit_loss<N: Named>(
     lose(&mut book.disk);
 }
 
-impl<'a, N: Named> Journal<'a, N> {
+impl<'a, N: ClusterName> Journal<'a, N> {
     // Spends a promise on the entry that tells what befell a disk.
-    fn spend<E: Told>(&mut self, disk: &mut DiskTie<N>, promise: Promise<N>, entry: Entry)
+    fn spend<E: TiedEntry>(&mut self, disk: &mut DiskTie<N>, promise: Promise<N>, entry: Entry)
         requires told { entry ≡ plain E.entry }
         requires own { (disk_of E.entry ≡ Some disk.old.number) × (host_of E.entry ≡ None) }
         requires may { disk.old.entries ≡ on_disk disk.old.number self.old.log → MayFollow N.shape (world N.shape self.old.log) E.entry }
@@ -92,7 +92,7 @@ impl<'a, N: Named> Journal<'a, N> {
     }
 }
 
-impl<'a, N: Named> Cluster<'a, N, SimDisk> {
+impl<'a, N: ClusterName> Cluster<'a, N, SimDisk> {
     /// Crashes a disk. One that is lost stays as it is, and no entry tells of it.
     pub fn crash_disk(&self, rt: &impl Wait, disk: u8, given: &[u8]) -> Result<(), HostFault>
         requires disk { disk < N.shape.disks }

@@ -8,11 +8,11 @@ ghost use Rattle.world.specs.World.{IsFreshRun};
 ghost use Rattle.cluster_tie.specs.Parts.{own_of, of_host};
 ghost use Rattle.cluster.specs.Journal.{AreWaiting, KeepsTokens};
 
+use crate::cluster_name::ClusterName;
 use crate::fault::HostFault;
-use crate::named::Named;
 use crate::receipt::Receipt;
 use crate::seat::HostSeat;
-use cluster_tie::{HostTie, JournalTie, Naming, Ties, Told};
+use cluster_tie::{HostTie, JournalTie, Naming, TiedEntry, Ties};
 use host::{Config, HostCore};
 use lock_command::HostNumber;
 use std::alloc::Global;
@@ -25,7 +25,7 @@ pub const MOST: usize = 1_000_000;
 
 /// Room in a journal for one entry. It is spent by an entry or given back.
 #[derive(Drop)]
-pub struct Promise<N: Named> {
+pub struct Promise<N: ClusterName> {
     pub(crate) share: Share<N>,
     ghost one: { share.amount ≡ 1 },
     ghost backed: { share.parts ≡ 1 },
@@ -33,7 +33,7 @@ pub struct Promise<N: Named> {
 
 /// All that the hosts and disks of a cluster did, as one list of entries.
 #[derive(Drop)]
-pub struct Journal<'a, N: Named> {
+pub struct Journal<'a, N: ClusterName> {
     pub(crate) config: Config,
     pub(crate) ties: &'a Ties<N>,
     pub(crate) tie: JournalTie<N>,
@@ -44,7 +44,7 @@ pub struct Journal<'a, N: Named> {
     pub(crate) hosts: Vec<Option<HostTie<N>>>,
 }
 
-impl<'a, N: Named> Model for Journal<'a, N> {
+impl<'a, N: ClusterName> Model for Journal<'a, N> {
     ghost use Rattle.std.specs.Prelude.{◌≡◌, ◌+◌, ◌≤◌, ◌<◌, vec_len, vec_capacity};
     ghost use Rattle.world.specs.Plain.{plains};
     ghost use Rattle.world.specs.World.{IsFreshRun};
@@ -69,7 +69,7 @@ impl<'a, N: Named> Model for Journal<'a, N> {
     } };
 }
 
-impl<'a, N: Named> Journal<'a, N> {
+impl<'a, N: ClusterName> Journal<'a, N> {
     pub(crate) fn new(
         alloc: Global,
         config: Config,
@@ -131,7 +131,7 @@ impl<'a, N: Named> Journal<'a, N> {
     }
 }
 
-impl<'a, N: Named> Journal<'a, N> {
+impl<'a, N: ClusterName> Journal<'a, N> {
     // Starts a host whose token waits.
     pub(crate) fn seat(&mut self, alloc: Global, host: HostNumber) -> Result<HostSeat<N>, HostFault>
         ensures ok { IfOk result (λ s. s ≡ own_of host ((length self.old.log, Start host) ∷ [])) }
@@ -147,7 +147,7 @@ impl<'a, N: Named> Journal<'a, N> {
         self.seat_as::<Brand>(alloc, host)
     }
 
-    fn seat_as<E: Told>(
+    fn seat_as<E: TiedEntry>(
         &mut self,
         alloc: Global,
         host: HostNumber,

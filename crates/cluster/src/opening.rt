@@ -4,7 +4,7 @@ ghost use Rattle.cluster_tie.specs.Parts.{AreFresh};
 ghost use Rattle.cluster.specs.Opening.{IsNamed};
 ghost use Rattle.cluster.specs.declared.journal.TheConstants.{MOST};
 
-use crate::named::Named;
+use crate::cluster_name::ClusterName;
 use cluster_tie::{Opened, Ties, Tokens};
 use disk::NoMemory;
 use slot_log::Config;
@@ -42,7 +42,7 @@ impl Model for Opening {
 
 /// What a cluster needs beside its disks, made for the cluster of one name.
 #[derive(Drop)]
-pub struct Foundation<N: Named> {
+pub struct Foundation<N: ClusterName> {
     pub(crate) config: Config,
     pub(crate) tokens: Tokens<N>,
     pub(crate) promises: Blank,
@@ -71,7 +71,7 @@ impl Opening {
     }
 
     /// The cluster under a name, and the table that its tokens are of.
-    pub fn named<N: Named>(self, alloc: Global) -> Result<(Ties<N>, Foundation<N>), NoMemory>
+    pub fn named<N: ClusterName>(self, alloc: Global) -> Result<(Ties<N>, Foundation<N>), NoMemory>
         requires { IsNamed self N.shape N.table N.name N.parts N.all }
     {
         let Opening {

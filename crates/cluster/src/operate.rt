@@ -7,9 +7,9 @@ ghost use Rattle.cluster.specs.Operations.{HasAnswered, CarriesOne, Fails, IsRef
 ghost use Rattle.cluster.specs.Seat.{host_in};
 
 use crate::cluster::Cluster;
+use crate::cluster_name::ClusterName;
 use crate::fault::HostFault;
 use crate::gate::Gate;
-use crate::named::Named;
 use crate::receipt::Receipt;
 use crate::seat::HostSeat;
 use disk::Disk;
@@ -29,7 +29,7 @@ pub enum Resumed {
     Marked(u8),
 }
 
-impl<'a, N: Named, D: Disk + Drop> Cluster<'a, N, D> {
+impl<'a, N: ClusterName, D: Disk + Drop> Cluster<'a, N, D> {
     /// Puts a command into the log, and steps until the answer.
     pub fn submit<G: Gate>(
         &self,
@@ -211,7 +211,7 @@ impl<'a, N: Named, D: Disk + Drop> Cluster<'a, N, D> {
 }
 
 // What an operation that is over gave.
-fn outcome<N: Named>(seat: &HostSeat<N>) -> Result<Resumed, HostFault>
+fn outcome<N: ClusterName>(seat: &HostSeat<N>) -> Result<Resumed, HostFault>
     requires over { idles (host_in N.shape seat.now) ≡ true }
     requires carried { CarriesOne N.shape seat.now }
     ensures answer { IfOk result (λ gave. HasAnswered N.shape gave seat.now) }

@@ -3,16 +3,16 @@ ghost use Rattle.world.specs.Entry.{Start, Stop};
 ghost use Rattle.cluster_tie.specs.Parts.{adds};
 ghost use Rattle.cluster.specs.declared.journal.TheConstants.{MOST};
 
+use crate::cluster_name::ClusterName;
 use crate::fault::HostFault;
 use crate::journal::{Journal, MOST, start};
-use crate::named::Named;
 use crate::seat::HostSeat;
-use cluster_tie::Told;
+use cluster_tie::TiedEntry;
 use std::alloc::Global;
 use std::marker::Brand;
 use world::Entry;
 
-impl<'a, N: Named> Journal<'a, N> {
+impl<'a, N: ClusterName> Journal<'a, N> {
     // The host stops and starts again. Room for both entries, and for what the host keeps, is had first.
     pub(crate) fn restart(&mut self, alloc: Global, seat: &mut HostSeat<N>) -> Result<(), HostFault>
         ensures seat { OnOk result (seat.new ≡ adds (adds seat.old (length self.old.log) (Stop seat.old.number)) (length self.old.log + 1) (Start seat.old.number)) }
@@ -24,7 +24,7 @@ impl<'a, N: Named> Journal<'a, N> {
         self.restart_as::<Brand, Brand>(alloc, seat)
     }
 
-    fn restart_as<S: Told, T: Told>(
+    fn restart_as<S: TiedEntry, T: TiedEntry>(
         &mut self,
         alloc: Global,
         seat: &mut HostSeat<N>,

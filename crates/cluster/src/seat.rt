@@ -12,7 +12,7 @@ ghost use Rattle.cluster.specs.Operations.{CarriesOne};
 ghost use Rattle.cluster.specs.Receipts.{receipts_of, receipts_said};
 ghost use Rattle.cluster.specs.Seat.{host_in, due_in};
 
-use crate::named::Named;
+use crate::cluster_name::ClusterName;
 use crate::receipt::Receipt;
 use cluster_tie::HostTie;
 use host::{HostAnswer, HostCore};
@@ -23,14 +23,14 @@ use std::marker::Model;
 
 /// A running host. Contracts see it as its number and its own list of entries, each with its place in the journal.
 #[derive(Drop)]
-pub struct HostSeat<N: Named> {
+pub struct HostSeat<N: ClusterName> {
     pub(crate) core: HostCore,
     pub(crate) submitting: Option<Command>,
     pub(crate) acks: Vec<Receipt>,
     pub(crate) tie: HostTie<N>,
 }
 
-impl<N: Named> Model for HostSeat<N> {
+impl<N: ClusterName> Model for HostSeat<N> {
     ghost use Rattle.std.specs.Prelude.{◌≡◌, ◌≤◌, vec_capacity, length};
     ghost use Rattle.cluster_tie.specs.Parts.{Own};
     ghost use Rattle.cluster.specs.Receipts.{receipts_of};
@@ -48,7 +48,7 @@ impl<N: Named> Model for HostSeat<N> {
     } };
 }
 
-impl<N: Named> HostSeat<N> {
+impl<N: ClusterName> HostSeat<N> {
     /// The host's number.
     pub fn host(&self) -> HostNumber
         ensures { result ≡ self.now.number }

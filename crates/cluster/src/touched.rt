@@ -13,22 +13,22 @@ use torn_block::ROW_LENGTH;
 
 /// What a device call answered. The bytes of a row lie in the disk's book.
 #[derive(Clone, Copy, Debug)]
-pub enum Outcome {
+pub enum CallOutcome {
     Booted(Boot),
     Done,
     Told,
     Fault(DiskFault),
 }
 
-impl Outcome {
+impl CallOutcome {
     // The answer to a call that gives nothing more.
-    pub(crate) fn of(answer: Result<(), DiskFault>, success: Outcome) -> Outcome
+    pub(crate) fn of(answer: Result<(), DiskFault>, success: CallOutcome) -> CallOutcome
         ensures done { OnOk answer (result ≡ success) }
-        ensures failed { IfErr answer (λ fault. result ≡ Outcome.Fault fault) }
+        ensures failed { IfErr answer (λ fault. result ≡ CallOutcome.Fault fault) }
     {
         match answer {
             Ok(()) => success,
-            Err(fault) => Outcome::Fault(fault),
+            Err(fault) => CallOutcome::Fault(fault),
         }
     }
 
@@ -37,8 +37,8 @@ impl Outcome {
         ensures { (row : List ℕ) → result ≡ fault_in (answer_in self.now row) }
     {
         match self {
-            Outcome::Fault(fault) => Some(*fault),
-            Outcome::Booted(_) | Outcome::Done | Outcome::Told => None,
+            CallOutcome::Fault(fault) => Some(*fault),
+            CallOutcome::Booted(_) | CallOutcome::Done | CallOutcome::Told => None,
         }
     }
 
@@ -49,15 +49,15 @@ impl Outcome {
         ensures fits { (old new : DiskState) (call : Call) → Step old call (answer_in self.now row.now) new → Fits call (heard_of result) }
     {
         match self {
-            Outcome::Booted(boot) => Heard::Booted(*boot),
-            Outcome::Done => Heard::Done,
-            Outcome::Told => Heard::Told(row),
-            Outcome::Fault(fault) => Heard::Fault(*fault),
+            CallOutcome::Booted(boot) => Heard::Booted(*boot),
+            CallOutcome::Done => Heard::Done,
+            CallOutcome::Told => Heard::Told(row),
+            CallOutcome::Fault(fault) => Heard::Fault(*fault),
         }
     }
 }
 
 /// A device call that was made, and is to be committed to the journal: it can't be dropped.
 pub struct Touched {
-    pub(crate) outcome: Outcome,
+    pub(crate) outcome: CallOutcome,
 }

@@ -9,7 +9,7 @@ mod ties;
 mod token;
 mod view;
 
-pub use naming::{Naming, Told};
+pub use naming::{Naming, TiedEntry};
 pub use opened::{Opened, Tokens};
 pub use place::entries_stand;
 pub use ties::Ties;

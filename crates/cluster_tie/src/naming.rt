@@ -16,24 +16,24 @@ impl Naming for Brand {
 }
 
 /// An entry, with the bytes that it leaves open. Each call of a program picks it.
-pub trait Told {
+pub trait TiedEntry {
     ghost use Rattle.world.specs.Entry.{Filled};
 
     ghost entry: { Filled };
 }
 
-impl Told for Brand {
+impl TiedEntry for Brand {
     ghost use Rattle.cluster_tie.specs.Rules.{no_entry};
 
     ghost entry = { no_entry };
 }
 
 // The step that appends the entry.
-pub struct Appends<E: Told> {
+pub struct Appends<E: TiedEntry> {
     entry: PhantomData<E>,
 }
 
-impl<E: Told> Play<u64, View> for Appends<E> {
+impl<E: TiedEntry> Play<u64, View> for Appends<E> {
     ghost use Rattle.cluster_tie.specs.Rules.{appended};
 
     ghost then = { appended E.entry };

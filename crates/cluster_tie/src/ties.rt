@@ -1,7 +1,7 @@
 ghost use Rattle.std.specs.Prelude.{◌≡◌, ◌<◌, ◌++◌, ◌∷◌, [], Some, None, length};
 ghost use Rattle.cluster_tie.specs.Parts.{on_disk, of_host, disk_of, host_of, adds};
 
-use crate::naming::{Appends, Naming, Told};
+use crate::naming::{Appends, Naming, TiedEntry};
 use crate::rule::{Front, Law, Lends, Sees};
 use crate::token::{DiskTie, HostTie, JournalTie};
 use crate::view::View;
@@ -21,7 +21,7 @@ pub struct Ties<N: Naming> {
 impl<N: Naming> Ties<N> {
     /// Appends an entry of a host on a disk to the journal's list, to the disk's and to the host's. All three then know that the
     /// last two were parts of the journal's.
-    pub fn append<E: Told>(
+    pub fn append<E: TiedEntry>(
         &self,
         journal: &mut JournalTie<N>,
         disk: &mut DiskTie<N>,
@@ -44,7 +44,7 @@ impl<N: Naming> Ties<N> {
     }
 
     /// Appends an entry of a host that is on no disk, in the same way.
-    pub fn append_host<E: Told>(&self, journal: &mut JournalTie<N>, host: &mut HostTie<N>)
+    pub fn append_host<E: TiedEntry>(&self, journal: &mut JournalTie<N>, host: &mut HostTie<N>)
         requires { (disk_of E.entry ≡ None) × (host_of E.entry ≡ Some host.old.number) }
         ensures journal { journal.new ≡ journal.old ++ E.entry ∷ [] }
         ensures host { host.new ≡ adds host.old (length journal.old) E.entry }
@@ -58,7 +58,7 @@ impl<N: Naming> Ties<N> {
     }
 
     /// Appends an entry on a disk that is of no host, in the same way.
-    pub fn append_disk<E: Told>(&self, journal: &mut JournalTie<N>, disk: &mut DiskTie<N>)
+    pub fn append_disk<E: TiedEntry>(&self, journal: &mut JournalTie<N>, disk: &mut DiskTie<N>)
         requires { (disk_of E.entry ≡ Some disk.old.number) × (host_of E.entry ≡ None) }
         ensures journal { journal.new ≡ journal.old ++ E.entry ∷ [] }
         ensures disk { disk.new ≡ adds disk.old (length journal.old) E.entry }

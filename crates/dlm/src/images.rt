@@ -1,6 +1,6 @@
 ghost use Rattle.std.specs.Prelude.{◌≡◌, IfOk};
 
-use crate::failure::Failure;
+use crate::command_failure::CommandFailure;
 use crate::fault::Fault;
 use crate::reply_text::ReplyText;
 use disk::FileDisk;
@@ -31,7 +31,7 @@ pub fn format<R: Files + AllocGlobal, O: Write>(
     config: Config,
     cluster: u64,
     out: &mut O,
-) -> Result<(), Failure>
+) -> Result<(), CommandFailure>
 where
     R::File: FileExt + OpenFile + Drop,
 {
@@ -49,7 +49,7 @@ pub fn submit<R: Files + Clock + RandomSource + AllocGlobal, O: Write>(
     folder: &str,
     command: Command,
     out: &mut O,
-) -> Result<(), Failure>
+) -> Result<(), CommandFailure>
 where
     R::File: FileExt + OpenFile + TryLock + Drop,
 {
@@ -61,7 +61,7 @@ where
             let _ = host.mark(done.slot);
             Ok(())
         }
-        Err(refusal) => Err(Failure::from(Fault::from(refusal))),
+        Err(refusal) => Err(CommandFailure::from(Fault::from(refusal))),
     }
 }
 
@@ -71,14 +71,14 @@ pub fn table<R: Files + AllocGlobal, O: Write>(
     folder: &str,
     host: HostNumber,
     out: &mut O,
-) -> Result<(), Failure>
+) -> Result<(), CommandFailure>
 where
     R::File: FileExt + OpenFile + TryLock + Drop,
 {
     let (mut host, _lock) = host_over(rt, folder, host)?;
     match host.recover(TRIES) {
         Ok(length) => print_table(rt.alloc(), length, host.table(), out),
-        Err(refusal) => Err(Failure::from(Fault::from(refusal))),
+        Err(refusal) => Err(CommandFailure::from(Fault::from(refusal))),
     }
 }
 
@@ -89,7 +89,7 @@ pub fn mark<R: Files + AllocGlobal, O: Write>(
     folder: &str,
     host: HostNumber,
     out: &mut O,
-) -> Result<(), Failure>
+) -> Result<(), CommandFailure>
 where
     R::File: FileExt + OpenFile + TryLock + Drop,
 {
@@ -98,7 +98,7 @@ where
     let _ = host.look();
     match host.recover_and_mark(TRIES) {
         Ok(log) => print_marked(log, out),
-        Err(refusal) => Err(Failure::from(Fault::from(refusal))),
+        Err(refusal) => Err(CommandFailure::from(Fault::from(refusal))),
     }
 }
 
@@ -107,7 +107,7 @@ pub fn check<R: Files + AllocGlobal, O: Write>(
     rt: &R,
     folder: &str,
     out: &mut O,
-) -> Result<(), Failure>
+) -> Result<(), CommandFailure>
 where
     R::File: FileExt + OpenFile + Drop,
 {
@@ -119,7 +119,7 @@ where
     out.flush()?;
     match found {
         None => Ok(()),
-        Some(finding) => Err(Failure::from(Fault::from(finding))),
+        Some(finding) => Err(CommandFailure::from(Fault::from(finding))),
     }
 }
 
@@ -130,7 +130,7 @@ pub fn migrate<R: Files + AllocGlobal, O: Write>(
     new: &str,
     slots: SlotCount,
     out: &mut O,
-) -> Result<(), Failure>
+) -> Result<(), CommandFailure>
 where
     R::File: FileExt + OpenFile + TryLock + Drop,
 {
@@ -165,7 +165,7 @@ where
     Ok((over, lock))
 }
 
-fn print_ack<O: Write>(done: Acknowledgement, out: &mut O) -> Result<(), Failure> {
+fn print_ack<O: Write>(done: Acknowledgement, out: &mut O) -> Result<(), CommandFailure> {
     let slot = done.slot;
     let reply = ReplyText(done.reply);
     writeln!(out, "ack {slot} {reply}")?;
@@ -173,7 +173,7 @@ fn print_ack<O: Write>(done: Acknowledgement, out: &mut O) -> Result<(), Failure
     Ok(())
 }
 
-fn print_marked<O: Write>(log: MarkedLog, out: &mut O) -> Result<(), Failure> {
+fn print_marked<O: Write>(log: MarkedLog, out: &mut O) -> Result<(), CommandFailure> {
     let length = log.length;
     let marked = log.marked;
     writeln!(out, "recovered {length}")?;
@@ -187,7 +187,7 @@ fn print_table<O: Write>(
     length: u16,
     table: &Table,
     out: &mut O,
-) -> Result<(), Failure> {
+) -> Result<(), CommandFailure> {
     let picture = table.picture(alloc).map_err(Fault::from)?;
     writeln!(out, "recovered {length}")?;
     queues(&picture, out)?;

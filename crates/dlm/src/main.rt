@@ -2,7 +2,7 @@
 #![tactic(auto)]
 
 mod answer_text;
-mod failure;
+mod command_failure;
 mod fault;
 mod given_words;
 mod images;

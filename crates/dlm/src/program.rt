@@ -1,11 +1,11 @@
 ghost use Rattle.std.specs.Prelude.{◌≡◌, ◌≢◌, ◌≤◌, ◌↔◌, is_ok, if◌then◌else◌};
 ghost use Rattle.std.specs.Io.KnownBytes.{Keeps};
 
-use crate::failure::Failure;
+use crate::command_failure::CommandFailure;
 use crate::fault::Fault;
 use crate::run::run_script;
 use crate::sweeping::print_sweep;
-use crate::words::{Task, WordsFault, task_of};
+use crate::words::{Subcommand, WordsFault, task_of};
 use crate::{images, racing};
 use dlm_images::TryLock;
 use simulator::read_script;
@@ -41,24 +41,24 @@ where
 fn carry_out<
     R: Files + Input + Clock + RandomSource + AllocGlobal + Threads + Wait + Sync,
     O: Write,
->(rt: &R, task: &Task<'_>, out: &mut O) -> Result<(), Failure>
+>(rt: &R, task: &Subcommand<'_>, out: &mut O) -> Result<(), CommandFailure>
 where
     R::File: FileExt + OpenFile + TryLock + Drop,
 {
     match *task {
-        Task::Run { script } => run_file(rt, script, out),
-        Task::Format {
+        Subcommand::Run { script } => run_file(rt, script, out),
+        Subcommand::Format {
             folder,
             config,
             cluster,
         } => images::format(rt, folder, config, cluster, out),
-        Task::Submit { folder, command } => images::submit(rt, folder, command, out),
-        Task::Table { folder, host } => images::table(rt, folder, host, out),
-        Task::Mark { folder, host } => images::mark(rt, folder, host, out),
-        Task::Check { folder } => images::check(rt, folder, out),
-        Task::Migrate { old, new, slots } => images::migrate(rt, old, new, slots, out),
-        Task::Race { last } => racing::race_hosts(rt, last, out),
-        Task::Sweep { script } => sweep_file(rt, script, out),
+        Subcommand::Submit { folder, command } => images::submit(rt, folder, command, out),
+        Subcommand::Table { folder, host } => images::table(rt, folder, host, out),
+        Subcommand::Mark { folder, host } => images::mark(rt, folder, host, out),
+        Subcommand::Check { folder } => images::check(rt, folder, out),
+        Subcommand::Migrate { old, new, slots } => images::migrate(rt, old, new, slots, out),
+        Subcommand::Race { last } => racing::race_hosts(rt, last, out),
+        Subcommand::Sweep { script } => sweep_file(rt, script, out),
     }
 }
 
@@ -81,14 +81,14 @@ pub fn decline<E: Write>(fault: WordsFault, err: &mut E) -> u8
 }
 
 /// Tells why the task did not end well, if so, and returns the status.
-fn finish<E: Write>(end: Result<(), Failure>, err: &mut E) -> u8
+fn finish<E: Write>(end: Result<(), CommandFailure>, err: &mut E) -> u8
     ensures status { result ≡ (if is_ok end then 0 else 1) }
     ensures quiet { result ≡ 0 → err.new ≡ err.old }
 {
     match end {
         Ok(()) => 0,
-        Err(Failure::Refused(fault)) => refuse(fault, err),
-        Err(Failure::Output(_)) => 1,
+        Err(CommandFailure::Refused(fault)) => refuse(fault, err),
+        Err(CommandFailure::Output(_)) => 1,
     }
 }
 
@@ -104,13 +104,13 @@ fn run_file<R: Files + Input + AllocGlobal, O: Write>(
     rt: &R,
     path: &str,
     out: &mut O,
-) -> Result<(), Failure> {
+) -> Result<(), CommandFailure> {
     let bytes = read_source(rt, path)?;
     run_bytes(rt.alloc(), bytes.as_slice(), out)
 }
 
 /// Reads the whole script and runs it. What it printed goes out also where it is refused later on.
-fn run_bytes<O: Write>(alloc: Global, bytes: &[u8], out: &mut O) -> Result<(), Failure> {
+fn run_bytes<O: Write>(alloc: Global, bytes: &[u8], out: &mut O) -> Result<(), CommandFailure> {
     let script = read_script(alloc, bytes).map_err(Fault::from)?;
     let end = run_script(alloc, &script, out);
     out.flush()?;
@@ -121,13 +121,13 @@ fn sweep_file<R: Files + Input + AllocGlobal, O: Write>(
     rt: &R,
     path: &str,
     out: &mut O,
-) -> Result<(), Failure> {
+) -> Result<(), CommandFailure> {
     let bytes = read_source(rt, path)?;
     sweep_bytes(rt.alloc(), bytes.as_slice(), out)
 }
 
 /// Reads the whole script and runs its variants.
-fn sweep_bytes<O: Write>(alloc: Global, bytes: &[u8], out: &mut O) -> Result<(), Failure> {
+fn sweep_bytes<O: Write>(alloc: Global, bytes: &[u8], out: &mut O) -> Result<(), CommandFailure> {
     let script = read_script(alloc, bytes).map_err(Fault::from)?;
     print_sweep(alloc, &script, out)
 }

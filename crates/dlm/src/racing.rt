@@ -4,7 +4,7 @@ ghost use Rattle.dlm.specs.Text.{host_fault_text};
 ghost use Rattle.dlm.specs.Printed.{race_line, race_text};
 
 use crate::answer_text::refusal_text;
-use crate::failure::Failure;
+use crate::command_failure::CommandFailure;
 use crate::fault::Fault;
 use crate::reply_text::ReplyText;
 use cluster::HostFault;
@@ -21,7 +21,7 @@ pub fn race_hosts<R: Threads + Wait + AllocGlobal + Sync, O: Write>(
     rt: &R,
     last: HostNumber,
     out: &mut O,
-) -> Result<(), Failure> {
+) -> Result<(), CommandFailure> {
     let race = run_race(rt, last).map_err(Fault::from)?;
     print_race(&race, out)?;
     out.flush()?;

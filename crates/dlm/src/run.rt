@@ -4,43 +4,49 @@ ghost use Rattle.simulator.specs.Kept.{LeadsTo};
 ghost use Rattle.dlm.specs.Printed.{WritesAnswer};
 
 use crate::answer_text::AnswerText;
-use crate::failure::Failure;
+use crate::command_failure::CommandFailure;
 use crate::fault::Fault;
 use inspect::{Blocking, blocking, queues};
-use simulator::{Event, MOST_EVENTS, Parts, Run, Script, Show, View};
+use simulator::{Event, MOST_EVENTS, Run, Script, Show, SimulatedCluster, View};
 use std::alloc::Global;
 use std::io;
 use std::io::Write;
 
 /// Lets the script's events happen in turn, to a cluster that begins with the script's log. Prints what the hosts answer, each with its event's number, and between the
 /// events the tables that are to be shown there.
-pub fn run_script<O: Write>(alloc: Global, script: &Script, out: &mut O) -> Result<(), Failure>
+pub fn run_script<O: Write>(
+    alloc: Global,
+    script: &Script,
+    out: &mut O,
+) -> Result<(), CommandFailure>
     requires { length script.now.log.items ≤ script.now.config.slots }
 {
-    let mut parts = Parts::migrated(alloc, script.config, &script.log).map_err(Fault::from)?;
+    let mut cluster = SimulatedCluster::migrated(alloc, script.config, &script.log).map_err(
+        Fault::from,
+    )?;
     let mut shows = script.shows.as_slice();
     let mut place = 0;
     // A table is shown between two lines of the script, and so between two runs of events.
     for run in script.events.runs() {
-        shows = show_due(alloc, &parts, shows, place, out)?;
-        repeat(alloc, &mut parts, place, run, out)?;
+        shows = show_due(alloc, &cluster, shows, place, out)?;
+        repeat(alloc, &mut cluster, place, run, out)?;
         place += run.times;
     }
-    show_all(alloc, &parts, shows, out)
+    show_all(alloc, &cluster, shows, out)
 }
 
 /// Lets a run of events happen, the first of which has this number.
 fn repeat<O: Write>(
     alloc: Global,
-    parts: &mut Parts,
+    cluster: &mut SimulatedCluster,
     first: usize,
     run: &Run,
     out: &mut O,
-) -> Result<(), Failure>
+) -> Result<(), CommandFailure>
     requires { first + run.now.times ≤ MOST_EVENTS }
 {
     for place in first..first + run.times {
-        happen(alloc, parts, place, &run.event, out)?;
+        happen(alloc, cluster, place, &run.event, out)?;
     }
     Ok(())
 }
@@ -48,15 +54,15 @@ fn repeat<O: Write>(
 /// Lets an event happen, and prints what its host then says.
 fn happen<O: Write>(
     alloc: Global,
-    parts: &mut Parts,
+    cluster: &mut SimulatedCluster,
     place: usize,
     event: &Event,
     out: &mut O,
-) -> Result<(), Failure>
-    ensures { OnOk result ((log : List Filled) → LeadsTo log parts.old →
-        WritesAnswer log event.now place parts.old parts.new (O.contents out.old) (O.contents out.new)) }
+) -> Result<(), CommandFailure>
+    ensures { OnOk result ((log : List Filled) → LeadsTo log cluster.old →
+        WritesAnswer log event.now place cluster.old cluster.new (O.contents out.old) (O.contents out.new)) }
 {
-    if let Some(said) = parts.event(alloc, event).map_err(Fault::from)? {
+    if let Some(said) = cluster.event(alloc, event).map_err(Fault::from)? {
         let host = said.host.get();
         let answer = AnswerText(said.answer);
         writeln!(out, "{place} h{host} {answer}")?;
@@ -67,25 +73,25 @@ fn happen<O: Write>(
 /// Shows what is to be shown after so many events, and gives what is left.
 fn show_due<'a, O: Write>(
     alloc: Global,
-    parts: &Parts,
+    cluster: &SimulatedCluster,
     shows: &'a [Show],
     place: usize,
     out: &mut O,
-) -> Result<&'a [Show], Failure> {
+) -> Result<&'a [Show], CommandFailure> {
     let due = shows.iter().take_while(|show| show.place <= place).count();
     let (now, later) = shows.split_at(due);
-    show_all(alloc, parts, now, out)?;
+    show_all(alloc, cluster, now, out)?;
     Ok(later)
 }
 
 fn show_all<O: Write>(
     alloc: Global,
-    parts: &Parts,
+    cluster: &SimulatedCluster,
     shows: &[Show],
     out: &mut O,
-) -> Result<(), Failure> {
+) -> Result<(), CommandFailure> {
     for show in shows {
-        show_host(alloc, parts, show, out)?;
+        show_host(alloc, cluster, show, out)?;
     }
     Ok(())
 }
@@ -93,12 +99,12 @@ fn show_all<O: Write>(
 /// Prints what is to be shown of a host's table, or that it is stopped.
 fn show_host<O: Write>(
     alloc: Global,
-    parts: &Parts,
+    cluster: &SimulatedCluster,
     show: &Show,
     out: &mut O,
-) -> Result<(), Failure> {
+) -> Result<(), CommandFailure> {
     let host = show.host.get();
-    match parts.host(host) {
+    match cluster.host(host) {
         None => writeln!(out, "host {host} is stopped")?,
         Some(core) => {
             let picture = core.table().picture(alloc).map_err(Fault::from)?;

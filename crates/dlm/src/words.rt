@@ -12,7 +12,7 @@ use std::io;
 
 /// What the program is asked to do.
 #[derive(Clone, Copy, Debug)]
-pub enum Task<'a> {
+pub enum Subcommand<'a> {
     /// Run the script at this path.
     Run {
         script: &'a str,
@@ -94,7 +94,7 @@ impl From<io::Error> for WordsFault {
 }
 
 /// The task that the words name.
-pub fn task_of<'a>(alloc: Global, words: &'a [&'a str]) -> Result<Task<'a>, WordsFault> {
+pub fn task_of<'a>(alloc: Global, words: &'a [&'a str]) -> Result<Subcommand<'a>, WordsFault> {
     if has_lone_dash(words) {
         return Err(WordsFault::Usage);
     }
@@ -218,64 +218,64 @@ fn sweep_command<'a>(alloc: Global) -> Result<clap::Command<'a>, AllocError> {
         .arg(word(alloc, "script"))
 }
 
-fn run_task<'a>(run: &ArgMatches<'a>) -> Result<Task<'a>, WordsFault> {
-    Ok(Task::Run {
+fn run_task<'a>(run: &ArgMatches<'a>) -> Result<Subcommand<'a>, WordsFault> {
+    Ok(Subcommand::Run {
         script: given(run, "script")?,
     })
 }
 
-fn format_task<'a>(format: &ArgMatches<'a>) -> Result<Task<'a>, WordsFault> {
+fn format_task<'a>(format: &ArgMatches<'a>) -> Result<Subcommand<'a>, WordsFault> {
     let folder = given(format, "folder")?;
     let config = config_of(given(format, "disks")?, given(format, "slots")?)?;
     let cluster = cluster_of(given(format, "cluster")?)?;
-    Ok(Task::Format {
+    Ok(Subcommand::Format {
         folder,
         config,
         cluster,
     })
 }
 
-fn submit_task<'a>(alloc: Global, submit: &ArgMatches<'a>) -> Result<Task<'a>, WordsFault> {
+fn submit_task<'a>(alloc: Global, submit: &ArgMatches<'a>) -> Result<Subcommand<'a>, WordsFault> {
     let folder = given(submit, "folder")?;
     let host = host_of(given(submit, "host")?)?;
     let words = submit.get_strs("command").unwrap_or_default();
     let command = command_of(alloc, host, words)?;
-    Ok(Task::Submit { folder, command })
+    Ok(Subcommand::Submit { folder, command })
 }
 
-fn table_task<'a>(table: &ArgMatches<'a>) -> Result<Task<'a>, WordsFault> {
+fn table_task<'a>(table: &ArgMatches<'a>) -> Result<Subcommand<'a>, WordsFault> {
     let folder = given(table, "folder")?;
     let host = host_of(given(table, "host")?)?;
-    Ok(Task::Table { folder, host })
+    Ok(Subcommand::Table { folder, host })
 }
 
-fn mark_task<'a>(mark: &ArgMatches<'a>) -> Result<Task<'a>, WordsFault> {
+fn mark_task<'a>(mark: &ArgMatches<'a>) -> Result<Subcommand<'a>, WordsFault> {
     let folder = given(mark, "folder")?;
     let host = host_of(given(mark, "host")?)?;
-    Ok(Task::Mark { folder, host })
+    Ok(Subcommand::Mark { folder, host })
 }
 
-fn check_task<'a>(check: &ArgMatches<'a>) -> Result<Task<'a>, WordsFault> {
-    Ok(Task::Check {
+fn check_task<'a>(check: &ArgMatches<'a>) -> Result<Subcommand<'a>, WordsFault> {
+    Ok(Subcommand::Check {
         folder: given(check, "folder")?,
     })
 }
 
-fn migrate_task<'a>(migrate: &ArgMatches<'a>) -> Result<Task<'a>, WordsFault> {
-    Ok(Task::Migrate {
+fn migrate_task<'a>(migrate: &ArgMatches<'a>) -> Result<Subcommand<'a>, WordsFault> {
+    Ok(Subcommand::Migrate {
         old: given(migrate, "old")?,
         new: given(migrate, "new")?,
         slots: slots_of(given(migrate, "slots")?)?,
     })
 }
 
-fn race_task<'a>(race: &ArgMatches<'a>) -> Result<Task<'a>, WordsFault> {
+fn race_task<'a>(race: &ArgMatches<'a>) -> Result<Subcommand<'a>, WordsFault> {
     let last = last_host_of(given(race, "hosts")?)?;
-    Ok(Task::Race { last })
+    Ok(Subcommand::Race { last })
 }
 
-fn sweep_task<'a>(sweep: &ArgMatches<'a>) -> Result<Task<'a>, WordsFault> {
-    Ok(Task::Sweep {
+fn sweep_task<'a>(sweep: &ArgMatches<'a>) -> Result<Subcommand<'a>, WordsFault> {
+    Ok(Subcommand::Sweep {
         script: given(sweep, "script")?,
     })
 }

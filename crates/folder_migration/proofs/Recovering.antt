@@ -15,8 +15,8 @@ use Rattle.slot_log.specs.layouts.Alone.{IsAnsweredAlone}
 use Rattle.slot_log.specs.layouts.Kept.{Kept, LeadsTo}
 use Rattle.slot_log.specs.layouts.Learning.{Doing, Memory, Operation, fresh, goes_on, begins, says, learns, hears, by_status, with_heard, with_floor, tries_again, takes, judges, judged, after_learning, is_placed, spent_outcome, offered_in, is_idle_in, setup_of}
 use Rattle.slot_log.specs.declared.operation.Operation.TheVariants.{Recovering}
-use Rattle.slot_log.specs.declared.outcome.Outcome.{Outcome}
-use Rattle.slot_log.specs.declared.outcome.Outcome.TheVariants.{Placed, Recovered, Refused}
+use Rattle.slot_log.specs.declared.outcome.LogOutcome.{LogOutcome}
+use Rattle.slot_log.specs.declared.outcome.LogOutcome.TheVariants.{Placed, Recovered, Refused}
 use Rattle.slot_log.specs.declared.outcome.Refusal.TheVariants as refusal
 use Rattle.folder_migration.specs.Recovery.{StandsFor, StandFor, Comes, call, judge, none, HasEnded, MayEnd, MakesOne, JudgesOne, after_call, after_judging, answered, old_heard}
 
@@ -67,7 +67,7 @@ left_in c m = left_with c (length m.learned) m.doing
 
 -- it recovers, or has ended as a recovery may
 abbrev pub GoesWell : Memory → Option Doing → Type 0
-GoesWell m None = (outcome : Outcome) × (m.said ≡ Some outcome) × MayEnd m.learned outcome
+GoesWell m None = (outcome : LogOutcome) × (m.said ≡ Some outcome) × MayEnd m.learned outcome
 GoesWell m (Some t) = t.operation ≡ Recovering
 
 -- it does, with less left than this
@@ -80,7 +80,7 @@ by_test P true m n p q = p refl
 by_test P false m n p q = q
 
 -- a recovery that has ended is nearer
-over : (c : Shape) (n : ℕ) (m : Memory) (outcome : Outcome) → MayEnd m.learned outcome → 0 < n → IsNearer c n (says m outcome)
+over : (c : Shape) (n : ℕ) (m : Memory) (outcome : LogOutcome) → MayEnd m.learned outcome → 0 < n → IsNearer c n (says m outcome)
 over c n m outcome may some = record { well = (outcome, refl, may); less = some }
 
 goes_on_nearer : (c : Shape) (m : Memory) (tries n learned : ℕ) → length m.learned ≡ learned + 1 → (c.slots - learned + (tries - 1)) * 120 < n → 0 < n → IsNearer c n (goes_on c m Recovering tries)

@@ -5,7 +5,7 @@ use Rattle.disk.specs.declared.fault.ImageFault.TheVariants.{Unreadable}
 use Rattle.disk.specs.FileStates.{FileState, FileGives}
 use Rattle.paxos_block.specs.Places.{image_length}
 use Rattle.slot_log.specs.Shape.{Shape}
-use Rattle.slot_log.specs.declared.outcome.Outcome.TheVariants.{Refused as Ended}
+use Rattle.slot_log.specs.declared.outcome.LogOutcome.TheVariants.{Refused as Ended}
 use Rattle.slot_log.specs.declared.outcome.Refusal.{Refusal}
 use Rattle.migration.specs.Kept.{setup_by}
 use Rattle.migration.specs.declared.end.End.{End}

@@ -12,8 +12,8 @@ use Rattle.slot_log.specs.layouts.Alone.{IsAnsweredAlone}
 use Rattle.slot_log.specs.layouts.Kept.{Kept, LeadsTo}
 use Rattle.slot_log.specs.layouts.Learning.{Memory, fresh, goes_on, hears, takes, next_in, offered_in}
 use Rattle.slot_log.specs.declared.operation.Operation.TheVariants.{Recovering}
-use Rattle.slot_log.specs.declared.outcome.Outcome.{Outcome}
-use Rattle.slot_log.specs.declared.outcome.Outcome.TheVariants.{Placed, Recovered, Looked, Refused as Ended}
+use Rattle.slot_log.specs.declared.outcome.LogOutcome.{LogOutcome}
+use Rattle.slot_log.specs.declared.outcome.LogOutcome.TheVariants.{Placed, Recovered, Looked, Refused as Ended}
 use Rattle.lock_command.specs.Command.{spelling}
 use Rattle.lock_command.specs.Old.{IsOld, IsOldSpelling, upgraded}
 use Rattle.lock_command.specs.declared.old.OldCommand.{OldCommand}
@@ -85,7 +85,7 @@ pub data Comes {D : Type 0} (gives : D → Call → Answer → D → Type 0) (c 
   judge : (m : Memory) → (now : List D) → Comes gives c from old m now → (is_command : Bool) → IsJudged c m is_command → Comes gives c from old (after_judging c m is_command) now
 
 -- A whole recovery, of a host that knew nothing: it learned these values, and ended so.
-pub record HasRecovered {D : Type 0} (gives : D → Call → Answer → D → Type 0) (c : Shape) (old new : List D) (learned : List (List ℕ)) (said : Outcome) : Type 0 where
+pub record HasRecovered {D : Type 0} (gives : D → Call → Answer → D → Type 0) (c : Shape) (old new : List D) (learned : List (List ℕ)) (said : LogOutcome) : Type 0 where
   pub memory : Memory
   pub comes : Comes gives c (goes_on c fresh Recovering TRIES) old memory new
   pub ended : memory.doing ≡ None
@@ -99,15 +99,15 @@ pub record RecoversTo {D : Type 0} (gives : D → Call → Answer → D → Type
   pub stand : StandFor learned log
 
 -- how a recovery may end: with the number of values that are learned, or refused
-abbrev pub MayEnd : List (List ℕ) → Outcome → Type 0
+abbrev pub MayEnd : List (List ℕ) → LogOutcome → Type 0
 MayEnd learned (Recovered count) = count ≡ length learned
 MayEnd learned (Ended refusal) = Unit {0}
 MayEnd learned (Placed slot) = ⊥
 MayEnd learned (Looked count) = ⊥
 
 -- It has ended, as it may, and these values stand for those that were learned.
-pub record HasEnded {D : Type 0} (gives : D → Call → Answer → D → Type 0) (c : Shape) (old new : List D) (learned log : List (List ℕ)) (said : Option Outcome) : Type 0 where
-  pub outcome : Outcome
+pub record HasEnded {D : Type 0} (gives : D → Call → Answer → D → Type 0) (c : Shape) (old new : List D) (learned log : List (List ℕ)) (said : Option LogOutcome) : Type 0 where
+  pub outcome : LogOutcome
   pub is : said ≡ Some outcome
   pub recovers : HasRecovered gives c old new learned outcome
   pub may : MayEnd learned outcome

@@ -11,7 +11,7 @@ use crate::device::{OLD_ROW, answer_of};
 use crate::fault::MoveFault;
 use disk::Disk;
 use lock_command::{OldValue, Value, decode_old, upgrade};
-use slot_log::{Config, Learner, Outcome};
+use slot_log::{Config, Learner, LogOutcome};
 use std::alloc::Global;
 use torn_block::{DISKS, Layout1, SLOTS};
 
@@ -39,8 +39,8 @@ pub fn recover_log<D: Disk>(
     learner.recover(TRIES);
     drive(&mut learner, &mut log, disks);
     match learner.said() {
-        Some(Outcome::Recovered { .. }) => Ok(log),
-        Some(Outcome::Refused(refusal)) => Err(MoveFault::Refused(refusal)),
+        Some(LogOutcome::Recovered { .. }) => Ok(log),
+        Some(LogOutcome::Refused(refusal)) => Err(MoveFault::Refused(refusal)),
         _ => unreachable!(),
     }
 }

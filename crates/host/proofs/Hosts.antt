@@ -42,9 +42,9 @@ use Rattle.slot_log.specs.Kept as learners
 use Rattle.slot_log.specs.Kept.{AreDoing, is_idle_with}
 use Rattle.slot_log.specs.Learning as log
 use Rattle.slot_log.specs.Learning.{offered_by, offered_in}
-use Rattle.slot_log.specs.Kept.{Task}
-use Rattle.slot_log.specs.declared.outcome.Outcome.{Outcome}
-use Rattle.slot_log.specs.declared.outcome.Outcome.TheVariants as outcome
+use Rattle.slot_log.specs.Kept.{LogTask}
+use Rattle.slot_log.specs.declared.outcome.LogOutcome.{LogOutcome}
+use Rattle.slot_log.specs.declared.outcome.LogOutcome.TheVariants as outcome
 use Rattle.slot_log.specs.declared.outcome.Refusal.TheVariants as refusal
 use Rattle.host.specs.declared.answer.HostAnswer.{HostAnswer}
 use Rattle.host.specs.declared.answer.HostAnswer.TheVariants.{Ack, Recovered, Looked, Beaten, Marked, Refused}
@@ -89,7 +89,7 @@ setup_same c h m Recovering = ap (setup_at c h m Recovering) (length_same m)
 setup_same c h m Looking = ap (setup_at c h m Looking) (length_same m)
 
 -- and so is the call that is due
-pub attempt_next : (c : Shape) (h : ℕ) (m : Memory) (said : Option Outcome) (o : Option Doing) → m.doing ≡ o → (call : ℕ × device.Call) → log.next_in c h (values_with said m) (option_map doing_of o) ≡ Some call → next_in c h m ≡ Some call
+pub attempt_next : (c : Shape) (h : ℕ) (m : Memory) (said : Option LogOutcome) (o : Option Doing) → m.doing ≡ o → (call : ℕ × device.Call) → log.next_in c h (values_with said m) (option_map doing_of o) ≡ Some call → next_in c h m ≡ Some call
 attempt_next c h m said None is call next = absurd (let none : None ≡ Some call = next in cc)
 attempt_next c h m said (Some t) is call next =
     ap (next_doing c h m) is ∙ ap (λ (s : Setup). next_call s (on t.heard)) (sym (setup_same c h m t.operation)) ∙ next
@@ -106,7 +106,7 @@ spent_same Looking n = refl
 
 goes_by_test : (m : Memory) (operation : Operation) (tries n : ℕ) (b : Bool) → (if b then log.begins (values_of m) (operation_of operation) tries else log.says (values_of m) (log.full_outcome (operation_of operation) n)) ≡ values_of (if b then begins m operation tries else says m (full_answer operation n))
 goes_by_test m operation tries n true = refl
-goes_by_test m operation tries n false = ap (λ (o : Option Outcome). record (log.says (values_of m) (outcome.Recovered 0)) { said = o }) (full_same operation n)
+goes_by_test m operation tries n false = ap (λ (o : Option LogOutcome). record (log.says (values_of m) (outcome.Recovered 0)) { said = o }) (full_same operation n)
 
 abbrev goes_at : Shape → Memory → Operation → ℕ → ℕ → log.Memory
 goes_at c m operation tries n = if nat_lt n c.slots then log.begins (values_of m) (operation_of operation) tries else log.says (values_of m) (log.full_outcome (operation_of operation) n)
@@ -153,7 +153,7 @@ carries_by_tries m operation tries false = tt
 -- AN ATTEMPT THAT OFFERS NOTHING
 
 module _ (c : Shape) (m : Memory) (t : Doing) (ballot : ℕ) where
-  pub values_of-by_status : (last : Option Outcome) (st : Status) → offered_by st ≡ None → log.by_status (values_with last m) (doing_of t) ballot st ≡ values_of (by_status c m t ballot st)
+  pub values_of-by_status : (last : Option LogOutcome) (st : Status) → offered_by st ≡ None → log.by_status (values_with last m) (doing_of t) ballot st ≡ values_of (by_status c m t ballot st)
   values_of-by_status last (Due p d) none = refl
   values_of-by_status last (Ended (attempt.Committed value)) none = absurd (cc)
   values_of-by_status last (Ended (attempt.Decided value)) none = absurd (cc)
@@ -162,7 +162,7 @@ module _ (c : Shape) (m : Memory) (t : Doing) (ballot : ℕ) where
   values_of-by_status last (Ended attempt.NoMajority) none = refl
   values_of-by_status last (Ended attempt.BallotsSpent) none =
       ap (λ (n : ℕ). log.says (log.with_floor (values_of m) ballot) (log.spent_outcome (operation_of t.operation) n)) (length_same m)
-      ∙ ap (λ (o : Option Outcome). record (log.says (log.with_floor (values_of m) ballot) (outcome.Recovered 0)) { said = o }) (spent_same t.operation (length m.learned))
+      ∙ ap (λ (o : Option LogOutcome). record (log.says (log.with_floor (values_of m) ballot) (outcome.Recovered 0)) { said = o }) (spent_same t.operation (length m.learned))
 
   pub learned-by_status : (st : Status) → offered_by st ≡ None → (by_status c m t ballot st).learned ≡ m.learned
   learned-by_status (Due p d) none = refl
@@ -307,7 +307,7 @@ takes_by c m t ballot (Ended attempt.BallotsSpent) value is = absurd (cc)
 
 -- AN ANSWER IS HEARD
 
-busy_with : (c : Shape) (h : ℕ) (m : log.Memory) (o : Option Doing) (task : Option Task) (a : Notes) → AreDoing c h m (option_map doing_of o) task a → is_idle_with task ≡ false → (t : Doing) × (o ≡ Some t)
+busy_with : (c : Shape) (h : ℕ) (m : log.Memory) (o : Option Doing) (task : Option LogTask) (a : Notes) → AreDoing c h m (option_map doing_of o) task a → is_idle_with task ≡ false → (t : Doing) × (o ≡ Some t)
 busy_with c h m (Some t) task a are busy = (t, refl)
 busy_with c h m None None a are busy = absurd (cc)
 busy_with c h m None (Some task) a are busy = absurd are
@@ -316,7 +316,7 @@ busy_with c h m None (Some task) a are busy = absurd are
 pub busy_doing : (c : Shape) (h : ℕ) (m : Memory) (k : learners.Kept) → learners.LeadsTo c h (values_with k.said m) k → learners.is_idle k ≡ false → (t : Doing) × (m.doing ≡ Some t)
 busy_doing c h m k leads busy = busy_with c h (values_with k.said m) m.doing k.task k.attempt leads.doing busy
 
-module _ (c : Shape) (h : ℕ) (last : Option Outcome) (m : Memory) (t : Doing) (x : Answered) (is : m.doing ≡ Some t) where
+module _ (c : Shape) (h : ℕ) (last : Option LogOutcome) (m : Memory) (t : Doing) (x : Answered) (is : m.doing ≡ Some t) where
   abbrev told : Doing
   told = with_heard t x
 
@@ -379,9 +379,9 @@ follows c h m l k reply leads is prefix said carries readings beat marking =
     let Known : log.Memory → Type 0 = λ n. learners.LeadsTo c h n k.learner in
     let known : learners.LeadsTo c h (values_of m) k.learner = subst Known is leads in
     record {
-      learner = subst (λ (o : Option Outcome). learners.LeadsTo c h (values_with o m) k.learner) (sym known.said) known;
+      learner = subst (λ (o : Option LogOutcome). learners.LeadsTo c h (values_with o m) k.learner) (sym known.said) known;
       prefix = prefix;
-      said = said ∙ ap (λ (o : Option Outcome). answer_of o reply) known.said ∙ answer_of-outcome_of reply m.said carries;
+      said = said ∙ ap (λ (o : Option LogOutcome). answer_of o reply) known.said ∙ answer_of-outcome_of reply m.said carries;
       readings = readings;
       beat = beat;
       marking = marking;
@@ -493,7 +493,7 @@ marking_still c h m bs said (Some t) None leads = absurd leads
 
 -- LEFT ALONE
 
-alone_with : (c : Shape) (h : ℕ) (last : Option Outcome) (m : Memory) (o : Option Doing) (x : Answered) → log_alone.IsAnsweredAlone c h (values_with last m) (option_map doing_of o) x → IsAnsweredAlone c h m o x
+alone_with : (c : Shape) (h : ℕ) (last : Option LogOutcome) (m : Memory) (o : Option Doing) (x : Answered) → log_alone.IsAnsweredAlone c h (values_with last m) (option_map doing_of o) x → IsAnsweredAlone c h m o x
 alone_with c h last m None x alone = tt
 alone_with c h last m (Some t) x alone =
     let Served : Setup → Type 0 = λ s. log_alone.IsAnsweredIn s (t.heard ++ x ∷ []) in
@@ -516,7 +516,7 @@ attempt_busy learner beat marking none none_too busy =
     subst (λ (k : Option mark_notes.Notes). (learners.is_idle learner && true && has_no_marking k) ≡ false) none_too (subst (λ (b : Option beat_notes.Notes). (learners.is_idle learner && has_no_beat b && has_no_marking marking) ≡ false) none busy) in
     and_true (learners.is_idle learner) (and_true (learners.is_idle learner && true) plain)
 
-idle_with : (c : Shape) (h : ℕ) (m : log.Memory) (o : Option Doing) (task : Option Task) (a : Notes) → AreDoing c h m (option_map doing_of o) task a → is_idle_with task ≡ true → o ≡ None
+idle_with : (c : Shape) (h : ℕ) (m : log.Memory) (o : Option Doing) (task : Option LogTask) (a : Notes) → AreDoing c h m (option_map doing_of o) task a → is_idle_with task ≡ true → o ≡ None
 idle_with c h m (Some t) (Some task) a are idle = absurd (cc)
 idle_with c h m (Some t) None a are idle = absurd are
 idle_with c h m None task a are idle = refl
@@ -533,7 +533,7 @@ unmarked_by c h m (Some t) (Some notes) going = refl
 unmarked_by c h m None (Some notes) going = absurd going
 unmarked_by c h m (Some t) None going = absurd going
 
-idle_by : (c : Shape) (h : ℕ) (m : Memory) (l : log.Memory) (o : Option Doing) (task : Option Task) (a : Notes) (beat : Option beat_notes.Notes) (marking : Option mark_notes.Notes) → AreDoing c h l (option_map doing_of o) task a → BeatLeadsTo c h m.beats.heard beat → MarkingLeadsTo c h m m.marking marking
+idle_by : (c : Shape) (h : ℕ) (m : Memory) (l : log.Memory) (o : Option Doing) (task : Option LogTask) (a : Notes) (beat : Option beat_notes.Notes) (marking : Option mark_notes.Notes) → AreDoing c h l (option_map doing_of o) task a → BeatLeadsTo c h m.beats.heard beat → MarkingLeadsTo c h m m.marking marking
     → (is_idle_with task && has_no_beat beat && has_no_marking marking) ≡ is_idle_in m o
 idle_by c h m l None None a beat marking are going marks = ap₂ (λ (x y : Bool). x && y) (rests_by c h m.beats.heard beat going) (unmarked_by c h m m.marking marking marks)
 idle_by c h m l (Some t) (Some task) a beat marking are going marks = refl

@@ -15,8 +15,8 @@ use Rattle.marks.specs.declared.notes.Notes as mark_notes
 use Rattle.slot_log.specs.Kept as learners
 use Rattle.slot_log.specs.Learning as log
 use Rattle.slot_log.specs.declared.operation.Operation.TheVariants as operation
-use Rattle.slot_log.specs.declared.outcome.Outcome as log_outcome
-use Rattle.slot_log.specs.declared.outcome.Outcome.TheVariants as outcome
+use Rattle.slot_log.specs.declared.outcome.LogOutcome as log_outcome
+use Rattle.slot_log.specs.declared.outcome.LogOutcome.TheVariants as outcome
 use Rattle.host.specs.declared.answer.HostAnswer.{HostAnswer}
 use Rattle.host.specs.declared.answer.HostAnswer.TheVariants.{Ack, Recovered, Looked, Beaten, Marked, Refused}
 use Rattle.host.specs.Host.{Operation, Submitting, Recovering, Looking, Doing, Marking, Memory, beat_of, marking_of}
@@ -94,7 +94,7 @@ operation_of (Submitting command) = operation.Placing (spelling command)
 operation_of Recovering = operation.Recovering
 operation_of Looking = operation.Looking
 
-abbrev pub outcome_in : Option HostAnswer → Option log_outcome.Outcome
+abbrev pub outcome_in : Option HostAnswer → Option log_outcome.LogOutcome
 outcome_in None = None
 outcome_in (Some (Ack slot reply)) = Some (outcome.Placed slot)
 outcome_in (Some (Recovered length)) = Some (outcome.Recovered length)
@@ -107,14 +107,14 @@ abbrev pub doing_of : Doing → log.Doing
 doing_of t = record { operation = operation_of t.operation; tries = t.tries; heard = t.heard }
 
 -- what a host knows, as its learner does, which told this last
-abbrev pub values_with : Option log_outcome.Outcome → Memory → log.Memory
+abbrev pub values_with : Option log_outcome.LogOutcome → Memory → log.Memory
 values_with told m = record { learned = map spelling m.learned; floor = m.floor; doing = option_map doing_of m.doing; said = told }
 
 abbrev pub values_of : Memory → log.Memory
 values_of m = values_with (outcome_in m.said) m
 
 -- the answer that an outcome is, with the reply to the command that was learned with it
-abbrev pub answer_of : Option log_outcome.Outcome → Option Reply → Option HostAnswer
+abbrev pub answer_of : Option log_outcome.LogOutcome → Option Reply → Option HostAnswer
 answer_of None reply = None
 answer_of (Some (outcome.Placed slot)) None = None
 answer_of (Some (outcome.Placed slot)) (Some reply) = Some (Ack slot reply)

@@ -1,5 +1,5 @@
 use lock_table::Reply;
-use slot_log::{Outcome, Refusal};
+use slot_log::{LogOutcome, Refusal};
 
 /// How an operation ended.
 #[derive(Clone, Copy, Debug, PartialEq, Eq)]
@@ -22,17 +22,17 @@ impl HostAnswer {
     ghost use Rattle.host.specs.Kept.{answer_of};
 
     // What an outcome is for a host, with the reply to the command that was learned with it.
-    pub(crate) fn of(outcome: Option<Outcome>, reply: Option<Reply>) -> Option<HostAnswer>
+    pub(crate) fn of(outcome: Option<LogOutcome>, reply: Option<Reply>) -> Option<HostAnswer>
         ensures { result ≡ answer_of outcome reply }
     {
         match outcome? {
-            Outcome::Placed { slot } => Some(HostAnswer::Ack {
+            LogOutcome::Placed { slot } => Some(HostAnswer::Ack {
                 slot,
                 reply: reply?,
             }),
-            Outcome::Recovered { length } => Some(HostAnswer::Recovered { length }),
-            Outcome::Looked { length } => Some(HostAnswer::Looked { length }),
-            Outcome::Refused(refusal) => Some(HostAnswer::Refused(refusal)),
+            LogOutcome::Recovered { length } => Some(HostAnswer::Recovered { length }),
+            LogOutcome::Looked { length } => Some(HostAnswer::Looked { length }),
+            LogOutcome::Refused(refusal) => Some(HostAnswer::Refused(refusal)),
         }
     }
 }

@@ -25,7 +25,7 @@ use lock_table::{Reply, Table};
 use marks::Marking;
 use paxos_block::Value;
 use phases::{Heard, Need};
-use slot_log::{Config, Learner, Outcome, Refusal};
+use slot_log::{Config, Learner, LogOutcome, Refusal};
 use std::alloc::Global;
 use std::marker::Model;
 use torn_block::ClusterLayout;

@@ -1,7 +1,9 @@
 // Worked runs, through every call that may want memory.
 use crate::replies::GRANTED;
 use host::HostAnswer;
-use simulator::{Answer, Event, Parts, Report, Sim, read_script, run, run_migrated, sweep};
+use simulator::{
+    Answer, Event, Report, Sim, SimulatedCluster, read_script, run, run_migrated, sweep,
+};
 use std::alloc::{AllocError, Global};
 use std::test::Fail;
 
@@ -132,10 +134,14 @@ fn looked(rt: HostRuntime) -> Result<(), Fail> {
 }
 
 // What a simulated cluster says without its answers, by the places of the events.
-fn said_by(alloc: Global, parts: &mut Parts, events: &[Event]) -> Result<Vec<(usize, u8)>, Fail> {
+fn said_by(
+    alloc: Global,
+    cluster: &mut SimulatedCluster,
+    events: &[Event],
+) -> Result<Vec<(usize, u8)>, Fail> {
     let mut said = Vec::new(alloc);
     for (place, event) in events.iter().enumerate() {
-        if let Some(heard) = parts.event(alloc, event)? {
+        if let Some(heard) = cluster.event(alloc, event)? {
             said.push((place, heard.host.get()))?;
         }
     }
@@ -146,8 +152,8 @@ fn said_by(alloc: Global, parts: &mut Parts, events: &[Event]) -> Result<Vec<(us
 fn first_said(alloc: Global) -> Result<Vec<(usize, u8)>, Fail> {
     let script = read_script(alloc, FIRST_REPLY)?;
     let events = script.events.to_vec(alloc)?;
-    let mut parts = Parts::new(alloc, script.config)?;
-    said_by(alloc, &mut parts, &events)
+    let mut cluster = SimulatedCluster::new(alloc, script.config)?;
+    said_by(alloc, &mut cluster, &events)
 }
 
 // What is answered to the events of the script that begins with a log.

@@ -1,7 +1,7 @@
 ghost use Rattle.std.specs.Prelude.{◌≡◌, ◌<◌, IfOk, IfSome};
 ghost use Rattle.lock_script.specs.Reading.{digit_of, byte_of, given_of, value_of};
 
-use crate::given::Given;
+use crate::fault_bytes::FaultBytes;
 use lock_command::ValueBytes;
 use std::alloc::{AllocError, Global};
 
@@ -9,7 +9,7 @@ use std::alloc::{AllocError, Global};
 const MOST_BYTES: usize = 64;
 
 /// The bytes that the word spells, two digits each, if it spells 1 to 64 of them.
-pub fn given_of(alloc: Global, word: &[u8]) -> Result<Option<Given>, AllocError>
+pub fn given_of(alloc: Global, word: &[u8]) -> Result<Option<FaultBytes>, AllocError>
     ensures { IfOk result (λ given. given ≡ given_of word.now) }
 {
     if word.len() < 2 || word.len() > 2 * MOST_BYTES {
@@ -25,7 +25,7 @@ pub fn given_of(alloc: Global, word: &[u8]) -> Result<Option<Given>, AllocError>
         rest = behind;
     }
     if rest.is_empty() {
-        Ok(Some(Given::new(bytes)))
+        Ok(Some(FaultBytes::new(bytes)))
     } else {
         Ok(None)
     }

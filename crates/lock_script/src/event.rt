@@ -1,6 +1,6 @@
 ghost use Rattle.std.specs.Prelude.{◌≡◌, IfOk};
 
-use crate::given::Given;
+use crate::fault_bytes::FaultBytes;
 use lock_command::{Command, HostNumber};
 use std::alloc::AllocError;
 
@@ -24,11 +24,11 @@ pub enum Event {
     /// A busy host makes its next device call, which does not fail.
     Step(HostNumber),
     /// A busy host stops within its next call, if that is a write: its range takes the given bytes.
-    Tear { host: HostNumber, given: Given },
+    Tear { host: HostNumber, given: FaultBytes },
     /// A busy host's next call fails; the range of a write takes the given bytes.
-    FailCall { host: HostNumber, given: Given },
+    FailCall { host: HostNumber, given: FaultBytes },
     /// A disk crashes, and its unsynced positions take the given bytes.
-    DiskCrash { disk: u8, given: Given },
+    DiskCrash { disk: u8, given: FaultBytes },
     /// A disk is lost for good.
     DiskGone(u8),
 }

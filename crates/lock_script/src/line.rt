@@ -6,8 +6,8 @@ use crate::bytes::is;
 use crate::command_words::command_at;
 use crate::digits::given_of;
 use crate::event::Event;
+use crate::fault_bytes::FaultBytes;
 use crate::fields::{disk_of, host_of, slot_of, times_of, tries_of};
-use crate::given::Given;
 use crate::number::number_in;
 use crate::show::View;
 use crate::words::Words;
@@ -171,7 +171,7 @@ fn next_disk(words: &mut Words<'_>) -> Option<u8>
 }
 
 /// The bytes that the last word gives.
-fn last_given(alloc: Global, words: &mut Words<'_>) -> Result<Option<Given>, AllocError>
+fn last_given(alloc: Global, words: &mut Words<'_>) -> Result<Option<FaultBytes>, AllocError>
     ensures { IfOk result (λ given. given ≡ Read.last_given words.old) }
 {
     match words.last() {

@@ -17,7 +17,7 @@ use Rattle.lock_table.specs.declared.reply.Answer.TheVariants as answer
 use Rattle.lock_table.specs.declared.reply.Reply.{Reply}
 use Rattle.lock_table.specs.Values.{Values, zeros, invalid, is_writer, is_downward, given, of_locked, is_granted, is_released, changed, values_after, value_of_lock, asked_value, returned}
 use Rattle.lock_table.specs.Locks.{is_lock, is_on, in_state, lock_in, admits, has_queue, IsDistinct}
-use Rattle.lock_table.specs.Apply.{Outcome, enqueued, converted, released, cancelled, with_own, told, purged, done, Plain, Applied, is_client, kept, replied, carried_out, applied_after, applied}
+use Rattle.lock_table.specs.Apply.{CommandOutcome, enqueued, converted, released, cancelled, with_own, told, purged, done, Plain, Applied, is_client, kept, replied, carried_out, applied_after, applied}
 use Rattle.lock_table.specs.Locks.{is_through}
 use Rattle.lock_table.specs.Picture.{HasSameLocks, HasSameClients, HasZeros}
 use Rattle.lock_table.proofs.Parts.{find_alike, length_alike, AlikeBy-filter, AlikeBy-append}
@@ -27,11 +27,11 @@ use Rattle.lock_table.proofs.Apart.{IsDistinct-settled, IsDistinct-settled_all}
 use Rattle.lock_table.proofs.Settled.{is_among, same-settled_all}
 
 -- the same locks are left, and the same is answered
-record IsSameOutcome (x y : Outcome) : Type 0 where
+record IsSameOutcome (x y : CommandOutcome) : Type 0 where
   pub locks : HasSameLocks x.locks y.locks
   pub answer : x.answer ≡ y.answer
 
-by_test : (t u : Bool) (x y v w : Outcome) → t ≡ u → IsSameOutcome x v → IsSameOutcome y w → IsSameOutcome (cond t x y) (cond u v w)
+by_test : (t u : Bool) (x y v w : CommandOutcome) → t ≡ u → IsSameOutcome x v → IsSameOutcome y w → IsSameOutcome (cond t x y) (cond u v w)
 by_test true true x y v w same one other = one
 by_test true false x y v w same one other = let impossible : ⊥ = cc in absurd impossible
 by_test false true x y v w same one other = let impossible : ⊥ = cc in absurd impossible
@@ -64,7 +64,7 @@ same-cancelled a b r (Granted held) s = answered a b (answer.Refused refusal.Not
 same-cancelled a b r (Converting held wanted) s = answered _ _ answer.Cancelled (same-settled r.name _ _ (same-put (in_state r (Granted held)) a b s))
 same-cancelled a b r (Waiting wanted) s = answered _ _ answer.Cancelled (same-settled r.name _ _ (same-filter (λ o. not (is_lock r.lock o)) a b s))
 
-same-own : (a b : List LockRecord) (client : ℕ) (does also : LockRecord → Outcome) (found : Option LockRecord) → HasSameLocks a b
+same-own : (a b : List LockRecord) (client : ℕ) (does also : LockRecord → CommandOutcome) (found : Option LockRecord) → HasSameLocks a b
     → ((r : LockRecord) → IsSameOutcome (does r) (also r)) → IsSameOutcome (with_own a client does found) (with_own b client also found)
 same-own a b client does also None s each = answered a b (answer.Refused refusal.NoSuchLock) s
 same-own a b client does also (Some r) s each = by_test (r.client == client) (r.client == client) _ _ _ _ refl (each r) (answered a b (answer.Refused refusal.NotOwner) s)
@@ -178,10 +178,10 @@ unfolding applied client_of
 same-applied x y c locks values clients distinct = rw (find_alike client_of c.client x.clients y.clients clients) (same-after x y c (find (is_client c.client) y.clients) locks values clients distinct)
 
 -- a command leaves no two records with one lock number
-LeavesDistinct : Outcome → Type 0
+LeavesDistinct : CommandOutcome → Type 0
 LeavesDistinct o = IsDistinct o.locks
 
-distinct_by_test : (t : Bool) (x y : Outcome) → LeavesDistinct x → LeavesDistinct y → LeavesDistinct (cond t x y)
+distinct_by_test : (t : Bool) (x y : CommandOutcome) → LeavesDistinct x → LeavesDistinct y → LeavesDistinct (cond t x y)
 distinct_by_test true x y one other = one
 distinct_by_test false x y one other = other
 
@@ -199,7 +199,7 @@ distinct-cancelled a r (Granted held) d = d
 distinct-cancelled a r (Converting held wanted) d = IsDistinct-settled r.name _ (IsDistinct-put a (in_state r (Granted held)) d)
 distinct-cancelled a r (Waiting wanted) d = IsDistinct-settled r.name _ (IsDistinct-filter (λ o. not (is_lock r.lock o)) a d)
 
-distinct-own : (a : List LockRecord) (client : ℕ) (does : LockRecord → Outcome) (found : Option LockRecord) → IsDistinct a → ((r : LockRecord) → LeavesDistinct (does r)) → LeavesDistinct (with_own a client does found)
+distinct-own : (a : List LockRecord) (client : ℕ) (does : LockRecord → CommandOutcome) (found : Option LockRecord) → IsDistinct a → ((r : LockRecord) → LeavesDistinct (does r)) → LeavesDistinct (with_own a client does found)
 unfolding LeavesDistinct
 distinct-own a client does None d each = d
 distinct-own a client does (Some r) d each = distinct_by_test (r.client == client) _ _ (each r) d

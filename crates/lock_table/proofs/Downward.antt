@@ -14,7 +14,7 @@ use Rattle.lock_table.specs.declared.reply.Answer.TheVariants as answer
 use Rattle.lock_table.specs.declared.reply.Refusal.TheVariants as refusal
 use Rattle.lock_table.specs.State.{holds_against}
 use Rattle.lock_table.specs.Locks.{is_on, is_lock, lock_in, stands_against, admits}
-use Rattle.lock_table.specs.Apply.{Outcome, refused, converted, with_own, done}
+use Rattle.lock_table.specs.Apply.{CommandOutcome, refused, converted, with_own, done}
 use Rattle.lock_table.specs.Laws.{held_by}
 use Rattle.lock_table.proofs.Parts.{or_false}
 use Rattle.lock_table.proofs.Quiet.{IsPeaceful, not_true}
@@ -89,9 +89,9 @@ downward_granted locks host r held mode no_queue value peace there is down =
     ∙ ap (λ s. (converted locks r mode no_queue s).answer) is
     ∙ granted_if (admits locks r.lock r.name mode) _ _ may refl
   where
-    answered_if : Bool → Outcome → Outcome → Answer
+    answered_if : Bool → CommandOutcome → CommandOutcome → Answer
     answered_if b x y = (cond b x y).answer
 
-    granted_if : (b : Bool) (x y : Outcome) → b ≡ true → x.answer ≡ answer.Granted → (cond b x y).answer ≡ answer.Granted
+    granted_if : (b : Bool) (x y : CommandOutcome) → b ≡ true → x.answer ≡ answer.Granted → (cond b x y).answer ≡ answer.Granted
     granted_if true x y h done = done
     granted_if false x y h done = let impossible : ⊥ = cc in absurd impossible

@@ -16,7 +16,7 @@ use Rattle.lock_table.specs.declared.record.LockState.TheVariants.{Granted, Conv
 use Rattle.lock_table.specs.declared.record.KnownClient.{KnownClient}
 use Rattle.lock_table.specs.State.{is_converting, is_waiting, is_queued, goal_of, holds_against}
 use Rattle.lock_table.specs.Locks.{is_lock, is_on, in_state, option_or, lock_in, without, put, converts_on, waits_on, conversions, head_of, has_queue, stands_against, admits, settled, settled_all, IsDistinct}
-use Rattle.lock_table.specs.Apply.{Outcome, enqueued, converted, released, cancelled, with_own, told, purged, done, Plain, Applied, is_client, applied_after, applied, no_locks, table_after}
+use Rattle.lock_table.specs.Apply.{CommandOutcome, enqueued, converted, released, cancelled, with_own, told, purged, done, Plain, Applied, is_client, applied_after, applied, no_locks, table_after}
 use Rattle.lock_table.specs.Locks.{is_through}
 use Rattle.lock_table.specs.Laws.{IsSettled, IsSettledEverywhere}
 use Rattle.lock_table.proofs.Parts.{first, find_is_first, filter-filter, filter_within, or_false}
@@ -88,7 +88,7 @@ absent_elsewhere a r name distinct there differ = absent_apart r.name name r.loc
 absent_anywhere : (a : List LockRecord) (lock : ℕ) (name : List ℕ) → lock_in a lock ≡ None → numbered lock (on name a) ≡ 0
 absent_anywhere a lock name absent = omega (arith, numbered-filter (is_on name) lock a, ap length (found_none (is_lock lock) a absent))
 
-HasCalm : Outcome → Type 0
+HasCalm : CommandOutcome → Type 0
 HasCalm o = IsSettledEverywhere o.locks
 
 -- a change of a lock, after which its name is settled
@@ -289,7 +289,7 @@ calm-cancelled a r distinct before there (Granted held) = before
 calm-cancelled a r distinct before there (Converting held wanted) = calm-put_settled a r (Granted held) distinct before there
 calm-cancelled a r distinct before there (Waiting wanted) = calm-without_settled a r distinct before there
 
-calm-own : (a : List LockRecord) (client : ℕ) (does : LockRecord → Outcome) (found : Option LockRecord) → IsSettledEverywhere a
+calm-own : (a : List LockRecord) (client : ℕ) (does : LockRecord → CommandOutcome) (found : Option LockRecord) → IsSettledEverywhere a
     → ((r : LockRecord) → found ≡ Some r → HasCalm (does r)) → HasCalm (with_own a client does found)
 unfolding HasCalm
 calm-own a client does None before each = before

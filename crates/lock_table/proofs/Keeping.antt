@@ -11,7 +11,7 @@ use Rattle.lock_table.specs.declared.record.LockRecord.{LockRecord}
 use Rattle.lock_table.specs.declared.record.LockState.{LockState}
 use Rattle.lock_table.specs.declared.record.LockState.TheVariants.{Granted, Converting, Waiting}
 use Rattle.lock_table.specs.Locks.{is_on, is_lock, in_state, lock_in, without, put, admits, has_queue, settled, IsDistinct}
-use Rattle.lock_table.specs.Apply.{Outcome, enqueued, converted, released, cancelled, with_own, told, done}
+use Rattle.lock_table.specs.Apply.{CommandOutcome, enqueued, converted, released, cancelled, with_own, told, done}
 use Rattle.lock_table.specs.declared.values.NamedValue.{NamedValue}
 use Rattle.lock_table.specs.Picture.{printed_cmp}
 use Rattle.lock_table.specs.Placed.{in_order}
@@ -63,7 +63,7 @@ without_keeps : (name : List ℕ) (r : LockRecord) (a : List LockRecord) → IsD
 without_keeps name r a distinct there other has =
     has_same name a (without a r.lock) (on-without_apart name r.lock a (absent_apart r.name name r.lock a other distinct (own_on a r distinct there))) has
 
-HasAfter : List ℕ → Outcome → Type 0
+HasAfter : List ℕ → CommandOutcome → Type 0
 HasAfter name o = Has name o.locks
 
 none_found : (found : Option LockRecord) → is_some found ≡ false → found ≡ None
@@ -102,7 +102,7 @@ has-cancelled name a r (Converting held wanted) distinct there other has =
     settled_keeps r.name name _ (IsDistinct-put a (in_state r (Granted held)) distinct) (put_keeps name r (Granted held) a distinct there has)
 has-cancelled name a r (Waiting wanted) distinct there other has = has-released name a r distinct there other has
 
-has-own : (name : List ℕ) (a : List LockRecord) (client : ℕ) (does : LockRecord → Outcome) (found : Option LockRecord) → Has name a
+has-own : (name : List ℕ) (a : List LockRecord) (client : ℕ) (does : LockRecord → CommandOutcome) (found : Option LockRecord) → Has name a
     → ((r : LockRecord) → found ≡ Some r → HasAfter name (does r)) → HasAfter name (with_own a client does found)
 unfolding HasAfter
 has-own name a client does None has each = has

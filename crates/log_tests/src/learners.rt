@@ -4,7 +4,7 @@ ghost use Rattle.phases.specs.Room.{RowFits};
 use crate::driven::{answer, blank_disks, value};
 use disk::SimDisk;
 use paxos_block::image_length;
-use slot_log::{Config, Learner, Outcome, Refusal};
+use slot_log::{Config, Learner, LogOutcome, Refusal};
 use std::test::Fail;
 use torn_block::{ClusterLayout, Layout, Layout1, Layout2};
 
@@ -43,7 +43,7 @@ fn recovery_of_blank_disks(rt: HostRuntime) -> Result<(), Fail> {
     assert!(rt; learner.idle());
     learner.recover(1);
     assert_eq!(rt; drive(&mut learner, &mut disks, 1000), 30);
-    assert_eq!(rt; learner.said(), Some(Outcome::Recovered { length: 0 }));
+    assert_eq!(rt; learner.said(), Some(LogOutcome::Recovered { length: 0 }));
     assert!(rt; learner.learned().is_empty());
     Ok(())
 }
@@ -64,7 +64,7 @@ fn placed_and_judged(rt: HostRuntime) -> Result<(), Fail> {
     if learner.offered().is_some() {
         learner.take(true);
     }
-    assert_eq!(rt; learner.said(), Some(Outcome::Placed { slot: 0 }));
+    assert_eq!(rt; learner.said(), Some(LogOutcome::Placed { slot: 0 }));
     assert!(rt; learner.learned() == [value(b'V')].as_slice());
     if learner.idle() {
         learner.place(value(b'W'), 1);
@@ -75,7 +75,7 @@ fn placed_and_judged(rt: HostRuntime) -> Result<(), Fail> {
         learner.take(false);
     }
     let refusal = Refusal::NotACommand;
-    assert_eq!(rt; learner.said(), Some(Outcome::Refused(refusal)));
+    assert_eq!(rt; learner.said(), Some(LogOutcome::Refused(refusal)));
     assert!(rt; learner.learned() == [value(b'V')].as_slice());
     Ok(())
 }
@@ -91,7 +91,7 @@ fn placed_in_layout_1(rt: HostRuntime) -> Result<(), Fail> {
     if learner.offered().is_some() {
         learner.take(true);
     }
-    assert_eq!(rt; learner.said(), Some(Outcome::Placed { slot: 0 }));
+    assert_eq!(rt; learner.said(), Some(LogOutcome::Placed { slot: 0 }));
     assert!(rt; learner.learned() == [[0x56; 32]].as_slice());
     Ok(())
 }
@@ -106,7 +106,7 @@ fn placed_in_layout_2(rt: HostRuntime) -> Result<(), Fail> {
     if learner.offered().is_some() {
         learner.take(true);
     }
-    assert_eq!(rt; learner.said(), Some(Outcome::Placed { slot: 0 }));
+    assert_eq!(rt; learner.said(), Some(LogOutcome::Placed { slot: 0 }));
     assert!(rt; learner.learned() == [[0x56; 48]].as_slice());
     Ok(())
 }

@@ -3,8 +3,8 @@
 
 mod answer;
 mod bid;
+mod host_outcome;
 mod laws;
-mod outcome;
 mod prefixes;
 mod race;
 mod racer;

@@ -2,12 +2,12 @@ ghost use Rattle.std.specs.Prelude.{◌≡◌, ◌↔◌, IsTrue};
 ghost use Rattle.world.specs.Headline.{IsPrefix};
 ghost use Rattle.race.specs.Agreement.{Agree, AgreesWith, AllAgree};
 
-use cluster::{HostSeat, Named};
+use cluster::{ClusterName, HostSeat};
 use lock_command::Command;
 use world::commands_read_back;
 
 /// Whether of any two of the seats' prefixes one begins the other.
-pub(crate) fn all_agree<N: Named>(seats: &[HostSeat<N>]) -> bool
+pub(crate) fn all_agree<N: ClusterName>(seats: &[HostSeat<N>]) -> bool
     ensures { IsTrue result ↔ AllAgree N.shape seats.now }
 {
     for seat in seats {
@@ -19,7 +19,7 @@ pub(crate) fn all_agree<N: Named>(seats: &[HostSeat<N>]) -> bool
 }
 
 // Whether of this prefix and each of the seats' one begins the other.
-fn agrees_with<N: Named>(one: &[Command], seats: &[HostSeat<N>]) -> bool
+fn agrees_with<N: ClusterName>(one: &[Command], seats: &[HostSeat<N>]) -> bool
     ensures { IsTrue result ↔ AgreesWith N.shape one.now seats.now }
 {
     for seat in seats {

@@ -8,11 +8,11 @@ ghost use Rattle.race.specs.Answers.{IsTold};
 ghost use Rattle.race.specs.Race.{track, IsRace, AreByHost, AreTold};
 
 use crate::answer::Answer;
-use crate::outcome::{Outcome, outcomes_of};
+use crate::host_outcome::{HostOutcome, outcomes_of};
 use crate::prefixes::all_agree;
 use crate::racer::{Racer, answers_of, race_host, seats_in};
 use crate::seats::seats_of;
-use cluster::{Cluster, Config, HostFault, HostSeat, Named, Opening, Record};
+use cluster::{Cluster, ClusterName, Config, HostFault, HostSeat, Opening, Record};
 use crossbeam_channel::{Sender, bounded};
 use disk::SimDisk;
 use lock_command::HostNumber;
@@ -37,7 +37,7 @@ pub struct Race {
 
 // What the hosts are answered, and their seats, by rising host.
 #[derive(Drop)]
-struct Raced<N: Named> {
+struct Raced<N: ClusterName> {
     answers: Vec<Answer>,
     seats: Vec<HostSeat<N>>,
 }
@@ -62,7 +62,7 @@ pub fn run_race<R: Threads + Wait + AllocGlobal + Sync>(
     }
 }
 
-fn race_of<N: Named + Send + Sync, R: Threads + Wait + AllocGlobal + Sync>(
+fn race_of<N: ClusterName + Send + Sync, R: Threads + Wait + AllocGlobal + Sync>(
     rt: &R,
     opening: Opening,
     hosts: u8,
@@ -91,7 +91,7 @@ fn race_of<N: Named + Send + Sync, R: Threads + Wait + AllocGlobal + Sync>(
 }
 
 // Races each seat in a thread of its own. What came of it is taken once all have raced.
-fn race_seats<N: Named + Send + Sync, R: Threads + Wait + Sync>(
+fn race_seats<N: ClusterName + Send + Sync, R: Threads + Wait + Sync>(
     rt: &R,
     alloc: Global,
     cluster: &Cluster<'_, N, SimDisk>,
@@ -113,10 +113,10 @@ fn race_seats<N: Named + Send + Sync, R: Threads + Wait + Sync>(
     Ok(Raced { answers, seats })
 }
 
-fn race_all<N: Named + Send + Sync, R: Threads + Wait + Sync>(
+fn race_all<N: ClusterName + Send + Sync, R: Threads + Wait + Sync>(
     rt: &R,
     cluster: &Cluster<'_, N, SimDisk>,
-    queue: &Sender<Outcome>,
+    queue: &Sender<HostOutcome>,
     seats: Vec<HostSeat<N>>,
 ) -> Result<Vec<Racer<N>>, AllocError>
     requires { All (λ seat. idles (host_in N.shape seat) ≡ true) seats.items }
@@ -136,7 +136,7 @@ fn race_all<N: Named + Send + Sync, R: Threads + Wait + Sync>(
 }
 
 // What is left of a cluster, and of its hosts.
-fn race_left<N: Named>(left: Record<N>, answers: Vec<Answer>) -> Race
+fn race_left<N: ClusterName>(left: Record<N>, answers: Vec<Answer>) -> Race
     requires shape { N.shape ≡ track }
     requires left { IsRecord N.shape left.entries.items left.seats.items }
     requires hosts { AreByHost left.seats.items }

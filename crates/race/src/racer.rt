@@ -9,8 +9,8 @@ ghost use Rattle.race.specs.Bids.{bid_of, HasBeaten, HasBid};
 
 use crate::answer::Answer;
 use crate::bid::bid;
-use crate::outcome::{Outcome, answer_of};
-use cluster::{Cluster, HostFault, HostSeat, Named, OpenGate, Receipt};
+use crate::host_outcome::{HostOutcome, answer_of};
+use cluster::{Cluster, ClusterName, HostFault, HostSeat, OpenGate, Receipt};
 use crossbeam_channel::Sender;
 use disk::SimDisk;
 use std::alloc::{AllocError, Global};
@@ -23,16 +23,16 @@ const BEATS: u8 = 4;
 
 /// A host that has raced: its seat, and what its bid came to.
 #[derive(Drop)]
-pub(crate) struct Racer<N: Named> {
+pub(crate) struct Racer<N: ClusterName> {
     pub seat: HostSeat<N>,
     pub answer: Answer,
 }
 
 /// Races a host, and sends what came of it.
-pub(crate) fn race_host<N: Named, R: Wait>(
+pub(crate) fn race_host<N: ClusterName, R: Wait>(
     rt: &R,
     cluster: &Cluster<'_, N, SimDisk>,
-    queue: &Sender<Outcome>,
+    queue: &Sender<HostOutcome>,
     seat: HostSeat<N>,
 ) -> Racer<N>
     requires { idles (host_in N.shape seat) ≡ true }
@@ -49,13 +49,13 @@ pub(crate) fn race_host<N: Named, R: Wait>(
     };
     let host = seat.host();
     // The receiver is there until all have raced, and there is room for each; where it does not come it counts as refused.
-    let _ = queue.send(rt, Outcome { host, answer });
+    let _ = queue.send(rt, HostOutcome { host, answer });
     Racer { seat, answer }
 }
 
 // Beats, and then submits the host's bid.
 #[tactic(auto, using(crate::proofs::Racing::number_after, crate::proofs::Racing::number_after_fault, crate::proofs::Racing::refused_after))]
-fn place_bid<N: Named, R: Wait>(
+fn place_bid<N: ClusterName, R: Wait>(
     rt: &R,
     cluster: &Cluster<'_, N, SimDisk>,
     seat: &mut HostSeat<N>,
@@ -74,7 +74,7 @@ fn place_bid<N: Named, R: Wait>(
 
 // Beats until the counters suggest this host, or it has beaten often enough.
 #[tactic(auto, using(crate::proofs::Racing::number_after, crate::proofs::Racing::number_after_fault, crate::proofs::Racing::refused_after))]
-fn beat_for_lead<N: Named, R: Wait>(
+fn beat_for_lead<N: ClusterName, R: Wait>(
     rt: &R,
     cluster: &Cluster<'_, N, SimDisk>,
     seat: &mut HostSeat<N>,
@@ -94,10 +94,10 @@ fn beat_for_lead<N: Named, R: Wait>(
 }
 
 /// What the hosts are answered, each as its thread told, as far as its outcome came.
-pub(crate) fn answers_of<N: Named>(
+pub(crate) fn answers_of<N: ClusterName>(
     alloc: Global,
     racers: &[Racer<N>],
-    came: &[Outcome],
+    came: &[HostOutcome],
 ) -> Result<Vec<Answer>, AllocError>
     requires { (i : ℕ) (d : _) → i < length racers.now → IsTold N.shape (slice_index_or racers.now i d).seat (slice_index_or racers.now i d).answer }
     ensures len { IfOk result (λ v. vec_len v ≡ length racers.now) }
@@ -107,13 +107,13 @@ pub(crate) fn answers_of<N: Named>(
     for racer in racers {
         let host = racer.seat.host();
         let answer = racer.answer;
-        answers.push_reserved(answer_of(came, Outcome { host, answer }));
+        answers.push_reserved(answer_of(came, HostOutcome { host, answer }));
     }
     Ok(answers)
 }
 
 /// The seats of hosts that have raced.
-pub(crate) fn seats_in<N: Named>(
+pub(crate) fn seats_in<N: ClusterName>(
     alloc: Global,
     racers: Vec<Racer<N>>,
 ) -> Result<Vec<HostSeat<N>>, AllocError>
@@ -125,7 +125,7 @@ pub(crate) fn seats_in<N: Named>(
         .collect(alloc)
 }
 
-fn seat_in<N: Named>(racer: Racer<N>) -> HostSeat<N>
+fn seat_in<N: ClusterName>(racer: Racer<N>) -> HostSeat<N>
     ensures { result ≡ racer.seat }
 {
     let Racer { seat, answer: _ } = racer;

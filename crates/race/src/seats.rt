@@ -4,14 +4,14 @@ ghost use Rattle.host.specs.Host.{idles};
 ghost use Rattle.cluster.specs.Seat.{host_in};
 ghost use Rattle.race.specs.Race.{AreByHost};
 
-use cluster::{Cluster, HostFault, HostSeat, Named};
+use cluster::{Cluster, ClusterName, HostFault, HostSeat};
 use disk::SimDisk;
 use lock_command::HostNumber;
 use std::alloc::Global;
 use std::sync::Wait;
 
 /// The seats of so many hosts, by rising host.
-pub(crate) fn seats_of<N: Named, R: Wait>(
+pub(crate) fn seats_of<N: ClusterName, R: Wait>(
     rt: &R,
     alloc: Global,
     cluster: &Cluster<'_, N, SimDisk>,

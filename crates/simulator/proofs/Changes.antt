@@ -13,7 +13,7 @@ use Rattle.world.specs.World.{world, IsRun}
 use Rattle.world.specs.Happens.{Event, entry_of, with_entry, happens, host_of, lines_after, lines_at}
 use Rattle.world.proofs.Projections.{disk_here, disk_there, host_here, host_there}
 use Rattle.world.proofs.Runs as runs
-use Rattle.simulator.specs.declared.parts.Said.{Said}
+use Rattle.simulator.specs.declared.simulated_cluster.Said.{Said}
 use Rattle.simulator.specs.Events.{lines_of}
 use Rattle.simulator.specs.Kept.{Kept, calm, IsHost, Shows, IsSized, LeadsTo, IsReached, Brings}
 

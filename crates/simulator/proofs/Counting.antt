@@ -11,7 +11,7 @@ use Rattle.world.specs.Entry.{Filled}
 use Rattle.world.specs.World.{world}
 use Rattle.world.specs.Happens.{Event, happen}
 use Rattle.world.specs.Opening.{Opening, begun, run_of, world_after}
-use Rattle.simulator.specs.declared.parts.Said.{Said}
+use Rattle.simulator.specs.declared.simulated_cluster.Said.{Said}
 use Rattle.simulator.specs.declared.tally.Sweep.{Sweep}
 use Rattle.simulator.specs.Events.{event_of, events_of}
 use Rattle.simulator.specs.Kept.{Kept, LeadsTo, Brings}

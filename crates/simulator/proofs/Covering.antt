@@ -20,7 +20,7 @@ use Rattle.world.specs.Headline.{IsPrefix}
 use Rattle.world.specs.Told.{prefix_before, BeganSince}
 use Rattle.world_safety.specs.Tracks.{Counts}
 use Rattle.simulator.specs.declared.answer.Answer.{Answer}
-use Rattle.simulator.specs.declared.parts.Said.{Said}
+use Rattle.simulator.specs.declared.simulated_cluster.Said.{Said}
 use Rattle.simulator.specs.Answers.{line_of, IsPicturedIn}
 use Rattle.simulator.specs.Judging.{AllGoBy}
 use Rattle.simulator.specs.Kept.{IsHost}

@@ -19,7 +19,7 @@ use Rattle.world.specs.Entry.{Filled, host_step}
 use Rattle.world.specs.World.{World, world}
 use Rattle.world.specs.Happens.{Event, Start, Stop, Submit, Recover, Look, Beat, Mark, Step, Tear, FailCall, DiskCrash, DiskGone, Line, brings_if, spread_over, torn_entry, torn, submitted, host_of, entry_of}
 use Rattle.world.proofs.Projections.{host_here}
-use Rattle.simulator.specs.declared.parts.Said.{Said}
+use Rattle.simulator.specs.declared.simulated_cluster.Said.{Said}
 use Rattle.simulator.specs.Answers.{is_pictured, may_be_pictured}
 use Rattle.simulator.specs.Kept.{Kept, Brings}
 use Rattle.simulator.proofs.Entries.{own}

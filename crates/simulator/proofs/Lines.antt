@@ -8,7 +8,7 @@ use Rattle.host.specs.Kept as hosts
 use Rattle.world.specs.Entry.{Filled}
 use Rattle.world.specs.World.{world}
 use Rattle.world.specs.Happens.{Line, host_of, line, lines_after, lines_at, entry_of, with_entry, happens, Event}
-use Rattle.simulator.specs.declared.parts.Said.{Said}
+use Rattle.simulator.specs.declared.simulated_cluster.Said.{Said}
 use Rattle.simulator.specs.Kept.{Kept, IsHost, LeadsTo, Brings}
 
 -- the entry behind a line, whose host says what the line has

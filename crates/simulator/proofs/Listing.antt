@@ -10,7 +10,7 @@ use Rattle.world.specs.World.{world}
 use Rattle.world.specs.Happens.{Line, happen, answers_from}
 use Rattle.world.specs.Opening.{Opening, begun, run_of, answers_to}
 use Rattle.simulator.specs.declared.answer.Answer.{Answer}
-use Rattle.simulator.specs.declared.parts.Said.{Said}
+use Rattle.simulator.specs.declared.simulated_cluster.Said.{Said}
 use Rattle.simulator.specs.Answers.{line_of, IsPictured, IsPicturedIn}
 use Rattle.simulator.specs.Events.{event_of, events_of, lines_of}
 use Rattle.simulator.specs.Kept.{Kept, LeadsTo, Brings}

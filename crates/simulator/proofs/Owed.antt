@@ -22,8 +22,8 @@ use Rattle.host.specs.Kept as hosts
 use Rattle.world.specs.Entry.{Filled, called_by}
 use Rattle.world.specs.World.{world}
 use Rattle.world.specs.Happens.{Event, Start, Stop, Submit, Recover, Look, Beat, Mark, Step, Tear, FailCall, DiskCrash, DiskGone, answer_of, spread_over}
-use Rattle.simulator.specs.declared.parts.Said.{Said}
-use Rattle.simulator.specs.declared.parts.Parts.TheInside.{Inside}
+use Rattle.simulator.specs.declared.simulated_cluster.Said.{Said}
+use Rattle.simulator.specs.declared.simulated_cluster.SimulatedCluster.TheInside.{Inside}
 use Rattle.simulator.specs.Calls.{is_write, may_crash, crashed_if, lost_if}
 use Rattle.simulator.specs.Kept.{Kept, calm, is_busy, is_free, IsHost, LeadsTo, IsReached, Brings}
 use Rattle.simulator.proofs.Shown.{named}

@@ -14,7 +14,7 @@ use Rattle.world.specs.World.{world}
 use Rattle.world.specs.Happens.{Event, Start, Stop, Recover, Step, Line, entry_of, with_entry, lines_at, answers_from}
 use Rattle.world.specs.Opening.{Opening, begun, run_of, world_after, answers_to}
 use Rattle.simulator.specs.declared.answer.Answer.{Answer}
-use Rattle.simulator.specs.declared.parts.Said.{Said}
+use Rattle.simulator.specs.declared.simulated_cluster.Said.{Said}
 use Rattle.simulator.specs.Answers.{line_of, lines_in, IsPictured}
 use Rattle.simulator.specs.Events.{lines_of}
 use Rattle.simulator.specs.Past.{Past, world_of, answers_of}

@@ -10,7 +10,7 @@ use Rattle.world.specs.Entry.{Filled, is_on, is_of, disk_step, host_step}
 use Rattle.world.specs.World.{world}
 use Rattle.world.specs.Happens.{line, lines_after}
 use Rattle.world.proofs.Projections.{host_here}
-use Rattle.simulator.specs.declared.parts.Said.{Said}
+use Rattle.simulator.specs.declared.simulated_cluster.Said.{Said}
 use Rattle.simulator.specs.Events.{lines_of}
 use Rattle.simulator.specs.Kept.{Kept, calm, IsHost, Shows, LeadsTo, Brings}
 use Rattle.std.specs.Option.{option_map}

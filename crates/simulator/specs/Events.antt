@@ -5,7 +5,7 @@ use Rattle.lock_script.specs.declared.event.Event.TheVariants as of_code
 use Rattle.lock_script.specs.declared.script.Script.{Script}
 use Rattle.world.specs.Opening.{Opening}
 use Rattle.world.specs.Happens.{Event, Start, Stop, Submit, Recover, Look, Beat, Mark, Step, Tear, FailCall, DiskCrash, DiskGone, Line}
-use Rattle.simulator.specs.declared.parts.Said.{Said}
+use Rattle.simulator.specs.declared.simulated_cluster.Said.{Said}
 
 abbrev pub event_of : code.Event → Event
 event_of (of_code.Start host) = Start host

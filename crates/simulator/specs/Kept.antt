@@ -10,7 +10,7 @@ use Rattle.host.specs.Kept as hosts
 use Rattle.world.specs.Entry.{Filled}
 use Rattle.world.specs.World.{World, world, IsRun}
 use Rattle.world.specs.Happens.{Event, entry_of, happens, lines_at}
-use Rattle.simulator.specs.declared.parts.Said.{Said}
+use Rattle.simulator.specs.declared.simulated_cluster.Said.{Said}
 use Rattle.simulator.specs.Events.{lines_of}
 
 -- how large the cluster is, its disks, and its hosts, of which a stopped one keeps nothing

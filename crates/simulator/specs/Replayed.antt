@@ -7,7 +7,7 @@ use Rattle.host.specs.Host.{said_of}
 use Rattle.world.specs.Happens.{Event, Line}
 use Rattle.world.specs.Told.{prefix_before}
 use Rattle.simulator.specs.declared.answer.Answer.{Answer}
-use Rattle.simulator.specs.declared.parts.Said.{Said}
+use Rattle.simulator.specs.declared.simulated_cluster.Said.{Said}
 use Rattle.simulator.specs.Answers.{line_of, IsPicturedIn}
 use Rattle.simulator.specs.Events.{lines_of}
 use Rattle.simulator.specs.Past.{Past, world_of, answers_of}

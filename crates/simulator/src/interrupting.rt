@@ -6,24 +6,28 @@ ghost use Rattle.simulator.specs.Events.{event_of, events_of};
 ghost use Rattle.simulator.specs.Kept.{LeadsTo};
 ghost use Rattle.simulator.specs.Sweeping as sweeping;
 
-use crate::parts::Parts;
+use crate::simulated_cluster::SimulatedCluster;
 use disk::NoMemory;
 use lock_command::HostNumber;
-use lock_script::{Event, Given};
+use lock_script::{Event, FaultBytes};
 use std::alloc::{AllocError, Global};
 
 /// What a sweep puts before an event. Before a step that applies: each way in which the host or the disk may be interrupted
 /// there. Before any other event: nothing.
-pub fn changes(alloc: Global, parts: &mut Parts, event: &Event) -> Result<Vec<Event>, NoMemory>
-    ensures unchanged { parts.new ≡ parts.old }
+pub fn changes(
+    alloc: Global,
+    cluster: &mut SimulatedCluster,
+    event: &Event,
+) -> Result<Vec<Event>, NoMemory>
+    ensures unchanged { cluster.new ≡ cluster.old }
     ensures few { IfOk result (λ changes. length changes.items ≤ 6) }
-    ensures changes { IfOk result (λ changes. (log : List Filled) → LeadsTo log parts.old →
-        events_of changes.items ≡ sweeping.changes parts.old.shape (world parts.old.shape log) (event_of event.now)) }
+    ensures changes { IfOk result (λ changes. (log : List Filled) → LeadsTo log cluster.old →
+        events_of changes.items ≡ sweeping.changes cluster.old.shape (world cluster.old.shape log) (event_of event.now)) }
 {
     let Event::Step(host) = event else {
         return Ok(Vec::new(alloc));
     };
-    match parts.next_call(*host) {
+    match cluster.next_call(*host) {
         None => Ok(Vec::new(alloc)),
         Some((disk, tears)) => ways(alloc, *host, disk, tears),
     }
@@ -73,10 +77,10 @@ fn add(events: &mut Vec<Event>, event: Event) -> Result<(), NoMemory>
 }
 
 /// One byte.
-fn given(alloc: Global, byte: u8) -> Result<Given, NoMemory>
+fn given(alloc: Global, byte: u8) -> Result<FaultBytes, NoMemory>
     ensures { IfOk result (λ given. given ≡ byte ∷ []) }
 {
     let mut bytes = Vec::new(alloc);
     bytes.push(byte).map_err(AllocError::from)?;
-    Ok(Given::new(bytes))
+    Ok(FaultBytes::new(bytes))
 }

@@ -6,21 +6,21 @@ mod device_call;
 mod interrupting;
 mod judging;
 mod migrated;
-mod parts;
 mod replay;
 mod report;
 mod room;
 mod sim;
+mod simulated_cluster;
 mod sweeping;
 mod tally;
 
 pub use answer::Answer;
 pub use judging::judge;
 pub use lock_script::{
-    Event, Given, MOST_EVENTS, Run, Script, ScriptFault, Show, View, read_script,
+    Event, FaultBytes, MOST_EVENTS, Run, Script, ScriptFault, Show, View, read_script,
 };
-pub use parts::{Parts, Said};
 pub use report::{Report, run, run_migrated};
 pub use sim::Sim;
+pub use simulated_cluster::{Said, SimulatedCluster};
 pub use sweeping::sweep;
 pub use tally::Sweep;

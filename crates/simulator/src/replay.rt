@@ -11,9 +11,9 @@ ghost use Rattle.simulator.specs.Sweeping.{recovery, recovers, recovered_behind,
 
 use crate::answer::Answer;
 use crate::judging::judge;
-use crate::parts::Said;
 use crate::report::Report;
 use crate::sim::Sim;
+use crate::simulated_cluster::Said;
 use disk::NoMemory;
 use host::HostAnswer;
 use lock_command::{Command, HOSTS, HostNumber};

@@ -7,8 +7,8 @@ ghost use Rattle.simulator.specs.Answers.{line_of, IsPicturedIn};
 ghost use Rattle.simulator.specs.OneLog.{TellsOneLog};
 
 use crate::answer::Answer;
-use crate::parts::Parts;
 use crate::room::Room;
+use crate::simulated_cluster::SimulatedCluster;
 use disk::NoMemory;
 use lock_command::Command;
 use lock_script::Event;
@@ -74,14 +74,14 @@ pub fn run_migrated(
 {
     let _disks = config.disks();
     alone_submissions_are_served();
-    let mut parts = Parts::migrated(alloc, config, log)?;
+    let mut cluster = SimulatedCluster::migrated(alloc, config, log)?;
     let mut room = Room::new();
     let mut answers = Vec::new(alloc);
     for (place, event) in events.iter().enumerate() {
         room.prepare(alloc, event)?;
         answers.reserve(1)?;
-        if let Some(said) = parts.event(alloc, event)? {
-            answers.push_reserved(room.listed(&parts, place, said));
+        if let Some(said) = cluster.event(alloc, event)? {
+            answers.push_reserved(room.listed(&cluster, place, said));
         }
     }
     Ok(Report { answers })

@@ -9,7 +9,7 @@ ghost use Rattle.simulator.specs.Events.{event_of};
 ghost use Rattle.simulator.specs.Kept.{LeadsTo};
 
 use crate::answer::Answer;
-use crate::parts::{Parts, Said};
+use crate::simulated_cluster::{Said, SimulatedCluster};
 use disk::NoMemory;
 use host::HostAnswer;
 use lock_command::HostNumber;
@@ -43,16 +43,16 @@ impl Room {
     }
 
     /// What a host said, as a report lists it.
-    pub fn listed(&mut self, parts: &Parts, place: usize, said: Said) -> Answer
+    pub fn listed(&mut self, cluster: &SimulatedCluster, place: usize, said: Said) -> Answer
         requires room { is_pictured said.answer ≡ true → IsSome self.old.picture }
-        requires runs { IsSome (slice_index_or parts.now.hosts said.host None) }
+        requires runs { IsSome (slice_index_or cluster.now.hosts said.host None) }
         ensures line { line_of result ≡ record { place = place; host = said.host; said = said.answer } }
-        ensures picture { (log : List Filled) → LeadsTo log parts.now → IsPictured (world parts.now.shape log) result }
+        ensures picture { (log : List Filled) → LeadsTo log cluster.now → IsPictured (world cluster.now.shape log) result }
     {
         let Said { host, answer } = said;
         let picture = match answer {
-            HostAnswer::Recovered { .. } => Some(self.filled(parts, host)),
-            HostAnswer::Looked { .. } => Some(self.filled(parts, host)),
+            HostAnswer::Recovered { .. } => Some(self.filled(cluster, host)),
+            HostAnswer::Looked { .. } => Some(self.filled(cluster, host)),
             HostAnswer::Ack { .. }
             | HostAnswer::Beaten { .. }
             | HostAnswer::Marked { .. }
@@ -67,12 +67,12 @@ impl Room {
     }
 
     // The room is used up.
-    fn filled(&mut self, parts: &Parts, host: HostNumber) -> Picture
+    fn filled(&mut self, cluster: &SimulatedCluster, host: HostNumber) -> Picture
         requires room { IsSome self.old.picture }
-        requires runs { IsSome (slice_index_or parts.now.hosts host None) }
-        ensures { (log : List Filled) → LeadsTo log parts.now → IsPictureOf result (table_after (learned_of ((world parts.now.shape log).host host))) }
+        requires runs { IsSome (slice_index_or cluster.now.hosts host None) }
+        ensures { (log : List Filled) → LeadsTo log cluster.now → IsPictureOf result (table_after (learned_of ((world cluster.now.shape log).host host))) }
     {
-        let Some(core) = parts.host(host.get()) else {
+        let Some(core) = cluster.host(host.get()) else {
             unreachable!()
         };
         let Some(mut picture) = self.picture.take() else {

@@ -8,8 +8,8 @@ ghost use Rattle.simulator.specs.OneLog.{GoesByOneLog, BeginsTheLog};
 ghost use Rattle.simulator.specs.Past.{world_of, answers_of};
 
 use crate::answer::Answer;
-use crate::parts::Parts;
 use crate::room::Room;
+use crate::simulated_cluster::SimulatedCluster;
 use disk::NoMemory;
 use host::HostCore;
 use lock_command::Command;
@@ -21,7 +21,7 @@ use std::marker::Model;
 /// A simulated cluster, to which one event after the other happens. It keeps them, and the log that it began with.
 #[derive(Drop)]
 pub struct Sim {
-    parts: Parts,
+    cluster: SimulatedCluster,
     log: Vec<Command>,
     events: Vec<Event>,
     room: Room,
@@ -35,9 +35,9 @@ impl Model for Sim {
 
     ghost Value = { Past };
 
-    ghost view = { λ s. record { opening = record { shape = s.parts.shape; moved = s.log.items }; events = events_of s.events.items } };
+    ghost view = { λ s. record { opening = record { shape = s.cluster.shape; moved = s.log.items }; events = events_of s.events.items } };
 
-    ghost invariant = { λ s. LeadsTo (run_of (record { shape = s.parts.shape; moved = s.log.items }) (events_of s.events.items)) s.parts };
+    ghost invariant = { λ s. LeadsTo (run_of (record { shape = s.cluster.shape; moved = s.log.items }) (events_of s.events.items)) s.cluster };
 }
 
 impl Sim {
@@ -46,7 +46,7 @@ impl Sim {
         ensures { IfOk result (λ sim. sim ≡ record { opening = blank config; events = [] }) }
     {
         Ok(Sim {
-            parts: Parts::new(alloc, config)?,
+            cluster: SimulatedCluster::new(alloc, config)?,
             log: Vec::new(alloc),
             events: Vec::new(alloc),
             room: Room::new(),
@@ -59,11 +59,11 @@ impl Sim {
         ensures sim { IfOk result (λ sim. sim ≡ record { opening = record { shape = config; moved = log.now }; events = [] }) }
         ensures can { IfOk result (λ _. CanBegin (record { shape = config; moved = log.now })) }
     {
-        let parts = Parts::migrated(alloc, config, log)?;
+        let cluster = SimulatedCluster::migrated(alloc, config, log)?;
         let mut kept = Vec::new(alloc);
         match kept.extend_from_slice(log) {
             Ok(()) => Ok(Sim {
-                parts,
+                cluster,
                 log: kept,
                 events: Vec::new(alloc),
                 room: Room::new(),
@@ -77,7 +77,7 @@ impl Sim {
         ensures host { IsHost self.now.opening.shape host ((world_of self.now).host host) (option_map (λ core. core.now) result) }
         ensures begins { IfSome result (λ core. BeginsTheLog self.now core.now.prefix) }
     {
-        self.parts.host(host)
+        self.cluster.host(host)
     }
 
     /// Lets an event happen, and tells what its host then says. Where memory is refused it did not happen.
@@ -92,10 +92,10 @@ impl Sim {
         self.room.prepare(alloc, event)?;
         self.events.reserve(1)?;
         let kept = event.copy()?;
-        let said = self.parts.event(alloc, event)?;
+        let said = self.cluster.event(alloc, event)?;
         self.events.push_reserved(kept);
         match said {
-            Some(said) => Ok(Some(self.room.listed(&self.parts, place, said))),
+            Some(said) => Ok(Some(self.room.listed(&self.cluster, place, said))),
             None => Ok(None),
         }
     }

@@ -3,8 +3,8 @@ ghost use Rattle.simulator.specs.Events.{event_of, events_of, opening_of};
 ghost use Rattle.simulator.specs.Sweeping.{changed, recovered_behind, variants};
 
 use crate::interrupting::changes;
-use crate::parts::Parts;
 use crate::replay::Replay;
+use crate::simulated_cluster::SimulatedCluster;
 use crate::tally::Sweep;
 use disk::NoMemory;
 use lock_command::Command;
@@ -25,11 +25,11 @@ pub fn sweep(alloc: Global, script: &Script) -> Result<Sweep, NoMemory>
     // Called for its contract only: a script has at most a million events.
     let _few = script.events.len();
     let events = script.events.to_vec(alloc)?;
-    let mut parts = Parts::migrated(alloc, script.config, &script.log)?;
+    let mut cluster = SimulatedCluster::migrated(alloc, script.config, &script.log)?;
     let mut sweep = Sweep::none();
     for place in 0..events.len() {
         let event = &events[place];
-        let changes = changes(alloc, &mut parts, event)?;
+        let changes = changes(alloc, &mut cluster, event)?;
         sweep_place(
             alloc,
             script.config,
@@ -39,7 +39,7 @@ pub fn sweep(alloc: Global, script: &Script) -> Result<Sweep, NoMemory>
             &changes,
             &mut sweep,
         )?;
-        parts.event(alloc, event)?;
+        cluster.event(alloc, event)?;
     }
     Ok(sweep)
 }

@@ -18,25 +18,25 @@ use Rattle.attempt.specs.Laws.{IsServedAlone}
 use Rattle.slot_log.specs.layouts.Alone.{IsAnsweredAlone}
 use Rattle.slot_log.specs.Shape.{Shape}
 use Rattle.slot_log.specs.layouts.Learning.{Operation, Memory, Doing, setup_of, next_in, offered_by, says, does, begins, ended, tries_again, with_floor, with_heard, by_status, hears, takes, judges, offered_in, after_learning, is_placed, learns, goes_on}
-use Rattle.slot_log.specs.layouts.Kept.{Task, Kept, LeadsTo, chosen_in, GoesOn, AreDoing, IsDoing, IsOf, IsOver, is_idle, is_idle_with}
-use Rattle.slot_log.specs.declared.outcome.Outcome.{Outcome}
-use Rattle.slot_log.specs.declared.outcome.Outcome.TheVariants.{Refused}
+use Rattle.slot_log.specs.layouts.Kept.{LogTask, Kept, LeadsTo, chosen_in, GoesOn, AreDoing, IsDoing, IsOf, IsOver, is_idle, is_idle_with}
+use Rattle.slot_log.specs.declared.outcome.LogOutcome.{LogOutcome}
+use Rattle.slot_log.specs.declared.outcome.LogOutcome.TheVariants.{Refused}
 use Rattle.slot_log.specs.declared.outcome.Refusal.TheVariants as refusal
 use Rattle.torn_block.specs.Layout.{Version}
 
 -- where no operation is under way, nothing is asked of the attempt
-pub idle_doing : (v : Version) (c : Shape) (h : ℕ) (m : Memory) (task : Option Task) (a : Notes) → is_idle_with task ≡ true → AreDoing v c h m None task a
+pub idle_doing : (v : Version) (c : Shape) (h : ℕ) (m : Memory) (task : Option LogTask) (a : Notes) → is_idle_with task ≡ true → AreDoing v c h m None task a
 idle_doing v c h m None a idle = tt
 idle_doing v c h m (Some task) a idle = absurd (cc)
 
 -- an operation under way is known
-pub doing_is : (v : Version) (c : Shape) (h : ℕ) (m : Memory) (o : Option Doing) (task : Task) (a : Notes) → AreDoing v c h m o (Some task) a → (t : Doing) × (o ≡ Some t) × IsDoing v c h m t task a
+pub doing_is : (v : Version) (c : Shape) (h : ℕ) (m : Memory) (o : Option Doing) (task : LogTask) (a : Notes) → AreDoing v c h m o (Some task) a → (t : Doing) × (o ≡ Some t) × IsDoing v c h m t task a
 doing_is v c h m None task a are = absurd are
 doing_is v c h m (Some t) task a are = (t, refl, are)
 
-pub task_is : (v : Version) (c : Shape) (h : ℕ) (m : Memory) (k : Kept) (task : Task) → LeadsTo v c h m k → k.task ≡ Some task → (t : Doing) × (m.doing ≡ Some t) × IsDoing v c h m t task k.attempt
+pub task_is : (v : Version) (c : Shape) (h : ℕ) (m : Memory) (k : Kept) (task : LogTask) → LeadsTo v c h m k → k.task ≡ Some task → (t : Doing) × (m.doing ≡ Some t) × IsDoing v c h m t task k.attempt
 task_is v c h m k task leads is =
-    let P : Option Task → Type 0 = λ o. AreDoing v c h m m.doing o k.attempt in
+    let P : Option LogTask → Type 0 = λ o. AreDoing v c h m m.doing o k.attempt in
     doing_is v c h m m.doing task k.attempt (subst P is leads.doing)
 
 -- a ballot counts
@@ -55,7 +55,7 @@ one_more_try : (m : Memory) (operation : Operation) (tries : ℕ) → 1 < tries 
 one_more_try m operation tries more = rw (lt-leb tries 1 more) refl
 
 -- an outrun attempt is followed by the next
-pub outrun : (v : Version) (c : Shape) (h : ℕ) (m : Memory) (t : Doing) (task : Task) (ballot mbal : ℕ) (e : Ending) (new : Kept) → e ≡ end.Outrun mbal → IsOf t task → 1 < task.tries → LeadsTo v c h (begins (with_floor (with_floor m ballot) mbal) task.operation (task.tries - 1)) new → LeadsTo v c h (ended m t ballot (end_of e)) new
+pub outrun : (v : Version) (c : Shape) (h : ℕ) (m : Memory) (t : Doing) (task : LogTask) (ballot mbal : ℕ) (e : Ending) (new : Kept) → e ≡ end.Outrun mbal → IsOf t task → 1 < task.tries → LeadsTo v c h (begins (with_floor (with_floor m ballot) mbal) task.operation (task.tries - 1)) new → LeadsTo v c h (ended m t ballot (end_of e)) new
 outrun v c h m t task ballot mbal e new is of more begun =
     let m' : Memory = with_floor (with_floor m ballot) mbal in
     let P : Memory → Type 0 = λ n. LeadsTo v c h n new in
@@ -90,7 +90,7 @@ hears_end v c h m t x ballot e is over ends took =
     ∙ ended_same m t x ballot e over
 
 -- a value that was not to be placed is followed by an attempt on the next slot
-pub other_learned : (c : Shape) (m : Memory) (t : Doing) (task : Task) (value : List ℕ) → IsOf t task → is_placed task.operation value ≡ false → after_learning c m t value ≡ goes_on c (learns m value) task.operation task.tries
+pub other_learned : (c : Shape) (m : Memory) (t : Doing) (task : LogTask) (value : List ℕ) → IsOf t task → is_placed task.operation value ≡ false → after_learning c m t value ≡ goes_on c (learns m value) task.operation task.tries
 other_learned c m t task value of other =
     let F : Operation → ℕ → Memory = λ o n. after_learning c m (record { operation = o; tries = n; heard = t.heard }) value in
     ap (λ (o : Operation). F o t.tries) of.operation
@@ -115,7 +115,7 @@ refuses_value v c h m t value ballot is offered took =
     ∙ ap F (sym (offered ∙ ap (offered_in v c h m) is))
     ∙ ap (λ (b : ℕ). says (with_floor m b) (Refused refusal.NotACommand)) (sym took)
 
-pub finished : (v : Version) (c : Shape) (h : ℕ) (m : Memory) (old new : Kept) (outcome : Outcome) → LeadsTo v c h m old → new ≡ record old { task = None; said = Some outcome } → LeadsTo v c h (says m outcome) new
+pub finished : (v : Version) (c : Shape) (h : ℕ) (m : Memory) (old new : Kept) (outcome : LogOutcome) → LeadsTo v c h m old → new ≡ record old { task = None; said = Some outcome } → LeadsTo v c h (says m outcome) new
 finished v c h m old new outcome leads is =
     subst (LeadsTo v c h (says m outcome)) (sym is) (record {
       shape = leads.shape;
@@ -141,7 +141,7 @@ waiting_status m t ballot st (Some (end.Outrun mbal)) on is = absurd on
 waiting_status m t ballot st (Some end.NoMajority) on is = absurd on
 waiting_status m t ballot st (Some end.BallotsSpent) on is = absurd on
 
-busy_task : (task : Option Task) → is_idle_with task ≡ false → (there : Task) × (task ≡ Some there)
+busy_task : (task : Option LogTask) → is_idle_with task ≡ false → (there : LogTask) × (task ≡ Some there)
 busy_task None busy = absurd (cc)
 busy_task (Some task) busy = (task, refl)
 
@@ -166,7 +166,7 @@ offers (Some (end.Outrun mbal)) (Ended x) is = ap (λ (y : attempt.End). offered
 offers (Some end.NoMajority) (Ended x) is = ap (λ (y : attempt.End). offered_by (Ended y)) (let both : Some attempt.NoMajority ≡ Some x = is in let same : x ≡ attempt.NoMajority = cc in same)
 offers (Some end.BallotsSpent) (Ended x) is = ap (λ (y : attempt.End). offered_by (Ended y)) (let both : Some attempt.BallotsSpent ≡ Some x = is in let same : x ≡ attempt.BallotsSpent = cc in same)
 
-some_task : (task : Option Task) → is_some task ≡ true → (there : Task) × (task ≡ Some there)
+some_task : (task : Option LogTask) → is_some task ≡ true → (there : LogTask) × (task ≡ Some there)
 some_task None some = absurd (cc)
 some_task (Some task) some = (task, refl)
 
@@ -199,7 +199,7 @@ waits_on v c h m k new x e leads busy goes =
     ap (λ (o : Option Doing). hears v c h m o x) doing.1
     ∙ waiting_status m told (taken s (on told.heard)) (status s (on told.heard)) e goes.on (goes.end_is s told.heard heard) in
     let Known : Memory → Type 0 = λ n. LeadsTo v c h n after in
-    let Doing' : Option Task → Type 0 = λ o. AreDoing v c h (does m told) (Some told) o new in
+    let Doing' : Option LogTask → Type 0 = λ o. AreDoing v c h (does m told) (Some told) o new in
     subst Known (sym known) (record {
       shape = leads.shape;
       is_host = leads.is_host;
@@ -216,7 +216,7 @@ pub record Says (old : Notes) (x : Answered) : Type 0 where
   pub bound : (s : Setup) (answers : List Answered) → attempts.LeadsTo s answers old → length (answers ++ x ∷ []) ≤ 17 * s.disks
   pub alone : (s : Setup) (answers : List Answered) → attempts.LeadsTo s answers old → IsServedAlone s (answers ++ x ∷ [])
 
-alone_with : (v : Version) (c : Shape) (h : ℕ) (m : Memory) (o : Option Doing) (task : Option Task) (old : Notes) (x : Answered) → AreDoing v c h m o task old → Says old x → IsAnsweredAlone v c h m o x
+alone_with : (v : Version) (c : Shape) (h : ℕ) (m : Memory) (o : Option Doing) (task : Option LogTask) (old : Notes) (x : Answered) → AreDoing v c h m o task old → Says old x → IsAnsweredAlone v c h m o x
 alone_with v c h m None task old x are said = tt
 alone_with v c h m (Some t) None old x are said = absurd are
 alone_with v c h m (Some t) (Some task) old x are said =

@@ -10,8 +10,8 @@ ghost use Rattle.slot_log.specs.layouts.Learning.{Memory, operation_as, Doing, f
 ghost use Rattle.slot_log.specs.Shape.{Shape};
 
 use crate::config::Config;
-use crate::operation::{Operation, Task, is_placed_by};
-use crate::outcome::{Outcome, Refusal};
+use crate::operation::{LogTask, Operation, is_placed_by};
+use crate::outcome::{LogOutcome, Refusal};
 use disk::NoMemory;
 use phases::{Attempt, End, Heard, Need};
 use std::alloc::Global;
@@ -28,10 +28,10 @@ pub struct Learner<L: Layout> {
     config: Config,
     learned: Vec<L::Value>,
     floor: u64,
-    task: Option<Task<L::Value>>,
+    task: Option<LogTask<L::Value>>,
     /// The attempt of the operation under way.
     attempt: Attempt<L>,
-    said: Option<Outcome>,
+    said: Option<LogOutcome>,
 }
 
 impl<L: Layout> Model for Learner<L> {
@@ -86,7 +86,7 @@ impl<L: Layout> Learner<L> {
     }
 
     /// How an operation ended, where the last call ended one.
-    pub fn said(&self) -> Option<Outcome>
+    pub fn said(&self) -> Option<LogOutcome>
         ensures known { (c : Shape) (h : ℕ) (m : Memory) → LeadsTo L.version c h m self.now →
             result ≡ m.said }
         ensures said { result ≡ self.now.said }
@@ -213,7 +213,7 @@ impl<L: Layout> Learner<L> {
         } else {
             let ballot = self.attempt.ballot();
             self.count_ballot(ballot);
-            self.finish(Outcome::Refused(Refusal::NotACommand));
+            self.finish(LogOutcome::Refused(Refusal::NotACommand));
         }
     }
 }
@@ -249,12 +249,12 @@ impl<L: Layout> Learner<L> {
         let input = operation.input();
         let floor = operation.floor(self.floor);
         self.attempt = Attempt::new(self.host, slot, self.config.disks(), floor, input);
-        self.task = Some(Task { operation, tries });
+        self.task = Some(LogTask { operation, tries });
         self.said = None;
     }
 
     // The operation ends.
-    fn finish(&mut self, outcome: Outcome)
+    fn finish(&mut self, outcome: LogOutcome)
         ensures { self.new ≡ record self.old { task = None; said = Some outcome } }
     {
         self.task = None;
@@ -272,7 +272,7 @@ impl<L: Layout> Learner<L> {
 
     // An attempt has ended, without a value. Few answers end one, so this is out of the way of the others.
     #[inline(never)]
-    fn end(&mut self, end: End<L::Value>, task: Task<L::Value>)
+    fn end(&mut self, end: End<L::Value>, task: LogTask<L::Value>)
         requires idle { is_idle self.old ≡ true }
         requires tries { 1 ≤ task.tries }
         requires slot { length self.old.learned < self.old.shape.slots }
@@ -285,17 +285,17 @@ impl<L: Layout> Learner<L> {
             End::Committed(_) | End::Decided(_) => unreachable!(),
             End::Empty => {
                 let length = self.learned.len() as u16;
-                self.finish(Outcome::Recovered { length });
+                self.finish(LogOutcome::Recovered { length });
             }
             End::Outrun(mbal) => {
                 self.count_ballot(mbal);
                 if task.tries <= 1 {
-                    self.finish(Outcome::Refused(Refusal::Outrun));
+                    self.finish(LogOutcome::Refused(Refusal::Outrun));
                 } else {
                     self.begin(task.operation, task.tries - 1);
                 }
             }
-            End::NoMajority => self.finish(Outcome::Refused(Refusal::NoMajority)),
+            End::NoMajority => self.finish(LogOutcome::Refused(Refusal::NoMajority)),
             End::BallotsSpent => {
                 let learned = self.learned.len() as u16;
                 self.finish(task.operation.outcome_without_ballot(learned));
@@ -304,7 +304,7 @@ impl<L: Layout> Learner<L> {
     }
 
     // Learns the next slot's value.
-    fn learn(&mut self, value: L::Value, task: Task<L::Value>)
+    fn learn(&mut self, value: L::Value, task: LogTask<L::Value>)
         requires idle { is_idle self.old ≡ true }
         requires tries { 1 ≤ task.tries }
         requires slot { length self.old.learned < self.old.shape.slots }
@@ -319,7 +319,7 @@ impl<L: Layout> Learner<L> {
         self.floor = 0;
         self.said = None;
         if is_placed_by::<L>(&task.operation, &value) {
-            self.finish(Outcome::Placed { slot });
+            self.finish(LogOutcome::Placed { slot });
         } else {
             self.go_on(task.operation, task.tries);
         }

@@ -8,4 +8,4 @@ mod outcome;
 
 pub use config::Config;
 pub use learner::Learner;
-pub use outcome::{Outcome, Refusal};
+pub use outcome::{LogOutcome, Refusal};

@@ -1,7 +1,7 @@
 ghost use Rattle.std.specs.Prelude.{◌≡◌};
 ghost use Rattle.slot_log.specs.layouts.Learning.{operation_as, is_placed};
 
-use crate::outcome::{Outcome, Refusal};
+use crate::outcome::{LogOutcome, Refusal};
 use paxos_block::LAST_BALLOT;
 use torn_block::Layout;
 
@@ -18,7 +18,7 @@ pub enum Operation<V> {
 
 /// An operation under way.
 #[derive(Clone, Copy, Debug)]
-pub struct Task<V> {
+pub struct LogTask<V> {
     pub operation: Operation<V>,
     /// How many attempts may be outrun from now on, the last of which ends the operation.
     pub tries: u8,
@@ -51,24 +51,24 @@ impl<V: Copy> Operation<V> {
     }
 
     /// How it ends once all slots are learned.
-    pub fn outcome_when_full(&self, learned: u16) -> Outcome
+    pub fn outcome_when_full(&self, learned: u16) -> LogOutcome
         ensures { (spelled : V → List ℕ) → result ≡ full_outcome (operation_as spelled self.now) learned }
     {
         match self {
-            Operation::Placing(_) => Outcome::Refused(Refusal::LogFull),
-            Operation::Recovering => Outcome::Recovered { length: learned },
-            Operation::Looking => Outcome::Looked { length: learned },
+            Operation::Placing(_) => LogOutcome::Refused(Refusal::LogFull),
+            Operation::Recovering => LogOutcome::Recovered { length: learned },
+            Operation::Looking => LogOutcome::Looked { length: learned },
         }
     }
 
     /// How it ends when the attempt on the next slot has no ballot left. So many slots are learned by then.
-    pub fn outcome_without_ballot(&self, length: u16) -> Outcome
+    pub fn outcome_without_ballot(&self, length: u16) -> LogOutcome
         ensures { (spelled : V → List ℕ) → result ≡ spent_outcome (operation_as spelled self.now) length }
     {
         match self {
-            Operation::Placing(_) => Outcome::Refused(Refusal::BallotsSpent),
-            Operation::Recovering => Outcome::Refused(Refusal::BallotsSpent),
-            Operation::Looking => Outcome::Looked { length },
+            Operation::Placing(_) => LogOutcome::Refused(Refusal::BallotsSpent),
+            Operation::Recovering => LogOutcome::Refused(Refusal::BallotsSpent),
+            Operation::Looking => LogOutcome::Looked { length },
         }
     }
 }

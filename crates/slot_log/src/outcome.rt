@@ -26,7 +26,7 @@ pub enum Refusal {
 
 /// How an operation ended.
 #[derive(Clone, Copy, Debug, PartialEq, Eq)]
-pub enum Outcome {
+pub enum LogOutcome {
     /// The value was learned at this slot.
     Placed { slot: u16 },
     /// So many slots are learned, and nothing had been chosen for the next one when its attempt began.

@@ -2,7 +2,7 @@ ghost use Rattle.std.specs.Prelude.{◌≡◌};
 ghost use Rattle.cluster.specs.Opening.{IsNamed};
 
 use crate::tests::{left_by, seat_of, seats_of, submitted};
-use cluster::{Cluster, Config, HostFault, HostSeat, Named, OpenGate, Opening, Refusal};
+use cluster::{Cluster, ClusterName, Config, HostFault, HostSeat, OpenGate, Opening, Refusal};
 use disk::SimDisk;
 use std::alloc::Global;
 use std::marker::Brand;
@@ -10,7 +10,7 @@ use std::sync::Wait;
 use std::test::Fail;
 
 // Marks a slot, where the host is idle.
-pub(crate) fn mark_once<N: Named>(
+pub(crate) fn mark_once<N: ClusterName>(
     rt: &impl Wait,
     cluster: &Cluster<'_, N, SimDisk>,
     seat: &mut HostSeat<N>,
@@ -23,7 +23,7 @@ pub(crate) fn mark_once<N: Named>(
 }
 
 // Looks, where the host is idle.
-fn look_once<N: Named>(
+fn look_once<N: ClusterName>(
     rt: &impl Wait,
     cluster: &Cluster<'_, N, SimDisk>,
     seat: &mut HostSeat<N>,
@@ -44,7 +44,7 @@ struct Looks {
 }
 
 // One host submits, and then marks the slot. The other looks before and after, and tries to mark the slot before.
-fn looks_and_marks<N: Named>(
+fn looks_and_marks<N: ClusterName>(
     rt: &impl Wait,
     cluster: &Cluster<'_, N, SimDisk>,
     one: &mut HostSeat<N>,
@@ -70,7 +70,7 @@ struct Looked {
 }
 
 // The same of hosts 0 and 1, and their seats.
-fn seats_that_look<N: Named>(
+fn seats_that_look<N: ClusterName>(
     rt: &impl Wait,
     alloc: Global,
     cluster: &Cluster<'_, N, SimDisk>,
@@ -82,7 +82,7 @@ fn seats_that_look<N: Named>(
 }
 
 // The same, and whether the cluster comes out the same.
-fn looked_in<N: Named>(
+fn looked_in<N: ClusterName>(
     rt: &impl Wait,
     alloc: Global,
     config: Config,
@@ -97,7 +97,11 @@ fn looked_in<N: Named>(
 }
 
 // A host looks for what another marks.
-fn looks_for_marks<N: Named, R: Wait>(rt: &R, alloc: Global, opening: Opening) -> Option<Looked>
+fn looks_for_marks<N: ClusterName, R: Wait>(
+    rt: &R,
+    alloc: Global,
+    opening: Opening,
+) -> Option<Looked>
     requires { IsNamed opening N.shape N.table N.name N.parts N.all }
 {
     let config = opening.config();

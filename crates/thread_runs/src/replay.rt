@@ -2,7 +2,7 @@ ghost use Rattle.std.specs.Prelude.{◌<◌, length};
 
 use crate::device_call::{answer, kind_of};
 use crate::same::{same_acks, same_commands, same_tables};
-use cluster::{CallKind, Config, Entry, HostAnswer, HostSeat, Named, Receipt, Record};
+use cluster::{CallKind, ClusterName, Config, Entry, HostAnswer, HostSeat, Receipt, Record};
 use disk::{DiskFault, SimDisk};
 use host::HostCore;
 use lock_command::{Command, HostNumber};
@@ -30,7 +30,7 @@ struct Replay {
 /// Runs the entries of a record again, one after the other, over disks of zeros and stopped hosts, with these bytes for each
 /// crash. Tells whether each call was its host's next one and was answered the same, and whether all receipts, commands
 /// learned and tables come out as the seats have them.
-pub fn audit<N: Named>(
+pub fn audit<N: ClusterName>(
     alloc: Global,
     config: Config,
     record: &Record<N>,
@@ -246,7 +246,11 @@ impl Replay {
     }
 
     /// Whether the seat's host has come to the same.
-    fn has<N: Named>(&mut self, alloc: Global, seat: &HostSeat<N>) -> Result<bool, AllocError> {
+    fn has<N: ClusterName>(
+        &mut self,
+        alloc: Global,
+        seat: &HostSeat<N>,
+    ) -> Result<bool, AllocError> {
         let Some(replica) = self.host(seat.host()) else {
             return Ok(false);
         };

@@ -5,7 +5,8 @@ use crate::looked::mark_once;
 use crate::pair_disk::{Flags, PairDisk, is_set, pair};
 use crate::replay::audit;
 use cluster::{
-    Cluster, Config, Entry, Gate, HostFault, HostSeat, Named, OpenGate, Opening, Receipt, Refusal,
+    Cluster, ClusterName, Config, Entry, Gate, HostFault, HostSeat, OpenGate, Opening, Receipt,
+    Refusal,
 };
 use disk::{Disk, SimDisk};
 use lock_command::{
@@ -40,7 +41,7 @@ fn command(host: HostNumber, lock: u16, request: u64) -> Option<Command>
 }
 
 // A host that has just been started. Nothing is said of it, so that whoever asks for it has no list of entries to carry along.
-pub(crate) fn seat_of<N: Named, D: Disk + Drop>(
+pub(crate) fn seat_of<N: ClusterName, D: Disk + Drop>(
     rt: &impl Wait,
     alloc: Global,
     cluster: &Cluster<'_, N, D>,
@@ -50,7 +51,7 @@ pub(crate) fn seat_of<N: Named, D: Disk + Drop>(
 }
 
 // Two seats to be given back.
-pub(crate) fn seats_of<N: Named>(
+pub(crate) fn seats_of<N: ClusterName>(
     alloc: Global,
     one: HostSeat<N>,
     other: HostSeat<N>,
@@ -66,7 +67,7 @@ pub(crate) struct Left {
 }
 
 // What a cluster leaves whose seats are given back. Whoever calls this holds neither afterwards.
-pub(crate) fn left_by<N: Named, D: Disk + Drop>(
+pub(crate) fn left_by<N: ClusterName, D: Disk + Drop>(
     alloc: Global,
     config: Config,
     cluster: Cluster<'_, N, D>,
@@ -81,7 +82,7 @@ pub(crate) fn left_by<N: Named, D: Disk + Drop>(
 }
 
 // Submits an enqueue of a lock, where the host is idle.
-pub(crate) fn submitted<N: Named, D: Disk + Drop, G: Gate>(
+pub(crate) fn submitted<N: ClusterName, D: Disk + Drop, G: Gate>(
     rt: &impl Wait,
     cluster: &Cluster<'_, N, D>,
     seat: &mut HostSeat<N>,
@@ -120,14 +121,14 @@ impl<R: Clock> Gate for Holds<'_, R> {
 
 // A host's seat, the receipt that it got, and whether it has waited in vain.
 #[derive(Drop)]
-struct Waited<N: Named> {
+struct Waited<N: ClusterName> {
     seat: HostSeat<N>,
     receipt: Option<Receipt>,
     late: bool,
 }
 
 // Submits an enqueue of a lock, and is held within it until the other flag is set.
-fn hold<N: Named, R: Wait + Clock>(
+fn hold<N: ClusterName, R: Wait + Clock>(
     rt: &R,
     cluster: &Cluster<'_, N, SimDisk>,
     held: &AtomicBool,
@@ -150,7 +151,7 @@ fn hold<N: Named, R: Wait + Clock>(
 }
 
 // Submits another while the first host is held, and then lets it go on.
-fn pass<N: Named, R: Wait + Clock>(
+fn pass<N: ClusterName, R: Wait + Clock>(
     rt: &R,
     cluster: &Cluster<'_, N, SimDisk>,
     held: &AtomicBool,
@@ -169,7 +170,7 @@ fn pass<N: Named, R: Wait + Clock>(
 }
 
 // One host is held within its command until another's is acknowledged.
-fn hold_and_pass<N: Named + Send + Sync, R: Threads + Wait + Clock + Sync>(
+fn hold_and_pass<N: ClusterName + Send + Sync, R: Threads + Wait + Clock + Sync>(
     rt: &R,
     cluster: &Cluster<'_, N, SimDisk>,
     one: HostSeat<N>,
@@ -194,7 +195,7 @@ struct Passed {
 }
 
 // The same of hosts 0 and 1, and their seats.
-fn seats_that_pass<N: Named + Send + Sync, R: Threads + Wait + Clock + Sync>(
+fn seats_that_pass<N: ClusterName + Send + Sync, R: Threads + Wait + Clock + Sync>(
     rt: &R,
     alloc: Global,
     cluster: &Cluster<'_, N, SimDisk>,
@@ -220,7 +221,7 @@ struct Held {
 }
 
 // The same, how many entries there are, and whether the cluster comes out the same.
-fn held_in<N: Named + Send + Sync, R: Threads + Wait + Clock + Sync>(
+fn held_in<N: ClusterName + Send + Sync, R: Threads + Wait + Clock + Sync>(
     rt: &R,
     alloc: Global,
     config: Config,
@@ -237,7 +238,7 @@ fn held_in<N: Named + Send + Sync, R: Threads + Wait + Clock + Sync>(
     })
 }
 
-fn one_host_held<N: Named + Send + Sync, R: Threads + Wait + Clock + Sync>(
+fn one_host_held<N: ClusterName + Send + Sync, R: Threads + Wait + Clock + Sync>(
     rt: &R,
     alloc: Global,
     opening: Opening,
@@ -267,13 +268,13 @@ fn gate_one_host(rt: HostRuntime) -> Result<(), Fail> {
 
 // A host's seat, and the receipt that it got.
 #[derive(Drop)]
-struct Served<N: Named> {
+struct Served<N: ClusterName> {
     seat: HostSeat<N>,
     receipt: Option<Receipt>,
 }
 
 // Submits an enqueue of a lock.
-fn serve<N: Named, R: Wait + Clock>(
+fn serve<N: ClusterName, R: Wait + Clock>(
     rt: &R,
     cluster: &Cluster<'_, N, PairDisk<'_, R>>,
     seat: HostSeat<N>,
@@ -288,7 +289,7 @@ fn serve<N: Named, R: Wait + Clock>(
 }
 
 // One host submits; the other begins when the first one's call of disk 1 has begun.
-fn serve_both<N: Named + Send + Sync, R: Threads + Wait + Clock + Sync>(
+fn serve_both<N: ClusterName + Send + Sync, R: Threads + Wait + Clock + Sync>(
     rt: &R,
     cluster: &Cluster<'_, N, PairDisk<'_, R>>,
     begun: &AtomicBool,
@@ -306,7 +307,7 @@ fn serve_both<N: Named + Send + Sync, R: Threads + Wait + Clock + Sync>(
 }
 
 // How many of hosts 0 and 1 were acknowledged, and their seats.
-fn seats_that_meet<N: Named + Send + Sync, R: Threads + Wait + Clock + Sync>(
+fn seats_that_meet<N: ClusterName + Send + Sync, R: Threads + Wait + Clock + Sync>(
     rt: &R,
     alloc: Global,
     cluster: &Cluster<'_, N, PairDisk<'_, R>>,
@@ -320,7 +321,7 @@ fn seats_that_meet<N: Named + Send + Sync, R: Threads + Wait + Clock + Sync>(
 }
 
 // The same, and whether the cluster comes out the same.
-fn met_in<N: Named + Send + Sync, R: Threads + Wait + Clock + Sync>(
+fn met_in<N: ClusterName + Send + Sync, R: Threads + Wait + Clock + Sync>(
     rt: &R,
     alloc: Global,
     config: Config,
@@ -341,7 +342,7 @@ struct Met {
 }
 
 // One host's call of disk 1 goes on until the other has called disk 0.
-fn two_hosts_met<N: Named + Send + Sync, R: Threads + Wait + Clock + Sync>(
+fn two_hosts_met<N: ClusterName + Send + Sync, R: Threads + Wait + Clock + Sync>(
     rt: &R,
     alloc: Global,
     opening: Opening,
@@ -377,13 +378,13 @@ fn two_disks_at_once(rt: HostRuntime) -> Result<(), Fail> {
 
 // Crashes disk 0 before its host's 15th call.
 #[derive(Drop)]
-struct Crashes<'r, 'c, 't, N: Named, R: Wait> {
+struct Crashes<'r, 'c, 't, N: ClusterName, R: Wait> {
     rt: &'r R,
     cluster: &'c Cluster<'t, N, SimDisk>,
     fault: Option<HostFault>,
 }
 
-impl<N: Named, R: Wait> Gate for Crashes<'_, '_, '_, N, R> {
+impl<N: ClusterName, R: Wait> Gate for Crashes<'_, '_, '_, N, R> {
     fn before_call(&mut self, call: u64) {
         if call == 15 {
             self.fault = crash(self.rt, self.cluster, 0).err();
@@ -391,7 +392,7 @@ impl<N: Named, R: Wait> Gate for Crashes<'_, '_, '_, N, R> {
     }
 }
 
-fn crash<N: Named>(
+fn crash<N: ClusterName>(
     rt: &impl Wait,
     cluster: &Cluster<'_, N, SimDisk>,
     disk: u8,
@@ -402,7 +403,7 @@ fn crash<N: Named>(
     Ok(())
 }
 
-fn lose<N: Named>(
+fn lose<N: ClusterName>(
     rt: &impl Wait,
     cluster: &Cluster<'_, N, SimDisk>,
     disk: u8,
@@ -422,7 +423,7 @@ struct Harm {
 }
 
 // How a recovery is refused, where the host is idle.
-fn recovery_refused<N: Named>(
+fn recovery_refused<N: ClusterName>(
     rt: &impl Wait,
     cluster: &Cluster<'_, N, SimDisk>,
     seat: &mut HostSeat<N>,
@@ -434,7 +435,7 @@ fn recovery_refused<N: Named>(
 }
 
 // A disk crashes within a submission; then two disks are lost, and a recovery is tried.
-fn do_harm<N: Named, R: Wait>(
+fn do_harm<N: ClusterName, R: Wait>(
     rt: &R,
     cluster: &Cluster<'_, N, SimDisk>,
     seat: &mut HostSeat<N>,
@@ -456,7 +457,7 @@ fn do_harm<N: Named, R: Wait>(
 }
 
 // The same of host 0, and its seat.
-fn seat_in_harm<N: Named, R: Wait>(
+fn seat_in_harm<N: ClusterName, R: Wait>(
     rt: &R,
     alloc: Global,
     cluster: &Cluster<'_, N, SimDisk>,
@@ -486,7 +487,7 @@ fn faults_shown(entries: &[Entry]) -> [bool; 3] {
 }
 
 // The same, and what the cluster leaves.
-fn harmed_in<N: Named, R: Wait>(
+fn harmed_in<N: ClusterName, R: Wait>(
     rt: &R,
     alloc: Global,
     config: Config,
@@ -504,7 +505,11 @@ fn harmed_in<N: Named, R: Wait>(
     })
 }
 
-fn harm_read_back<N: Named, R: Wait>(rt: &R, alloc: Global, opening: Opening) -> Option<Harmed>
+fn harm_read_back<N: ClusterName, R: Wait>(
+    rt: &R,
+    alloc: Global,
+    opening: Opening,
+) -> Option<Harmed>
     requires { IsNamed opening N.shape N.table N.name N.parts N.all }
 {
     let config = opening.config();
@@ -535,7 +540,7 @@ fn faults_read_back(rt: HostRuntime) -> Result<(), Fail> {
 }
 
 // A seat that is taken, and lost again.
-fn lose_seat<N: Named>(
+fn lose_seat<N: ClusterName>(
     rt: &impl Wait,
     alloc: Global,
     cluster: &Cluster<'_, N, SimDisk>,
@@ -546,7 +551,7 @@ fn lose_seat<N: Named>(
 }
 
 // How another seat of a host is refused.
-fn seat_refused<N: Named>(
+fn seat_refused<N: ClusterName>(
     rt: &impl Wait,
     alloc: Global,
     cluster: &Cluster<'_, N, SimDisk>,
@@ -556,7 +561,7 @@ fn seat_refused<N: Named>(
 }
 
 // How it is refused that this seat alone is given back.
-fn finish_refused<N: Named>(
+fn finish_refused<N: ClusterName>(
     alloc: Global,
     cluster: Cluster<'_, N, SimDisk>,
     seat: HostSeat<N>,
@@ -566,7 +571,7 @@ fn finish_refused<N: Named>(
 }
 
 // A host is handed out once, and each that was is to be given back.
-fn miscounted<N: Named, R: Wait>(
+fn miscounted<N: ClusterName, R: Wait>(
     rt: &R,
     alloc: Global,
     cluster: Cluster<'_, N, SimDisk>,
@@ -578,7 +583,7 @@ fn miscounted<N: Named, R: Wait>(
     Some((taken, missing))
 }
 
-fn seats_counted<N: Named, R: Wait>(
+fn seats_counted<N: ClusterName, R: Wait>(
     rt: &R,
     alloc: Global,
     opening: Opening,
@@ -606,7 +611,7 @@ struct Beaten {
 }
 
 // Beats, where the host is idle.
-fn beat_once<N: Named, D: Disk + Drop>(
+fn beat_once<N: ClusterName, D: Disk + Drop>(
     rt: &impl Wait,
     cluster: &Cluster<'_, N, D>,
     seat: &mut HostSeat<N>,
@@ -618,7 +623,7 @@ fn beat_once<N: Named, D: Disk + Drop>(
 }
 
 // What two hosts are suggested that beat in turn, twice each.
-fn suggested_in_turn<N: Named>(
+fn suggested_in_turn<N: ClusterName>(
     rt: &impl Wait,
     alloc: Global,
     cluster: &Cluster<'_, N, SimDisk>,
@@ -634,7 +639,7 @@ fn suggested_in_turn<N: Named>(
 }
 
 // The same of hosts 5 and 3, and their seats.
-fn seats_that_beat<N: Named>(
+fn seats_that_beat<N: ClusterName>(
     rt: &impl Wait,
     alloc: Global,
     cluster: &Cluster<'_, N, SimDisk>,
@@ -646,7 +651,7 @@ fn seats_that_beat<N: Named>(
 }
 
 // The same, and whether the cluster comes out the same.
-fn beaten_in<N: Named>(
+fn beaten_in<N: ClusterName>(
     rt: &impl Wait,
     alloc: Global,
     config: Config,
@@ -661,7 +666,7 @@ fn beaten_in<N: Named>(
 }
 
 // Two hosts beat in turn, twice each.
-fn beats_in_turn<N: Named, R: Wait>(rt: &R, alloc: Global, opening: Opening) -> Option<Beaten>
+fn beats_in_turn<N: ClusterName, R: Wait>(rt: &R, alloc: Global, opening: Opening) -> Option<Beaten>
     requires { IsNamed opening N.shape N.table N.name N.parts N.all }
 {
     let config = opening.config();
@@ -689,7 +694,7 @@ struct Crowd {
 }
 
 // A host submits so many commands, marks some slots, beats now and then, and starts anew, looks and recovers after a few.
-fn works<N: Named, R: Wait + Clock>(
+fn works<N: ClusterName, R: Wait + Clock>(
     rt: &R,
     alloc: Global,
     cluster: &Cluster<'_, N, SimDisk>,
@@ -702,7 +707,7 @@ fn works<N: Named, R: Wait + Clock>(
 }
 
 // The same, by its seat.
-fn take_turns<N: Named, R: Wait + Clock>(
+fn take_turns<N: ClusterName, R: Wait + Clock>(
     rt: &R,
     alloc: Global,
     cluster: &Cluster<'_, N, SimDisk>,
@@ -722,7 +727,7 @@ fn take_turns<N: Named, R: Wait + Clock>(
 }
 
 // Submits the command of this round, and marks its slot in every third. Whoever is outrun lets the others go on for a while.
-fn take_turn<N: Named, R: Wait + Clock>(
+fn take_turn<N: ClusterName, R: Wait + Clock>(
     rt: &R,
     cluster: &Cluster<'_, N, SimDisk>,
     seat: &mut HostSeat<N>,
@@ -745,7 +750,7 @@ fn take_turn<N: Named, R: Wait + Clock>(
 }
 
 // Marks a slot, refused or not.
-fn mark_if_idle<N: Named>(
+fn mark_if_idle<N: ClusterName>(
     rt: &impl Wait,
     cluster: &Cluster<'_, N, SimDisk>,
     seat: &mut HostSeat<N>,
@@ -758,7 +763,7 @@ fn mark_if_idle<N: Named>(
 }
 
 // Beats, refused or not.
-fn beat_if_idle<N: Named>(
+fn beat_if_idle<N: ClusterName>(
     rt: &impl Wait,
     cluster: &Cluster<'_, N, SimDisk>,
     seat: &mut HostSeat<N>,
@@ -773,7 +778,7 @@ fn beat_if_idle<N: Named>(
 }
 
 // Stops and starts, looks, and recovers, refused or not.
-fn start_anew<N: Named>(
+fn start_anew<N: ClusterName>(
     rt: &impl Wait,
     alloc: Global,
     cluster: &Cluster<'_, N, SimDisk>,
@@ -785,7 +790,7 @@ fn start_anew<N: Named>(
 }
 
 // Looks, refused or not.
-fn look_if_idle<N: Named>(
+fn look_if_idle<N: ClusterName>(
     rt: &impl Wait,
     cluster: &Cluster<'_, N, SimDisk>,
     seat: &mut HostSeat<N>,
@@ -800,7 +805,7 @@ fn look_if_idle<N: Named>(
 }
 
 // Recovers, refused or not.
-fn recover_if_idle<N: Named>(
+fn recover_if_idle<N: ClusterName>(
     rt: &impl Wait,
     cluster: &Cluster<'_, N, SimDisk>,
     seat: &mut HostSeat<N>,
@@ -840,7 +845,7 @@ fn action_in(round: u16, lock: LockNumber) -> Option<Action> {
 }
 
 // Crashes disks, and loses two of five.
-fn harms<N: Named, R: Wait + Clock>(rt: &R, cluster: &Cluster<'_, N, SimDisk>) -> Option<()> {
+fn harms<N: ClusterName, R: Wait + Clock>(rt: &R, cluster: &Cluster<'_, N, SimDisk>) -> Option<()> {
     let mut chance: u64 = 7;
     for turn in 0..64u8 {
         chance = chance
@@ -862,7 +867,7 @@ fn harms<N: Named, R: Wait + Clock>(rt: &R, cluster: &Cluster<'_, N, SimDisk>) -
 const CROWD: usize = 8;
 
 // The seats of eight hosts that work, with a thread that does harm to the disks.
-fn seats_that_work<N: Named + Send + Sync, R: Threads + Wait + Clock + Sync>(
+fn seats_that_work<N: ClusterName + Send + Sync, R: Threads + Wait + Clock + Sync>(
     rt: &R,
     alloc: Global,
     cluster: &Cluster<'_, N, SimDisk>,
@@ -885,7 +890,7 @@ fn seats_that_work<N: Named + Send + Sync, R: Threads + Wait + Clock + Sync>(
 }
 
 // The seats that there are.
-fn seats_among<N: Named>(
+fn seats_among<N: ClusterName>(
     alloc: Global,
     left: Vec<Option<HostSeat<N>>>,
 ) -> Option<Vec<HostSeat<N>>> {
@@ -899,7 +904,7 @@ fn seats_among<N: Named>(
 }
 
 // How many receipts the seats have.
-fn acks_of<N: Named>(seats: &[HostSeat<N>]) -> usize {
+fn acks_of<N: ClusterName>(seats: &[HostSeat<N>]) -> usize {
     let mut acks: usize = 0;
     for seat in seats {
         acks = seat.acks().len().saturating_add(acks);
@@ -919,7 +924,7 @@ fn harm_in(entries: &[Entry]) -> usize {
 }
 
 // What eight hosts come to, over the cluster.
-fn crowd_in<N: Named + Send + Sync, R: Threads + Wait + Clock + Sync>(
+fn crowd_in<N: ClusterName + Send + Sync, R: Threads + Wait + Clock + Sync>(
     rt: &R,
     alloc: Global,
     config: Config,
@@ -938,7 +943,7 @@ fn crowd_in<N: Named + Send + Sync, R: Threads + Wait + Clock + Sync>(
 }
 
 // Eight hosts over five disks, with a thread that does harm to the disks.
-fn crowded<N: Named + Send + Sync, R: Threads + Wait + Clock + Sync>(
+fn crowded<N: ClusterName + Send + Sync, R: Threads + Wait + Clock + Sync>(
     rt: &R,
     alloc: Global,
     opening: Opening,

@@ -1,31 +1,31 @@
 ghost use Rattle.std.specs.Prelude.{◌≤◌, length};
 
 use crate::call::{Call, Kind, Phase};
-use crate::failure::Failure;
 use crate::moment::{Happened, Moment, Turn};
+use crate::picture_failure::PictureFailure;
 use crate::watch::Watch;
 use host::HostCore;
 use phases::DeviceCall;
-use simulator::{Parts, Script};
+use simulator::{Script, SimulatedCluster};
 use std::alloc::{AllocError, Global};
 
 /// Lets a script's events happen, and gives those that changed something.
-pub fn moments_of(alloc: Global, script: &Script) -> Result<Vec<Moment>, Failure>
+pub fn moments_of(alloc: Global, script: &Script) -> Result<Vec<Moment>, PictureFailure>
     requires { length script.now.log.items ≤ script.now.config.slots }
 {
     let events = script.events.to_vec(alloc)?;
-    let mut parts = Parts::migrated(alloc, script.config, &script.log)?;
+    let mut cluster = SimulatedCluster::migrated(alloc, script.config, &script.log)?;
     let mut watch = Watch::new(alloc, script.config.disks())?;
     let mut moments = Vec::new(alloc);
     for (place, event) in events.iter().enumerate() {
-        let Some(happened) = watch.look(&parts, event) else {
+        let Some(happened) = watch.look(&cluster, event) else {
             continue;
         };
-        let before = learned(&parts, &happened);
-        let said = parts.event(alloc, event)?;
+        let before = learned(&cluster, &happened);
+        let said = cluster.event(alloc, event)?;
         let turn = match said {
             Some(said) => Some(Turn::Said(said.answer)),
-            None => turn_of(&parts, &happened, before),
+            None => turn_of(&cluster, &happened, before),
         };
         let moment = Moment {
             place,
@@ -38,23 +38,23 @@ pub fn moments_of(alloc: Global, script: &Script) -> Result<Vec<Moment>, Failure
 }
 
 /// How many commands the host has learned to which this happens.
-fn learned(parts: &Parts, happened: &Happened) -> usize {
-    match host_of(parts, happened) {
+fn learned(cluster: &SimulatedCluster, happened: &Happened) -> usize {
+    match host_of(cluster, happened) {
         Some(core) => core.prefix().len(),
         None => 0,
     }
 }
 
-fn host_of<'a>(parts: &'a Parts, happened: &Happened) -> Option<&'a HostCore> {
-    parts.host(happened.host()?.get())
+fn host_of<'a>(cluster: &'a SimulatedCluster, happened: &Happened) -> Option<&'a HostCore> {
+    cluster.host(happened.host()?.get())
 }
 
 /// What a host comes to that says nothing, and had learned so many commands.
-fn turn_of(parts: &Parts, happened: &Happened, before: usize) -> Option<Turn> {
+fn turn_of(cluster: &SimulatedCluster, happened: &Happened, before: usize) -> Option<Turn> {
     let Happened::Called { call, .. } = happened else {
         return None;
     };
-    let core = host_of(parts, happened)?;
+    let core = host_of(cluster, happened)?;
     if core.prefix().len() > before {
         return Some(Turn::Learned(before));
     }

@@ -3,16 +3,16 @@
 
 mod call;
 mod drawing;
-mod failure;
 mod history;
 mod layout;
 mod moment;
-mod task;
+mod operation_kind;
+mod picture_failure;
 mod watch;
 
 use drawing::draw;
-use failure::Failure;
 use history::moments_of;
+use picture_failure::PictureFailure;
 use simulator::read_script;
 use std::io::{BufWriter, Write};
 use std::process::ExitCode;
@@ -29,11 +29,11 @@ fn main(rt: HostRuntime) -> ExitCode {
 }
 
 /// Draws each script that the program's words name, one picture after the other.
-fn draw_scripts(rt: &HostRuntime) -> Result<(), Failure> {
+fn draw_scripts(rt: &HostRuntime) -> Result<(), PictureFailure> {
     let alloc = rt.alloc();
     let paths: Vec<String> = env::args(rt)?.skip(1).collect(alloc)?;
     if paths.is_empty() {
-        return Err(Failure::Usage);
+        return Err(PictureFailure::Usage);
     }
     let mut out = BufWriter::new(alloc, rt.stdout())?;
     for path in paths.iter() {

@@ -1,5 +1,5 @@
 use crate::call::{Call, Ending};
-use crate::task::Task;
+use crate::operation_kind::OperationKind;
 use host::HostAnswer;
 use lock_command::HostNumber;
 
@@ -16,9 +16,15 @@ pub enum Happened {
     Started(HostNumber),
     Stopped(HostNumber),
     /// An operation began.
-    Began { host: HostNumber, task: Task },
+    Began {
+        host: HostNumber,
+        task: OperationKind,
+    },
     /// A device call was made.
-    Called { host: HostNumber, call: Call },
+    Called {
+        host: HostNumber,
+        call: Call,
+    },
     Crashed(u8),
     Lost(u8),
 }

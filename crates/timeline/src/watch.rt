@@ -1,8 +1,8 @@
 use crate::call::{Call, Ending, Kind, Phase};
 use crate::moment::Happened;
-use crate::task::Task;
+use crate::operation_kind::OperationKind;
 use lock_command::{HOSTS, HostNumber};
-use simulator::{Event, Parts};
+use simulator::{Event, SimulatedCluster};
 use std::alloc::{AllocError, Global};
 use torn_block::DISKS;
 
@@ -28,7 +28,7 @@ pub struct Watch {
     visits: Vec<Visit>,
     devices: Vec<Device>,
     /// Of each host, what its last operation was begun for.
-    tasks: [Option<Task>; HOSTS],
+    tasks: [Option<OperationKind>; HOSTS],
 }
 
 impl Watch {
@@ -60,36 +60,41 @@ impl Watch {
     }
 
     /// What an event will do to a cluster, if it applies.
-    pub fn look(&mut self, parts: &Parts, event: &Event) -> Option<Happened> {
+    pub fn look(&mut self, cluster: &SimulatedCluster, event: &Event) -> Option<Happened> {
         match event {
-            Event::Start(host) => match parts.host(host.get()) {
+            Event::Start(host) => match cluster.host(host.get()) {
                 None => Some(Happened::Started(*host)),
                 Some(_) => None,
             },
             Event::Stop(host) => {
-                parts.host(host.get())?;
+                cluster.host(host.get())?;
                 Some(Happened::Stopped(*host))
             }
             Event::Submit { command, .. } => self.began(
-                parts,
+                cluster,
                 command.host,
-                Task::of(&command.action),
+                OperationKind::of(&command.action),
             ),
-            Event::Recover { host, .. } => self.began(parts, *host, Task::Recover),
-            Event::Look(host) => self.began(parts, *host, Task::Look),
-            Event::Beat(host) => self.began(parts, *host, Task::Beat),
-            Event::Mark { host, .. } => self.began(parts, *host, Task::Mark),
-            Event::Step(host) => self.called(parts, *host, Ending::Done),
-            Event::Tear { host, .. } => self.called(parts, *host, Ending::Torn),
-            Event::FailCall { host, .. } => self.called(parts, *host, Ending::Failed),
+            Event::Recover { host, .. } => self.began(cluster, *host, OperationKind::Recover),
+            Event::Look(host) => self.began(cluster, *host, OperationKind::Look),
+            Event::Beat(host) => self.began(cluster, *host, OperationKind::Beat),
+            Event::Mark { host, .. } => self.began(cluster, *host, OperationKind::Mark),
+            Event::Step(host) => self.called(cluster, *host, Ending::Done),
+            Event::Tear { host, .. } => self.called(cluster, *host, Ending::Torn),
+            Event::FailCall { host, .. } => self.called(cluster, *host, Ending::Failed),
             Event::DiskCrash { disk, .. } => self.crashed(*disk),
             Event::DiskGone(disk) => self.lost(*disk),
         }
     }
 
     /// The operation that an idle host begins.
-    fn began(&mut self, parts: &Parts, host: HostNumber, task: Task) -> Option<Happened> {
-        if !parts.host(host.get())?.idle() {
+    fn began(
+        &mut self,
+        cluster: &SimulatedCluster,
+        host: HostNumber,
+        task: OperationKind,
+    ) -> Option<Happened> {
+        if !cluster.host(host.get())?.idle() {
             return None;
         }
         self.tasks[usize::from(host.get())] = Some(task);
@@ -97,8 +102,13 @@ impl Watch {
     }
 
     /// The next call of a host, which is to end so, unless its disk refuses it.
-    fn called(&mut self, parts: &Parts, host: HostNumber, ending: Ending) -> Option<Happened> {
-        let core = parts.host(host.get())?;
+    fn called(
+        &mut self,
+        cluster: &SimulatedCluster,
+        host: HostNumber,
+        ending: Ending,
+    ) -> Option<Happened> {
+        let core = cluster.host(host.get())?;
         if core.idle() {
             return None;
         }
@@ -116,9 +126,9 @@ impl Watch {
         let number = self.number(host, disk, kind);
         let task = self.tasks[usize::from(host.get())];
         let phase = match task {
-            Some(Task::Beat) => Phase::Beat,
-            Some(Task::Mark) => Phase::Mark,
-            Some(Task::Look) => Phase::Look,
+            Some(OperationKind::Beat) => Phase::Beat,
+            Some(OperationKind::Mark) => Phase::Mark,
+            Some(OperationKind::Look) => Phase::Look,
             _ => Phase::of(number),
         };
         let call = Call {

@@ -10,15 +10,15 @@ use Rattle.phases.specs.Notes.{Notes}
 use Rattle.phases.specs.Kept as attempts
 use Rattle.slot_log.specs.Shape.{Shape}
 use Rattle.slot_log.specs.layouts.Learning.{Doing, Memory, Operation, operation_as, setup_of}
-use Rattle.slot_log.specs.declared.operation.Task as code_task
-use Rattle.slot_log.specs.declared.outcome.Outcome.{Outcome}
+use Rattle.slot_log.specs.declared.operation.LogTask as code_task
+use Rattle.slot_log.specs.declared.outcome.LogOutcome.{LogOutcome}
 
 -- an operation under way, with the bytes of its value
-abbrev pub Task : Type 0
-Task = code_task.Task (List ℕ)
+abbrev pub LogTask : Type 0
+LogTask = code_task.LogTask (List ℕ)
 
 -- the same of one whose values have their bytes by a layout
-abbrev pub task_as : {V : Type 0} → (V → List ℕ) → code_task.Task V → Task
+abbrev pub task_as : {V : Type 0} → (V → List ℕ) → code_task.LogTask V → LogTask
 task_as spelled task = record { operation = operation_as spelled task.operation; tries = task.tries }
 
 -- its number and its log; what it has learned, its floor on the next slot, the operation under way with its attempt, and
@@ -28,18 +28,18 @@ pub record Kept : Type 0 where
   pub shape : Shape
   pub learned : List (List ℕ)
   pub floor : ℕ
-  pub task : Option Task
+  pub task : Option LogTask
   pub attempt : Notes
-  pub said : Option Outcome
+  pub said : Option LogOutcome
 
 -- what a learner's fields are, with values by a layout
-abbrev pub kept_of : {V : Type 0} → (V → List ℕ) → ℕ → Shape → List V → ℕ → Option (code_task.Task V) → Notes → Option Outcome → Kept
+abbrev pub kept_of : {V : Type 0} → (V → List ℕ) → ℕ → Shape → List V → ℕ → Option (code_task.LogTask V) → Notes → Option LogOutcome → Kept
 kept_of spelled host shape learned floor task attempt said =
     record { host = host; shape = shape; learned = map spelled learned; floor = floor; task = option_map (task_as spelled) task; attempt = attempt; said = said }
 
 -- WHAT IS DUE
 
-abbrev pub is_idle_with : Option Task → Bool
+abbrev pub is_idle_with : Option LogTask → Bool
 is_idle_with None = true
 is_idle_with (Some task) = false
 
@@ -52,7 +52,7 @@ chosen_in (Some (end.Committed value)) = Some value
 chosen_in (Some (end.Decided value)) = Some value
 chosen_in other = None
 
-abbrev pub offered_with : Option Task → Option Ending → Option (List ℕ)
+abbrev pub offered_with : Option LogTask → Option Ending → Option (List ℕ)
 offered_with None e = None
 offered_with (Some task) e = chosen_in e
 
@@ -74,14 +74,14 @@ GoesOn (Some (end.Decided value)) = Unit {0}
 GoesOn (Some other) = ⊥
 
 -- the operation's attempt is on the next slot
-pub record IsTrying (k : Kept) (task : Task) : Type 0 where
+pub record IsTrying (k : Kept) (task : LogTask) : Type 0 where
   pub tries : 1 ≤ task.tries
   pub slot : length k.learned < k.shape.slots
   pub is_slot : k.attempt.of.slot ≡ length k.learned
   pub as_many : k.attempt.of.disks ≡ k.shape.disks
   pub goes_on : GoesOn k.attempt.end
 
-abbrev pub IsUnderWay : Kept → Option Task → Type 0
+abbrev pub IsUnderWay : Kept → Option LogTask → Type 0
 IsUnderWay k None = Unit {0}
 IsUnderWay k (Some task) = IsTrying k task
 
@@ -102,12 +102,12 @@ pub record IsSameLog (old new : Kept) : Type 0 where
 -- WHAT FOLLOWS
 
 -- the same operation, whose attempt has heard this
-pub record IsDoing (v : Version) (c : Shape) (h : ℕ) (m : Memory) (t : Doing) (task : Task) (attempt : Notes) : Type 0 where
+pub record IsDoing (v : Version) (c : Shape) (h : ℕ) (m : Memory) (t : Doing) (task : LogTask) (attempt : Notes) : Type 0 where
   pub operation : t.operation ≡ task.operation
   pub tries : t.tries ≡ task.tries
   pub heard : attempts.LeadsTo (setup_of v c h m t.operation) t.heard attempt
 
-abbrev pub AreDoing : Version → Shape → ℕ → Memory → Option Doing → Option Task → Notes → Type 0
+abbrev pub AreDoing : Version → Shape → ℕ → Memory → Option Doing → Option LogTask → Notes → Type 0
 AreDoing v c h m None None attempt = Unit {0}
 AreDoing v c h m (Some t) (Some task) attempt = IsDoing v c h m t task attempt
 AreDoing v c h m t task attempt = ⊥
@@ -124,7 +124,7 @@ pub record LeadsTo (v : Version) (c : Shape) (h : ℕ) (m : Memory) (k : Kept) :
 -- BETWEEN AN ANSWER AND THE NEXT CALL
 
 -- an operation is this task
-pub record IsOf (t : Doing) (task : Task) : Type 0 where
+pub record IsOf (t : Doing) (task : LogTask) : Type 0 where
   pub operation : t.operation ≡ task.operation
   pub tries : t.tries ≡ task.tries
 

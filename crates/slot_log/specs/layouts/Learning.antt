@@ -11,8 +11,8 @@ use Rattle.slot_log.specs.Shape.{Shape}
 use Rattle.torn_block.specs.Layout.{Version}
 use Rattle.slot_log.specs.declared.operation.Operation as code_operation
 use Rattle.slot_log.specs.declared.operation.Operation.TheVariants.{Placing, Recovering, Looking}
-use Rattle.slot_log.specs.declared.outcome.Outcome.{Outcome}
-use Rattle.slot_log.specs.declared.outcome.Outcome.TheVariants.{Placed, Recovered, Looked, Refused}
+use Rattle.slot_log.specs.declared.outcome.LogOutcome.{LogOutcome}
+use Rattle.slot_log.specs.declared.outcome.LogOutcome.TheVariants.{Placed, Recovered, Looked, Refused}
 use Rattle.slot_log.specs.declared.outcome.Refusal.TheVariants as refusal
 
 -- what a learner is asked to do, with the bytes of a value
@@ -38,13 +38,13 @@ pub record Memory : Type 0 where
   pub learned : List (List ℕ)
   pub floor : ℕ
   pub doing : Option Doing
-  pub said : Option Outcome
+  pub said : Option LogOutcome
 
 -- at its start a learner knows nothing
 abbrev pub fresh : Memory
 fresh = record { learned = []; floor = 0; doing = None; said = None }
 
-abbrev pub says : Memory → Outcome → Memory
+abbrev pub says : Memory → LogOutcome → Memory
 says m said = record { learned = m.learned; floor = m.floor; doing = None; said = Some said }
 
 abbrev pub does : Memory → Doing → Memory
@@ -80,13 +80,13 @@ abbrev pub begins : Memory → Operation → ℕ → Memory
 begins m operation tries = does m (record { operation = operation; tries = tries; heard = [] })
 
 -- how an operation ends once all slots are learned
-abbrev pub full_outcome : Operation → ℕ → Outcome
+abbrev pub full_outcome : Operation → ℕ → LogOutcome
 full_outcome (Placing value) learned = Refused refusal.LogFull
 full_outcome Recovering learned = Recovered learned
 full_outcome Looking learned = Looked learned
 
 -- and once an attempt has no ballot: a look has seen that no mark tells the next slot
-abbrev pub spent_outcome : Operation → ℕ → Outcome
+abbrev pub spent_outcome : Operation → ℕ → LogOutcome
 spent_outcome (Placing value) learned = Refused refusal.BallotsSpent
 spent_outcome Recovering learned = Refused refusal.BallotsSpent
 spent_outcome Looking learned = Looked learned

@@ -11,7 +11,7 @@ new-requires g c =
     let i = c.loop-k.invariant in
     let p = c.in-Some.ensures in
     let q = c.in-Some-pop.ensures in
-    let shape = g.N.Named.shape in
+    let shape = g.N.ClusterName.shape in
     record {
       tie = fresh_last _ _ c.loop-k.marks.items c.pop-in-loop-k.new.self.items c.in-Some-pop.mark q.items (omega (arith, i.left, i.marks, p.cases, c.len-number.ensures)) i.dealt;
       number = omega (arith, i.left, p.cases, c.len-number.ensures, c.requires.as_many);
@@ -26,7 +26,7 @@ loop-k-preserved g c =
     let p = c.in-Some.ensures in
     let q = c.in-Some-pop.ensures in
     let r = c.push_reserved.ensures in
-    let shape = g.N.Named.shape in
+    let shape = g.N.ClusterName.shape in
     record {
       left = omega (arith, i.left, p.cases);
       marks = omega (arith, i.marks, q.cases);

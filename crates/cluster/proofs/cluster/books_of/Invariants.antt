@@ -14,6 +14,6 @@ invariant-loop-k g l = record {
   room : vec_len l.books + vec_len l.disks ≤ vec_capacity l.books;
   dealt : AreFresh (vec_len l.marks) l.marks.items;
   tell : All (λ d. IsTrue (g.D.Disk.device d).tells) l.disks.items;
-  large : All (λ d. image_length g.N.Named.shape.slots ≤ (g.D.Disk.device d).size) l.disks.items;
-  fresh : All (λ d. image_on g.N.Named.shape (g.D.Disk.state d) ≡ opening_disk g.N.Named.shape) l.disks.items;
+  large : All (λ d. image_length g.N.ClusterName.shape.slots ≤ (g.D.Disk.device d).size) l.disks.items;
+  fresh : All (λ d. image_on g.N.ClusterName.shape (g.D.Disk.state d) ≡ opening_disk g.N.ClusterName.shape) l.disks.items;
 }

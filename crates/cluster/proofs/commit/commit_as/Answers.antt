@@ -23,18 +23,18 @@ use Rattle.cluster.proofs.commit.commit_as.Goals as goal
 
 module _ (g : _) (c : goal.After-book-1 g) where
   abbrev shape : Shape
-  shape = g.N.Named.shape
+  shape = g.N.ClusterName.shape
 
   abbrev own : Own
   own = c.seat.inside.tie
 
   abbrev book : BookState g.row.D.Denot
-  book = record { own = c.book.inside.tie; medium = c.book.inside.disk; device = g.D.Disk.device c.book.inside.disk; disk = image_on g.N.Named.shape (g.D.Disk.state c.book.inside.disk); open_call = c.book.inside.open_call; row = c.book.inside.row }
+  book = record { own = c.book.inside.tie; medium = c.book.inside.disk; device = g.D.Disk.device c.book.inside.disk; disk = image_on g.N.ClusterName.shape (g.D.Disk.state c.book.inside.disk); open_call = c.book.inside.open_call; row = c.book.inside.row }
 
   abbrev log : List Filled
   log = c.journal.inside.tie
 
-  is : g.E.Told.entry ≡ called_by shape own book c.args.touched.outcome
+  is : g.E.TiedEntry.entry ≡ called_by shape own book c.args.touched.outcome
   is = c.requires.told ∙ (λ i. called_by shape (sym c.seat.view_is i) (sym c.book.view_is i) c.args.touched.outcome)
 
   made : Makes shape own book.own.number (answer_in c.args.touched.outcome book.row) (disk_in shape book.own) book.disk

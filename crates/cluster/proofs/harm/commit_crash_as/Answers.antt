@@ -17,14 +17,14 @@ use Rattle.cluster.proofs.harm.commit_crash_as.Goals as goal
 
 pub spend-requires : goal.spend-requires
 spend-requires g c =
-    let shape = g.N.Named.shape in
+    let shape = g.N.ClusterName.shape in
     let b = c.book.invariant in
     let own = c.book.inside.tie in
     let disk = image_on shape c.book.inside.disk.disk in
     let given = c.args.given.now in
     let after = filled given 0 disk.unsynced disk.bytes in
     let log = c.args.journal.now.log in
-    let is : g.E.Told.entry ≡ Crashed own.number after = c.requires.told ∙ ap (λ (b : BookState _). Crashed b.own.number (filled given 0 b.disk.unsynced b.disk.bytes)) (sym c.book.view_is) in
+    let is : g.E.TiedEntry.entry ≡ Crashed own.number after = c.requires.told ∙ ap (λ (b : BookState _). Crashed b.own.number (filled given 0 b.disk.unsynced b.disk.bytes)) (sym c.book.view_is) in
     let left = as_left shape _ b.so (ap (λ (b : BookState _). b.open_call) c.book.view_is ∙ c.requires.closed) in
     let there = ap (λ (d : DiskState). d.gone) (sym left) ∙ ap (λ (b : BookState _). b.disk.gone) c.book.view_is ∙ c.requires.there in
     let low = subst (λ (d : DiskState). d.boot < 2 ^ 62) (ap (λ (b : BookState _). b.disk) (sym c.book.view_is) ∙ left) c.requires.boot in
@@ -35,12 +35,12 @@ spend-requires g c =
       may = λ part. subst (MayFollow shape (world shape log)) (sym is) (crashes shape log own after b.so.number there low step part);
     }
 
-image : (g : _) (c : goal.After-crash g) → image_on g.N.Named.shape c.crash.new.disk.disk ≡ crashed (image_on g.N.Named.shape c.book.inside.disk.disk) c.args.given.now
-image g c = ap (λ (s : SimState). image_on g.N.Named.shape s.disk) c.crash.ensures.exact ∙ cut_crashes (image_length g.N.Named.shape.slots) c.book.inside.disk.disk c.args.given.now c.book.invariant.whole
+image : (g : _) (c : goal.After-crash g) → image_on g.N.ClusterName.shape c.crash.new.disk.disk ≡ crashed (image_on g.N.ClusterName.shape c.book.inside.disk.disk) c.args.given.now
+image g c = ap (λ (s : SimState). image_on g.N.ClusterName.shape s.disk) c.crash.ensures.exact ∙ cut_crashes (image_length g.N.ClusterName.shape.slots) c.book.inside.disk.disk c.args.given.now c.book.invariant.whole
 
 pub invariant_of-book : goal.invariant_of-book
 invariant_of-book g c =
-    let shape = g.N.Named.shape in
+    let shape = g.N.ClusterName.shape in
     let b = c.book.invariant in
     let disk = image_on shape c.book.inside.disk.disk in
     let given = c.args.given.now in
@@ -49,7 +49,7 @@ invariant_of-book g c =
     record {
       number = ap (λ (o : Own). o.number) c.spend.ensures.disk ∙ b.number;
       whole = subst (λ (s : SimState). HasFirst (image_length shape.slots) s.disk) (sym c.crash.ensures.exact) (first_stay_crashed (image_length shape.slots) c.book.inside.disk.disk given b.whole);
-      so = befell shape _ b.so closed _ (length c.args.journal.now.log) g.E.Told.entry c.spend.ensures.disk closed b.so.tells (omega (arith, b.so.size, c.crash.ensures.size))
+      so = befell shape _ b.so closed _ (length c.args.journal.now.log) g.E.TiedEntry.entry c.spend.ensures.disk closed b.so.tells (omega (arith, b.so.size, c.crash.ensures.size))
           (image g c ∙ ap (disk_step disk) (sym is));
     }
 

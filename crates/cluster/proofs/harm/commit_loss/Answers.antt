@@ -13,7 +13,7 @@ use Rattle.cluster.proofs.harm.commit_loss.Goals as goal
 
 pub spend-requires : goal.spend-requires
 spend-requires g c =
-    let shape = g.N.Named.shape in
+    let shape = g.N.ClusterName.shape in
     let b = c.book.invariant in
     let left = as_left shape _ b.so (ap (λ (b : BookState _). b.open_call) c.book.view_is ∙ c.requires.closed) in
     let there = ap (λ (d : DiskState). d.gone) (sym left) ∙ ap (λ (b : BookState _). b.disk.gone) c.book.view_is ∙ c.requires.there in
@@ -25,7 +25,7 @@ spend-requires g c =
 
 pub invariant_of-book : goal.invariant_of-book
 invariant_of-book g c =
-    let shape = g.N.Named.shape in
+    let shape = g.N.ClusterName.shape in
     let b = c.book.invariant in
     let own = c.book.inside.tie in
     let closed = ap (λ (b : BookState _). b.open_call) c.book.view_is ∙ c.requires.closed in

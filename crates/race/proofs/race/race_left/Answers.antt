@@ -7,5 +7,5 @@ use Rattle.race.proofs.race.race_left.Goals as goal
 
 pub returns-clause-race : goal.returns-clause-race
 returns-clause-race g c =
-    race_is g.N.Named.shape c.requires.shape c.args.left.entries.items c.args.left.seats.items c.args.answers.items c.all_agree-agree.result c.requires.left c.requires.hosts c.requires.told
-    (subst (λ (l : List Own). IsTrue c.all_agree-agree.result ↔ AllAgree g.N.Named.shape l) c.as_slice.ensures.value c.all_agree-agree.ensures)
+    race_is g.N.ClusterName.shape c.requires.shape c.args.left.entries.items c.args.left.seats.items c.args.answers.items c.all_agree-agree.result c.requires.left c.requires.hosts c.requires.told
+    (subst (λ (l : List Own). IsTrue c.all_agree-agree.result ↔ AllAgree g.N.ClusterName.shape l) c.as_slice.ensures.value c.all_agree-agree.ensures)

@@ -16,9 +16,9 @@ returns-clause-hosts g c =
 pub returns-clause-told : goal.returns-clause-told
 returns-clause-told g c =
     let answers = c.in_ok-answers.answers.items in
-    subst (λ (l : List Own). AreTold g.N.Named.shape l answers) (sym c.in_ok-seats.ensures)
+    subst (λ (l : List Own). AreTold g.N.ClusterName.shape l answers) (sym c.in_ok-seats.ensures)
     (λ i own e few.
-    each_mapped (λ x. x.seat) (λ (n : ℕ) (o : Own). (a : Answer) → IsTold g.N.Named.shape o (get_or answers n a)) c.in_ok-racers.racers.items
+    each_mapped (λ x. x.seat) (λ (n : ℕ) (o : Own). (a : Answer) → IsTold g.N.ClusterName.shape o (get_or answers n a)) c.in_ok-racers.racers.items
     (λ n d less a.
-    subst (λ (l : List _). (k : ℕ) (x : _) (b : Answer) → k < length l → IsTold g.N.Named.shape (get_or l k x).seat (get_or answers k b)) c.as_slice.ensures.value c.in_ok-answers.ensures.told n d a less)
+    subst (λ (l : List _). (k : ℕ) (x : _) (b : Answer) → k < length l → IsTold g.N.ClusterName.shape (get_or l k x).seat (get_or answers k b)) c.as_slice.ensures.value c.in_ok-answers.ensures.told n d a less)
     i own few e)

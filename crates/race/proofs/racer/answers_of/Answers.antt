@@ -9,6 +9,6 @@ loop-racer-preserved g c = record {
   len = omega arith;
   room = omega arith;
   told =
-      subst (λ (l : List Answer). (i : ℕ) (d : _) (e : Answer) → i < c.loop-racer.racer-index + 1 → IsTold g.N.Named.shape (slice_index_or c.args.racers.now i d).seat (slice_index_or l i e)) (sym c.push_reserved.ensures.items)
-      (told_more g.N.Named.shape (λ x. x.seat) (λ x. x.answer) c.args.racers.now c.loop-racer.answers.items c.loop-racer.racer-index c.racer-item.result c.answer_of.result c.requires (omega arith) (omega arith) c.racer-item.is c.answer_of.ensures.given c.loop-racer.invariant.told);
+      subst (λ (l : List Answer). (i : ℕ) (d : _) (e : Answer) → i < c.loop-racer.racer-index + 1 → IsTold g.N.ClusterName.shape (slice_index_or c.args.racers.now i d).seat (slice_index_or l i e)) (sym c.push_reserved.ensures.items)
+      (told_more g.N.ClusterName.shape (λ x. x.seat) (λ x. x.answer) c.args.racers.now c.loop-racer.answers.items c.loop-racer.racer-index c.racer-item.result c.answer_of.result c.requires (omega arith) (omega arith) c.racer-item.is c.answer_of.ensures.given c.loop-racer.invariant.told);
 }

@@ -7,7 +7,7 @@ use Rattle.race.proofs.racer.beat_for_lead.Given as goal
 
 abbrev pub invariant-loop : goal.invariant-loop
 invariant-loop g l = record {
-  idle : idles (host_in g.N.Named.shape l.seat) ≡ true;
+  idle : idles (host_in g.N.ClusterName.shape l.seat) ≡ true;
   host : l.seat.number ≡ l.initial.seat.number;
   beaten : 0 < l.counter → HasBeaten l.seat.number (entries l.seat.entries);
 }

@@ -20,6 +20,6 @@ loop-number-preserved g c =
           subst AreByHost (sym c.push_reserved.ensures.items)
           (each_push (λ (i : ℕ) (own : Own). own.number ≡ i) items c.in_ok-seat.field-0 c.loop-number.invariant.hosts (ap (λ (own : Own). own.number) is.is ∙ host ∙ sym long));
       idle =
-          subst (All (λ (own : Own). idles (host_in g.N.Named.shape own) ≡ true)) (sym c.push_reserved.ensures.items)
-          (each_push (λ (i : ℕ) (own : Own). idles (host_in g.N.Named.shape own) ≡ true) items c.in_ok-seat.field-0 c.loop-number.invariant.idle (subst (λ (own : Own). idles (host_in g.N.Named.shape own) ≡ true) (sym is.is) refl));
+          subst (All (λ (own : Own). idles (host_in g.N.ClusterName.shape own) ≡ true)) (sym c.push_reserved.ensures.items)
+          (each_push (λ (i : ℕ) (own : Own). idles (host_in g.N.ClusterName.shape own) ≡ true) items c.in_ok-seat.field-0 c.loop-number.invariant.idle (subst (λ (own : Own). idles (host_in g.N.ClusterName.shape own) ≡ true) (sym is.is) refl));
     }

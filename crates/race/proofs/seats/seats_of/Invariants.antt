@@ -10,5 +10,5 @@ invariant-loop-number g l = record {
   len : vec_len l.seats ≡ l.number;
   room : l.hosts ≤ vec_capacity l.seats;
   hosts : AreByHost l.seats.items;
-  idle : All (λ seat. idles (host_in g.N.Named.shape seat) ≡ true) l.seats.items;
+  idle : All (λ seat. idles (host_in g.N.ClusterName.shape seat) ≡ true) l.seats.items;
 }

@@ -15,7 +15,7 @@ loop-place-preserved c =
     let o : Opening = record { shape = c.args.script.now.config; moved = c.args.script.now.log.items } in
     let events : List code.Event = c.in_ok-events.events.items in
     let event = c.index-event.result.now in
-    let old = c.loop-place.parts in
+    let old = c.loop-place.cluster in
     let put : List code.Event = c.in_ok-changes.changes.items in
     one_swept o events c.loop-place.place event old c.event.new.self put c.loop-place.sweep c.sweep_place.new.sweep c.in_ok-event.field-0
     (omega (arith, c.loop-place-test.true, c.len-place-end.ensures)) c.index-event.ensures c.loop-place.invariant c.in_ok-changes.ensures.changes c.in_ok-changes.ensures.few

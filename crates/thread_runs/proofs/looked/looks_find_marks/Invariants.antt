@@ -1,7 +1,7 @@
 use Rattle.thread_runs.proofs.looked.looks_find_marks.Given as goal
 
-abbrev pub ghosts-looks_for_marks-N-Named : goal.ghosts-looks_for_marks-N-Named
-ghosts-looks_for_marks-N-Named g a = record { shape = a.opening.shape; all = a.opening.parts }
+abbrev pub ghosts-looks_for_marks-N-ClusterName : goal.ghosts-looks_for_marks-N-ClusterName
+ghosts-looks_for_marks-N-ClusterName g a = record { shape = a.opening.shape; all = a.opening.parts }
 
 abbrev pub ghosts-looks_for_marks-N-Naming : goal.ghosts-looks_for_marks-N-Naming
 ghosts-looks_for_marks-N-Naming g a = record { table = a.opening.table }

@@ -1,7 +1,7 @@
 use Rattle.thread_runs.proofs.tests.gate_one_host.Given as goal
 
-abbrev pub ghosts-one_host_held-N-Named : goal.ghosts-one_host_held-N-Named
-ghosts-one_host_held-N-Named g a = record { shape = a.opening.shape; all = a.opening.parts }
+abbrev pub ghosts-one_host_held-N-ClusterName : goal.ghosts-one_host_held-N-ClusterName
+ghosts-one_host_held-N-ClusterName g a = record { shape = a.opening.shape; all = a.opening.parts }
 
 abbrev pub ghosts-one_host_held-N-Naming : goal.ghosts-one_host_held-N-Naming
 ghosts-one_host_held-N-Naming g a = record { table = a.opening.table }

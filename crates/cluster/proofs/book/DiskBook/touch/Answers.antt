@@ -6,14 +6,14 @@ use Rattle.slot_log.specs.Shape.{Shape}
 use Rattle.cluster_tie.specs.Parts.{Own}
 use Rattle.cluster.specs.Book.{BookState, answer_in, disk_in, image_on, Makes, IsFollowedBy}
 use Rattle.cluster.specs.Seat.{due_in}
-use Rattle.cluster.specs.declared.touched.Outcome.{Outcome}
+use Rattle.cluster.specs.declared.touched.CallOutcome.{CallOutcome}
 use Rattle.cluster.proofs.Imaged.{makes, stays}
 use Rattle.cluster.proofs.book.DiskBook.touch.Goals as goal
 use Rattle.cluster.proofs.book.DiskBook.touch.Goals.{After-self-1}
 
 module _ (g : _) (c : After-self-1 g) where
   abbrev shape : Shape
-  shape = g.N.Named.shape
+  shape = g.N.ClusterName.shape
 
   abbrev seat : Own
   seat = c.args.seat.now
@@ -34,7 +34,7 @@ module _ (g : _) (c : After-self-1 g) where
   closed = ap (λ (b : BookState _). b.open_call) c.self.view_is ∙ c.requires.closed
 
   left : image_on shape old ≡ disk_in shape own
-  left = subst (λ (o : Option Outcome). IsFollowedBy o c.self.inside.row (disk_in shape own) (image_on shape old)) closed c.self.invariant.so.disk
+  left = subst (λ (o : Option CallOutcome). IsFollowedBy o c.self.inside.row (disk_in shape own) (image_on shape old)) closed c.self.invariant.so.disk
 
   number : (due_in shape seat).0 ≡ own.number
   number = c.requires.disk ∙ ap (λ (b : BookState _). b.own.number) (sym c.self.view_is)

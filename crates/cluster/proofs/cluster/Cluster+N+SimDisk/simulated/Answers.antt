@@ -13,7 +13,7 @@ use Rattle.cluster.proofs.cluster.Cluster+N+SimDisk.simulated.Goals as goal
 pub new-requires-clause-large : goal.new-requires-clause-large
 unfolding fresh_disk
 new-requires-clause-large g c =
-    let shape = g.N.Named.shape in
+    let shape = g.N.ClusterName.shape in
     let config = c.args.foundation.config in
     let x : SimState = record { disk = fresh_disk (image_length config.slots); failing = None; failures = 0 } in
     let large : image_length shape.slots ≤ length x.disk.bytes = omega (arith, length-replicate {A = ℕ} (image_length config.slots) 0, ap (λ (s : Shape). image_length s.slots) c.args.foundation.config_is) in
@@ -22,7 +22,7 @@ new-requires-clause-large g c =
 
 pub new-requires-clause-fresh : goal.new-requires-clause-fresh
 new-requires-clause-fresh g c =
-    let shape = g.N.Named.shape in
+    let shape = g.N.ClusterName.shape in
     let config = c.args.foundation.config in
     let x : SimState = record { disk = fresh_disk (image_length config.slots); failing = None; failures = 0 } in
     let large : image_length shape.slots ≤ image_length config.slots = omega (arith, ap (λ (s : Shape). image_length s.slots) c.args.foundation.config_is) in

@@ -9,14 +9,14 @@ use Rattle.cluster.proofs.journal.Journal.begin.Goals as goal
 
 pub invariant_of-self-2 : goal.invariant_of-self-2
 invariant_of-self-2 g c =
-    let shape = g.N.Named.shape in
+    let shape = g.N.ClusterName.shape in
     let j = c.self.invariant in
     let p = c.push_reserved.ensures in
     let a = c.append_host.ensures in
     let ok = c.in_ok-has_room.ensures.ok in
     let host = c.args.host.now in
     let log = c.self.inside.tie in
-    let e = g.E.Told.entry in
+    let e = g.E.TiedEntry.entry in
     let may = subst (λ (s : JournalState). host.entries ≡ of_host host.number s.log → MayFollow shape (world shape s.log) e) (sym c.self.view_is) c.requires.may a.parts in
     record {
       config = j.config;

@@ -24,7 +24,7 @@ module _ (g : _) (c : After-one_log_and_nothing_lost g) where
   parts : ArePartsOf log c.args.seats.items
   parts = subst (λ (j : JournalState). ArePartsOf j.log c.args.seats.items) (sym same) (subst (λ (s : List Own). ArePartsOf c.args.self.log s) c.as_mut_slice.ensures.value c.meet_all.ensures.parts)
 
-  run : IsFreshRun g.N.Named.shape log
+  run : IsFreshRun g.N.ClusterName.shape log
   run = c.into_entries-entries.ensures.run
 
   has : (h : ℕ) → h < HOSTS → of_host h log ≢ [] → HasSeat c.args.seats.items h
@@ -33,12 +33,12 @@ module _ (g : _) (c : After-one_log_and_nothing_lost g) where
       (c.if-not-covered.ensures.covered refl h below (λ none. some (ap (λ (j : JournalState). of_host h j.log) c.is_covered-covered.ensures.same ∙ none)))
 
   covers : AreCovered log c.args.seats.items
-  covers = covered g.N.Named.shape log c.args.seats.items run has
+  covers = covered g.N.ClusterName.shape log c.args.seats.items run has
 
 pub returns-clause-record : goal.returns-clause-record
 returns-clause-record g c =
-    recorded g.N.Named.shape (log g c) _ _ c.into_entries-entries.ensures.entries (run g c) (subst (AreCovered (log g c)) (sym (all g c)) (covers g c)) (subst (ArePartsOf (log g c)) (sym (all g c)) (parts g c))
-    (c.one_log_and_nothing_lost.ensures.headline g.N.Named.shape (log g c) (fresh_is_run g.N.Named.shape (log g c) (run g c)))
+    recorded g.N.ClusterName.shape (log g c) _ _ c.into_entries-entries.ensures.entries (run g c) (subst (AreCovered (log g c)) (sym (all g c)) (covers g c)) (subst (ArePartsOf (log g c)) (sym (all g c)) (parts g c))
+    (c.one_log_and_nothing_lost.ensures.headline g.N.ClusterName.shape (log g c) (fresh_is_run g.N.ClusterName.shape (log g c) (run g c)))
 
 pub returns-clause-missing : goal.returns-clause-missing
 returns-clause-missing g c =

@@ -17,7 +17,7 @@ use Rattle.cluster.proofs.journal.Journal.restart_as.Goals as goal
 
 pub invariant_of-self-2 : goal.invariant_of-self-2
 invariant_of-self-2 g c =
-    let shape = g.N.Named.shape in
+    let shape = g.N.ClusterName.shape in
     let j = c.self.invariant in
     let p = c.push_reserved.ensures in
     let q = c.push_reserved-2.ensures in
@@ -28,12 +28,12 @@ invariant_of-self-2 g c =
     let log = c.self.inside.tie in
     let s = Stop own.number in
     let t = Start own.number in
-    let stop : g.S.Told.entry ≡ s = c.requires.stop ∙ ap (λ (o : Own). Stop o.number) (sym c.seat.view_is) in
-    let start : g.T.Told.entry ≡ t = c.requires.start ∙ ap (λ (o : Own). Start o.number) (sym c.seat.view_is) in
+    let stop : g.S.TiedEntry.entry ≡ s = c.requires.stop ∙ ap (λ (o : Own). Stop o.number) (sym c.seat.view_is) in
+    let start : g.T.TiedEntry.entry ≡ t = c.requires.start ∙ ap (λ (o : Own). Start o.number) (sym c.seat.view_is) in
     let same_host = c.host-host.ensures ∙ c.seat.invariant.running.leads.learner.is_host in
     let is_host : own.number < HOSTS = omega (arith, c.get-number.ensures.value, c.get-number.ensures.range, same_host) in
     let up : is_stopped (host_in shape own) ≡ false = ap is_stopped c.seat.invariant.running.is in
-    let is_log : (log ++ s ∷ []) ++ t ∷ [] ≡ c.append_host-2.new.journal = (λ i. (log ++ sym stop i ∷ []) ++ sym start i ∷ []) ∙ sym (b.journal ∙ ap (λ (l : List Filled). l ++ g.T.Told.entry ∷ []) a.journal) in
+    let is_log : (log ++ s ∷ []) ++ t ∷ [] ≡ c.append_host-2.new.journal = (λ i. (log ++ sym stop i ∷ []) ++ sym start i ∷ []) ∙ sym (b.journal ∙ ap (λ (l : List Filled). l ++ g.T.TiedEntry.entry ∷ []) a.journal) in
     let first : c.push_reserved.new.self.items ≡ plains (log ++ s ∷ []) = p.items ∙ (λ i. (c.has_room_for_two.ensures.items ∙ j.kept) i ++ kept.Stop (same_host i) ∷ []) ∙ sym (plains_more log s) in
     record {
       config = j.config;
@@ -50,7 +50,7 @@ invariant_of-self-2 g c =
 
 pub invariant_of-seat : goal.invariant_of-seat
 invariant_of-seat g c =
-    let shape = g.N.Named.shape in
+    let shape = g.N.ClusterName.shape in
     let j = c.self.invariant in
     let a = c.append_host.ensures in
     let b = c.append_host-2.ensures in
@@ -61,10 +61,10 @@ invariant_of-seat g c =
     let next = length c.append_host.new.journal in
     let s = Stop own.number in
     let t = Start own.number in
-    let stop : g.S.Told.entry ≡ s = c.requires.stop ∙ ap (λ (o : Own). Stop o.number) (sym c.seat.view_is) in
-    let start : g.T.Told.entry ≡ t = c.requires.start ∙ ap (λ (o : Own). Start o.number) (sym c.seat.view_is) in
+    let stop : g.S.TiedEntry.entry ≡ s = c.requires.stop ∙ ap (λ (o : Own). Stop o.number) (sym c.seat.view_is) in
+    let start : g.T.TiedEntry.entry ≡ t = c.requires.start ∙ ap (λ (o : Own). Start o.number) (sym c.seat.view_is) in
     let same_host = c.host-host.ensures ∙ c.seat.invariant.running.leads.learner.is_host in
-    let new_is : adds (adds own at s) next t ≡ c.append_host-2.new.host = (λ i. adds (adds own at (sym stop i)) next (sym start i)) ∙ sym (b.host ∙ ap (λ (o : Own). adds o next g.T.Told.entry) a.host) in
+    let new_is : adds (adds own at s) next t ≡ c.append_host-2.new.host = (λ i. adds (adds own at (sym stop i)) next (sym start i)) ∙ sym (b.host ∙ ap (λ (o : Own). adds o next g.T.TiedEntry.entry) a.host) in
     let none = ap (λ (l : List Receipt). length l) made.acks.0 in
     let slots = ap (λ (k : Shape). k.slots) j.config in
     let leads : LeadsTo shape own.number fresh c.in_ok-core.core = subst (λ (h : ℕ). LeadsTo shape h fresh c.in_ok-core.core) same_host (subst (λ (k : Shape). LeadsTo k c.host-host.result fresh c.in_ok-core.core) j.config made.core) in

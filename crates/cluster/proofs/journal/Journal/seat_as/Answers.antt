@@ -26,7 +26,7 @@ module _ (g : _) (c : goal.After-push_reserved g) where
 
 pub invariant_of-result : goal.invariant_of-result
 invariant_of-result g c =
-    let shape = g.N.Named.shape in
+    let shape = g.N.ClusterName.shape in
     let j = c.self.invariant in
     let made = c.in_ok-core.ensures in
     let none = ap (λ (l : List Receipt). length l) made.acks.0 in
@@ -41,7 +41,7 @@ invariant_of-result g c =
 
 pub invariant_of-self-2 : goal.invariant_of-self-2
 invariant_of-self-2 g c =
-    let shape = g.N.Named.shape in
+    let shape = g.N.ClusterName.shape in
     let j = c.self.invariant in
     let p = c.push_reserved.ensures in
     let a = c.append_host.ensures in
@@ -60,5 +60,5 @@ invariant_of-self-2 g c =
       parts = j.parts;
       enough = j.enough;
       empty = j.empty;
-      tokens = takes_token _ _ c.args.host log _ g.E.Told.entry (c.in-Some.ensures.rest ∙ ap (λ (n : ℕ). set c.self.inside.hosts.items n None) (number g c)) a.journal (ap (is_of c.args.host) c.requires.told ∙ is_itself c.args.host) j.tokens;
+      tokens = takes_token _ _ c.args.host log _ g.E.TiedEntry.entry (c.in-Some.ensures.rest ∙ ap (λ (n : ℕ). set c.self.inside.hosts.items n None) (number g c)) a.journal (ap (is_of c.args.host) c.requires.told ∙ is_itself c.args.host) j.tokens;
     }

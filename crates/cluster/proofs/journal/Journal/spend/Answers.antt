@@ -9,14 +9,14 @@ use Rattle.cluster.proofs.journal.Journal.spend.Goals as goal
 
 pub invariant_of-self : goal.invariant_of-self
 invariant_of-self g c =
-    let shape = g.N.Named.shape in
+    let shape = g.N.ClusterName.shape in
     let j = c.self.invariant in
     let p = c.push_reserved.ensures in
     let a = c.append_disk.ensures in
     let t = c.sub.ensures in
     let disk = c.args.disk.now in
     let log = c.self.inside.tie in
-    let e = g.E.Told.entry in
+    let e = g.E.TiedEntry.entry in
     let may = subst (λ (s : JournalState). disk.entries ≡ on_disk disk.number s.log → MayFollow shape (world shape s.log) e) (sym c.self.view_is) c.requires.may a.parts in
     record {
       config = j.config;

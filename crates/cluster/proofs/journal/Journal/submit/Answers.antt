@@ -10,7 +10,7 @@ use Rattle.cluster.proofs.journal.Journal.submit.Goals as goal
 
 pub begin-requires : goal.begin-requires
 begin-requires g c =
-    let shape = g.N.Named.shape in
+    let shape = g.N.ClusterName.shape in
     let own = c.seat.inside.tie in
     let log = c.args.self.now.log in
     let idle = ap (λ (o : Own). idles (host_in shape o)) c.seat.view_is ∙ c.requires.idle in
@@ -23,7 +23,7 @@ begin-requires g c =
 
 pub invariant_of-seat-2 : goal.invariant_of-seat-2
 invariant_of-seat-2 g c =
-    let shape = g.N.Named.shape in
+    let shape = g.N.ClusterName.shape in
     let s = c.seat.invariant in
     let own = c.seat.inside.tie in
     let core = c.seat.inside.core in

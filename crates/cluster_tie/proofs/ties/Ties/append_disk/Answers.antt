@@ -13,9 +13,9 @@ join_seat-requires g c =
 pub load-requires : goal.load-requires
 load-requires g c =
     let t = c.args.self.now in
-    appends (taken c.journal.invariant (given c.disk.invariant c.split_seat-disks.ensures) c.join_seat.ensures) g.E.Told.entry t.table_is t.has_word (covers_disk _ c.disk.view_is c.requires)
+    appends (taken c.journal.invariant (given c.disk.invariant c.split_seat-disks.ensures) c.join_seat.ensures) g.E.TiedEntry.entry t.table_is t.has_word (covers_disk _ c.disk.view_is c.requires)
 
 pub split_seat-requires : goal.split_seat-requires
 split_seat-requires g c =
     let t = c.args.self.now in
-    gives (grows (taken c.journal.invariant (given c.disk.invariant c.split_seat-disks.ensures) c.join_seat.ensures) g.E.Told.entry c.load.ensures).0 t.table_is t.has_word tt
+    gives (grows (taken c.journal.invariant (given c.disk.invariant c.split_seat-disks.ensures) c.join_seat.ensures) g.E.TiedEntry.entry c.load.ensures).0 t.table_is t.has_word tt

@@ -7,7 +7,7 @@ use Rattle.lock_command.specs.Reading.{decoded}
 use Rattle.lock_table.specs.declared.reply.Reply.{Reply}
 use Rattle.phases.specs.Calls.{heard_of}
 use Rattle.slot_log.specs.Learning as log
-use Rattle.slot_log.specs.declared.outcome.Outcome.{Outcome}
+use Rattle.slot_log.specs.declared.outcome.LogOutcome.{LogOutcome}
 use Rattle.host.specs.Host.{hears, reply_after}
 use Rattle.host.specs.Kept.{Kept, LeadsTo, values_with, answer_of, option_list}
 use Rattle.host.proofs.Hosts.{Carries, attempt_known, attempt_doing, attempt_due, attempt_alone, heard_none, heard_value, follows, beats_kept, beats-hears, unmarked, marking_heard, none_marked}
@@ -30,7 +30,7 @@ returns-in_default-clause-leads c c' h m leads =
     attempt_due c' h m c.self.inside _ c.self.view_is c.requires.resting c.requires.unmarking c.requires.busy leads (λ d. LeadsTo c' h (hears c' h m m.doing (record { disk = d; heard = answer })) new)
     (follows c' h (hears c' h m m.doing x) l new None leads' after.0
     (known.prefix ∙ sym after.1)
-    (c.of-self-inside.ensures ∙ ap (λ (o : Option Outcome). answer_of o None) c.said.ensures.said)
+    (c.of-self-inside.ensures ∙ ap (λ (o : Option LogOutcome). answer_of o None) c.said.ensures.said)
     after.2 kept.0 kept.1 stays)
 
 pub returns-clause-leads : goal.returns-clause-leads
@@ -54,7 +54,7 @@ returns-clause-leads c c' h m leads =
     attempt_due c' h m c.self.inside _ c.self.view_is c.requires.resting c.requires.unmarking c.requires.busy leads (λ d. LeadsTo c' h (hears c' h m m.doing (record { disk = d; heard = answer })) new)
     (follows c' h (hears c' h m m.doing x) _ new c.judge-reply.result (c.judge-reply.ensures.leads c' h l leads') after.0
     (c.judge-reply.ensures.prefix ∙ ap (λ (before : List Command). before ++ option_list (decoded value)) known.prefix ∙ sym after.1)
-    (c.of-self-inside-2.ensures ∙ ap (λ (o : Option Outcome). answer_of o c.judge-reply.result) c.said-2.ensures.said)
+    (c.of-self-inside-2.ensures ∙ ap (λ (o : Option LogOutcome). answer_of o c.judge-reply.result) c.said-2.ensures.said)
     (subst IsCarried (sym reply) after.2) kept.0 kept.1 stays)
 
 pub returns-in_default-clause-alone : goal.returns-in_default-clause-alone

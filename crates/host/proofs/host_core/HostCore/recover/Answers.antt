@@ -1,5 +1,5 @@
 use Rattle.std.proofs.Common.{Option, None, sym, ◌∙◌, ap, subst}
-use Rattle.slot_log.specs.declared.outcome.Outcome.{Outcome}
+use Rattle.slot_log.specs.declared.outcome.LogOutcome.{LogOutcome}
 use Rattle.host.specs.Host.{Recovering, goes_on}
 use Rattle.host.specs.Kept.{Kept, LeadsTo, values_with, answer_of}
 use Rattle.host.proofs.Hosts.{values_of-goes_on, learned-goes_on, carries-goes_on, follows, beats-goes_on, beats_kept, marking-goes_on, none_marked, idle_unmarked}
@@ -16,7 +16,7 @@ returns c c' h m leads =
     (c.recover.ensures.leads c' h (values_with s.learner.said m) known.learner)
     (values_of-goes_on c' m Recovering tries)
     (known.prefix ∙ sym (learned-goes_on c' m Recovering tries))
-    (c.of-self-inside.ensures ∙ ap (λ (o : Option Outcome). answer_of o None) c.said.ensures.said)
+    (c.of-self-inside.ensures ∙ ap (λ (o : Option LogOutcome). answer_of o None) c.said.ensures.said)
     (carries-goes_on None c' m Recovering tries)
     kept.0 kept.1
     (none_marked c' h m (goes_on c' m Recovering tries) s.marking (ap (λ (v : Kept). v.marking) c.self.view_is ∙ idle_unmarked c.args.self.now c.requires.idle) (marking-goes_on c' m Recovering tries) known.marking)

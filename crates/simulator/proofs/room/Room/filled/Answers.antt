@@ -10,11 +10,11 @@ use Rattle.simulator.proofs.room.Room.filled.Goals as goal
 
 pub returns : goal.returns
 returns c log leads =
-    let parts = c.args.parts.now in
-    let host = (world parts.shape log).host c.args.host in
+    let cluster = c.args.cluster.now in
+    let host = (world cluster.shape log).host c.args.host in
     let core : Kept = c.in-Some.core.now in
-    let there : slice_index_or parts.hosts c.args.host None ≡ Some core =
-    subst (λ (n : ℕ). slice_index_or parts.hosts n None ≡ Some core) c.get.ensures.value (sym c.in-Some.ensures) in
-    let runs = running_by parts.shape c.args.host host core (subst (IsHost parts.shape c.args.host host) there (leads.shows.hosts c.args.host)) in
+    let there : slice_index_or cluster.hosts c.args.host None ≡ Some core =
+    subst (λ (n : ℕ). slice_index_or cluster.hosts n None ≡ Some core) c.get.ensures.value (sym c.in-Some.ensures) in
+    let runs = running_by cluster.shape c.args.host host core (subst (IsHost cluster.shape c.args.host host) there (leads.shows.hosts c.args.host)) in
     subst (λ (w : Host). IsPictureOf c.fill.new.self (table_after (learned_of w))) (sym runs.1)
-    (subst (λ (p : Shown). IsPictureOf p (table_after runs.0.learned)) (sym c.fill.ensures.shown) (c.table.ensures.known parts.shape c.args.host runs.0 runs.2))
+    (subst (λ (p : Shown). IsPictureOf p (table_after runs.0.learned)) (sym c.fill.ensures.shown) (c.table.ensures.known cluster.shape c.args.host runs.0 runs.2))

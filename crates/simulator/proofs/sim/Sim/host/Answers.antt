@@ -10,10 +10,10 @@ use Rattle.simulator.proofs.sim.Sim.host.Goals as goal
 pub returns-clause-host : goal.returns-clause-host
 returns-clause-host c =
     let s = c.self.inside in
-    let o : Opening = record { shape = s.parts.shape; moved = s.log.items } in
+    let o : Opening = record { shape = s.cluster.shape; moved = s.log.items } in
     let h = c.args.host in
     subst (λ (p : Past). IsHost p.opening.shape h ((world_of p).host h) (option_map (λ core. core.now) c.host.result)) c.self.view_is
-    (subst (IsHost s.parts.shape h ((world_after o (events_of s.events.items)).host h)) (sym c.host.ensures) (c.self.invariant.shows.hosts h))
+    (subst (IsHost s.cluster.shape h ((world_after o (events_of s.events.items)).host h)) (sym c.host.ensures) (c.self.invariant.shows.hosts h))
 
 pub returns-clause-begins : goal.returns-clause-begins
 returns-clause-begins c = begins_if c.args.self.now c.args.host c.host.result (λ core. core.now) (returns-clause-host c)

@@ -1,6 +1,6 @@
 use Rattle.std.proofs.Common.{Option, Some, None, [], ◌∷◌, ◌++◌, sym, ◌∙◌, ap, subst}
 use Rattle.std.specs.Option.{option_map}
-use Rattle.slot_log.specs.declared.operation.Task as code_task
+use Rattle.slot_log.specs.declared.operation.LogTask as code_task
 use Rattle.attempt.specs.Answers.{Answered}
 use Rattle.phases.specs.layouts.Calls.{heard_of, end_as, end_in}
 use Rattle.phases.specs.declared.end.End as code_end
@@ -36,7 +36,7 @@ returns-in-Some-take-clause-leads g c c' h m leads =
     (subst Ends (sym (hears_end v c' h m t x ballot e doing.1 no_value ends took))
     (c.end-in_default-end.ensures.leads c' h m t ballot (record { operation = doing.2.operation; tries = doing.2.tries })
     (counted v c' h m k c.count_ballot.new.self ballot leads'
-    (ap is_idle is ∙ ap (λ (o : Option (code_task.Task g.row.L-Value.Denot)). is_idle_with (option_map (task_as spelled) o)) c.take.ensures.after)
+    (ap is_idle is ∙ ap (λ (o : Option (code_task.LogTask g.row.L-Value.Denot)). is_idle_with (option_map (task_as spelled) o)) c.take.ensures.after)
     (ap (λ (k : Kept). k.shape) is)
     (ap (λ (k : Kept). k.host) is)
     (ap (λ (k : Kept). k.learned) is)

@@ -1,6 +1,6 @@
 use Rattle.std.proofs.Common.{Option, sym, ◌∙◌, ap, subst}
 use Rattle.std.specs.Option.{option_map}
-use Rattle.slot_log.specs.declared.operation.Task as code_task
+use Rattle.slot_log.specs.declared.operation.LogTask as code_task
 use Rattle.slot_log.specs.layouts.Learning.{Memory, setup_of, takes}
 use Rattle.slot_log.specs.layouts.Kept.{kept_of, task_as, Kept, LeadsTo, is_idle, is_idle_with}
 use Rattle.slot_log.proofs.Learners.{task_is, counted, finished, refuses_value, takes_value}
@@ -42,7 +42,7 @@ returns-else-is_command-clause-leads g c c' h m leads =
     subst P (sym (ap (takes v c' h m m.doing) c.if-is_command.false ∙ ends))
     (finished v c' h _ c.count_ballot.new.self c.finish.new.self _
     (counted v c' h m k c.count_ballot.new.self ballot leads'
-    (ap is_idle is ∙ ap (λ (o : Option (code_task.Task g.row.L-Value.Denot)). is_idle_with (option_map (task_as spelled) o)) c.take.ensures.after)
+    (ap is_idle is ∙ ap (λ (o : Option (code_task.LogTask g.row.L-Value.Denot)). is_idle_with (option_map (task_as spelled) o)) c.take.ensures.after)
     (ap (λ (k : Kept). k.shape) is)
     (ap (λ (k : Kept). k.host) is)
     (ap (λ (k : Kept). k.learned) is)

@@ -1,0 +1,34 @@
+use Rattle.std.proofs.Common.{◌<◌, None, arith}
+use Rattle.world.specs.Happens.{DiskCrash}
+use Rattle.simulator.proofs.Changes.{reached, seen, unseen}
+use Rattle.simulator.proofs.Owed as owed
+use Rattle.simulator.proofs.Owed.{kept_in}
+use Rattle.simulator.proofs.Calls.{crashes_out}
+use Rattle.simulator.proofs.simulated_cluster.SimulatedCluster.crash.Goals as goal
+
+pub invariant_of-self : goal.invariant_of-self
+invariant_of-self c =
+    let old = kept_in c.self.inside in
+    let i = c.from-at.result in
+    let event = DiskCrash c.args.disk c.args.given.now in
+    let inside : i < old.shape.disks = omega (arith, c.if-at-len.true, c.len.ensures, c.self.invariant.leads.shows.disk_count) in
+    reached event old _ None c.self.invariant
+    (owed.crashes old c.args.disk i c.from-at.ensures inside c.index_mut-disk.result.now c.crash_disk.new.disk c.index_mut-disk.ensures.value c.args.given.now c.requires
+    c.crash_disk.ensures.disk c.crash_disk.ensures.size)
+
+pub returns-then-at-len : goal.returns-then-at-len
+returns-then-at-len c =
+    let old = kept_in c.self.inside in
+    let i = c.from-at.result in
+    let event = DiskCrash c.args.disk c.args.given.now in
+    let inside : i < old.shape.disks = omega (arith, c.if-at-len.true, c.len.ensures, c.self.invariant.leads.shows.disk_count) in
+    seen event old c.args.self.now _ None c.self.view_is
+    (owed.crashes old c.args.disk i c.from-at.ensures inside c.index_mut-disk.result.now c.crash_disk.new.disk c.index_mut-disk.ensures.value c.args.given.now c.requires
+    c.crash_disk.ensures.disk c.crash_disk.ensures.size)
+
+pub returns-else-at-len : goal.returns-else-at-len
+returns-else-at-len c =
+    let old = kept_in c.self.inside in
+    let event = DiskCrash c.args.disk c.args.given.now in
+    unseen event old c.args.self.now None c.self.view_is
+    (λ log leads. crashes_out log old leads c.args.disk c.args.given.now c.requires (omega (arith, c.if-at-len.false, c.len.ensures, c.from-at.ensures, leads.shows.disk_count)))
