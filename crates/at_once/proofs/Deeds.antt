@@ -73,7 +73,7 @@ starts c h kept es below does stopped leads =
     fresh_after (Running m) is = absurd (cc)
 
 may_begin : (c : Shape) (h : ℕ) (m : Memory) (operation : Operation) (tries : ℕ) → is_idle m ≡ true → MayBegin h operation tries → MayDo c h (Running m) (beginning h operation tries)
-may_begin c h m (Submitting command) tries idle may = (idle, may.0, may.1, may.2)
+may_begin c h m (Submitting command) tries idle may = (idle, may.0, may.1, may.2, may.3)
 may_begin c h m Recovering tries idle may = (idle, may)
 may_begin c h m Looking tries idle may = idle
 

@@ -214,7 +214,7 @@ serves c k losses old (e ∷ es) few s =
 may_do : (c : Shape) (h : ℕ) (losses : ℕ → ℕ) (host : Host) (e : Filled) → MayDo c h host e → MayDo c h (host_later losses host) (entry_later losses e)
 may_do c h losses host (Start g) m = (m.0, subst IsTrue (sym (stopped_later losses host)) m.1)
 may_do c h losses host (Stop g) m = stopped_later losses host ∙ m
-may_do c h losses host (Submit g command tries) m = (subst IsTrue (sym (idles_later losses host)) m.0, m.1, m.2, m.3)
+may_do c h losses host (Submit g command tries) m = (subst IsTrue (sym (idles_later losses host)) m.0, m.1, m.2, m.3, m.4)
 may_do c h losses host (Recover g tries) m = (subst IsTrue (sym (idles_later losses host)) m.0, m.1)
 may_do c h losses host (Look g) m = subst IsTrue (sym (idles_later losses host)) m
 may_do c h losses host (Beat g) m = subst IsTrue (sym (idles_later losses host)) m

@@ -4,6 +4,7 @@ use Rattle.std.specs.Prelude.{◌≡◌, ◌<◌, ◌^◌, ℕ, false, IsTrue, L
 use Rattle.disk.specs.Disk.{DiskState, Step, Crashes, lost}
 use Rattle.torn_block.specs.declared.layout.TheConstants.{HOSTS}
 use Rattle.lock_command.specs.declared.command.Command.{Command}
+use Rattle.lock_command.specs.Command.{is_submittable}
 use Rattle.slot_log.specs.Shape.{Shape}
 use Rattle.host.specs.Host.{Host, Stopped, next_of, is_stopped, idles}
 use Rattle.world.specs.Entry.{Filled, Start, Stop, Submit, Recover, Look, Beat, Mark, Called, Torn, Crashed, Lost, Migrated, on_disk, of_host, host_step, host_after}
@@ -18,7 +19,8 @@ use Rattle.at_once.specs.Images.{used}
 abbrev pub MayDo : Shape → ℕ → Host → Filled → Type 0
 MayDo c h host (Start g) = (h < HOSTS) × IsTrue (is_stopped host)
 MayDo c h host (Stop g) = is_stopped host ≡ false
-MayDo c h host (Submit g command tries) = IsTrue (idles host) × ReadsBack command × (command.host ≡ h) × (0 < tries)
+MayDo c h host (Submit g command tries) =
+    IsTrue (idles host) × ReadsBack command × (command.host ≡ h) × (0 < tries) × IsTrue (is_submittable command)
 MayDo c h host (Recover g tries) = IsTrue (idles host) × (0 < tries)
 MayDo c h host (Look g) = IsTrue (idles host)
 MayDo c h host (Beat g) = IsTrue (idles host)

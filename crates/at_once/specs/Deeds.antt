@@ -2,6 +2,7 @@
 use Rattle.std.specs.Prelude.{◌≡◌, ◌<◌, ℕ, true, List, [], ◌∷◌, ◌++◌, map, IsTrue}
 use Rattle.disk.specs.Disk.{Call, Answer}
 use Rattle.torn_block.specs.declared.layout.TheConstants.{HOSTS}
+use Rattle.lock_command.specs.Command.{is_submittable}
 use Rattle.slot_log.specs.Shape.{Shape}
 use Rattle.host.specs.Host.{Operation, Submitting, Recovering, Looking, Memory, Stopped, Running, fresh, is_idle, is_stopped}
 use Rattle.host.specs.Kept.{Kept, LeadsTo}
@@ -24,7 +25,7 @@ beginning h Looking tries = Look h
 
 -- host h may begin it: it submits a command of its own, whose spelling reads as it; and a look has one try
 abbrev pub MayBegin : ℕ → Operation → ℕ → Type 0
-MayBegin h (Submitting command) tries = ReadsBack command × (command.host ≡ h) × (0 < tries)
+MayBegin h (Submitting command) tries = ReadsBack command × (command.host ≡ h) × (0 < tries) × IsTrue (is_submittable command)
 MayBegin h Recovering tries = 0 < tries
 MayBegin h Looking tries = tries ≡ 1
 

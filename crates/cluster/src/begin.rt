@@ -1,4 +1,5 @@
 ghost use Rattle.std.specs.Prelude.{◌≡◌, ◌↔◌, ◌<◌, ◌≤◌, ◌+◌, ◌++◌, ◌∷◌, [], true, Err, None, Some, OnOk, OnErr, IfErr, ◌⊎◌, length};
+ghost use Rattle.lock_command.specs.Command.{is_submittable};
 ghost use Rattle.host.specs.Host.{idles};
 ghost use Rattle.world.specs.Entry.{Submit, Recover, Look, Beat, Mark};
 ghost use Rattle.world.specs.Plain.{plain};
@@ -26,6 +27,7 @@ impl<'a, N: ClusterName> Journal<'a, N> {
     ) -> Result<(), HostFault>
         requires idle { idles (host_in N.shape seat.old) ≡ true }
         requires host { command.host ≡ seat.old.number }
+        requires asked { is_submittable command ≡ true }
         requires tries { 1 ≤ tries }
         ensures seat { OnOk result (seat.new ≡ adds seat.old (length self.old.log) (Submit seat.old.number command tries)) }
         ensures journal { OnOk result (self.new ≡ record self.old { log = self.old.log ++ Submit seat.old.number command tries ∷ [] }) }

@@ -1,4 +1,5 @@
 ghost use Rattle.std.specs.Prelude.{◌≡◌, ◌⊎◌, ◌<◌, ◌≤◌, ◌+◌, true, false, length, IfOk, IfErr, OnOk, OnErr};
+ghost use Rattle.lock_command.specs.Command.{is_submittable};
 ghost use Rattle.host.specs.Host.{idles};
 ghost use Rattle.world.specs.Entry.{Submit, Recover, Look, Beat, Mark};
 ghost use Rattle.cluster.specs.Cluster.{GoesOn};
@@ -41,6 +42,7 @@ impl<'a, N: ClusterName, D: Disk + Drop> Cluster<'a, N, D> {
     ) -> Result<Receipt, HostFault>
         requires idle { idles (host_in N.shape seat.old) ≡ true }
         requires host { command.host ≡ seat.old.number }
+        requires asked { is_submittable command ≡ true }
         requires tries { 1 ≤ tries }
         ensures steps { OnOk result (Operates N.shape (Submit seat.old.number command tries) seat.old seat.new) }
         ensures answer { IfOk result (λ receipt. HasAnswered N.shape (Resumed.Submitted receipt) seat.new) }

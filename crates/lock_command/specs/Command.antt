@@ -1,5 +1,5 @@
 -- The one spelling of a command: 48 bytes, of each number the highest byte first.
-use Rattle.std.specs.Prelude.{◌≡◌, ℕ, ◌+◌, ◌<◌, ◌≤◌, ◌^◌, Bool, false, List, [], ◌∷◌, ◌++◌, length, replicate, Option, Some, None, is_some, ⊤, if◌then◌else◌}
+use Rattle.std.specs.Prelude.{◌≡◌, ℕ, ◌+◌, ◌<◌, ◌≤◌, ◌^◌, Bool, true, false, not, List, [], ◌∷◌, ◌++◌, length, replicate, Option, Some, None, is_some, ⊤, if◌then◌else◌}
 use Rattle.byteorder.specs.Endian.{big_bytes}
 use Rattle.lock_modes.specs.declared.mode.Mode.{Mode}
 use Rattle.lock_modes.specs.declared.mode.Mode.TheVariants.{Null, ConcurrentRead, ConcurrentWrite, ProtectedRead, ProtectedWrite, Exclusive}
@@ -60,6 +60,15 @@ spelled host client request f =
 -- the one spelling of a command
 abbrev pub spelling : Command → List ℕ
 spelling c = spelled c.host c.client c.request (fields_of c.action)
+
+-- whether it stands only in a log that was moved
+abbrev pub is_quiet : Action → Bool
+is_quiet (QuietPurge host) = true
+is_quiet other = false
+
+-- a client may ask for all but a quiet purge
+abbrev pub is_submittable : Command → Bool
+is_submittable command = not (is_quiet command.action)
 
 -- a lock's number is not 0
 abbrev pub IsLock : ℕ → Type 0

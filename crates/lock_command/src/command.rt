@@ -12,6 +12,18 @@ pub struct Command {
     pub action: Action,
 }
 
+impl Command {
+    ghost use Rattle.std.specs.Prelude.{◌≡◌};
+    ghost use Rattle.lock_command.specs.Command.{is_submittable};
+
+    /// Whether a client may ask for it. A quiet purge stands only in a log that was moved.
+    pub fn is_submittable(&self) -> bool
+        ensures { result ≡ is_submittable self.now }
+    {
+        !matches!(&self.action, Action::QuietPurge(_))
+    }
+}
+
 /// What is asked. With `no_queue` a lock that cannot be granted at once is refused in place of queued.
 #[derive(Clone, Copy, Debug)]
 pub enum Action {

@@ -7,7 +7,7 @@ use Rattle.std.proofs.lemmas.Bool.{eq-eqb, lt-ltb}
 use Rattle.torn_block.specs.declared.layout.TheConstants.{HOSTS}
 use Rattle.slot_log.specs.Shape.{Shape}
 use Rattle.lock_command.specs.declared.command.Command.{Command}
-use Rattle.lock_command.specs.Command.{spelling, Fits as FitsCommand}
+use Rattle.lock_command.specs.Command.{spelling, is_submittable, Fits as FitsCommand}
 use Rattle.lock_command.specs.Reading.{decoded}
 use Rattle.host.specs.Host.{Host, Stopped, Running, Memory, Submitting, Recovering, Looking, fresh, goes_on, starts_beat, starts_marking, idles, is_stopped}
 use Rattle.host.specs.Kept as hosts
@@ -23,6 +23,10 @@ use Rattle.simulator.specs.Events.{lines_of}
 use Rattle.simulator.specs.Kept.{Kept, is_free, IsHost, LeadsTo, Brings}
 use Rattle.simulator.proofs.Changes.{nothing, something}
 use Rattle.simulator.proofs.Shown.{stopped_by, running_by, saying, by_host, says_by, says_nothing_by}
+
+brings_none : (b : Bool) → brings_if b None ≡ None
+brings_none true = refl
+brings_none false = refl
 
 and_no : (b : Bool) → (b && false) ≡ false
 and_no true = refl
@@ -122,6 +126,17 @@ module _ (log : List Filled) (old : Kept) (leads : LeadsTo log old) where
       (ap (λ (n : ℕ). brings_if (idles ((world old.shape log).host h) && nat_lt 0 n) (submitted h tries (decoded (spelling command)))) none
       ∙ ap (λ (b : Bool). brings_if b (submitted h tries (decoded (spelling command)))) (and_no (idles ((world old.shape log).host h))))
 
+  -- a quiet purge
+  pub submits_quiet : (h : ℕ) (command : Command) (tries : ℕ) → FitsCommand command → is_submittable command ≡ false → Brings log (Submit h command tries) old old None
+  submits_quiet h command tries fits quiet =
+      let free = idles ((world old.shape log).host h) && nat_lt 0 tries in
+      let e : Filled = entries.Submit h command tries in
+      nothing log old leads (Submit h command tries)
+      (ap (λ (o : Option Command). brings_if free (submitted h tries o)) (command_reads_back command fits)
+      ∙ ap (λ (b : Bool). brings_if free (brings_if (command.host == h && b) (Some e))) quiet
+      ∙ ap (λ (b : Bool). brings_if free (brings_if b (Some e))) (and_no (command.host == h))
+      ∙ brings_none free)
+
   pub recovers_untried : (h tries : ℕ) → tries ≡ 0 → Brings log (Recover h tries) old old None
   recovers_untried h tries none =
       nothing log old leads (Recover h tries)
@@ -136,15 +151,15 @@ module _ (log : List Filled) (old : Kept) (leads : LeadsTo log old) where
   idle_test h tries core some is idle =
       ap (λ (b : Bool). b && nat_lt 0 tries) (idle_then h core is idle) ∙ lt-ltb 0 tries some
 
-  pub submits : (h : ℕ) (command : Command) (tries : ℕ) (core new : hosts.Kept) → h < HOSTS → command.host ≡ h → FitsCommand command → 0 < tries
+  pub submits : (h : ℕ) (command : Command) (tries : ℕ) (core new : hosts.Kept) → h < HOSTS → command.host ≡ h → FitsCommand command → is_submittable command ≡ true → 0 < tries
       → get_or old.hosts h None ≡ Some core → hosts.is_idle core ≡ true
       → ((c : Shape) (g : ℕ) (m : Memory) → hosts.LeadsTo c g m core → hosts.LeadsTo c g (goes_on c m (Submitting command) tries) new)
       → Brings log (Submit h command tries) old (record old { hosts = set old.hosts h (Some new) }) (saying h new.said)
-  submits h command tries core new within own fits some is idle goes =
+  submits h command tries core new within own fits asked some is idle goes =
       let e : Filled = entries.Submit h command tries in
       let r = running_at h core is in
       let reads : submitted h tries (decoded (spelling command)) ≡ Some e =
-      ap (submitted h tries) (command_reads_back command fits) ∙ ap (λ (b : Bool). brings_if b (Some e)) (eq-eqb command.host h own) in
+      ap (submitted h tries) (command_reads_back command fits) ∙ ap (λ (b : Bool). brings_if b (Some e)) (both_true (eq-eqb command.host h own) asked) in
       let steps : host_step old.shape h ((world old.shape log).host h) e ≡ Running (goes_on old.shape r.0 (Submitting command) tries) =
       ap (λ (x : Host). host_step old.shape h x e) r.1 in
       let kept : hosts.LeadsTo old.shape h (goes_on old.shape r.0 (Submitting command) tries) new = goes old.shape h r.0 r.2 in

@@ -13,7 +13,7 @@ use Rattle.paxos_block.specs.Places.{image_length}
 use Rattle.torn_block.specs.declared.layout.TheConstants.{HOSTS}
 use Rattle.slot_log.specs.Shape.{Shape}
 use Rattle.lock_command.specs.declared.command.Command.{Command}
-use Rattle.lock_command.specs.Command.{Fits as FitsCommand}
+use Rattle.lock_command.specs.Command.{is_submittable, Fits as FitsCommand}
 use Rattle.phases.specs.declared.need.Need.{Need}
 use Rattle.phases.specs.declared.need.DeviceCall as code_call
 use Rattle.phases.specs.Calls.{call_of_need, device_call_of, IsWithin}
@@ -142,12 +142,12 @@ module _ (old : Kept) (h i : ℕ) (same : i ≡ h) (within : i < HOSTS) where
 
   module _ (core new : hosts.Kept) (said : Option Said) (found : get_or old.hosts i None ≡ Some core)
       (is_said : said ≡ option_map (λ answer. record { host = h; answer = answer }) new.said) where
-    pub submits : (command : Command) (tries : ℕ) → command.host ≡ h → FitsCommand command → 0 < tries → hosts.is_idle core ≡ true
+    pub submits : (command : Command) (tries : ℕ) → command.host ≡ h → FitsCommand command → is_submittable command ≡ true → 0 < tries → hosts.is_idle core ≡ true
         → ((c : Shape) (g : ℕ) (m : Memory) → hosts.LeadsTo c g m core → hosts.LeadsTo c g (goes_on c m (Submitting command) tries) new)
         → (log : List Filled) → LeadsTo log old → Brings log (Submit h command tries) old (record old { hosts = set old.hosts i (Some new) }) said
-    submits command tries own fits some idle goes log leads =
+    submits command tries own fits asked some idle goes log leads =
         named (λ j. Submit j command tries) log old (record old { hosts = set old.hosts i (Some new) }) i h new.said said same is_said
-        (events.submits log old leads i command tries core new within (own ∙ sym same) fits some found idle goes)
+        (events.submits log old leads i command tries core new within (own ∙ sym same) fits asked some found idle goes)
 
     pub recovers : (tries : ℕ) → 0 < tries → hosts.is_idle core ≡ true
         → ((c : Shape) (g : ℕ) (m : Memory) → hosts.LeadsTo c g m core → hosts.LeadsTo c g (goes_on c m Recovering tries) new)

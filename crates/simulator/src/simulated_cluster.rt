@@ -181,11 +181,14 @@ impl SimulatedCluster {
         if tries == 0 {
             return None;
         }
+        // Called for its contract only: the command's numbers are in their ranges.
+        let _ = command.encode();
+        if !command.is_submittable() {
+            return None;
+        }
         if !is_free(&self.hosts[at]) {
             return None;
         }
-        // Called for its contract only: the command's numbers are in their ranges.
-        let _ = command.encode();
         let Some(core) = &mut self.hosts[at] else {
             unreachable!()
         };

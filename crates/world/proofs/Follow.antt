@@ -11,7 +11,7 @@ use Rattle.disk.specs.Simulated.{refusal_under, refusal_of}
 use Rattle.disk.proofs.FillingLemmas.{length-spread, filled_keeps}
 use Rattle.torn_block.specs.declared.layout.TheConstants.{HOSTS}
 use Rattle.lock_command.specs.declared.command.Command.{Command}
-use Rattle.lock_command.specs.Command.{spelling, Fits as FitsCommand}
+use Rattle.lock_command.specs.Command.{spelling, is_submittable, Fits as FitsCommand}
 use Rattle.lock_command.specs.Reading.{checked, decoded}
 use Rattle.lock_command.proofs.Readings.{command_at-spelling}
 use Rattle.std.proofs.lemmas.Slice.Eq.{bytes_eq-Decides}
@@ -104,7 +104,8 @@ module _ (c : Shape) (w : World) (whole : (k : ℕ) → IsWhole (w.disk k)) wher
   submitting : (h tries : ℕ) (o : Option Command) (bytes : List ℕ) (e : Filled) → (idles (w.host h) ≡ true) → (0 < tries) → decoded bytes ≡ o → submitted h tries o ≡ Some e → MayFollow c w e
   submitting h tries None bytes e idle some reads is = absurd (cc)
   submitting h tries (Some command) bytes e idle some reads is =
-      some_if (command.host == h) (entries.Submit h command tries) e (MayFollow c w) is (λ own. (idle, reads_back bytes command reads, eqb-true command.host h own, some))
+      some_if (command.host == h && is_submittable command) (entries.Submit h command tries) e (MayFollow c w) is (λ t.
+      (let p = and_parts (command.host == h) (is_submittable command) t in (idle, reads_back bytes command reads, eqb-true command.host h p.0, some, p.1)))
 
   stepping : (h : ℕ) (o : Option (ℕ × Call)) (e : Filled) → next_of c h (w.host h) ≡ o → option_map (stepped w h) o ≡ Some e → MayFollow c w e
   stepping h None e is s = absurd (cc)

@@ -226,7 +226,7 @@ module _ (c : Shape) (w : World) (whole : (k : ℕ) → IsWhole (w.disk k)) wher
 
   submitting : (h tries : ℕ) (command : Command) → MayFollow c w (entries.Submit h command tries) → entry_of c w (Submit h command tries) ≡ Some (entries.Submit h command tries)
   submitting h tries command may =
-      brought_if _ _ (both_true may.0 (lt-ltb 0 tries may.3)) ∙ ap (submitted h tries) may.1 ∙ brought_if _ _ (eq-eqb command.host h may.2)
+      brought_if _ _ (both_true may.0 (lt-ltb 0 tries may.3)) ∙ ap (submitted h tries) may.1 ∙ brought_if _ _ (both_true (eq-eqb command.host h may.2) may.4)
 
   pub reached : (e : Filled) → MayFollow c w e → (event : Event) × BringsSuch c w event e
   reached (entries.Start h) may = (Start h, itself (Start h) _ (brought_if _ _ (both_true (lt-ltb h HOSTS may.0) may.1)))

@@ -7,7 +7,7 @@ use Rattle.disk.specs.Filling.{spread, filled}
 use Rattle.disk.specs.Simulated.{refusal_of}
 use Rattle.torn_block.specs.declared.layout.TheConstants.{HOSTS}
 use Rattle.lock_command.specs.declared.command.Command.{Command}
-use Rattle.lock_command.specs.Command.{spelling}
+use Rattle.lock_command.specs.Command.{spelling, is_submittable}
 use Rattle.lock_command.specs.Reading.{decoded}
 use Rattle.slot_log.specs.Shape.{Shape}
 use Rattle.host.specs.declared.answer.HostAnswer.{HostAnswer}
@@ -84,10 +84,10 @@ are_some given = nat_lt 0 (length given)
 abbrev pub has_disk : Shape → World → ℕ → Bool
 has_disk c w k = nat_lt k c.disks && not (w.disk k).gone
 
--- a command that its spelling reads as is submitted through its own host
+-- a command that its spelling reads as, and for which a client may ask, is submitted through its own host
 abbrev pub submitted : ℕ → ℕ → Option Command → Option Filled
 submitted h tries None = None
-submitted h tries (Some command) = brings_if (command.host == h) (Some (entries.Submit h command tries))
+submitted h tries (Some command) = brings_if (command.host == h && is_submittable command) (Some (entries.Submit h command tries))
 
 -- The entry that an event brings in a world; none where it does not apply.
 abbrev pub entry_of : Shape → World → Event → Option Filled

@@ -6,7 +6,7 @@ use Rattle.disk.specs.Simulated.{fresh_disk}
 use Rattle.torn_block.specs.declared.layout.TheConstants.{HOSTS}
 use Rattle.paxos_block.specs.Places.{image_length}
 use Rattle.lock_command.specs.declared.command.Command.{Command}
-use Rattle.lock_command.specs.Command.{spelling}
+use Rattle.lock_command.specs.Command.{spelling, is_submittable}
 use Rattle.lock_command.specs.Reading.{decoded}
 use Rattle.slot_log.specs.Shape.{Shape}
 use Rattle.host.specs.Host.{Host, Stopped, next_of, is_stopped, idles}
@@ -52,7 +52,8 @@ Tears (Sync boot) old new = ⊥
 abbrev pub MayFollow : Shape → World → Filled → Type 0
 MayFollow c w (Start h) = (h < HOSTS) × IsTrue (is_stopped (w.host h))
 MayFollow c w (Stop h) = is_stopped (w.host h) ≡ false
-MayFollow c w (Submit h command tries) = IsTrue (idles (w.host h)) × ReadsBack command × (command.host ≡ h) × (0 < tries)
+MayFollow c w (Submit h command tries) =
+    IsTrue (idles (w.host h)) × ReadsBack command × (command.host ≡ h) × (0 < tries) × IsTrue (is_submittable command)
 MayFollow c w (Recover h tries) = IsTrue (idles (w.host h)) × (0 < tries)
 MayFollow c w (Look h) = IsTrue (idles (w.host h))
 MayFollow c w (Beat h) = IsTrue (idles (w.host h))

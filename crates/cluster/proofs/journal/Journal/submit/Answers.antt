@@ -18,7 +18,7 @@ begin-requires g c =
     record {
       told = ap (λ (h : ℕ). kept.Submit h c.args.command c.args.tries) (c.host-host.ensures ∙ c.seat.invariant.running.leads.learner.is_host);
       own = (refl, refl);
-      may = λ part. (idle_there shape log own idle part, command_reads_back c.args.command c.encode-spelling.ensures.fits, is_host, omega (arith, c.requires.tries));
+      may = λ part. (idle_there shape log own idle part, command_reads_back c.args.command c.encode-spelling.ensures.fits, is_host, omega (arith, c.requires.tries), c.requires.asked);
     }
 
 pub invariant_of-seat-2 : goal.invariant_of-seat-2

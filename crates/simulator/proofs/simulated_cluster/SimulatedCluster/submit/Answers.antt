@@ -5,12 +5,16 @@ use Rattle.simulator.proofs.Changes.{reached, seen, unseen}
 use Rattle.simulator.proofs.Owed as owed
 use Rattle.simulator.proofs.Owed.{kept_in, read_at}
 use Rattle.simulator.specs.Kept.{is_free}
-use Rattle.simulator.proofs.Events.{submits_untried}
+use Rattle.simulator.proofs.Events.{submits_untried, submits_quiet}
 use Rattle.simulator.proofs.simulated_cluster.SimulatedCluster.submit.Goals as goal
 
 pub returns-then-tries-eq0 : goal.returns-then-tries-eq0
 returns-then-tries-eq0 c =
     λ log leads. submits_untried log c.args.self.now leads c.args.command.now.host c.args.command.now c.args.tries c.if-tries-eq0.true
+
+pub returns-then-not-is_submittable : goal.returns-then-not-is_submittable
+returns-then-not-is_submittable c =
+    λ log leads. submits_quiet log c.args.self.now leads c.args.command.now.host c.args.command.now c.args.tries c.encode.ensures.fits (sym c.is_submittable.ensures ∙ c.if-not-is_submittable.true)
 
 pub returns-then-not-is_free : goal.returns-then-not-is_free
 returns-then-not-is_free c =
@@ -37,7 +41,7 @@ invariant_of-self c =
     let idle = sym (c.is_free.ensures ∙ ap is_free (sym stood ∙ found)) ∙ c.if-not-is_free.false in
     reached event old _ c.answer_of.result c.self.invariant
     (owed.submits old c.args.command.now.host i same within c.in-Some.core c.submit.new.self c.answer_of.result found c.answer_of.ensures c.args.command.now c.args.tries refl
-    c.encode.ensures.fits (omega (arith, c.if-tries-eq0.false)) idle c.submit.ensures)
+    c.encode.ensures.fits (sym c.is_submittable.ensures ∙ c.if-not-is_submittable.false) (omega (arith, c.if-tries-eq0.false)) idle c.submit.ensures)
 
 pub returns : goal.returns
 returns c =
@@ -52,4 +56,4 @@ returns c =
     let idle = sym (c.is_free.ensures ∙ ap is_free (sym stood ∙ found)) ∙ c.if-not-is_free.false in
     seen event old c.args.self.now _ c.answer_of.result c.self.view_is
     (owed.submits old c.args.command.now.host i same within c.in-Some.core c.submit.new.self c.answer_of.result found c.answer_of.ensures c.args.command.now c.args.tries refl
-    c.encode.ensures.fits (omega (arith, c.if-tries-eq0.false)) idle c.submit.ensures)
+    c.encode.ensures.fits (sym c.is_submittable.ensures ∙ c.if-not-is_submittable.false) (omega (arith, c.if-tries-eq0.false)) idle c.submit.ensures)
