@@ -1,4 +1,4 @@
--- What each event does to the parts.
+-- What each event does to a simulated cluster.
 use Rattle.std.specs.Prelude.{not, nat_lt}
 use Rattle.std.proofs.Common.{ℕ, ◌<◌, ◌≡◌, ◌==◌, ◌&&◌, Bool, true, false, Option, Some, None, List, [], ◌∷◌, ◌++◌, get_or, refl, sym, ap, ◌∙◌, subst}
 use Rattle.std.proofs.Math.ListN.{set}

@@ -1,4 +1,4 @@
--- What the code of the parts owes, in the code's own terms.
+-- What the code of a simulated cluster owes, in its own terms.
 use Rattle.std.specs.Prelude.{replicate, is_some}
 use Rattle.std.specs.Option.{option_map}
 use Rattle.std.proofs.Common.{arith, ℕ, ◌<◌, ◌≡◌, Bool, true, false, Option, Some, None, List, [], length, get_or, refl, sym, ap, ◌∙◌, subst, zero, suc}

@@ -1,4 +1,4 @@
--- What the parts of a simulated cluster keep, and which lists of entries lead to that.
+-- What a simulated cluster keeps, and which lists of entries lead to that.
 use Rattle.std.specs.Prelude.{◌≡◌, ◌<◌, ℕ, Bool, false, not, List, length, slice_index_or, Option, Some, None}
 use Rattle.disk.specs.Disk.{DiskState}
 use Rattle.disk.specs.Simulated.{SimState}
