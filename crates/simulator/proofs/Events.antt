@@ -1,5 +1,6 @@
 -- What each event does to a simulated cluster.
 use Rattle.std.specs.Prelude.{not, nat_lt}
+use Rattle.std.specs.Cmp.Derive.{both_true}
 use Rattle.std.proofs.Common.{ℕ, ◌<◌, ◌≡◌, ◌==◌, ◌&&◌, Bool, true, false, Option, Some, None, List, [], ◌∷◌, ◌++◌, get_or, refl, sym, ap, ◌∙◌, subst}
 use Rattle.std.proofs.Math.ListN.{set}
 use Rattle.std.proofs.lemmas.List.{set-get_or}

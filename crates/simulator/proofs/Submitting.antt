@@ -5,7 +5,7 @@ use Rattle.disk.specs.declared.fault.DiskFault.{DiskFault}
 use Rattle.disk.specs.Disk.{Call, Attach, Read, Write, Sync}
 use Rattle.disk.specs.Simulated.{refusal_of}
 use Rattle.lock_command.specs.declared.command.Command.{Command}
-use Rattle.lock_command.specs.Command.{spelling}
+use Rattle.lock_command.specs.Command.{spelling, is_submittable}
 use Rattle.lock_command.specs.Reading.{decoded}
 use Rattle.slot_log.specs.Shape.{Shape}
 use Rattle.host.specs.Host.{idles, next_of}
@@ -59,7 +59,7 @@ module _ (c : Shape) (w : World) (h : ℕ) (command : Command) (tries : ℕ) whe
   of_submit g t given None reads is = absurd (cc)
   of_submit g t given (Some found) reads is =
       let same : entries.Submit g found t ≡ entries.Submit h command tries =
-      (let some = brought (found.host == g) (Some (entries.Submit g found t)) (entries.Submit h command tries) is in cc) in
+      (let some = brought (found.host == g && is_submittable found) (Some (entries.Submit g found t)) (entries.Submit h command tries) is in cc) in
       let one_host : g ≡ h = cc in
       let one_command : found ≡ command = cc in
       let one_tries : t ≡ tries = cc in
