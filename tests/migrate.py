@@ -1,6 +1,7 @@
 #!/usr/bin/env python3
 """migrate.py [--kills N]: moves folders of the first layout with `dlm migrate`. What it prints, what it tells on standard error, its status, the
-bytes of the new images, and what is left alone. Then it kills as many migrations (none given: none) at random moments (`kill -9`): of three
+bytes of the new images, and what is left alone. Each write and sync on a new image fails once, from the first one after all were made zeros; for
+that a few lines of C stand before the C library, and where there is no C compiler this is left out. Then it kills as many migrations (none given: none) at random moments (`kill -9`): of three
 one at any, one once a new image is there, one once a gate is open. After each it looks that the next run ends it or is refused, and that no
 state of the new folder reads as a cluster that lacks a command.
 
@@ -223,6 +224,159 @@ def empty_log():
     os.mkdir("e")
     prints("migrate d e 16", "migrated 0 commands, 3 disks, 16 slots\n")
     prints("table e 1", "recovered 0\nempty\n")
+
+
+# CALLS THAT FAIL
+
+# For LD_PRELOAD. FAILS=w3: once three syncs were made on images of the folder e, the next write there leaves the first half of its bytes and
+# fails. FAILS=s3: the next sync fails.
+FAILING = r"""
+#define _GNU_SOURCE
+#include <dlfcn.h>
+#include <errno.h>
+#include <fcntl.h>
+#include <stdarg.h>
+#include <stdio.h>
+#include <stdlib.h>
+#include <string.h>
+#include <unistd.h>
+
+#define MOST_FILES 1024
+
+static int (*real_open)(const char *, int, ...);
+static ssize_t (*real_pwrite)(int, const void *, size_t, off_t);
+static int (*real_fdatasync)(int);
+static int images[MOST_FILES], syncs, fails_after = -1;
+static char fails;
+
+__attribute__((constructor)) static void begin(void) {
+    real_open = dlsym(RTLD_NEXT, "open");
+    real_pwrite = dlsym(RTLD_NEXT, "pwrite");
+    real_fdatasync = dlsym(RTLD_NEXT, "fdatasync");
+    if (getenv("FAILS"))
+        sscanf(getenv("FAILS"), "%c%d", &fails, &fails_after);
+}
+
+int open(const char *path, int flags, ...) {
+    va_list rest;
+    va_start(rest, flags);
+    int mode = flags & O_CREAT ? va_arg(rest, int) : 0;
+    va_end(rest);
+    int fd = real_open(path, flags, mode);
+    if (fd >= 0 && fd < MOST_FILES)
+        images[fd] = !strncmp(path, "e/disk", 6);
+    return fd;
+}
+
+static int fails_now(int fd, char call) {
+    if (fd < 0 || fd >= MOST_FILES || !images[fd] || fails != call || syncs != fails_after)
+        return 0;
+    fails = 0;
+    return 1;
+}
+
+ssize_t pwrite(int fd, const void *from, size_t length, off_t at) {
+    if (!fails_now(fd, 'w'))
+        return real_pwrite(fd, from, length, at);
+    real_pwrite(fd, from, length / 2, at);
+    errno = EIO;
+    return -1;
+}
+
+int fdatasync(int fd) {
+    if (fails_now(fd, 's')) {
+        errno = EIO;
+        return -1;
+    }
+    if (fd >= 0 && fd < MOST_FILES)
+        syncs += images[fd];
+    return real_fdatasync(fd);
+}
+"""
+
+
+def built_failing():
+    """The path of the library, or None where there is no C compiler."""
+    if not shutil.which("cc"):
+        print("migrate.py: no C compiler (cc), so no call is made to fail")
+        return None
+    with open("failing.c", "w", encoding="ascii") as file:
+        file.write(FAILING)
+    subprocess.run(["cc", "-shared", "-fPIC", "-o", "failing.so", "failing.c", "-ldl"], check=True)
+    return os.path.realpath("failing.so")
+
+
+def fails(library, call):
+    """This call on a new image fails, and with it the migration."""
+    env = {**os.environ, "LD_PRELOAD": library, "FAILS": call}
+    words = [PROGRAM, "migrate", "d", "e", "16"]
+    ended = subprocess.run(words, env=env, stdin=subprocess.DEVNULL, capture_output=True, check=False, text=True)
+    wants(f"a migration where {call} fails", (ended.returncode, ended.stdout, ended.stderr), (1, "", "dlm: 34 MigrationFailed\n"))
+
+
+def first_bytes():
+    return [bytes_of(f"e/disk{disk}.img")[0] for disk in range(3)]
+
+
+def are_complete(what):
+    for disk in range(3):
+        wants(f"{what}, image {disk}", bytes_of(f"e/disk{disk}.img"), new_image(disk, 3, 16, [FIRST]))
+
+
+def reads(count):
+    """A copy of the folder, so many of whose gates are open, is no cluster, or lacks a majority, or has the whole log."""
+    shutil.rmtree("copy", ignore_errors=True)
+    shutil.copytree("e", "copy")
+    if count == 0:
+        refused("table copy 9", "dlm: 24 NotFormatted disk0\n")
+    elif count == 1:
+        refused("table copy 9", "dlm: 7 NoMajority\n")
+    else:
+        prints("table copy 9", HELD)
+
+
+@test
+def failed_calls():
+    library = built_failing()
+    if not library:
+        return
+    make_old("d", 3, 16, [FIRST])
+    # On each disk a sync of the zeros; then on each one of the blocks and one of the header; then on each one of the gate.
+    for made in range(3, 12):
+        for call, opened in ((f"w{made}", max(made - 9, 0)), (f"s{made}", max(made - 8, 0))):
+            os.mkdir("e")
+            fails(library, call)
+            wants(f"files at {call}", sorted(os.listdir("e")), ["disk0.img", "disk1.img", "disk2.img"])
+            wants(f"gates at {call}", first_bytes(), [0xA5] * opened + [0] * (3 - opened))
+            reads(opened)
+            if opened == 0:
+                refused("migrate d e 16", "dlm: 29 AlreadyThere\n")
+                shutil.rmtree("e")
+                os.mkdir("e")
+                prints("migrate d e 16", "migrated 1 commands, 3 disks, 16 slots\n")
+            else:
+                prints("migrate d e 16", "finished 3 disks\n")
+            are_complete(f"after {call}")
+            shutil.rmtree("e")
+
+
+@test
+def failed_finish():
+    library = built_failing()
+    if not library:
+        return
+    make_old("d", 3, 16, [FIRST])
+    os.mkdir("e")
+    prints("migrate d e 16", "migrated 1 commands, 3 disks, 16 slots\n")
+    # The gate of disk 1 is opened and synced, and then that of disk 2. Where a call fails no other is made.
+    for call, gates_left in (("w0", [0xA5, 0, 0]), ("s0", [0xA5, 0xA5, 0]), ("w1", [0xA5, 0xA5, 0]), ("s1", [0xA5, 0xA5, 0xA5])):
+        put_byte("e/disk1.img", 0, 0)
+        put_byte("e/disk2.img", 0, 0)
+        fails(library, call)
+        wants(f"gates at {call}", first_bytes(), gates_left)
+        reads(gates_left.count(0xA5))
+        prints("migrate d e 16", "finished 3 disks\n")
+        are_complete(f"after {call}")
 
 
 # KILLS

@@ -1,12 +1,14 @@
 -- New images: how one is made zeros, when it is an image of a set, and how its gate is opened.
-use Rattle.std.specs.Prelude.{◌≤◌, ℕ, List, [], ◌∷◌, drop}
-use Rattle.disk.specs.Disk.{Call, Attach, Write, Sync, Answer, Booted, Done}
+use Rattle.std.specs.Prelude.{◌≡◌, ◌⊎◌, ◌<◌, ◌≤◌, ℕ, List, [], ◌∷◌, length, drop, slice_get, slice_set, Some}
+use Rattle.disk.specs.Disk.{Device, Call, Attach, Read, Write, Sync, Answer, Booted, Done, Fault}
+use Rattle.disk.specs.declared.fault.DiskFault.{DiskFault}
 use Rattle.torn_block.specs.declared.layout.TheConstants.{HEADER_LENGTH}
 use Rattle.torn_block.specs.declared.block.TheConstants.{OPEN_GATE}
 use Rattle.paxos_block.specs.declared.header.Header.{Header}
 use Rattle.paxos_block.specs.Headers.{IsRight, IsFormatted}
+use Rattle.slot_log.specs.Shape.{Shape}
 use Rattle.dlm_images.specs.Folders.{HasToldFirst}
-use Rattle.dlm_images.specs.Layout.{WritesZeros}
+use Rattle.dlm_images.specs.Layout.{WritesZeros, header_of}
 use Rattle.folder_migration.specs.declared.gate.Gate.{Gate}
 use Rattle.folder_migration.specs.declared.gate.Gate.TheVariants.{Open, Closed, Neither}
 
@@ -19,11 +21,25 @@ pub record IsClosedImage (header : Header) (long : ℕ) (bytes : List ℕ) : Typ
   pub closed : ¬ IsFormatted bytes
   pub right : IsRight header.disk long (OPEN_GATE ∷ drop 1 bytes) header
 
+-- it is neither
+pub record IsNoImage (header : Header) (long : ℕ) (bytes : List ℕ) : Type 0 where
+  pub not_open : ¬ IsOpenImage header long bytes
+  pub not_closed : ¬ IsClosedImage header long bytes
+
+-- a disk was asked for its first bytes, and one of the two calls was answered with this fault
+abbrev pub FailsToTell : {D : Type 0} → (D → Call → Answer → D → Type 0) → (old : D) → DiskFault → (new : D) → Type 0
+FailsToTell {D} gives old fault new =
+    gives old Attach (Fault fault) new ⊎ ((boot : ℕ) × (attached : D) × gives old Attach (Booted boot) attached × gives attached (Read boot 0 HEADER_LENGTH) (Fault fault) new)
+
+-- it told none: a header has no room on it, and it was not asked; or it failed to
+abbrev pub TellsNone : {D : Type 0} → (D → Call → Answer → D → Type 0) → ℕ → (old new : D) → Type 0
+TellsNone gives size old new = ((size < HEADER_LENGTH) × (new ≡ old)) ⊎ ((fault : DiskFault) × FailsToTell gives old fault new)
+
 -- what is found of a device of so many bytes, by the first bytes that it told
 abbrev pub Finds : {D : Type 0} → (D → Call → Answer → D → Type 0) → Header → ℕ → (old new : D) → Gate → Type 0
 Finds gives header size old new Open = (HEADER_LENGTH ≤ size) × (bytes : List ℕ) × HasToldFirst gives old bytes new × IsOpenImage header size bytes
 Finds gives header size old new Closed = (HEADER_LENGTH ≤ size) × (bytes : List ℕ) × HasToldFirst gives old bytes new × IsClosedImage header size bytes
-Finds gives header size old new Neither = Unit {0}
+Finds gives header size old new Neither = TellsNone gives size old new ⊎ ((bytes : List ℕ) × HasToldFirst gives old bytes new × IsNoImage header size bytes)
 
 -- the disk was made zeros up to this size, and synced
 pub record IsCleared {D : Type 0} (gives : D → Call → Answer → D → Type 0) (size : ℕ) (old new : D) : Type 0 where
@@ -42,3 +58,70 @@ pub record OpensGate {D : Type 0} (gives : D → Call → Answer → D → Type 
   pub attaches : gives old Attach (Booted boot) attached
   pub opens : gives attached (Write boot 0 (OPEN_GATE ∷ [])) Done opened
   pub syncs : gives opened (Sync boot) Done new
+
+-- it was to be opened, and the first call, the write or the sync was answered with this fault
+pub data FailsToOpen {D : Type 0} (gives : D → Call → Answer → D → Type 0) (old : D) (fault : DiskFault) (new : D) : Type 0 where
+  not_attached : gives old Attach (Fault fault) new → FailsToOpen gives old fault new
+  not_written : (boot : ℕ) → (attached : D) → gives old Attach (Booted boot) attached → gives attached (Write boot 0 (OPEN_GATE ∷ [])) (Fault fault) new → FailsToOpen gives old fault new
+  not_synced : (boot : ℕ) → (attached opened : D) → gives old Attach (Booted boot) attached → gives attached (Write boot 0 (OPEN_GATE ∷ [])) Done opened → gives opened (Sync boot) (Fault fault) new → FailsToOpen gives old fault new
+
+-- LEFT OPEN
+
+-- a gate that was found closed was opened, and any other was left as it is
+abbrev pub OpensClosed : {D : Type 0} → (D → Call → Answer → D → Type 0) → Gate → (looked new : D) → Type 0
+OpensClosed gives Closed looked new = OpensGate gives looked new
+OpensClosed gives Open looked new = new ≡ looked
+OpensClosed gives Neither looked new = new ≡ looked
+
+-- The gate of an image was looked for, and opened if it was closed.
+pub record IsLeftOpen {D : Type 0} (gives : D → Call → Answer → D → Type 0) (header : Header) (size : ℕ) (old new : D) : Type 0 where
+  pub gate : Gate
+  pub looked : D
+  pub finds : Finds gives header size old looked gate
+  pub opens : OpensClosed gives gate looked new
+
+-- It was found closed, and could not be opened, for this fault.
+pub record IsLeftClosed {D : Type 0} (gives : D → Call → Answer → D → Type 0) (header : Header) (size : ℕ) (old : D) (fault : DiskFault) (new : D) : Type 0 where
+  pub looked : D
+  pub finds : Finds gives header size old looked Closed
+  pub fails : FailsToOpen gives looked fault new
+
+-- ALL OF THEM
+
+-- Each of the first disks became another one so, by its number, and the others are as they were.
+pub record FirstBecame {D : Type 0} (becomes : ℕ → D → D → Type 0) (n : ℕ) (old new : List D) : Type 0 where
+  pub as_many : length new ≡ length old
+  pub first : (k : ℕ) (a b : D) → k < n → slice_get old k ≡ Some a → slice_get new k ≡ Some b → becomes k a b
+  pub others : (k : ℕ) → n ≤ k → slice_get new k ≡ slice_get old k
+
+-- this is found of the image of this number
+abbrev pub FindsOf : {D : Type 0} → (D → Call → Answer → D → Type 0) → (D → Device) → Shape → (cluster : ℕ) → Gate → ℕ → D → D → Type 0
+FindsOf gives device config cluster gate disk old new = Finds gives (header_of config cluster disk) (device old).size old new gate
+
+-- The images were looked at up to one whose gate is open.
+pub record HasOpenGate {D : Type 0} (gives : D → Call → Answer → D → Type 0) (device : D → Device) (config : Shape) (cluster : ℕ) (old new : List D) : Type 0 where
+  pub disk : ℕ
+  pub before : D
+  pub after : D
+  pub is : slice_get old disk ≡ Some before
+  pub becomes : slice_get new disk ≡ Some after
+  pub found : FindsOf gives device config cluster Open disk before after
+
+-- no gate of the first so many is open
+abbrev pub HaveNoOpenGate : {D : Type 0} → (D → Call → Answer → D → Type 0) → (D → Device) → Shape → (cluster n : ℕ) → (old new : List D) → Type 0
+HaveNoOpenGate gives device config cluster n = FirstBecame (λ disk old new. (gate : Gate) × ¬ (gate ≡ Open) × FindsOf gives device config cluster gate disk old new) n
+
+-- the first so many were left open
+abbrev pub AreLeftOpen : {D : Type 0} → (D → Call → Answer → D → Type 0) → (D → Device) → Shape → (cluster n : ℕ) → (old new : List D) → Type 0
+AreLeftOpen gives device config cluster n = FirstBecame (λ disk old new. IsLeftOpen gives (header_of config cluster disk) (device old).size old new) n
+
+-- One was left closed for this fault. Those before it were left open, and those after it are as they were.
+pub record IsStopped {D : Type 0} (gives : D → Call → Answer → D → Type 0) (device : D → Device) (config : Shape) (cluster : ℕ) (old : List D) (fault : DiskFault) (new : List D) : Type 0 where
+  pub disk : ℕ
+  pub now : List D
+  pub left_open : AreLeftOpen gives device config cluster disk old now
+  pub image : D
+  pub left : D
+  pub is : slice_get now disk ≡ Some image
+  pub left_closed : IsLeftClosed gives (header_of config cluster disk) (device image).size image fault left
+  pub new_is : new ≡ slice_set now disk left

@@ -1,6 +1,8 @@
 -- What a migration from one folder to another came to, and why one may be refused.
-use Rattle.std.specs.Prelude.{◌≡◌, ◌⊎◌, ◌≤◌, ◌<◌, ℕ, List, length, slice_get, Some}
+use Rattle.std.specs.Prelude.{◌≡◌, ◌⊎◌, ◌≤◌, ◌<◌, ℕ, false, List, length, slice_get, Some}
 use Rattle.torn_block.specs.declared.layout.TheConstants.{DISKS}
+use Rattle.disk.specs.Disk.{Device}
+use Rattle.disk.specs.declared.fault.DiskFault.{DiskFault}
 use Rattle.disk.specs.declared.fault.ImageFault.TheVariants.{Unreadable}
 use Rattle.disk.specs.FileStates.{FileState, FileGives}
 use Rattle.paxos_block.specs.Places.{image_length}
@@ -11,18 +13,15 @@ use Rattle.migration.specs.Kept.{setup_by}
 use Rattle.migration.specs.declared.end.End.{End}
 use Rattle.migration.specs.declared.end.End.TheVariants as end
 use Rattle.dlm_images.specs.Folders.{IsLockFault}
-use Rattle.dlm_images.specs.Layout.{header_of}
 use Rattle.dlm_images.specs.SetFaults.{MayRefuse}
 use Rattle.dlm_images.specs.declared.fault.FolderFault.{FolderFault}
 use Rattle.dlm_images.specs.declared.fault.FolderFault.TheVariants as folder
-use Rattle.folder_migration.specs.Gates.{Finds, IsCleared, OpensGate}
+use Rattle.folder_migration.specs.Gates.{IsCleared, HasOpenGate, AreLeftOpen, IsStopped}
 use Rattle.folder_migration.specs.Moving.{HasMoved}
 use Rattle.folder_migration.specs.OldFolders.{IsOpened}
 use Rattle.folder_migration.specs.Recovery.{HasRecovered, RecoversTo}
 use Rattle.folder_migration.specs.declared.fault.MoveFault.{MoveFault}
 use Rattle.folder_migration.specs.declared.fault.MoveFault.TheVariants.{NoMemory, Folder, TooFewSlots, Lock, Refused, MigrationFailed}
-use Rattle.folder_migration.specs.declared.gate.Gate.{Gate}
-use Rattle.folder_migration.specs.declared.gate.Gate.TheVariants.{Open, Closed}
 use Rattle.folder_migration.specs.declared.migrate.Moved.{Moved}
 use Rattle.folder_migration.specs.declared.migrate.Moved.TheVariants.{Moved as WasMoved, Finished}
 
@@ -47,27 +46,28 @@ pub record IsTooSmall (slots : ℕ) : Type 0 where
 
 -- NEW IMAGES
 
--- the image of this number was found so
-pub record IsFound (config : Shape) (cluster disk : ℕ) (image : FileState) (gate : Gate) : Type 0 where
-  pub before : FileState
-  pub finds : Finds FileGives (header_of config cluster disk) before.size before image gate
+-- what is known of a file as a device
+abbrev pub file_device : FileState → Device
+file_device file = record { tells = false; size = file.size; boot = 1; gone = false }
 
--- the gate of one of them is open
-pub record IsBegun (config : Shape) (cluster : ℕ) : Type 0 where
-  pub disk : ℕ
-  pub image : FileState
-  pub among : disk < config.disks
-  pub found : IsFound config cluster disk image Open
+-- One of the new images had an open gate, and each of them was left open.
+pub record AreFinished (config : Shape) (cluster : ℕ) : Type 0 where
+  pub found : List FileState
+  pub looked : List FileState
+  pub left : List FileState
+  pub as_many : length found ≡ config.disks
+  pub begun : HasOpenGate FileGives file_device config cluster found looked
+  pub left_open : AreLeftOpen FileGives file_device config cluster config.disks looked left
 
--- If its gate was closed, it was opened.
-pub record IsLeftOpen (config : Shape) (cluster disk : ℕ) : Type 0 where
-  pub image : FileState
-  pub gate : Gate
-  pub found : IsFound config cluster disk image gate
-  pub opened : gate ≡ Closed → (new : FileState) × OpensGate FileGives image new
-
-abbrev pub AreLeftOpen : Shape → ℕ → ℕ → Type 0
-AreLeftOpen config cluster n = (k : ℕ) → k < n → IsLeftOpen config cluster k
+-- One had, and of another one a call failed that was to open its gate.
+pub record AreNotFinished (config : Shape) (cluster : ℕ) : Type 0 where
+  pub found : List FileState
+  pub looked : List FileState
+  pub left : List FileState
+  pub fault : DiskFault
+  pub as_many : length found ≡ config.disks
+  pub begun : HasOpenGate FileGives file_device config cluster found looked
+  pub stopped : IsStopped FileGives file_device config cluster looked fault left
 
 -- a device was made zeros, and has room for an image
 pub record IsBlank (size : ℕ) (image : FileState) : Type 0 where
@@ -98,14 +98,13 @@ pub record HasWritten (slots commands disks : ℕ) (end : End) : Type 0 where
   pub commands_is : commands ≡ length log
   pub disks_is : disks ≡ config.disks
 
--- One of the new images had an open gate, and those of the others were opened.
+-- An earlier migration onto the new images was finished.
 pub record HasFinished (slots disks : ℕ) : Type 0 where
   pub config : Shape
   pub cluster : ℕ
   pub old : List FileState
   pub ready : IsReady slots config cluster old
-  pub begun : IsBegun (with_slots config slots) cluster
-  pub left_open : AreLeftOpen (with_slots config slots) cluster config.disks
+  pub finished : AreFinished (with_slots config slots) cluster
   pub disks_is : disks ≡ config.disks
 
 abbrev pub CameTo : ℕ → Moved → Type 0
@@ -124,18 +123,19 @@ pub record HasRefused (slots : ℕ) (refusal : Refusal) : Type 0 where
   pub ready : IsReady slots config cluster old
   pub recovers : HasRecovered FileGives config old left learned (Ended refusal)
 
--- A call of the migration failed; or one that was to open a gate did, where another gate was open.
+-- a call of the migration failed
 pub record HasFailed (slots : ℕ) : Type 0 where
   pub commands : ℕ
   pub disks : ℕ
   pub written : HasWritten slots commands disks end.MigrationFailed
 
+-- or one that was to finish an earlier one
 pub record HasNotFinished (slots : ℕ) : Type 0 where
   pub config : Shape
   pub cluster : ℕ
   pub old : List FileState
   pub ready : IsReady slots config cluster old
-  pub begun : IsBegun (with_slots config slots) cluster
+  pub not_finished : AreNotFinished (with_slots config slots) cluster
 
 -- the old images are no set, or a new one is there, or one of them cannot be made
 abbrev pub IsFolderFault : FolderFault → Type 0

@@ -1,9 +1,9 @@
-ghost use Rattle.std.specs.Prelude.{◌≡◌, ◌↔◌, ◌≤◌, IsTrue, OnOk};
+ghost use Rattle.std.specs.Prelude.{◌≡◌, ◌↔◌, ◌≤◌, IsTrue, IfErr, IfOk, OnOk};
 ghost use Rattle.torn_block.specs.declared.layout.TheConstants.{HEADER_LENGTH};
-ghost use Rattle.folder_migration.specs.Gates.{IsOpenImage, IsClosedImage, Finds, OpensGate};
+ghost use Rattle.dlm_images.specs.Folders.{HasToldFirst};
+ghost use Rattle.folder_migration.specs.Gates.{IsOpenImage, IsClosedImage, FailsToTell, Finds, OpensGate, FailsToOpen, IsLeftOpen, IsLeftClosed};
 
 use disk::{Disk, DiskFault};
-use dlm_images::first_bytes;
 use paxos_block::{Header, decode_header};
 use torn_block::{ClusterLayout, HEADER_LENGTH, OPEN_GATE};
 
@@ -44,25 +44,54 @@ fn is_same(found: &Header, header: &Header) -> bool
     found == header
 }
 
-/// What is found of a device where the image with this header should be. One that cannot be read has no gate.
+/// What is found of a device where the image with this header should be. One that does not tell its first bytes has no gate.
 pub fn find_gate<D: Disk>(device: &mut D, header: &Header) -> Gate
     ensures found { Finds D.gives header.now (D.device device.old).size device.old device.new result }
     ensures room { (result ≡ Gate.Closed) → HEADER_LENGTH ≤ (D.device device.new).size }
     ensures device { D.device device.new ≡ D.device device.old }
 {
     let long = device.size();
-    match first_bytes(device) {
-        Ok(bytes) if HEADER_LENGTH as u64 <= long => gate_in(header, long, &bytes),
-        _ => Gate::Neither,
+    if long < HEADER_LENGTH as u64 {
+        return Gate::Neither;
     }
+    match header_bytes(device) {
+        Ok(bytes) => gate_in(header, long, &bytes),
+        Err(_) => Gate::Neither,
+    }
+}
+
+fn header_bytes<D: Disk>(device: &mut D) -> Result<[u8; HEADER_LENGTH], DiskFault>
+    requires { HEADER_LENGTH ≤ (D.device device.old).size }
+    ensures told { IfOk result (λ bytes. HasToldFirst D.gives device.old bytes device.new) }
+    ensures fault { IfErr result (λ fault. FailsToTell D.gives device.old fault device.new) }
+    ensures device { D.device device.new ≡ D.device device.old }
+{
+    let mut bytes = [0; HEADER_LENGTH];
+    let boot = device.attach()?;
+    device.read(boot, 0, &mut bytes)?;
+    Ok(bytes)
 }
 
 /// Opens the gate of an image, and makes sure of it.
 pub fn open_gate<D: Disk>(device: &mut D) -> Result<(), DiskFault>
     requires { 1 ≤ (D.device device.old).size }
     ensures opened { OnOk result (OpensGate D.gives device.old device.new) }
+    ensures fault { IfErr result (λ fault. FailsToOpen D.gives device.old fault device.new) }
+    ensures device { D.device device.new ≡ D.device device.old }
 {
     let boot = device.attach()?;
     device.write(boot, 0, &[OPEN_GATE])?;
     device.sync(boot)
+}
+
+/// Opens the gate of an image that is complete but for it. Anything else is left as it is.
+pub fn leave_open<D: Disk>(device: &mut D, header: &Header) -> Result<(), DiskFault>
+    ensures left { OnOk result (IsLeftOpen D.gives header.now (D.device device.old).size device.old device.new) }
+    ensures fault { IfErr result (λ fault. IsLeftClosed D.gives header.now (D.device device.old).size device.old fault device.new) }
+    ensures device { D.device device.new ≡ D.device device.old }
+{
+    match find_gate(device, header) {
+        Gate::Closed => open_gate(device),
+        Gate::Open | Gate::Neither => Ok(()),
+    }
 }

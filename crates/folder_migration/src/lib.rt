@@ -3,6 +3,7 @@
 
 mod device;
 mod fault;
+mod finishing;
 mod gate;
 mod image;
 mod migrate;
@@ -12,7 +13,8 @@ mod old_log;
 mod slots;
 
 pub use fault::MoveFault;
-pub use gate::{Gate, find_gate, gate_in, open_gate};
+pub use finishing::{finish, is_begun};
+pub use gate::{Gate, find_gate, gate_in, leave_open, open_gate};
 pub use image::clear;
 pub use migrate::{Moved, migrate_folder};
 pub use moving::move_log;

@@ -1,11 +1,10 @@
-ghost use Rattle.std.specs.Prelude.{◌≡◌, ◌⊎◌, ◌≤◌, ◌<◌, IfOk, IfErr, true};
-ghost use Rattle.torn_block.specs.declared.layout.TheConstants.{HEADER_LENGTH};
+ghost use Rattle.std.specs.Prelude.{◌≡◌, ◌⊎◌, ◌≤◌, ◌<◌, IfOk, IfErr, length, true};
 ghost use Rattle.paxos_block.specs.Places.{image_length};
 ghost use Rattle.dlm_images.specs.SetFaults.{IsFormatFault};
-ghost use Rattle.folder_migration.specs.Migrating.{AreBlank, AreLeftOpen, CameTo, IsBegun, IsBlank, IsFound, IsLeftOpen, MayFail, with_slots};
+ghost use Rattle.folder_migration.specs.Migrating.{AreBlank, AreFinished, AreNotFinished, CameTo, IsBlank, MayFail, with_slots};
 
 use crate::fault::MoveFault;
-use crate::gate::{Gate, find_gate, open_gate};
+use crate::finishing::{finish, is_begun};
 use crate::image::clear;
 use crate::moving::move_log;
 use crate::old_folder::open_old_folder;
@@ -19,7 +18,6 @@ use dlm_images::{
 use host::Config;
 use lock_command::HostNumber;
 use migration::End;
-use paxos_block::Header;
 use std::fs::OpenFile;
 use std::os::unix::fs::FileExt;
 use std::rt::Files;
@@ -51,8 +49,7 @@ where
     let cluster = images.cluster;
     let config = new_config(images.config, slots)?;
     let disks = config.disks();
-    if is_begun(rt, new, config, cluster)? {
-        finish(rt, new, config, cluster)?;
+    if finish_earlier(rt, new, config, cluster)? {
         return Ok(Moved::Finished { disks });
     }
     // Two migrations at once would both be host 0.
@@ -91,94 +88,48 @@ fn first_host() -> HostNumber
     }
 }
 
-/// Whether the gate of some new image is open.
-fn is_begun<R: Files + AllocGlobal>(
+/// Opens the gates that an earlier run has left, if it had opened one. Whether it had is the result.
+fn finish_earlier<R: Files + AllocGlobal>(
     rt: &R,
     folder: &str,
     config: Config,
     cluster: u64,
-) -> Result<bool, FolderFault>
+) -> Result<bool, MoveFault>
 where
     R::File: FileExt + OpenFile + Drop,
-    ensures begun { IfOk result (λ begun. begun ≡ true → IsBegun config cluster) }
+    ensures finished { IfOk result (λ finished. finished ≡ true → AreFinished config cluster) }
+    ensures fault { IfErr result (λ fault. (fault ≡ MoveFault.Folder FolderFault.NoMemory) ⊎ ((fault ≡ MoveFault.MigrationFailed) × AreNotFinished config cluster)) }
+{
+    let mut images = open_new_folder(rt, folder, config)?;
+    if !is_begun(config, cluster, &mut images) {
+        return Ok(false);
+    }
+    match finish(config, cluster, &mut images) {
+        Ok(()) => Ok(true),
+        Err(_) => Err(MoveFault::MigrationFailed),
+    }
+}
+
+/// The disks of the new images. Of one that cannot be opened every call fails.
+fn open_new_folder<R: Files + AllocGlobal>(
+    rt: &R,
+    folder: &str,
+    config: Config,
+) -> Result<Vec<FileDisk<R::File>>, FolderFault>
+where
+    R::File: FileExt + OpenFile + Drop,
+    ensures as_many { IfOk result (λ images. length images.items ≡ config.disks) }
     ensures fault { IfErr result (λ fault. fault ≡ FolderFault.NoMemory) }
 {
+    let mut images = Vec::with_capacity(rt.alloc(), usize::from(config.disks()))?;
     for disk in 0..config.disks() {
-        let (gate, _image) = look_at(rt, folder, config, cluster, disk)?;
-        if gate == Gate::Open {
-            return Ok(true);
-        }
+        let path = image_path(rt.alloc(), folder, disk)?;
+        let image = open_as_told(rt, path.as_str(), Access::ReadAndWrite).unwrap_or_else(
+            |_| FileDisk::missing(0),
+        );
+        images.push_reserved(image);
     }
-    Ok(false)
-}
-
-/// Opens the gates of the images that are complete but for them.
-fn finish<R: Files + AllocGlobal>(
-    rt: &R,
-    folder: &str,
-    config: Config,
-    cluster: u64,
-) -> Result<(), MoveFault>
-where
-    R::File: FileExt + OpenFile + Drop,
-    ensures finished { IfOk result (λ done. AreLeftOpen config cluster config.disks) }
-    ensures fault { IfErr result (λ fault. (fault ≡ MoveFault.Folder FolderFault.NoMemory) ⊎ (fault ≡ MoveFault.MigrationFailed)) }
-{
-    for disk in 0..config.disks() {
-        leave_open(rt, folder, config, cluster, disk)?;
-    }
-    Ok(())
-}
-
-/// Opens the gate of an image that is complete but for it.
-fn leave_open<R: Files + AllocGlobal>(
-    rt: &R,
-    folder: &str,
-    config: Config,
-    cluster: u64,
-    disk: u8,
-) -> Result<(), MoveFault>
-where
-    R::File: FileExt + OpenFile + Drop,
-    requires { disk < config.disks }
-    ensures left { IfOk result (λ done. IsLeftOpen config cluster disk) }
-    ensures fault { IfErr result (λ fault. (fault ≡ MoveFault.Folder FolderFault.NoMemory) ⊎ (fault ≡ MoveFault.MigrationFailed)) }
-{
-    let (gate, mut image) = look_at(rt, folder, config, cluster, disk)?;
-    match gate {
-        Gate::Closed => open_gate(&mut image).map_err(|_| MoveFault::MigrationFailed),
-        Gate::Open | Gate::Neither => Ok(()),
-    }
-}
-
-/// What is found of a new image, and its disk.
-fn look_at<R: Files + AllocGlobal>(
-    rt: &R,
-    folder: &str,
-    config: Config,
-    cluster: u64,
-    disk: u8,
-) -> Result<(Gate, FileDisk<R::File>), FolderFault>
-where
-    R::File: FileExt + OpenFile + Drop,
-    requires { disk < config.disks }
-    ensures found { IfOk result (λ found. IsFound config cluster disk found.1 found.0) }
-    ensures room { IfOk result (λ found. found.0 ≡ Gate.Closed → HEADER_LENGTH ≤ found.1.size) }
-    ensures fault { IfErr result (λ fault. fault ≡ FolderFault.NoMemory) }
-{
-    let path = image_path(rt.alloc(), folder, disk)?;
-    let mut image = match open_as_told(rt, path.as_str(), Access::ReadAndWrite) {
-        Ok(image) => image,
-        Err(_) => FileDisk::missing(0),
-    };
-    let header = Header {
-        disk,
-        disks: config.disks(),
-        slots: u32::from(config.slots()),
-        cluster,
-    };
-    let gate = find_gate(&mut image, &header);
-    Ok((gate, image))
+    Ok(images)
 }
 
 /// Makes the new images of zeros, if none of them is there.

@@ -1,0 +1,18 @@
+use Rattle.std.proofs.Common.{◌≡◌, ◌<◌, ◌+◌, ℕ, Some, get_or, length, slice_get, slice_set, arith, sym, subst}
+use Rattle.std.proofs.lemmas.Option.{slice_get-get_or}
+use Rattle.paxos_block.specs.declared.header.Header.{Header}
+use Rattle.folder_migration.specs.Gates.{IsLeftOpen, AreLeftOpen}
+use Rattle.folder_migration.proofs.Opened.{one_more_became}
+use Rattle.folder_migration.proofs.finishing.finish.Goals as goal
+
+pub loop-disk-preserved : goal.loop-disk-preserved
+loop-disk-preserved g c =
+    let images = c.loop-disk.images in
+    let disk = c.loop-disk.disk in
+    let before = get_or images c.from.result c.index-images-from.result in
+    let after = c.leave_open.new.device in
+    let within : c.from.result < length images = omega (arith, c.from.ensures, c.requires.as_many, c.loop-disk.invariant.as_many) in
+    let at : slice_get images disk ≡ Some before = subst (λ (k : ℕ). slice_get images k ≡ Some before) c.from.ensures (slice_get-get_or images c.from.result c.index-images-from.result within) in
+    let left = subst (λ (h : Header). IsLeftOpen g.D.Disk.gives h (g.D.Disk.device before).size before after) c.new_header-header.ensures c.in_ok-leave_open.ensures.left in
+    subst (λ (k : ℕ). AreLeftOpen g.D.Disk.gives g.D.Disk.device c.args.config c.args.cluster (disk + 1) c.args.images.now (slice_set images k after)) (sym c.from.ensures)
+    (one_more_became _ disk c.args.images.now images before after at left c.loop-disk.invariant)

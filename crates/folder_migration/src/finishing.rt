@@ -1,0 +1,48 @@
+ghost use Rattle.std.specs.Prelude.{◌≡◌, true, false, IfErr, OnOk, length};
+ghost use Rattle.dlm_images.specs.Layout.{header_of};
+ghost use Rattle.folder_migration.specs.Gates.{HasOpenGate, HaveNoOpenGate, AreLeftOpen, IsStopped};
+
+use crate::gate::{Gate, find_gate, leave_open};
+use disk::{Disk, DiskFault};
+use host::Config;
+use paxos_block::Header;
+
+/// Whether the gate of some new image is open. Once one is found, no other is looked at.
+pub fn is_begun<D: Disk>(config: Config, cluster: u64, images: &mut [D]) -> bool
+    requires as_many { length images.old ≡ config.disks }
+    ensures begun { result ≡ true → HasOpenGate D.gives D.device config cluster images.old images.new }
+    ensures none { result ≡ false → HaveNoOpenGate D.gives D.device config cluster config.disks images.old images.new }
+    ensures as_many { length images.new ≡ length images.old }
+{
+    for disk in 0..config.disks() {
+        let header = new_header(config, cluster, disk);
+        if find_gate(&mut images[usize::from(disk)], &header) == Gate::Open {
+            return true;
+        }
+    }
+    false
+}
+
+/// Opens the gates of the images that are complete but for them. Where that fails, no other is looked at.
+pub fn finish<D: Disk>(config: Config, cluster: u64, images: &mut [D]) -> Result<(), DiskFault>
+    requires as_many { length images.old ≡ config.disks }
+    ensures left_open { OnOk result (AreLeftOpen D.gives D.device config cluster config.disks images.old images.new) }
+    ensures stopped { IfErr result (λ fault. IsStopped D.gives D.device config cluster images.old fault images.new) }
+{
+    for disk in 0..config.disks() {
+        let header = new_header(config, cluster, disk);
+        leave_open(&mut images[usize::from(disk)], &header)?;
+    }
+    Ok(())
+}
+
+fn new_header(config: Config, cluster: u64, disk: u8) -> Header
+    ensures { result ≡ header_of config cluster disk }
+{
+    Header {
+        disk,
+        disks: config.disks(),
+        slots: u32::from(config.slots()),
+        cluster,
+    }
+}
