@@ -5,15 +5,16 @@ use Rattle.std.proofs.lemmas.Bool.{cases_Bool, eqb-true}
 use Rattle.disk.specs.declared.fault.DiskFault.TheVariants.{Reset, Failed, Gone}
 use Rattle.disk.specs.Disk.{DiskState, Call, Attach, Read, Write, Sync, Answer, Booted, Told, Done, Fault, IsUnder, Step, Crashes, FailureLeaves, success_of, done_by, lost}
 use Rattle.disk.specs.Disk as device
+use Rattle.lock_command.specs.declared.command.Command.{Command}
 use Rattle.slot_log.specs.Shape.{Shape}
 use Rattle.host.specs.Host.{Host, Stopped, Running}
 use Rattle.host.specs.Kept.{Kept}
 use Rattle.world.specs.Entry.{Filled, Start, Stop, Submit, Recover, Look, Beat, Mark, Called, Torn, Crashed, Lost, Migrated, is_on, is_of, on_disk, of_host, host_step, host_after}
 use Rattle.world.specs.World.{Tears}
 use Rattle.world.specs.Chosen.{IsCallOf}
-use Rattle.at_once.specs.AtOnce.{MayDo, Does, Goes, Serves, IsDeed, AreDeeds}
-use Rattle.at_once.specs.Joined.{HasCome, HasRecovered}
-use Rattle.at_once.specs.Power.{LosesPower, GoesOn, ServesOn, later, call_later, answer_later, entry_later, losses_with, renumbered_from, renumbered, LossesAreCrashes, LossesAreJoined}
+use Rattle.at_once.specs.AtOnce.{MayDo, Does, Goes, Serves, IsDeed, AreDeeds, IsAtOnceFrom, IsRunOf}
+use Rattle.at_once.specs.Joined.{HasCome, HasRecovered, IsJoined}
+use Rattle.at_once.specs.Power.{LosesPower, GoesOn, ServesOn, later, call_later, answer_later, entry_later, losses_with, renumbered_from, renumbered, IsOverLossesFrom, LossesAreCrashes, LossesAreJoined, LossesAfterMigrationAreCrashes, LossesAfterMigrationAreJoined}
 use Rattle.at_once.proofs.Joined.{deeds_are_joined}
 use Rattle.at_once.proofs.RenumberedHosts.{host_later, idles_later, stopped_later, next_of_later, idle_same, step_later}
 use Rattle.at_once.proofs.Renumbering.{due_later}
@@ -345,18 +346,24 @@ deeds_later : (losses : ℕ → ℕ) (es : List Filled) → AreDeeds es → AreD
 deeds_later losses [] are = tt
 deeds_later losses (e ∷ es) are = (deed_later losses e are.0, deeds_later (losses_with losses e) es are.1)
 
-pub losses_are_crashes : LossesAreCrashes
-losses_are_crashes c images log s = record {
+crashes_from : (c : Shape) (begun : List Filled) (images : ℕ → DiskState) (log : List Filled) → IsOverLossesFrom c begun images log → IsAtOnceFrom c begun images (renumbered log)
+crashes_from c begun images log s = record {
   hosts = λ h.
       let all : take (length log) (renumbered log) ≡ renumbered log = ap (λ (n : ℕ). take n (renumbered log)) (sym (as_long (λ k. 0) log)) ∙ all_of (renumbered log) in
       let mine : Does c h Stopped (of_host h (take (length log) log)) = subst (λ (l : List Filled). Does c h Stopped (of_host h l)) (sym (all_of log)) (s.hosts h) in
       subst (λ (l : List Filled). Does c h Stopped (of_host h l)) all (renumbers c h (length log) (λ k. 0) Stopped log (λ i k left is. s.dark i k h left is) mine).does;
   deeds = deeds_later (λ k. 0) log s.deeds;
-  held = s.blank;
+  held = s.held;
   disks = λ k.
       let few : 0 + length log < 2 ^ 62 = omega (arith, s.few) in
       subst (λ (disk : DiskState). Serves c k disk (on_disk k (renumbered log))) (disk_none (images k)) (serves c k (λ d. 0) (images k) log few (s.disks k));
 }
+
+pub losses_are_crashes : LossesAreCrashes
+losses_are_crashes c images log s = crashes_from c [] images log s
+
+pub losses_after_migration_are_crashes : LossesAfterMigrationAreCrashes
+losses_after_migration_are_crashes c commands images log s = crashes_from c (Migrated c.disks commands ∷ []) images log s
 
 -- WHAT HOSTS KEEP
 
@@ -423,10 +430,10 @@ module _ (c : Shape) (log : List Filled) (dark : (h : ℕ) → IsDark c h Stoppe
         said = r.said;
       }
 
-pub losses_are_joined : LossesAreJoined
-losses_are_joined c images log s of =
+-- what hosts keep goes by the log of the run under the later numbers
+joined : (c : Shape) (log : List Filled) → ((h : ℕ) → IsDark c h Stopped log) → (of : IsRunOf c (renumbered log)) → IsJoined c log of.one.commands
+joined c log dark of =
     let all = deeds_are_joined c (renumbered log) of in
-    let dark : (h : ℕ) → IsDark c h Stopped log = λ h i k left is. s.dark i k h left is in
     record {
       learned = λ i h kept d. all.learned i h kept (come c log dark i h kept d);
       acknowledged = λ i h kept command slot reply d ack. all.acknowledged i h kept command slot reply (come c log dark i h kept d) ack;
@@ -435,3 +442,16 @@ losses_are_joined c images log s of =
       keeps = λ k i j g h n other kept command slot reply by d ack r.
           all.keeps k i j g h n other kept command slot reply by (come c log dark k g other d) ack (recovered c log dark i j h n kept r);
     }
+
+pub losses_are_joined : LossesAreJoined
+losses_are_joined c images log s of = joined c log (λ h i k left is. s.dark i k h left is) of
+
+-- a migration is no loss of power
+dark_after : (c : Shape) (disks : ℕ) (commands : List Command) (h : ℕ) (log : List Filled) → IsDark c h Stopped log → (i k : ℕ) (left : List ℕ) →
+    slice_get (Migrated disks commands ∷ log) i ≡ Some (Crashed k left) → host_after c h Stopped (of_host h (take i (Migrated disks commands ∷ log))) ≡ Stopped
+dark_after c disks commands h log dark zero k left is = absurd (cc)
+dark_after c disks commands h log dark (suc i) k left is = dark i k left is
+
+pub losses_after_migration_are_joined : LossesAfterMigrationAreJoined
+losses_after_migration_are_joined c commands images log s of =
+    joined c (Migrated c.disks commands ∷ log) (λ h. dark_after c c.disks commands h log (λ i k left is. s.dark i k h left is)) of

@@ -2,11 +2,13 @@
 -- list with the boot numbers that the disks of the model tell.
 use Rattle.std.specs.Prelude.{if◌then◌else◌, ◌≡◌, ◌+◌, ◌<◌, ◌^◌, ◌==◌, ℕ, zero, suc, false, List, [], ◌∷◌, length, replicate, take, slice_get, Some}
 use Rattle.disk.specs.Disk.{DiskState, Call, Attach, Read, Write, Sync, Answer, Booted, KeepsSynced}
+use Rattle.lock_command.specs.declared.command.Command.{Command}
 use Rattle.slot_log.specs.Shape.{Shape}
 use Rattle.host.specs.Host.{Stopped}
-use Rattle.world.specs.Entry.{Filled, Called, Torn, Crashed, on_disk, of_host, host_after}
-use Rattle.at_once.specs.AtOnce.{Does, Goes, AreDeeds, IsAtOnce, IsRunOf}
-use Rattle.at_once.specs.Images.{HoldsNothing}
+use Rattle.world.specs.Entry.{Filled, Called, Torn, Crashed, Migrated, on_disk, of_host, host_after}
+use Rattle.world.specs.World.{world}
+use Rattle.at_once.specs.AtOnce.{Does, Goes, AreDeeds, IsAtOnce, IsAtOnceAfter, IsRunOf}
+use Rattle.at_once.specs.Images.{used}
 use Rattle.at_once.specs.Joined.{IsJoined}
 
 -- LOSSES OF POWER
@@ -29,15 +31,23 @@ abbrev pub ServesOn : Shape → ℕ → DiskState → List Filled → Type 0
 ServesOn c k old [] = Unit {0}
 ServesOn c k old (e ∷ es) = (new : DiskState) × GoesOn c k old e new × ServesOn c k new es
 
--- In this order, each host did by itself what it may, and each image by itself served what was done to it. At first none held a block.
--- Where an image lost power every host has stopped.
-pub record IsOverLosses (c : Shape) (images : ℕ → DiskState) (log : List Filled) : Type 0 where
+-- In this order, each host did by itself what it may, and each image by itself served what was done to it. At first the used part of each image was
+-- what such a beginning leaves. Where an image lost power every host has stopped.
+pub record IsOverLossesFrom (c : Shape) (begun : List Filled) (images : ℕ → DiskState) (log : List Filled) : Type 0 where
   pub hosts : (h : ℕ) → Does c h Stopped (of_host h log)
   pub deeds : AreDeeds log
-  pub blank : (k : ℕ) → HoldsNothing c.slots (images k)
+  pub held : (k : ℕ) → used c.slots (images k) ≡ (world c begun).disk k
   pub disks : (k : ℕ) → ServesOn c k (images k) (on_disk k log)
   pub dark : (i k h : ℕ) (left : List ℕ) → slice_get log i ≡ Some (Crashed k left) → host_after c h Stopped (of_host h (take i log)) ≡ Stopped
   pub few : length log < 2 ^ 62
+
+-- At first no image held a block,
+abbrev pub IsOverLosses : Shape → (ℕ → DiskState) → List Filled → Type 0
+IsOverLosses c images log = IsOverLossesFrom c [] images log
+
+-- or all held what a migration of this log left.
+abbrev pub IsOverLossesAfter : Shape → List Command → (ℕ → DiskState) → List Filled → Type 0
+IsOverLossesAfter c commands images log = IsOverLossesFrom c (Migrated c.disks commands ∷ []) images log
 
 -- BOOT NUMBERS
 
@@ -87,3 +97,14 @@ LossesAreCrashes = (c : Shape) (images : ℕ → DiskState) (log : List Filled) 
 abbrev pub LossesAreJoined : Type 0
 LossesAreJoined =
     (c : Shape) (images : ℕ → DiskState) (log : List Filled) → IsOverLosses c images log → (of : IsRunOf c (renumbered log)) → IsJoined c log of.one.commands
+
+-- So it is over images that a migration left: with a crash for each loss of power all of it is done at once, and is a run behind the migration;
+abbrev pub LossesAfterMigrationAreCrashes : Type 0
+LossesAfterMigrationAreCrashes =
+    (c : Shape) (commands : List Command) (images : ℕ → DiskState) (log : List Filled) → IsOverLossesAfter c commands images log → IsAtOnceAfter c commands images (renumbered log)
+
+-- and by the one log of that run all goes that hosts keep.
+abbrev pub LossesAfterMigrationAreJoined : Type 0
+LossesAfterMigrationAreJoined =
+    (c : Shape) (commands : List Command) (images : ℕ → DiskState) (log : List Filled) → IsOverLossesAfter c commands images log →
+    (of : IsRunOf c (Migrated c.disks commands ∷ renumbered log)) → IsJoined c (Migrated c.disks commands ∷ log) of.one.commands

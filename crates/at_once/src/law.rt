@@ -5,7 +5,7 @@ ghost use Rattle.at_once.specs.Disks.{EachGave, GivingServes, SimulatedSteps};
 ghost use Rattle.at_once.specs.Images.{LaidOutHoldsNothing, MigratedHoldsLog};
 ghost use Rattle.at_once.specs.InTurn.{TurnsAgree};
 ghost use Rattle.at_once.specs.Joined.{DeedsAreJoined};
-ghost use Rattle.at_once.specs.Power.{LossesAreCrashes, LossesAreJoined};
+ghost use Rattle.at_once.specs.Power.{LossesAreCrashes, LossesAreJoined, LossesAfterMigrationAreCrashes, LossesAfterMigrationAreJoined};
 
 use disk::Disk;
 
@@ -50,6 +50,9 @@ pub fn deeds_join_one_log()
 pub fn losses_of_power_are_crashes()
     ensures crashes { LossesAreCrashes }
     ensures joins { LossesAreJoined }
+    // So it is over images that a migration of a log left.
+    ensures migrated_crashes { LossesAfterMigrationAreCrashes }
+    ensures migrated_joins { LossesAfterMigrationAreJoined }
 {}
 
 /// All of that for two hosts that work in turn over the same simulated disks: no two commands are acknowledged at one slot.
