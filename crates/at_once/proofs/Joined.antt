@@ -1,17 +1,18 @@
 -- What hosts keep goes by the one log of the run.
 use Rattle.std.specs.Prelude.{take, drop, slice_get}
 use Rattle.std.proofs.Common.{ℕ, zero, suc, ◌+◌, ◌<◌, ◌≤◌, ◌≡◌, Some, List, [], ◌∷◌, ◌++◌, length, refl, sym, subst, ap, ◌∙◌, append_assoc, arith}
-use Rattle.std.proofs.lemmas.List.{take-append-drop, length-append}
+use Rattle.std.proofs.lemmas.List.{take-append-drop, take-take, length-append}
 use Rattle.lock_command.specs.declared.command.Command.{Command}
 use Rattle.lock_table.specs.declared.reply.Reply.{Reply}
 use Rattle.slot_log.specs.Shape.{Shape}
 use Rattle.host.specs.Host.{learned_of, reply_after}
 use Rattle.host.specs.Kept.{Kept}
 use Rattle.world.specs.Entry.{Filled}
+use Rattle.world.specs.Chosen.{migrated}
 use Rattle.world.specs.Headline.{IsPrefix, prefix_at}
 use Rattle.dlm_images.specs.Operations.{IsAcknowledged}
 use Rattle.at_once.specs.AtOnce.{IsRunOf}
-use Rattle.at_once.proofs.Recovered.{says, holds}
+use Rattle.at_once.proofs.Recovered.{begins_alike, says, holds}
 use Rattle.at_once.specs.Joined.{HasCome, HasRecovered, DeedsAreJoined}
 
 module _ {A : Type 0} where
@@ -45,6 +46,9 @@ module _ (c : Shape) (log : List Filled) (of : IsRunOf c log) where
   kept_is i h kept come =
       ap learned_of (of.hosts i h ∙ come.knows) ∙ sym come.leads.prefix
 
+  begun : IsPrefix (migrated log) of.one.commands
+  begun = subst (λ (l : List Command). IsPrefix l of.one.commands) (begins_alike c log of) of.one.is_safe.begun
+
   learned : (i h : ℕ) (kept : Kept) → HasCome c log i h kept → IsPrefix kept.prefix of.one.commands
   learned i h kept come = subst (λ (l : List Command). IsPrefix l of.one.commands) (kept_is i h kept come) (of.one.is_safe.prefix i h)
 
@@ -64,6 +68,13 @@ module _ (c : Shape) (log : List Filled) (of : IsRunOf c log) where
       let told = of.one.is_safe.recovered j h n (says c log of i j h n kept r) in
       (told.0, sym (kept_is (j + 1) h kept r.come) ∙ told.1)
 
+  -- a recovery has what was migrated
+  moved : (i j h n : ℕ) (kept : Kept) → HasRecovered c log i j h n kept → IsPrefix (migrated log) kept.prefix
+  moved i j h n kept r =
+      let commands = of.one.commands in
+      let few : length (migrated log) ≤ n = subst (λ (l : List Command). length l ≤ n) (begins_alike c log of) (of.one.is_safe.keeps j h n (says c log of i j h n kept r)) in
+      begun ∙ sym (take-take (length (migrated log)) n commands few) ∙ ap (take (length (migrated log))) (sym (recovered i j h n kept r).1)
+
   -- a recovery holds what had been learned by then
   held : (k i j g h n : ℕ) (other kept : Kept) → k ≤ i → HasCome c log k g other → HasRecovered c log i j h n kept → length other.prefix ≤ n
   held k i j g h n other kept by come r = holds c log of i j h n kept r k g other by (kept_is k g other come)
@@ -76,9 +87,11 @@ module _ (c : Shape) (log : List Filled) (of : IsRunOf c log) where
 
 pub deeds_are_joined : DeedsAreJoined
 deeds_are_joined c log of = record {
+  begun = begun c log of;
   learned = learned c log of;
   acknowledged = acknowledged c log of;
   recovered = recovered c log of;
+  moved = moved c log of;
   holds = held c log of;
   keeps = keeps c log of;
 }

@@ -11,7 +11,8 @@ use Rattle.host.specs.Host.{Host, Stopped, Running}
 use Rattle.host.specs.Kept.{Kept}
 use Rattle.world.specs.Entry.{Filled, Start, Stop, Submit, Recover, Look, Beat, Mark, Called, Torn, Crashed, Lost, Migrated, is_on, is_of, on_disk, of_host, host_step, host_after}
 use Rattle.world.specs.World.{Tears}
-use Rattle.world.specs.Chosen.{IsCallOf}
+use Rattle.world.specs.Chosen.{IsCallOf, migrated}
+use Rattle.world.specs.Headline.{IsPrefix}
 use Rattle.at_once.specs.AtOnce.{MayDo, Does, Goes, Serves, IsDeed, AreDeeds, IsAtOnceFrom, IsRunOf}
 use Rattle.at_once.specs.Joined.{HasCome, HasRecovered, IsJoined}
 use Rattle.at_once.specs.Power.{LosesPower, GoesOn, ServesOn, later, call_later, answer_later, entry_later, losses_with, renumbered_from, renumbered, IsOverLossesFrom, LossesAreCrashes, LossesAreJoined, LossesAfterMigrationAreCrashes, LossesAfterMigrationAreJoined}
@@ -430,14 +431,33 @@ module _ (c : Shape) (log : List Filled) (dark : (h : ℕ) → IsDark c h Stoppe
         said = r.said;
       }
 
+-- a migration stays as it is
+migrated_later : (losses : ℕ → ℕ) (es : List Filled) → migrated (renumbered_from losses es) ≡ migrated es
+migrated_later losses [] = refl
+migrated_later losses (Start g ∷ es) = refl
+migrated_later losses (Stop g ∷ es) = refl
+migrated_later losses (Submit g command tries ∷ es) = refl
+migrated_later losses (Recover g tries ∷ es) = refl
+migrated_later losses (Look g ∷ es) = refl
+migrated_later losses (Beat g ∷ es) = refl
+migrated_later losses (Mark g slot ∷ es) = refl
+migrated_later losses (Called g k call answer left ∷ es) = refl
+migrated_later losses (Torn g k call left ∷ es) = refl
+migrated_later losses (Crashed k left ∷ es) = refl
+migrated_later losses (Lost k ∷ es) = refl
+migrated_later losses (Migrated disks commands ∷ es) = refl
+
 -- what hosts keep goes by the log of the run under the later numbers
 joined : (c : Shape) (log : List Filled) → ((h : ℕ) → IsDark c h Stopped log) → (of : IsRunOf c (renumbered log)) → IsJoined c log of.one.commands
 joined c log dark of =
     let all = deeds_are_joined c (renumbered log) of in
     record {
+      begun = subst (λ (l : List Command). IsPrefix l of.one.commands) (migrated_later (λ d. 0) log) all.begun;
       learned = λ i h kept d. all.learned i h kept (come c log dark i h kept d);
       acknowledged = λ i h kept command slot reply d ack. all.acknowledged i h kept command slot reply (come c log dark i h kept d) ack;
       recovered = λ i j h n kept r. all.recovered i j h n kept (recovered c log dark i j h n kept r);
+      moved = λ i j h n kept r.
+          subst (λ (l : List Command). IsPrefix l kept.prefix) (migrated_later (λ d. 0) log) (all.moved i j h n kept (recovered c log dark i j h n kept r));
       holds = λ k i j g h n other kept by d r. all.holds k i j g h n other kept by (come c log dark k g other d) (recovered c log dark i j h n kept r);
       keeps = λ k i j g h n other kept command slot reply by d ack r.
           all.keeps k i j g h n other kept command slot reply by (come c log dark k g other d) ack (recovered c log dark i j h n kept r);

@@ -9,7 +9,7 @@ use Rattle.host.specs.declared.answer.HostAnswer.TheVariants.{Recovered}
 use Rattle.host.specs.Host.{said_of}
 use Rattle.host.specs.Kept.{Kept}
 use Rattle.world.specs.Entry.{Filled, Start, Stop, Submit, Recover, Look, Beat, Mark, Called, Torn, Crashed, Lost, Migrated, is_of}
-use Rattle.world.specs.Chosen.{at, SaysAt, IsCallOf, IsRecovery}
+use Rattle.world.specs.Chosen.{at, migrated, SaysAt, IsCallOf, IsRecovery}
 use Rattle.world.specs.Headline.{prefix_at}
 use Rattle.world_safety.specs.Tracks.{AreChosen}
 use Rattle.world_safety.proofs.Claims.Recovering.{misses_nothing}
@@ -95,7 +95,26 @@ bare_called (Crashed k left) h d call answer is = absurd (cc)
 bare_called (Lost k) h d call answer is = absurd (cc)
 bare_called (Migrated disks commands) h d call answer is = absurd (cc)
 
+bare_migrated : (xs : List Filled) → migrated (map bare xs) ≡ migrated xs
+bare_migrated [] = refl
+bare_migrated (Start g ∷ xs) = refl
+bare_migrated (Stop g ∷ xs) = refl
+bare_migrated (Submit g command tries ∷ xs) = refl
+bare_migrated (Recover g tries ∷ xs) = refl
+bare_migrated (Look g ∷ xs) = refl
+bare_migrated (Beat g ∷ xs) = refl
+bare_migrated (Mark g slot ∷ xs) = refl
+bare_migrated (Called g k call answer left ∷ xs) = refl
+bare_migrated (Torn g k call left ∷ xs) = refl
+bare_migrated (Crashed k left ∷ xs) = refl
+bare_migrated (Lost k ∷ xs) = refl
+bare_migrated (Migrated disks commands ∷ xs) = refl
+
 module _ (c : Shape) (log : List Filled) (of : IsRunOf c log) where
+  -- the run begins with the same migration
+  pub begins_alike : migrated of.run ≡ migrated log
+  begins_alike = sym (bare_migrated of.run) ∙ ap migrated of.same ∙ bare_migrated log
+
   -- what stands in the run where this stands in the list
   in_run : (k : ℕ) (e : Filled) → slice_get log k ≡ Some e → Maps bare of.run k (bare e)
   in_run k e is = of_map bare of.run k (bare e) (ap (λ (l : List Filled). slice_get l k) of.same ∙ at_map bare log k e is)

@@ -7,7 +7,7 @@ use Rattle.host.specs.Host.{reply_after}
 use Rattle.host.specs.Kept.{Kept}
 use Rattle.host.specs.declared.answer.HostAnswer.TheVariants.{Recovered}
 use Rattle.world.specs.Entry.{Filled, Recover, of_host, is_of}
-use Rattle.world.specs.Chosen.{IsCallOf}
+use Rattle.world.specs.Chosen.{IsCallOf, migrated}
 use Rattle.world.specs.Headline.{IsPrefix}
 use Rattle.dlm_images.specs.Operations.{IsAcknowledged}
 use Rattle.at_once.specs.AtOnce.{IsRunOf}
@@ -32,6 +32,8 @@ pub record HasRecovered (c : Shape) (log : List Filled) (i j h n : ℕ) (kept : 
 
 -- Whatever hosts keep, at any place, goes by these commands.
 pub record IsJoined (c : Shape) (log : List Filled) (commands : List Command) : Type 0 where
+  -- those that were migrated begin them
+  pub begun : IsPrefix (migrated log) commands
   -- what a host has learned begins them
   pub learned : (i h : ℕ) (kept : Kept) → HasCome c log i h kept → IsPrefix kept.prefix commands
   -- a command that was acknowledged stands at its slot, and its reply is the lock table's after the commands before it
@@ -39,6 +41,8 @@ pub record IsJoined (c : Shape) (log : List Filled) (commands : List Command) : 
       IsAcknowledged command slot reply kept.prefix → (slice_get commands slot ≡ Some command) × (reply ≡ reply_after (take slot commands) command)
   -- a recovery has learned as many commands of the log as it says
   pub recovered : (i j h n : ℕ) (kept : Kept) → HasRecovered c log i j h n kept → (n ≤ length commands) × (kept.prefix ≡ take n commands)
+  -- all that were migrated are among these,
+  pub moved : (i j h n : ℕ) (kept : Kept) → HasRecovered c log i j h n kept → IsPrefix (migrated log) kept.prefix
   -- and no fewer than any host had learned before it began, also one that has stopped since;
   pub holds : (k i j g h n : ℕ) (other kept : Kept) → k ≤ i → HasCome c log k g other → HasRecovered c log i j h n kept → length other.prefix ≤ n
   -- so a command that was acknowledged before it began is among them, at its slot
