@@ -1,4 +1,5 @@
-ghost use Rattle.std.specs.Prelude.{◌≡◌, IfSome};
+ghost use Rattle.std.specs.Prelude.{◌≡◌, IfSome, true};
+ghost use Rattle.lock_command.specs.Command.{is_submittable};
 ghost use Rattle.cluster.specs.Opening.{IsNamed};
 
 use crate::bench_failure::BenchFailure;
@@ -118,7 +119,8 @@ fn submit_at<N: ClusterName>(
 
 /// The command at this place of the log, from 0: a lock of its own on each of 256 names, by 32 clients in turn, and then each lock's release, over and over.
 pub fn command_at(host: HostNumber, place: u32) -> Option<Command>
-    ensures { IfSome result (λ command. command.host ≡ host) }
+    ensures host { IfSome result (λ command. command.host ≡ host) }
+    ensures asked { IfSome result (λ command. is_submittable command ≡ true) }
 {
     let at = (place % LOCKS) as u16;
     let lock = LockNumber::new(at + 1)?;

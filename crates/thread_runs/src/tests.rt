@@ -1,4 +1,5 @@
-ghost use Rattle.std.specs.Prelude.{◌≡◌, ◌≤◌, IfSome};
+ghost use Rattle.std.specs.Prelude.{◌≡◌, ◌≤◌, IfSome, true, false};
+ghost use Rattle.lock_command.specs.Command.{is_quiet, is_submittable};
 ghost use Rattle.cluster.specs.Opening.{IsNamed};
 
 use crate::looked::mark_once;
@@ -25,7 +26,8 @@ use std::time::{Clock, Duration};
 
 // An exclusive lock on one name.
 fn command(host: HostNumber, lock: u16, request: u64) -> Option<Command>
-    ensures { IfSome result (λ command. command.host ≡ host) }
+    ensures host { IfSome result (λ command. command.host ≡ host) }
+    ensures asked { IfSome result (λ command. is_submittable command ≡ true) }
 {
     Some(Command {
         host,
@@ -821,7 +823,8 @@ fn recover_if_idle<N: ClusterName>(
 
 // By turns an enqueue of the host's lock, which may have to wait for those of others, and its release.
 fn turn(host: HostNumber, round: u16) -> Option<Command>
-    ensures { IfSome result (λ command. command.host ≡ host) }
+    ensures host { IfSome result (λ command. command.host ≡ host) }
+    ensures asked { IfSome result (λ command. is_submittable command ≡ true) }
 {
     let lock = LockNumber::new(u16::from(host.get()) + 1)?;
     Some(Command {
@@ -832,7 +835,9 @@ fn turn(host: HostNumber, round: u16) -> Option<Command>
     })
 }
 
-fn action_in(round: u16, lock: LockNumber) -> Option<Action> {
+fn action_in(round: u16, lock: LockNumber) -> Option<Action>
+    ensures { IfSome result (λ action. is_quiet action ≡ false) }
+{
     if round % 2 == 0 {
         return Some(Action::Release { lock, value: None });
     }
