@@ -1,7 +1,6 @@
 // Worked runs, through every call that may want memory.
 use crate::replies::GRANTED;
 use host::HostAnswer;
-use lock_command::{Action, HostNumber};
 use simulator::{
     Answer, Event, Report, Sim, SimulatedCluster, read_script, run, run_migrated, sweep,
 };
@@ -190,31 +189,6 @@ fn migrated_log(rt: HostRuntime) -> Result<(), Fail> {
 fn simulated_cluster_says_the_same(rt: HostRuntime) -> Result<(), Fail> {
     let said = first_said(rt.alloc())?;
     assert_eq!(rt; said.as_slice(), [(18, 0)].as_slice());
-    Ok(())
-}
-
-// What is answered where the first submission asks for this.
-fn reported_where_asked(alloc: Global, action: Action) -> Result<Vec<Shown>, Fail> {
-    let script = read_script(alloc, FIRST_REPLY)?;
-    let mut events = script.events.to_vec(alloc)?;
-    for event in events.iter_mut() {
-        if let Event::Submit { command, .. } = event {
-            command.action = action;
-        }
-    }
-    let report = run(alloc, script.config, &events)?;
-    all_shown(alloc, &report)
-}
-
-// A quiet purge stands only in logs that were moved. One that is submitted does not apply: its host stays idle, and makes no call.
-#[test]
-fn quiet_purge_is_not_submitted(rt: HostRuntime) -> Result<(), Fail> {
-    let host = HostNumber::new(0).ok_or("a host")?;
-    let purged = reported_where_asked(rt.alloc(), Action::Purge(host))?;
-    assert_eq!(rt; purged.len(), 1);
-    assert_eq!(rt; purged[0].0, 18);
-    let quiet = reported_where_asked(rt.alloc(), Action::QuietPurge(host))?;
-    assert_eq!(rt; quiet.len(), 0);
     Ok(())
 }
 
