@@ -3,3 +3,4 @@ pub mod Migrating
 pub mod Moving
 pub mod OldFolders
 pub mod Recovery
+pub mod Writing

@@ -9,7 +9,6 @@ use Rattle.paxos_block.specs.Places.{image_length}
 use Rattle.slot_log.specs.Shape.{Shape}
 use Rattle.slot_log.specs.declared.outcome.LogOutcome.TheVariants.{Refused as Ended}
 use Rattle.slot_log.specs.declared.outcome.Refusal.{Refusal}
-use Rattle.migration.specs.Kept.{setup_by}
 use Rattle.migration.specs.declared.end.End.{End}
 use Rattle.migration.specs.declared.end.End.TheVariants as end
 use Rattle.dlm_images.specs.Folders.{IsLockFault}
@@ -17,9 +16,9 @@ use Rattle.dlm_images.specs.SetFaults.{MayRefuse}
 use Rattle.dlm_images.specs.declared.fault.FolderFault.{FolderFault}
 use Rattle.dlm_images.specs.declared.fault.FolderFault.TheVariants as folder
 use Rattle.folder_migration.specs.Gates.{IsCleared, HasOpenGate, AreLeftOpen, IsStopped}
-use Rattle.folder_migration.specs.Moving.{HasMoved}
 use Rattle.folder_migration.specs.OldFolders.{IsOpened}
-use Rattle.folder_migration.specs.Recovery.{HasRecovered, RecoversTo}
+use Rattle.folder_migration.specs.Recovery.{HasRecovered}
+use Rattle.folder_migration.specs.Writing.{Writes}
 use Rattle.folder_migration.specs.declared.fault.MoveFault.{MoveFault}
 use Rattle.folder_migration.specs.declared.fault.MoveFault.TheVariants.{NoMemory, Folder, TooFewSlots, Lock, Refused, MigrationFailed}
 use Rattle.folder_migration.specs.declared.migrate.Moved.{Moved}
@@ -82,20 +81,14 @@ pub record AreBlank (config : Shape) (images : List FileState) : Type 0 where
 
 -- HOW IT ENDS
 
--- The old log was recovered, images were made, and what stands for its commands was written there, up to this end.
+-- The log of the old disks was recovered, images were made, and what stands for its commands was written there, up to this end.
 pub record HasWritten (slots commands disks : ℕ) (end : End) : Type 0 where
   pub config : Shape
   pub cluster : ℕ
   pub old : List FileState
   pub left : List FileState
-  pub log : List (List ℕ)
-  pub blank : List FileState
-  pub new : List FileState
   pub ready : IsReady slots config cluster old
-  pub recovers : RecoversTo FileGives config old left log
-  pub are_blank : AreBlank (with_slots config slots) blank
-  pub moves : HasMoved FileGives (setup_by (with_slots config slots) cluster log) blank new end
-  pub commands_is : commands ≡ length log
+  pub writes : Writes FileGives FileGives (AreBlank (with_slots config slots)) config (with_slots config slots) cluster old left commands end
   pub disks_is : disks ≡ config.disks
 
 -- An earlier migration onto the new images was finished.

@@ -6,9 +6,8 @@ ghost use Rattle.folder_migration.specs.Migrating.{AreBlank, AreFinished, AreNot
 use crate::fault::MoveFault;
 use crate::finishing::{finish, is_begun};
 use crate::image::clear;
-use crate::moving::move_log;
+use crate::migrating::migrate_disks;
 use crate::old_folder::open_old_folder;
-use crate::old_log::recover_log;
 use crate::slots::SlotCount;
 use disk::{FileDisk, ImageFault};
 use dlm_images::{
@@ -17,7 +16,6 @@ use dlm_images::{
 };
 use host::Config;
 use lock_command::HostNumber;
-use migration::End;
 use std::fs::OpenFile;
 use std::os::unix::fs::FileExt;
 use std::rt::Files;
@@ -55,13 +53,15 @@ where
     // Two migrations at once would both be host 0.
     let _lock = lock_host(rt, old, first_host())?;
     let mut old_disks = images.disks;
-    let log = recover_log(rt.alloc(), images.config, &mut old_disks)?;
-    let commands = log.len() as u16;
-    let mut new_disks = make_images(rt, new, config)?;
-    match move_log(config, cluster, log, &mut new_disks) {
-        End::Migrated => Ok(Moved::Moved { commands, disks }),
-        End::MigrationFailed => Err(MoveFault::MigrationFailed),
-    }
+    let commands = migrate_disks(
+        rt.alloc(),
+        images.config,
+        cluster,
+        &mut old_disks,
+        config,
+        || make_images(rt, new, config),
+    )?;
+    Ok(Moved::Moved { commands, disks })
 }
 
 /// How large the new set is to be.

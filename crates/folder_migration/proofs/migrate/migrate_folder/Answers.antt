@@ -1,22 +1,20 @@
-use Rattle.std.proofs.Common.{◌≡◌, List, Some, inl, length, slice_get, subst, refl}
-use Rattle.disk.specs.FileStates.{FileState}
-use Rattle.migration.specs.declared.end.End.TheVariants.{MigrationFailed}
-use Rattle.folder_migration.proofs.Writing.{written}
+use Rattle.std.proofs.Common.{◌≡◌, ◌≤◌, List, Some, arith, rules, slice_get, subst}
+use Rattle.dlm_images.specs.SetFaults.{IsFormatFault}
+use Rattle.folder_migration.specs.Migrating.{AreBlank, MayFail}
+use Rattle.folder_migration.proofs.Writing.{stops}
 use Rattle.folder_migration.proofs.migrate.migrate_folder.Goals as goal
 
-pub move_log-requires-clause-large : goal.move_log-requires-clause-large
-move_log-requires-clause-large g c = λ k d is.
-    (c.in_ok-new_disks.ensures.blank.each k d (subst (λ (l : List FileState). slice_get l k ≡ Some d) c.deref_mut-2.ensures.value is)).room
+pub migrate_disks-requires-clause-made : goal.migrate_disks-requires-clause-made
+migrate_disks-requires-clause-made g c = λ made post. let blank : AreBlank c.in_ok-config.config made.items = search rules in (blank.as_many, λ k d is. (blank.each k d is).room)
 
-pub returns-clause-fault : goal.returns-clause-fault
-returns-clause-fault g c =
+pub returns-in_err-commands-clause-fault : goal.returns-in_err-commands-clause-fault
+returns-in_err-commands-clause-fault g c =
     let images = c.in_ok-images.images in
     let config = c.in_ok-config.config in
-    inl (record {
-      commands = length c.in_ok-log.log.items;
-      disks = config.disks;
-      written =
-          written c.args.slots images.config config images.cluster images.disks.items c.deref_mut.result.now c.recover_log.new.disks c.in_ok-log.log.items c.in_ok-new_disks.new_disks.items c.deref_mut-2.result.now c.move_log.new.disks
-          (length c.in_ok-log.log.items) config.disks MigrationFailed c.in_ok-images.ensures.opened c.in_ok-config.ensures.new.0 c.in_ok-config.ensures.new.1 c.deref_mut.ensures.value c.in_ok-log.ensures.recovered
-          c.in_ok-new_disks.ensures.blank c.deref_mut-2.ensures.value c.in-MigrationFailed.ensures.moved refl refl;
-    })
+    let few : c.in_ok-config.config.disks ≤ 7 = omega (arith, c.disks-disks.ensures.value, c.disks-disks.ensures.range) in
+    let fails : MayFail c.args.slots c.in_err-commands.field-0.0 =
+    stops c.args.slots images.config config images.cluster images.disks.items c.deref_mut.result.now c.migrate_disks.new.disks _ _ c.in_err-commands.field-0.0 c.in_ok-images.ensures.opened
+    c.in_ok-config.ensures.new.0 c.in_ok-config.ensures.new.1 c.deref_mut.ensures.value few c.in_err-commands.ensures.stopped
+    (λ images made. let post = made.1 in let blank : AreBlank c.in_ok-config.config made.0.items = search rules in subst (AreBlank c.in_ok-config.config) made.2 blank)
+    (λ x post. let is : IsFormatFault c.in_ok-config.config.disks x = search rules in is) in
+    search rules
