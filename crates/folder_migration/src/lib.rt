@@ -23,6 +23,3 @@ pub use moving::move_log;
 pub use old_folder::{OldFolder, open_old_folder};
 pub use old_log::recover_log;
 pub use slots::SlotCount;
-
-#[cfg(test)]
-mod tests;

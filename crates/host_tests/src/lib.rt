@@ -1,4 +1,4 @@
-//! Tests of a host, of simulated runs, folders of images and races: a crate with tests is proved twice, and this one has little to prove.
+//! Tests of a host, of simulated runs, folders of images, migrations and races: a crate with tests is proved twice, and this one has little to prove.
 #![tactic(auto)]
 
 #[cfg(test)]
@@ -13,6 +13,8 @@ mod in_turn;
 mod judged;
 #[cfg(test)]
 mod laid_out;
+#[cfg(test)]
+mod moved;
 #[cfg(test)]
 mod old_images;
 #[cfg(test)]

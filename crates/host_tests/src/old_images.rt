@@ -42,7 +42,7 @@ fn old_image(alloc: Global, disk: u8) -> Result<Vec<u8>, AllocError> {
 }
 
 // Three of them in a folder.
-fn make_old(rt: &HostRuntime, folder: &str, images: [&str; 3]) -> Result<(), Fail> {
+pub fn make_old(rt: &HostRuntime, folder: &str, images: [&str; 3]) -> Result<(), Fail> {
     let _ = fs::remove_dir_all(rt, folder);
     fs::create_dir(rt, folder)?;
     let [first, second, third] = images;
