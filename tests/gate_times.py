@@ -1,12 +1,13 @@
 #!/usr/bin/env python3
 """gate_times.py [--edits FILE] COMMAND..: runs a command, as `rt ci` at the top, and then prints what each crate took of the processor.
 
-The table has the processor seconds of each crate's proof, of its tests' proof and of its edits, and the dearest edit after the first one.
-With --edits each edit's seconds go into FILE, a line an edit. The command's processes are looked at four times a second, so a figure may
+The table has the processor seconds of each crate's proof, of its tests' proof, of the proof once more that its edits begin with, and of the
+edits. With --edits each edit's seconds go into FILE, a line an edit. The command's processes are looked at four times a second, so a figure may
 be short by that much. `taskset -c 0,1 tests/gate_times.py rt ci` measures two processors. The command's last line is printed once more
 at the end, and its status is passed on.
 """
 import argparse
+import collections
 import os
 import re
 import resource
@@ -22,8 +23,8 @@ TOP = os.path.dirname(os.path.dirname(os.path.realpath(__file__)))
 class Work:
     """One process that `rt ci` started for a crate: what it is, and the processor seconds that it and those below it had taken when last seen."""
 
-    def __init__(self, crate, kind, began):
-        self.crate, self.kind, self.began, self.seconds = crate, kind, began, 0.0
+    def __init__(self, crate, kind):
+        self.crate, self.kind, self.seconds = crate, kind, 0.0
 
 
 def look():
@@ -42,7 +43,9 @@ def look():
 
 
 def work_of(process):
-    """Returns the crate and the kind of the work of a process, by its words and its folder, or None where it works on no crate."""
+    """Returns the crate and the kind of the work of a process, by its words and its folder, or None where it works on no crate. Of an edit
+    the kind is its place among the crate's edits. Each of them is tried over a copy of what a proof of the crate left, which `rt` keeps under
+    that number; that proof, and the last check over what it left, are of the kind `seed`."""
     try:
         with open(f"/proc/{process}/cmdline", encoding="utf-8", errors="replace") as file:
             words = file.read().split("\0")
@@ -52,8 +55,10 @@ def work_of(process):
     if "--crate-name" not in words:
         return None
     crate = words[words.index("--crate-name") + 1]
-    kind = "edits" if "rt-edit-" in folder else "tests" if "--test" in words else "proof"
-    return crate, kind
+    if "rt-edit-" not in folder:
+        return crate, "tests" if "--test" in words else "proof"
+    over = os.path.basename(words[words.index("--incremental") + 1]) if "--incremental" in words else ""
+    return crate, int(over) if over.isdigit() else "seed"
 
 
 class Watch(threading.Thread):
@@ -76,7 +81,7 @@ class Watch(threading.Thread):
                 kind = work_of(process)
                 if kind is None:
                     continue
-                self.known[process] = Work(*kind, time.monotonic())
+                self.known[process] = Work(*kind)
             self.known[process].seconds = max(self.known[process].seconds, total(process, found, below))
 
 
@@ -95,27 +100,31 @@ def edits_of(crate):
     return sorted(it for it in os.listdir(folder) if it.endswith(".edit")) if os.path.isdir(folder) else []
 
 
+def seconds_of(works, crate):
+    """Returns the processor seconds of a crate's work by its kind."""
+    found = collections.Counter()
+    for it in works:
+        if it.crate == crate:
+            found[it.kind] += it.seconds
+    return found
+
+
 def report(works, out):
     """Prints the table, and gives each edit's seconds to `out`."""
-    print("| crate | proof | its tests' proof | edits | first edit | further edits, mean | dearest further edit |")
+    print("| crate | proof | its tests' proof | once more for its edits | its edits (how many) | an edit | dearest edit |")
     print("|---|---|---|---|---|---|---|")
-    sums = [0.0, 0.0, 0.0]
+    sums = [0.0, 0.0, 0.0, 0.0]
     for crate in crates():
-        own = sorted((it for it in works if it.crate == crate), key=lambda it: it.began)
-        proof, tests, all_edits = ([it.seconds for it in own if it.kind == kind] for kind in ("proof", "tests", "edits"))
-        names = edits_of(crate)
-        # What comes behind the edits is the crate itself, once more over their work.
-        tried = list(zip(names, all_edits))
-        for name, seconds in tried:
-            out.write(f"{crate}\t{name.removesuffix('.edit')}\t{seconds:.1f}\n")
-        first = f"{tried[0][1]:.0f}" if tried else ""
-        further = tried[1:]
-        mean = f"{sum(it for _, it in further) / len(further):.0f}" if further else ""
-        name, seconds = max(further, key=lambda it: it[1], default=("", 0.0))
-        dearest = f"{seconds:.0f}: `{name.removesuffix('.edit')}`" if name else ""
-        print(f"| `{crate}` | {sum(proof):.0f} | {sum(tests):.0f} | {sum(all_edits):.0f} ({len(names)}) | {first} | {mean} | {dearest} |")
-        sums = [a + sum(b) for a, b in zip(sums, (proof, tests, all_edits))]
-    print("| all | " + " | ".join(f"{it:.0f}" for it in sums) + " | | | |")
+        found, names = seconds_of(works, crate), edits_of(crate)
+        tried = {name.removesuffix(".edit"): found[at] for at, name in enumerate(names)}
+        for name, seconds in tried.items():
+            out.write(f"{crate}\t{name}\t{seconds:.1f}\n")
+        row = [found["proof"], found["tests"], found["seed"], sum(tried.values())]
+        dearest = max(tried, key=tried.get, default="")
+        ends = f"({len(names)}) | {row[3] / len(names):.0f} | {tried[dearest]:.0f}: `{dearest}` |" if names else "| | |"
+        print(f"| `{crate}` | " + " | ".join(f"{it:.0f}" for it in row) + f" {ends}")
+        sums = [a + b for a, b in zip(sums, row)]
+    print("| all | " + " | ".join(f"{it:.0f}" for it in sums) + " | | |")
 
 
 def main():
