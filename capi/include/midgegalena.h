@@ -80,7 +80,7 @@ enum mg_outcome {
     MG_WRONG_HEADER = 25,
     MG_UNREADABLE = 26,
     MG_ALREADY_THERE = 29,
-    MG_OLD_LAYOUT = 32, /* images of the layout before this one: the library that made them, 0.1, reads them */
+    MG_OLD_LAYOUT = 32, /* images of the layout before this one: dlm migrate moves them */
     MG_HOST_IN_USE = 36,
     MG_NO_LOCK = 37
 };

@@ -175,7 +175,7 @@ static const struct meaning MEANINGS[] = {
     {MG_WRONG_HEADER, "WrongHeader", "an image has a header that is not of this folder, or of another number"},
     {MG_UNREADABLE, "Unreadable", "an image cannot be opened, read, made or written"},
     {MG_ALREADY_THERE, "AlreadyThere", "one of the images that were to be made is there"},
-    {MG_OLD_LAYOUT, "OldLayout", "an image has the layout before this one; the library that made it reads it"},
+    {MG_OLD_LAYOUT, "OldLayout", "an image has the layout before this one; dlm migrate moves it"},
     {MG_HOST_IN_USE, "HostInUse", "somebody else works under this host number"},
     {MG_NO_LOCK, "NoLock", "the host number cannot be locked, see errno"},
 };
