@@ -1,4 +1,4 @@
-ghost use Rattle.std.specs.Prelude.{◌≡◌, ◌≢◌, ◌≤◌, ℕ, Some, None, IfOk, IsTrue, length, replicate, slice_get};
+ghost use Rattle.std.specs.Prelude.{◌≡◌, ◌≢◌, ◌≤◌, ℕ, true, Some, None, IfOk, length, replicate, slice_get};
 ghost use Rattle.disk.specs.Simulated.{SimState, fresh_disk};
 ghost use Rattle.lock_command.specs.Command.{is_submittable};
 ghost use Rattle.paxos_block.specs.Places.{image_length};
@@ -28,9 +28,10 @@ pub fn submit_in_turn(
 ) -> Result<Turns, NoMemory>
     requires hosts { first.host ≢ second.host }
     requires tries { 1 ≤ tries }
-    // Two commands that a client may ask for have two slots.
-    ensures apart { IsTrue (is_submittable first) → IsTrue (is_submittable second) →
-        IfOk result (λ turns. IfOk turns.first (λ one. IfOk turns.second (λ other. one.slot ≡ other.slot → first ≡ second))) }
+    requires first_asked { is_submittable first ≡ true }
+    requires second_asked { is_submittable second ≡ true }
+    // Two commands have two slots.
+    ensures apart { IfOk result (λ turns. IfOk turns.first (λ one. IfOk turns.second (λ other. one.slot ≡ other.slot → first ≡ second))) }
 {
     let disks = fresh_disks(alloc, config)?;
     let one = submit_alone(alloc, config, disks, first, tries)?;
@@ -58,10 +59,10 @@ fn submit_alone(
     tries: u8,
 ) -> Result<Turn, NoMemory>
     requires tries { 1 ≤ tries }
+    requires asked { is_submittable command ≡ true }
     requires as_many { length disks.items ≡ config.disks }
     requires large { (k : ℕ) (d : SimState) → slice_get disks.items k ≡ Some d → image_length config.slots ≤ length d.disk.bytes }
-    ensures submitted { IsTrue (is_submittable command) →
-        IfOk result (λ turn. HasSubmitted config command tries disks.items turn.done turn.disks.items) }
+    ensures submitted { IfOk result (λ turn. HasSubmitted config command tries disks.items turn.done turn.disks.items) }
     ensures as_many { IfOk result (λ turn. length turn.disks.items ≡ config.disks) }
     ensures large { IfOk result (λ turn. (k : ℕ) (d : SimState) → slice_get turn.disks.items k ≡ Some d →
         image_length config.slots ≤ length d.disk.bytes) }

@@ -10,3 +10,4 @@ pub mod Opening
 pub mod Sets
 pub mod ShortRuns
 pub mod Trying
+mod Printed

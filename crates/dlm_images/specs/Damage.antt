@@ -1,7 +1,7 @@
 -- When an image is damaged, the text of its damage, a line for each damaged block, and what a check tells of the images of a folder.
-use Rattle.std.specs.Prelude.{◌≡◌, ◌≢◌, ◌⊎◌, ◌↔◌, ◌≤◌, ◌<◌, ◌+◌, ℕ, Bool, false, IsTrue, List, [], ◌∷◌, ◌++◌, codes, decimal, slice_get, slice_index_or, Option, Some, None, Result, Ok, Err, if◌then◌else◌}
+use Rattle.std.specs.Prelude.{◌≡◌, ◌≢◌, ◌⊎◌, ◌↔◌, ◌≤◌, ◌<◌, ◌+◌, ℕ, Bool, false, IsTrue, List, [], ◌∷◌, ◌++◌, codes, decimal, length, slice_get, slice_index_or, Option, Some, None, Result, Ok, Err, if◌then◌else◌}
 use Rattle.std.specs.Io.KnownBytes.{Appends}
-use Rattle.std.specs.List.{flat_map, range_with_len}
+use Rattle.std.specs.List.{concat, flat_map, range_with_len}
 use Rattle.disk.specs.Disk.{Device, DiskState}
 use Rattle.disk.specs.declared.fault.ImageFault.{ImageFault}
 use Rattle.disk.specs.declared.fault.ImageFault.TheVariants.{NotFormatted, WrongHeader, Unreadable, OldLayout}
@@ -91,6 +91,37 @@ abbrev pub IsLeftAt : CheckFault → (disk slots : ℕ) → List ℕ → (before
 IsLeftAt (Output error) disk slots bytes before after first any = Unit {0}
 IsLeftAt (OfDevice fault) disk slots bytes before after first any =
     ((after ≡ before) × (any ≡ first)) ⊎ ((n : ℕ) × (n < slots) × IsLookedAt disk n bytes before after first any)
+
+-- WHAT A CHECK PRINTS
+
+-- of an image that is used: the lines of all of it; or of nothing, or of what stands before some slot, and behind them that it could not be read
+abbrev pub IsTextOfUsed : (disk slots : ℕ) → (bytes text : List ℕ) → Type 0
+IsTextOfUsed disk slots bytes text =
+    (text ≡ image_text disk slots bytes) ⊎ (text ≡ fault_line disk Unreadable) ⊎ ((n : ℕ) × (n < slots) × (text ≡ image_text disk n bytes ++ fault_line disk Unreadable))
+
+-- of any image: why it is refused, or that
+abbrev pub IsTextOf : Result Header ImageFault → (disk slots : ℕ) → (bytes text : List ℕ) → Type 0
+IsTextOf (Err fault) disk slots bytes text = text ≡ fault_line disk fault
+IsTextOf (Ok header) disk slots bytes text = IsTextOfUsed disk slots bytes text
+
+-- such a text was written
+abbrev pub WritesTextOf : Result Header ImageFault → (disk slots : ℕ) → (bytes : List ℕ) → (before after : Option (List ℕ)) → Type 0
+WritesTextOf image disk slots bytes before after = (text : List ℕ) × IsTextOf image disk slots bytes text × Appends before after text
+
+-- contracts see the bytes of each disk
+abbrev pub AllTell : {D : Type 0} → (D → Device) → List D → Type 0
+AllTell {D} device disks = (k : ℕ) (disk : D) → slice_get disks k ≡ Some disk → IsTrue (device disk).tells
+
+-- the texts of images, by number
+abbrev pub AreTexts : {D : Type 0} → (D → DiskState) → (slots : ℕ) → Found → List D → List (List ℕ) → Type 0
+AreTexts {D} state slots found disks texts =
+    (k : ℕ) (disk : D) (image : Result Header ImageFault) (text : List ℕ) → slice_get disks k ≡ Some disk → slice_get found k ≡ Some image → slice_get texts k ≡ Some text →
+    IsTextOf image k slots (state disk).bytes text
+
+-- those of the first n were written, one behind the other
+abbrev pub WritesTexts : {D : Type 0} → (D → DiskState) → (slots : ℕ) → Found → List D → (n : ℕ) → (before after : Option (List ℕ)) → Type 0
+WritesTexts state slots found disks n before after =
+    (texts : List (List ℕ)) × (length texts ≡ n) × AreTexts state slots found disks texts × Appends before after (concat texts)
 
 -- WHAT A CHECK TELLS
 

@@ -2,7 +2,8 @@
 use Rattle.std.specs.Prelude.{◌≡◌, ◌==◌, ◌++◌, ◌<◌, ◌⊎◌, ℕ, true, false, List, codes, decimal, min, slice_get, Some, Result, Ok, Err, is_ok, if◌then◌else◌}
 use Rattle.disk.specs.declared.fault.ImageFault.{ImageFault}
 use Rattle.disk.specs.declared.fault.ImageFault.TheVariants.{NotFormatted, WrongHeader, Unreadable, OldLayout}
-use Rattle.disk.specs.Disk.{Call, Attach, Read, Answer, Booted, Told}
+use Rattle.disk.specs.Disk.{Call, Attach, Read, Answer, Booted, Told, Fault}
+use Rattle.disk.specs.declared.fault.DiskFault.{DiskFault}
 use Rattle.disk.specs.FileStates.{FileState, FileGives}
 use Rattle.torn_block.specs.declared.layout.TheConstants.{HEADER_LENGTH}
 use Rattle.paxos_block.specs.declared.header.Header.{Header}
@@ -53,13 +54,18 @@ pub record ReadsHeader {D : Type 0} (gives : D → Call → Answer → D → Typ
   pub tells : gives attached (Read boot 0 HEADER_LENGTH) (Told bytes) new
   pub right : IsRight disk size bytes header
 
+-- the device was asked for so many first bytes, and one of the two calls was answered with this fault
+abbrev pub FailsToTell : {D : Type 0} → (D → Call → Answer → D → Type 0) → ℕ → (old : D) → DiskFault → (new : D) → Type 0
+FailsToTell {D} gives count old fault new =
+    gives old Attach (Fault fault) new ⊎ ((boot : ℕ) × (attached : D) × gives old Attach (Booted boot) attached × gives attached (Read boot 0 count) (Fault fault) new)
+
 -- why it says none: its first bytes, which it told, have no open gate; or they are no header of that image, or fewer than a header has; or
--- they are right by the layout that images had before; or a call has failed
+-- they are right by the layout that images had before; or it failed to tell those that it has
 abbrev pub ReadsNoHeader : {D : Type 0} → (D → Call → Answer → D → Type 0) → (old : D) → (disk size : ℕ) → (new : D) → ImageFault → Type 0
 ReadsNoHeader gives old disk size new NotFormatted = (bytes : List ℕ) × HasToldFirst gives old bytes new × ¬ IsFormatted bytes
 ReadsNoHeader gives old disk size new WrongHeader = (size < HEADER_LENGTH) ⊎ ((bytes : List ℕ) × HasToldFirst gives old bytes new × HasWrongHeader disk size bytes)
 ReadsNoHeader gives old disk size new OldLayout = (bytes : List ℕ) × HasToldFirst gives old bytes new × IsOld disk size bytes
-ReadsNoHeader gives old disk size new Unreadable = Unit {0}
+ReadsNoHeader gives old disk size new Unreadable = (fault : DiskFault) × FailsToTell gives (min size HEADER_LENGTH) old fault new
 
 -- an image that is right is in use and as long as its header says; of one that is refused no call is carried out
 abbrev pub IsDiskOf : Result Header ImageFault → FileState → Type 0

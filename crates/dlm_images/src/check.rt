@@ -1,4 +1,4 @@
-ghost use Rattle.std.specs.Prelude.{◌≡◌, ◌⊎◌, ◌+◌, ◌≤◌, ◌<◌, ◌↔◌, ℕ, true, IsTrue, Contains, Err, IfOk, IfErr, OnOk, length};
+ghost use Rattle.std.specs.Prelude.{◌≡◌, ◌⊎◌, ◌+◌, ◌≤◌, ◌<◌, ◌↔◌, ℕ, true, IsTrue, Contains, List, Err, IfOk, IfErr, OnOk, length, map};
 ghost use Rattle.std.specs.List.{list_any};
 ghost use Rattle.std.specs.Io.KnownBytes.{Appends};
 ghost use Rattle.torn_block.specs.declared.layout.TheConstants.{DISKS};
@@ -8,7 +8,7 @@ ghost use Rattle.paxos_block.specs.Damage as rows;
 ghost use Rattle.heartbeat.specs.Beat.{IsDamagedArea};
 ghost use Rattle.heartbeat.specs.Damage as areas;
 ghost use Rattle.dlm_images.specs.declared.check.CheckFault.TheVariants.{Device, Output};
-ghost use Rattle.dlm_images.specs.Damage.{AreLarge, IsDamagedImage, IsDamagedBelow, PrintsNothing, IsLeftInRows, IsLeftAt, Shows, TellsOf, IsToldFirst, IsToldOfFolder, line_of, lines_of, fault_line, image_text, area_text, row_text, rows_text};
+ghost use Rattle.dlm_images.specs.Damage.{AreLarge, IsDamagedImage, IsDamagedBelow, PrintsNothing, IsLeftInRows, IsLeftAt, IsTextOfUsed, AllTell, WritesTextOf, WritesTexts, Shows, TellsOf, IsToldFirst, IsToldOfFolder, line_of, lines_of, fault_line, image_text, area_text, row_text, rows_text};
 
 use crate::folder::Folder;
 use disk::{Boot, Disk, DiskFault, ImageFault};
@@ -84,6 +84,10 @@ fn check_disks<D: Disk, O: Write>(
 ) -> io::Result<Option<Finding>>
     requires few { length disks.old ≤ DISKS }
     requires large { AreLarge D.device slots disks.old }
+    ensures unchanged { OnOk result (AllTell D.device disks.old → map D.state disks.new ≡ map D.state disks.old) }
+    // One text for each image, in their order.
+    ensures texts { OnOk result (AllTell D.device disks.old →
+        WritesTexts D.state slots found.now disks.old (length disks.old) (O.contents out.old) (O.contents out.new)) }
     ensures told { IfOk result (IsToldFirst D.device D.state slots found.now disks.old (length disks.old)) }
     // What this says of images that were refused, by what was found of each image alone.
     ensures refusals { IfOk result (IsToldOfFolder found.now (length disks.old)) }
@@ -106,6 +110,9 @@ fn check_image<D: Disk, O: Write>(
 ) -> io::Result<Option<Finding>>
     requires { image_length slots ≤ (D.device device.old).size }
     ensures device { D.device device.new ≡ D.device device.old }
+    ensures unchanged { IsTrue (D.device device.old).tells → D.state device.new ≡ D.state device.old }
+    ensures text { OnOk result (IsTrue (D.device device.old).tells →
+        WritesTextOf found.now disk slots (D.state device.old).bytes (O.contents out.old) (O.contents out.new)) }
     ensures told { IfOk result (TellsOf found.now disk (IsTrue (D.device device.old).tells) (IsDamagedImage slots (D.state device.old).bytes)) }
     ensures line { OnOk result ((fault : ImageFault) → found.now ≡ Err fault → Appends (O.contents out.old) (O.contents out.new) (fault_line disk fault)) }
 {
@@ -123,6 +130,9 @@ fn check_disk<D: Disk, O: Write>(
 ) -> io::Result<Option<Finding>>
     requires { image_length slots ≤ (D.device device.old).size }
     ensures device { D.device device.new ≡ D.device device.old }
+    ensures unchanged { IsTrue (D.device device.old).tells → D.state device.new ≡ D.state device.old }
+    ensures text { OnOk result (IsTrue (D.device device.old).tells →
+        (text : List ℕ) × IsTextOfUsed disk slots (D.state device.old).bytes text × Appends (O.contents out.old) (O.contents out.new) text) }
     ensures told { IfOk result (Shows disk (IsTrue (D.device device.old).tells) (IsDamagedImage slots (D.state device.old).bytes)) }
 {
     let mut any = false;

@@ -1,6 +1,6 @@
-ghost use Rattle.std.specs.Prelude.{◌≡◌, ◌≤◌, ◌+◌, ◌-◌, ◌*◌, ℕ, Some, IfOk, IfErr, length, slice_get};
+ghost use Rattle.std.specs.Prelude.{◌≡◌, ◌≤◌, ◌+◌, ◌-◌, ◌*◌, ℕ, true, Some, IfOk, IfErr, length, slice_get};
 ghost use Rattle.paxos_block.specs.Places.{image_length};
-ghost use Rattle.lock_command.specs.Command.{spelling};
+ghost use Rattle.lock_command.specs.Command.{is_submittable, spelling};
 ghost use Rattle.lock_command.specs.Reading.{decoded};
 ghost use Rattle.lock_table.specs.Apply.{table_after};
 ghost use Rattle.lock_table.specs.Picture.{IsPictureOf};
@@ -109,9 +109,10 @@ impl<D: Disk> DiskHost<D> {
         self.disks
     }
 
-    /// Puts a command of this host into the log. Up to `tries` attempts may be outrun, the last of which ends the submission.
+    /// Puts a command of this host, which a client may ask for, into the log. Up to `tries` attempts may be outrun, the last of which ends the submission.
     pub fn submit(&mut self, command: Command, tries: u8) -> Result<Acknowledgement, Refusal>
         requires host { command.host ≡ self.old.core.learner.host }
+        requires asked { is_submittable command ≡ true }
         requires tries { 1 ≤ tries }
         ensures operated { HasOperated D.gives (Submitting command) tries self.old self.new }
         ensures same { self.new.core.learner.host ≡ self.old.core.learner.host }

@@ -61,8 +61,10 @@ where
     match files.metadata(path) {
         Ok(metadata) if metadata.file_type().is_block_device() => {
             let mut device = open_device(files, path, size)?;
-            let bytes = first_bytes(&mut device)?;
-            Ok(is_formatted(&bytes))
+            match first_bytes(&mut device) {
+                Ok(bytes) => Ok(is_formatted(&bytes)),
+                Err(_) => Err(ImageFault::Unreadable),
+            }
         }
         _ => Ok(true),
     }

@@ -1,9 +1,9 @@
-ghost use Rattle.std.specs.Prelude.{◌≡◌, ◌≤◌, true, IfOk, IfErr, OnOk};
+ghost use Rattle.std.specs.Prelude.{◌≡◌, ◌≤◌, true, IfOk, IfErr, OnOk, min};
 ghost use Rattle.std.specs.Path.{path_buf_bytes, path_join};
 ghost use Rattle.paxos_block.specs.Places.{image_length};
 ghost use Rattle.paxos_block.specs.Headers.{IsHeader};
 ghost use Rattle.dlm_images.specs.declared.fault.FolderFault.TheVariants.{NoMemory};
-ghost use Rattle.dlm_images.specs.Folders.{image_name, HasToldFirst, IsCutAsTold, ReadsHeader, ReadsNoHeader};
+ghost use Rattle.dlm_images.specs.Folders.{image_name, HasToldFirst, FailsToTell, IsCutAsTold, ReadsHeader, ReadsNoHeader};
 
 use crate::fault::FolderFault;
 use crate::header::{image_header, long_as_told};
@@ -76,7 +76,9 @@ fn cut_as_told<F: FileExt + OpenFile + Drop>(device: &mut FileDisk<F>) -> Result
     ensures cut { OnOk result (HEADER_LENGTH ≤ device.old.size → IsCutAsTold device.old device.new) }
     ensures fault { IfErr result (λ fault. fault ≡ ImageFault.Unreadable) }
 {
-    let bytes = first_bytes(device)?;
+    let Ok(bytes) = first_bytes(device) else {
+        return Err(ImageFault::Unreadable);
+    };
     device.cut(long_as_told(&bytes).min(device.size()));
     Ok(())
 }
@@ -91,27 +93,21 @@ fn read_header<D: Disk>(device: &mut D, disk: u8) -> Result<Header, ImageFault>
     ensures device { D.device device.new ≡ D.device device.old }
 {
     let long = device.size();
-    let bytes = first_bytes(device)?;
-    image_header(disk, long, &bytes)
+    match first_bytes(device) {
+        Ok(bytes) => image_header(disk, long, &bytes),
+        Err(_) => Err(ImageFault::Unreadable),
+    }
 }
 
 /// The first bytes of a device; of one that is shorter, zeros behind those that it has.
-pub fn first_bytes<D: Disk>(device: &mut D) -> Result<[u8; HEADER_LENGTH], ImageFault>
+pub fn first_bytes<D: Disk>(device: &mut D) -> Result<[u8; HEADER_LENGTH], DiskFault>
     ensures told { IfOk result (λ bytes. HEADER_LENGTH ≤ (D.device device.old).size → HasToldFirst D.gives device.old bytes device.new) }
-    ensures fault { IfErr result (λ fault. fault ≡ ImageFault.Unreadable) }
+    ensures fault { IfErr result (λ fault. FailsToTell D.gives (min (D.device device.old).size HEADER_LENGTH) device.old fault device.new) }
     ensures device { D.device device.new ≡ D.device device.old }
 {
     let mut bytes = [0; HEADER_LENGTH];
     let there = device.size().min(HEADER_LENGTH as u64) as usize;
-    let boot = device.attach().map_err(unreadable)?;
-    device
-        .read(boot, 0, &mut bytes[..there])
-        .map_err(unreadable)?;
+    let boot = device.attach()?;
+    device.read(boot, 0, &mut bytes[..there])?;
     Ok(bytes)
-}
-
-fn unreadable(_: DiskFault) -> ImageFault
-    ensures { result ≡ ImageFault.Unreadable }
-{
-    ImageFault::Unreadable
 }

@@ -1,4 +1,5 @@
-ghost use Rattle.std.specs.Prelude.{◌≡◌, ◌≤◌, ◌+◌, Some, Err, IfOk, IfErr};
+ghost use Rattle.std.specs.Prelude.{◌≡◌, ◌≤◌, ◌+◌, true, Some, Err, IfOk, IfErr};
+ghost use Rattle.lock_command.specs.Command.{is_submittable};
 ghost use Rattle.host.specs.Host.{Submitting};
 ghost use Rattle.dlm_images.specs.Operations.{HasOperated, IsAcknowledged};
 ghost use Rattle.dlm_images.specs.Tries.{HasTried};
@@ -23,6 +24,7 @@ pub fn submit_patiently<R: Clock + RandomSource, D: Disk>(
     tries: u8,
 ) -> Result<Acknowledgement, Refusal>
     requires host { command.host ≡ host.old.core.learner.host }
+    requires asked { is_submittable command ≡ true }
     requires tries { 1 ≤ tries }
     ensures tried { HasTried D.gives command tries host.old host.new }
     // It gives up as outrun only once it has tried so often.
@@ -47,7 +49,8 @@ fn submit_once<D: Disk>(
     host: &mut DiskHost<D>,
     command: &Command,
 ) -> Result<Acknowledgement, Refusal>
-    requires { command.now.host ≡ host.old.core.learner.host }
+    requires host { command.now.host ≡ host.old.core.learner.host }
+    requires asked { is_submittable command.now ≡ true }
     ensures operated { HasOperated D.gives (Submitting command.now) 1 host.old host.new }
     ensures same { host.new.core.learner.host ≡ host.old.core.learner.host }
     ensures acknowledged { IfOk result (λ done. IsAcknowledged command.now done.slot done.reply host.new.core.prefix) }

@@ -7,7 +7,7 @@ use Rattle.torn_block.specs.declared.block.TheConstants.{OPEN_GATE}
 use Rattle.paxos_block.specs.declared.header.Header.{Header}
 use Rattle.paxos_block.specs.Headers.{IsRight, IsFormatted}
 use Rattle.slot_log.specs.Shape.{Shape}
-use Rattle.dlm_images.specs.Folders.{HasToldFirst}
+use Rattle.dlm_images.specs.Folders.{HasToldFirst, FailsToTell}
 use Rattle.dlm_images.specs.Layout.{WritesZeros, header_of}
 use Rattle.folder_migration.specs.declared.gate.Gate.{Gate}
 use Rattle.folder_migration.specs.declared.gate.Gate.TheVariants.{Open, Closed, Neither}
@@ -26,14 +26,9 @@ pub record IsNoImage (header : Header) (long : ℕ) (bytes : List ℕ) : Type 0 
   pub not_open : ¬ IsOpenImage header long bytes
   pub not_closed : ¬ IsClosedImage header long bytes
 
--- a disk was asked for its first bytes, and one of the two calls was answered with this fault
-abbrev pub FailsToTell : {D : Type 0} → (D → Call → Answer → D → Type 0) → (old : D) → DiskFault → (new : D) → Type 0
-FailsToTell {D} gives old fault new =
-    gives old Attach (Fault fault) new ⊎ ((boot : ℕ) × (attached : D) × gives old Attach (Booted boot) attached × gives attached (Read boot 0 HEADER_LENGTH) (Fault fault) new)
-
 -- it told none: a header has no room on it, and it was not asked; or it failed to
 abbrev pub TellsNone : {D : Type 0} → (D → Call → Answer → D → Type 0) → ℕ → (old new : D) → Type 0
-TellsNone gives size old new = ((size < HEADER_LENGTH) × (new ≡ old)) ⊎ ((fault : DiskFault) × FailsToTell gives old fault new)
+TellsNone gives size old new = ((size < HEADER_LENGTH) × (new ≡ old)) ⊎ ((fault : DiskFault) × FailsToTell gives HEADER_LENGTH old fault new)
 
 -- what is found of a device of so many bytes, by the first bytes that it told
 abbrev pub Finds : {D : Type 0} → (D → Call → Answer → D → Type 0) → Header → ℕ → (old new : D) → Gate → Type 0

@@ -1,6 +1,7 @@
 -- How an image of the first layout is read, and the disks that a folder of them has once it is open.
-use Rattle.std.specs.Prelude.{◌≡◌, ◌⊎◌, ◌<◌, ℕ, true, false, List, slice_get, Some, Result, Ok, Err, is_ok}
+use Rattle.std.specs.Prelude.{◌≡◌, ◌⊎◌, ◌<◌, ℕ, true, false, List, min, slice_get, Some, Result, Ok, Err, is_ok}
 use Rattle.torn_block.specs.Layout.{Version1}
+use Rattle.disk.specs.declared.fault.DiskFault.{DiskFault}
 use Rattle.disk.specs.declared.fault.ImageFault.{ImageFault}
 use Rattle.disk.specs.declared.fault.ImageFault.TheVariants.{NotFormatted, WrongHeader, Unreadable, OldLayout}
 use Rattle.disk.specs.Disk.{Call, Attach, Read, Answer, Booted, Told}
@@ -10,7 +11,7 @@ use Rattle.paxos_block.specs.declared.header.Header.{Header}
 use Rattle.paxos_block.specs.layouts.Headers.{IsRight, IsFormatted, HasNoHeader}
 use Rattle.paxos_block.specs.layouts.Places.{image_length}
 use Rattle.slot_log.specs.Shape.{Shape}
-use Rattle.dlm_images.specs.Folders.{HasToldFirst}
+use Rattle.dlm_images.specs.Folders.{HasToldFirst, FailsToTell}
 use Rattle.dlm_images.specs.Sets.{Found, AreImages, HasNumbers}
 
 -- The device told its first bytes, and as those of the image of this number and size they are right by the first layout: they say this header.
@@ -23,12 +24,12 @@ pub record ReadsHeader {D : Type 0} (gives : D → Call → Answer → D → Typ
   pub right : IsRight Version1 disk size bytes header
 
 -- why it says none: the gate is not open; or the first bytes are no header of that image in the first layout, or fewer than a header has; or
--- a call has failed
+-- it failed to tell those that it has
 abbrev pub ReadsNoHeader : {D : Type 0} → (D → Call → Answer → D → Type 0) → (old : D) → (disk size : ℕ) → (new : D) → ImageFault → Type 0
 ReadsNoHeader gives old disk size new NotFormatted = (bytes : List ℕ) × HasToldFirst gives old bytes new × ¬ IsFormatted bytes
 ReadsNoHeader gives old disk size new WrongHeader = (size < HEADER_LENGTH) ⊎ ((bytes : List ℕ) × HasToldFirst gives old bytes new × HasNoHeader Version1 disk size bytes)
 ReadsNoHeader gives old disk size new OldLayout = ⊥
-ReadsNoHeader gives old disk size new Unreadable = Unit {0}
+ReadsNoHeader gives old disk size new Unreadable = (fault : DiskFault) × FailsToTell gives (min size HEADER_LENGTH) old fault new
 
 -- an image that is right is in use and as long as its header says; of one that is refused no call is carried out
 abbrev pub IsDiskOf : Result Header ImageFault → FileState → Type 0

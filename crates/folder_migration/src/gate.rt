@@ -1,7 +1,7 @@
 ghost use Rattle.std.specs.Prelude.{◌≡◌, ◌↔◌, ◌≤◌, IsTrue, IfErr, IfOk, OnOk};
 ghost use Rattle.torn_block.specs.declared.layout.TheConstants.{HEADER_LENGTH};
-ghost use Rattle.dlm_images.specs.Folders.{HasToldFirst};
-ghost use Rattle.folder_migration.specs.Gates.{IsOpenImage, IsClosedImage, FailsToTell, Finds, OpensGate, FailsToOpen, IsLeftOpen, IsLeftClosed};
+ghost use Rattle.dlm_images.specs.Folders.{HasToldFirst, FailsToTell};
+ghost use Rattle.folder_migration.specs.Gates.{IsOpenImage, IsClosedImage, Finds, OpensGate, FailsToOpen, IsLeftOpen, IsLeftClosed};
 
 use disk::{Disk, DiskFault};
 use paxos_block::{Header, decode_header};
@@ -63,7 +63,7 @@ pub fn find_gate<D: Disk>(device: &mut D, header: &Header) -> Gate
 fn header_bytes<D: Disk>(device: &mut D) -> Result<[u8; HEADER_LENGTH], DiskFault>
     requires { HEADER_LENGTH ≤ (D.device device.old).size }
     ensures told { IfOk result (λ bytes. HasToldFirst D.gives device.old bytes device.new) }
-    ensures fault { IfErr result (λ fault. FailsToTell D.gives device.old fault device.new) }
+    ensures fault { IfErr result (λ fault. FailsToTell D.gives HEADER_LENGTH device.old fault device.new) }
     ensures device { D.device device.new ≡ D.device device.old }
 {
     let mut bytes = [0; HEADER_LENGTH];

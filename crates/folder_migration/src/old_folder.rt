@@ -103,6 +103,8 @@ fn read_old_header<D: Disk>(device: &mut D, disk: u8) -> Result<Header, ImageFau
     ensures device { D.device device.new ≡ D.device device.old }
 {
     let long = device.size();
-    let bytes = first_bytes(device)?;
-    decode_header::<Layout1>(disk, long, &bytes)
+    match first_bytes(device) {
+        Ok(bytes) => decode_header::<Layout1>(disk, long, &bytes),
+        Err(_) => Err(ImageFault::Unreadable),
+    }
 }

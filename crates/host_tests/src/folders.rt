@@ -1,4 +1,5 @@
-ghost use Rattle.std.specs.Prelude.{◌≡◌, IfSome};
+ghost use Rattle.std.specs.Prelude.{◌≡◌, true, IfSome};
+ghost use Rattle.lock_command.specs.Command.{is_submittable};
 
 use crate::replies::{GRANTED, QUEUED};
 use disk::{Disk, FileDisk, ImageFault};
@@ -16,7 +17,8 @@ use std::test::Fail;
 
 // A lock of a client on one name.
 fn enqueue(host: HostNumber, client: u8, mode: Mode) -> Option<Command>
-    ensures { IfSome result (λ command. command.host ≡ host) }
+    ensures host { IfSome result (λ command. command.host ≡ host) }
+    ensures asked { IfSome result (λ command. is_submittable command ≡ true) }
 {
     Some(Command {
         host,

@@ -1,3 +1,6 @@
+ghost use Rattle.std.specs.Prelude.{◌≡◌, false};
+ghost use Rattle.lock_command.specs.Command.{is_quiet};
+
 use crate::replies::{GRANTED, QUEUED};
 use at_once::{Turns, submit_in_turn};
 use dlm_images::Acknowledgement;
@@ -10,7 +13,9 @@ use std::alloc::Global;
 use std::test::Fail;
 
 // A lock on a name, for a client alone.
-fn exclusive(lock: LockNumber, name: LockName) -> Action {
+fn exclusive(lock: LockNumber, name: LockName) -> Action
+    ensures { is_quiet result ≡ false }
+{
     Action::Enqueue {
         lock,
         name,

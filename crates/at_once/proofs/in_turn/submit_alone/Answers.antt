@@ -11,13 +11,13 @@ returns-clause-submitted c =
     let old = c.in_ok-host.host.core in
     let new = c.submit-done.new.self in
     let below : c.args.command.host < HOSTS = omega (arith, c.get-number.ensures.value, c.get-number.ensures.range) in
-    λ asked. record {
+    record {
       new = new;
       turn = record {
         below = below;
         old = old;
         leads = c.in_ok-host.ensures.fresh;
-        may = (c.submit-done.ensures.readable, refl, c.requires.tries, asked);
+        may = (c.submit-done.ensures.readable, refl, c.requires.tries, c.requires.asked);
         did =
             subst (λ (ds : List SimState). HasOperated Gives (Submitting c.args.command) c.args.tries (record { core = old; disks = ds }) new) c.in_ok-host.ensures.disks
             c.submit-done.ensures.operated;

@@ -16,6 +16,6 @@ returns c =
     subst (λ (ds : List SimState). (k : ℕ) (d : SimState) → slice_get ds k ≡ Some d → HoldsNothing c.args.config.slots d.disk) (sym c.in_ok-disks.ensures)
     (zeros_blank c.args.config c.args.config.disks) in
     record {
-      apart = λ asked also. submitted_apart c.args.config c.args.first c.args.second c.args.tries c.in_ok-disks.disks.items c.in_ok-one.one.disks.items c.in_ok-other.other.disks.items
-          c.in_ok-one.one.done c.in_ok-other.other.done c.requires.hosts blank (c.in_ok-one.ensures.submitted asked) (c.in_ok-other.ensures.submitted also);
+      apart = submitted_apart c.args.config c.args.first c.args.second c.args.tries c.in_ok-disks.disks.items c.in_ok-one.one.disks.items c.in_ok-other.other.disks.items
+          c.in_ok-one.one.done c.in_ok-other.other.done c.requires.hosts blank c.in_ok-one.ensures.submitted c.in_ok-other.ensures.submitted;
     }

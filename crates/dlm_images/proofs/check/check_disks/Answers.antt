@@ -3,6 +3,7 @@ use Rattle.std.proofs.lemmas.Option.{slice_get-get_or}
 use Rattle.dlm_images.specs.declared.check.Finding.{Finding}
 use Rattle.dlm_images.specs.Damage.{IsToldOfFolder}
 use Rattle.dlm_images.proofs.Checking.{Checked, one_checked, told_of_folder}
+use Rattle.dlm_images.proofs.Printed.{one_kept, one_written}
 use Rattle.dlm_images.proofs.check.check_disks.Goals as goal
 
 pub loop-disk-preserved : goal.loop-disk-preserved
@@ -11,15 +12,25 @@ loop-disk-preserved g c =
     let n = c.loop-disk.disk in
     let old = c.args.disks.now in
     let found = c.args.found.now in
-    let within : n < length now = omega (arith, c.loop-disk-test.true, c.loop-disk.invariant.as_many) in
+    let within : n < length now = omega (arith, c.loop-disk-test.true, c.loop-disk.invariant.checked.as_many) in
     let is_there : n < length found = omega (arith, c.loop-disk-test.true, c.told-found, c.requires.few) in
-    subst (λ (first : Option Finding). Checked g.D.Disk.device g.D.Disk.state c.args.slots found old (slice_set now n c.check_image.new.device) (n + 1) first) (sym c.or-first.ensures)
-    (one_checked g.D.Disk.device g.D.Disk.state c.args.slots found old now n (get_or now n c.index-disks-disk.result) c.check_image.new.device (get_or found n _) c.loop-disk.first c.in_ok-finding.finding
-    c.loop-disk.invariant (slice_get-get_or now n c.index-disks-disk.result within) (slice_get-get_or found n _ is_there) c.check_image.ensures.device c.in_ok-finding.ensures.told)
+    let disk_at = slice_get-get_or now n c.index-disks-disk.result within in
+    let image_at = slice_get-get_or found n _ is_there in
+    record {
+      checked =
+          subst (λ (first : Option Finding). Checked g.D.Disk.device g.D.Disk.state c.args.slots found old (slice_set now n c.check_image.new.device) (n + 1) first) (sym c.or-first.ensures)
+          (one_checked g.D.Disk.device g.D.Disk.state c.args.slots found old now n (get_or now n c.index-disks-disk.result) c.check_image.new.device (get_or found n _) c.loop-disk.first c.in_ok-finding.finding
+          c.loop-disk.invariant.checked disk_at image_at c.check_image.ensures.device c.in_ok-finding.ensures.told);
+      kept = λ all.
+          one_kept g.D.Disk.device g.D.Disk.state c.args.slots found old now n (get_or now n c.index-disks-disk.result) c.check_image.new.device c.loop-disk.invariant.checked.rest disk_at c.check_image.ensures.unchanged all (c.loop-disk.invariant.kept all);
+      written = λ all.
+          one_written g.D.Disk.device g.D.Disk.state c.args.slots found old now n (get_or now n c.index-disks-disk.result) (get_or found n _) (g.O.Write.contents c.args.out.now) (g.O.Write.contents c.loop-disk.out) (g.O.Write.contents c.check_image.new.out)
+          c.loop-disk.invariant.checked.rest disk_at image_at c.in_ok-finding.ensures.text all (c.loop-disk.invariant.written all);
+    }
 
 pub returns-clause-refusals : goal.returns-clause-refusals
 returns-clause-refusals g c =
     let n = c.loop-disk.disk in
-    let all : n ≡ length c.args.disks.now = omega (arith, c.loop-disk-test.false, c.loop-disk.invariant.as_many) in
+    let all : n ≡ length c.args.disks.now = omega (arith, c.loop-disk-test.false, c.loop-disk.invariant.checked.as_many) in
     subst (λ (m : ℕ). IsToldOfFolder c.args.found.now m c.loop-disk.first) all
-    (told_of_folder g.D.Disk.device g.D.Disk.state c.args.slots c.args.found.now c.args.disks.now n (omega (arith, all)) (omega (arith, all, c.told-found, c.requires.few)) c.loop-disk.first c.loop-disk.invariant.told)
+    (told_of_folder g.D.Disk.device g.D.Disk.state c.args.slots c.args.found.now c.args.disks.now n (omega (arith, all)) (omega (arith, all, c.told-found, c.requires.few)) c.loop-disk.first c.loop-disk.invariant.checked.told)
