@@ -1,6 +1,6 @@
 -- New images: how one is made zeros, when it is an image of a set, and how its gate is opened.
 use Rattle.std.specs.Prelude.{◌≡◌, ◌⊎◌, ◌<◌, ◌≤◌, ℕ, List, [], ◌∷◌, length, drop, slice_get, slice_set, Some}
-use Rattle.disk.specs.Disk.{Device, Call, Attach, Read, Write, Sync, Answer, Booted, Done, Fault}
+use Rattle.disk.specs.Disk.{Device, Call, Attach, Write, Sync, Answer, Booted, Done, Fault}
 use Rattle.disk.specs.declared.fault.DiskFault.{DiskFault}
 use Rattle.torn_block.specs.declared.layout.TheConstants.{HEADER_LENGTH}
 use Rattle.torn_block.specs.declared.block.TheConstants.{OPEN_GATE}
@@ -93,18 +93,20 @@ pub record FirstBecame {D : Type 0} (becomes : ℕ → D → D → Type 0) (n : 
 abbrev pub FindsOf : {D : Type 0} → (D → Call → Answer → D → Type 0) → (D → Device) → Shape → (cluster : ℕ) → Gate → ℕ → D → D → Type 0
 FindsOf gives device config cluster gate disk old new = Finds gives (header_of config cluster disk) (device old).size old new gate
 
--- The images were looked at up to one whose gate is open.
-pub record HasOpenGate {D : Type 0} (gives : D → Call → Answer → D → Type 0) (device : D → Device) (config : Shape) (cluster : ℕ) (old new : List D) : Type 0 where
-  pub disk : ℕ
-  pub before : D
-  pub after : D
-  pub is : slice_get old disk ≡ Some before
-  pub becomes : slice_get new disk ≡ Some after
-  pub found : FindsOf gives device config cluster Open disk before after
-
 -- no gate of the first so many is open
 abbrev pub HaveNoOpenGate : {D : Type 0} → (D → Call → Answer → D → Type 0) → (D → Device) → Shape → (cluster n : ℕ) → (old new : List D) → Type 0
 HaveNoOpenGate gives device config cluster n = FirstBecame (λ disk old new. (gate : Gate) × ¬ (gate ≡ Open) × FindsOf gives device config cluster gate disk old new) n
+
+-- The images were looked at up to one whose gate is open. Those before it have none, and those after it are as they were.
+pub record HasOpenGate {D : Type 0} (gives : D → Call → Answer → D → Type 0) (device : D → Device) (config : Shape) (cluster : ℕ) (old new : List D) : Type 0 where
+  pub disk : ℕ
+  pub now : List D
+  pub before_it : HaveNoOpenGate gives device config cluster disk old now
+  pub image : D
+  pub looked : D
+  pub is : slice_get now disk ≡ Some image
+  pub found : FindsOf gives device config cluster Open disk image looked
+  pub new_is : new ≡ slice_set now disk looked
 
 -- the first so many were left open
 abbrev pub AreLeftOpen : {D : Type 0} → (D → Call → Answer → D → Type 0) → (D → Device) → Shape → (cluster n : ℕ) → (old new : List D) → Type 0

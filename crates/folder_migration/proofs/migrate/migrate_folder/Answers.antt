@@ -1,4 +1,4 @@
-use Rattle.std.proofs.Common.{◌≡◌, ◌≤◌, List, Some, arith, rules, slice_get, subst}
+use Rattle.std.proofs.Common.{◌≤◌, arith, rules, subst}
 use Rattle.dlm_images.specs.SetFaults.{IsFormatFault}
 use Rattle.folder_migration.specs.Migrating.{AreBlank, MayFail}
 use Rattle.folder_migration.proofs.Writing.{stops}
