@@ -1,4 +1,7 @@
-ghost use Rattle.std.specs.Prelude.{◌≡◌, IfOk};
+ghost use Rattle.std.specs.Prelude.{◌≡◌, IfOk, OnOk};
+ghost use Rattle.std.specs.Io.KnownBytes.{Appends};
+ghost use Rattle.host.specs.declared.answer.HostAnswer.TheVariants.{Ack};
+ghost use Rattle.dlm.specs.Printed.{answer_line, marked_text, table_text};
 
 use crate::command_failure::CommandFailure;
 use crate::fault::Fault;
@@ -165,7 +168,9 @@ where
     Ok((over, lock))
 }
 
-fn print_ack<O: Write>(done: Acknowledgement, out: &mut O) -> Result<(), CommandFailure> {
+fn print_ack<O: Write>(done: Acknowledgement, out: &mut O) -> Result<(), CommandFailure>
+    ensures { OnOk result (Appends (O.contents out.old) (O.contents out.new) (answer_line (Ack done.slot done.reply))) }
+{
     let slot = done.slot;
     let reply = ReplyText(done.reply);
     writeln!(out, "ack {slot} {reply}")?;
@@ -173,7 +178,9 @@ fn print_ack<O: Write>(done: Acknowledgement, out: &mut O) -> Result<(), Command
     Ok(())
 }
 
-fn print_marked<O: Write>(log: MarkedLog, out: &mut O) -> Result<(), CommandFailure> {
+fn print_marked<O: Write>(log: MarkedLog, out: &mut O) -> Result<(), CommandFailure>
+    ensures { OnOk result (Appends (O.contents out.old) (O.contents out.new) (marked_text log.length log.marked)) }
+{
     let length = log.length;
     let marked = log.marked;
     writeln!(out, "recovered {length}")?;
@@ -187,7 +194,9 @@ fn print_table<O: Write>(
     length: u16,
     table: &Table,
     out: &mut O,
-) -> Result<(), CommandFailure> {
+) -> Result<(), CommandFailure>
+    ensures { OnOk result (Appends (O.contents out.old) (O.contents out.new) (table_text length table.now)) }
+{
     let picture = table.picture(alloc).map_err(Fault::from)?;
     writeln!(out, "recovered {length}")?;
     queues(&picture, out)?;
