@@ -56,9 +56,12 @@ abbrev pub IsViewOf : View → Shown → List ℕ → Type 0
 IsViewOf shown_as.Queues shown text = text ≡ queues_text shown
 IsViewOf shown_as.Blocking shown text = (found : Blocking) × IsVerdict shown.locks found × (text ≡ blocking_text found)
 
+abbrev pub stopped_line : ℕ → List ℕ
+stopped_line host = codes "host " ++ decimal host ++ (codes " is stopped" ++ 10 ∷ [])
+
 -- of a host that runs, the table after the commands that it learned is shown
 abbrev pub IsShowOf : Show → Option hosts.Kept → List ℕ → Type 0
-IsShowOf show None text = text ≡ codes "host " ++ decimal show.host ++ codes " is stopped" ++ 10 ∷ []
+IsShowOf show None text = text ≡ stopped_line show.host
 IsShowOf show (Some core) text = (shown : Shown) × IsPictureOf shown (table_after core.prefix) × IsViewOf show.view shown text
 
 -- FOLDERS
