@@ -4,11 +4,13 @@ use Rattle.std.specs.Io.KnownBytes.{Appends}
 use Rattle.world.specs.Entry.{Filled}
 use Rattle.world.specs.World.{world}
 use Rattle.world.specs.Happens.{Line, entry_of, happens, lines_at}
+use Rattle.lock_command.specs.declared.command.Command.{Command}
 use Rattle.lock_table.specs.Apply.{table_after}
 use Rattle.lock_table.specs.Picture.{Shown, IsPictureOf}
+use Rattle.lock_table.specs.declared.reply.Reply.{Reply}
 use Rattle.host.specs.Kept as hosts
 use Rattle.host.specs.declared.answer.HostAnswer.{HostAnswer}
-use Rattle.host.specs.declared.answer.HostAnswer.TheVariants.{Recovered}
+use Rattle.host.specs.declared.answer.HostAnswer.TheVariants.{Ack, Recovered}
 use Rattle.lock_script.specs.declared.event.Event.{Event}
 use Rattle.lock_script.specs.declared.script.Script.{Script}
 use Rattle.lock_script.specs.declared.show.Show.{Show}
@@ -21,6 +23,7 @@ use Rattle.inspect.specs.declared.verdict.Blocking.TheVariants.{Cycle, Ranked}
 use Rattle.simulator.specs.Events.{event_of, events_of, opening_of}
 use Rattle.simulator.specs.Kept.{Kept, LeadsTo}
 use Rattle.simulator.specs.Sweeping.{recovered_behind, variants}
+use Rattle.dlm_images.specs.Operations.{IsAcknowledged}
 use Rattle.race.specs.Race.{IsRace}
 use Rattle.race.specs.declared.answer.Answer.{Answer}
 use Rattle.dlm.specs.Text.{answer_text, race_answer_text}
@@ -77,6 +80,27 @@ marked_text recovered marked = answer_line (Recovered recovered) ++ codes "marke
 -- how much of the log was recovered, and the queues of the table
 abbrev pub table_text : ℕ → Shown → List ℕ
 table_text recovered shown = answer_line (Recovered recovered) ++ queues_text shown
+
+-- The log had these commands and then this one, and its slot and the lock table's reply were written.
+pub record WritesAcknowledgement (command : Command) (before after : Option (List ℕ)) : Type 0 where
+  pub slot : ℕ
+  pub reply : Reply
+  pub learned : List Command
+  pub acknowledged : IsAcknowledged command slot reply learned
+  pub written : Appends before after (answer_line (Ack slot reply))
+
+-- These commands were learned, and how many, and the queues of the lock table after them, was written.
+pub record WritesTable (before after : Option (List ℕ)) : Type 0 where
+  pub learned : List Command
+  pub shown : Shown
+  pub picture : IsPictureOf shown (table_after learned)
+  pub written : Appends before after (table_text (length learned) shown)
+
+-- So many commands were learned, so many slots were marked, and both was written.
+pub record WritesMarks (before after : Option (List ℕ)) : Type 0 where
+  pub learned : List Command
+  pub marked : ℕ
+  pub written : Appends before after (marked_text (length learned) marked)
 
 -- SWEEPS
 

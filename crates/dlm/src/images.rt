@@ -1,7 +1,7 @@
 ghost use Rattle.std.specs.Prelude.{◌≡◌, IfOk, OnOk};
 ghost use Rattle.std.specs.Io.KnownBytes.{Appends};
 ghost use Rattle.host.specs.declared.answer.HostAnswer.TheVariants.{Ack};
-ghost use Rattle.dlm.specs.Printed.{answer_line, marked_text, table_text};
+ghost use Rattle.dlm.specs.Printed.{WritesAcknowledgement, WritesTable, answer_line, marked_text, table_text};
 
 use crate::command_failure::CommandFailure;
 use crate::fault::Fault;
@@ -55,6 +55,7 @@ pub fn submit<R: Files + Clock + RandomSource + AllocGlobal, O: Write>(
 ) -> Result<(), CommandFailure>
 where
     R::File: FileExt + OpenFile + TryLock + Drop,
+    ensures { OnOk result (WritesAcknowledgement command (O.contents out.old) (O.contents out.new)) }
 {
     let (mut host, _lock) = host_over(rt, folder, command.host)?;
     match submit_patiently(rt, &mut host, command, TRIES) {
@@ -77,6 +78,7 @@ pub fn table<R: Files + AllocGlobal, O: Write>(
 ) -> Result<(), CommandFailure>
 where
     R::File: FileExt + OpenFile + TryLock + Drop,
+    ensures { OnOk result (WritesTable (O.contents out.old) (O.contents out.new)) }
 {
     let (mut host, _lock) = host_over(rt, folder, host)?;
     match host.recover(TRIES) {
