@@ -1,6 +1,7 @@
 -- What the program prints.
 use Rattle.std.specs.Prelude.{◌≡◌, ◌+◌, ℕ, Bool, List, [], ◌∷◌, ◌++◌, codes, decimal, flat_map, length, sum_by, Option, Some, None, if◌then◌else◌}
 use Rattle.std.specs.Io.KnownBytes.{Appends}
+use Rattle.disk.specs.FileStates.{FileState, FileGives}
 use Rattle.world.specs.Entry.{Filled}
 use Rattle.world.specs.World.{world}
 use Rattle.world.specs.Happens.{Line, entry_of, happens, lines_at}
@@ -23,7 +24,8 @@ use Rattle.inspect.specs.declared.verdict.Blocking.TheVariants.{Cycle, Ranked}
 use Rattle.simulator.specs.Events.{event_of, events_of, opening_of}
 use Rattle.simulator.specs.Kept.{Kept, LeadsTo}
 use Rattle.simulator.specs.Sweeping.{recovered_behind, variants}
-use Rattle.dlm_images.specs.Operations.{IsAcknowledged}
+use Rattle.dlm_images.specs.Marking.{RecoversAndMarks}
+use Rattle.dlm_images.specs.Operations.{IsAcknowledged, Standing}
 use Rattle.race.specs.Race.{IsRace}
 use Rattle.race.specs.declared.answer.Answer.{Answer}
 use Rattle.dlm.specs.Text.{answer_text, race_answer_text}
@@ -96,11 +98,13 @@ pub record WritesTable (before after : Option (List ℕ)) : Type 0 where
   pub picture : IsPictureOf shown (table_after learned)
   pub written : Appends before after (table_text (length learned) shown)
 
--- So many commands were learned, so many slots were marked, and both was written.
-pub record WritesMarks (before after : Option (List ℕ)) : Type 0 where
-  pub learned : List Command
+-- The log was recovered from some disks, and its new slots were marked. How much was recovered and marked, was written.
+pub record WritesMarks (tries : ℕ) (before after : Option (List ℕ)) : Type 0 where
+  pub old : Standing FileState
+  pub new : Standing FileState
   pub marked : ℕ
-  pub written : Appends before after (marked_text (length learned) marked)
+  pub marks : RecoversAndMarks FileGives tries marked old new
+  pub written : Appends before after (marked_text (length new.core.prefix) marked)
 
 -- SWEEPS
 

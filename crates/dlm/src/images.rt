@@ -1,7 +1,7 @@
 ghost use Rattle.std.specs.Prelude.{◌≡◌, IfOk, OnOk};
 ghost use Rattle.std.specs.Io.KnownBytes.{Appends};
 ghost use Rattle.host.specs.declared.answer.HostAnswer.TheVariants.{Ack};
-ghost use Rattle.dlm.specs.Printed.{WritesAcknowledgement, WritesTable, answer_line, marked_text, table_text};
+ghost use Rattle.dlm.specs.Printed.{WritesAcknowledgement, WritesMarks, WritesTable, answer_line, marked_text, table_text};
 
 use crate::command_failure::CommandFailure;
 use crate::fault::Fault;
@@ -97,6 +97,7 @@ pub fn mark<R: Files + AllocGlobal, O: Write>(
 ) -> Result<(), CommandFailure>
 where
     R::File: FileExt + OpenFile + TryLock + Drop,
+    ensures { OnOk result (WritesMarks TRIES (O.contents out.old) (O.contents out.new)) }
 {
     let (mut host, _lock) = host_over(rt, folder, host)?;
     // Look first: a slot that the look learns from a mark need not be marked again. If the look is refused, the recovery says why.
