@@ -12,6 +12,9 @@ use Rattle.lock_table.specs.declared.reply.Reply.{Reply}
 use Rattle.host.specs.Kept as hosts
 use Rattle.host.specs.declared.answer.HostAnswer.{HostAnswer}
 use Rattle.host.specs.declared.answer.HostAnswer.TheVariants.{Ack, Recovered}
+use Rattle.slot_log.specs.Shape.{Shape}
+use Rattle.lock_script.specs.Lines.{lines_of}
+use Rattle.lock_script.specs.Script.{IsScript, content_of}
 use Rattle.lock_script.specs.declared.event.Event.{Event}
 use Rattle.lock_script.specs.declared.script.Script.{Script}
 use Rattle.lock_script.specs.declared.show.Show.{Show}
@@ -26,6 +29,9 @@ use Rattle.simulator.specs.Kept.{Kept, LeadsTo}
 use Rattle.simulator.specs.Sweeping.{recovered_behind, variants}
 use Rattle.dlm_images.specs.Marking.{RecoversAndMarks}
 use Rattle.dlm_images.specs.Operations.{IsAcknowledged, Standing}
+use Rattle.folder_migration.specs.Migrating.{CameTo}
+use Rattle.folder_migration.specs.declared.migrate.Moved.{Moved}
+use Rattle.folder_migration.specs.declared.migrate.Moved.TheVariants.{Moved as WasMoved, Finished}
 use Rattle.race.specs.Race.{IsRace}
 use Rattle.race.specs.declared.answer.Answer.{Answer}
 use Rattle.dlm.specs.Text.{answer_text, race_answer_text}
@@ -71,6 +77,10 @@ IsShowOf show (Some core) text = (shown : Shown) × IsPictureOf shown (table_aft
 
 -- FOLDERS
 
+-- how large the cluster is
+abbrev pub formatted_text : Shape → List ℕ
+formatted_text shape = codes "formatted " ++ decimal shape.disks ++ codes " disks, " ++ decimal shape.slots ++ (codes " slots" ++ 10 ∷ [])
+
 -- how an operation of a host ended
 abbrev pub answer_line : HostAnswer → List ℕ
 answer_line answer = answer_text answer ++ 10 ∷ []
@@ -106,6 +116,18 @@ pub record WritesMarks (tries : ℕ) (before after : Option (List ℕ)) : Type 0
   pub marks : RecoversAndMarks FileGives tries marked old new
   pub written : Appends before after (marked_text (length new.core.prefix) marked)
 
+-- how many commands were moved onto how many images, or on how many the gates that were left were opened
+abbrev pub moved_text : ℕ → Moved → List ℕ
+moved_text slots (WasMoved commands disks) =
+    codes "migrated " ++ decimal commands ++ codes " commands, " ++ decimal disks ++ codes " disks, " ++ decimal slots ++ (codes " slots" ++ 10 ∷ [])
+moved_text slots (Finished disks) = codes "finished " ++ decimal disks ++ (codes " disks" ++ 10 ∷ [])
+
+-- The log was moved, and what that came to was written.
+pub record WritesMove (slots : ℕ) (before after : Option (List ℕ)) : Type 0 where
+  pub moved : Moved
+  pub came_to : CameTo slots moved
+  pub written : Appends before after (moved_text slots moved)
+
 -- SWEEPS
 
 abbrev pub counts_text : ℕ → ℕ → ℕ → List ℕ
@@ -118,6 +140,12 @@ sweep_text script =
     let opening = opening_of script in
     let runs = variants opening (events_of script.events) in
     counts_text (length runs) (sum_by (recovered_behind opening) runs) 0
+
+-- The bytes are a script, which was swept.
+pub record WritesSweep (bytes : List ℕ) (before after : Option (List ℕ)) : Type 0 where
+  pub script : Script
+  pub is_script : IsScript (lines_of bytes) (content_of script)
+  pub written : Appends before after (sweep_text script)
 
 -- RACES
 

@@ -1,7 +1,7 @@
 ghost use Rattle.std.specs.Prelude.{◌≡◌, IfOk, OnOk};
 ghost use Rattle.std.specs.Io.KnownBytes.{Appends};
 ghost use Rattle.host.specs.declared.answer.HostAnswer.TheVariants.{Ack};
-ghost use Rattle.dlm.specs.Printed.{WritesAcknowledgement, WritesMarks, WritesTable, answer_line, marked_text, table_text};
+ghost use Rattle.dlm.specs.Printed.{WritesAcknowledgement, WritesMarks, WritesMove, WritesTable, answer_line, formatted_text, marked_text, moved_text, table_text};
 
 use crate::command_failure::CommandFailure;
 use crate::fault::Fault;
@@ -18,6 +18,7 @@ use lock_command::{Command, HostNumber};
 use lock_table::Table;
 use std::alloc::Global;
 use std::fs::OpenFile;
+use std::io;
 use std::io::Write;
 use std::os::unix::fs::FileExt;
 use std::random::RandomSource;
@@ -37,6 +38,7 @@ pub fn format<R: Files + AllocGlobal, O: Write>(
 ) -> Result<(), CommandFailure>
 where
     R::File: FileExt + OpenFile + Drop,
+    ensures { OnOk result (Appends (O.contents out.old) (O.contents out.new) (formatted_text config)) }
 {
     format_folder(rt, folder, config, cluster).map_err(Fault::from)?;
     let disks = config.disks();
@@ -139,17 +141,10 @@ pub fn migrate<R: Files + AllocGlobal, O: Write>(
 ) -> Result<(), CommandFailure>
 where
     R::File: FileExt + OpenFile + TryLock + Drop,
+    ensures { OnOk result (WritesMove slots (O.contents out.old) (O.contents out.new)) }
 {
-    match migrate_folder(rt, old, new, slots).map_err(Fault::from)? {
-        Moved::Moved { commands, disks } => {
-            let slots = slots.get();
-            writeln!(
-                out,
-                "migrated {commands} commands, {disks} disks, {slots} slots"
-            )?;
-        }
-        Moved::Finished { disks } => writeln!(out, "finished {disks} disks")?,
-    }
+    let moved = migrate_folder(rt, old, new, slots).map_err(Fault::from)?;
+    print_moved(moved, slots, out)?;
     out.flush()?;
     Ok(())
 }
@@ -205,4 +200,19 @@ fn print_table<O: Write>(
     queues(&picture, out)?;
     out.flush()?;
     Ok(())
+}
+
+fn print_moved<O: Write>(moved: Moved, slots: SlotCount, out: &mut O) -> io::Result<()>
+    ensures { OnOk result (Appends (O.contents out.old) (O.contents out.new) (moved_text slots moved)) }
+{
+    match moved {
+        Moved::Moved { commands, disks } => {
+            let slots = slots.get();
+            writeln!(
+                out,
+                "migrated {commands} commands, {disks} disks, {slots} slots"
+            )
+        }
+        Moved::Finished { disks } => writeln!(out, "finished {disks} disks"),
+    }
 }
