@@ -1,14 +1,42 @@
--- What the program prints of an event, and of a race.
-use Rattle.std.specs.Prelude.{◌≡◌, ◌+◌, ℕ, Bool, List, [], ◌∷◌, ◌++◌, codes, decimal, flat_map, Option, if◌then◌else◌}
+-- What the program prints.
+use Rattle.std.specs.Prelude.{◌≡◌, ◌+◌, ℕ, Bool, List, [], ◌∷◌, ◌++◌, codes, decimal, flat_map, length, sum_by, Option, Some, None, if◌then◌else◌}
 use Rattle.std.specs.Io.KnownBytes.{Appends}
+use Rattle.disk.specs.FileStates.{FileState, FileGives}
 use Rattle.world.specs.Entry.{Filled}
 use Rattle.world.specs.World.{world}
 use Rattle.world.specs.Happens.{Line, entry_of, happens, lines_at}
+use Rattle.lock_command.specs.declared.command.Command.{Command}
+use Rattle.lock_table.specs.Apply.{table_after}
+use Rattle.lock_table.specs.Picture.{Shown, IsPictureOf}
+use Rattle.lock_table.specs.declared.reply.Reply.{Reply}
+use Rattle.host.specs.Kept as hosts
+use Rattle.host.specs.declared.answer.HostAnswer.{HostAnswer}
+use Rattle.host.specs.declared.answer.HostAnswer.TheVariants.{Ack, Recovered}
+use Rattle.slot_log.specs.Shape.{Shape}
+use Rattle.lock_script.specs.Lines.{lines_of}
+use Rattle.lock_script.specs.Script.{IsScript, content_of}
 use Rattle.lock_script.specs.declared.event.Event.{Event}
-use Rattle.simulator.specs.Events.{event_of}
+use Rattle.lock_script.specs.declared.script.Script.{Script}
+use Rattle.lock_script.specs.declared.show.Show.{Show}
+use Rattle.lock_script.specs.declared.show.View.{View}
+use Rattle.lock_script.specs.declared.show.View.TheVariants as shown_as
+use Rattle.inspect.specs.Text.{word, queues_text}
+use Rattle.inspect.specs.Verdicts.{IsVerdict}
+use Rattle.inspect.specs.declared.verdict.Blocking.{Blocking}
+use Rattle.inspect.specs.declared.verdict.Blocking.TheVariants.{Cycle, Ranked}
+use Rattle.simulator.specs.Events.{event_of, events_of, opening_of}
 use Rattle.simulator.specs.Kept.{Kept, LeadsTo}
+use Rattle.simulator.specs.Sweeping.{recovered_behind, variants}
+use Rattle.dlm_images.specs.Marking.{RecoversAndMarks}
+use Rattle.dlm_images.specs.Operations.{IsAcknowledged, Standing}
+use Rattle.folder_migration.specs.Migrating.{CameTo}
+use Rattle.folder_migration.specs.declared.migrate.Moved.{Moved}
+use Rattle.folder_migration.specs.declared.migrate.Moved.TheVariants.{Moved as WasMoved, Finished}
+use Rattle.race.specs.Race.{IsRace}
 use Rattle.race.specs.declared.answer.Answer.{Answer}
 use Rattle.dlm.specs.Text.{answer_text, race_answer_text}
+
+-- EVENTS
 
 -- the number of the event, the host, and what it answers
 abbrev pub line_text : Line → List ℕ
@@ -22,6 +50,104 @@ pub record WritesAnswer (log : List Filled) (event : Event) (place : ℕ) (old n
   pub shape : new.shape ≡ old.shape
   pub leads : LeadsTo (happens old.shape log (event_of event)) new
   pub written : Appends before after (lines_text (lines_at old.shape log place (entry_of old.shape (world old.shape log) (event_of event))))
+
+-- TABLES
+
+-- a client's number behind a space
+abbrev pub client_word : ℕ → List ℕ
+client_word client = word (decimal client)
+
+-- the clients of a cycle, in its order
+abbrev pub blocking_text : Blocking → List ℕ
+blocking_text (Ranked ranks) = codes "no cycle" ++ 10 ∷ []
+blocking_text (Cycle clients) = codes "cycle" ++ flat_map client_word clients.items ++ 10 ∷ []
+
+-- a table is shown as its queues, or as what blocks whom in it
+abbrev pub IsViewOf : View → Shown → List ℕ → Type 0
+IsViewOf shown_as.Queues shown text = text ≡ queues_text shown
+IsViewOf shown_as.Blocking shown text = (found : Blocking) × IsVerdict shown.locks found × (text ≡ blocking_text found)
+
+abbrev pub stopped_line : ℕ → List ℕ
+stopped_line host = codes "host " ++ decimal host ++ (codes " is stopped" ++ 10 ∷ [])
+
+-- of a host that runs, the table after the commands that it learned is shown
+abbrev pub IsShowOf : Show → Option hosts.Kept → List ℕ → Type 0
+IsShowOf show None text = text ≡ stopped_line show.host
+IsShowOf show (Some core) text = (shown : Shown) × IsPictureOf shown (table_after core.prefix) × IsViewOf show.view shown text
+
+-- FOLDERS
+
+-- how large the cluster is
+abbrev pub formatted_text : Shape → List ℕ
+formatted_text shape = codes "formatted " ++ decimal shape.disks ++ codes " disks, " ++ decimal shape.slots ++ (codes " slots" ++ 10 ∷ [])
+
+-- how an operation of a host ended
+abbrev pub answer_line : HostAnswer → List ℕ
+answer_line answer = answer_text answer ++ 10 ∷ []
+
+-- how much of the log was recovered, and how many slots were marked then
+abbrev pub marked_text : ℕ → ℕ → List ℕ
+marked_text recovered marked = answer_line (Recovered recovered) ++ codes "marked " ++ decimal marked ++ codes " slots" ++ 10 ∷ []
+
+-- how much of the log was recovered, and the queues of the table
+abbrev pub table_text : ℕ → Shown → List ℕ
+table_text recovered shown = answer_line (Recovered recovered) ++ queues_text shown
+
+-- The log had these commands and then this one, and its slot and the lock table's reply were written.
+pub record WritesAcknowledgement (command : Command) (before after : Option (List ℕ)) : Type 0 where
+  pub slot : ℕ
+  pub reply : Reply
+  pub learned : List Command
+  pub acknowledged : IsAcknowledged command slot reply learned
+  pub written : Appends before after (answer_line (Ack slot reply))
+
+-- These commands were learned, and how many, and the queues of the lock table after them, was written.
+pub record WritesTable (before after : Option (List ℕ)) : Type 0 where
+  pub learned : List Command
+  pub shown : Shown
+  pub picture : IsPictureOf shown (table_after learned)
+  pub written : Appends before after (table_text (length learned) shown)
+
+-- The log was recovered from some disks, and its new slots were marked. How much was recovered and marked, was written.
+pub record WritesMarks (tries : ℕ) (before after : Option (List ℕ)) : Type 0 where
+  pub old : Standing FileState
+  pub new : Standing FileState
+  pub marked : ℕ
+  pub marks : RecoversAndMarks FileGives tries marked old new
+  pub written : Appends before after (marked_text (length new.core.prefix) marked)
+
+-- how many commands were moved onto how many images, or on how many the gates that were left were opened
+abbrev pub moved_text : ℕ → Moved → List ℕ
+moved_text slots (WasMoved commands disks) =
+    codes "migrated " ++ decimal commands ++ codes " commands, " ++ decimal disks ++ codes " disks, " ++ decimal slots ++ (codes " slots" ++ 10 ∷ [])
+moved_text slots (Finished disks) = codes "finished " ++ decimal disks ++ (codes " disks" ++ 10 ∷ [])
+
+-- The log was moved, and what that came to was written.
+pub record WritesMove (slots : ℕ) (before after : Option (List ℕ)) : Type 0 where
+  pub moved : Moved
+  pub came_to : CameTo slots moved
+  pub written : Appends before after (moved_text slots moved)
+
+-- SWEEPS
+
+abbrev pub counts_text : ℕ → ℕ → ℕ → List ℕ
+counts_text runs recovered wrong =
+    decimal runs ++ codes " runs, " ++ decimal recovered ++ codes " recovered, " ++ decimal wrong ++ codes " wrong" ++ 10 ∷ []
+
+-- how many variants the script has, how many of the recoveries behind them answer, and that none is wrong
+abbrev pub sweep_text : Script → List ℕ
+sweep_text script =
+    let opening = opening_of script in
+    let runs = variants opening (events_of script.events) in
+    counts_text (length runs) (sum_by (recovered_behind opening) runs) 0
+
+-- The bytes are a script, which was swept.
+pub record WritesSweep (bytes : List ℕ) (before after : Option (List ℕ)) : Type 0 where
+  pub script : Script
+  pub is_script : IsScript (lines_of bytes) (content_of script)
+  pub written : Appends before after (sweep_text script)
+
+-- RACES
 
 -- a host of a race, and what it is answered
 abbrev pub race_line : ℕ → Answer → List ℕ
@@ -38,3 +164,11 @@ agreement_line agree = (if agree then codes "agree" else codes "differ") ++ 10 �
 
 abbrev pub race_text : List Answer → Bool → List ℕ
 race_text answers agree = race_lines 0 answers ++ agreement_line agree
+
+-- The hosts raced, and what they were answered was written, one answer a host.
+pub record WritesRace (hosts : ℕ) (before after : Option (List ℕ)) : Type 0 where
+  pub answers : List Answer
+  pub agree : Bool
+  pub each : length answers ≡ hosts
+  pub race : IsRace hosts answers agree
+  pub written : Appends before after (race_text answers agree)

@@ -1,3 +1,7 @@
+ghost use Rattle.std.specs.Prelude.{◌≡◌};
+ghost use Rattle.dlm.specs.Faults.{of_image, of_script, of_refusal, of_folder, of_finding, of_lock, of_move, of_host};
+ghost use Rattle.dlm.specs.declared.fault.Fault.TheVariants.{NoMemory};
+
 use crate::answer_text::RefusalText;
 use cluster::HostFault;
 use disk::ImageFault;
@@ -65,7 +69,9 @@ pub enum Fault {
 
 impl Fault {
     /// Why the image of this number is not used.
-    fn of_image(disk: u8, fault: ImageFault) -> Self {
+    fn of_image(disk: u8, fault: ImageFault) -> Self
+        ensures { result ≡ of_image disk fault }
+    {
         match fault {
             ImageFault::NotFormatted => Fault::NotFormatted(disk),
             ImageFault::WrongHeader => Fault::WrongHeader(disk),
@@ -84,6 +90,8 @@ impl Fault {
 }
 
 impl From<ScriptFault> for Fault {
+    ghost from_gives = { λ of fault. fault ≡ of_script of };
+
     fn from(fault: ScriptFault) -> Self {
         match fault {
             ScriptFault::NoMemory => Fault::NoMemory,
@@ -93,12 +101,16 @@ impl From<ScriptFault> for Fault {
 }
 
 impl From<Refusal> for Fault {
+    ghost from_gives = { λ of fault. fault ≡ of_refusal of };
+
     fn from(refusal: Refusal) -> Self {
         Fault::Operation(RefusalText(refusal))
     }
 }
 
 impl From<FolderFault> for Fault {
+    ghost from_gives = { λ of fault. fault ≡ of_folder of };
+
     fn from(fault: FolderFault) -> Self {
         match fault {
             FolderFault::NoMemory => Fault::NoMemory,
@@ -109,6 +121,8 @@ impl From<FolderFault> for Fault {
 }
 
 impl From<Finding> for Fault {
+    ghost from_gives = { λ of fault. fault ≡ of_finding of };
+
     fn from(finding: Finding) -> Self {
         match finding {
             Finding::Image { disk, fault } => Fault::of_image(disk, fault),
@@ -118,6 +132,8 @@ impl From<Finding> for Fault {
 }
 
 impl From<LockFault> for Fault {
+    ghost from_gives = { λ of fault. fault ≡ of_lock of };
+
     fn from(fault: LockFault) -> Self {
         match fault {
             LockFault::NoMemory => Fault::NoMemory,
@@ -128,6 +144,8 @@ impl From<LockFault> for Fault {
 }
 
 impl From<MoveFault> for Fault {
+    ghost from_gives = { λ of fault. fault ≡ of_move of };
+
     fn from(fault: MoveFault) -> Self {
         match fault {
             MoveFault::NoMemory => Fault::NoMemory,
@@ -141,6 +159,8 @@ impl From<MoveFault> for Fault {
 }
 
 impl From<HostFault> for Fault {
+    ghost from_gives = { λ of fault. fault ≡ of_host of };
+
     fn from(fault: HostFault) -> Self {
         match fault {
             HostFault::Refused(refusal) => Fault::from(refusal),
@@ -154,12 +174,16 @@ impl From<HostFault> for Fault {
 }
 
 impl From<disk::NoMemory> for Fault {
+    ghost from_gives = { λ _ fault. fault ≡ NoMemory };
+
     fn from(_: disk::NoMemory) -> Self {
         Fault::NoMemory
     }
 }
 
 impl From<lock_table::NoMemory> for Fault {
+    ghost from_gives = { λ _ fault. fault ≡ NoMemory };
+
     fn from(_: lock_table::NoMemory) -> Self {
         Fault::NoMemory
     }

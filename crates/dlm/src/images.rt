@@ -1,4 +1,7 @@
-ghost use Rattle.std.specs.Prelude.{◌≡◌, IfOk};
+ghost use Rattle.std.specs.Prelude.{◌≡◌, IfOk, OnOk};
+ghost use Rattle.std.specs.Io.KnownBytes.{Appends};
+ghost use Rattle.host.specs.declared.answer.HostAnswer.TheVariants.{Ack};
+ghost use Rattle.dlm.specs.Printed.{WritesAcknowledgement, WritesMarks, WritesMove, WritesTable, answer_line, formatted_text, marked_text, moved_text, table_text};
 
 use crate::command_failure::CommandFailure;
 use crate::fault::Fault;
@@ -15,6 +18,7 @@ use lock_command::{Command, HostNumber};
 use lock_table::Table;
 use std::alloc::Global;
 use std::fs::OpenFile;
+use std::io;
 use std::io::Write;
 use std::os::unix::fs::FileExt;
 use std::random::RandomSource;
@@ -34,6 +38,7 @@ pub fn format<R: Files + AllocGlobal, O: Write>(
 ) -> Result<(), CommandFailure>
 where
     R::File: FileExt + OpenFile + Drop,
+    ensures { OnOk result (Appends (O.contents out.old) (O.contents out.new) (formatted_text config)) }
 {
     format_folder(rt, folder, config, cluster).map_err(Fault::from)?;
     let disks = config.disks();
@@ -52,6 +57,7 @@ pub fn submit<R: Files + Clock + RandomSource + AllocGlobal, O: Write>(
 ) -> Result<(), CommandFailure>
 where
     R::File: FileExt + OpenFile + TryLock + Drop,
+    ensures { OnOk result (WritesAcknowledgement command (O.contents out.old) (O.contents out.new)) }
 {
     let (mut host, _lock) = host_over(rt, folder, command.host)?;
     match submit_patiently(rt, &mut host, command, TRIES) {
@@ -74,6 +80,7 @@ pub fn table<R: Files + AllocGlobal, O: Write>(
 ) -> Result<(), CommandFailure>
 where
     R::File: FileExt + OpenFile + TryLock + Drop,
+    ensures { OnOk result (WritesTable (O.contents out.old) (O.contents out.new)) }
 {
     let (mut host, _lock) = host_over(rt, folder, host)?;
     match host.recover(TRIES) {
@@ -92,6 +99,7 @@ pub fn mark<R: Files + AllocGlobal, O: Write>(
 ) -> Result<(), CommandFailure>
 where
     R::File: FileExt + OpenFile + TryLock + Drop,
+    ensures { OnOk result (WritesMarks TRIES (O.contents out.old) (O.contents out.new)) }
 {
     let (mut host, _lock) = host_over(rt, folder, host)?;
     // Look first: a slot that the look learns from a mark need not be marked again. If the look is refused, the recovery says why.
@@ -133,17 +141,10 @@ pub fn migrate<R: Files + AllocGlobal, O: Write>(
 ) -> Result<(), CommandFailure>
 where
     R::File: FileExt + OpenFile + TryLock + Drop,
+    ensures { OnOk result (WritesMove slots (O.contents out.old) (O.contents out.new)) }
 {
-    match migrate_folder(rt, old, new, slots).map_err(Fault::from)? {
-        Moved::Moved { commands, disks } => {
-            let slots = slots.get();
-            writeln!(
-                out,
-                "migrated {commands} commands, {disks} disks, {slots} slots"
-            )?;
-        }
-        Moved::Finished { disks } => writeln!(out, "finished {disks} disks")?,
-    }
+    let moved = migrate_folder(rt, old, new, slots).map_err(Fault::from)?;
+    print_moved(moved, slots, out)?;
     out.flush()?;
     Ok(())
 }
@@ -165,7 +166,9 @@ where
     Ok((over, lock))
 }
 
-fn print_ack<O: Write>(done: Acknowledgement, out: &mut O) -> Result<(), CommandFailure> {
+fn print_ack<O: Write>(done: Acknowledgement, out: &mut O) -> Result<(), CommandFailure>
+    ensures { OnOk result (Appends (O.contents out.old) (O.contents out.new) (answer_line (Ack done.slot done.reply))) }
+{
     let slot = done.slot;
     let reply = ReplyText(done.reply);
     writeln!(out, "ack {slot} {reply}")?;
@@ -173,7 +176,9 @@ fn print_ack<O: Write>(done: Acknowledgement, out: &mut O) -> Result<(), Command
     Ok(())
 }
 
-fn print_marked<O: Write>(log: MarkedLog, out: &mut O) -> Result<(), CommandFailure> {
+fn print_marked<O: Write>(log: MarkedLog, out: &mut O) -> Result<(), CommandFailure>
+    ensures { OnOk result (Appends (O.contents out.old) (O.contents out.new) (marked_text log.length log.marked)) }
+{
     let length = log.length;
     let marked = log.marked;
     writeln!(out, "recovered {length}")?;
@@ -187,10 +192,27 @@ fn print_table<O: Write>(
     length: u16,
     table: &Table,
     out: &mut O,
-) -> Result<(), CommandFailure> {
+) -> Result<(), CommandFailure>
+    ensures { OnOk result (Appends (O.contents out.old) (O.contents out.new) (table_text length table.now)) }
+{
     let picture = table.picture(alloc).map_err(Fault::from)?;
     writeln!(out, "recovered {length}")?;
     queues(&picture, out)?;
     out.flush()?;
     Ok(())
+}
+
+fn print_moved<O: Write>(moved: Moved, slots: SlotCount, out: &mut O) -> io::Result<()>
+    ensures { OnOk result (Appends (O.contents out.old) (O.contents out.new) (moved_text slots moved)) }
+{
+    match moved {
+        Moved::Moved { commands, disks } => {
+            let slots = slots.get();
+            writeln!(
+                out,
+                "migrated {commands} commands, {disks} disks, {slots} slots"
+            )
+        }
+        Moved::Finished { disks } => writeln!(out, "finished {disks} disks"),
+    }
 }

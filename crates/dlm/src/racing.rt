@@ -1,7 +1,7 @@
-ghost use Rattle.std.specs.Prelude.{◌≡◌, OnOk};
+ghost use Rattle.std.specs.Prelude.{◌≡◌, ◌+◌, OnOk};
 ghost use Rattle.std.specs.Io.KnownBytes.{Appends};
 ghost use Rattle.dlm.specs.Text.{host_fault_text};
-ghost use Rattle.dlm.specs.Printed.{race_line, race_text};
+ghost use Rattle.dlm.specs.Printed.{WritesRace, race_line, race_text};
 
 use crate::answer_text::refusal_text;
 use crate::command_failure::CommandFailure;
@@ -21,7 +21,9 @@ pub fn race_hosts<R: Threads + Wait + AllocGlobal + Sync, O: Write>(
     rt: &R,
     last: HostNumber,
     out: &mut O,
-) -> Result<(), CommandFailure> {
+) -> Result<(), CommandFailure>
+    ensures { OnOk result (WritesRace (last + 1) (O.contents out.old) (O.contents out.new)) }
+{
     let race = run_race(rt, last).map_err(Fault::from)?;
     print_race(&race, out)?;
     out.flush()?;

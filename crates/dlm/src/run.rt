@@ -1,12 +1,14 @@
-ghost use Rattle.std.specs.Prelude.{◌≤◌, ◌+◌, List, OnOk, length};
+ghost use Rattle.std.specs.Prelude.{◌≤◌, ◌+◌, ℕ, List, None, OnOk, length, slice_index_or};
+ghost use Rattle.std.specs.Io.KnownBytes.{Appends};
 ghost use Rattle.world.specs.Entry.{Filled};
 ghost use Rattle.simulator.specs.Kept.{LeadsTo};
-ghost use Rattle.dlm.specs.Printed.{WritesAnswer};
+ghost use Rattle.dlm.specs.Printed.{WritesAnswer, IsShowOf, IsViewOf, blocking_text, stopped_line};
 
 use crate::answer_text::AnswerText;
 use crate::command_failure::CommandFailure;
 use crate::fault::Fault;
 use inspect::{Blocking, blocking, queues};
+use lock_table::Picture;
 use simulator::{Event, MOST_EVENTS, Run, Script, Show, SimulatedCluster, View};
 use std::alloc::Global;
 use std::io;
@@ -102,23 +104,41 @@ fn show_host<O: Write>(
     cluster: &SimulatedCluster,
     show: &Show,
     out: &mut O,
-) -> Result<(), CommandFailure> {
+) -> Result<(), CommandFailure>
+    ensures { OnOk result ((text : List ℕ) × IsShowOf show.now (slice_index_or cluster.now.hosts show.now.host None) text
+        × Appends (O.contents out.old) (O.contents out.new) text) }
+{
     let host = show.host.get();
     match cluster.host(host) {
-        None => writeln!(out, "host {host} is stopped")?,
+        None => print_stopped(host, out)?,
         Some(core) => {
             let picture = core.table().picture(alloc).map_err(Fault::from)?;
-            match show.view {
-                View::Queues => queues(&picture, out)?,
-                View::Blocking => show_blocking(&blocking(&picture), out)?,
-            }
+            show_view(&picture, show.view, out)?;
         }
     }
     Ok(())
 }
 
+fn print_stopped<O: Write>(host: u8, out: &mut O) -> io::Result<()>
+    ensures { OnOk result (Appends (O.contents out.old) (O.contents out.new) (stopped_line host)) }
+{
+    writeln!(out, "host {host} is stopped")
+}
+
+/// Prints the queues of a picture, or what blocks whom in it.
+fn show_view<O: Write>(picture: &Picture, view: View, out: &mut O) -> io::Result<()>
+    ensures { OnOk result ((text : List ℕ) × IsViewOf view picture.now text × Appends (O.contents out.old) (O.contents out.new) text) }
+{
+    match view {
+        View::Queues => queues(picture, out),
+        View::Blocking => show_blocking(&blocking(picture), out),
+    }
+}
+
 /// Prints the clients of a cycle, or that there is none.
-fn show_blocking<O: Write>(found: &Blocking, out: &mut O) -> io::Result<()> {
+fn show_blocking<O: Write>(found: &Blocking, out: &mut O) -> io::Result<()>
+    ensures { OnOk result (Appends (O.contents out.old) (O.contents out.new) (blocking_text found.now)) }
+{
     match found {
         Blocking::Ranked(_) => out.write_all(b"no cycle\n"),
         Blocking::Cycle(clients) => {

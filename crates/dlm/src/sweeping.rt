@@ -1,9 +1,12 @@
-ghost use Rattle.std.specs.Prelude.{◌≤◌, length};
+ghost use Rattle.std.specs.Prelude.{◌≤◌, OnOk, length};
+ghost use Rattle.std.specs.Io.KnownBytes.{Appends};
+ghost use Rattle.dlm.specs.Printed.{counts_text, sweep_text};
 
 use crate::command_failure::CommandFailure;
 use crate::fault::Fault;
-use simulator::{Script, sweep};
+use simulator::{Script, Sweep, sweep};
 use std::alloc::Global;
+use std::io;
 use std::io::Write;
 
 /// Runs the variants of a script, and prints how many there were, how many of their last recoveries answered, and how many
@@ -14,15 +17,22 @@ pub fn print_sweep<O: Write>(
     out: &mut O,
 ) -> Result<(), CommandFailure>
     requires { length script.now.log.items ≤ script.now.config.slots }
+    ensures { OnOk result (Appends (O.contents out.old) (O.contents out.new) (sweep_text script.now)) }
 {
     let swept = sweep(alloc, script).map_err(Fault::from)?;
-    let runs = swept.runs;
-    let recovered = swept.recovered;
-    let wrong = swept.wrong;
-    writeln!(out, "{runs} runs, {recovered} recovered, {wrong} wrong")?;
-    out.flush()?;
+    print_counts(&swept, out)?;
     match swept.first {
         None => Ok(()),
         Some(run) => Err(CommandFailure::from(Fault::WrongRun(run))),
     }
+}
+
+fn print_counts<O: Write>(swept: &Sweep, out: &mut O) -> io::Result<()>
+    ensures { OnOk result (Appends (O.contents out.old) (O.contents out.new) (counts_text swept.now.runs swept.now.recovered swept.now.wrong)) }
+{
+    let runs = swept.runs;
+    let recovered = swept.recovered;
+    let wrong = swept.wrong;
+    writeln!(out, "{runs} runs, {recovered} recovered, {wrong} wrong")?;
+    out.flush()
 }

@@ -1,0 +1,21 @@
+-- What is printed is how much the recovery learned, and how many of its slots have their mark.
+use Rattle.std.proofs.Common.{ℕ, subst}
+use Rattle.std.proofs.lemmas.Result.{on_ok_weaker}
+use Rattle.std.specs.Io.KnownBytes.{Appends}
+use Rattle.dlm.specs.Printed.{marked_text}
+use Rattle.dlm.proofs.images.mark.Goals as goal
+
+pub returns-in-Ok : goal.returns-in-Ok
+returns-in-Ok g c =
+    let before = g.O.Write.contents c.args.out.now in
+    let after = g.O.Write.contents c.print_marked.new.out in
+    let marked = c.in-Ok.log.marked in
+    on_ok_weaker c.print_marked.result
+    (λ written. record {
+      old = c.look.new.self;
+      new = c.recover_and_mark.new.self;
+      marked = marked;
+      marks = c.in-Ok.ensures.marked.0;
+      written = subst (λ (count : ℕ). Appends before after (marked_text count marked)) c.in-Ok.ensures.learned written;
+    })
+    c.print_marked.ensures

@@ -1,0 +1,20 @@
+-- What is printed is the table after the commands that the recovery learned.
+use Rattle.std.proofs.Common.{ℕ, subst}
+use Rattle.std.proofs.lemmas.Result.{on_ok_weaker}
+use Rattle.std.specs.Io.KnownBytes.{Appends}
+use Rattle.dlm.specs.Printed.{table_text}
+use Rattle.dlm.proofs.images.table.Goals as goal
+
+pub returns-in-Ok : goal.returns-in-Ok
+returns-in-Ok g c =
+    let before = g.O.Write.contents c.args.out.now in
+    let after = g.O.Write.contents c.print_table.new.out in
+    let shown = c.table.result.now in
+    on_ok_weaker c.print_table.result
+    (λ written. record {
+      learned = c.recover.new.self.core.prefix;
+      shown = shown;
+      picture = c.table.ensures;
+      written = subst (λ (count : ℕ). Appends before after (table_text count shown)) c.in-Ok.ensures.learned written;
+    })
+    c.print_table.ensures
