@@ -1,4 +1,5 @@
-ghost use Rattle.std.specs.Prelude.{◌≤◌, IfOk};
+ghost use Rattle.std.specs.Prelude.{◌≡◌, ◌≤◌, true, IfOk};
+ghost use Rattle.lock_command.specs.Command.{is_submittable};
 
 use crate::words::WordsFault;
 use folder_migration::SlotCount;
@@ -60,7 +61,9 @@ fn number(word: &str, least: u64, most: u64) -> Result<u64, WordsFault>
 }
 
 /// The command that the words spell, as after `submit` in a script.
-pub fn command_of(alloc: Global, host: HostNumber, words: &[&str]) -> Result<Command, WordsFault> {
+pub fn command_of(alloc: Global, host: HostNumber, words: &[&str]) -> Result<Command, WordsFault>
+    ensures asked { IfOk result (λ command. is_submittable command ≡ true) }
+{
     let mut text = Vec::new(alloc);
     for (place, word) in words.iter().enumerate() {
         // A script separates its words by spaces, so no word has a space in it.
@@ -73,8 +76,8 @@ pub fn command_of(alloc: Global, host: HostNumber, words: &[&str]) -> Result<Com
         push(&mut text, word.as_bytes())?;
     }
     match read_command(host, &text) {
-        Some(command) => Ok(command),
-        None => Err(WordsFault::BadCommand),
+        Some(command) if command.is_submittable() => Ok(command),
+        _ => Err(WordsFault::BadCommand),
     }
 }
 

@@ -1,5 +1,6 @@
-ghost use Rattle.std.specs.Prelude.{◌≡◌, IfOk, OnOk};
+ghost use Rattle.std.specs.Prelude.{◌≡◌, true, IfOk, OnOk};
 ghost use Rattle.std.specs.Io.KnownBytes.{Appends};
+ghost use Rattle.lock_command.specs.Command.{is_submittable};
 ghost use Rattle.host.specs.declared.answer.HostAnswer.TheVariants.{Ack};
 ghost use Rattle.dlm.specs.Printed.{WritesAcknowledgement, WritesMarks, WritesMove, WritesTable, answer_line, formatted_text, marked_text, moved_text, table_text};
 
@@ -48,7 +49,7 @@ where
     Ok(())
 }
 
-/// Submits a command over the images of a folder, and prints its slot and what the lock table replied.
+/// Submits a command that a client may ask for over the images of a folder, and prints its slot and what the lock table replied.
 pub fn submit<R: Files + Clock + RandomSource + AllocGlobal, O: Write>(
     rt: &R,
     folder: &str,
@@ -57,6 +58,7 @@ pub fn submit<R: Files + Clock + RandomSource + AllocGlobal, O: Write>(
 ) -> Result<(), CommandFailure>
 where
     R::File: FileExt + OpenFile + TryLock + Drop,
+    requires { is_submittable command ≡ true }
     ensures { OnOk result (WritesAcknowledgement command (O.contents out.old) (O.contents out.new)) }
 {
     let (mut host, _lock) = host_over(rt, folder, command.host)?;

@@ -1,5 +1,6 @@
 ghost use Rattle.std.specs.Prelude.{◌≡◌, ◌≢◌, ◌≤◌, ◌↔◌, is_ok, if◌then◌else◌};
 ghost use Rattle.std.specs.Io.KnownBytes.{Keeps};
+ghost use Rattle.dlm.specs.Asked.{MayBeAsked};
 
 use crate::command_failure::CommandFailure;
 use crate::fault::Fault;
@@ -44,6 +45,7 @@ fn carry_out<
 >(rt: &R, task: &Subcommand<'_>, out: &mut O) -> Result<(), CommandFailure>
 where
     R::File: FileExt + OpenFile + TryLock + Drop,
+    requires { MayBeAsked task.now }
 {
     match *task {
         Subcommand::Run { script } => run_file(rt, script, out),

@@ -1,4 +1,5 @@
-ghost use Rattle.std.specs.Prelude.{◌≡◌};
+ghost use Rattle.std.specs.Prelude.{◌≡◌, IfOk};
+ghost use Rattle.dlm.specs.Asked.{MayBeAsked};
 ghost use Rattle.dlm.specs.declared.words.WordsFault.TheVariants.{NoMemory};
 
 use crate::given_words::{cluster_of, command_of, config_of, host_of, last_host_of, slots_of};
@@ -94,7 +95,9 @@ impl From<io::Error> for WordsFault {
 }
 
 /// The task that the words name.
-pub fn task_of<'a>(alloc: Global, words: &'a [&'a str]) -> Result<Subcommand<'a>, WordsFault> {
+pub fn task_of<'a>(alloc: Global, words: &'a [&'a str]) -> Result<Subcommand<'a>, WordsFault>
+    ensures { IfOk result MayBeAsked }
+{
     if has_lone_dash(words) {
         return Err(WordsFault::Usage);
     }
@@ -218,13 +221,17 @@ fn sweep_command<'a>(alloc: Global) -> Result<clap::Command<'a>, AllocError> {
         .arg(word(alloc, "script"))
 }
 
-fn run_task<'a>(run: &ArgMatches<'a>) -> Result<Subcommand<'a>, WordsFault> {
+fn run_task<'a>(run: &ArgMatches<'a>) -> Result<Subcommand<'a>, WordsFault>
+    ensures { IfOk result MayBeAsked }
+{
     Ok(Subcommand::Run {
         script: given(run, "script")?,
     })
 }
 
-fn format_task<'a>(format: &ArgMatches<'a>) -> Result<Subcommand<'a>, WordsFault> {
+fn format_task<'a>(format: &ArgMatches<'a>) -> Result<Subcommand<'a>, WordsFault>
+    ensures { IfOk result MayBeAsked }
+{
     let folder = given(format, "folder")?;
     let config = config_of(given(format, "disks")?, given(format, "slots")?)?;
     let cluster = cluster_of(given(format, "cluster")?)?;
@@ -235,7 +242,9 @@ fn format_task<'a>(format: &ArgMatches<'a>) -> Result<Subcommand<'a>, WordsFault
     })
 }
 
-fn submit_task<'a>(alloc: Global, submit: &ArgMatches<'a>) -> Result<Subcommand<'a>, WordsFault> {
+fn submit_task<'a>(alloc: Global, submit: &ArgMatches<'a>) -> Result<Subcommand<'a>, WordsFault>
+    ensures { IfOk result MayBeAsked }
+{
     let folder = given(submit, "folder")?;
     let host = host_of(given(submit, "host")?)?;
     let words = submit.get_strs("command").unwrap_or_default();
@@ -243,25 +252,33 @@ fn submit_task<'a>(alloc: Global, submit: &ArgMatches<'a>) -> Result<Subcommand<
     Ok(Subcommand::Submit { folder, command })
 }
 
-fn table_task<'a>(table: &ArgMatches<'a>) -> Result<Subcommand<'a>, WordsFault> {
+fn table_task<'a>(table: &ArgMatches<'a>) -> Result<Subcommand<'a>, WordsFault>
+    ensures { IfOk result MayBeAsked }
+{
     let folder = given(table, "folder")?;
     let host = host_of(given(table, "host")?)?;
     Ok(Subcommand::Table { folder, host })
 }
 
-fn mark_task<'a>(mark: &ArgMatches<'a>) -> Result<Subcommand<'a>, WordsFault> {
+fn mark_task<'a>(mark: &ArgMatches<'a>) -> Result<Subcommand<'a>, WordsFault>
+    ensures { IfOk result MayBeAsked }
+{
     let folder = given(mark, "folder")?;
     let host = host_of(given(mark, "host")?)?;
     Ok(Subcommand::Mark { folder, host })
 }
 
-fn check_task<'a>(check: &ArgMatches<'a>) -> Result<Subcommand<'a>, WordsFault> {
+fn check_task<'a>(check: &ArgMatches<'a>) -> Result<Subcommand<'a>, WordsFault>
+    ensures { IfOk result MayBeAsked }
+{
     Ok(Subcommand::Check {
         folder: given(check, "folder")?,
     })
 }
 
-fn migrate_task<'a>(migrate: &ArgMatches<'a>) -> Result<Subcommand<'a>, WordsFault> {
+fn migrate_task<'a>(migrate: &ArgMatches<'a>) -> Result<Subcommand<'a>, WordsFault>
+    ensures { IfOk result MayBeAsked }
+{
     Ok(Subcommand::Migrate {
         old: given(migrate, "old")?,
         new: given(migrate, "new")?,
@@ -269,12 +286,16 @@ fn migrate_task<'a>(migrate: &ArgMatches<'a>) -> Result<Subcommand<'a>, WordsFau
     })
 }
 
-fn race_task<'a>(race: &ArgMatches<'a>) -> Result<Subcommand<'a>, WordsFault> {
+fn race_task<'a>(race: &ArgMatches<'a>) -> Result<Subcommand<'a>, WordsFault>
+    ensures { IfOk result MayBeAsked }
+{
     let last = last_host_of(given(race, "hosts")?)?;
     Ok(Subcommand::Race { last })
 }
 
-fn sweep_task<'a>(sweep: &ArgMatches<'a>) -> Result<Subcommand<'a>, WordsFault> {
+fn sweep_task<'a>(sweep: &ArgMatches<'a>) -> Result<Subcommand<'a>, WordsFault>
+    ensures { IfOk result MayBeAsked }
+{
     Ok(Subcommand::Sweep {
         script: given(sweep, "script")?,
     })
