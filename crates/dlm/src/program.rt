@@ -1,5 +1,6 @@
-ghost use Rattle.std.specs.Prelude.{◌≡◌, ◌≢◌, ◌≤◌, ◌↔◌, is_ok, if◌then◌else◌};
+ghost use Rattle.std.specs.Prelude.{◌≡◌, ◌≢◌, ◌≤◌, ◌↔◌, OnOk, is_ok, if◌then◌else◌};
 ghost use Rattle.std.specs.Io.KnownBytes.{Keeps};
+ghost use Rattle.dlm.specs.Printed.{WritesSweep};
 
 use crate::command_failure::CommandFailure;
 use crate::fault::Fault;
@@ -127,7 +128,9 @@ fn sweep_file<R: Files + Input + AllocGlobal, O: Write>(
 }
 
 /// Reads the whole script and runs its variants.
-fn sweep_bytes<O: Write>(alloc: Global, bytes: &[u8], out: &mut O) -> Result<(), CommandFailure> {
+fn sweep_bytes<O: Write>(alloc: Global, bytes: &[u8], out: &mut O) -> Result<(), CommandFailure>
+    ensures { OnOk result (WritesSweep bytes.now (O.contents out.old) (O.contents out.new)) }
+{
     let script = read_script(alloc, bytes).map_err(Fault::from)?;
     print_sweep(alloc, &script, out)
 }
