@@ -1,3 +1,4 @@
 pub mod Faults
 pub mod Printed
+pub mod Tasks
 pub mod Text

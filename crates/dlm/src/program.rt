@@ -1,6 +1,7 @@
-ghost use Rattle.std.specs.Prelude.{◌≡◌, ◌≢◌, ◌≤◌, ◌↔◌, OnOk, is_ok, if◌then◌else◌};
+ghost use Rattle.std.specs.Prelude.{◌≡◌, ◌≢◌, ◌≤◌, ◌↔◌, ℕ, List, OnOk, is_ok, if◌then◌else◌};
 ghost use Rattle.std.specs.Io.KnownBytes.{Keeps};
 ghost use Rattle.dlm.specs.Printed.{WritesSweep};
+ghost use Rattle.dlm.specs.Tasks.{HasPrinted};
 
 use crate::command_failure::CommandFailure;
 use crate::fault::Fault;
@@ -45,6 +46,7 @@ fn carry_out<
 >(rt: &R, task: &Subcommand<'_>, out: &mut O) -> Result<(), CommandFailure>
 where
     R::File: FileExt + OpenFile + TryLock + Drop,
+    ensures { OnOk result (HasPrinted task.now (O.contents out.old) (O.contents out.new)) }
 {
     match *task {
         Subcommand::Run { script } => run_file(rt, script, out),
@@ -122,7 +124,9 @@ fn sweep_file<R: Files + Input + AllocGlobal, O: Write>(
     rt: &R,
     path: &str,
     out: &mut O,
-) -> Result<(), CommandFailure> {
+) -> Result<(), CommandFailure>
+    ensures { OnOk result ((bytes : List ℕ) × WritesSweep bytes (O.contents out.old) (O.contents out.new)) }
+{
     let bytes = read_source(rt, path)?;
     sweep_bytes(rt.alloc(), bytes.as_slice(), out)
 }
