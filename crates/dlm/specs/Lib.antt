@@ -1,4 +1,4 @@
-pub mod Asked
 pub mod Faults
 pub mod Printed
+pub mod Tasks
 pub mod Text

@@ -1,6 +1,7 @@
-ghost use Rattle.std.specs.Prelude.{◌≡◌, ◌≢◌, ◌≤◌, ◌↔◌, is_ok, if◌then◌else◌};
+ghost use Rattle.std.specs.Prelude.{◌≡◌, ◌≢◌, ◌≤◌, ◌↔◌, ℕ, List, OnOk, is_ok, if◌then◌else◌};
 ghost use Rattle.std.specs.Io.KnownBytes.{Keeps};
-ghost use Rattle.dlm.specs.Asked.{MayBeAsked};
+ghost use Rattle.dlm.specs.Printed.{WritesSweep};
+ghost use Rattle.dlm.specs.Tasks.{HasPrinted, MayBeAsked};
 
 use crate::command_failure::CommandFailure;
 use crate::fault::Fault;
@@ -46,6 +47,7 @@ fn carry_out<
 where
     R::File: FileExt + OpenFile + TryLock + Drop,
     requires { MayBeAsked task.now }
+    ensures { OnOk result (HasPrinted task.now (O.contents out.old) (O.contents out.new)) }
 {
     match *task {
         Subcommand::Run { script } => run_file(rt, script, out),
@@ -123,13 +125,17 @@ fn sweep_file<R: Files + Input + AllocGlobal, O: Write>(
     rt: &R,
     path: &str,
     out: &mut O,
-) -> Result<(), CommandFailure> {
+) -> Result<(), CommandFailure>
+    ensures { OnOk result ((bytes : List ℕ) × WritesSweep bytes (O.contents out.old) (O.contents out.new)) }
+{
     let bytes = read_source(rt, path)?;
     sweep_bytes(rt.alloc(), bytes.as_slice(), out)
 }
 
 /// Reads the whole script and runs its variants.
-fn sweep_bytes<O: Write>(alloc: Global, bytes: &[u8], out: &mut O) -> Result<(), CommandFailure> {
+fn sweep_bytes<O: Write>(alloc: Global, bytes: &[u8], out: &mut O) -> Result<(), CommandFailure>
+    ensures { OnOk result (WritesSweep bytes.now (O.contents out.old) (O.contents out.new)) }
+{
     let script = read_script(alloc, bytes).map_err(Fault::from)?;
     print_sweep(alloc, &script, out)
 }

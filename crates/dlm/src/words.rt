@@ -1,5 +1,5 @@
 ghost use Rattle.std.specs.Prelude.{◌≡◌, IfOk};
-ghost use Rattle.dlm.specs.Asked.{MayBeAsked};
+ghost use Rattle.dlm.specs.Tasks.{MayBeAsked};
 ghost use Rattle.dlm.specs.declared.words.WordsFault.TheVariants.{NoMemory};
 
 use crate::given_words::{cluster_of, command_of, config_of, host_of, last_host_of, slots_of};

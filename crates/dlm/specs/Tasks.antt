@@ -1,0 +1,25 @@
+-- What the words of a command line may ask for, and what a task has printed that ended well.
+use Rattle.std.specs.Prelude.{◌≡◌, ◌+◌, ℕ, true, List, Option, ⊤}
+use Rattle.std.specs.Io.KnownBytes.{Appends}
+use Rattle.lock_command.specs.Command.{is_submittable}
+use Rattle.dlm.specs.Printed.{WritesAcknowledgement, WritesMarks, WritesMove, WritesRace, WritesSweep, WritesTable, formatted_text}
+use Rattle.dlm.specs.declared.images.TheConstants.{TRIES}
+use Rattle.dlm.specs.declared.words.Subcommand.{Subcommand}
+use Rattle.dlm.specs.declared.words.Subcommand.TheVariants.{Run, Sweep, Format, Submit, Table, Mark, Check, Migrate, Race}
+
+-- a client may ask for the command that is submitted
+abbrev pub MayBeAsked : Subcommand → Type 0
+MayBeAsked (Submit folder command) = is_submittable command ≡ true
+MayBeAsked other = Unit {0}
+
+-- Nothing is said of a run as a whole, and of a check.
+abbrev pub HasPrinted : Subcommand → Option (List ℕ) → Option (List ℕ) → Type 0
+HasPrinted (Run script) before after = ⊤
+HasPrinted (Sweep script) before after = (bytes : List ℕ) × WritesSweep bytes before after
+HasPrinted (Format folder config cluster) before after = Appends before after (formatted_text config)
+HasPrinted (Submit folder command) before after = WritesAcknowledgement command before after
+HasPrinted (Table folder host) before after = WritesTable before after
+HasPrinted (Mark folder host) before after = WritesMarks TRIES before after
+HasPrinted (Check folder) before after = ⊤
+HasPrinted (Migrate old new slots) before after = WritesMove slots before after
+HasPrinted (Race last) before after = WritesRace (last + 1) before after
