@@ -1,5 +1,5 @@
 #!/usr/bin/env bash
-# wrong_rule.sh: a sweep finds what is wrong. In a copy of the crates a sync makes nothing safe (simulator/must-fail/sync_left_out.edit); the
+# wrong_rule.sh: a sweep finds what is wrong. In a copy of the crates a sync makes nothing safe (simulator/wrong/sync_left_out.edit); the
 # copy's dlm, of which nothing is proved, sweeps a script of two submissions. Crashes then lose the first one after it was acknowledged,
 # so that runs have to be wrong. It takes a minute or two.
 set -uo pipefail
@@ -19,7 +19,7 @@ for crate in "$top"/crates/*/; do
     done
 done
 
-edit=$top/crates/simulator/must-fail/sync_left_out.edit
+edit=$top/crates/simulator/wrong/sync_left_out.edit
 file=$work/crates/simulator/$(sed -n 's/^file: //p' "$edit")
 right=$(sed -n 's/^old: //p' "$edit")
 wrong=$(sed -n 's/^new: //p' "$edit")

@@ -1,0 +1,216 @@
+#!/usr/bin/env python3
+"""wrong.py: the wrong bodies and definitions of wrong/, which `rt ci` does not try, and when they are due.
+
+    wrong.py                what is due, and why; and whether each edit of wrong/ and of must-fail/ can still be applied
+    wrong.py try CRATE..    has the checker try all of wrong/ in these crates (`all`: in each), and records in wrong/tried that it refused each
+    wrong.py put            puts a copy of each edit that is due into must-fail/, where `rt ci` tries it
+    wrong.py back           takes these copies out again
+
+A crate is due where its src/, specs/, proofs/ or wrong/ differ from what wrong/tried says was tried. In turn, one crate in eight is due each day,
+for a change of the crates below it could let a wrong body through. With WRONG=all in the environment each crate is due.
+"""
+import datetime
+import hashlib
+import os
+import re
+import shutil
+import subprocess
+import sys
+import tempfile
+
+TOP = os.path.dirname(os.path.dirname(os.path.realpath(__file__)))
+TURNS = 8
+
+
+def edits_of(crate, part="wrong"):
+    folder = f"{TOP}/crates/{crate}/{part}"
+    return sorted(it for it in os.listdir(folder) if it.endswith(".edit")) if os.path.isdir(folder) else []
+
+
+def crates():
+    return [it for it in sorted(os.listdir(f"{TOP}/crates")) if edits_of(it)]
+
+
+def text_of(file):
+    with open(file, encoding="utf-8") as it:
+        return it.read()
+
+
+def files_of(crate):
+    """The files that decide whether the crate's wrong bodies are refused, but for those of the crates below."""
+    top = f"{TOP}/crates/{crate}"
+    for part in ("src", "specs", "proofs"):
+        for folder, folders, names in os.walk(f"{top}/{part}"):
+            folders.sort()
+            yield from (os.path.relpath(f"{folder}/{name}", top) for name in sorted(names))
+    yield from (f"wrong/{name}" for name in edits_of(crate))
+
+
+def sum_of(crate):
+    found = hashlib.sha256(crate.encode())
+    for path in files_of(crate):
+        with open(f"{TOP}/crates/{crate}/{path}", "rb") as it:
+            found.update(repr((path, it.read())).encode())
+    return found.hexdigest()
+
+
+def record_of(crate):
+    return f"{TOP}/crates/{crate}/wrong/tried"
+
+
+def is_recorded(crate):
+    try:
+        return text_of(record_of(crate)).split()[:1] == [sum_of(crate)]
+    except OSError:
+        return False
+
+
+def turns():
+    """The crates of each turn, which have about as much to try: the edits of a large crate take longer."""
+    much = {it: len(edits_of(it)) * sum(os.path.getsize(f"{TOP}/crates/{it}/{file}") for file in files_of(it)) for it in crates()}
+    found = [[] for _ in range(TURNS)]
+    for crate in sorted(much, key=lambda it: (-much[it], it)):
+        min(found, key=lambda turn: sum(much[it] for it in turn)).append(crate)
+    return found
+
+
+def day():
+    given = os.environ.get("WRONG_DAY", "")
+    return int(given) if given.isdigit() else datetime.datetime.now(datetime.timezone.utc).toordinal()
+
+
+def due():
+    """The crates whose wrong bodies have to be tried now, and why."""
+    in_turn = turns()[day() % TURNS]
+    found = []
+    for crate in crates():
+        if not is_recorded(crate):
+            found.append((crate, "as it is now they were not tried"))
+        elif os.environ.get("WRONG") == "all":
+            found.append((crate, "WRONG=all"))
+        elif crate in in_turn:
+            found.append((crate, "in turn"))
+    return found
+
+
+def why_unfit(crate, edit):
+    """Why an edit cannot be applied, if it cannot: each `old:` text has to stand once in its file, as the pairs before it left that."""
+    texts, path, old, pairs = {}, None, None, 0
+    for line in text_of(edit).split("\n"):
+        word, _, rest = line.partition(":")
+        rest = rest.removeprefix(" ")
+        if word == "file":
+            path = rest.strip()
+            file = f"{TOP}/crates/{crate}/{path}"
+            if not os.path.isfile(file):
+                return f"there is no file {path}"
+            texts.setdefault(path, text_of(file))
+        elif word == "old":
+            old = rest
+        elif word == "new":
+            if path is None or not old:
+                return "a 'new:' line comes before a 'file:' or an 'old:' line"
+            if texts[path].count(old) != 1:
+                return f"its old text stands {texts[path].count(old)} times in {path}"
+            texts[path], old, pairs = texts[path].replace(old, rest), None, pairs + 1
+    return None if pairs else "it changes nothing"
+
+
+def unfit():
+    found = []
+    for crate in sorted(os.listdir(f"{TOP}/crates")):
+        for part in ("must-fail", "wrong"):
+            for edit in edits_of(crate, part):
+                why = why_unfit(crate, f"{TOP}/crates/{crate}/{part}/{edit}")
+                if why:
+                    found.append(f"{crate}/{part}/{edit}: {why}")
+    return found
+
+
+def put():
+    for crate, why in due():
+        os.makedirs(f"{TOP}/crates/{crate}/must-fail", exist_ok=True)
+        for edit in edits_of(crate):
+            shutil.copyfile(f"{TOP}/crates/{crate}/wrong/{edit}", f"{TOP}/crates/{crate}/must-fail/{edit}")
+        print(f"wrong.py: {crate}: {len(edits_of(crate))} more wrong bodies are tried: {why}")
+
+
+def back():
+    """Nothing stands in both folders but what `put` put there."""
+    for crate in crates():
+        folder = f"{TOP}/crates/{crate}/must-fail"
+        for edit in set(edits_of(crate)) & set(edits_of(crate, "must-fail")):
+            os.remove(f"{folder}/{edit}")
+        if os.path.isdir(folder) and not os.listdir(folder):
+            os.rmdir(folder)
+
+
+def copy_with(names, to):
+    """Makes a repository in which these crates have their wrong bodies in must-fail/, and the others have none."""
+    os.makedirs(f"{to}/.git")
+    for name in ("HANDLES", "crates.txt"):
+        shutil.copy(f"{TOP}/{name}", to)
+    shutil.copytree(f"{TOP}/crates", f"{to}/crates", ignore=lambda _, found: {"out", "must-fail", "wrong"} & set(found))
+    for crate in names:
+        os.mkdir(f"{to}/crates/{crate}/must-fail")
+        for edit in edits_of(crate):
+            shutil.copyfile(f"{TOP}/crates/{crate}/wrong/{edit}", f"{to}/crates/{crate}/must-fail/{edit}")
+
+
+def attempt(names):
+    """Tries all of wrong/ in these crates, and records those of which each was refused. Of any other the record goes."""
+    sums = {it: sum_of(it) for it in names}
+    refused = set()
+    with tempfile.TemporaryDirectory() as room:
+        copy_with(names, room)
+        with subprocess.Popen(["rt", "ci", *names], cwd=room, stdin=subprocess.DEVNULL, stdout=subprocess.PIPE, text=True, errors="replace") as ran:
+            for line in ran.stdout:
+                at = re.match(r"rt: must-fail (\w+/\S+\.edit): refused, as it must be", line)
+                if at:
+                    refused.add(at[1])
+                if re.match(r"rt: |\d+ passed", line):
+                    print(line, end="", flush=True)
+    version = subprocess.run(["rt", "version"], stdout=subprocess.PIPE, text=True, check=True).stdout.strip()
+    missed = False
+    for crate in names:
+        lost = [it for it in edits_of(crate) if f"{crate}/{it}" not in refused]
+        if lost or sum_of(crate) != sums[crate]:
+            if os.path.exists(record_of(crate)):
+                os.remove(record_of(crate))
+            print(f"wrong.py: {crate}: no record is kept: " + (f"not refused: {' '.join(lost)}" if lost else "its files changed meanwhile"))
+            missed = True
+        else:
+            with open(record_of(crate), "w", encoding="utf-8") as it:
+                it.write(f"{sums[crate]}\n{len(edits_of(crate))} refused by {version}\n")
+            print(f"wrong.py: {crate}: {len(edits_of(crate))} refused, and recorded")
+    return 1 if missed else 0
+
+
+def main():
+    verb, names = (sys.argv[1:] or [""])[0], sys.argv[2:]
+    if verb == "try" and names:
+        names = crates() if names == ["all"] else names
+        unknown = sorted(set(names) - set(crates()))
+        if unknown:
+            sys.exit(f"wrong.py: there is no wrong/ in {' '.join(unknown)}")
+        return attempt(names)
+    if verb not in ("", "put", "back") or names:
+        sys.exit(__doc__)
+    if verb == "back":
+        back()
+        return 0
+    found = unfit()
+    for line in found:
+        print(f"wrong.py: {line}")
+    if found:
+        return 1
+    if verb == "put":
+        put()
+    else:
+        for crate, why in due():
+            print(f"{crate}: {len(edits_of(crate))} are due: {why}")
+    return 0
+
+
+if __name__ == "__main__":
+    sys.exit(main())

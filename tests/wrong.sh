@@ -1,0 +1,118 @@
+#!/usr/bin/env bash
+# When the wrong bodies of wrong/ are due, and what is recorded of them: in a folder of its own, with a program in the place of `rt` that refuses
+# each edit, but for those that the file `let_through` names.
+set -uo pipefail
+
+tests=$(dirname -- "$(readlink -f -- "${BASH_SOURCE[0]}")")
+work=$(mktemp -d)
+trap 'rm -r -- "$work"' EXIT
+mkdir -p -- "$work/bin" "$work/tests"
+cp -- "$tests/wrong.py" "$work/tests"
+echo 'Handles allowed: none.' > "$work/HANDLES"
+echo 'a: b' > "$work/crates.txt"
+for crate in a b c d e f g h i; do
+    mkdir -p -- "$work/crates/$crate/"{src,specs,proofs,wrong,must-fail}
+    echo 'one two' | tee -- "$work/crates/$crate/"{src/lib.rt,specs/Lib.antt,proofs/Lib.antt} > /dev/null
+    printf 'file: src/lib.rt\nold: one\nnew: 1\n' | tee -- "$work/crates/$crate/wrong/"{first,second}.edit > "$work/crates/$crate/must-fail/main.edit"
+done
+cat > "$work/bin/rt" << 'END'
+#!/usr/bin/env bash
+[[ $1 != version ]] || { echo a kit; exit; }
+shift
+for crate in "$@"; do
+    for edit in "crates/$crate/must-fail/"*.edit; do
+        name=$crate/${edit##*/}
+        if grep -qx -- "$name" "$LET_THROUGH"; then
+            echo "rt: must-fail $name: NOT REFUSED: the crate is still proved with this edit"
+        else
+            echo "rt: must-fail $name: refused, as it must be"
+        fi
+    done
+done
+echo "3 passed, 0 failed"
+END
+chmod +x -- "$work/bin/rt"
+export PATH=$work/bin:$PATH LET_THROUGH=$work/let_through WRONG_DAY=0
+: > "$LET_THROUGH"
+wrong=$work/tests/wrong.py
+failed=0
+tried=0
+
+# expect WHAT CRATE..: these crates are due, not counting those that are in turn.
+expect() {
+    local what=$1 found
+    shift
+    tried=$((tried + 1))
+    found=$("$wrong" | sed -n '/: in turn$/!s/:.*//p' | tr '\n' ' ')
+    if [[ $found != "$*${*:+ }" ]]; then
+        echo "$what: due are: $found"
+        failed=$((failed + 1))
+    fi
+}
+
+# ends STATUS WHAT COMMAND..
+ends() {
+    local status=$1 what=$2
+    shift 2
+    tried=$((tried + 1))
+    "$@" > "$work/told" 2>&1
+    if [[ $? -ne $status ]]; then
+        echo "$what: status is not $status:"
+        cat -- "$work/told"
+        failed=$((failed + 1))
+    fi
+}
+
+expect "nothing was tried" a b c d e f g h i
+ends 0 "each is refused" "$wrong" try all
+expect "all were tried"
+for part in src/lib.rt specs/Lib.antt proofs/Lib.antt; do
+    echo 'one three' > "$work/crates/b/$part"
+    expect "$part changed" b
+    echo 'one two' > "$work/crates/b/$part"
+    expect "$part is as it was"
+done
+echo 'one two' > "$work/crates/b/src/more.rt"
+expect "a file was added" b
+rm -- "$work/crates/b/src/more.rt"
+mv -- "$work/crates/b/specs/Lib.antt" "$work/crates/b/specs/Other.antt"
+expect "a file was renamed" b
+mv -- "$work/crates/b/specs/Other.antt" "$work/crates/b/specs/Lib.antt"
+sed -i 's/new: 1/new: 2/' "$work/crates/b/wrong/first.edit"
+expect "a wrong body changed" b
+sed -i 's/new: 2/new: 1/' "$work/crates/b/wrong/first.edit"
+mv -- "$work/crates/b/wrong/second.edit" "$work/"
+expect "a wrong body was left out" b
+mv -- "$work/second.edit" "$work/crates/b/wrong/"
+mv -- "$work/crates/c/wrong/tried" "$work/"
+expect "a record is gone" c
+sed 's/^./x/' "$work/tried" > "$work/crates/c/wrong/tried"
+expect "a record was changed" c
+cp -- "$work/crates/d/wrong/tried" "$work/crates/c/wrong/tried"
+expect "a record of another crate, all of whose files are alike" c
+
+echo d/second.edit > "$LET_THROUGH"
+ends 1 "one is let through" "$wrong" try c d
+expect "one was let through, and its crate has no record" d
+: > "$LET_THROUGH"
+ends 0 "it is refused again" "$wrong" try d
+expect "all were tried again"
+
+# Each crate is in turn on one of eight days.
+days=$(for WRONG_DAY in 0 1 2 3 4 5 6 7; do "$wrong"; done | sed -n 's/: .*: in turn$//p' | sort | tr '\n' ' ')
+ends 0 "each is in turn once: $days" test "$days" = "a b c d e f g h i "
+tried=$((tried + 1))
+[[ $(WRONG=all "$wrong" | grep -c ': WRONG=all$') -eq 9 ]] || { echo "WRONG=all leaves a crate out"; failed=$((failed + 1)); }
+
+echo 'one three' > "$work/crates/b/src/lib.rt"
+find "$work/crates" | sort > "$work/before"
+ends 0 "what is due is put into must-fail/" "$wrong" put
+[[ $(cd -- "$work/crates/b/must-fail" && echo *) == "first.edit main.edit second.edit" ]] || { echo "b's wrong bodies are not put"; failed=$((failed + 1)); }
+ends 0 "and taken out again" "$wrong" back
+ends 0 "nothing else is changed" cmp -- "$work/before" <(find "$work/crates" | sort)
+
+echo 'one and one' > "$work/crates/b/src/lib.rt"
+ends 1 "an edit whose old text stands twice" "$wrong" put
+ends 0 "nothing was put" cmp -- "$work/before" <(find "$work/crates" | sort)
+echo "wrong.py: $tried tries, $failed wrong"
+[[ $failed -eq 0 ]]
