@@ -33,12 +33,13 @@ find_sources() {
     done
 }
 
+# is_newest FILE CRATE: whether there is such a program, and it is newer than the code and the contracts of the crate and of those that it stands on.
 # A file that was deleted is noticed by the time of its folder.
-is_current() {
+is_newest() {
     local sources newer
-    [[ -x $top/crates/$1/out/$1 ]] || return 1
-    find_sources "$1"
-    newer=$(find "${sources[@]}" -newer "$top/crates/$1/out/$1" -print -quit) && [[ -z $newer ]]
+    [[ -x $1 ]] || return 1
+    find_sources "$2"
+    newer=$(find "${sources[@]}" -newer "$1" -print -quit) && [[ -z $newer ]]
 }
 
 # Standard error may be closed.
@@ -46,55 +47,74 @@ say() {
     echo "$1: $2" >&2 || true
 }
 
-# A line for each crate that is proved; all that `rt` prints goes into the log.
+# copy_crates CRATE FOLDER: makes of the folder a repository that holds the crate and those that it stands on, without wrong bodies. Sets `below`.
+copy_crates() {
+    local name line
+    find_below "$1"
+    mkdir -p -- "$2/.git"
+    cp -- "$top/HANDLES" "$2"
+    for name in "${below[@]}" "$1"; do
+        tar -C "$top" --exclude=out --exclude=must-fail --exclude=wrong -cf - "crates/$name" | tar -C "$2" -xf -
+    done
+    while read -r line; do
+        name=${line%%[: ]*}
+        [[ -z $name || " ${below[*]-} $1 " != *" $name "* ]] || echo "$line"
+    done < "$top/crates.txt" > "$2/crates.txt"
+}
+
+# show_progress PROGRAM LOG CRATES: a line for each crate that is proved, or was on this machine before; all that `rt` prints goes into the log.
 show_progress() {
-    local line crate
+    local line functions='' left=$3
     while IFS= read -r line; do
         printf '%s\n' "$line" >&3
         case $line in
-            'crate '*) crate=${line#crate } crate=${crate%%:*} ;;
-            'logic=proved functions='*) line=${line#*functions=} && say "$1" "$crate: ${line%% *} functions proved" ;;
+            'logic=proved functions='*) line=${line#*functions=} functions="${line%% *} functions" ;;
+            'rt: '*' proved') line=${line#rt: } left=$((left - 1)) && say "$1" "${line% proved}: $functions proved, $left left" ;;
+            'rt: '*' is kept: '*) line=${line#rt: } left=$((left - 1)) && say "$1" "${line%% is kept: *}: proved before, $left left" ;;
         esac
     done 3> "$2"
 }
 
-# prove PROGRAM CRATE LOG WORD..: one run of `rt` in the folder of a crate.
-prove() {
-    local program=$1 crate=$2 log=$3
-    shift 3
-    (cd -- "$top/crates/$crate" && rt "$@" < /dev/null 2>&1) | show_progress "$program" "$log"
-}
-
-# A run of `rt` proves the libraries below it in turn, and lets no other run into them. The disks' and the lock table's share none, so these two go first, side by side.
-# `rt run` proves what is left and builds, and runs what it built, here on the arguments. The program gets the time at which that began.
+# The gate's command in a copy of the program's crates proves them side by side, each as soon as those below it are proved, builds the program, and
+# runs it once. What it has proved `rt` keeps beside the kit, also where it is ended in the middle. The program gets the time at which that began.
 build() {
-    local crate=$1 stamp library below ended=0
-    shift
-    stamp=$(mktemp)
-    find_below "$crate"
-    for library in beats inspect; do
-        [[ " ${below[*]-} " != *" $library "* ]] || prove "$crate" "$library" "$stamp.$library" lib &
-    done
-    wait
-    prove "$crate" "$crate" "$stamp.run" run -- "$@" || ended=1
-    mkdir -p -- "$top/crates/$crate/out"
-    cat -- "$stamp".?* > "$top/crates/$crate/out/build.log"
-    [[ $ended -ne 0 ]] || touch -r "$stamp" -- "$top/crates/$crate/out/$crate"
-    rm -- "$stamp" "$stamp".?*
+    local crate=$1 copy below out=$top/crates/$1/out ended=0
+    mkdir -p -- "$out"
+    copy=$(mktemp -d)
+    trap 'rm -rf -- "$copy"' EXIT
+    touch -- "$copy/began"
+    copy_crates "$crate" "$copy/repository"
+    (cd -- "$copy/repository" && rt ci < /dev/null 2>&1) | show_progress "$crate" "$out/build.log" $((${#below[@]} + 1)) || ended=1
+    if [[ $ended -eq 0 ]]; then
+        touch -r "$copy/began" -- "$copy/repository/crates/$crate/out/$crate"
+        cp -p -- "$copy/repository/crates/$crate/out/$crate" "$out/$crate.$$" && mv -- "$out/$crate.$$" "$out/$crate"
+        note_proved "$crate"
+    fi
+    rm -rf -- "$copy"
+    trap - EXIT
     return $ended
 }
 
-# ensure_built CRATE [ARGUMENT..]: ends with status 125 where that cannot be done.
+# What is proved has its sum beside it, written by those alone that have just proved it.
+note_proved() {
+    sha256sum < "$top/crates/$1/out/$1" > "$top/crates/$1/out/proved"
+}
+
+is_proved() {
+    [[ -f $top/crates/$1/out/proved && $(sha256sum < "$top/crates/$1/out/$1") == "$(<"$top/crates/$1/out/proved")" ]]
+}
+
+# ensure_built CRATE: ends with status 125 where that cannot be done.
 ensure_built() {
-    if is_current "$1"; then
+    if is_newest "$top/crates/$1/out/$1" "$1"; then
         return
     fi
     if ! command -v rt > /dev/null; then
         say "$1" "to prove and build it there has to be Rattle's command rt on the path"
         exit 125
     fi
-    say "$1" "proving and building it, which takes minutes where nothing was proved before"
-    if ! build "$@"; then
+    say "$1" "proving and building it, which takes half an hour where nothing was proved before"
+    if ! build "$1"; then
         say "$1" "not built: $top/crates/$1/out/build.log says why"
         exit 125
     fi

@@ -7,5 +7,5 @@ here=${BASH_SOURCE[0]}
 [[ ! -L $here ]] || here=$(readlink -f -- "$here")
 top=${here%/*}
 source "$top/build.sh"
-ensure_built dlm run stdin
+ensure_built dlm
 exec "$top/crates/dlm/out/dlm" "$@"

@@ -17,7 +17,8 @@ commit=$(git -C "$top" rev-parse HEAD) || fail "this is no checkout of the repos
 [[ -z $(git -C "$top" status --porcelain) ]] || fail "there are changes that are not committed"
 
 source "$top/build.sh"
-ensure_built dlm run stdin
+ensure_built dlm
+is_proved dlm || fail "crates/dlm/out/dlm is not what a build here has proved: take it away, and ./dlm proves and builds it"
 
 name=midgegalena-${commit:0:12}-$(uname -s | tr '[:upper:]' '[:lower:]')-$(uname -m)
 work=$(mktemp -d)

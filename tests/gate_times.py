@@ -3,16 +3,22 @@
 
 The table has the processor seconds of each crate's proof, of its tests' proof, of the proof once more that its edits begin with, and of the
 edits. With --edits each edit's seconds go into FILE, a line an edit. The command's processes are looked at four times a second, so a figure may
-be short by that much. `taskset -c 0,1 tests/gate_times.py rt ci` measures two processors. The command's last line is printed once more
-at the end, and its status is passed on.
+be short by that much. `taskset -c 0,1 tests/gate_times.py rt ci` measures two processors.
+
+Below the table is the line for a page's table of times: the date, the command, how many processors it might use and how many others used (0.0:
+a quiet machine), wall and processor time, the memory of the largest process, by how much the free disk fell at most,
+and the kit. The command's last line is printed once more at the end, and its status is passed on.
 """
 import argparse
 import collections
+import datetime
 import os
 import re
 import resource
+import shlex
 import subprocess
 import sys
+import tempfile
 import threading
 import time
 
@@ -42,6 +48,18 @@ def look():
     return found
 
 
+def all_seconds():
+    """Returns the processor seconds that all processes of the machine have taken."""
+    with open("/proc/stat", encoding="utf-8") as file:
+        user, nice, system = map(int, file.readline().split()[1:4])
+    return (user + nice + system) / TICKS
+
+
+def free_disk():
+    """Returns the free bytes where repositories and temporary files are, the least of the two."""
+    return min(it.f_bavail * it.f_frsize for it in map(os.statvfs, (TOP, tempfile.gettempdir())))
+
+
 def work_of(process):
     """Returns the crate and the kind of the work of a process, by its words and its folder, or None where it works on no crate. Of an edit
     the kind is its place among the crate's edits. Each of them is tried over a copy of what a proof of the crate left, which `rt` keeps under
@@ -67,9 +85,11 @@ class Watch(threading.Thread):
     def __init__(self, root):
         super().__init__(daemon=True)
         self.root, self.known, self.ended = root, {}, threading.Event()
+        self.free = self.least = free_disk()
 
     def run(self):
         while not self.ended.wait(0.25):
+            self.least = min(self.least, free_disk())
             self.note(look())
 
     def note(self, found):
@@ -134,7 +154,7 @@ def main():
     given = parser.parse_args()
     if not given.command:
         parser.error("which command?")
-    began, last = time.monotonic(), ""
+    began, before, last = time.monotonic(), all_seconds(), ""
     gate = subprocess.Popen(given.command, cwd=TOP, stdin=subprocess.DEVNULL, stdout=subprocess.PIPE, text=True, errors="replace")
     watch = Watch(gate.pid)
     watch.start()
@@ -146,11 +166,23 @@ def main():
     watch.join()
     used = resource.getrusage(resource.RUSAGE_CHILDREN)
     wall, processor = int(time.monotonic() - began), used.ru_utime + used.ru_stime
+    others = (all_seconds() - before - processor) / max(wall, 1)
     print()
     with open(given.edits, "w", encoding="utf-8") as out:
         report(watch.known.values(), out)
-    count = len(os.sched_getaffinity(0))
-    print(f"\n{wall // 60} min {wall % 60} s on {count} processors, {processor / 60:.0f} min of processor time, status {status}\n")
+    kit = subprocess.run(["rt", "version"], stdout=subprocess.PIPE, text=True, check=False).stdout.strip()
+    row = [
+        f"{datetime.date.today()}",
+        f"`{shlex.join(given.command)}`",
+        f"{len(os.sched_getaffinity(0))} ({max(others, 0):.1f})",
+        f"{wall // 60} min {wall % 60} s",
+        f"{processor / 60:.0f} min",
+        f"{used.ru_maxrss / 1e6:.1f} GB",
+        f"{(watch.free - watch.least) / 1e9:.1f} GB",
+        f"{kit}",
+    ]
+    print("\n| date | command | processors (others) | wall | processor | largest process | disk | kit |\n|---|---|---|---|---|---|---|---|")
+    print(f"| {' | '.join(row)} |\nstatus {status}\n")
     print(last, end="")
     return status
 
