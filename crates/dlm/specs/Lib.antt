@@ -1,4 +1,4 @@
 pub mod Faults
 pub mod Printed
+pub mod RaceText
 pub mod Tasks
-pub mod Text

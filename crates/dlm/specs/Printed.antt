@@ -34,7 +34,8 @@ use Rattle.folder_migration.specs.declared.migrate.Moved.{Moved}
 use Rattle.folder_migration.specs.declared.migrate.Moved.TheVariants.{Moved as WasMoved, Finished}
 use Rattle.race.specs.Race.{IsRace}
 use Rattle.race.specs.declared.answer.Answer.{Answer}
-use Rattle.dlm.specs.Text.{answer_text, race_answer_text}
+use Rattle.dlm_words.specs.Text.{answer_text}
+use Rattle.dlm.specs.RaceText.{race_answer_text}
 
 -- EVENTS
 

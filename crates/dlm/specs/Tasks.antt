@@ -1,16 +1,10 @@
--- What the words of a command line may ask for, and what a task has printed that ended well.
-use Rattle.std.specs.Prelude.{◌≡◌, ◌+◌, ℕ, true, List, Option, ⊤}
+-- What a task has printed that ended well.
+use Rattle.std.specs.Prelude.{◌+◌, ℕ, List, Option, ⊤}
 use Rattle.std.specs.Io.KnownBytes.{Appends}
-use Rattle.lock_command.specs.Command.{is_submittable}
+use Rattle.dlm_words.specs.declared.words.Subcommand.{Subcommand}
+use Rattle.dlm_words.specs.declared.words.Subcommand.TheVariants.{Run, Sweep, Format, Submit, Table, Mark, Check, Migrate, Race}
 use Rattle.dlm.specs.Printed.{WritesAcknowledgement, WritesMarks, WritesMove, WritesRace, WritesSweep, WritesTable, formatted_text}
 use Rattle.dlm.specs.declared.images.TheConstants.{TRIES}
-use Rattle.dlm.specs.declared.words.Subcommand.{Subcommand}
-use Rattle.dlm.specs.declared.words.Subcommand.TheVariants.{Run, Sweep, Format, Submit, Table, Mark, Check, Migrate, Race}
-
--- a client may ask for the command that is submitted
-abbrev pub MayBeAsked : Subcommand → Type 0
-MayBeAsked (Submit folder command) = is_submittable command ≡ true
-MayBeAsked other = Unit {0}
 
 -- Nothing is said of a run as a whole, and of a check.
 abbrev pub HasPrinted : Subcommand → Option (List ℕ) → Option (List ℕ) → Type 0

@@ -2,10 +2,10 @@ ghost use Rattle.std.specs.Prelude.{◌≡◌};
 ghost use Rattle.dlm.specs.Faults.{of_image, of_script, of_refusal, of_folder, of_finding, of_lock, of_move, of_host};
 ghost use Rattle.dlm.specs.declared.fault.Fault.TheVariants.{NoMemory};
 
-use crate::answer_text::RefusalText;
 use cluster::HostFault;
 use disk::ImageFault;
 use dlm_images::{Finding, FolderFault, LockFault};
+use dlm_words::RefusalText;
 use folder_migration::MoveFault;
 use host::Refusal;
 use simulator::ScriptFault;

@@ -6,12 +6,12 @@ ghost use Rattle.dlm.specs.Printed.{WritesAcknowledgement, WritesMarks, WritesMo
 
 use crate::command_failure::CommandFailure;
 use crate::fault::Fault;
-use crate::reply_text::ReplyText;
 use disk::FileDisk;
 use dlm_images::{
     Acknowledgement, DiskHost, MarkedLog, TryLock, check_folder, format_folder, lock_host,
     open_folder, open_folder_to_read, submit_patiently,
 };
+use dlm_words::ReplyText;
 use folder_migration::{Moved, SlotCount, migrate_folder};
 use host::Config;
 use inspect::queues;

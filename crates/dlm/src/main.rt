@@ -1,21 +1,16 @@
 //! The program: runs a script over simulated disks, sweeps its variants, works over the images of a folder, and races host threads.
 #![tactic(auto)]
 
-mod answer_text;
 mod command_failure;
 mod fault;
-mod given_words;
 mod images;
-mod mode_text;
 mod program;
 mod racing;
-mod reply_text;
 mod run;
 mod sweeping;
-mod value_text;
-mod words;
 
 use dlm_images::TryLock;
+use dlm_words::WordsFault;
 use program::{decline, run_words};
 use std::env;
 use std::fs::OpenFile;
@@ -27,7 +22,6 @@ use std::rt::Files;
 use std::sync::Wait;
 use std::thread::Threads;
 use std::time::Clock;
-use words::WordsFault;
 
 fn main(rt: HostRuntime) -> ExitCode {
     let status = match arguments_of(&rt) {

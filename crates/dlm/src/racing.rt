@@ -1,13 +1,12 @@
 ghost use Rattle.std.specs.Prelude.{◌≡◌, ◌+◌, OnOk};
 ghost use Rattle.std.specs.Io.KnownBytes.{Appends};
-ghost use Rattle.dlm.specs.Text.{host_fault_text};
+ghost use Rattle.dlm.specs.RaceText.{host_fault_text};
 ghost use Rattle.dlm.specs.Printed.{WritesRace, race_line, race_text};
 
-use crate::answer_text::refusal_text;
 use crate::command_failure::CommandFailure;
 use crate::fault::Fault;
-use crate::reply_text::ReplyText;
 use cluster::HostFault;
+use dlm_words::{ReplyText, refusal_text};
 use lock_command::HostNumber;
 use race::{Answer, Race, run_race};
 use std::alloc::AllocGlobal;
@@ -53,7 +52,7 @@ struct RaceText(Answer);
 
 impl fmt::Display for RaceText {
     ghost use Rattle.std.specs.Prelude.{Some};
-    ghost use Rattle.dlm.specs.Text.{race_answer_text};
+    ghost use Rattle.dlm.specs.RaceText.{race_answer_text};
 
     ghost output = { λ a. Some (race_answer_text a.0) };
 

@@ -4,9 +4,9 @@ ghost use Rattle.world.specs.Entry.{Filled};
 ghost use Rattle.simulator.specs.Kept.{LeadsTo};
 ghost use Rattle.dlm.specs.Printed.{WritesAnswer, IsShowOf, IsViewOf, blocking_text, stopped_line};
 
-use crate::answer_text::AnswerText;
 use crate::command_failure::CommandFailure;
 use crate::fault::Fault;
+use dlm_words::AnswerText;
 use inspect::{Blocking, blocking, queues};
 use lock_table::Picture;
 use simulator::{Event, MOST_EVENTS, Run, Script, Show, SimulatedCluster, View};

@@ -7,7 +7,7 @@ pub struct ModeText(pub Option<Mode>);
 
 impl fmt::Display for ModeText {
     ghost use Rattle.std.specs.Prelude.{Some};
-    ghost use Rattle.dlm.specs.Text.{mode_text};
+    ghost use Rattle.dlm_words.specs.Text.{mode_text};
 
     ghost output = { λ m. Some (mode_text m.0) };
 

@@ -14,10 +14,6 @@ use Rattle.slot_log.specs.declared.outcome.Refusal.TheVariants.{Outrun, NoMajori
 use Rattle.host.specs.declared.answer.HostAnswer.{HostAnswer}
 use Rattle.host.specs.declared.answer.HostAnswer.TheVariants.{Ack, Recovered, Looked, Beaten, Marked, Refused as Ended}
 use Rattle.inspect.specs.Text.{mode_name, is_zeros, value_text}
-use Rattle.cluster.specs.declared.fault.HostFault.{HostFault}
-use Rattle.cluster.specs.declared.fault.HostFault.TheVariants as fault
-use Rattle.race.specs.declared.answer.Answer.{Answer}
-use Rattle.race.specs.declared.answer.Answer.TheVariants as race
 
 -- a mode, or a dash where there is none
 abbrev pub mode_text : Option Mode → List ℕ
@@ -90,17 +86,3 @@ answer_text (Looked length) = codes "looked " ++ decimal length
 answer_text (Beaten host) = codes "beaten " ++ decimal host
 answer_text (Marked count) = codes "marked " ++ decimal count
 answer_text (Ended refusal) = codes "refused " ++ refusal_text refusal
-
--- the numbers and names of what a cluster of host threads refuses
-abbrev pub host_fault_text : HostFault → List ℕ
-host_fault_text (fault.Refused refusal) = refusal_text refusal
-host_fault_text fault.NoMemory = codes "21 NoMemory"
-host_fault_text fault.JournalFull = codes "22 JournalFull"
-host_fault_text fault.SeatTaken = codes "27 SeatTaken"
-host_fault_text fault.SeatsMissing = codes "28 SeatsMissing"
-host_fault_text fault.OpenCall = codes "35 OpenCall"
-
--- what a host of a race is answered
-abbrev pub race_answer_text : Answer → List ℕ
-race_answer_text (race.Acknowledged slot reply) = codes "ack " ++ decimal slot ++ codes " " ++ reply_text reply
-race_answer_text (race.Refused cause) = codes "refused " ++ host_fault_text cause

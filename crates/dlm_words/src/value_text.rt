@@ -1,5 +1,5 @@
 ghost use Rattle.std.specs.Prelude.{◌≡◌};
-ghost use Rattle.dlm.specs.Text.{shown_value};
+ghost use Rattle.dlm_words.specs.Text.{shown_value};
 
 use inspect::value_digits;
 use lock_table::LockValue;

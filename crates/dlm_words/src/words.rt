@@ -1,6 +1,6 @@
 ghost use Rattle.std.specs.Prelude.{◌≡◌, IfOk};
-ghost use Rattle.dlm.specs.Tasks.{MayBeAsked};
-ghost use Rattle.dlm.specs.declared.words.WordsFault.TheVariants.{NoMemory};
+ghost use Rattle.dlm_words.specs.Asked.{MayBeAsked};
+ghost use Rattle.dlm_words.specs.declared.words.WordsFault.TheVariants.{NoMemory};
 
 use crate::given_words::{cluster_of, command_of, config_of, host_of, last_host_of, slots_of};
 use clap::error::ErrorKind;

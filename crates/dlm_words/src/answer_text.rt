@@ -1,5 +1,5 @@
 ghost use Rattle.std.specs.Prelude.{◌≡◌};
-ghost use Rattle.dlm.specs.Text.{refusal_text};
+ghost use Rattle.dlm_words.specs.Text.{refusal_text};
 
 use crate::reply_text::ReplyText;
 use host::{HostAnswer, Refusal};
@@ -11,7 +11,7 @@ pub struct AnswerText(pub HostAnswer);
 
 impl fmt::Display for AnswerText {
     ghost use Rattle.std.specs.Prelude.{Some};
-    ghost use Rattle.dlm.specs.Text.{answer_text};
+    ghost use Rattle.dlm_words.specs.Text.{answer_text};
 
     ghost output = { λ a. Some (answer_text a.0) };
 
@@ -39,7 +39,7 @@ pub struct RefusalText(pub Refusal);
 
 impl fmt::Display for RefusalText {
     ghost use Rattle.std.specs.Prelude.{Some};
-    ghost use Rattle.dlm.specs.Text.{refusal_text};
+    ghost use Rattle.dlm_words.specs.Text.{refusal_text};
 
     ghost output = { λ r. Some (refusal_text r.0) };
 

@@ -1,18 +1,18 @@
 ghost use Rattle.std.specs.Prelude.{◌≡◌};
-ghost use Rattle.dlm.specs.Text.{held_mode, wanted_mode, table_refusal_text};
+ghost use Rattle.dlm_words.specs.Text.{held_mode, wanted_mode, table_refusal_text};
 
 use crate::mode_text::ModeText;
 use crate::value_text::{ValueText, shown_value};
 use lock_table::{Answer, LockState, Refusal, Reply};
 use std::fmt;
 
-/// A reply of the lock table.
+/// A reply of the lock table, as it is printed.
 #[derive(Clone, Copy)]
 pub struct ReplyText(pub Reply);
 
 impl fmt::Display for ReplyText {
     ghost use Rattle.std.specs.Prelude.{Some};
-    ghost use Rattle.dlm.specs.Text.{reply_text};
+    ghost use Rattle.dlm_words.specs.Text.{reply_text};
 
     ghost output = { λ r. Some (reply_text r.0) };
 

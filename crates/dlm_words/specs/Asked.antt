@@ -1,0 +1,10 @@
+-- What the words of a command line may ask for.
+use Rattle.std.specs.Prelude.{◌≡◌, true}
+use Rattle.lock_command.specs.Command.{is_submittable}
+use Rattle.dlm_words.specs.declared.words.Subcommand.{Subcommand}
+use Rattle.dlm_words.specs.declared.words.Subcommand.TheVariants.{Submit}
+
+-- a client may ask for the command that is submitted
+abbrev pub MayBeAsked : Subcommand → Type 0
+MayBeAsked (Submit folder command) = is_submittable command ≡ true
+MayBeAsked other = Unit {0}
