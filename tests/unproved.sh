@@ -50,6 +50,7 @@ chmod +x -- "$work/tests/readme.sh"
 try readme.sh "$top" "$work/first"
 try check.sh "$work/tests" "$work/examples"
 try program.py
+try closed.py
 try race.sh
 try faults.sh
 try check_images.sh

@@ -11,10 +11,11 @@ mod sweeping;
 
 use dlm_images::TryLock;
 use dlm_words::WordsFault;
-use program::{decline, run_words};
+use fault::Fault;
+use program::{decline, refuse, run_words};
 use std::env;
-use std::fs::OpenFile;
-use std::io::{BufWriter, Write};
+use std::fs::{File, OpenFile};
+use std::io::{self, BufWriter, Write};
 use std::os::unix::fs::FileExt;
 use std::process::ExitCode;
 use std::random::RandomSource;
@@ -24,16 +25,31 @@ use std::thread::Threads;
 use std::time::Clock;
 
 fn main(rt: HostRuntime) -> ExitCode {
-    let status = match arguments_of(&rt) {
-        Ok(arguments) => {
+    let status = match (standing_streams(&rt), arguments_of(&rt)) {
+        (Ok(_kept), Ok(arguments)) => {
             match run_arguments(&rt, arguments.as_slice(), rt.stdout(), &mut rt.stderr()) {
                 Ok(status) => status,
                 Err(fault) => decline(fault, &mut rt.stderr()),
             }
         }
-        Err(fault) => decline(fault, &mut rt.stderr()),
+        (Ok(_), Err(fault)) => decline(fault, &mut rt.stderr()),
+        (Err(error), _) => refuse(Fault::of_reading(&error), &mut rt.stderr()),
     };
     ExitCode::from(status)
+}
+
+/// Opens the null device three times, for reading. The system gives a file that is opened the least descriptor that is free. So where the program
+/// was started without standard input, output or error, these take their places, and no image gets one: what is printed would go into it.
+/// They have to be kept while the program runs.
+fn standing_streams<R: Files>(rt: &R) -> io::Result<(R::File, R::File, R::File)>
+where
+    R::File: Drop,
+{
+    Ok((
+        File::open(rt, "/dev/null")?,
+        File::open(rt, "/dev/null")?,
+        File::open(rt, "/dev/null")?,
+    ))
 }
 
 /// The program's own words.

@@ -98,7 +98,7 @@ fn finish<E: Write>(end: Result<(), CommandFailure>, err: &mut E) -> u8
 }
 
 /// Tells the refusal, and returns its status.
-fn refuse<E: Write>(fault: Fault, err: &mut E) -> u8
+pub fn refuse<E: Write>(fault: Fault, err: &mut E) -> u8
     ensures { result ≡ 1 }
 {
     let _ = writeln!(err, "dlm: {fault}");
