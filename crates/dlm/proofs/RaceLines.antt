@@ -4,7 +4,7 @@ use Rattle.std.proofs.Math.Seq.{drop-cons}
 use Rattle.std.specs.Io.KnownBytes.{Appends}
 use Rattle.std.proofs.KnownBytes.{Appends-trans}
 use Rattle.race.specs.declared.answer.Answer.{Answer}
-use Rattle.dlm.specs.Printed.{race_line, race_lines}
+use Rattle.dlm.specs.RaceText.{race_line, race_lines}
 
 -- the lines from a host on
 from_on : (answers : List Answer) (h : ℕ) (d : Answer) → h < length answers

@@ -1,4 +1,3 @@
 pub mod Faults
-pub mod Printed
 pub mod RaceText
 pub mod Tasks

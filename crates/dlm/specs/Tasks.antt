@@ -3,8 +3,9 @@ use Rattle.std.specs.Prelude.{◌+◌, ℕ, List, Option, ⊤}
 use Rattle.std.specs.Io.KnownBytes.{Appends}
 use Rattle.dlm_words.specs.declared.words.Subcommand.{Subcommand}
 use Rattle.dlm_words.specs.declared.words.Subcommand.TheVariants.{Run, Sweep, Format, Submit, Table, Mark, Check, Migrate, Race}
-use Rattle.dlm.specs.Printed.{WritesAcknowledgement, WritesMarks, WritesMove, WritesRace, WritesSweep, WritesTable, formatted_text}
-use Rattle.dlm.specs.declared.images.TheConstants.{TRIES}
+use Rattle.dlm_tasks.specs.Printed.{WritesAcknowledgement, WritesMarks, WritesMove, WritesSweep, WritesTable, formatted_text}
+use Rattle.dlm_tasks.specs.declared.images.TheConstants.{TRIES}
+use Rattle.dlm.specs.RaceText.{WritesRace}
 
 -- Nothing is said of a run as a whole, and of a check.
 abbrev pub HasPrinted : Subcommand → Option (List ℕ) → Option (List ℕ) → Type 0

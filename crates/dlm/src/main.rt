@@ -1,17 +1,12 @@
 //! The program: runs a script over simulated disks, sweeps its variants, works over the images of a folder, and races host threads.
 #![tactic(auto)]
 
-mod command_failure;
-mod fault;
-mod images;
 mod program;
 mod racing;
-mod run;
-mod sweeping;
 
 use dlm_images::TryLock;
+use dlm_tasks::Fault;
 use dlm_words::WordsFault;
-use fault::Fault;
 use program::{decline, refuse, run_words};
 use std::env;
 use std::fs::{File, OpenFile};

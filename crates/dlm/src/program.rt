@@ -1,15 +1,12 @@
 ghost use Rattle.std.specs.Prelude.{◌≡◌, ◌≢◌, ◌≤◌, ◌↔◌, ℕ, List, OnOk, is_ok, if◌then◌else◌};
 ghost use Rattle.std.specs.Io.KnownBytes.{Keeps};
 ghost use Rattle.dlm_words.specs.Asked.{MayBeAsked};
-ghost use Rattle.dlm.specs.Printed.{WritesSweep};
+ghost use Rattle.dlm_tasks.specs.Printed.{WritesSweep};
 ghost use Rattle.dlm.specs.Tasks.{HasPrinted};
 
-use crate::command_failure::CommandFailure;
-use crate::fault::Fault;
-use crate::run::run_script;
-use crate::sweeping::print_sweep;
-use crate::{images, racing};
+use crate::racing;
 use dlm_images::TryLock;
+use dlm_tasks::{CommandFailure, Fault, images, print_sweep, run_script};
 use dlm_words::{Subcommand, WordsFault, task_of};
 use simulator::read_script;
 use std::alloc::Global;

@@ -1,11 +1,10 @@
 ghost use Rattle.std.specs.Prelude.{◌≡◌, ◌+◌, OnOk};
 ghost use Rattle.std.specs.Io.KnownBytes.{Appends};
-ghost use Rattle.dlm.specs.RaceText.{host_fault_text};
-ghost use Rattle.dlm.specs.Printed.{WritesRace, race_line, race_text};
+ghost use Rattle.dlm.specs.Faults.{of_host};
+ghost use Rattle.dlm.specs.RaceText.{WritesRace, host_fault_text, race_line, race_text};
 
-use crate::command_failure::CommandFailure;
-use crate::fault::Fault;
 use cluster::HostFault;
+use dlm_tasks::{CommandFailure, Fault};
 use dlm_words::{ReplyText, refusal_text};
 use lock_command::HostNumber;
 use race::{Answer, Race, run_race};
@@ -23,7 +22,7 @@ pub fn race_hosts<R: Threads + Wait + AllocGlobal + Sync, O: Write>(
 ) -> Result<(), CommandFailure>
     ensures { OnOk result (WritesRace (last + 1) (O.contents out.old) (O.contents out.new)) }
 {
-    let race = run_race(rt, last).map_err(Fault::from)?;
+    let race = run_race(rt, last).map_err(fault_of)?;
     print_race(&race, out)?;
     out.flush()?;
     Ok(())
@@ -44,6 +43,20 @@ fn print_answer<O: Write>(host: usize, answer: Answer, out: &mut O) -> io::Resul
 {
     let answer = RaceText(answer);
     writeln!(out, "host {host} {answer}")
+}
+
+/// Why a race was refused.
+fn fault_of(fault: HostFault) -> Fault
+    ensures { result ≡ of_host fault }
+{
+    match fault {
+        HostFault::Refused(refusal) => Fault::from(refusal),
+        HostFault::NoMemory => Fault::NoMemory,
+        HostFault::JournalFull => Fault::JournalFull,
+        HostFault::SeatTaken => Fault::SeatTaken,
+        HostFault::SeatsMissing => Fault::SeatsMissing,
+        HostFault::OpenCall => Fault::OpenCall,
+    }
 }
 
 /// What a host of a race is answered, as it is printed after the host's number.

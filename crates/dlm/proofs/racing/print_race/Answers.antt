@@ -4,7 +4,7 @@ use Rattle.lock_table.specs.Apply.{without_value}
 use Rattle.lock_table.specs.declared.reply.Answer.TheVariants.{Granted}
 use Rattle.race.specs.declared.answer.Answer.{Answer}
 use Rattle.race.specs.declared.answer.Answer.TheVariants.{Acknowledged}
-use Rattle.dlm.specs.Printed.{race_line, race_lines}
+use Rattle.dlm.specs.RaceText.{race_line, race_lines}
 use Rattle.dlm.proofs.RaceLines.{one_line_more}
 use Rattle.dlm.proofs.racing.print_race.Goals as goal
 

@@ -1,6 +1,6 @@
 use Rattle.std.proofs.Common.{◌≡◌, ℕ, List, ◌++◌, drop}
 use Rattle.std.specs.Io.KnownBytes.{Appends}
-use Rattle.dlm.specs.Printed.{race_lines}
+use Rattle.dlm.specs.RaceText.{race_lines}
 use Rattle.dlm.proofs.racing.print_race.Given as goal
 
 abbrev pub invariant-loop-host : goal.invariant-loop-host

@@ -1,8 +1,8 @@
 use Rattle.std.proofs.Common.{take}
 use Rattle.std.specs.List.{flat_map}
 use Rattle.std.specs.Io.KnownBytes.{Appends}
-use Rattle.dlm.specs.Printed.{client_word}
-use Rattle.dlm.proofs.run.show_blocking.Given as goal
+use Rattle.dlm_tasks.specs.Printed.{client_word}
+use Rattle.dlm_tasks.proofs.run.show_blocking.Given as goal
 
 -- the clients before this one are written
 abbrev pub invariant-loop-client : goal.invariant-loop-client

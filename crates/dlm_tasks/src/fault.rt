@@ -1,8 +1,7 @@
 ghost use Rattle.std.specs.Prelude.{◌≡◌};
-ghost use Rattle.dlm.specs.Faults.{of_image, of_script, of_refusal, of_folder, of_finding, of_lock, of_move, of_host};
-ghost use Rattle.dlm.specs.declared.fault.Fault.TheVariants.{NoMemory};
+ghost use Rattle.dlm_tasks.specs.Faults.{of_image, of_script, of_refusal, of_folder, of_finding, of_lock, of_move};
+ghost use Rattle.dlm_tasks.specs.declared.fault.Fault.TheVariants.{NoMemory};
 
-use cluster::HostFault;
 use disk::ImageFault;
 use dlm_images::{Finding, FolderFault, LockFault};
 use dlm_words::RefusalText;
@@ -154,21 +153,6 @@ impl From<MoveFault> for Fault {
             MoveFault::Lock(fault) => Fault::from(fault),
             MoveFault::Refused(refusal) => Fault::from(refusal),
             MoveFault::MigrationFailed => Fault::MigrationFailed,
-        }
-    }
-}
-
-impl From<HostFault> for Fault {
-    ghost from_gives = { λ of fault. fault ≡ of_host of };
-
-    fn from(fault: HostFault) -> Self {
-        match fault {
-            HostFault::Refused(refusal) => Fault::from(refusal),
-            HostFault::NoMemory => Fault::NoMemory,
-            HostFault::JournalFull => Fault::JournalFull,
-            HostFault::SeatTaken => Fault::SeatTaken,
-            HostFault::SeatsMissing => Fault::SeatsMissing,
-            HostFault::OpenCall => Fault::OpenCall,
         }
     }
 }

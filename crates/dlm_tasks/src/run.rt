@@ -2,7 +2,7 @@ ghost use Rattle.std.specs.Prelude.{◌≤◌, ◌+◌, ℕ, List, None, OnOk, l
 ghost use Rattle.std.specs.Io.KnownBytes.{Appends};
 ghost use Rattle.world.specs.Entry.{Filled};
 ghost use Rattle.simulator.specs.Kept.{LeadsTo};
-ghost use Rattle.dlm.specs.Printed.{WritesAnswer, IsShowOf, IsViewOf, blocking_text, stopped_line};
+ghost use Rattle.dlm_tasks.specs.Printed.{WritesAnswer, IsShowOf, IsViewOf, blocking_text, stopped_line};
 
 use crate::command_failure::CommandFailure;
 use crate::fault::Fault;

@@ -2,8 +2,8 @@
 use Rattle.std.proofs.Common.{◌≡◌, ℕ, Option, None, slice_index_or, refl, subst}
 use Rattle.std.specs.Io.KnownBytes.{Appends}
 use Rattle.host.specs.Kept.{Kept}
-use Rattle.dlm.specs.Printed.{IsShowOf, stopped_line}
-use Rattle.dlm.proofs.run.show_host.Goals as goal
+use Rattle.dlm_tasks.specs.Printed.{IsShowOf, stopped_line}
+use Rattle.dlm_tasks.proofs.run.show_host.Goals as goal
 
 pub returns-in_ok-print_stopped-in-None : goal.returns-in_ok-print_stopped-in-None
 returns-in_ok-print_stopped-in-None g c =

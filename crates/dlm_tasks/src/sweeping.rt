@@ -1,6 +1,6 @@
 ghost use Rattle.std.specs.Prelude.{◌≤◌, OnOk, length};
 ghost use Rattle.std.specs.Io.KnownBytes.{Appends};
-ghost use Rattle.dlm.specs.Printed.{counts_text, sweep_text};
+ghost use Rattle.dlm_tasks.specs.Printed.{counts_text, sweep_text};
 
 use crate::command_failure::CommandFailure;
 use crate::fault::Fault;

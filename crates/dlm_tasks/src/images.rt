@@ -2,7 +2,7 @@ ghost use Rattle.std.specs.Prelude.{◌≡◌, true, IfOk, OnOk};
 ghost use Rattle.std.specs.Io.KnownBytes.{Appends};
 ghost use Rattle.lock_command.specs.Command.{is_submittable};
 ghost use Rattle.host.specs.declared.answer.HostAnswer.TheVariants.{Ack};
-ghost use Rattle.dlm.specs.Printed.{WritesAcknowledgement, WritesMarks, WritesMove, WritesTable, answer_line, formatted_text, marked_text, moved_text, table_text};
+ghost use Rattle.dlm_tasks.specs.Printed.{WritesAcknowledgement, WritesMarks, WritesMove, WritesTable, answer_line, formatted_text, marked_text, moved_text, table_text};
 
 use crate::command_failure::CommandFailure;
 use crate::fault::Fault;
@@ -27,7 +27,7 @@ use std::rt::Files;
 use std::time::Clock;
 
 /// How often an operation may be outrun.
-const TRIES: u8 = 8;
+pub const TRIES: u8 = 8;
 
 /// Makes the images of a cluster in a folder, and prints that it has.
 pub fn format<R: Files + AllocGlobal, O: Write>(

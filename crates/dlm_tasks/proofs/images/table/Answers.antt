@@ -2,8 +2,8 @@
 use Rattle.std.proofs.Common.{ℕ, subst}
 use Rattle.std.proofs.lemmas.Result.{on_ok_weaker}
 use Rattle.std.specs.Io.KnownBytes.{Appends}
-use Rattle.dlm.specs.Printed.{table_text}
-use Rattle.dlm.proofs.images.table.Goals as goal
+use Rattle.dlm_tasks.specs.Printed.{table_text}
+use Rattle.dlm_tasks.proofs.images.table.Goals as goal
 
 pub returns-in-Ok : goal.returns-in-Ok
 returns-in-Ok g c =

@@ -1,5 +1,5 @@
--- What the program prints.
-use Rattle.std.specs.Prelude.{◌≡◌, ◌+◌, ℕ, Bool, List, [], ◌∷◌, ◌++◌, codes, decimal, flat_map, length, sum_by, Option, Some, None, if◌then◌else◌}
+-- What is printed of events, tables, folders and sweeps.
+use Rattle.std.specs.Prelude.{◌≡◌, ◌+◌, ℕ, List, [], ◌∷◌, ◌++◌, codes, decimal, flat_map, length, sum_by, Option, Some, None}
 use Rattle.std.specs.Io.KnownBytes.{Appends}
 use Rattle.disk.specs.FileStates.{FileState, FileGives}
 use Rattle.world.specs.Entry.{Filled}
@@ -32,10 +32,7 @@ use Rattle.dlm_images.specs.Operations.{IsAcknowledged, Standing}
 use Rattle.folder_migration.specs.Migrating.{CameTo}
 use Rattle.folder_migration.specs.declared.migrate.Moved.{Moved}
 use Rattle.folder_migration.specs.declared.migrate.Moved.TheVariants.{Moved as WasMoved, Finished}
-use Rattle.race.specs.Race.{IsRace}
-use Rattle.race.specs.declared.answer.Answer.{Answer}
 use Rattle.dlm_words.specs.Text.{answer_text}
-use Rattle.dlm.specs.RaceText.{race_answer_text}
 
 -- EVENTS
 
@@ -147,29 +144,3 @@ pub record WritesSweep (bytes : List ℕ) (before after : Option (List ℕ)) : T
   pub script : Script
   pub is_script : IsScript (lines_of bytes) (content_of script)
   pub written : Appends before after (sweep_text script)
-
--- RACES
-
--- a host of a race, and what it is answered
-abbrev pub race_line : ℕ → Answer → List ℕ
-race_line host answer = codes "host " ++ decimal host ++ codes " " ++ race_answer_text answer ++ 10 ∷ []
-
--- the answers of the hosts from one on, in their order
-abbrev pub race_lines : ℕ → List Answer → List ℕ
-race_lines host [] = []
-race_lines host (answer ∷ rest) = race_line host answer ++ race_lines (host + 1) rest
-
--- whether the prefixes agree
-abbrev pub agreement_line : Bool → List ℕ
-agreement_line agree = (if agree then codes "agree" else codes "differ") ++ 10 ∷ []
-
-abbrev pub race_text : List Answer → Bool → List ℕ
-race_text answers agree = race_lines 0 answers ++ agreement_line agree
-
--- The hosts raced, and what they were answered was written, one answer a host.
-pub record WritesRace (hosts : ℕ) (before after : Option (List ℕ)) : Type 0 where
-  pub answers : List Answer
-  pub agree : Bool
-  pub each : length answers ≡ hosts
-  pub race : IsRace hosts answers agree
-  pub written : Appends before after (race_text answers agree)

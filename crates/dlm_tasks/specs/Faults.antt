@@ -1,0 +1,57 @@
+-- Which fault a task makes of a refusal of its parts.
+use Rattle.std.specs.Prelude.{ℕ}
+use Rattle.disk.specs.declared.fault.ImageFault.{ImageFault}
+use Rattle.disk.specs.declared.fault.ImageFault.TheVariants as image
+use Rattle.lock_script.specs.declared.script.ScriptFault.{ScriptFault}
+use Rattle.lock_script.specs.declared.script.ScriptFault.TheVariants as script
+use Rattle.slot_log.specs.declared.outcome.Refusal.{Refusal}
+use Rattle.dlm_images.specs.declared.fault.FolderFault.{FolderFault}
+use Rattle.dlm_images.specs.declared.fault.FolderFault.TheVariants as folder
+use Rattle.dlm_images.specs.declared.check.Finding.{Finding}
+use Rattle.dlm_images.specs.declared.check.Finding.TheVariants as found
+use Rattle.dlm_images.specs.declared.host_lock.LockFault.{LockFault}
+use Rattle.dlm_images.specs.declared.host_lock.LockFault.TheVariants as lock
+use Rattle.folder_migration.specs.declared.fault.MoveFault.{MoveFault}
+use Rattle.folder_migration.specs.declared.fault.MoveFault.TheVariants as move
+use Rattle.dlm_tasks.specs.declared.fault.Fault.{Fault}
+use Rattle.dlm_tasks.specs.declared.fault.Fault.TheVariants.{Damaged, Operation, NoMemory, BadLine, NotFormatted, WrongHeader, UnreadableImage, AlreadyThere, OldLayout, TooFewSlots, MigrationFailed, HostInUse, NoLock}
+
+-- an operation of a host was refused
+abbrev pub of_refusal : Refusal → Fault
+of_refusal refusal = Operation (record { 0 = refusal })
+
+-- the image of this number is not used
+abbrev pub of_image : ℕ → ImageFault → Fault
+of_image disk image.NotFormatted = NotFormatted disk
+of_image disk image.WrongHeader = WrongHeader disk
+of_image disk image.Unreadable = UnreadableImage disk
+of_image disk image.OldLayout = OldLayout disk
+
+abbrev pub of_script : ScriptFault → Fault
+of_script script.NoMemory = NoMemory
+of_script (script.BadLine line) = BadLine line
+
+abbrev pub of_folder : FolderFault → Fault
+of_folder folder.NoMemory = NoMemory
+of_folder folder.AlreadyThere = AlreadyThere
+of_folder (folder.Image disk fault) = of_image disk fault
+
+-- what a check of the images found
+abbrev pub of_finding : Finding → Fault
+of_finding (found.Image disk fault) = of_image disk fault
+of_finding found.Damaged = Damaged
+
+-- a host's number could not be locked
+abbrev pub of_lock : LockFault → Fault
+of_lock lock.NoMemory = NoMemory
+of_lock (lock.InUse number) = HostInUse number
+of_lock (lock.NoLock number) = NoLock number
+
+-- a log was not moved
+abbrev pub of_move : MoveFault → Fault
+of_move move.NoMemory = NoMemory
+of_move (move.Folder fault) = of_folder fault
+of_move move.TooFewSlots = TooFewSlots
+of_move (move.Lock fault) = of_lock fault
+of_move (move.Refused refusal) = of_refusal refusal
+of_move move.MigrationFailed = MigrationFailed

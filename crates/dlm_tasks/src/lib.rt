@@ -1,0 +1,13 @@
+//! What `dlm` does: it runs and sweeps scripts, and works over the images of a folder, and prints what that comes to. Races stand above it.
+#![tactic(auto)]
+
+mod command_failure;
+mod fault;
+pub mod images;
+mod run;
+mod sweeping;
+
+pub use command_failure::CommandFailure;
+pub use fault::Fault;
+pub use run::run_script;
+pub use sweeping::print_sweep;
