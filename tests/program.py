@@ -60,6 +60,13 @@ def put_byte(path, at, byte):
         file.write(bytes([byte]))
 
 
+def put_slots(image, slots):
+    """The image has a header of so many slots, and is as long."""
+    put_byte(image, 6, slots >> 8)
+    put_byte(image, 7, slots & 255)
+    os.truncate(image, ROWS + 4096 * slots)
+
+
 def put_zeros(path, length):
     with open(path, "wb") as file:
         file.write(bytes(length))
@@ -78,6 +85,12 @@ LENGTH = 73728
 @test
 def from_format_to_lost_disks():
     refused("table . 0", "dlm: 26 Unreadable disk0\n")
+    # Where one of the files is there nothing is made, and that file stays as it was; nor is anything made where there is no folder.
+    refused("format no 3 16 7", "dlm: 26 Unreadable disk0\n")
+    put_zeros("disk2.img", 9)
+    refused("format . 3 16 7", "dlm: 29 AlreadyThere\n")
+    wants("what is there", (os.listdir("."), os.path.getsize("disk2.img")), (["disk2.img"], 9))
+    os.remove("disk2.img")
     images(3, 16)
     refused("format . 3 16 7", "dlm: 29 AlreadyThere\n")
     prints("submit . 0 enqueue 1 1 1 EX db", "ack 0 Granted\n")
@@ -128,6 +141,7 @@ WRONG = [
     lambda image: put_byte(image, 16, 1),
     lambda image: put_byte(image, 1023, 1),
     lambda image: os.truncate(image, 24577),
+    lambda image: put_slots(image, 4097),
 ]
 UNFORMATTED = [
     lambda image: put_zeros(image, 1024),
@@ -146,6 +160,9 @@ def checks_of_an_image():
             shutil.copy("whole", "disk0.img")
             damage("disk0.img")
             refused("table . 0", told)
+    shutil.copy("whole", "disk0.img")
+    put_slots("disk0.img", 4096)
+    prints("table . 0", "recovered 0\nempty\n")
     shutil.copy("whole", "disk0.img")
     put_byte("disk0.img", 15, 8)
     # What stands between the header and the heartbeats is not looked at.
@@ -199,6 +216,9 @@ def headers_that_disagree():
     put_byte("disk1.img", 15, 7)
     os.remove("disk3.img")
     prints("table . 0", "recovered 0\nempty\n")
+    # An image under another disk's number is none.
+    shutil.copy("disk2.img", "disk1.img")
+    ends("check .", 1, "disk0 26 Unreadable\ndisk1 25 WrongHeader\n", "dlm: 26 Unreadable disk0\n")
 
 
 @test
@@ -299,6 +319,69 @@ def damaged_images():
     ends("check .", 1, "disk0 heartbeat host 5 damaged\ndisk0 slot 15 host 15 damaged\n" + missing, "dlm: 5 Damaged\n")
     shutil.copy("whole0", "disk0.img")
     ends("check .", 1, missing, "dlm: 24 NotFormatted disk1\n")
+
+
+# Copies of host 0 that are sound: a promise of ballot 1, a vote for the command, and a marked one.
+COPIES = [bytes.fromhex("a502" + heading + sequence + "0000000000000001" + bal + command) + bytes(48) for heading, sequence, bal, command in [
+    ("000000000000", "0000000000000001", "0000000000000000", 48 * "00"),
+    ("010000000000", "0000000000000002", "0000000000000001", COMMAND),
+    ("010100000000", "0000000000000003", "0000000000000001", COMMAND),
+]]
+LAST = 1 << 62
+
+
+def is_sound(copy):
+    """Whether an open copy of host 0 may be: by what FORMAT.md says of its bytes, one after the other."""
+    sequence, mbal, bal = (int.from_bytes(copy[at:at + 8], "big") for at in (8, 16, 24))
+    if copy[1] != 2 or copy[2] > 1 or copy[3] > copy[2] or any(copy[4:8]) or any(copy[80:]):
+        return False
+    if not 1 <= sequence <= LAST or not 1 <= mbal <= LAST or mbal % 16 != 1:
+        return False
+    if copy[2] == 0:
+        return bal == 0 and not any(copy[32:80])
+    return 1 <= bal <= mbal and bal % 16 == 1
+
+
+@test
+def each_byte_of_a_copy():
+    """Each byte of a copy but its gate is changed, in a slot of its own; and both copies are open, or one that is not sound is closed."""
+    images(1, 4096)
+    blocks = []
+    for copy in COPIES:
+        changed = [copy[:at] + bytes([byte]) + copy[at + 1:] for at in range(1, 128) for byte in (0, 1, 2, 0x11, 0x40, 0x41, 0xFF)]
+        blocks += [(other + bytes(128), is_sound(other)) for other in changed]
+        blocks += [(copy + other, copy[8:16] != other[8:16]) for other in COPIES]
+        blocks += [(b"\x5a" + copy[1:127] + b"\1" + copy, True)]
+    with open("disk0.img", "r+b") as file:
+        for slot, (block, _) in enumerate(blocks):
+            file.seek(ROWS + 4096 * slot)
+            file.write(block)
+    damaged = [f"disk0 slot {slot} host 0 damaged\n" for slot, (_, sound) in enumerate(blocks) if not sound]
+    ends("check .", 1, "".join(damaged), "dlm: 5 Damaged\n")
+
+
+@test
+def copies_of_beats():
+    """Each host's heartbeat block gets two copies; and which of these blocks are damaged."""
+    images(1, 4)
+
+    def beat(sequence, at=1, byte=2):
+        copy = bytearray((b"\xa5\2" + bytes(6) + sequence.to_bytes(8, "big")).ljust(128, b"\0"))
+        copy[at] = byte
+        return bytes(copy)
+
+    none = bytes(128)
+    blocks = [
+        (beat(1) + none, True), (none + beat(LAST), True), (beat(1) + beat(2), True), (beat(7) + beat(7), False),
+        (beat(0) + none, False), (none + beat(LAST + 1), False), (beat(1, 1, 1) + none, False), (beat(1, 1, 3) + none, False),
+        (beat(1, 2, 1) + none, False), (none + beat(1, 7, 1), False), (beat(1, 16, 1) + none, False), (none + beat(1, 127, 1), False),
+        (beat(1, 0, 0xA4) + none, True), (beat(1) + b"\xa4" + beat(0, 127, 1)[1:], True), (none + none, True), (beat(1, 64, 255) + beat(2), False),
+    ]
+    with open("disk0.img", "r+b") as file:
+        file.seek(4096)
+        file.write(b"".join(block for block, _ in blocks))
+    damaged = [f"disk0 heartbeat host {host} damaged\n" for host, (_, sound) in enumerate(blocks) if not sound]
+    ends("check .", 1, "".join(damaged), "dlm: 5 Damaged\n")
 
 
 @test

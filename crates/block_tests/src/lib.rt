@@ -1,8 +1,6 @@
-//! Tests of disks, blocks, rows, headers and beats: a crate with tests is proved twice, and this one has little to prove.
+//! Tests of files, blocks, rows and beats: a crate with tests is proved twice, and this one has little to prove.
 #![tactic(auto)]
 
-#[cfg(test)]
-mod ballots;
 #[cfg(test)]
 mod beats;
 #[cfg(test)]
@@ -10,10 +8,6 @@ mod changing;
 #[cfg(test)]
 mod files;
 #[cfg(test)]
-mod headers;
-#[cfg(test)]
 mod rows;
-#[cfg(test)]
-mod simulated;
 #[cfg(test)]
 mod torn;

@@ -4,8 +4,8 @@ ghost use Rattle.std.specs.Prelude.{◌≡◌, ◌≤◌, ◌<◌, ◌^◌, OnOk
 use disk::{Boot, Disk, DiskFault, SimDisk};
 use std::test::Fail;
 use torn_block::{
-    BODY_ROOM, BlockNeed, Body, COPY_ROOM, HEADING_LENGTH, Half, LAST_SEQUENCE, Layout1, Layout2,
-    OPEN_GATE, WriteSteps, read_block, registers, six_calls,
+    BODY_ROOM, BlockNeed, Body, COPY_ROOM, HEADING_LENGTH, Half, Layout2, OPEN_GATE, WriteSteps,
+    read_block,
 };
 
 const BLOCK_LENGTH: usize = 2 * COPY_ROOM;
@@ -119,28 +119,6 @@ fn torn_body_then_torn_gate(rt: HostRuntime) -> Result<(), Fail> {
     Ok(())
 }
 
-// Bytes of which no two are the same.
-const COUNTED: Body = Body {
-    bytes: [
-        1, 2, 3, 4, 5, 6, 7, 8, 9, 10, 11, 12, 13, 14, 15, 16, 17, 18, 19, 20, 21, 22, 23, 24, 25,
-        26, 27, 28, 29, 30, 31, 32, 33, 34, 35, 36, 37, 38, 39, 40, 41, 42, 43, 44, 45, 46, 47, 48,
-        49, 50, 51, 52, 53, 54, 55, 56, 57, 58, 59, 60, 61, 62, 63, 64, 65, 66, 67, 68, 69, 70, 71,
-        72, 73, 74, 75, 76, 77, 78, 79, 80, 81, 82, 83, 84, 85, 86, 87, 88, 89, 90, 91, 92, 93, 94,
-        95, 96, 97, 98, 99, 100, 101, 102, 103, 104, 105, 106, 107, 108, 109, 110, 111, 112, 113,
-        114, 115, 116, 117, 118, 119,
-    ],
-};
-
-// The copy of this body with sequence number 1: gate, seven bytes, the number, and the rest.
-const COUNTED_COPY: [u8; COPY_ROOM] = [
-    0xA5, 1, 2, 3, 4, 5, 6, 7, 0, 0, 0, 0, 0, 0, 0, 1, 8, 9, 10, 11, 12, 13, 14, 15, 16, 17, 18,
-    19, 20, 21, 22, 23, 24, 25, 26, 27, 28, 29, 30, 31, 32, 33, 34, 35, 36, 37, 38, 39, 40, 41, 42,
-    43, 44, 45, 46, 47, 48, 49, 50, 51, 52, 53, 54, 55, 56, 57, 58, 59, 60, 61, 62, 63, 64, 65, 66,
-    67, 68, 69, 70, 71, 72, 73, 74, 75, 76, 77, 78, 79, 80, 81, 82, 83, 84, 85, 86, 87, 88, 89, 90,
-    91, 92, 93, 94, 95, 96, 97, 98, 99, 100, 101, 102, 103, 104, 105, 106, 107, 108, 109, 110, 111,
-    112, 113, 114, 115, 116, 117, 118, 119,
-];
-
 // An open copy with this byte throughout its body.
 fn copy_of(byte: u8, sequence: u64) -> [u8; COPY_ROOM] {
     let mut copy = [byte; COPY_ROOM];
@@ -149,110 +127,17 @@ fn copy_of(byte: u8, sequence: u64) -> [u8; COPY_ROOM] {
     copy
 }
 
-fn block_of(first: &[u8; COPY_ROOM], second: &[u8; COPY_ROOM]) -> [u8; BLOCK_LENGTH] {
-    let mut block = [0; BLOCK_LENGTH];
-    block[..COPY_ROOM].copy_from_slice(first);
-    block[COPY_ROOM..].copy_from_slice(second);
-    block
-}
-
-#[test]
-fn bytes_of_a_copy(rt: HostRuntime) -> Result<(), Fail> {
-    let mut disk = SimDisk::new(rt.alloc(), BLOCK_LENGTH as u64)?;
-    write(&mut disk, &COUNTED, 6)?;
-    let (_, bytes) = opened(&mut disk)?;
-    assert_eq!(rt; bytes, block_of(&COUNTED_COPY, &[0; COPY_ROOM]));
-    assert_eq!(rt; value(&mut disk)?, Some(COUNTED));
-    Ok(())
-}
-
+// Of two open copies with one sequence number the first counts.
 #[test]
 fn which_copy_counts(rt: HostRuntime) {
-    // The sequence numbers of two open copies, and the one that counts. Of a tie it is the first.
-    let rows = [
-        (1, 2, Half::Second),
-        (2, 1, Half::First),
-        (7, 7, Half::First),
-        (255, 256, Half::Second),
-        (LAST_SEQUENCE, 1, Half::First),
-    ];
-    for (first, second, counts) in rows {
-        let block = read_block::<Layout2>(&block_of(&copy_of(1, first), &copy_of(2, second)));
-        assert_eq!(rt; block.current, Some(counts), "{first}, {second}");
-    }
-}
-
-#[test]
-fn spent_sequence_number(rt: HostRuntime) {
-    let blank = [0; COPY_ROOM];
-    for (sequence, is_spent) in [
-        (1, false),
-        (LAST_SEQUENCE - 1, false),
-        (LAST_SEQUENCE, true),
-    ] {
-        let block = read_block::<Layout2>(&block_of(&copy_of(1, sequence), &blank));
+    for (first, second, counts) in [(1, 2, Half::Second), (7, 7, Half::First)] {
+        let mut block = [0; BLOCK_LENGTH];
+        block[..COPY_ROOM].copy_from_slice(&copy_of(1, first));
+        block[COPY_ROOM..].copy_from_slice(&copy_of(2, second));
         assert_eq!(rt;
-            WriteSteps::new::<Layout2>(&block, &B).is_err(),
-            is_spent,
-            "{sequence}"
+            read_block::<Layout2>(&block).current,
+            Some(counts),
+            "{first}, {second}"
         );
     }
-}
-
-#[test]
-fn done_with_the_sixth_call(rt: HostRuntime) {
-    let blank = read_block::<Layout2>(&[0; BLOCK_LENGTH]);
-    if let Ok(mut steps) = WriteSteps::new::<Layout2>(&blank, &A) {
-        for call in 0..6 {
-            assert!(rt; !steps.is_done(), "{call}");
-            assert!(rt; steps.next().is_some(), "{call}");
-            steps.done();
-        }
-        assert!(rt; steps.is_done());
-        assert!(rt; steps.next().is_none());
-    }
-}
-
-// All calls of a write of the first layout.
-fn make(disk: &mut SimDisk, steps: &mut WriteSteps) -> Result<(), DiskFault>
-    requires disk { length disk.old.disk.bytes ≡ BLOCK_LENGTH }
-    requires steps { steps.old.size ≡ 64 }
-    ensures { length disk.new.disk.bytes ≡ BLOCK_LENGTH }
-{
-    let boot = disk.attach()?;
-    for _ in 0..6 {
-        match steps.next() {
-            None => {}
-            Some(BlockNeed::Write { at, bytes }) => disk.write(boot, at, bytes)?,
-            Some(BlockNeed::Sync) => disk.sync(boot)?,
-        }
-        steps.done();
-    }
-    Ok(())
-}
-
-// Whether the first 64 bytes are the copy, and are read as the current one.
-fn has_short_copy(bytes: &[u8; BLOCK_LENGTH]) -> bool {
-    let block = read_block::<Layout1>(&bytes[..128]);
-    bytes[..64] == COUNTED_COPY[..64] && block.current == Some(Half::First)
-}
-
-// The first 64 bytes alone are of a copy of the first layout.
-#[test]
-fn shorter_copies(rt: HostRuntime) -> Result<(), Fail> {
-    let mut disk = SimDisk::new(rt.alloc(), BLOCK_LENGTH as u64)?;
-    let blank = read_block::<Layout1>(&[0; 128]);
-    if let Ok(mut steps) = WriteSteps::new::<Layout1>(&blank, &COUNTED) {
-        make(&mut disk, &mut steps)?;
-    }
-    let (_, bytes) = opened(&mut disk)?;
-    assert!(rt; has_short_copy(&bytes));
-    Ok(())
-}
-
-// These functions do nothing when they run: their contracts are theorems.
-#[test]
-fn laws(_rt: HostRuntime) {
-    registers();
-    six_calls();
 }

@@ -1,4 +1,3 @@
-use disk::ImageFault;
 use dlm_images::{Finding, check_folder, format_folder, open_folder_to_read};
 use host::Config;
 use std::fs;
@@ -35,13 +34,6 @@ fn image_cut_off_while_checked(rt: HostRuntime) -> Result<(), Fail> {
     fs::create_dir(&rt, FOLDER)?;
     format_folder(&rt, FOLDER, Config::new(1, 4).ok_or("a size")?, 7)?;
     let mut bytes = fs::read(&rt, IMAGE)?;
-    let (printed, found) = check_cut_off(&rt, bytes.as_slice())?;
-    assert_eq!(rt; printed.as_slice(), b"disk0 26 Unreadable\n".as_slice());
-    let unreadable = Finding::Image {
-        disk: 0,
-        fault: ImageFault::Unreadable,
-    };
-    assert_eq!(rt; found, Some(unreadable));
     assert!(rt; GATE < bytes.len());
     bytes[GATE] = 0xa5;
     let (printed, found) = check_cut_off(&rt, bytes.as_slice())?;

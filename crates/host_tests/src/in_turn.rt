@@ -4,7 +4,7 @@ ghost use Rattle.lock_command.specs.Command.{is_quiet};
 use crate::replies::{GRANTED, QUEUED};
 use at_once::{Turns, submit_in_turn};
 use dlm_images::Acknowledgement;
-use host::{Config, Refusal};
+use host::Config;
 use lock_command::{
     Action, ClientNumber, Command, HostNumber, LockName, LockNumber, RequestNumber,
 };
@@ -24,9 +24,9 @@ fn exclusive(lock: LockNumber, name: LockName) -> Action
     }
 }
 
-// What the first requests of two clients get, each by a host of its own, over three disks with so many slots: a lock each on one name.
-fn in_turn(alloc: Global, slots: u16) -> Option<Turns> {
-    let config = Config::new(3, slots)?;
+// What the first requests of two clients get, each by a host of its own, over three disks: a lock each on one name.
+fn in_turn(alloc: Global) -> Option<Turns> {
+    let config = Config::new(3, 2)?;
     let zero = HostNumber::new(0)?;
     let five = HostNumber::new(5)?;
     let request = RequestNumber::new(1)?;
@@ -48,7 +48,7 @@ fn in_turn(alloc: Global, slots: u16) -> Option<Turns> {
     submit_in_turn(alloc, config, one, other, 1).ok()
 }
 
-// Both are acknowledged, each at a slot of its own, and the second waits for the first; where the log has one slot the second is refused.
+// Both are acknowledged, each at a slot of its own, and the second waits for the first.
 #[test]
 fn two_hosts_in_turn(rt: HostRuntime) -> Result<(), Fail> {
     let granted = Acknowledgement {
@@ -59,12 +59,10 @@ fn two_hosts_in_turn(rt: HostRuntime) -> Result<(), Fail> {
         slot: 1,
         reply: QUEUED,
     };
-    for (slots, second) in [(1, Err(Refusal::LogFull)), (2, Ok(queued)), (8, Ok(queued))] {
-        let want = Turns {
-            first: Ok(granted),
-            second,
-        };
-        assert_eq!(rt; in_turn(rt.alloc(), slots), Some(want));
-    }
+    let want = Turns {
+        first: Ok(granted),
+        second: Ok(queued),
+    };
+    assert_eq!(rt; in_turn(rt.alloc()), Some(want));
     Ok(())
 }

@@ -1,8 +1,8 @@
-// What `judge` says of a report in which one answer was changed by hand, and of other logs.
-use crate::replies::{GRANTED, QUEUED};
+// What `judge` says of a report in which one answer was changed by hand.
+use crate::replies::GRANTED;
 use disk::NoMemory;
 use host::HostAnswer;
-use lock_command::{Command, HostNumber};
+use lock_command::Command;
 use lock_table::Reply;
 use simulator::{Answer, Event, Report, Sim, judge, read_script};
 use std::alloc::{AllocError, Global};
@@ -16,30 +16,18 @@ submit 0 1 enqueue 2 1 2 EX db\nstep 0 17\nstart 1\nrecover 1 1\nstep 1 51\n";
 #[derive(Clone, Copy, Debug)]
 enum Change {
     Nothing,
-    LeftOut,
-    OfHost(HostNumber),
     Says(HostAnswer),
     ShowsNothing,
 }
 
-// The acknowledgements are the answers 0 and 1, the recovery is answer 2. Who was answered is not asked, nor whether
-// all that was learned was acknowledged.
+// The acknowledgements are the answers 0 and 1, the recovery is answer 2.
 #[test]
 fn judge_of_changed_reports(rt: HostRuntime) -> Result<(), Fail> {
     let log = submitted(rt.alloc(), TWO_COMMANDS).ok_or("commands")?;
-    let other = HostNumber::new(7).ok_or("a host")?;
     for (at, change, right) in [
         (0, Change::Nothing, true),
-        (0, ack(1, GRANTED), false),
         (0, ack(2, GRANTED), false),
-        (0, ack(0, QUEUED), false),
-        (1, ack(0, QUEUED), false),
         (1, ack(1, GRANTED), false),
-        (1, ack(0, GRANTED), true),
-        (1, Change::OfHost(other), true),
-        (0, Change::LeftOut, true),
-        (2, Change::LeftOut, true),
-        (2, recovered(0), false),
         (2, recovered(1), false),
         (2, recovered(3), false),
         (2, Change::ShowsNothing, false),
@@ -47,26 +35,6 @@ fn judge_of_changed_reports(rt: HostRuntime) -> Result<(), Fail> {
         let judged = judged(rt.alloc(), &log, at, change);
         assert_eq!(rt; judged, Some(right), "answer {at}: {change:?}");
     }
-    Ok(())
-}
-
-#[test]
-fn judge_of_other_logs(rt: HostRuntime) -> Result<(), Fail> {
-    let log = submitted(rt.alloc(), TWO_COMMANDS).ok_or("commands")?;
-    let [first, second] = log.as_slice() else {
-        return Err(Fail::from("two commands"));
-    };
-    let longer = [*first, *second, *second];
-    assert_eq!(rt; judged(rt.alloc(), &[], 0, Change::Nothing), Some(false));
-    assert_eq!(rt;
-        judged(rt.alloc(), &[*first], 0, Change::Nothing),
-        Some(false)
-    );
-    assert_eq!(rt;
-        judged(rt.alloc(), &[*second, *first], 0, Change::Nothing),
-        Some(false)
-    );
-    assert_eq!(rt; judged(rt.alloc(), &longer, 0, Change::Nothing), Some(true));
     Ok(())
 }
 
@@ -91,10 +59,6 @@ fn change_one(answers: &mut Vec<Answer>, at: usize, change: Change) {
     }
     match change {
         Change::Nothing => {}
-        Change::LeftOut => {
-            answers.remove(at);
-        }
-        Change::OfHost(host) => answers[at].host = host,
         Change::Says(said) => answers[at].said = said,
         Change::ShowsNothing => answers[at].picture = None,
     }

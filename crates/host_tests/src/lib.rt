@@ -1,4 +1,4 @@
-//! Tests of a host, of simulated runs, folders of images, migrations and races: a crate with tests is proved twice, and this one has little to prove.
+//! Tests of a host, of simulated runs and of folders of images: a crate with tests is proved twice, and this one has little to prove.
 #![tactic(auto)]
 
 #[cfg(test)]
@@ -12,13 +12,7 @@ mod in_turn;
 #[cfg(test)]
 mod judged;
 #[cfg(test)]
-mod laid_out;
-#[cfg(test)]
-mod moved;
-#[cfg(test)]
-mod old_images;
-#[cfg(test)]
-mod raced;
+mod laws;
 #[cfg(test)]
 mod replies;
 #[cfg(test)]

@@ -1,4 +1,4 @@
-//! Tests of the lock modes, commands, the lock table, scripts and queues: a crate with tests is proved twice, and this one has little to prove.
+//! Tests of the lock modes, commands, the lock table and queues: a crate with tests is proved twice, and this one has little to prove.
 #![tactic(auto)]
 
 #[cfg(test)]
@@ -7,7 +7,5 @@ mod command;
 mod modes;
 #[cfg(test)]
 mod queues;
-#[cfg(test)]
-mod script;
 #[cfg(test)]
 mod table;

@@ -1,6 +1,6 @@
-use inspect::{Blocking, blocking, queues};
+use inspect::queues;
 use lock_command::{
-    Action, ClientNumber, Command, HostNumber, LockName, LockNumber, RequestNumber, ValueBytes,
+    Action, ClientNumber, Command, HostNumber, LockName, LockNumber, RequestNumber,
 };
 use lock_modes::Mode;
 use lock_table::{Picture, Table};
@@ -24,15 +24,6 @@ fn enqueue(table: &mut Table, n: u8, mode: Mode, name: &[u8]) -> Result<(), Fail
         },
     };
     table.apply(&command);
-    Ok(())
-}
-
-#[test]
-fn no_locks(rt: HostRuntime) -> Result<(), Fail> {
-    let picture = Picture::room(rt.alloc())?;
-    let mut out = Vec::new(rt.alloc());
-    queues(&picture, &mut out)?;
-    assert_eq!(rt; out.as_slice(), b"empty\n".as_slice());
     Ok(())
 }
 
@@ -62,55 +53,6 @@ fn text_of(alloc: Global, picture: &Picture) -> Result<Vec<u8>, Fail> {
     let mut out = Vec::new(alloc);
     queues(picture, &mut out)?;
     Ok(out)
-}
-
-fn text_of_two_names(alloc: Global) -> Result<Vec<u8>, Fail> {
-    let picture = picture_of_two_names(alloc)?;
-    text_of(alloc, &picture)
-}
-
-#[test]
-fn two_names_in_all_states(rt: HostRuntime) -> Result<(), Fail> {
-    let out = text_of_two_names(rt.alloc())?;
-    let text =
-        b"d\n  granted 4 4 3 NL\ndb\n  granted 2 2 1 PR\n  converting 1 1 0 PR EX\n  waiting 3 3 2 EX\n";
-    assert_eq!(rt; out.as_slice(), text.as_slice());
-    Ok(())
-}
-
-/// Client 1 writes alone, and what it stores is made invalid by the purge of another writer.
-fn two_values(table: &mut Table) -> Result<(), Fail> {
-    enqueue(table, 1, Mode::Exclusive, b"a")?;
-    enqueue(table, 2, Mode::Null, b"a")?;
-    release(table, 1)?;
-    enqueue(table, 3, Mode::ProtectedWrite, b"b")?;
-    enqueue(table, 4, Mode::Null, b"b")?;
-    purge(table, 5, 2)?;
-    Ok(())
-}
-
-fn values_shown_then(alloc: Global, table: &mut Table) -> Result<Picture, Fail> {
-    two_values(table)?;
-    Ok(table.picture(alloc)?)
-}
-
-fn picture_of_two_values(alloc: Global) -> Result<Picture, Fail> {
-    let mut table = Table::new(alloc)?;
-    values_shown_then(alloc, &mut table)
-}
-
-fn text_of_two_values(alloc: Global) -> Result<Vec<u8>, Fail> {
-    let picture = picture_of_two_values(alloc)?;
-    text_of(alloc, &picture)
-}
-
-#[test]
-fn values_behind_their_names(rt: HostRuntime) -> Result<(), Fail> {
-    let out = text_of_two_values(rt.alloc())?;
-    let text =
-        b"a 0123456789abcdef0123456789abcdef\n  granted 2 2 1 NL\nb 00000000000000000000000000000000 invalid\n  granted 4 4 3 NL\n";
-    assert_eq!(rt; out.as_slice(), text.as_slice());
-    Ok(())
 }
 
 /// A writer that takes so many bytes more, and then fails.
@@ -165,34 +107,6 @@ fn writers_that_fail_at_each_byte(rt: HostRuntime) -> Result<(), Fail> {
     Ok(())
 }
 
-/// Client `n` gives its lock `n` up, and stores a value.
-fn release(table: &mut Table, n: u8) -> Result<(), Fail> {
-    let value: u128 = 0x0123456789abcdef0123456789abcdef;
-    let command = Command {
-        host: HostNumber::new(0).ok_or("host")?,
-        client: ClientNumber::new(n),
-        request: RequestNumber::new(2).ok_or("request")?,
-        action: Action::Release {
-            lock: LockNumber::new(u16::from(n)).ok_or("lock")?,
-            value: Some(ValueBytes::new(value.to_be_bytes())),
-        },
-    };
-    table.apply(&command);
-    Ok(())
-}
-
-/// Client `n` purges a host, by its first request.
-fn purge(table: &mut Table, n: u8, host: u8) -> Result<(), Fail> {
-    let command = Command {
-        host: HostNumber::new(0).ok_or("host")?,
-        client: ClientNumber::new(n),
-        request: RequestNumber::new(1).ok_or("request")?,
-        action: Action::Purge(HostNumber::new(host).ok_or("host to purge")?),
-    };
-    table.apply(&command);
-    Ok(())
-}
-
 /// Client `n` asks for another mode of its lock `n`, by its second request.
 fn convert(table: &mut Table, n: u8, mode: Mode) -> Result<(), Fail> {
     let command = Command {
@@ -207,45 +121,5 @@ fn convert(table: &mut Table, n: u8, mode: Mode) -> Result<(), Fail> {
         },
     };
     table.apply(&command);
-    Ok(())
-}
-
-/// Two clients share a name, and the first wants it alone.
-fn one_conversion(table: &mut Table) -> Result<(), Fail> {
-    enqueue(table, 1, Mode::ProtectedRead, b"a")?;
-    enqueue(table, 2, Mode::ProtectedRead, b"a")?;
-    convert(table, 1, Mode::Exclusive)?;
-    Ok(())
-}
-
-/// Who keeps whom waiting.
-fn blocking_in(alloc: Global, table: &Table) -> Result<Blocking, Fail> {
-    let picture = table.picture(alloc)?;
-    Ok(blocking(&picture))
-}
-
-/// Whether the second client stands before the first while one conversion waits, and both are told as a cycle once its own waits, too.
-fn before_and_behind(alloc: Global, table: &mut Table) -> Result<(bool, bool), Fail> {
-    one_conversion(table)?;
-    let ranked = match blocking_in(alloc, table)? {
-        Blocking::Ranked(ranks) => ranks[2] < ranks[1],
-        Blocking::Cycle(_) => false,
-    };
-    convert(table, 2, Mode::Exclusive)?;
-    let cycle = match blocking_in(alloc, table)? {
-        Blocking::Cycle(clients) => clients.as_slice() == [1u8, 2].as_slice(),
-        Blocking::Ranked(_) => false,
-    };
-    Ok((ranked, cycle))
-}
-
-fn told(alloc: Global) -> Result<(bool, bool), Fail> {
-    let mut table = Table::new(alloc)?;
-    before_and_behind(alloc, &mut table)
-}
-
-#[test]
-fn cycle_of_two_conversions(rt: HostRuntime) -> Result<(), Fail> {
-    assert_eq!(rt; told(rt.alloc())?, (true, true));
     Ok(())
 }

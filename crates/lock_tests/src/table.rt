@@ -1,13 +1,8 @@
-mod flat;
-mod random;
-mod scripts;
-mod values;
-
 use lock_command::{
-    Action, ClientNumber, Command, HostNumber, LockName, LockNumber, RequestNumber, ValueBytes,
+    Action, ClientNumber, Command, HostNumber, LockName, LockNumber, RequestNumber,
 };
 use lock_modes::Mode;
-use lock_table::{Answer, LockState, Picture, Refusal, Table, lock_numbers_are_distinct};
+use lock_table::{Answer, LockState, Picture, Refusal, Table};
 use std::alloc::Global;
 use std::test::Fail;
 
@@ -18,7 +13,6 @@ enum Ask {
     Convert(u16, Mode),
     ConvertNow(u16, Mode),
     Release(u16),
-    Cancel(u16),
     Status(u16),
     Purge(u8),
 }
@@ -33,8 +27,7 @@ fn lock(number: u16) -> Result<LockNumber, Fail> {
     Ok(LockNumber::new(number).ok_or("lock number")?)
 }
 
-/// What is asked, with what a conversion or a release stores.
-fn action(ask: Ask, value: Option<ValueBytes>) -> Result<Action, Fail> {
+fn action(ask: Ask) -> Result<Action, Fail> {
     Ok(match ask {
         Ask::Enqueue(number, mode, name) => Action::Enqueue {
             lock: lock(number)?,
@@ -46,19 +39,18 @@ fn action(ask: Ask, value: Option<ValueBytes>) -> Result<Action, Fail> {
             lock: lock(number)?,
             mode,
             no_queue: false,
-            value,
+            value: None,
         },
         Ask::ConvertNow(number, mode) => Action::Convert {
             lock: lock(number)?,
             mode,
             no_queue: true,
-            value,
+            value: None,
         },
         Ask::Release(number) => Action::Release {
             lock: lock(number)?,
-            value,
+            value: None,
         },
-        Ask::Cancel(number) => Action::Cancel(lock(number)?),
         Ask::Status(number) => Action::Status(lock(number)?),
         Ask::Purge(host) => Action::Purge(HostNumber::new(host).ok_or("host to purge")?),
     })
@@ -69,7 +61,7 @@ fn reply_to(table: &mut Table, step: &Step) -> Result<Answer, Fail> {
         host: HostNumber::new(step.0).ok_or("host")?,
         client: ClientNumber::new(step.1),
         request: RequestNumber::new(step.2).ok_or("request number")?,
-        action: action(step.3, None)?,
+        action: action(step.3)?,
     };
     Ok(table.apply(&command).answer)
 }
@@ -214,21 +206,6 @@ fn later_waiters_do_not_overtake(rt: HostRuntime) -> Result<(), Fail> {
 }
 
 #[test]
-fn settle_does_not_pass_over_a_blocked_head(rt: HostRuntime) -> Result<(), Fail> {
-    let waits = Answer::State(LockState::Waiting(READ));
-    let steps = [
-        (0, 1, 1, Ask::Enqueue(1, READ, b'a'), Answer::Granted),
-        (0, 2, 1, Ask::Enqueue(2, SHARED, b'a'), Answer::Granted),
-        (0, 3, 1, Ask::Enqueue(3, UPDATE, b'a'), Answer::Queued),
-        (0, 4, 1, Ask::Enqueue(4, READ, b'a'), Answer::Queued),
-        (0, 1, 2, Ask::Release(1), Answer::Released),
-        (0, 1, 3, Ask::Status(4), waits),
-    ];
-    assert!(rt; plays(rt.alloc(), &steps)?);
-    Ok(())
-}
-
-#[test]
 fn noqueue_and_status(rt: HostRuntime) -> Result<(), Fail> {
     let refused = Answer::Refused(Refusal::NotQueued);
     let held = Answer::State(LockState::Granted(READ));
@@ -269,21 +246,6 @@ fn purge_and_a_stale_number(rt: HostRuntime) -> Result<(), Fail> {
         (b'b', 2, 2, 0, LockState::Granted(ALONE)),
     ];
     assert!(rt; plays_to(rt.alloc(), &steps, &lines, 3)?);
-    Ok(())
-}
-
-#[test]
-fn a_lock_number_is_taken_once(rt: HostRuntime) -> Result<(), Fail> {
-    lock_numbers_are_distinct();
-    let taken = Answer::Refused(Refusal::LockInUse);
-    let steps = [
-        (0, 1, 1, Ask::Enqueue(7, READ, b'a'), Answer::Granted),
-        (0, 2, 1, Ask::Enqueue(7, READ, b'b'), taken),
-        (0, 1, 2, Ask::Release(7), Answer::Released),
-        (0, 2, 2, Ask::Enqueue(7, READ, b'b'), Answer::Granted),
-    ];
-    let lines = [(b'b', 7, 2, 0, LockState::Granted(READ))];
-    assert!(rt; plays_to(rt.alloc(), &steps, &lines, 2)?);
     Ok(())
 }
 
@@ -371,60 +333,5 @@ fn clients_full(rt: HostRuntime) -> Result<(), Fail> {
         (0, 0, 1, Ask::Status(5), unknown),
     ];
     assert!(rt; plays_behind_all_clients(rt.alloc(), &steps)?);
-    Ok(())
-}
-
-/// Each of 32 clients takes eight locks on a name of its own.
-fn fill(table: &mut Table) -> Result<bool, Fail> {
-    for client in 0..32u8 {
-        for number in 1..9u8 {
-            let ask_for = Ask::Enqueue(
-                u16::from(client) * 8 + u16::from(number),
-                NULL,
-                b'A' + client,
-            );
-            let step = (0, client, u64::from(number), ask_for, Answer::Granted);
-            if !replies(table, &[step])? {
-                return Ok(false);
-            }
-        }
-    }
-    Ok(true)
-}
-
-/// Whether the full table replies so, and then has no lock and 32 clients.
-fn ends_behind_full(alloc: Global, table: &mut Table, steps: &[Step]) -> Result<bool, Fail> {
-    Ok(fill(table)? && ends_at(alloc, table, steps, &[], 32)?)
-}
-
-fn plays_behind_full(alloc: Global, steps: &[Step]) -> Result<bool, Fail> {
-    let mut table = Table::new(alloc)?;
-    ends_behind_full(alloc, &mut table, steps)
-}
-
-#[test]
-fn a_full_table_takes_each_command(rt: HostRuntime) -> Result<(), Fail> {
-    let steps = [
-        (
-            0,
-            0,
-            9,
-            Ask::Enqueue(257, NULL, b'A'),
-            Answer::Refused(Refusal::TableFull),
-        ),
-        (0, 1, 9, Ask::Convert(9, ALONE), Answer::Granted),
-        (0, 1, 10, Ask::Convert(10, READ), Answer::Queued),
-        (0, 1, 11, Ask::Cancel(10), Answer::Cancelled),
-        (
-            0,
-            2,
-            9,
-            Ask::Status(9),
-            Answer::State(LockState::Granted(ALONE)),
-        ),
-        (0, 1, 12, Ask::Release(9), Answer::Released),
-        (0, 3, 9, Ask::Purge(0), Answer::Purged(255)),
-    ];
-    assert!(rt; plays_behind_full(rt.alloc(), &steps)?);
     Ok(())
 }

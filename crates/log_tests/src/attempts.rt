@@ -1,4 +1,4 @@
-// Attempts on slot 0, driven over simulated disks call by call: in the cluster's layout, and once in each.
+// Attempts on slot 0, driven over simulated disks call by call: in the cluster's layout, and once in the first.
 ghost use Rattle.phases.specs.Room.{RowFits};
 
 use crate::driven::{answer, blank_disks, value};
@@ -6,9 +6,7 @@ use disk::{Disk, SimDisk};
 use paxos_block::{LAST_BALLOT, block_place, image_length};
 use phases::{Attempt, End};
 use std::test::Fail;
-use torn_block::{
-    COPY_LENGTH, ClusterLayout, HOSTS, Layout, Layout1, Layout2, VALUE_LENGTH, VERSION,
-};
+use torn_block::{COPY_LENGTH, ClusterLayout, HOSTS, Layout, Layout1, VALUE_LENGTH, VERSION};
 
 /// More calls than any attempt makes.
 const ENOUGH: usize = 1000;
@@ -87,15 +85,6 @@ fn put(disk: Option<&mut SimDisk>, host: u8, copy: &[u8; COPY_LENGTH]) -> Result
     Ok(())
 }
 
-fn crash(disk: Option<&mut SimDisk>) -> Result<(), Fail> {
-    let disk = disk.ok_or("disk")?;
-    if disk.attach()?.number >= 1 << 62 {
-        return Err("boot number".into());
-    }
-    disk.crash(&[0]);
-    Ok(())
-}
-
 // Makes so many calls, or fewer where the attempt ends, and counts them.
 fn drive<const N: usize, L: Layout<Row = [u8; N]>>(
     attempt: &mut Attempt<L>,
@@ -166,34 +155,6 @@ fn latest_vote_is_adopted(rt: HostRuntime) -> Result<(), Fail> {
 }
 
 #[test]
-fn damaged_row_drops_its_disk(rt: HostRuntime) -> Result<(), Fail> {
-    // The version, the flag, the zeros behind it, and a ballot of host 1.
-    for (at, byte) in [(1, 3), (2, 2), (4, 1), (23, 2)] {
-        let mut damaged = copy_of(&HOST_0_VOTED, b'V');
-        damaged[at] = byte;
-        let mut disks = blank_disks(rt.alloc(), 3, image_length::<ClusterLayout>(1))?;
-        put(disks.get_mut(1), 0, &damaged)?;
-        let mut attempt = Attempt::<ClusterLayout>::new(0, 0, 3, 0, Some(value(b'W')));
-        // Three openings, and two disks for the rest.
-        assert_eq!(rt; drive(&mut attempt, &mut disks, ENOUGH), 37);
-        assert_eq!(rt; attempt.end(), Some(End::Committed(value(b'W'))));
-    }
-    Ok(())
-}
-
-#[test]
-fn crash_between_two_calls_of_a_write(rt: HostRuntime) -> Result<(), Fail> {
-    let mut disks = blank_disks(rt.alloc(), 3, image_length::<ClusterLayout>(1))?;
-    let mut attempt = Attempt::<ClusterLayout>::new(0, 0, 3, 0, Some(value(b'V')));
-    assert_eq!(rt; drive(&mut attempt, &mut disks, 12), 12);
-    crash(disks.get_mut(0))?;
-    // The write's fourth call is refused, and two disks are left.
-    assert_eq!(rt; drive(&mut attempt, &mut disks, ENOUGH), 29);
-    assert_eq!(rt; attempt.end(), Some(End::Committed(value(b'V'))));
-    Ok(())
-}
-
-#[test]
 fn spent_blocks_are_not_written(rt: HostRuntime) -> Result<(), Fail> {
     let rows = [
         (&[1].as_slice(), 37, End::Committed(value(b'V'))),
@@ -215,17 +176,15 @@ fn spent_blocks_are_not_written(rt: HostRuntime) -> Result<(), Fail> {
 
 #[test]
 fn ballots_come_to_an_end(rt: HostRuntime) -> Result<(), Fail> {
+    let committed = End::Committed(value(b'V'));
     let rows = [
-        (
-            LAST_BALLOT - STEP,
-            LAST_BALLOT - STEP + 1,
-            End::Committed(value(b'V')),
-        ),
-        (LAST_BALLOT - STEP + 1, 0, End::BallotsSpent),
+        (0, LAST_BALLOT - STEP, LAST_BALLOT - STEP + 1, committed),
+        (0, LAST_BALLOT - STEP + 1, 0, End::BallotsSpent),
+        (15, LAST_BALLOT - 1, LAST_BALLOT, committed),
     ];
-    for (floor, ballot, end) in rows {
+    for (host, floor, ballot, end) in rows {
         let mut disks = blank_disks(rt.alloc(), 1, image_length::<ClusterLayout>(1))?;
-        let mut attempt = Attempt::<ClusterLayout>::new(0, 0, 1, floor, Some(value(b'V')));
+        let mut attempt = Attempt::<ClusterLayout>::new(host, 0, 1, floor, Some(value(b'V')));
         drive(&mut attempt, &mut disks, ENOUGH);
         assert_eq!(rt; attempt.ballot(), ballot);
         assert_eq!(rt; attempt.end(), Some(end));
@@ -233,50 +192,25 @@ fn ballots_come_to_an_end(rt: HostRuntime) -> Result<(), Fail> {
     Ok(())
 }
 
-#[test]
-fn faster_host_ends_an_attempt(rt: HostRuntime) -> Result<(), Fail> {
-    let mut disks = blank_disks(rt.alloc(), 1, image_length::<ClusterLayout>(1))?;
-    let mut slow = Attempt::<ClusterLayout>::new(0, 0, 1, 0, Some(value(b'V')));
-    assert_eq!(rt; drive(&mut slow, &mut disks, 16), 16);
-    let mut fast = Attempt::<ClusterLayout>::new(1, 0, 1, 0, Some(value(b'W')));
-    // The slow host's vote stands, so the faster one takes it over.
-    assert_eq!(rt; drive(&mut fast, &mut disks, ENOUGH), 17);
-    assert_eq!(rt; fast.end(), Some(End::Committed(value(b'V'))));
-    assert_eq!(rt; drive(&mut slow, &mut disks, ENOUGH), 1);
-    assert_eq!(rt; slow.end(), Some(End::Outrun(2)));
-    Ok(())
-}
-
+// Of several marked blocks the first by disk and then by host counts.
 #[test]
 fn marked_block_ends_an_attempt(rt: HostRuntime) -> Result<(), Fail> {
-    let mut marked = copy_of(&HOST_1_VOTED, b'W');
-    marked[3] = 1;
+    let mut first = copy_of(&HOST_1_VOTED, b'W');
+    first[3] = 1;
+    let mut last = copy_of(&HOST_1_VOTED, b'Y');
+    last[3] = 1;
+    last[23] = 4;
+    last[31] = 4;
     // A spent ballot is not looked at then.
-    for (floor, on, calls) in [(0, 0, 9), (0, 2, 9), (LAST_BALLOT, 1, 9)] {
+    for (floor, on) in [(0, 0), (0, 2), (LAST_BALLOT, 1)] {
         let mut disks = blank_disks(rt.alloc(), 3, image_length::<ClusterLayout>(1))?;
         put(disks.get_mut(0), 0, &copy_of(&HOST_0_VOTED, b'V'))?;
-        put(disks.get_mut(on), 1, &marked)?;
+        put(disks.get_mut(on), 1, &first)?;
+        put(disks.get_mut(2), 3, &last)?;
         let mut attempt = Attempt::<ClusterLayout>::new(2, 0, 3, floor, Some(value(b'X')));
-        assert_eq!(rt; drive(&mut attempt, &mut disks, ENOUGH), calls);
+        assert_eq!(rt; drive(&mut attempt, &mut disks, ENOUGH), 9);
         assert_eq!(rt; attempt.end(), Some(End::Decided(value(b'W'))));
         assert_eq!(rt; attempt.ballot(), 0);
-    }
-    Ok(())
-}
-
-#[test]
-fn other_marks_are_damage(rt: HostRuntime) -> Result<(), Fail> {
-    // A mark of 2, and one without an input.
-    let mut twice = copy_of(&HOST_0_VOTED, b'V');
-    twice[3] = 2;
-    let mut bare = copy_of(&SPENT, 0);
-    bare[3] = 1;
-    for damaged in [twice, bare] {
-        let mut disks = blank_disks(rt.alloc(), 1, image_length::<ClusterLayout>(1))?;
-        put(disks.get_mut(0), 0, &damaged)?;
-        let mut attempt = Attempt::<ClusterLayout>::new(0, 0, 1, 0, Some(value(b'W')));
-        assert_eq!(rt; drive(&mut attempt, &mut disks, ENOUGH), 3);
-        assert_eq!(rt; attempt.end(), Some(End::NoMajority));
     }
     Ok(())
 }
@@ -292,19 +226,5 @@ fn eight_hosts_of_layout_1(rt: HostRuntime) -> Result<(), Fail> {
     assert_eq!(rt; drive(&mut first, &mut disks, ENOUGH), 17);
     assert_eq!(rt; first.ballot(), 9);
     assert_eq!(rt; first.end(), Some(End::Committed([0x56; 32])));
-    Ok(())
-}
-
-// The same of sixteen.
-#[test]
-fn sixteen_hosts_of_layout_2(rt: HostRuntime) -> Result<(), Fail> {
-    let mut disks = blank_disks(rt.alloc(), 1, image_length::<Layout2>(1))?;
-    let mut last = Attempt::<Layout2>::new(15, 0, 1, 0, Some([0x56; 48]));
-    assert_eq!(rt; drive(&mut last, &mut disks, ENOUGH), 17);
-    assert_eq!(rt; last.ballot(), 16);
-    let mut first = Attempt::<Layout2>::new(0, 0, 1, 0, Some([0x57; 48]));
-    assert_eq!(rt; drive(&mut first, &mut disks, ENOUGH), 17);
-    assert_eq!(rt; first.ballot(), 17);
-    assert_eq!(rt; first.end(), Some(End::Committed([0x56; 48])));
     Ok(())
 }

@@ -1,4 +1,4 @@
-// What attempts and learners have in common that are driven over simulated disks.
+// What drives attempts over simulated disks.
 ghost use Rattle.std.specs.Prelude.{◌≤◌, ◌+◌, ℕ, List, length};
 ghost use Rattle.std.specs.Bool.{OnTrue};
 ghost use Rattle.torn_block.specs.Layout.{Version};

@@ -1,0 +1,5 @@
+# An enqueue names what it locks. The line is named and nothing is run.
+cluster 2 4
+start 0
+submit 0 1 enqueue 1 1 1 EX
+show 0
