@@ -6,7 +6,7 @@ set -euo pipefail
 here=$(cd -- "$(dirname -- "$(readlink -f -- "${BASH_SOURCE[0]}")")" && pwd)
 top=$(dirname -- "$here")
 if ! command -v cc > /dev/null; then
-    echo "capi/check.sh: there is no C compiler, so nothing was tried"
+    echo "left out: capi/check.sh, the library for C: no C compiler (cc)"
     exit 0
 fi
 work=$(mktemp -d)
@@ -60,7 +60,7 @@ if [[ -x $dlm ]]; then
     tried "dlm reads it" bash -c '"$1" table "$2" 3 | cmp - <(printf "recovered 18\nempty\n")' _ "$dlm" "$work/images"
     tried "dlm check" bash -c '"$1" check "$2" | cmp - <(echo sound)' _ "$dlm" "$work/images"
 else
-    left_out "dlm on the same folder: it is not built"
+    left_out "dlm on the same folder: the program is not built"
 fi
 
 # Each allocation is refused in turn.
