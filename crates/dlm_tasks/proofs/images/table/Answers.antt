@@ -12,10 +12,10 @@ returns-in-Ok g c =
     let shown = c.table.result.now in
     on_ok_weaker c.print_table.result
     (λ written. record {
-      old = c.in_ok.host;
+      old = c.in_ok-host.host;
       new = c.recover.new.self;
       shown = shown;
-      started = c.host_over.ensures.fresh;
+      started = c.in_ok-host.ensures.fresh;
       recovers = c.recover.ensures.operated;
       picture = c.table.ensures;
       written = subst (λ (count : ℕ). Appends before after (table_text count shown)) c.in-Ok.ensures.learned written;
