@@ -122,7 +122,8 @@ for page in page page_value manual; do
     in_folder ./format images 64
     for run in first second; do
         tried "$page, $run run" in_folder "./$page"
-        [[ $page == page_value ]] || tried "$page, $run run has the lock" grep -qx 'db is ours' "$work/out.txt"
+        cp -- "$work/out.txt" "$work/said.txt"
+        [[ $page == page_value ]] || tried "$page, $run run has the lock" grep -qx 'db is ours' "$work/said.txt"
     done
     folder
     in_folder ./format images 64
@@ -130,7 +131,9 @@ for page in page page_value manual; do
     folder
     in_folder ./format images 1
     tried "$page, full log" in_folder bash -c './leaves && ! ./"$1"' _ "$page"
-    tried "$page, full log: no lock" bash -c '! grep -q "db is ours" "$1"' _ "$work/out.txt"
+    cp -- "$work/out.txt" "$work/said.txt"
+    tried "$page, full log: it says so" grep -qx 'all slots of the log are taken; move to a new folder' "$work/said.txt"
+    tried "$page, full log: no lock" bash -c '! grep -q "db is ours" "$1"' _ "$work/said.txt"
 done
 
 # A host dies, and the other goes on.

@@ -13,15 +13,16 @@
 int main(int argc, char **argv) {
     struct mg_host *host;
     struct mg_answer answer;
-    int status;
+    int status, set;
     if (argc != 3)
         return 2;
+    set = atoi(argv[2]);
     for (int descriptor = 0; descriptor < 3; descriptor++)
-        if (atoi(argv[2]) >> descriptor & 1)
+        if (set >> descriptor & 1)
             close(descriptor);
     if (mg_open(argv[1], 0, &host, NULL) != MG_OK)
         return 1;
-    status = mg_enqueue(host, 1, (uint64_t)atoi(argv[2]), 1, MG_EX, "db", 0, &answer);
+    status = mg_enqueue(host, 1, (uint64_t)set, (unsigned)set, MG_NL, "db", 0, &answer);
     printf("what is printed is longer than a header's first bytes: %d %d\n", status, answer.reply);
     fprintf(stderr, "and so is this, whatever it says\n");
     fflush(stdout);
