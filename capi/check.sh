@@ -6,7 +6,7 @@ set -euo pipefail
 here=$(cd -- "$(dirname -- "$(readlink -f -- "${BASH_SOURCE[0]}")")" && pwd)
 top=$(dirname -- "$here")
 if ! command -v cc > /dev/null; then
-    echo "capi/check.sh: there is no C compiler, so nothing was tried"
+    echo "left out: capi/check.sh, the library for C: no C compiler (cc)"
     exit 0
 fi
 work=$(mktemp -d)
@@ -60,7 +60,7 @@ if [[ -x $dlm ]]; then
     tried "dlm reads it" bash -c '"$1" table "$2" 3 | cmp - <(printf "recovered 18\nempty\n")' _ "$dlm" "$work/images"
     tried "dlm check" bash -c '"$1" check "$2" | cmp - <(echo sound)' _ "$dlm" "$work/images"
 else
-    left_out "dlm on the same folder: it is not built"
+    left_out "dlm on the same folder: the program is not built"
 fi
 
 # Each allocation is refused in turn.
@@ -78,6 +78,64 @@ tried "images, built" cc -std=c99 $common "$here/tests/images.c" $flags -o "$wor
 folder
 tried "images" "$work/images_test" "$work/images" "$dlm"
 
+# Standard input, output and error are closed, in each of seven ways: no image's header changes.
+tried "closed, built" cc -std=c99 $common "$here/tests/closed.c" $flags -o "$work/closed"
+tried "format, built" cc -std=c99 $common -x c - $flags -o "$work/format" << 'END'
+#include <midgegalena.h>
+#include <stdlib.h>
+int main(int argc, char **argv) { return argc == 3 && mg_format(argv[1], 3, (unsigned)atoi(argv[2]), 7, NULL) == MG_OK ? 0 : 1; }
+END
+headers() { for disk in 0 1 2; do head -c 4096 -- "$work/images/disk$disk.img"; done | sha256sum; }
+folder
+tried "format" "$work/format" "$work/images" 64
+wanted=$(headers)
+for set in 1 2 3 4 5 6 7; do
+    tried "closed $set" "$work/closed" "$work/images" "$set"
+    tried "headers after closed $set" test "$(headers)" = "$wanted"
+done
+
+# A host dies before it has marked its release: a wait ends all the same.
+if command -v rt > /dev/null; then
+    kit=$(dirname -- "$(dirname -- "$(readlink -f -- "$(command -v rt)")")")/c
+    tried "unmarked, built" cc -std=c99 $common "$here/tests/unmarked.c" "$top/crates/dlm_c/out/libdlm_c.a" "$kit/libos_c.a" "$kit/liblibc_c.a" -o "$work/unmarked"
+    folder
+    tried "unmarked" "$work/unmarked" "$work/images"
+fi
+
+# The programs of the pages: twice, after a run that left its lock, and with a full log.
+sed -n '/^```c$/,/^```$/ { /^```/!p }' "$top/docs/LIBRARY.md" | awk '/^ *struct mg_value value;$/ { value = 1 } { print > (value ? "'"$work"'/value.part" : "'"$work"'/page.c") }'
+sed -e '/^        puts("db is ours");$/ { r '"$work/value.part" -e 'N; d; }' "$work/page.c" > "$work/page_value.c"
+sed -n '/^\.Sh EXAMPLES$/,/^\.Ed$/ { /^\./!p }' "$top/man/midgegalena.3" | sed 's/\\e/\\/g' > "$work/manual.c"
+cat > "$work/leaves.c" << 'END'
+#include <midgegalena.h>
+int main(void) {
+    struct mg_host *host;
+    struct mg_answer answer;
+    return mg_open("images", 0, &host, NULL) != MG_OK || mg_enqueue(host, 1, 1, 1, MG_EX, "db", 0, &answer) != MG_OK;
+}
+END
+tried "leaves, built" cc -std=c99 $common "$work/leaves.c" $flags -o "$work/leaves"
+in_folder() { (cd -- "$work" && "$@"); }
+for page in page page_value manual; do
+    tried "$page, built" cc -std=c99 $common "$work/$page.c" $flags -o "$work/$page"
+    folder
+    in_folder ./format images 64
+    for run in first second; do
+        tried "$page, $run run" in_folder "./$page"
+        cp -- "$work/out.txt" "$work/said.txt"
+        [[ $page == page_value ]] || tried "$page, $run run has the lock" grep -qx 'db is ours' "$work/said.txt"
+    done
+    folder
+    in_folder ./format images 64
+    tried "$page after one that was killed" in_folder bash -c './leaves && ./"$1"' _ "$page"
+    folder
+    in_folder ./format images 1
+    tried "$page, full log" in_folder bash -c './leaves && ! ./"$1"' _ "$page"
+    cp -- "$work/out.txt" "$work/said.txt"
+    tried "$page, full log: it says so" grep -qx 'all slots of the log are taken; move to a new folder' "$work/said.txt"
+    tried "$page, full log: no lock" bash -c '! grep -q "db is ours" "$1"' _ "$work/said.txt"
+done
+
 # A host dies, and the other goes on.
 tried "failover, built" cc -std=c99 $common "$here/examples/c/failover.c" $flags -o "$work/failover"
 folder
@@ -91,6 +149,8 @@ if command -v python3 > /dev/null; then
     tried "python" env PYTHONDONTWRITEBYTECODE=1 python3 "$here/examples/python/turns.py" "$PREFIX/lib/libmidgegalena.so" "$work/images"
     cp -- "$work/out.txt" "$work/said.txt"
     tried "what python says" diff "$work/said.txt" "$here/examples/python/turns.out"
+    folder
+    tried "python, killed" env PYTHONDONTWRITEBYTECODE=1 python3 "$here/tests/killed.py" "$PREFIX/lib/libmidgegalena.so" "$work/images"
 else
     left_out "Python: there is none"
 fi

@@ -222,7 +222,7 @@ def main():
         if given.calls:
             shim = lock_log.built_shim(built)
             if not shim:
-                print("at_once.py: no C compiler (cc), so no calls are slowed down or parted")
+                print("left out: at_once.py, calls that are slowed down or parted: no C compiler (cc)")
                 return 0
             given.env |= {"LD_PRELOAD": shim} | dict(word.split("=", 1) for word in given.calls.split())
         return run_rounds(given)

@@ -27,7 +27,7 @@ add() {
     local file=$work/behind${#devices[@]} device
     truncate -s "$1" -- "$file"
     device=$(losetup --show -f -- "$file" 2>/dev/null) || {
-        echo "devices.sh: no loop devices (or no root), so no block device is tried"
+        echo "left out: devices.sh, block devices: no loop devices, or no root"
         exit 0
     }
     devices+=("$device")

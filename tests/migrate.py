@@ -298,7 +298,7 @@ int fdatasync(int fd) {
 def built_failing():
     """The path of the library, or None where there is no C compiler."""
     if not shutil.which("cc"):
-        print("migrate.py: no C compiler (cc), so no call is made to fail")
+        print("left out: migrate.py, calls that fail: no C compiler (cc)")
         return None
     with open("failing.c", "w", encoding="ascii") as file:
         file.write(FAILING)

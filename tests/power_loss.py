@@ -333,7 +333,7 @@ def main():
     with tempfile.TemporaryDirectory(dir=where) as work:
         shim = lock_log.built_shim(work)
         if not shim:
-            print("power_loss.py: no C compiler (cc), so no loss of power is tried")
+            print("left out: power_loss.py, losses of power: no C compiler (cc)")
             return 0
         walk = Walk(given, work, shim)
         if given.format:

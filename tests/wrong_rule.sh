@@ -1,25 +1,25 @@
 #!/usr/bin/env bash
-# wrong_rule.sh: a sweep finds what is wrong. In a copy of the crates a sync makes nothing safe (simulator/wrong/sync_left_out.edit); the
-# copy's dlm, of which nothing is proved, sweeps a script of two submissions. Crashes then lose the first one after it was acknowledged,
-# so that runs have to be wrong. It takes a minute or two.
+# wrong_rule.sh: a sweep finds what is wrong. In a copy of the crates a sync makes nothing safe (simulator/wrong/sync_left_out.edit). The copy's
+# dlm, of which nothing is proved, sweeps scripts of tests/sweep. Crashes then lose what was acknowledged, so that runs have to be wrong: as many
+# as another program counts under that rule, and the same one first (tests/sweep_wrong.txt: the script, what is printed and told).
+# It takes two minutes or so.
 set -uo pipefail
 
-top=$(dirname -- "$(dirname -- "$(readlink -f -- "${BASH_SOURCE[0]}")")")
+tests=$(dirname -- "$(readlink -f -- "${BASH_SOURCE[0]}")")
 work=$(mktemp -d)
 trap 'rm -r -- "$work"' EXIT
 
-mkdir "$work/crates"
-cp -- "$top/crates.txt" "$work/"
-[[ ! -e $top/HANDLES ]] || cp -- "$top/HANDLES" "$work/"
-for crate in "$top"/crates/*/; do
+mkdir -- "$work/crates" "$work/compiled"
+cp -- "$tests/../"{crates.txt,HANDLES} "$work/"
+for crate in "$tests/../crates/"*/; do
     name=$(basename -- "$crate")
-    mkdir "$work/crates/$name"
+    mkdir -- "$work/crates/$name"
     for part in src specs proofs; do
         [[ ! -d $crate$part ]] || cp -r -- "$crate$part" "$work/crates/$name/"
     done
 done
 
-edit=$top/crates/simulator/wrong/sync_left_out.edit
+edit=$tests/../crates/simulator/wrong/sync_left_out.edit
 file=$work/crates/simulator/$(sed -n 's/^file: //p' "$edit")
 right=$(sed -n 's/^old: //p' "$edit")
 wrong=$(sed -n 's/^new: //p' "$edit")
@@ -28,17 +28,25 @@ if [[ $source != *"$right"* ]]; then
     echo "the rule does not stand in $file"
     exit 1
 fi
-printf '%s\n' "${source/"$right"/"$wrong"}" >"$file"
+printf '%s\n' "${source/"$right"/"$wrong"}" > "$file"
 
-printf 'cluster 1 4\nstart 0\nsubmit 0 1 enqueue 1 1 10 EX db\nstep 0 17\nsubmit 0 1 enqueue 2 1 11 EX db\nstep 0 17\n' >"$work/script"
-(cd -- "$work/crates/dlm" && rt try --data "script=$work/script" -- sweep script) </dev/null >"$work/out" 2>"$work/told"
+top=$work
+source "$tests/../unproved.sh"
+compile_unproved "$work/compiled" dlm || exit 1
 
-printed=$(<"$work/out")
-first=$(sed -n 's/^dlm: 31 WrongRun //p' "$work/told")
-if [[ $printed =~ ^138\ runs,\ [0-9]+\ recovered,\ ([0-9]+)\ wrong$ && ${BASH_REMATCH[1]} -gt 0 && $first =~ ^[0-9]+$ && $first -lt 138 ]]; then
-    echo "a wrong rule is found: $printed, the first is $first"
-else
-    echo "a wrong rule is not found: $printed"
-    tail -n 20 -- "$work/told"
-    exit 1
-fi
+printf 'cluster 1 4\nstart 0\nsubmit 0 1 enqueue 1 1 10 EX db\nstep 0 17\nsubmit 0 1 enqueue 2 1 11 EX db\nstep 0 17\n' > "$work/two_submissions.dlm"
+swept=0
+differ=0
+while IFS=: read -r name wanted; do
+    script=$tests/sweep/$name.dlm
+    [[ $name != two_submissions ]] || script=$work/two_submissions.dlm
+    found=$("$work/compiled/made" sweep "$script" 2> "$work/told" < /dev/null) || true
+    found=" $found $(<"$work/told")"
+    swept=$((swept + 1))
+    if [[ ${found%"${found##*[! ]}"} != "${wanted%"${wanted##*[! ]}"}" ]]; then
+        echo "$name:$found, and not$wanted"
+        differ=$((differ + 1))
+    fi
+done < <(echo 'two_submissions: 138 runs, 276 recovered, 34 wrong dlm: 31 WrongRun 70' && cat -- "$tests/sweep_wrong.txt")
+echo "a wrong rule is found: $swept sweeps, $differ differ"
+[[ $differ -eq 0 && $swept -gt 1 ]]

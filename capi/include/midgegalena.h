@@ -193,7 +193,8 @@ int mg_look(struct mg_host *host, uint64_t *learned);
 int mg_mark(struct mg_host *host, uint64_t *learned);
 
 /* Looks until a lock waits and converts no longer. Between looks it sleeps, 1 millisecond at first, then twice as long each
- * time, but never longer than `interval` milliseconds. It never recovers: see mg_look, and call mg_mark where a wait is long.
+ * time, but never longer than `interval` milliseconds. Where no look has learned anything for two seconds, or by chance up to
+ * four, it does what mg_mark does: a command that its host left without a mark would stop every look.
  *
  * MG_OK: the lock holds the mode `*granted`, where that is not NULL, and wants no other: it was granted, or a conversion was
  * cancelled and left it what it held. MG_NO_SUCH_LOCK: it is gone: cancelled, released or purged. MG_TIMED_OUT after

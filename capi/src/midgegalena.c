@@ -204,13 +204,19 @@ const char *mg_version(void) { return VERSION_OF(MG_VERSION_MAJOR, MG_VERSION_MI
 
 /* ---- files: as FileDisk of crates/disk ---- */
 
-enum { MOST_READS = 9, BOOT = 1, NO_FILE = -1 };
+enum { MOST_READS = 9, BOOT = 1, NO_FILE = -1, LEAST_FILE = 3 };
 
+/* Never 0, 1 or 2: where the program has closed one of these, what it or another library prints would go into the image. */
 static int open_file(const char *path, int flags) {
-    int file;
+    int file, low;
     do
         file = open(path, flags | O_CLOEXEC | O_NOCTTY, 0666);
     while (file < 0 && errno == EINTR);
+    if (file < 0 || file >= LEAST_FILE)
+        return file;
+    low = file;
+    file = fcntl(low, F_DUPFD_CLOEXEC, LEAST_FILE);
+    close(low);
     return file;
 }
 
@@ -760,18 +766,45 @@ int mg_mark(struct mg_host *host, uint64_t *learned) {
     return status;
 }
 
+/* Without news for so long a wait recovers, for a command may be in the log without a mark, which stops every look. */
+enum { BEFORE_A_RECOVERY = 2000 }; /* milliseconds, and by chance up to as many more: hosts wait at the same time */
+
+static int64_t time_of_recovery(void) {
+    uint32_t part;
+    if (getrandom(&part, sizeof part, 0) != (ssize_t)sizeof part)
+        part = 0;
+    return milliseconds() + BEFORE_A_RECOVERY + part % BEFORE_A_RECOVERY;
+}
+
+/* A look, or where no look has learned anything for long, a recovery that is marked for all. */
+static int look_further(struct mg_host *host, int64_t *recovers) {
+    uint64_t learned = learned_by(host);
+    int status = mg_look(host, NULL);
+    if (status != MG_OK)
+        return status;
+    if (learned_by(host) == learned) {
+        if (milliseconds() < *recovers)
+            return MG_OK;
+        status = mg_mark(host, NULL);
+    }
+    *recovers = time_of_recovery();
+    /* An outrun recovery is another host's: its marks come. */
+    return status == MG_OUTRUN ? MG_OK : status;
+}
+
 int mg_wait(struct mg_host *host, unsigned lock, int interval, int timeout, int *granted) {
-    int64_t start;
+    int64_t start, recovers;
     int64_t pause = 1;
     if (granted)
         *granted = MG_NONE;
     if (!host || interval < 1)
         return MG_BAD_ARGUMENT;
     start = milliseconds();
+    recovers = time_of_recovery();
     for (;;) {
         struct mg_lock_view view;
         int64_t nap = pause;
-        int status = mg_look(host, NULL);
+        int status = look_further(host, &recovers);
         if (status != MG_OK)
             return status;
         status = mg_lock(host, lock, &view);

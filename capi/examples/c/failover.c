@@ -3,8 +3,9 @@
  *
  *   failover FOLDER      an empty folder
  *
- * Who may say that a host is dead? Here it is a child process, and waitpid tells. In a cluster it is whoever can stop a
- * machine for good: nobody in this library can, and a host that lives on after its locks were purged does harm.
+ * Who may say that a host is dead? On one machine whoever opens the folder under its number: no process has that then, and
+ * none gets it. In a cluster it is whoever can stop a machine for good: nobody in this library can, and a host that lives on
+ * after its locks were purged does harm.
  */
 #include <midgegalena.h>
 
@@ -39,7 +40,7 @@ static void work_as_first(const char *folder, int told) {
 }
 
 int main(int argc, char **argv) {
-    struct mg_host *host;
+    struct mg_host *host, *dead;
     struct mg_answer answer;
     char text[MG_TEXT_SIZE];
     int between[2], status, mode;
@@ -71,8 +72,10 @@ int main(int argc, char **argv) {
         return 1;
     puts("host 0: dead");
 
-    /* The request number goes up with each command of a client. */
+    /* Whoever has the dead host's number knows that no process works under it. The request number goes up with each command of a client. */
+    check("open as host 0", mg_open(argv[1], FIRST, &dead, NULL));
     check("purge", mg_purge(host, SECOND, 2, FIRST, &answer));
+    mg_close(dead);
     printf("host 1: took %u lock away\n", (unsigned)answer.purged);
     check("wait", mg_wait(host, LOCK_OF_SECOND, 20, 1000, &mode));
     printf("host 1: holds db in mode %d\n", mode);

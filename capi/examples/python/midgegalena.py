@@ -10,7 +10,7 @@ from contextlib import contextmanager
 from ctypes import POINTER, Structure, byref, c_char_p, c_int, c_int32, c_size_t, c_uint, c_uint8, c_uint32, c_uint64, c_void_p
 
 NL, CR, CW, PR, PW, EX = range(6)
-OK, OUTRUN, TIMED_OUT, NOT_QUEUED, NO_SUCH_LOCK = 0, 6, -2, 16, 12
+OK, OUTRUN, NO_MAJORITY, TIMED_OUT, NOT_QUEUED, NO_SUCH_LOCK = 0, 6, 7, -2, 16, 12
 NO_QUEUE = 1
 GRANTED = 1
 VALID = 1
@@ -63,17 +63,27 @@ class Refused(Exception):
 
 
 class Cluster:
-    """One host of a folder, and one client of it. For one thread."""
+    """One host of a folder, and one client of it. For one thread.
 
-    def __init__(self, folder, host, client, library=None):
+    It begins by releasing what an earlier run of this client left, as one that was killed; with `keep` it leaves that as it is."""
+
+    def __init__(self, folder, host, client, library=None, keep=False):
         self.lib = load(library)
         self.client = client
         self.left = {}
+        # The locks that the log may have, and that nobody here holds.
+        self.in_doubt = set()
         self.handle = c_void_p()
         self._check(self.lib.mg_open(os.fsencode(folder), host, byref(self.handle), None))
-        # Go on above the client's last request number, and above its lock numbers.
-        self._until_done(lambda: self.lib.mg_refresh(self.handle, None))
-        self.request = next((known.request for known in self._clients() if known.client == client), 0)
+        try:
+            # Go on above the client's last request number.
+            self._until_done(lambda: self.lib.mg_refresh(self.handle, None))
+            self.request = next((known.request for known in self._clients() if known.client == client), 0)
+            if not keep:
+                self._release_each(lock for _, lock, owner, _, _ in self.locks() if owner == client)
+        except BaseException:
+            self.close()
+            raise
 
     def __enter__(self):
         return self
@@ -127,8 +137,13 @@ class Cluster:
         # Each client has numbers of its own, so that no two of them choose the same one at once.
         return next(n for n in range(1 + 200 * self.client, 201 + 200 * self.client) if n not in taken)
 
+    def _release_each(self, locks):
+        for lock in list(locks):
+            self._release(lock)
+
     def _release(self, lock):
-        request, value = self._next_request(), self.left.pop(lock, None)
+        request, value = self._next_request(), self.left.get(lock)
+        self.in_doubt.add(lock)
         try:
             if value is None:
                 self._until_done(lambda: self.lib.mg_release(self.handle, self.client, request, lock, None))
@@ -137,11 +152,14 @@ class Cluster:
         except Refused as why:
             if why.status != NO_SUCH_LOCK:
                 raise
+        self.in_doubt.discard(lock)
+        self.left.pop(lock, None)
 
     @contextmanager
     def lock(self, name, mode=EX, timeout=None):
         """Holds a lock on a name. With a timeout, in seconds, it raises TimeoutError where it was not granted by then; a timeout
         of 0 does not queue at all."""
+        self._release_each(self.in_doubt)
         lock, request, answer = self._free_number(), self._next_request(), Answer()
         flags = NO_QUEUE if timeout == 0 else 0
         try:
@@ -151,6 +169,9 @@ class Cluster:
         except Refused as why:
             if why.status == NOT_QUEUED:
                 raise TimeoutError(f"{name} is taken") from None
+            if why.status == NO_MAJORITY:
+                # Its command may be in the log, or come into it.
+                self.in_doubt.add(lock)
             raise
         try:
             if answer.reply != GRANTED:

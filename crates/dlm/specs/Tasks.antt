@@ -12,8 +12,8 @@ abbrev pub HasPrinted : Subcommand → Option (List ℕ) → Option (List ℕ) �
 HasPrinted (Run script) before after = ⊤
 HasPrinted (Sweep script) before after = (bytes : List ℕ) × WritesSweep bytes before after
 HasPrinted (Format folder config cluster) before after = Appends before after (formatted_text config)
-HasPrinted (Submit folder command) before after = WritesAcknowledgement command before after
-HasPrinted (Table folder host) before after = WritesTable before after
+HasPrinted (Submit folder command) before after = WritesAcknowledgement TRIES command before after
+HasPrinted (Table folder host) before after = WritesTable TRIES host before after
 HasPrinted (Mark folder host) before after = WritesMarks TRIES before after
 HasPrinted (Check folder) before after = ⊤
 HasPrinted (Migrate old new slots) before after = WritesMove slots before after

@@ -1,5 +1,5 @@
 -- What is printed of events, tables, folders and sweeps.
-use Rattle.std.specs.Prelude.{◌≡◌, ◌+◌, ℕ, List, [], ◌∷◌, ◌++◌, codes, decimal, flat_map, length, sum_by, Option, Some, None}
+use Rattle.std.specs.Prelude.{◌≡◌, ℕ, List, [], ◌∷◌, ◌++◌, codes, decimal, flat_map, length, sum_by, Option, Some, None}
 use Rattle.std.specs.Io.KnownBytes.{Appends}
 use Rattle.disk.specs.FileStates.{FileState, FileGives}
 use Rattle.world.specs.Entry.{Filled}
@@ -9,6 +9,7 @@ use Rattle.lock_command.specs.declared.command.Command.{Command}
 use Rattle.lock_table.specs.Apply.{table_after}
 use Rattle.lock_table.specs.Picture.{Shown, IsPictureOf}
 use Rattle.lock_table.specs.declared.reply.Reply.{Reply}
+use Rattle.host.specs.Host.{Recovering, fresh}
 use Rattle.host.specs.Kept as hosts
 use Rattle.host.specs.declared.answer.HostAnswer.{HostAnswer}
 use Rattle.host.specs.declared.answer.HostAnswer.TheVariants.{Ack, Recovered}
@@ -28,7 +29,8 @@ use Rattle.simulator.specs.Events.{event_of, events_of, opening_of}
 use Rattle.simulator.specs.Kept.{Kept, LeadsTo}
 use Rattle.simulator.specs.Sweeping.{recovered_behind, variants}
 use Rattle.dlm_images.specs.Marking.{RecoversAndMarks}
-use Rattle.dlm_images.specs.Operations.{IsAcknowledged, Standing}
+use Rattle.dlm_images.specs.Operations.{HasOperated, IsAcknowledged, Standing}
+use Rattle.dlm_images.specs.Tries.{HasTried}
 use Rattle.folder_migration.specs.Migrating.{CameTo}
 use Rattle.folder_migration.specs.declared.migrate.Moved.{Moved}
 use Rattle.folder_migration.specs.declared.migrate.Moved.TheVariants.{Moved as WasMoved, Finished}
@@ -91,20 +93,30 @@ marked_text recovered marked = answer_line (Recovered recovered) ++ codes "marke
 abbrev pub table_text : ℕ → Shown → List ℕ
 table_text recovered shown = answer_line (Recovered recovered) ++ queues_text shown
 
--- The log had these commands and then this one, and its slot and the lock table's reply were written.
-pub record WritesAcknowledgement (command : Command) (before after : Option (List ℕ)) : Type 0 where
+-- it is a host of this number that has learned nothing yet
+abbrev pub IsFresh : ℕ → Standing FileState → Type 0
+IsFresh number host = (shape : Shape) × hosts.LeadsTo shape number fresh host.core
+
+-- The command was submitted through a host over some disks. It is the last that the host then knows, and its slot and the lock table's reply were written.
+pub record WritesAcknowledgement (tries : ℕ) (command : Command) (before after : Option (List ℕ)) : Type 0 where
+  pub old : Standing FileState
+  pub new : Standing FileState
   pub slot : ℕ
   pub reply : Reply
-  pub learned : List Command
-  pub acknowledged : IsAcknowledged command slot reply learned
+  pub started : IsFresh command.host old
+  pub tried : HasTried FileGives command tries old new
+  pub acknowledged : IsAcknowledged command slot reply new.core.prefix
   pub written : Appends before after (answer_line (Ack slot reply))
 
--- These commands were learned, and how many, and the queues of the lock table after them, was written.
-pub record WritesTable (before after : Option (List ℕ)) : Type 0 where
-  pub learned : List Command
+-- The log was recovered by a host over some disks. How much it has learned, and the queues of the lock table after that, was written.
+pub record WritesTable (tries number : ℕ) (before after : Option (List ℕ)) : Type 0 where
+  pub old : Standing FileState
+  pub new : Standing FileState
   pub shown : Shown
-  pub picture : IsPictureOf shown (table_after learned)
-  pub written : Appends before after (table_text (length learned) shown)
+  pub started : IsFresh number old
+  pub recovers : HasOperated FileGives Recovering tries old new
+  pub picture : IsPictureOf shown (table_after new.core.prefix)
+  pub written : Appends before after (table_text (length new.core.prefix) shown)
 
 -- The log was recovered from some disks, and its new slots were marked. How much was recovered and marked, was written.
 pub record WritesMarks (tries : ℕ) (before after : Option (List ℕ)) : Type 0 where

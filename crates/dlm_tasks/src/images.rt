@@ -2,7 +2,7 @@ ghost use Rattle.std.specs.Prelude.{◌≡◌, true, IfOk, OnOk};
 ghost use Rattle.std.specs.Io.KnownBytes.{Appends};
 ghost use Rattle.lock_command.specs.Command.{is_submittable};
 ghost use Rattle.host.specs.declared.answer.HostAnswer.TheVariants.{Ack};
-ghost use Rattle.dlm_tasks.specs.Printed.{WritesAcknowledgement, WritesMarks, WritesMove, WritesTable, answer_line, formatted_text, marked_text, moved_text, table_text};
+ghost use Rattle.dlm_tasks.specs.Printed.{IsFresh, WritesAcknowledgement, WritesMarks, WritesMove, WritesTable, answer_line, formatted_text, marked_text, moved_text, table_text};
 
 use crate::command_failure::CommandFailure;
 use crate::fault::Fault;
@@ -59,7 +59,7 @@ pub fn submit<R: Files + Clock + RandomSource + AllocGlobal, O: Write>(
 where
     R::File: FileExt + OpenFile + TryLock + Drop,
     requires { is_submittable command ≡ true }
-    ensures { OnOk result (WritesAcknowledgement command (O.contents out.old) (O.contents out.new)) }
+    ensures { OnOk result (WritesAcknowledgement TRIES command (O.contents out.old) (O.contents out.new)) }
 {
     let (mut host, _lock) = host_over(rt, folder, command.host)?;
     match submit_patiently(rt, &mut host, command, TRIES) {
@@ -82,7 +82,7 @@ pub fn table<R: Files + AllocGlobal, O: Write>(
 ) -> Result<(), CommandFailure>
 where
     R::File: FileExt + OpenFile + TryLock + Drop,
-    ensures { OnOk result (WritesTable (O.contents out.old) (O.contents out.new)) }
+    ensures { OnOk result (WritesTable TRIES host (O.contents out.old) (O.contents out.new)) }
 {
     let (mut host, _lock) = host_over(rt, folder, host)?;
     match host.recover(TRIES) {
@@ -160,6 +160,7 @@ fn host_over<R: Files + AllocGlobal>(
 where
     R::File: FileExt + OpenFile + TryLock + Drop,
     ensures host { IfOk result (λ over. over.0.core.learner.host ≡ host) }
+    ensures fresh { IfOk result (λ over. IsFresh host over.0) }
     ensures locked { IfOk result (λ over. R.File.locked over.1) }
 {
     let images = open_folder(rt, folder)?;

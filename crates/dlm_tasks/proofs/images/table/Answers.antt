@@ -12,8 +12,11 @@ returns-in-Ok g c =
     let shown = c.table.result.now in
     on_ok_weaker c.print_table.result
     (λ written. record {
-      learned = c.recover.new.self.core.prefix;
+      old = c.in_ok-host.host;
+      new = c.recover.new.self;
       shown = shown;
+      started = c.in_ok-host.ensures.fresh;
+      recovers = c.recover.ensures.operated;
       picture = c.table.ensures;
       written = subst (λ (count : ℕ). Appends before after (table_text count shown)) c.in-Ok.ensures.learned written;
     })
