@@ -10,4 +10,6 @@ mod files;
 #[cfg(test)]
 mod rows;
 #[cfg(test)]
+mod simulated;
+#[cfg(test)]
 mod torn;
