@@ -70,6 +70,7 @@ show_progress() {
         case $line in
             'logic=proved functions='*) line=${line#*functions=} functions="${line%% *} functions" ;;
             'rt: '*' proved') line=${line#rt: } left=$((left - 1)) && say "$1" "${line% proved}: $functions proved, $left left" ;;
+            'rt: '*' NOT PROVED'*) say "$1" "${line#rt: }" ;;
             'rt: '*' is kept: '*) line=${line#rt: } left=$((left - 1)) && say "$1" "${line%% is kept: *}: proved before, $left left" ;;
         esac
     done 3> "$2"

@@ -66,12 +66,12 @@ expect "nothing changed again" no
 touch -- "$work/broken" "$work/crates.txt"
 for ending in open closed; do
     if [[ $ending = open ]]; then
-        "$work/dlm" a 2> /dev/null
+        "$work/dlm" a 2> "$work/said"
     else
         "$work/dlm" a 2>&-
     fi
     ended=$?
-    if [[ $ended -ne 125 ]]; then
+    if [[ $ended -ne 125 || ( $ending = open && $(<"$work/said") != *'dlm: inspect NOT PROVED'* ) ]]; then
         echo "a failed build, standard error $ending: status $ended"
         failed=$((failed + 1))
     fi
