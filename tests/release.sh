@@ -1,5 +1,6 @@
 #!/usr/bin/env bash
-# release.sh twice on one commit: the same archive, which installs and runs where there is no `rt`, and goes out again. There may be no change that is not committed.
+# release.sh twice on one commit: the same archive, which installs and runs where there is no `rt`, and goes out again. A program that was not proved is not packed.
+# There may be no change that is not committed.
 set -uo pipefail
 
 top=$(dirname -- "$(dirname -- "$(readlink -f -- "${BASH_SOURCE[0]}")")")
@@ -34,6 +35,14 @@ cmp -- bin/dlm "$top/crates/dlm/out/dlm" || fail "the program is another"
 [[ $("$work/root/usr/local/bin/dlm" run "$top/examples/first_reply.dlm") == "18 h0 ack 0 Granted" ]] || fail "the program does not run"
 PATH=$work/tools DESTDIR=$work/root ./install.sh uninstall > /dev/null || fail "uninstall ends with $?"
 [[ -z $(find "$work/root" -type f) ]] || fail "leaves files behind"
+
+# What stands in the program's place and was not proved here is not packed.
+program=$top/crates/dlm/out/dlm
+cp -p -- "$program" "$work/proved"
+trap 'mv -- "$work/proved" "$program"; rm -r -- "$work"' EXIT
+cp -- "$(command -v true)" "$program.new" && mv -- "$program.new" "$program"
+"$top/release.sh" "$work/third" > /dev/null 2> "$work/told" && fail "packs a program that was not proved"
+grep -q 'is not what a build here has proved' "$work/told" || fail "does not say that the program was not proved"
 
 [[ $failed -eq 0 ]] && echo "release.sh: one archive, in and out without rt"
 exit "$failed"
