@@ -40,7 +40,7 @@ PATH=$work/tools DESTDIR=$work/root ./install.sh uninstall > /dev/null || fail "
 program=$top/crates/dlm/out/dlm
 cp -p -- "$program" "$work/proved"
 trap 'mv -- "$work/proved" "$program"; rm -r -- "$work"' EXIT
-cp -- "$(command -v true)" "$program.new" && mv -- "$program.new" "$program"
+cp -- "$(type -P true)" "$program.new" && mv -- "$program.new" "$program"
 "$top/release.sh" "$work/third" > /dev/null 2> "$work/told" && fail "packs a program that was not proved"
 grep -q 'is not what a build here has proved' "$work/told" || fail "does not say that the program was not proved"
 
