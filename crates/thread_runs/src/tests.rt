@@ -1,8 +1,10 @@
-ghost use Rattle.std.specs.Prelude.{◌≡◌, ◌≤◌, IfSome, true};
-ghost use Rattle.lock_command.specs.Command.{is_submittable};
+ghost use Rattle.std.specs.Prelude.{◌≡◌, ◌≤◌, IfSome, true, false};
+ghost use Rattle.lock_command.specs.Command.{is_quiet, is_submittable};
 ghost use Rattle.cluster.specs.Opening.{IsNamed};
 
+use crate::looked::mark_once;
 use crate::pair_disk::{Flags, PairDisk, is_set, pair};
+use crate::replay::audit;
 use cluster::{
     Cluster, ClusterName, Config, Entry, Gate, HostFault, HostSeat, OpenGate, Opening, Receipt,
     Refusal,
@@ -41,7 +43,7 @@ fn command(host: HostNumber, lock: u16, request: u64) -> Option<Command>
 }
 
 // A host that has just been started. Nothing is said of it, so that whoever asks for it has no list of entries to carry along.
-fn seat_of<N: ClusterName, D: Disk + Drop>(
+pub(crate) fn seat_of<N: ClusterName, D: Disk + Drop>(
     rt: &impl Wait,
     alloc: Global,
     cluster: &Cluster<'_, N, D>,
@@ -50,17 +52,39 @@ fn seat_of<N: ClusterName, D: Disk + Drop>(
     cluster.seat(rt, alloc, HostNumber::new(host)?).ok()
 }
 
-// What a cluster leaves whose seats are given back.
-fn left_by<N: ClusterName>(
-    cluster: Cluster<'_, N, SimDisk>,
+// Two seats to be given back.
+pub(crate) fn seats_of<N: ClusterName>(
+    alloc: Global,
+    one: HostSeat<N>,
+    other: HostSeat<N>,
+) -> Option<Vec<HostSeat<N>>> {
+    vec![in alloc; one, other].ok()
+}
+
+// What hosts have left, and whether it comes out the same when it is run again.
+#[derive(Drop)]
+pub(crate) struct Left {
+    pub entries: Vec<Entry>,
+    pub same: bool,
+}
+
+// What a cluster leaves whose seats are given back. Whoever calls this holds neither afterwards.
+pub(crate) fn left_by<N: ClusterName, D: Disk + Drop>(
+    alloc: Global,
+    config: Config,
+    cluster: Cluster<'_, N, D>,
     seats: Vec<HostSeat<N>>,
-) -> Option<Vec<Entry>> {
+) -> Option<Left> {
     let record = cluster.finish(seats).ok()?;
-    Some(record.entries)
+    let same = audit(alloc, config, &record, &[0]).ok()?;
+    Some(Left {
+        entries: record.entries,
+        same,
+    })
 }
 
 // Submits an enqueue of a lock, where the host is idle.
-fn submitted<N: ClusterName, D: Disk + Drop, G: Gate>(
+pub(crate) fn submitted<N: ClusterName, D: Disk + Drop, G: Gate>(
     rt: &impl Wait,
     cluster: &Cluster<'_, N, D>,
     seat: &mut HostSeat<N>,
@@ -70,71 +94,13 @@ fn submitted<N: ClusterName, D: Disk + Drop, G: Gate>(
 ) -> Result<Option<Receipt>, HostFault>
     requires { 1 ≤ tries }
 {
-    let Some(command) = command(seat.host(), lock, u64::from(lock)) else {
+    let Some(command) = command(seat.host(), lock, 1) else {
         return Ok(None);
     };
     if !seat.idle() {
         return Ok(None);
     }
     cluster.submit(rt, seat, gate, command, tries).map(Some)
-}
-
-// What is done with a cluster.
-#[derive(Clone, Copy)]
-enum Run {
-    Pass,
-    Harm,
-    Look,
-    Crowd,
-}
-
-// What that came to.
-#[derive(Drop)]
-enum Outcome {
-    Passed(Passed),
-    Harmed(Harmed),
-    Looked(Looks),
-    Crowded(Crowd),
-}
-
-fn run_in<N: ClusterName + Send + Sync, R: Threads + Wait + Clock + Sync>(
-    rt: &R,
-    alloc: Global,
-    cluster: Cluster<'_, N, SimDisk>,
-    run: Run,
-) -> Option<Outcome> {
-    match run {
-        Run::Pass => Some(Outcome::Passed(hold_and_pass(rt, alloc, &cluster)?)),
-        Run::Harm => Some(Outcome::Harmed(harmed_in(rt, alloc, cluster)?)),
-        Run::Look => Some(Outcome::Looked(looked_in(rt, alloc, &cluster)?)),
-        Run::Crowd => Some(Outcome::Crowded(crowd_in(rt, alloc, cluster)?)),
-    }
-}
-
-fn run_over_disks<N: ClusterName + Send + Sync, R: Threads + Wait + Clock + Sync>(
-    rt: &R,
-    alloc: Global,
-    opening: Opening,
-    run: Run,
-) -> Option<Outcome>
-    requires { IsNamed opening N.shape N.table N.name N.parts N.all }
-{
-    let (ties, foundation) = opening.named::<N>(alloc).ok()?;
-    let cluster = Cluster::simulated(alloc, &ties, foundation).ok()?;
-    run_in(rt, alloc, cluster, run)
-}
-
-// What it came to over so many simulated disks.
-fn run_of<R: Threads + Wait + Clock + Sync>(
-    rt: &R,
-    alloc: Global,
-    disks: u8,
-    slots: u16,
-    run: Run,
-) -> Result<Outcome, Fail> {
-    let config = Config::new(disks, slots).ok_or("a size")?;
-    let opening = Opening::new(alloc, config)?;
-    Ok(run_over_disks::<Brand, R>(rt, alloc, opening, run).ok_or("a cluster")?)
 }
 
 // Holds its host before its 17th call until the flag is set.
@@ -155,9 +121,10 @@ impl<R: Clock> Gate for Holds<'_, R> {
     }
 }
 
-// The receipt that a host got, and whether it has waited in vain.
+// A host's seat, the receipt that it got, and whether it has waited in vain.
 #[derive(Drop)]
-struct Waited {
+struct Waited<N: ClusterName> {
+    seat: HostSeat<N>,
     receipt: Option<Receipt>,
     late: bool,
 }
@@ -165,12 +132,12 @@ struct Waited {
 // Submits an enqueue of a lock, and is held within it until the other flag is set.
 fn hold<N: ClusterName, R: Wait + Clock>(
     rt: &R,
-    alloc: Global,
     cluster: &Cluster<'_, N, SimDisk>,
     held: &AtomicBool,
     done: &AtomicBool,
-) -> Option<Waited> {
-    let mut seat = seat_of(rt, alloc, cluster, 0)?;
+    seat: HostSeat<N>,
+) -> Waited<N> {
+    let mut seat = seat;
     let mut gate = Holds {
         rt,
         held,
@@ -178,108 +145,202 @@ fn hold<N: ClusterName, R: Wait + Clock>(
         late: false,
     };
     let receipt = submitted(rt, cluster, &mut seat, &mut gate, 1, 2);
-    Some(Waited {
+    Waited {
+        seat,
         receipt: receipt.ok().flatten(),
         late: gate.late,
-    })
+    }
 }
 
 // Submits another while the first host is held, and then lets it go on.
 fn pass<N: ClusterName, R: Wait + Clock>(
     rt: &R,
-    alloc: Global,
     cluster: &Cluster<'_, N, SimDisk>,
     held: &AtomicBool,
     done: &AtomicBool,
-) -> Option<Waited> {
-    let mut seat = seat_of(rt, alloc, cluster, 1)?;
+    seat: HostSeat<N>,
+) -> Waited<N> {
+    let mut seat = seat;
     let begun = is_set(rt, held);
     let receipt = submitted(rt, cluster, &mut seat, &mut OpenGate, 2, 1);
     done.store(true, Ordering::SeqCst);
-    Some(Waited {
+    Waited {
+        seat,
         receipt: receipt.ok().flatten(),
         late: !begun,
-    })
-}
-
-// What the two came to.
-#[derive(Drop)]
-struct Passed {
-    first: Waited,
-    second: Waited,
+    }
 }
 
 // One host is held within its command until another's is acknowledged.
 fn hold_and_pass<N: ClusterName + Send + Sync, R: Threads + Wait + Clock + Sync>(
     rt: &R,
-    alloc: Global,
     cluster: &Cluster<'_, N, SimDisk>,
-) -> Option<Passed> {
+    one: HostSeat<N>,
+    other: HostSeat<N>,
+) -> (Waited<N>, Waited<N>) {
     let held = AtomicBool::new(false);
     let done = AtomicBool::new(false);
     let (is_held, is_done) = (&held, &done);
-    let (first, second) = join(
+    join(
         rt,
-        move || hold(rt, alloc, cluster, is_held, is_done),
-        move || pass(rt, alloc, cluster, is_held, is_done),
-    );
-    Some(Passed {
-        first: first?,
-        second: second?,
+        move || hold(rt, cluster, is_held, is_done, one),
+        move || pass(rt, cluster, is_held, is_done, other),
+    )
+}
+
+// What the two came to.
+#[derive(Drop)]
+struct Passed {
+    first: Option<Receipt>,
+    second: Option<Receipt>,
+    late: bool,
+}
+
+// The same of hosts 0 and 1, and their seats.
+fn seats_that_pass<N: ClusterName + Send + Sync, R: Threads + Wait + Clock + Sync>(
+    rt: &R,
+    alloc: Global,
+    cluster: &Cluster<'_, N, SimDisk>,
+) -> Option<(Passed, Vec<HostSeat<N>>)> {
+    let one = seat_of(rt, alloc, cluster, 0)?;
+    let other = seat_of(rt, alloc, cluster, 1)?;
+    let (one, other) = hold_and_pass(rt, cluster, one, other);
+    let passed = Passed {
+        first: one.receipt,
+        second: other.receipt,
+        late: one.late || other.late,
+    };
+    Some((passed, seats_of(alloc, one.seat, other.seat)?))
+}
+
+#[derive(Drop)]
+struct Held {
+    first: Option<Receipt>,
+    second: Option<Receipt>,
+    late: bool,
+    entries: usize,
+    same: bool,
+}
+
+// The same, how many entries there are, and whether the cluster comes out the same.
+fn held_in<N: ClusterName + Send + Sync, R: Threads + Wait + Clock + Sync>(
+    rt: &R,
+    alloc: Global,
+    config: Config,
+    cluster: Cluster<'_, N, SimDisk>,
+) -> Option<Held> {
+    let (passed, seats) = seats_that_pass(rt, alloc, &cluster)?;
+    let left = left_by(alloc, config, cluster, seats)?;
+    Some(Held {
+        first: passed.first,
+        second: passed.second,
+        late: passed.late,
+        entries: left.entries.len(),
+        same: left.same,
     })
+}
+
+fn one_host_held<N: ClusterName + Send + Sync, R: Threads + Wait + Clock + Sync>(
+    rt: &R,
+    alloc: Global,
+    opening: Opening,
+) -> Option<Held>
+    requires { IsNamed opening N.shape N.table N.name N.parts N.all }
+{
+    let config = opening.config();
+    let (ties, foundation) = opening.named::<N>(alloc).ok()?;
+    let cluster = Cluster::simulated(alloc, &ties, foundation).ok()?;
+    held_in(rt, alloc, config, cluster)
 }
 
 #[test]
 fn gate_one_host(rt: HostRuntime) -> Result<(), Fail> {
-    let Outcome::Passed(passed) = run_of(&rt, rt.alloc(), 3, 4, Run::Pass)? else {
-        return Err(Fail::from("another run"));
-    };
-    let Passed { first, second } = passed;
-    assert!(rt; !first.late && !second.late);
-    let first = first.receipt.ok_or("the first receipt")?;
-    let second = second.receipt.ok_or("the second receipt")?;
+    let config = Config::new(3, 4).ok_or("a size")?;
+    let opening = Opening::new(rt.alloc(), config)?;
+    let held = one_host_held::<Brand, HostRuntime>(&rt, rt.alloc(), opening).ok_or("a record")?;
+    let first = held.first.ok_or("the first receipt")?;
+    let second = held.second.ok_or("the second receipt")?;
+    assert!(rt; !held.late);
     assert_eq!(rt; (second.slot, second.reply.answer), (0, Answer::Granted));
     assert_eq!(rt; (first.slot, first.reply.answer), (1, Answer::Queued));
+    assert_eq!(rt; held.entries, 180);
+    assert!(rt; held.same);
     Ok(())
 }
 
-// Submits an enqueue of a lock, and gives the receipt.
-fn serve<N: ClusterName, R: Wait + Clock>(
-    rt: &R,
-    alloc: Global,
-    cluster: &Cluster<'_, N, PairDisk<'_, R>>,
-    host: u8,
-    lock: u16,
-) -> Option<Receipt> {
-    let mut seat = seat_of(rt, alloc, cluster, host)?;
-    submitted(rt, cluster, &mut seat, &mut OpenGate, lock, 255)
-        .ok()
-        .flatten()
+// A host's seat, and the receipt that it got.
+#[derive(Drop)]
+struct Served<N: ClusterName> {
+    seat: HostSeat<N>,
+    receipt: Option<Receipt>,
 }
 
-// Whether hosts 0 and 1 were acknowledged; the second one begins when the first one's call of disk 1 has begun.
+// Submits an enqueue of a lock.
+fn serve<N: ClusterName, R: Wait + Clock>(
+    rt: &R,
+    cluster: &Cluster<'_, N, PairDisk<'_, R>>,
+    seat: HostSeat<N>,
+    lock: u16,
+) -> Served<N> {
+    let mut seat = seat;
+    let receipt = submitted(rt, cluster, &mut seat, &mut OpenGate, lock, 255);
+    Served {
+        seat,
+        receipt: receipt.ok().flatten(),
+    }
+}
+
+// One host submits; the other begins when the first one's call of disk 1 has begun.
 fn serve_both<N: ClusterName + Send + Sync, R: Threads + Wait + Clock + Sync>(
+    rt: &R,
+    cluster: &Cluster<'_, N, PairDisk<'_, R>>,
+    begun: &AtomicBool,
+    one: HostSeat<N>,
+    other: HostSeat<N>,
+) -> (Served<N>, Served<N>) {
+    join(
+        rt,
+        move || serve(rt, cluster, one, 1),
+        move || {
+            is_set(rt, begun);
+            serve(rt, cluster, other, 2)
+        },
+    )
+}
+
+// How many of hosts 0 and 1 were acknowledged, and their seats.
+fn seats_that_meet<N: ClusterName + Send + Sync, R: Threads + Wait + Clock + Sync>(
     rt: &R,
     alloc: Global,
     cluster: &Cluster<'_, N, PairDisk<'_, R>>,
     begun: &AtomicBool,
-) -> (bool, bool) {
-    let (one, other) = join(
-        rt,
-        move || serve(rt, alloc, cluster, 0, 1),
-        move || {
-            is_set(rt, begun);
-            serve(rt, alloc, cluster, 1, 2)
-        },
-    );
-    (one.is_some(), other.is_some())
+) -> Option<(usize, Vec<HostSeat<N>>)> {
+    let one = seat_of(rt, alloc, cluster, 0)?;
+    let other = seat_of(rt, alloc, cluster, 1)?;
+    let (one, other) = serve_both(rt, cluster, begun, one, other);
+    let acks = usize::from(one.receipt.is_some()) + usize::from(other.receipt.is_some());
+    Some((acks, seats_of(alloc, one.seat, other.seat)?))
+}
+
+// The same, and whether the cluster comes out the same.
+fn met_in<N: ClusterName + Send + Sync, R: Threads + Wait + Clock + Sync>(
+    rt: &R,
+    alloc: Global,
+    config: Config,
+    cluster: Cluster<'_, N, PairDisk<'_, R>>,
+    begun: &AtomicBool,
+) -> Option<(usize, bool)> {
+    let (acks, seats) = seats_that_meet(rt, alloc, &cluster, begun)?;
+    let left = left_by(alloc, config, cluster, seats)?;
+    Some((acks, left.same))
 }
 
 #[derive(Drop)]
 struct Met {
-    acks: (bool, bool),
+    acks: usize,
     begun: bool,
     late: bool,
+    same: bool,
 }
 
 // One host's call of disk 1 goes on until the other has called disk 0.
@@ -296,11 +357,12 @@ fn two_hosts_met<N: ClusterName + Send + Sync, R: Threads + Wait + Clock + Sync>
     let (ties, foundation) = opening.named::<N>(alloc).ok()?;
     let disks = pair(rt, alloc, config, &flags).ok()?;
     let cluster = Cluster::new(alloc, disks, &ties, foundation).ok()?;
-    let acks = serve_both(rt, alloc, &cluster, &flags.begun);
+    let (acks, same) = met_in(rt, alloc, config, cluster, &flags.begun)?;
     Some(Met {
         acks,
         begun: flags.begun.load(Ordering::SeqCst),
         late: flags.late.load(Ordering::SeqCst),
+        same,
     })
 }
 
@@ -308,10 +370,11 @@ fn two_hosts_met<N: ClusterName + Send + Sync, R: Threads + Wait + Clock + Sync>
 fn two_disks_at_once(rt: HostRuntime) -> Result<(), Fail> {
     let config = Config::new(2, 4).ok_or("a size")?;
     let opening = Opening::new(rt.alloc(), config)?;
-    let met = two_hosts_met::<Brand, HostRuntime>(&rt, rt.alloc(), opening).ok_or("a cluster")?;
+    let met = two_hosts_met::<Brand, HostRuntime>(&rt, rt.alloc(), opening).ok_or("a record")?;
     assert!(rt; met.begun);
     assert!(rt; !met.late);
-    assert_eq!(rt; met.acks, (true, true));
+    assert_eq!(rt; met.acks, 2);
+    assert!(rt; met.same);
     Ok(())
 }
 
@@ -408,9 +471,12 @@ fn seat_in_harm<N: ClusterName, R: Wait>(
 
 #[derive(Drop)]
 struct Harmed {
-    harm: Harm,
+    receipt: Option<Receipt>,
+    fault: Option<HostFault>,
+    refused: Option<HostFault>,
     entries: usize,
     shown: [bool; 3],
+    same: bool,
 }
 
 // Whether the journal shows the crash and the two losses at their places.
@@ -426,73 +492,130 @@ fn faults_shown(entries: &[Entry]) -> [bool; 3] {
 fn harmed_in<N: ClusterName, R: Wait>(
     rt: &R,
     alloc: Global,
+    config: Config,
     cluster: Cluster<'_, N, SimDisk>,
 ) -> Option<Harmed> {
     let (harm, seats) = seat_in_harm(rt, alloc, &cluster)?;
-    let entries = left_by(cluster, seats)?;
+    let left = left_by(alloc, config, cluster, seats)?;
     Some(Harmed {
-        harm,
-        entries: entries.len(),
-        shown: faults_shown(&entries),
+        receipt: harm.receipt,
+        fault: harm.fault,
+        refused: harm.refused,
+        entries: left.entries.len(),
+        shown: faults_shown(&left.entries),
+        same: left.same,
     })
+}
+
+fn harm_read_back<N: ClusterName, R: Wait>(
+    rt: &R,
+    alloc: Global,
+    opening: Opening,
+) -> Option<Harmed>
+    requires { IsNamed opening N.shape N.table N.name N.parts N.all }
+{
+    let config = opening.config();
+    let (ties, foundation) = opening.named::<N>(alloc).ok()?;
+    let cluster = Cluster::simulated(alloc, &ties, foundation).ok()?;
+    harmed_in(rt, alloc, config, cluster)
 }
 
 #[test]
 fn faults_read_back(rt: HostRuntime) -> Result<(), Fail> {
-    let Outcome::Harmed(harmed) = run_of(&rt, rt.alloc(), 3, 2, Run::Harm)? else {
-        return Err(Fail::from("another run"));
-    };
-    let Harmed {
-        harm,
-        entries,
-        shown,
-    } = harmed;
-    let Harm {
-        receipt,
-        fault,
-        refused,
-    } = harm;
-    assert!(rt; fault.is_none());
-    let receipt = receipt.ok_or("a receipt")?;
+    let config = Config::new(3, 2).ok_or("a size")?;
+    let opening = Opening::new(rt.alloc(), config)?;
+    let harmed = harm_read_back::<Brand, HostRuntime>(&rt, rt.alloc(), opening).ok_or("a record")?;
+    assert!(rt; harmed.fault.is_none());
+    let receipt = harmed.receipt.ok_or("a receipt")?;
     assert_eq!(rt;
         (receipt.slot, receipt.reply.answer, receipt.place),
         (0, Answer::Granted, 45)
     );
-    assert_eq!(rt; refused, Some(HostFault::Refused(Refusal::NoMajority)));
-    assert_eq!(rt; entries, 51);
-    assert_eq!(rt; shown, [true; 3]);
+    assert_eq!(rt;
+        harmed.refused,
+        Some(HostFault::Refused(Refusal::NoMajority))
+    );
+    assert_eq!(rt; harmed.entries, 51);
+    assert_eq!(rt; harmed.shown, [true; 3]);
+    assert!(rt; harmed.same);
     Ok(())
 }
 
-// Marks a slot, where the host is idle.
-fn mark_once<N: ClusterName>(
+// A seat that is taken, and lost again.
+fn lose_seat<N: ClusterName>(
     rt: &impl Wait,
+    alloc: Global,
     cluster: &Cluster<'_, N, SimDisk>,
-    seat: &mut HostSeat<N>,
-    slot: u16,
-) -> Option<u8> {
-    if !seat.idle() || slot >= cluster.slots() {
-        return None;
-    }
-    cluster.mark(rt, seat, &mut OpenGate, slot).ok()
+    host: u8,
+) -> Option<HostNumber> {
+    let seat = seat_of(rt, alloc, cluster, host)?;
+    Some(seat.host())
 }
 
-// Looks, where the host is idle.
-fn look_once<N: ClusterName>(
+// How another seat of a host is refused.
+fn seat_refused<N: ClusterName>(
     rt: &impl Wait,
+    alloc: Global,
     cluster: &Cluster<'_, N, SimDisk>,
-    seat: &mut HostSeat<N>,
-) -> Option<u16> {
-    if !seat.idle() {
-        return None;
-    }
-    cluster.look(rt, seat, &mut OpenGate).ok()
+    host: HostNumber,
+) -> Option<HostFault> {
+    cluster.seat(rt, alloc, host).err()
+}
+
+// How it is refused that this seat alone is given back.
+fn finish_refused<N: ClusterName>(
+    alloc: Global,
+    cluster: Cluster<'_, N, SimDisk>,
+    seat: HostSeat<N>,
+) -> Option<HostFault> {
+    let seats = vec![in alloc; seat].ok()?;
+    cluster.finish(seats).err()
+}
+
+// A host is handed out once, and each that was is to be given back.
+fn miscounted<N: ClusterName, R: Wait>(
+    rt: &R,
+    alloc: Global,
+    cluster: Cluster<'_, N, SimDisk>,
+) -> Option<(HostFault, HostFault)> {
+    let lost = lose_seat(rt, alloc, &cluster, 1)?;
+    let taken = seat_refused(rt, alloc, &cluster, lost)?;
+    let seat = seat_of(rt, alloc, &cluster, 0)?;
+    let missing = finish_refused(alloc, cluster, seat)?;
+    Some((taken, missing))
+}
+
+fn seats_counted<N: ClusterName, R: Wait>(
+    rt: &R,
+    alloc: Global,
+    opening: Opening,
+) -> Option<(HostFault, HostFault)>
+    requires { IsNamed opening N.shape N.table N.name N.parts N.all }
+{
+    let (ties, foundation) = opening.named::<N>(alloc).ok()?;
+    let cluster = Cluster::simulated(alloc, &ties, foundation).ok()?;
+    miscounted(rt, alloc, cluster)
+}
+
+#[test]
+fn seats_are_counted(rt: HostRuntime) -> Result<(), Fail> {
+    let config = Config::new(1, 2).ok_or("a size")?;
+    let opening = Opening::new(rt.alloc(), config)?;
+    let told = seats_counted::<Brand, HostRuntime>(&rt, rt.alloc(), opening).ok_or("refusals")?;
+    assert_eq!(rt; told, (HostFault::SeatTaken, HostFault::SeatsMissing));
+    Ok(())
+}
+
+#[derive(Drop)]
+struct Beaten {
+    suggested: Vec<u8>,
+    same: bool,
 }
 
 // Beats, where the host is idle.
-fn beat_once<N: ClusterName>(
+fn beat_once<N: ClusterName, D: Disk + Drop>(
     rt: &impl Wait,
-    cluster: &Cluster<'_, N, SimDisk>,
+    cluster: &Cluster<'_, N, D>,
     seat: &mut HostSeat<N>,
 ) -> Option<u8> {
     if !seat.idle() {
@@ -501,110 +624,259 @@ fn beat_once<N: ClusterName>(
     cluster.beat(rt, seat, &mut OpenGate).ok()
 }
 
-// How many commands one host has learned after each look, on how many disks the other marked its slot between them, and whom a beat suggests.
-#[derive(Debug, PartialEq, Eq, Drop)]
-struct Looks {
-    before: Option<u16>,
-    marked: Option<u8>,
-    after: Option<u16>,
-    suggested: Option<u8>,
-}
-
-// One host submits, and then marks the slot. The other looks before and after, and beats.
-fn looks_and_marks<N: ClusterName>(
-    rt: &impl Wait,
-    cluster: &Cluster<'_, N, SimDisk>,
-    one: &mut HostSeat<N>,
-    other: &mut HostSeat<N>,
-) -> Looks {
-    let _receipt = submitted(rt, cluster, one, &mut OpenGate, 1, 1);
-    Looks {
-        before: look_once(rt, cluster, other),
-        marked: mark_once(rt, cluster, one, 0),
-        after: look_once(rt, cluster, other),
-        suggested: beat_once(rt, cluster, other),
-    }
-}
-
-// The same of hosts 0 and 5.
-fn looked_in<N: ClusterName>(
+// What two hosts are suggested that beat in turn, twice each.
+fn suggested_in_turn<N: ClusterName>(
     rt: &impl Wait,
     alloc: Global,
     cluster: &Cluster<'_, N, SimDisk>,
-) -> Option<Looks> {
-    let mut one = seat_of(rt, alloc, cluster, 0)?;
-    let mut other = seat_of(rt, alloc, cluster, 5)?;
-    Some(looks_and_marks(rt, cluster, &mut one, &mut other))
+    first: &mut HostSeat<N>,
+    second: &mut HostSeat<N>,
+) -> Option<Vec<u8>> {
+    let mut suggested = Vec::new(alloc);
+    for _ in 0..2 {
+        suggested.push(beat_once(rt, cluster, first)?).ok()?;
+        suggested.push(beat_once(rt, cluster, second)?).ok()?;
+    }
+    Some(suggested)
 }
 
-// What is acknowledged and not marked a look does not find. A first beat suggests its own host.
+// The same of hosts 5 and 3, and their seats.
+fn seats_that_beat<N: ClusterName>(
+    rt: &impl Wait,
+    alloc: Global,
+    cluster: &Cluster<'_, N, SimDisk>,
+) -> Option<(Option<Vec<u8>>, Vec<HostSeat<N>>)> {
+    let mut one = seat_of(rt, alloc, cluster, 3)?;
+    let mut other = seat_of(rt, alloc, cluster, 5)?;
+    let suggested = suggested_in_turn(rt, alloc, cluster, &mut other, &mut one);
+    Some((suggested, seats_of(alloc, one, other)?))
+}
+
+// The same, and whether the cluster comes out the same.
+fn beaten_in<N: ClusterName>(
+    rt: &impl Wait,
+    alloc: Global,
+    config: Config,
+    cluster: Cluster<'_, N, SimDisk>,
+) -> Option<Beaten> {
+    let (suggested, seats) = seats_that_beat(rt, alloc, &cluster)?;
+    let left = left_by(alloc, config, cluster, seats)?;
+    Some(Beaten {
+        suggested: suggested?,
+        same: left.same,
+    })
+}
+
+// Two hosts beat in turn, twice each.
+fn beats_in_turn<N: ClusterName, R: Wait>(rt: &R, alloc: Global, opening: Opening) -> Option<Beaten>
+    requires { IsNamed opening N.shape N.table N.name N.parts N.all }
+{
+    let config = opening.config();
+    let (ties, foundation) = opening.named::<N>(alloc).ok()?;
+    let cluster = Cluster::simulated(alloc, &ties, foundation).ok()?;
+    beaten_in(rt, alloc, config, cluster)
+}
+
+// A first beat suggests its own host, a later one the least that has beaten since.
 #[test]
-fn looks_find_marks(rt: HostRuntime) -> Result<(), Fail> {
-    let Outcome::Looked(looks) = run_of(&rt, rt.alloc(), 3, 4, Run::Look)? else {
-        return Err(Fail::from("another run"));
-    };
-    let wanted = Looks {
-        before: Some(0),
-        marked: Some(3),
-        after: Some(1),
-        suggested: Some(5),
-    };
-    assert_eq!(rt; looks, wanted);
+fn two_hosts_beat(rt: HostRuntime) -> Result<(), Fail> {
+    let config = Config::new(3, 4).ok_or("a size")?;
+    let opening = Opening::new(rt.alloc(), config)?;
+    let beaten = beats_in_turn::<Brand, HostRuntime>(&rt, rt.alloc(), opening).ok_or("a record")?;
+    assert_eq!(rt; beaten.suggested.as_slice(), [5u8, 3, 3, 3].as_slice());
+    assert!(rt; beaten.same);
     Ok(())
 }
 
-// A host submits so many commands, one after the other, and gives its seat back.
+#[derive(Drop)]
+struct Crowd {
+    acks: usize,
+    same: bool,
+    harm: usize,
+}
+
+// A host submits so many commands, marks some slots, beats now and then, and starts anew, looks and recovers after a few.
 fn works<N: ClusterName, R: Wait + Clock>(
     rt: &R,
     alloc: Global,
     cluster: &Cluster<'_, N, SimDisk>,
-    host: u8,
+    host: HostNumber,
+    rounds: u16,
 ) -> Option<HostSeat<N>> {
-    let mut seat = seat_of(rt, alloc, cluster, host)?;
-    for turn in 0..ROUNDS {
-        take_turn(rt, cluster, &mut seat, turn + 1);
-    }
+    let mut seat = cluster.seat(rt, alloc, host).ok()?;
+    take_turns(rt, alloc, cluster, &mut seat, rounds)?;
     Some(seat)
 }
 
-// Submits the command of this turn. Whoever is outrun lets the others go on for a while.
+// The same, by its seat.
+fn take_turns<N: ClusterName, R: Wait + Clock>(
+    rt: &R,
+    alloc: Global,
+    cluster: &Cluster<'_, N, SimDisk>,
+    seat: &mut HostSeat<N>,
+    rounds: u16,
+) -> Option<()> {
+    for round in 0..rounds {
+        take_turn(rt, cluster, seat, round + 1)?;
+        if round % 4 == 1 {
+            beat_if_idle(rt, cluster, seat)?;
+        }
+        if round == 3 || round == 9 {
+            start_anew(rt, alloc, cluster, seat)?;
+        }
+    }
+    Some(())
+}
+
+// Submits the command of this round, and marks its slot in every third. Whoever is outrun lets the others go on for a while.
 fn take_turn<N: ClusterName, R: Wait + Clock>(
     rt: &R,
     cluster: &Cluster<'_, N, SimDisk>,
     seat: &mut HostSeat<N>,
-    turn: u16,
-) {
-    let receipt = submitted(rt, cluster, seat, &mut OpenGate, turn, 4);
-    if receipt.is_err() {
-        let pause = u64::from(seat.host().get()) * 2 + 1;
-        thread::sleep(rt, Duration::from_millis(pause));
+    round: u16,
+) -> Option<()> {
+    let command = turn(seat.host(), round)?;
+    if !seat.idle() {
+        return None;
     }
+    let pause = u64::from(seat.host().get()) * 2 + 1;
+    match cluster.submit(rt, seat, &mut OpenGate, command, 4) {
+        Ok(receipt) if round % 3 == 0 => mark_if_idle(rt, cluster, seat, receipt.slot),
+        Ok(_) => Some(()),
+        Err(HostFault::Refused(_)) => {
+            thread::sleep(rt, Duration::from_millis(pause));
+            Some(())
+        }
+        Err(_) => None,
+    }
+}
+
+// Marks a slot, refused or not.
+fn mark_if_idle<N: ClusterName>(
+    rt: &impl Wait,
+    cluster: &Cluster<'_, N, SimDisk>,
+    seat: &mut HostSeat<N>,
+    slot: u16,
+) -> Option<()> {
+    match mark_once(rt, cluster, seat, slot) {
+        Ok(Some(_)) | Err(HostFault::Refused(_)) => Some(()),
+        Ok(None) | Err(_) => None,
+    }
+}
+
+// Beats, refused or not.
+fn beat_if_idle<N: ClusterName>(
+    rt: &impl Wait,
+    cluster: &Cluster<'_, N, SimDisk>,
+    seat: &mut HostSeat<N>,
+) -> Option<()> {
+    if !seat.idle() {
+        return None;
+    }
+    match cluster.beat(rt, seat, &mut OpenGate) {
+        Ok(_) | Err(HostFault::Refused(_)) => Some(()),
+        Err(_) => None,
+    }
+}
+
+// Stops and starts, looks, and recovers, refused or not.
+fn start_anew<N: ClusterName>(
+    rt: &impl Wait,
+    alloc: Global,
+    cluster: &Cluster<'_, N, SimDisk>,
+    seat: &mut HostSeat<N>,
+) -> Option<()> {
+    cluster.restart(rt, alloc, seat).ok()?;
+    look_if_idle(rt, cluster, seat)?;
+    recover_if_idle(rt, cluster, seat)
+}
+
+// Looks, refused or not.
+fn look_if_idle<N: ClusterName>(
+    rt: &impl Wait,
+    cluster: &Cluster<'_, N, SimDisk>,
+    seat: &mut HostSeat<N>,
+) -> Option<()> {
+    if !seat.idle() {
+        return None;
+    }
+    match cluster.look(rt, seat, &mut OpenGate) {
+        Ok(_) | Err(HostFault::Refused(_)) => Some(()),
+        Err(_) => None,
+    }
+}
+
+// Recovers, refused or not.
+fn recover_if_idle<N: ClusterName>(
+    rt: &impl Wait,
+    cluster: &Cluster<'_, N, SimDisk>,
+    seat: &mut HostSeat<N>,
+) -> Option<()> {
+    if !seat.idle() {
+        return None;
+    }
+    match cluster.recover(rt, seat, &mut OpenGate, 255) {
+        Ok(_) | Err(HostFault::Refused(_)) => Some(()),
+        Err(_) => None,
+    }
+}
+
+// By turns an enqueue of the host's lock, which may have to wait for those of others, and its release.
+fn turn(host: HostNumber, round: u16) -> Option<Command>
+    ensures host { IfSome result (λ command. command.host ≡ host) }
+    ensures asked { IfSome result (λ command. is_submittable command ≡ true) }
+{
+    let lock = LockNumber::new(u16::from(host.get()) + 1)?;
+    Some(Command {
+        host,
+        client: ClientNumber::new(host.get() + 1),
+        request: RequestNumber::new(u64::from(round))?,
+        action: action_in(round, lock)?,
+    })
+}
+
+fn action_in(round: u16, lock: LockNumber) -> Option<Action>
+    ensures { IfSome result (λ action. is_quiet action ≡ false) }
+{
+    if round % 2 == 0 {
+        return Some(Action::Release { lock, value: None });
+    }
+    Some(Action::Enqueue {
+        lock,
+        name: LockName::new(b"db")?,
+        mode: Mode::ProtectedWrite,
+        no_queue: false,
+    })
 }
 
 // Crashes disks, and loses two of five.
-fn harms<N: ClusterName, R: Wait + Clock>(rt: &R, cluster: &Cluster<'_, N, SimDisk>) {
-    for turn in 0..40u8 {
-        let _crashed = crash(rt, cluster, turn % 5);
+fn harms<N: ClusterName, R: Wait + Clock>(rt: &R, cluster: &Cluster<'_, N, SimDisk>) -> Option<()> {
+    let mut chance: u64 = 7;
+    for turn in 0..64u8 {
+        chance = chance
+            .wrapping_mul(6_364_136_223_846_793_005)
+            .wrapping_add(1_442_695_040_888_963_407);
+        crash(rt, cluster, ((chance >> 32) % 5) as u8).ok()?;
         if turn == 20 {
-            let _first = lose(rt, cluster, 1);
+            lose(rt, cluster, 1).ok()?;
         }
-        if turn == 30 {
-            let _second = lose(rt, cluster, 3);
+        if turn == 40 {
+            lose(rt, cluster, 3).ok()?;
         }
-        thread::sleep(rt, Duration::from_millis(10));
+        thread::sleep(rt, Duration::from_millis(20));
     }
+    Some(())
 }
 
-// How many hosts crowd the disks, and how many commands each submits.
+// How many hosts crowd the disks.
 const CROWD: usize = 8;
-
-const ROUNDS: u16 = 40;
 
 // The seats of eight hosts that work, with a thread that does harm to the disks.
 fn seats_that_work<N: ClusterName + Send + Sync, R: Threads + Wait + Clock + Sync>(
     rt: &R,
     alloc: Global,
     cluster: &Cluster<'_, N, SimDisk>,
+    rounds: u16,
 ) -> Option<Vec<Option<HostSeat<N>>>> {
     map_indices(
         rt,
@@ -612,10 +884,11 @@ fn seats_that_work<N: ClusterName + Send + Sync, R: Threads + Wait + Clock + Syn
         CROWD + 1,
         &|i: usize| -> Option<HostSeat<N>> {
             if i == CROWD {
-                harms(rt, cluster);
+                let _ = harms(rt, cluster);
                 return None;
             }
-            works(rt, alloc, cluster, u8::try_from(i).ok()?)
+            let host = u8::try_from(i).ok().and_then(HostNumber::new)?;
+            works(rt, alloc, cluster, host, rounds)
         },
     )
     .ok()
@@ -635,6 +908,15 @@ fn seats_among<N: ClusterName>(
     Some(seats)
 }
 
+// How many receipts the seats have.
+fn acks_of<N: ClusterName>(seats: &[HostSeat<N>]) -> usize {
+    let mut acks: usize = 0;
+    for seat in seats {
+        acks = seat.acks().len().saturating_add(acks);
+    }
+    acks
+}
+
 // How many entries are a crash or a loss of a disk.
 fn harm_in(entries: &[Entry]) -> usize {
     let mut harm: usize = 0;
@@ -646,34 +928,47 @@ fn harm_in(entries: &[Entry]) -> usize {
     harm
 }
 
-// How many entries eight hosts leave, and how many of them are a crash or a loss.
-#[derive(Drop)]
-struct Crowd {
-    entries: usize,
-    harm: usize,
-}
-
-// What eight hosts come to, if all of them come to their end.
+// What eight hosts come to, over the cluster.
 fn crowd_in<N: ClusterName + Send + Sync, R: Threads + Wait + Clock + Sync>(
     rt: &R,
     alloc: Global,
+    config: Config,
     cluster: Cluster<'_, N, SimDisk>,
+    rounds: u16,
 ) -> Option<Crowd> {
-    let left = seats_that_work(rt, alloc, &cluster)?;
+    let left = seats_that_work(rt, alloc, &cluster, rounds)?;
     let seats = seats_among(alloc, left)?;
-    let entries = left_by(cluster, seats)?;
+    let acks = acks_of(&seats);
+    let left = left_by(alloc, config, cluster, seats)?;
     Some(Crowd {
-        entries: entries.len(),
-        harm: harm_in(&entries),
+        acks,
+        same: left.same,
+        harm: harm_in(&left.entries),
     })
+}
+
+// Eight hosts over five disks, with a thread that does harm to the disks.
+fn crowded<N: ClusterName + Send + Sync, R: Threads + Wait + Clock + Sync>(
+    rt: &R,
+    alloc: Global,
+    opening: Opening,
+    rounds: u16,
+) -> Option<Crowd>
+    requires { IsNamed opening N.shape N.table N.name N.parts N.all }
+{
+    let config = opening.config();
+    let (ties, foundation) = opening.named::<N>(alloc).ok()?;
+    let cluster = Cluster::simulated(alloc, &ties, foundation).ok()?;
+    crowd_in(rt, alloc, config, cluster, rounds)
 }
 
 #[test]
 fn eight_hosts(rt: HostRuntime) -> Result<(), Fail> {
-    let Outcome::Crowded(crowd) = run_of(&rt, rt.alloc(), 5, 512, Run::Crowd)? else {
-        return Err(Fail::from("another run"));
-    };
-    assert!(rt; crowd.entries > 1000);
+    let config = Config::new(5, 2048).ok_or("a size")?;
+    let opening = Opening::new(rt.alloc(), config)?;
+    let crowd = crowded::<Brand, HostRuntime>(&rt, rt.alloc(), opening, 125).ok_or("a record")?;
+    assert!(rt; crowd.same);
+    assert!(rt; crowd.acks > 100);
     assert!(rt; crowd.harm > 2);
     Ok(())
 }
