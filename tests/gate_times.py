@@ -96,13 +96,17 @@ class Watch(threading.Thread):
         below = {}
         for process, (parent, _) in found.items():
             below.setdefault(parent, []).append(process)
-        for process in below.get(self.root, []):
-            if process not in self.known:
-                kind = work_of(process)
-                if kind is None:
-                    continue
-                self.known[process] = Work(*kind)
-            self.known[process].seconds = max(self.known[process].seconds, total(process, found, below))
+        looked = [self.root]
+        while looked:
+            for process in below.get(looked.pop(), []):
+                if process not in self.known:
+                    kind = work_of(process)
+                    if kind is None:
+                        # (`rt` itself, or a script that runs it)
+                        looked.append(process)
+                        continue
+                    self.known[process] = Work(*kind)
+                self.known[process].seconds = max(self.known[process].seconds, total(process, found, below))
 
 
 def total(process, found, below):
