@@ -1,5 +1,5 @@
 use lock_command::{
-    Action, ClientNumber, Command, HostNumber, LockName, LockNumber, RequestNumber,
+    Action, ClientNumber, Command, HostNumber, LockName, LockNumber, RequestNumber, ValueBytes,
 };
 use lock_modes::Mode;
 use lock_table::{Answer, LockState, Picture, Refusal, Table};
@@ -27,7 +27,8 @@ fn lock(number: u16) -> Result<LockNumber, Fail> {
     Ok(LockNumber::new(number).ok_or("lock number")?)
 }
 
-fn action(ask: Ask) -> Result<Action, Fail> {
+/// What is asked, with what a conversion or a release stores.
+fn action(ask: Ask, value: Option<ValueBytes>) -> Result<Action, Fail> {
     Ok(match ask {
         Ask::Enqueue(number, mode, name) => Action::Enqueue {
             lock: lock(number)?,
@@ -39,17 +40,17 @@ fn action(ask: Ask) -> Result<Action, Fail> {
             lock: lock(number)?,
             mode,
             no_queue: false,
-            value: None,
+            value,
         },
         Ask::ConvertNow(number, mode) => Action::Convert {
             lock: lock(number)?,
             mode,
             no_queue: true,
-            value: None,
+            value,
         },
         Ask::Release(number) => Action::Release {
             lock: lock(number)?,
-            value: None,
+            value,
         },
         Ask::Status(number) => Action::Status(lock(number)?),
         Ask::Purge(host) => Action::Purge(HostNumber::new(host).ok_or("host to purge")?),
@@ -61,7 +62,7 @@ fn reply_to(table: &mut Table, step: &Step) -> Result<Answer, Fail> {
         host: HostNumber::new(step.0).ok_or("host")?,
         client: ClientNumber::new(step.1),
         request: RequestNumber::new(step.2).ok_or("request number")?,
-        action: action(step.3)?,
+        action: action(step.3, None)?,
     };
     Ok(table.apply(&command).answer)
 }
