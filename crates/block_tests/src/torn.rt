@@ -127,17 +127,19 @@ fn copy_of(byte: u8, sequence: u64) -> [u8; COPY_ROOM] {
     copy
 }
 
-// Of two open copies with one sequence number the first counts.
+fn block_of(first: &[u8; COPY_ROOM], second: &[u8; COPY_ROOM]) -> [u8; BLOCK_LENGTH] {
+    let mut block = [0; BLOCK_LENGTH];
+    block[..COPY_ROOM].copy_from_slice(first);
+    block[COPY_ROOM..].copy_from_slice(second);
+    block
+}
+
 #[test]
 fn which_copy_counts(rt: HostRuntime) {
-    for (first, second, counts) in [(1, 2, Half::Second), (7, 7, Half::First)] {
-        let mut block = [0; BLOCK_LENGTH];
-        block[..COPY_ROOM].copy_from_slice(&copy_of(1, first));
-        block[COPY_ROOM..].copy_from_slice(&copy_of(2, second));
-        assert_eq!(rt;
-            read_block::<Layout2>(&block).current,
-            Some(counts),
-            "{first}, {second}"
-        );
+    // The sequence numbers of two open copies, and the one that counts. Of a tie it is the first.
+    let rows = [(1, 2, Half::Second), (7, 7, Half::First)];
+    for (first, second, counts) in rows {
+        let block = read_block::<Layout2>(&block_of(&copy_of(1, first), &copy_of(2, second)));
+        assert_eq!(rt; block.current, Some(counts), "{first}, {second}");
     }
 }
