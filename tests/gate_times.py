@@ -180,7 +180,7 @@ def main():
         f"`{shlex.join(given.command)}`",
         f"{len(os.sched_getaffinity(0))} ({max(others, 0):.1f})",
         f"{wall // 60} min {wall % 60} s",
-        f"{processor / 60:.0f} min",
+        f"{int(processor) // 60} min {int(processor) % 60} s",
         f"{used.ru_maxrss / 1e6:.1f} GB",
         f"{(watch.free - watch.least) / 1e9:.1f} GB",
         f"{kit}",
