@@ -13,8 +13,9 @@ use std::rt::Files;
 /// The boot number of every file.
 const BOOT: Boot = Boot { number: 1 };
 
-/// How many bytes are read twice at a time: a row of blocks, or a header.
-const PART: usize = 4096;
+/// How many bytes of a file are read at a time, until two reads agree. A longer read is made in parts of this length, which may
+/// be of different moments.
+pub const READ_LENGTH: usize = 4096;
 
 /// How often such a part is read, at most.
 const MOST_READS: usize = 9;
@@ -166,20 +167,20 @@ fn is_block_device<F: OpenFile>(file: &F) -> bool {
 /// that two reads agree on were there between the two reads.
 fn read_settled<F: FileExt>(file: &F, into: &mut [u8], at: u64) -> bool {
     let mut place = at;
-    for part in into.chunks_mut(PART) {
+    for part in into.chunks_mut(READ_LENGTH) {
         if !read_twice(file, part, place) {
             return false;
         }
-        place = place.saturating_add(PART as u64);
+        place = place.saturating_add(READ_LENGTH as u64);
     }
     true
 }
 
 fn read_twice<F: FileExt>(file: &F, into: &mut [u8], at: u64) -> bool
-    requires { length into.old ≤ PART }
+    requires { length into.old ≤ READ_LENGTH }
 {
     let long = into.len();
-    let mut again = [0; PART];
+    let mut again = [0; READ_LENGTH];
     if file.read_exact_at(into, at).is_err() {
         return false;
     }

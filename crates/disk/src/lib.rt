@@ -14,6 +14,6 @@ mod word;
 pub use boot::Boot;
 pub use device::Disk;
 pub use fault::{DiskFault, ImageFault, NoMemory};
-pub use file::FileDisk;
+pub use file::{FileDisk, READ_LENGTH};
 pub use law::{calls_keep_the_shape, larger_disks_serve};
 pub use simulated::SimDisk;

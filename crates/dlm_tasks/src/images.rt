@@ -12,11 +12,12 @@ use dlm_images::{
     open_folder, open_folder_to_read, submit_patiently,
 };
 use dlm_words::ReplyText;
-use folder_migration::{Moved, SlotCount, migrate_folder};
+use folder_migration::{Moved, migrate_folder};
 use host::Config;
 use inspect::queues;
 use lock_command::{Command, HostNumber};
 use lock_table::Table;
+use slot_log::SlotCount;
 use std::alloc::Global;
 use std::fs::OpenFile;
 use std::io;

@@ -2,10 +2,10 @@ ghost use Rattle.std.specs.Prelude.{◌≡◌, ◌≤◌, true, IfOk};
 ghost use Rattle.lock_command.specs.Command.{is_submittable};
 
 use crate::words::WordsFault;
-use folder_migration::SlotCount;
 use host::Config;
 use lock_command::{Command, HOSTS, HostNumber};
 use lock_script::{number_in, read_command};
+use slot_log::SlotCount;
 use std::alloc::Global;
 use torn_block::{DISKS, SLOTS};
 

@@ -5,9 +5,9 @@ ghost use Rattle.dlm_words.specs.declared.words.WordsFault.TheVariants.{NoMemory
 use crate::given_words::{cluster_of, command_of, config_of, host_of, last_host_of, slots_of};
 use clap::error::ErrorKind;
 use clap::{Arg, ArgAction, ArgMatches, Error};
-use folder_migration::SlotCount;
 use host::Config;
 use lock_command::{Command, HostNumber};
+use slot_log::SlotCount;
 use std::alloc::{AllocError, Global};
 use std::io;
 

@@ -8,7 +8,6 @@ use crate::finishing::{finish, is_begun};
 use crate::image::clear;
 use crate::migrating::migrate_disks;
 use crate::old_folder::open_old_folder;
-use crate::slots::SlotCount;
 use disk::{FileDisk, ImageFault};
 use dlm_images::{
     Access, FolderFault, TryLock, image_path, is_taken, lock_host, new_device, open_as_told,
@@ -16,6 +15,7 @@ use dlm_images::{
 };
 use host::Config;
 use lock_command::HostNumber;
+use slot_log::SlotCount;
 use std::fs::OpenFile;
 use std::os::unix::fs::FileExt;
 use std::rt::Files;

@@ -5,7 +5,9 @@ mod config;
 mod learner;
 mod operation;
 mod outcome;
+mod slot_count;
 
 pub use config::Config;
 pub use learner::Learner;
 pub use outcome::{LogOutcome, Refusal};
+pub use slot_count::SlotCount;

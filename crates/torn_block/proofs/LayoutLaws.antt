@@ -28,6 +28,10 @@ pub few_hosts : (v : Version) → hosts_in v ≤ 16
 few_hosts Version1 = omega arith
 few_hosts Version2 = omega arith
 
+pub short_row : (v : Version) → row_length v ≤ 4096
+short_row Version1 = omega arith
+short_row Version2 = omega arith
+
 pub blocks_follow : (v : Version) (h k : ℕ) → h < k → block_length v * h + block_length v ≤ block_length v * k
 blocks_follow Version1 h k below = omega arith
 blocks_follow Version2 h k below = omega arith

@@ -3,10 +3,12 @@ ghost use Rattle.disk.specs.Disk.{DiskState, Call, Answer, Read, Sync, Told, Don
 ghost use Rattle.disk.specs.Crash.{MayLeave, IsWhole};
 ghost use Rattle.disk.specs.Simulated.{fresh_disk};
 ghost use Rattle.disk.specs.Steps.{WritesOn};
+ghost use Rattle.disk.specs.declared.file.TheConstants.{READ_LENGTH};
 ghost use Rattle.torn_block.specs.declared.block.Block128.{Block128};
+ghost use Rattle.torn_block.specs.declared.layout.TheConstants.{HEADER_LENGTH};
 ghost use Rattle.torn_block.specs.declared.write_steps.WriteCall.{WriteCall};
 ghost use Rattle.torn_block.specs.declared.write_steps.WriteCall.TheVariants.{CloseGate};
-ghost use Rattle.torn_block.specs.Layout.{Version, block_length};
+ghost use Rattle.torn_block.specs.Layout.{Version, block_length, row_length};
 ghost use Rattle.torn_block.specs.layouts.Block.{value_of, number_in};
 ghost use Rattle.torn_block.specs.layouts.Place.{block_in};
 ghost use Rattle.torn_block.specs.layouts.Plan.{IsReading, told_number, device_call, need_at, plan_by};
@@ -78,4 +80,11 @@ pub fn six_calls()
     // Between two of the calls, no call that leaves the block matters.
     ensures elsewhere { (w : Write128) (disk new : DiskState) (due : WriteCall) (call : Call) (answer : Answer) → IsPlaced w disk →
         WritesOn disk call → LeavesBlock w.version w.place call → Step disk call answer new → IsDue due w disk → IsDue due w new }
+{}
+
+/// A row of either layout, and a header, is no longer than what a file is read at a time. So what a host reads of a file at once
+/// was there at one moment.
+pub fn rows_are_read_at_once()
+    ensures rows { (v : Version) → row_length v ≤ READ_LENGTH }
+    ensures header { HEADER_LENGTH ≤ READ_LENGTH }
 {}

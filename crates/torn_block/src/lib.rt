@@ -9,7 +9,7 @@ mod write_steps;
 
 pub use block::{Block128, Body, Half, OPEN_GATE, is_open, read_block, sequence_in};
 pub use damage::{has_twins, is_sequence};
-pub use law::{registers, six_calls};
+pub use law::{registers, rows_are_read_at_once, six_calls};
 pub use layout::{
     BLOCK_LENGTH, BODY_LENGTH, BODY_ROOM, COPY_LENGTH, COPY_ROOM, ClusterLayout, DISKS,
     HEADER_LENGTH, HEADING_LENGTH, HOSTS, HOSTS_ROOM, LAST_SEQUENCE, Layout, Layout1, Layout2,
