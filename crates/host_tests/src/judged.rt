@@ -8,9 +8,9 @@ use simulator::{Answer, Event, Report, Sim, judge, read_script};
 use std::alloc::{AllocError, Global};
 use std::test::Fail;
 
-// The first lock is granted, the second one waits, and another host learns both.
+// The first lock is granted, the second one waits, and another host learns both, and then looks.
 const TWO_COMMANDS: &[u8] = b"cluster 1 4\nstart 0\nsubmit 0 1 enqueue 1 1 1 EX db\nstep 0 17\n\
-submit 0 1 enqueue 2 1 2 EX db\nstep 0 17\nstart 1\nrecover 1 1\nstep 1 51\n";
+submit 0 1 enqueue 2 1 2 EX db\nstep 0 17\nstart 1\nrecover 1 1\nstep 1 51\nlook 1\nstep 1 3\n";
 
 // What is done to one answer of a report.
 #[derive(Clone, Copy, Debug)]
@@ -20,7 +20,7 @@ enum Change {
     ShowsNothing,
 }
 
-// The acknowledgements are the answers 0 and 1, the recovery is answer 2.
+// The acknowledgements are the answers 0 and 1, the recovery is answer 2, the look answer 3.
 #[test]
 fn judge_of_changed_reports(rt: HostRuntime) -> Result<(), Fail> {
     let log = submitted(rt.alloc(), TWO_COMMANDS).ok_or("commands")?;
@@ -31,6 +31,9 @@ fn judge_of_changed_reports(rt: HostRuntime) -> Result<(), Fail> {
         (2, recovered(1), false),
         (2, recovered(3), false),
         (2, Change::ShowsNothing, false),
+        (3, looked(1), false),
+        (3, looked(3), false),
+        (3, Change::ShowsNothing, false),
     ] {
         let judged = judged(rt.alloc(), &log, at, change);
         assert_eq!(rt; judged, Some(right), "answer {at}: {change:?}");
@@ -44,6 +47,10 @@ fn ack(slot: u16, reply: Reply) -> Change {
 
 fn recovered(length: u16) -> Change {
     Change::Says(HostAnswer::Recovered { length })
+}
+
+fn looked(length: u16) -> Change {
+    Change::Says(HostAnswer::Looked { length })
 }
 
 // Whether the run is judged right by these commands, with this answer of it changed.

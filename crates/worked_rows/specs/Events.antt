@@ -4,7 +4,7 @@ use Rattle.lock_modes.specs.declared.mode.Mode.{Mode}
 use Rattle.lock_modes.specs.declared.mode.Mode.TheVariants.{Null, ConcurrentRead, ConcurrentWrite, ProtectedRead, ProtectedWrite, Exclusive}
 use Rattle.lock_command.specs.declared.command.Command.{Command}
 use Rattle.lock_command.specs.declared.command.Action.{Action}
-use Rattle.lock_command.specs.declared.command.Action.TheVariants.{Enqueue, Convert, Release, Cancel, Status, Purge}
+use Rattle.lock_command.specs.declared.command.Action.TheVariants.{Enqueue, Convert, Release, Cancel, Status, Purge, QuietPurge}
 use Rattle.world.specs.Happens.{Event, Start, Stop, Submit, Recover, Look, Beat, Mark, Step, Tear, FailCall, DiskCrash, DiskGone}
 
 -- COMMANDS
@@ -313,9 +313,9 @@ slot_that_is_not_learned = Start 0 ∷ Mark 0 1 ∷ Mark 0 2 ∷ []
 abbrev pub before_a_start : List Event
 before_a_start = Stop 0 ∷ Submit 0 (takes_db 0) 1 ∷ Recover 0 1 ∷ Step 0 ∷ Tear 0 (0 ∷ []) ∷ FailCall 0 (0 ∷ []) ∷ Start 16 ∷ DiskCrash 1 (0 ∷ []) ∷ DiskGone 1 ∷ DiskCrash 0 [] ∷ []
 
--- to a running host that is idle: a second start, a call, a command of another host or without a try
+-- to a running host that is idle: a second start, a call, a command of another host, one for which no client may ask, or one without a try
 abbrev pub while_idle : List Event
-while_idle = Start 0 ∷ Step 0 ∷ Submit 0 (takes_db 1) 1 ∷ Submit 0 (takes_db 0) 0 ∷ Recover 0 0 ∷ []
+while_idle = Start 0 ∷ Step 0 ∷ Submit 0 (takes_db 1) 1 ∷ Submit 0 (asks 0 1 1 (QuietPurge 1)) 1 ∷ Submit 0 (takes_db 0) 0 ∷ Recover 0 0 ∷ []
 
 -- to one that is busy: another operation, the tear of a call that is no write, bytes that are none
 abbrev pub while_busy : List Event

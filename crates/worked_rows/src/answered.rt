@@ -124,5 +124,5 @@ pub fn recovery_of_a_full_log()
 /// `cluster 1 1 | stop 0 | submit 0 1 enqueue 1 1 1 EX db | recover 0 1 | step 0 1 | tear 0 00 | ..`
 pub fn events_that_do_not_apply()
     ensures none { run (sized 1 1) events.before_a_start ≡ [] }
-    ensures answers { said_over 1 1 events.events_that_do_not_apply ≡ granted 37 0 0 ∷ [] }
+    ensures answers { said_over 1 1 events.events_that_do_not_apply ≡ granted 38 0 0 ∷ [] }
 {}
