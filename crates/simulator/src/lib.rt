@@ -5,6 +5,7 @@ mod answer;
 mod device_call;
 mod interrupting;
 mod judging;
+mod law;
 mod migrated;
 mod replay;
 mod report;
@@ -16,6 +17,7 @@ mod tally;
 
 pub use answer::Answer;
 pub use judging::judge;
+pub use law::what_a_sweep_puts_in;
 pub use lock_script::{
     Event, FaultBytes, MOST_EVENTS, Run, Script, ScriptFault, Show, View, read_script,
 };
