@@ -1,6 +1,6 @@
 -- The calls of a format, and of a migration, make one of each image that makes a step with each of them.
 use Rattle.std.specs.Prelude.{replicate}
-use Rattle.std.proofs.Common.{ℕ, List, [], ◌∷◌, ◌++◌, refl, sym, subst}
+use Rattle.std.proofs.Common.{ℕ, List, [], ◌∷◌, ◌++◌, inl, inr, refl, sym, subst}
 use Rattle.disk.specs.Disk.{DiskState, Call, Write, Sync, Answer, Done, Step}
 use Rattle.torn_block.specs.declared.block.TheConstants.{OPEN_GATE}
 use Rattle.paxos_block.specs.declared.header.Header.{Header}
@@ -11,7 +11,7 @@ use Rattle.dlm_images.specs.Layout.{WritesZeros, none as no_zeros, more as more_
 use Rattle.dlm_images.specs.Operations.{Made, Gave, GaveOne}
 use Rattle.folder_migration.specs.Gates.{IsCleared}
 use Rattle.folder_migration.specs.Moving.{Makes, none, more, HasMoved}
-use Rattle.at_once.specs.Beginnings.{zeroing, laying, clearing, moving, succeeded, LaidOutFileIsBlank, ClearedFileIsFresh, FilesMakeAllOrNothing, PowerLeavesFilesAllOrNothing, MovedFilesAreWhole, MovedFilesHoldLog}
+use Rattle.at_once.specs.Beginnings.{zeroing, laying, clearing, moving, succeeded, LaidOutFileIsBlank, ClearedFileIsFresh, FilesMakeAllOrNothing, StopsWithin, StoppedFilesAreAllOrNothing, MovedFilesAreWhole, MovedFilesHoldLog}
 use Rattle.at_once.specs.Disks.{GaveAlone}
 use Rattle.at_once.proofs.Clearing.{cleared_is_fresh, laid_out_is_blank}
 use Rattle.at_once.proofs.Moving.{makes_all_or_nothing, power_leaves_all_or_nothing, moved_is_whole, moved_holds_log}
@@ -141,9 +141,17 @@ module _ {D : Type 0} (gives : D → Call → Answer → D → Type 0) where
     λ images left fits fresh gave. makes_all_or_nothing Step (λ (d : DiskState). d) (λ a b call answer step. step) s images left answers fits fresh (images_moved gives s old answers new is images left gave),
   )
 
-  pub power_leaves_files_all_or_nothing : PowerLeavesFilesAllOrNothing gives
-  power_leaves_files_all_or_nothing s old new answers is images left dark fits fresh gave power =
-      power_leaves_all_or_nothing Step (λ (d : DiskState). d) (λ a b call answer step. step) s images left answers fits fresh (images_moved gives s old answers new is images left gave) dark power
+  -- what was under way is one call more
+  made_so : (s : Setup) (images left stopped : List DiskState) (answers : List Answer) → Makes Step s images answers left → StopsWithin s answers left stopped → (all : List Answer) × Makes Step s images all stopped
+  made_so s images left stopped answers makes (inl same) = (answers, subst (Makes Step s images answers) (sym same) makes)
+  made_so s images left stopped answers makes (inr (x, due, gave)) = (answers ++ x.answer ∷ [], more answers left makes x due stopped gave)
+
+  pub stopped_files_are_all_or_nothing : StoppedFilesAreAllOrNothing gives
+  stopped_files_are_all_or_nothing s old new answers is images left stopped fits fresh gave stops =
+      let (all, makes) = made_so s images left stopped answers (images_moved gives s old answers new is images left gave) stops in (
+        makes_all_or_nothing Step (λ (d : DiskState). d) (λ a b call answer step. step) s images stopped all fits fresh makes,
+        λ dark power. power_leaves_all_or_nothing Step (λ (d : DiskState). d) (λ a b call answer step. step) s images stopped all fits fresh makes dark power,
+      )
 
   moved_so : (s : Setup) (old new : List D) (is : HasMoved gives s old new Migrated) (images left : List DiskState) → Gave Step images (moving is.makes) left → HasMoved Step s images left Migrated
   moved_so s old new is images left gave = record { answers = is.answers; makes = images_moved gives s old is.answers new is.makes images left gave; history = is.history; ended = is.ended }

@@ -1,5 +1,5 @@
 -- What the calls of a format, and of a migration, leave of a disk that makes a step of the disk model with each of them.
-use Rattle.std.specs.Prelude.{◌≡◌, ◌<◌, ℕ, List, [], ◌∷◌, ◌++◌, length, map, replicate, slice_get, slice_index_or, Some}
+use Rattle.std.specs.Prelude.{◌≡◌, ◌<◌, ◌⊎◌, ℕ, List, [], ◌∷◌, ◌++◌, length, map, replicate, slice_get, slice_index_or, Some}
 use Rattle.disk.specs.Disk.{DiskState, Call, Attach, Write, Sync, Answer, Booted, Done, Step}
 use Rattle.disk.specs.Cut.{cut}
 use Rattle.disk.specs.Simulated.{fresh_disk}
@@ -7,13 +7,14 @@ use Rattle.torn_block.specs.declared.block.TheConstants.{OPEN_GATE}
 use Rattle.paxos_block.specs.declared.header.Header.{Header}
 use Rattle.paxos_block.specs.Places.{image_length}
 use Rattle.migration.specs.Fits.{Fits}
+use Rattle.migration.specs.Heard.{at_first, heard, next}
 use Rattle.migration.specs.Image.{Setup}
 use Rattle.migration.specs.Run.{IsAllOrNothing, IsMigrated}
 use Rattle.migration.specs.declared.end.End.TheVariants.{Migrated}
 use Rattle.lock_command.specs.declared.command.Command.{Command}
 use Rattle.lock_command.specs.Command.{spelling}
 use Rattle.dlm_images.specs.Layout.{WritesZeros, none as no_zeros, more as more_zeros, IsLaidOut, closed_header}
-use Rattle.dlm_images.specs.Operations.{Made, Gave}
+use Rattle.dlm_images.specs.Operations.{Made, Gave, GaveOne}
 use Rattle.folder_migration.specs.Gates.{IsCleared}
 use Rattle.folder_migration.specs.Moving.{Makes, none, more, HasMoved}
 use Rattle.at_once.specs.Disks.{GaveAlone, MakesSteps}
@@ -128,11 +129,16 @@ FilesMakeAllOrNothing {D = D} gives = (s : Setup) (old new : List D) (answers : 
     Gave gives old (moving is) new ×
     ((images left : List DiskState) → Fits s → AreFreshImages s images → Gave Step images (moving is) left → IsAllOrNothing s (firsts (image_length s.slots) (λ image. image) left))
 
--- So it is if these images then lose power.
-abbrev pub PowerLeavesFilesAllOrNothing : {D : Type 0} → (D → Call → Answer → D → Type 0) → Type 0
-PowerLeavesFilesAllOrNothing {D = D} gives = (s : Setup) (old new : List D) (answers : List Answer) (is : Makes gives s old answers new) →
-    (images left dark : List DiskState) → Fits s → AreFreshImages s images → Gave Step images (moving is) left →
-    HaveLostPower (λ image. image) left dark → IsAllOrNothing s (firsts (image_length s.slots) (λ image. image) dark)
+-- what the images are where the migration was stopped: between two calls, or within the next one, whatever came of that
+abbrev pub StopsWithin : Setup → List Answer → (left stopped : List DiskState) → Type 0
+StopsWithin s answers left stopped = (stopped ≡ left) ⊎ ((x : Made) × (next (heard (at_first s) answers) ≡ Some (x.disk, x.call)) × GaveOne Step left x stopped)
+
+-- So it is wherever it is stopped, and if the images then lose power.
+abbrev pub StoppedFilesAreAllOrNothing : {D : Type 0} → (D → Call → Answer → D → Type 0) → Type 0
+StoppedFilesAreAllOrNothing {D = D} gives = (s : Setup) (old new : List D) (answers : List Answer) (is : Makes gives s old answers new) →
+    (images left stopped : List DiskState) → Fits s → AreFreshImages s images → Gave Step images (moving is) left → StopsWithin s answers left stopped →
+    IsAllOrNothing s (firsts (image_length s.slots) (λ image. image) stopped) ×
+    ((dark : List DiskState) → HaveLostPower (λ image. image) stopped dark → IsAllOrNothing s (firsts (image_length s.slots) (λ image. image) dark))
 
 -- Where it ended well, each of these images is complete, and synced.
 abbrev pub MovedFilesAreWhole : {D : Type 0} → (D → Call → Answer → D → Type 0) → Type 0
