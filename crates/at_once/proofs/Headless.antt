@@ -92,7 +92,7 @@ same_behind (suc h) (f ∷ flags) (o ∷ old) (n ∷ new) a b d same zero is = r
 same_behind (suc h) (f ∷ flags) (o ∷ old) (n ∷ new) a b d same (suc k) is =
     same_behind h flags old new (omega (arith, a)) (omega (arith, b)) (omega (arith, d)) (λ j. same (suc j)) k is
 
-same_taken : (n : ℕ) (flags : List Bool) (old new : List ℕ) → n ≤ length flags → n ≤ length old → n ≤ length new → ((k : ℕ) → slice_index_or flags k false ≡ false → slice_index new k ≡ slice_index old k)
+pub same_taken : (n : ℕ) (flags : List Bool) (old new : List ℕ) → n ≤ length flags → n ≤ length old → n ≤ length new → ((k : ℕ) → slice_index_or flags k false ≡ false → slice_index new k ≡ slice_index old k)
     → (k : ℕ) → slice_index_or (take n flags) k false ≡ false → slice_index (take n new) k ≡ slice_index (take n old) k
 same_taken zero flags old new a b d same k is = refl
 same_taken (suc n) [] old new a b d same k is = absurd (omega (arith, a))

@@ -1,3 +1,5 @@
+pub mod Calls
+pub mod Clearing
 pub mod Deeds
 pub mod Filling
 pub mod Headless
@@ -6,6 +8,7 @@ pub mod Joined
 pub mod Losses
 pub mod Lying
 pub mod Migrated
+pub mod Moving
 pub mod Parting
 pub mod Recovered
 pub mod RenumberedBeside

@@ -19,7 +19,7 @@ use Rattle.at_once.specs.Disks.{on_one, GaveAlone, GaveOn, EachGave, GivingServe
 
 module _ {A : Type 0} where
   -- what is put at one place stands there, and elsewhere what stood there
-  set_here : (xs : List A) (i : ℕ) (old new : A) → slice_get xs i ≡ Some old → slice_get (slice_set xs i new) i ≡ Some new
+  pub set_here : (xs : List A) (i : ℕ) (old new : A) → slice_get xs i ≡ Some old → slice_get (slice_set xs i new) i ≡ Some new
   set_here [] i old new is = absurd (cc)
   set_here (x ∷ xs) zero old new is = refl
   set_here (x ∷ xs) (suc i) old new is = set_here xs i old new is

@@ -28,9 +28,13 @@ abbrev pub EachGave : {D : Type 0} → (D → Call → Answer → D → Type 0) 
 EachGave {D = D} gives = (old new : List D) (made : List Made) → Gave gives old made new →
     (k : ℕ) (before : D) → slice_get old k ≡ Some before → GaveOn gives k before made new
 
+-- each answer makes a step of the disk model
+abbrev pub MakesSteps : {D : Type 0} → (D → Call → Answer → D → Type 0) → (D → DiskState) → Type 0
+MakesSteps {D = D} gives state = (old new : D) (call : Call) (answer : Answer) → gives old call answer new → Step (state old) call answer (state new)
+
 -- A disk that makes a step with each call has served the calls that it gave the answers to, and may serve more.
 abbrev pub GivingServes : {D : Type 0} → (D → Call → Answer → D → Type 0) → (D → DiskState) → Type 0
-GivingServes {D = D} gives state = ((old new : D) (call : Call) (answer : Answer) → gives old call answer new → Step (state old) call answer (state new)) →
+GivingServes {D = D} gives state = MakesSteps gives state →
     (c : Shape) (h k : ℕ) (before after : D) (made : List Made) (more : List Filled) → GaveAlone gives before (on_one k made) after →
     Serves c k (state after) more → Serves c k (state before) (on_disk k (calls h made) ++ more)
 

@@ -1,4 +1,5 @@
 pub mod AtOnce
+pub mod Beginnings
 pub mod Deeds
 pub mod Disks
 pub mod Images
