@@ -1,4 +1,4 @@
-ghost use Rattle.std.specs.Prelude.{◌≡◌, true, IfOk, OnOk};
+ghost use Rattle.std.specs.Prelude.{◌≡◌, ℕ, true, IfOk, OnOk};
 ghost use Rattle.std.specs.Io.KnownBytes.{Appends};
 ghost use Rattle.lock_command.specs.Command.{is_submittable};
 ghost use Rattle.host.specs.declared.answer.HostAnswer.TheVariants.{Ack};
@@ -63,15 +63,7 @@ where
     ensures { OnOk result (WritesAcknowledgement TRIES command (O.contents out.old) (O.contents out.new)) }
 {
     let (mut host, _lock) = host_over(rt, folder, command.host)?;
-    match submit_patiently(rt, &mut host, command, TRIES) {
-        Ok(done) => {
-            print_ack(done, out)?;
-            // The command is in the log whether or not the marking succeeds.
-            let _ = host.mark(done.slot);
-            Ok(())
-        }
-        Err(refusal) => Err(CommandFailure::from(Fault::from(refusal))),
-    }
+    submit_through(rt, &mut host, command, out)
 }
 
 /// Learns the log from the images of a folder, and prints how much that is and the lock table after it.
@@ -86,10 +78,7 @@ where
     ensures { OnOk result (WritesTable TRIES host (O.contents out.old) (O.contents out.new)) }
 {
     let (mut host, _lock) = host_over(rt, folder, host)?;
-    match host.recover(TRIES) {
-        Ok(length) => print_table(rt.alloc(), length, host.table(), out),
-        Err(refusal) => Err(CommandFailure::from(Fault::from(refusal))),
-    }
+    recover_table(rt.alloc(), &mut host, out)
 }
 
 /// Learns the log from the images of a folder, marks each slot that no mark told, and prints how much the log is, and how many
@@ -105,12 +94,7 @@ where
     ensures { OnOk result (WritesMarks TRIES (O.contents out.old) (O.contents out.new)) }
 {
     let (mut host, _lock) = host_over(rt, folder, host)?;
-    // Look first: a slot that the look learns from a mark need not be marked again. If the look is refused, the recovery says why.
-    let _ = host.look();
-    match host.recover_and_mark(TRIES) {
-        Ok(log) => print_marked(log, out),
-        Err(refusal) => Err(CommandFailure::from(Fault::from(refusal))),
-    }
+    mark_through(&mut host, out)
 }
 
 /// Prints what is wrong with the images of a folder, which are only read. What is found first is then the refusal.
@@ -168,6 +152,56 @@ where
     let lock = lock_host(rt, folder, host)?;
     let over = images.host(rt.alloc(), host)?;
     Ok((over, lock))
+}
+
+// What is done through a host is a function of its own, to which the host is lent: who owns one drops it on each way out.
+
+fn submit_through<R: Clock + RandomSource, F: FileExt + OpenFile + Drop, O: Write>(
+    rt: &R,
+    host: &mut DiskHost<FileDisk<F>>,
+    command: Command,
+    out: &mut O,
+) -> Result<(), CommandFailure>
+    requires asked { is_submittable command ≡ true }
+    requires host { command.host ≡ host.old.core.learner.host }
+    ensures { OnOk result (IsFresh command.host host.old → WritesAcknowledgement TRIES command (O.contents out.old) (O.contents out.new)) }
+{
+    match submit_patiently(rt, host, command, TRIES) {
+        Ok(done) => {
+            print_ack(done, out)?;
+            // The command is in the log whether or not the marking succeeds.
+            let _ = host.mark(done.slot);
+            Ok(())
+        }
+        Err(refusal) => Err(CommandFailure::from(Fault::from(refusal))),
+    }
+}
+
+fn recover_table<F: FileExt + OpenFile + Drop, O: Write>(
+    alloc: Global,
+    host: &mut DiskHost<FileDisk<F>>,
+    out: &mut O,
+) -> Result<(), CommandFailure>
+    ensures { OnOk result ((number : ℕ) → IsFresh number host.old → WritesTable TRIES number (O.contents out.old) (O.contents out.new)) }
+{
+    match host.recover(TRIES) {
+        Ok(length) => print_table(alloc, length, host.table(), out),
+        Err(refusal) => Err(CommandFailure::from(Fault::from(refusal))),
+    }
+}
+
+fn mark_through<F: FileExt + OpenFile + Drop, O: Write>(
+    host: &mut DiskHost<FileDisk<F>>,
+    out: &mut O,
+) -> Result<(), CommandFailure>
+    ensures { OnOk result (WritesMarks TRIES (O.contents out.old) (O.contents out.new)) }
+{
+    // Look first: a slot that the look learns from a mark need not be marked again. If the look is refused, the recovery says why.
+    let _ = host.look();
+    match host.recover_and_mark(TRIES) {
+        Ok(log) => print_marked(log, out),
+        Err(refusal) => Err(CommandFailure::from(Fault::from(refusal))),
+    }
 }
 
 fn print_ack<O: Write>(done: Acknowledgement, out: &mut O) -> Result<(), CommandFailure>

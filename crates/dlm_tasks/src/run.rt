@@ -26,15 +26,24 @@ pub fn run_script<O: Write>(
     let mut cluster = SimulatedCluster::migrated(alloc, script.config, &script.log).map_err(
         Fault::from,
     )?;
+    happen_all(alloc, &mut cluster, script, out)
+}
+
+fn happen_all<O: Write>(
+    alloc: Global,
+    cluster: &mut SimulatedCluster,
+    script: &Script,
+    out: &mut O,
+) -> Result<(), CommandFailure> {
     let mut shows = script.shows.as_slice();
     let mut place = 0;
     // A table is shown between two lines of the script, and so between two runs of events.
     for run in script.events.runs() {
-        shows = show_due(alloc, &cluster, shows, place, out)?;
-        repeat(alloc, &mut cluster, place, run, out)?;
+        shows = show_due(alloc, cluster, shows, place, out)?;
+        repeat(alloc, cluster, place, run, out)?;
         place += run.times;
     }
-    show_all(alloc, &cluster, shows, out)
+    show_all(alloc, cluster, shows, out)
 }
 
 /// Lets a run of events happen, the first of which has this number.

@@ -3,7 +3,7 @@ use Rattle.std.proofs.Common.{ℕ, subst}
 use Rattle.std.proofs.lemmas.Result.{on_ok_weaker}
 use Rattle.std.specs.Io.KnownBytes.{Appends}
 use Rattle.dlm_tasks.specs.Printed.{table_text}
-use Rattle.dlm_tasks.proofs.images.table.Goals as goal
+use Rattle.dlm_tasks.proofs.images.recover_table.Goals as goal
 
 pub returns-in-Ok : goal.returns-in-Ok
 returns-in-Ok g c =
@@ -11,11 +11,11 @@ returns-in-Ok g c =
     let after = g.O.Write.contents c.print_table.new.out in
     let shown = c.table.result.now in
     on_ok_weaker c.print_table.result
-    (λ written. record {
-      old = c.in_ok-host.host;
+    (λ written number started. record {
+      old = c.args.host.now;
       new = c.recover.new.self;
       shown = shown;
-      started = c.in_ok-host.ensures.fresh;
+      started = started;
       recovers = c.recover.ensures.operated;
       picture = c.table.ensures;
       written = subst (λ (count : ℕ). Appends before after (table_text count shown)) c.in-Ok.ensures.learned written;

@@ -1,7 +1,7 @@
 use Rattle.std.proofs.Common.{◌≤◌, ◌+◌, length, drop}
 use Rattle.lock_script.specs.Events.{each_event}
 use Rattle.lock_script.specs.declared.events.TheConstants.{MOST_EVENTS}
-use Rattle.dlm_tasks.proofs.run.run_script.Given as goal
+use Rattle.dlm_tasks.proofs.run.happen_all.Given as goal
 
 -- the events that are left find numbers behind this one
 abbrev pub invariant-loop-run : goal.invariant-loop-run

@@ -3,7 +3,7 @@ use Rattle.std.proofs.Common.{ℕ, subst}
 use Rattle.std.proofs.lemmas.Result.{on_ok_weaker}
 use Rattle.std.specs.Io.KnownBytes.{Appends}
 use Rattle.dlm_tasks.specs.Printed.{marked_text}
-use Rattle.dlm_tasks.proofs.images.mark.Goals as goal
+use Rattle.dlm_tasks.proofs.images.mark_through.Goals as goal
 
 pub returns-in-Ok : goal.returns-in-Ok
 returns-in-Ok g c =
