@@ -1,16 +1,16 @@
 -- A folder as C found it, and the host that is opened over it.
-use Rattle.std.specs.Prelude.{◌≡◌, ◌<◌, ◌==◌, ◌⊎◌, ◌↔◌, ℕ, ℤ, List, min, length, slice_get, Option, Some, None, Result, Ok, Err, if◌then◌else◌}
-use Rattle.torn_block.specs.declared.layout.TheConstants.{DISKS}
+use Rattle.std.specs.Prelude.{◌≡◌, ◌≢◌, ◌≤◌, ◌<◌, ◌==◌, ◌⊎◌, ◌↔◌, ℕ, ℤ, List, min, length, slice_get, Option, Some, None, Result, Ok, Err, if◌then◌else◌}
+use Rattle.torn_block.specs.declared.layout.TheConstants.{DISKS, HEADER_LENGTH}
 use Rattle.disk.specs.declared.fault.ImageFault.{ImageFault}
-use Rattle.disk.specs.declared.fault.ImageFault.TheVariants.{OldLayout}
+use Rattle.disk.specs.declared.fault.ImageFault.TheVariants.{NotFormatted, WrongHeader, Unreadable, OldLayout}
 use Rattle.paxos_block.specs.declared.header.Header.{Header}
-use Rattle.paxos_block.specs.Headers.{IsRight}
+use Rattle.paxos_block.specs.Headers.{IsFormatted, IsRight}
 use Rattle.slot_log.specs.Shape.{Shape}
 use Rattle.host.specs.Host.{fresh}
 use Rattle.host.specs.Kept.{LeadsTo}
 use Rattle.lock_command.specs.declared.number.TheConstants.{HOSTS}
 use Rattle.dlm_images.specs.declared.set.SetFault.{SetFault}
-use Rattle.dlm_images.specs.Headers.{IsOld, told_length}
+use Rattle.dlm_images.specs.Headers.{IsOld, HasWrongHeader, told_length}
 use Rattle.dlm_images.specs.Sets.{Found, HasNumbers}
 use Rattle.dlm_images.specs.SetFaults.{HasSetFault}
 use Rattle.dlm_c.specs.declared.fault.Fault.{Fault}
@@ -33,10 +33,18 @@ IsRead disk image header = (image.is_read ≡ 1) × IsRight disk (long_of image)
 abbrev pub IsReadAsOld : ℕ → Image → Type 0
 IsReadAsOld disk image = (image.is_read ≡ 1) × IsOld disk (long_of image) image.bytes
 
--- what is found of an image: what it says, or, where it says no right header, some fault, which tells whether it has the old layout
+-- what is wrong with an image: its gate is not open; it is too short for a header, or its header is right by neither layout; it was not read;
+-- or it has the layout that images had before
+abbrev pub HasFault : ℕ → Image → ImageFault → Type 0
+HasFault disk image NotFormatted = (image.is_read ≡ 1) × (HEADER_LENGTH ≤ long_of image) × ¬ IsFormatted image.bytes
+HasFault disk image WrongHeader = (image.is_read ≡ 1) × ((long_of image < HEADER_LENGTH) ⊎ HasWrongHeader disk (long_of image) image.bytes)
+HasFault disk image Unreadable = image.is_read ≢ 1
+HasFault disk image OldLayout = IsReadAsOld disk image
+
+-- what is found of an image: what it says; or, where it says no right header, the one thing that is wrong with it
 abbrev pub Finds : ℕ → Image → Result Header ImageFault → Type 0
 Finds disk image (Ok header) = IsRead disk image header
-Finds disk image (Err fault) = ((header : Header) → IsRead disk image header → ⊥) × ((fault ≡ OldLayout) ↔ IsReadAsOld disk image)
+Finds disk image (Err fault) = ((header : Header) → IsRead disk image header → ⊥) × ((other : ImageFault) → HasFault disk image other ↔ (other ≡ fault))
 
 -- The same of all images.
 abbrev pub AreFound : List Image → Found → Type 0

@@ -141,8 +141,10 @@ pub record HeardGoesOn (told : ToldAnswer) (row : List ℕ) (old new : Session) 
   pub heard : HasHeardTold told row old between
   pub next : CallsNext told.boot between new call written status
 
+-- where it heard nothing, C is told no call
 abbrev pub GoesOn : ToldAnswer → List ℕ → Session → Session → DueCall → List ℕ → ℤ → Type 0
-GoesOn told row old new call written status = HeardGoesOn told row old new call written status ⊎ HearsNothing told row old new status
+GoesOn told row old new call written status =
+    HeardGoesOn told row old new call written status ⊎ (HearsNothing told row old new status × (call ≡ no_call))
 
 -- ALL OF THEM
 

@@ -4,7 +4,7 @@ use Rattle.std.specs.Option.{option_or}
 use Rattle.std.proofs.Common.{◌≡◌, ◌≤◌, ◌<◌, ◌+◌, ◌∙◌, ℕ, zero, suc, List, [], ◌∷◌, Option, Some, None, Result, Ok, Err, length, slice_get, slice_set, refl, sym, ap, subst, arith, inl, inr}
 use Rattle.std.proofs.lemmas.Bool.{cases_lt}
 use Rattle.std.proofs.lemmas.List.{length-set}
-use Rattle.disk.specs.Disk.{Device, DiskState}
+use Rattle.disk.specs.Disk.{Device, DiskState, Call, Answer}
 use Rattle.disk.specs.declared.fault.ImageFault.{ImageFault}
 use Rattle.disk.specs.declared.fault.ImageFault.TheVariants.{Unreadable}
 use Rattle.paxos_block.specs.Places.{image_length}
@@ -13,6 +13,7 @@ use Rattle.dlm_images.specs.Sets.{Found}
 use Rattle.dlm_images.specs.declared.check.Finding.{Finding}
 use Rattle.dlm_images.specs.declared.check.Finding.TheVariants.{Image, Damaged}
 use Rattle.dlm_images.specs.Damage.{AreLarge, IsDamagedImage, TellsOf, IsTold, AreSound, IsToldFirst, NoneRefused, IsToldOfFolder}
+use Rattle.dlm_images.specs.Reading.{CannotBeRead, OneCannotBeRead}
 use Rattle.dlm_images.proofs.Images.{Each}
 
 set_each : {X : Type 0} (P : X → Type 0) (xs : List X) (i : ℕ) (y : X) → P y → Each P xs → Each P (slice_set xs i y)
@@ -30,55 +31,102 @@ set_before (z ∷ zs) zero (suc k) y lt = refl
 set_before (z ∷ zs) (suc i) zero y lt = absurd (omega (arith, lt))
 set_before (z ∷ zs) (suc i) (suc k) y lt = set_before zs i k y (omega (arith, lt))
 
+-- and those before it
+set_after : {X : Type 0} (xs : List X) (i k : ℕ) (y : X) → k < i → slice_get (slice_set xs i y) k ≡ slice_get xs k
+set_after [] i k y lt = refl
+set_after (z ∷ zs) zero k y lt = absurd (omega (arith, lt))
+set_after (z ∷ zs) (suc i) zero y lt = refl
+set_after (z ∷ zs) (suc i) (suc k) y lt = set_after zs i k y (omega (arith, lt))
+
+set_here : {X : Type 0} (xs : List X) (i : ℕ) (x y : X) → slice_get xs i ≡ Some x → slice_get (slice_set xs i y) i ≡ Some y
+set_here [] i x y there = absurd (cc)
+set_here (z ∷ zs) zero x y there = refl
+set_here (z ∷ zs) (suc i) x y there = set_here zs i x y there
+
 item_at : {X : Type 0} (xs : List X) (k : ℕ) → k < length xs → (x : X) × (slice_get xs k ≡ Some x)
 item_at [] k below = absurd (omega (arith, below))
 item_at (x ∷ xs) zero below = (x, refl)
 item_at (x ∷ xs) (suc k) below = item_at xs k (omega (arith, below))
 
 -- Before image n: there are as many disks, as large as they were; those from n on are as they were; and of the others this was told first.
-pub record Checked {D : Type 0} (device : D → Device) (state : D → DiskState) (slots : ℕ) (found : Found) (old now : List D) (n : ℕ) (first : Option Finding) : Type 0 where
+pub record Checked {D : Type 0} (device : D → Device) (state : D → DiskState) (gives : D → Call → Answer → D → Type 0) (slots : ℕ) (found : Found) (old now : List D) (n : ℕ) (first : Option Finding) : Type 0 where
   pub as_many : length now ≡ length old
   pub large : AreLarge device slots now
   pub rest : (k : ℕ) → n ≤ k → slice_get now k ≡ slice_get old k
-  pub told : IsToldFirst device state slots found old n first
+  pub told : IsToldFirst device state slots found old (OneCannotBeRead gives slots old now) n first
+
+-- what is told of an image stays so where its disk failed still
+pub told_still : (image : Result Header ImageFault) (disk : ℕ) (tells damaged F G : Type 0) (finding : Option Finding) → (F → G) → TellsOf image disk tells damaged F finding → TellsOf image disk tells damaged G finding
+told_still (Err fault) disk tells damaged F G finding still told = told
+told_still (Ok header) disk tells damaged F G None still told = told
+told_still (Ok header) disk tells damaged F G (Some Damaged) still told = told
+told_still (Ok header) disk tells damaged F G (Some (Image number fault)) still told = (told.0, told.1, still told.2)
+
+-- the disk that is set failed where the call of it did, and those before it as they did
+module _ {D : Type 0} (gives : D → Call → Answer → D → Type 0) (slots : ℕ) (old now : List D) (n : ℕ) (y : D) where
+  pub failed_still : (k : ℕ) → k < n → OneCannotBeRead gives slots old now k → OneCannotBeRead gives slots old (slice_set now n y) k
+  failed_still k below failed = (failed.0, failed.1, failed.2, set_after now n k y below ∙ failed.3, failed.4)
+
+  pub failed_here : (x : D) → slice_get old n ≡ Some x → slice_get now n ≡ Some x → CannotBeRead gives slots x y → OneCannotBeRead gives slots old (slice_set now n y) n
+  failed_here x first there failed = (x, y, first, set_here now n x y there, failed)
 
 module _ {D : Type 0} (device : D → Device) (state : D → DiskState) (slots : ℕ) (found : Found) (old : List D) where
-  pub none_checked : AreLarge device slots old → Checked device state slots found old old 0 None
-  none_checked large = record { as_many = refl; large = large; rest = λ k after. refl; told = λ k below. absurd (omega (arith, below)) }
+  -- the same of what is told of several
+  one_still : (F G : ℕ → Type 0) (k : ℕ) (finding : Option Finding) → (F k → G k) → IsTold device state slots found old F k finding → IsTold device state slots found old G k finding
+  one_still F G k finding still told disk image at found_at =
+      told_still image k (IsTrue (device disk).tells) (IsDamagedImage slots (state disk).bytes) (F k) (G k) finding still (told disk image at found_at)
 
-  sound_more : (n : ℕ) → AreSound device state slots found old n → IsTold device state slots found old n None → AreSound device state slots found old (n + 1)
-  sound_more n before here k below =
+  sound_still : (F G : ℕ → Type 0) (n : ℕ) → ((k : ℕ) → k < n → F k → G k) → AreSound device state slots found old F n → AreSound device state slots found old G n
+  sound_still F G n still sound k below = one_still F G k None (still k below) (sound k below)
+
+  first_still : (F G : ℕ → Type 0) (n : ℕ) (finding : Option Finding) → ((k : ℕ) → k < n → F k → G k) → IsToldFirst device state slots found old F n finding → IsToldFirst device state slots found old G n finding
+  first_still F G n None still told = sound_still F G n still told
+  first_still F G n (Some finding) still told =
+      let below = told.1 in
+      (told.0, below, sound_still F G told.0 (λ k lower. still k (omega (arith, lower, below))) told.2, one_still F G told.0 (Some finding) (still told.0 below) told.3)
+
+  sound_more : (F : ℕ → Type 0) (n : ℕ) → AreSound device state slots found old F n → IsTold device state slots found old F n None → AreSound device state slots found old F (n + 1)
+  sound_more F n before here k below =
       elim (cases_lt k n) [
         | inl lt ↦ before k lt
-        | inr ge ↦ (let same : n ≡ k = omega (arith, below, ge) in subst (λ (j : ℕ). IsTold device state slots found old j None) same here)
+        | inr ge ↦ (let same : n ≡ k = omega (arith, below, ge) in subst (λ (j : ℕ). IsTold device state slots found old F j None) same here)
       ]
 
-  told_more : (n : ℕ) (first finding : Option Finding) → IsToldFirst device state slots found old n first → IsTold device state slots found old n finding → IsToldFirst device state slots found old (n + 1) (option_or first finding)
-  told_more n None None before here = sound_more n before here
-  told_more n None (Some finding) before here = (n, omega arith, before, here)
-  told_more n (Some first) finding before here = (before.0, (let below = before.1 in omega (arith, below)), before.2, before.3)
+  told_more : (F : ℕ → Type 0) (n : ℕ) (first finding : Option Finding) → IsToldFirst device state slots found old F n first → IsTold device state slots found old F n finding → IsToldFirst device state slots found old F (n + 1) (option_or first finding)
+  told_more F n None None before here = sound_more F n before here
+  told_more F n None (Some finding) before here = (n, omega arith, before, here)
+  told_more F n (Some first) finding before here = (before.0, (let below = before.1 in omega (arith, below)), before.2, before.3)
 
-  -- the next one is checked
-  pub one_checked : (now : List D) (n : ℕ) (x y : D) (image : Result Header ImageFault) (first finding : Option Finding)
-      → Checked device state slots found old now n first → slice_get now n ≡ Some x → slice_get found n ≡ Some image → device y ≡ device x
-      → TellsOf image n (IsTrue (device x).tells) (IsDamagedImage slots (state x).bytes) finding
-      → Checked device state slots found old (slice_set now n y) (n + 1) (option_or first finding)
-  one_checked now n x y image first finding so_far there imaged same told = record {
-    as_many = length-set now n y ∙ so_far.as_many;
-    large = set_each (λ (d : D). image_length slots ≤ (device d).size) now n y (subst (λ (d : Device). image_length slots ≤ d.size) (sym same) (so_far.large n x there)) so_far.large;
-    rest = λ k after. set_before now n k y (omega (arith, after)) ∙ so_far.rest k (omega (arith, after));
-    told =
-        told_more n first finding so_far.told
-        (λ disk other at found_at.
-        let disk_is : x ≡ disk = (let both : Some x ≡ Some disk = sym there ∙ so_far.rest n (omega arith) ∙ at in cc) in
-        let image_is : image ≡ other = (let both : Some image ≡ Some other = sym imaged ∙ found_at in cc) in
-        subst (λ (d : D). TellsOf other n (IsTrue (device d).tells) (IsDamagedImage slots (state d).bytes) finding) disk_is
-        (subst (λ (i : Result Header ImageFault). TellsOf i n (IsTrue (device x).tells) (IsDamagedImage slots (state x).bytes) finding) image_is told));
-  }
+  module _ (gives : D → Call → Answer → D → Type 0) where
+    pub none_checked : AreLarge device slots old → Checked device state gives slots found old old 0 None
+    none_checked large = record { as_many = refl; large = large; rest = λ k after. refl; told = λ k below. absurd (omega (arith, below)) }
+
+    -- the next one is checked
+    pub one_checked : (now : List D) (n : ℕ) (x y : D) (image : Result Header ImageFault) (first finding : Option Finding)
+        → Checked device state gives slots found old now n first → slice_get now n ≡ Some x → slice_get found n ≡ Some image → device y ≡ device x
+        → TellsOf image n (IsTrue (device x).tells) (IsDamagedImage slots (state x).bytes) (CannotBeRead gives slots x y) finding
+        → Checked device state gives slots found old (slice_set now n y) (n + 1) (option_or first finding)
+    one_checked now n x y image first finding so_far there imaged same told =
+        let F = OneCannotBeRead gives slots old now in
+        let G = OneCannotBeRead gives slots old (slice_set now n y) in
+        let first_at : slice_get old n ≡ Some x = sym (so_far.rest n (omega arith)) ∙ there in
+        record {
+          as_many = length-set now n y ∙ so_far.as_many;
+          large = set_each (λ (d : D). image_length slots ≤ (device d).size) now n y (subst (λ (d : Device). image_length slots ≤ d.size) (sym same) (so_far.large n x there)) so_far.large;
+          rest = λ k after. set_before now n k y (omega (arith, after)) ∙ so_far.rest k (omega (arith, after));
+          told =
+              told_more G n first finding (first_still F G n first (failed_still gives slots old now n y) so_far.told)
+              (λ disk other at found_at.
+              let disk_is : x ≡ disk = (let both : Some x ≡ Some disk = sym first_at ∙ at in cc) in
+              let image_is : image ≡ other = (let both : Some image ≡ Some other = sym imaged ∙ found_at in cc) in
+              subst (λ (d : D). TellsOf other n (IsTrue (device d).tells) (IsDamagedImage slots (state d).bytes) (G n) finding) disk_is
+              (subst (λ (i : Result Header ImageFault). TellsOf i n (IsTrue (device x).tells) (IsDamagedImage slots (state x).bytes) (G n) finding) image_is
+              (told_still image n (IsTrue (device x).tells) (IsDamagedImage slots (state x).bytes) (CannotBeRead gives slots x y) (G n) finding (failed_here gives slots old now n y x first_at there) told)));
+        }
 
 -- what is told first of a folder's images
-module _ {D : Type 0} (device : D → Device) (state : D → DiskState) (slots : ℕ) (found : Found) (disks : List D) where
-  none_before : (k : ℕ) → k ≤ length disks → AreSound device state slots found disks k → NoneRefused found k
+module _ {D : Type 0} (device : D → Device) (state : D → DiskState) (slots : ℕ) (found : Found) (disks : List D) (failed : ℕ → Type 0) where
+  none_before : (k : ℕ) → k ≤ length disks → AreSound device state slots found disks failed k → NoneRefused found k
   none_before k enough sound j fault below imaged =
       let disk = item_at disks j (omega (arith, below, enough)) in
       let same : None ≡ Some (Image j fault) = sound j below disk.0 (Err fault) disk.1 imaged in
@@ -91,12 +139,12 @@ module _ {D : Type 0} (device : D → Device) (state : D → DiskState) (slots :
         | inr ge ↦ (let same : j ≡ k = omega (arith, below, ge) in here fault (subst (λ (i : ℕ). slice_get found i ≡ Some (Err fault)) same imaged))
       ]
 
-  image_told : (k m : ℕ) (fault : ImageFault) (image : Result Header ImageFault) (tells damaged : Type 0) → slice_get found k ≡ Some image → NoneRefused found k → TellsOf image k tells damaged (Some (Image m fault)) →
+  image_told : (k m : ℕ) (fault : ImageFault) (image : Result Header ImageFault) (tells damaged : Type 0) → slice_get found k ≡ Some image → NoneRefused found k → TellsOf image k tells damaged (failed k) (Some (Image m fault)) →
       (m ≡ k) × ((slice_get found k ≡ Some (Err fault)) ⊎ ((fault ≡ Unreadable) × NoneRefused found (k + 1)))
   image_told k m fault (Ok header) tells damaged imaged before told = (told.0, inr (told.1, none_up_to k before (λ other refused. let never : Some (Ok header) ≡ Some (Err other) = sym imaged ∙ refused in absurd (cc))))
   image_told k m fault (Err other) tells damaged imaged before told = ((cc), inl (let same : other ≡ fault = cc in imaged ∙ ap (λ (f : ImageFault). Some (Err f)) same))
 
-  pub told_of_folder : (n : ℕ) → n ≤ length disks → n ≤ length found → (finding : Option Finding) → IsToldFirst device state slots found disks n finding → IsToldOfFolder found n finding
+  pub told_of_folder : (n : ℕ) → n ≤ length disks → n ≤ length found → (finding : Option Finding) → IsToldFirst device state slots found disks failed n finding → IsToldOfFolder found n finding
   told_of_folder n enough known None told = none_before n enough told
   told_of_folder n enough known (Some Damaged) told =
       let k = told.0 in

@@ -11,3 +11,4 @@ pub mod Sets
 pub mod ShortRuns
 pub mod Trying
 mod Printed
+mod Reading

@@ -3,6 +3,7 @@ use Rattle.std.specs.Prelude.{◌≡◌, ◌≢◌, ◌⊎◌, ◌↔◌, ◌≤
 use Rattle.std.specs.Io.KnownBytes.{Appends}
 use Rattle.std.specs.List.{concat, flat_map, range_with_len}
 use Rattle.disk.specs.Disk.{Device, DiskState}
+use Rattle.disk.specs.declared.fault.DiskFault.{DiskFault}
 use Rattle.disk.specs.declared.fault.ImageFault.{ImageFault}
 use Rattle.disk.specs.declared.fault.ImageFault.TheVariants.{NotFormatted, WrongHeader, Unreadable, OldLayout}
 use Rattle.torn_block.specs.declared.layout.TheConstants.{HOSTS}
@@ -70,12 +71,17 @@ image_text disk slots bytes = area_text disk bytes ++ rows_text disk slots bytes
 
 -- AN IMAGE THAT IS NOT READ TO ITS END
 
+-- This is so of the device's fault. Of an output that failed nothing is said, here and below.
+abbrev pub IfDevice : CheckFault → (DiskFault → Type 0) → Type 0
+IfDevice (Output error) P = Unit {0}
+IfDevice (OfDevice fault) P = P fault
+
 -- Its heartbeat blocks and the first n slots were looked at: their lines are printed, and it is told whether there is one, or was before.
 pub record IsLookedAt (disk n : ℕ) (bytes : List ℕ) (before after : Option (List ℕ)) (first any : Bool) : Type 0 where
   pub text : Appends before after (image_text disk n bytes)
   pub found : IsTrue any ↔ (IsTrue first ⊎ IsDamagedImage n bytes)
 
--- Nothing is printed where a call of the device failed. Of an output that failed nothing is said, here and below.
+-- nothing is printed where a call of the device failed
 abbrev pub PrintsNothing : CheckFault → (before after : Option (List ℕ)) → Type 0
 PrintsNothing (Output error) before after = Unit {0}
 PrintsNothing (OfDevice fault) before after = after ≡ before
@@ -94,64 +100,68 @@ IsLeftAt (OfDevice fault) disk slots bytes before after first any =
 
 -- WHAT A CHECK PRINTS
 
--- of an image that is used: the lines of all of it; or of nothing, or of what stands before some slot, and behind them that it could not be read
-abbrev pub IsTextOfUsed : (disk slots : ℕ) → (bytes text : List ℕ) → Type 0
-IsTextOfUsed disk slots bytes text =
-    (text ≡ image_text disk slots bytes) ⊎ (text ≡ fault_line disk Unreadable) ⊎ ((n : ℕ) × (n < slots) × (text ≡ image_text disk n bytes ++ fault_line disk Unreadable))
+-- that it could not be read: alone, or behind the lines of what stands before some slot
+abbrev pub IsTextOfUnread : (disk slots : ℕ) → (bytes text : List ℕ) → Type 0
+IsTextOfUnread disk slots bytes text =
+    (text ≡ fault_line disk Unreadable) ⊎ ((n : ℕ) × (n < slots) × (text ≡ image_text disk n bytes ++ fault_line disk Unreadable))
+
+-- of an image that is used: the lines of all of it; or, where a call of its disk failed, that
+abbrev pub IsTextOfUsed : (disk slots : ℕ) → (bytes : List ℕ) → (failed : Type 0) → (text : List ℕ) → Type 0
+IsTextOfUsed disk slots bytes failed text = (text ≡ image_text disk slots bytes) ⊎ (failed × IsTextOfUnread disk slots bytes text)
 
 -- of any image: why it is refused, or that
-abbrev pub IsTextOf : Result Header ImageFault → (disk slots : ℕ) → (bytes text : List ℕ) → Type 0
-IsTextOf (Err fault) disk slots bytes text = text ≡ fault_line disk fault
-IsTextOf (Ok header) disk slots bytes text = IsTextOfUsed disk slots bytes text
+abbrev pub IsTextOf : Result Header ImageFault → (disk slots : ℕ) → (bytes : List ℕ) → (failed : Type 0) → (text : List ℕ) → Type 0
+IsTextOf (Err fault) disk slots bytes failed text = text ≡ fault_line disk fault
+IsTextOf (Ok header) disk slots bytes failed text = IsTextOfUsed disk slots bytes failed text
 
 -- such a text was written
-abbrev pub WritesTextOf : Result Header ImageFault → (disk slots : ℕ) → (bytes : List ℕ) → (before after : Option (List ℕ)) → Type 0
-WritesTextOf image disk slots bytes before after = (text : List ℕ) × IsTextOf image disk slots bytes text × Appends before after text
+abbrev pub WritesTextOf : Result Header ImageFault → (disk slots : ℕ) → (bytes : List ℕ) → (failed : Type 0) → (before after : Option (List ℕ)) → Type 0
+WritesTextOf image disk slots bytes failed before after = (text : List ℕ) × IsTextOf image disk slots bytes failed text × Appends before after text
 
 -- contracts see the bytes of each disk
 abbrev pub AllTell : {D : Type 0} → (D → Device) → List D → Type 0
 AllTell {D} device disks = (k : ℕ) (disk : D) → slice_get disks k ≡ Some disk → IsTrue (device disk).tells
 
--- the texts of images, by number
-abbrev pub AreTexts : {D : Type 0} → (D → DiskState) → (slots : ℕ) → Found → List D → List (List ℕ) → Type 0
-AreTexts {D} state slots found disks texts =
+-- the texts of images, by number, where some disks failed
+abbrev pub AreTexts : {D : Type 0} → (D → DiskState) → (slots : ℕ) → Found → List D → (failed : ℕ → Type 0) → List (List ℕ) → Type 0
+AreTexts {D} state slots found disks failed texts =
     (k : ℕ) (disk : D) (image : Result Header ImageFault) (text : List ℕ) → slice_get disks k ≡ Some disk → slice_get found k ≡ Some image → slice_get texts k ≡ Some text →
-    IsTextOf image k slots (state disk).bytes text
+    IsTextOf image k slots (state disk).bytes (failed k) text
 
 -- those of the first n were written, one behind the other
-abbrev pub WritesTexts : {D : Type 0} → (D → DiskState) → (slots : ℕ) → Found → List D → (n : ℕ) → (before after : Option (List ℕ)) → Type 0
-WritesTexts state slots found disks n before after =
-    (texts : List (List ℕ)) × (length texts ≡ n) × AreTexts state slots found disks texts × Appends before after (concat texts)
+abbrev pub WritesTexts : {D : Type 0} → (D → DiskState) → (slots : ℕ) → Found → List D → (failed : ℕ → Type 0) → (n : ℕ) → (before after : Option (List ℕ)) → Type 0
+WritesTexts state slots found disks failed n before after =
+    (texts : List (List ℕ)) × (length texts ≡ n) × AreTexts state slots found disks failed texts × Appends before after (concat texts)
 
 -- WHAT A CHECK TELLS
 
--- Of an image that is used: nothing only where no block is damaged, damage only where one is, or that it could not be read. A disk that tells
--- no bytes is held to the last alone.
-abbrev pub Shows : (disk : ℕ) → (tells damaged : Type 0) → Option Finding → Type 0
-Shows disk tells damaged None = tells → damaged → ⊥
-Shows disk tells damaged (Some Damaged) = tells → damaged
-Shows disk tells damaged (Some (Image number fault)) = (number ≡ disk) × (fault ≡ Unreadable)
+-- Of an image that is used: nothing only where no block is damaged, damage only where one is, or that it could not be read, only where a call
+-- of its disk failed. A disk that tells no bytes is held to the last alone.
+abbrev pub Shows : (disk : ℕ) → (tells damaged failed : Type 0) → Option Finding → Type 0
+Shows disk tells damaged failed None = tells → damaged → ⊥
+Shows disk tells damaged failed (Some Damaged) = tells → damaged
+Shows disk tells damaged failed (Some (Image number fault)) = (number ≡ disk) × (fault ≡ Unreadable) × failed
 
 -- of any image: why it is refused, or what its blocks show
-abbrev pub TellsOf : Result Header ImageFault → (disk : ℕ) → (tells damaged : Type 0) → Option Finding → Type 0
-TellsOf (Err fault) disk tells damaged finding = finding ≡ Some (Image disk fault)
-TellsOf (Ok header) disk tells damaged finding = Shows disk tells damaged finding
+abbrev pub TellsOf : Result Header ImageFault → (disk : ℕ) → (tells damaged failed : Type 0) → Option Finding → Type 0
+TellsOf (Err fault) disk tells damaged failed finding = finding ≡ Some (Image disk fault)
+TellsOf (Ok header) disk tells damaged failed finding = Shows disk tells damaged failed finding
 
 -- This is told of image k of a folder.
-abbrev pub IsTold : {D : Type 0} → (D → Device) → (D → DiskState) → ℕ → Found → List D → ℕ → Option Finding → Type 0
-IsTold {D} device state slots found disks k finding =
+abbrev pub IsTold : {D : Type 0} → (D → Device) → (D → DiskState) → ℕ → Found → List D → (failed : ℕ → Type 0) → ℕ → Option Finding → Type 0
+IsTold {D} device state slots found disks failed k finding =
     (disk : D) (image : Result Header ImageFault) → slice_get disks k ≡ Some disk → slice_get found k ≡ Some image →
-    TellsOf image k (IsTrue (device disk).tells) (IsDamagedImage slots (state disk).bytes) finding
+    TellsOf image k (IsTrue (device disk).tells) (IsDamagedImage slots (state disk).bytes) (failed k) finding
 
 -- nothing is told of the first n images
-abbrev pub AreSound : {D : Type 0} → (D → Device) → (D → DiskState) → ℕ → Found → List D → ℕ → Type 0
-AreSound device state slots found disks n = (k : ℕ) → k < n → IsTold device state slots found disks k None
+abbrev pub AreSound : {D : Type 0} → (D → Device) → (D → DiskState) → ℕ → Found → List D → (failed : ℕ → Type 0) → ℕ → Type 0
+AreSound device state slots found disks failed n = (k : ℕ) → k < n → IsTold device state slots found disks failed k None
 
 -- Of the first n images nothing is told, or of one of them this, and nothing of those before it.
-abbrev pub IsToldFirst : {D : Type 0} → (D → Device) → (D → DiskState) → ℕ → Found → List D → ℕ → Option Finding → Type 0
-IsToldFirst device state slots found disks n None = AreSound device state slots found disks n
-IsToldFirst device state slots found disks n (Some finding) =
-    (k : ℕ) × (k < n) × AreSound device state slots found disks k × IsTold device state slots found disks k (Some finding)
+abbrev pub IsToldFirst : {D : Type 0} → (D → Device) → (D → DiskState) → ℕ → Found → List D → (failed : ℕ → Type 0) → ℕ → Option Finding → Type 0
+IsToldFirst device state slots found disks failed n None = AreSound device state slots found disks failed n
+IsToldFirst device state slots found disks failed n (Some finding) =
+    (k : ℕ) × (k < n) × AreSound device state slots found disks failed k × IsTold device state slots found disks failed k (Some finding)
 
 -- OF A FOLDER
 

@@ -5,6 +5,7 @@ pub mod Headers
 pub mod Layout
 pub mod Marking
 pub mod Operations
+pub mod Reading
 pub mod SetFaults
 pub mod Sets
 pub mod Tries

@@ -1,6 +1,7 @@
 ghost use Rattle.std.specs.Prelude.{◌≡◌, ◌⊎◌, ◌+◌, ◌≤◌, ◌<◌, ◌↔◌, ℕ, true, IsTrue, Contains, List, Err, IfOk, IfErr, OnOk, length, map};
 ghost use Rattle.std.specs.List.{list_any};
 ghost use Rattle.std.specs.Io.KnownBytes.{Appends};
+ghost use Rattle.disk.specs.Disk.{Fault};
 ghost use Rattle.torn_block.specs.declared.layout.TheConstants.{DISKS};
 ghost use Rattle.paxos_block.specs.Places.{area_of, row_of, image_length};
 ghost use Rattle.paxos_block.specs.Row.{IsDamagedRow};
@@ -8,7 +9,8 @@ ghost use Rattle.paxos_block.specs.Damage as rows;
 ghost use Rattle.heartbeat.specs.Beat.{IsDamagedArea};
 ghost use Rattle.heartbeat.specs.Damage as areas;
 ghost use Rattle.dlm_images.specs.declared.check.CheckFault.TheVariants.{Device, Output};
-ghost use Rattle.dlm_images.specs.Damage.{AreLarge, IsDamagedImage, IsDamagedBelow, PrintsNothing, IsLeftInRows, IsLeftAt, IsTextOfUsed, AllTell, WritesTextOf, WritesTexts, Shows, TellsOf, IsToldFirst, IsToldOfFolder, line_of, lines_of, fault_line, image_text, area_text, row_text, rows_text};
+ghost use Rattle.dlm_images.specs.Damage.{IfDevice, AreLarge, IsDamagedImage, IsDamagedBelow, PrintsNothing, IsLeftInRows, IsLeftAt, IsTextOfUsed, AllTell, WritesTextOf, WritesTexts, Shows, TellsOf, IsToldFirst, IsToldOfFolder, line_of, lines_of, fault_line, image_text, area_text, row_text, rows_text};
+ghost use Rattle.dlm_images.specs.Reading.{area_read, row_read, row_reads, Tells, FailsAmong, FailsToShow, CannotBeRead, OneCannotBeRead};
 
 use crate::folder::Folder;
 use disk::{Boot, Disk, DiskFault, ImageFault};
@@ -87,8 +89,10 @@ fn check_disks<D: Disk, O: Write>(
     ensures unchanged { OnOk result (AllTell D.device disks.old → map D.state disks.new ≡ map D.state disks.old) }
     // One text for each image, in their order.
     ensures texts { OnOk result (AllTell D.device disks.old →
-        WritesTexts D.state slots found.now disks.old (length disks.old) (O.contents out.old) (O.contents out.new)) }
-    ensures told { IfOk result (IsToldFirst D.device D.state slots found.now disks.old (length disks.old)) }
+        WritesTexts D.state slots found.now disks.old (OneCannotBeRead D.gives slots disks.old disks.new) (length disks.old)
+        (O.contents out.old) (O.contents out.new)) }
+    ensures told { IfOk result (IsToldFirst D.device D.state slots found.now disks.old
+        (OneCannotBeRead D.gives slots disks.old disks.new) (length disks.old)) }
     // What this says of images that were refused, by what was found of each image alone.
     ensures refusals { IfOk result (IsToldOfFolder found.now (length disks.old)) }
 {
@@ -112,8 +116,10 @@ fn check_image<D: Disk, O: Write>(
     ensures device { D.device device.new ≡ D.device device.old }
     ensures unchanged { IsTrue (D.device device.old).tells → D.state device.new ≡ D.state device.old }
     ensures text { OnOk result (IsTrue (D.device device.old).tells →
-        WritesTextOf found.now disk slots (D.state device.old).bytes (O.contents out.old) (O.contents out.new)) }
-    ensures told { IfOk result (TellsOf found.now disk (IsTrue (D.device device.old).tells) (IsDamagedImage slots (D.state device.old).bytes)) }
+        WritesTextOf found.now disk slots (D.state device.old).bytes (CannotBeRead D.gives slots device.old device.new)
+        (O.contents out.old) (O.contents out.new)) }
+    ensures told { IfOk result (TellsOf found.now disk (IsTrue (D.device device.old).tells) (IsDamagedImage slots (D.state device.old).bytes)
+        (CannotBeRead D.gives slots device.old device.new)) }
     ensures line { OnOk result ((fault : ImageFault) → found.now ≡ Err fault → Appends (O.contents out.old) (O.contents out.new) (fault_line disk fault)) }
 {
     match found {
@@ -132,8 +138,10 @@ fn check_disk<D: Disk, O: Write>(
     ensures device { D.device device.new ≡ D.device device.old }
     ensures unchanged { IsTrue (D.device device.old).tells → D.state device.new ≡ D.state device.old }
     ensures text { OnOk result (IsTrue (D.device device.old).tells →
-        (text : List ℕ) × IsTextOfUsed disk slots (D.state device.old).bytes text × Appends (O.contents out.old) (O.contents out.new) text) }
-    ensures told { IfOk result (Shows disk (IsTrue (D.device device.old).tells) (IsDamagedImage slots (D.state device.old).bytes)) }
+        (text : List ℕ) × IsTextOfUsed disk slots (D.state device.old).bytes (CannotBeRead D.gives slots device.old device.new) text ×
+        Appends (O.contents out.old) (O.contents out.new) text) }
+    ensures told { IfOk result (Shows disk (IsTrue (D.device device.old).tells) (IsDamagedImage slots (D.state device.old).bytes)
+        (CannotBeRead D.gives slots device.old device.new)) }
 {
     let mut any = false;
     let unread = match print_damage(device, disk, slots, out, &mut any) {
@@ -164,6 +172,7 @@ pub fn print_damage<D: Disk, O: Write>(
     ensures cause { IsTrue (D.device device.old).tells → IsTrue any.new → IsTrue any.old ⊎ IsDamagedImage slots (D.state device.old).bytes }
     ensures left { IfErr result (λ fault. IsTrue (D.device device.old).tells →
         IsLeftAt fault disk slots (D.state device.old).bytes (O.contents out.old) (O.contents out.new) any.old any.new) }
+    ensures device_fault { IfErr result (λ fault. IfDevice fault (λ cause. FailsToShow D.gives slots device.old cause device.new)) }
 {
     let boot = device.attach()?;
     let beats = print_area(device, boot, disk, out)?;
@@ -187,6 +196,9 @@ fn print_area<D: Disk, O: Write>(
     ensures found { IfOk result (λ found. IsTrue (D.device device.old).tells →
         IsTrue found ↔ IsDamagedArea (area_of (D.state device.old).bytes)) }
     ensures left { IfErr result (λ fault. PrintsNothing fault (O.contents out.old) (O.contents out.new)) }
+    ensures read { OnOk result (Tells D.gives (area_read boot.number) device.old device.new) }
+    ensures device_fault { IfErr result (λ fault. IfDevice fault (λ cause.
+        D.gives device.old (area_read boot.number) (Fault cause) device.new)) }
 {
     let damaged = damage_of_area(device, boot)?;
     print_lines(disk, Blocks::Heartbeat, &damaged, out)?;
@@ -212,6 +224,8 @@ fn print_rows<D: Disk, O: Write>(
     ensures cause { IsTrue (D.device device.old).tells → IsTrue any.new → IsTrue any.old ⊎ IsDamagedBelow slots (D.state device.old).bytes }
     ensures left { IfErr result (λ fault. IsTrue (D.device device.old).tells →
         IsLeftInRows fault disk slots (D.state device.old).bytes (O.contents out.old) (O.contents out.new) any.old any.new) }
+    ensures device_fault { IfErr result (λ fault. IfDevice fault (λ cause.
+        FailsAmong D.gives (row_reads boot.number slots) device.old cause device.new)) }
 {
     for slot in 0..slots {
         let damaged = print_row(device, boot, disk, slot, out)?;
@@ -236,6 +250,9 @@ fn print_row<D: Disk, O: Write>(
     ensures found { IfOk result (λ found. IsTrue (D.device device.old).tells →
         IsTrue found ↔ IsDamagedRow (row_of slot (D.state device.old).bytes)) }
     ensures left { IfErr result (λ fault. PrintsNothing fault (O.contents out.old) (O.contents out.new)) }
+    ensures read { OnOk result (Tells D.gives (row_read boot.number slot) device.old device.new) }
+    ensures device_fault { IfErr result (λ fault. IfDevice fault (λ cause.
+        D.gives device.old (row_read boot.number slot) (Fault cause) device.new)) }
 {
     let damaged = damage_of_row(device, boot, slot)?;
     print_lines(disk, Blocks::Slot(slot), &damaged, out)?;
@@ -251,6 +268,8 @@ fn damage_of_area<D: Disk>(device: &mut D, boot: Boot) -> Result<[bool; HOSTS], 
         damaged ≡ areas.damaged_in (area_of (D.state device.old).bytes)) }
     ensures some { IfOk result (λ damaged. IsTrue (D.device device.old).tells →
         Contains damaged true ↔ IsDamagedArea (area_of (D.state device.old).bytes)) }
+    ensures read { OnOk result (Tells D.gives (area_read boot.number) device.old device.new) }
+    ensures device_fault { IfErr result (λ fault. D.gives device.old (area_read boot.number) (Fault fault) device.new) }
 {
     let mut area = [0; ROW_LENGTH];
     device.read(boot, AREA_PLACE, &mut area)?;
@@ -266,6 +285,8 @@ fn damage_of_row<D: Disk>(device: &mut D, boot: Boot, slot: u32) -> Result<[bool
         damaged ≡ rows.damaged_in (row_of slot (D.state device.old).bytes)) }
     ensures some { IfOk result (λ damaged. IsTrue (D.device device.old).tells →
         Contains damaged true ↔ IsDamagedRow (row_of slot (D.state device.old).bytes)) }
+    ensures read { OnOk result (Tells D.gives (row_read boot.number slot) device.old device.new) }
+    ensures device_fault { IfErr result (λ fault. D.gives device.old (row_read boot.number slot) (Fault fault) device.new) }
 {
     let mut row = [0; ROW_LENGTH];
     device.read(boot, row_place::<ClusterLayout>(slot), &mut row)?;

@@ -1,8 +1,9 @@
-use Rattle.std.proofs.Common.{◌≡◌, ◌<◌, ◌+◌, ℕ, Option, length, slice_set, get_or, sym, subst, arith}
+use Rattle.std.proofs.Common.{◌≡◌, ◌∙◌, ◌<◌, ◌+◌, ℕ, Option, Some, length, slice_get, slice_set, get_or, sym, subst, arith}
 use Rattle.std.proofs.lemmas.Option.{slice_get-get_or}
 use Rattle.dlm_images.specs.declared.check.Finding.{Finding}
 use Rattle.dlm_images.specs.Damage.{IsToldOfFolder}
-use Rattle.dlm_images.proofs.Checking.{Checked, one_checked, told_of_folder}
+use Rattle.dlm_images.specs.Reading.{CannotBeRead, OneCannotBeRead}
+use Rattle.dlm_images.proofs.Checking.{Checked, one_checked, failed_still, failed_here, told_of_folder}
 use Rattle.dlm_images.proofs.Printed.{one_kept, one_written}
 use Rattle.dlm_images.proofs.check.check_disks.Goals as goal
 
@@ -14,18 +15,24 @@ loop-disk-preserved g c =
     let found = c.args.found.now in
     let within : n < length now = omega (arith, c.loop-disk-test.true, c.loop-disk.invariant.checked.as_many) in
     let is_there : n < length found = omega (arith, c.loop-disk-test.true, c.told-found, c.requires.few) in
+    let same : slice_get now n ≡ slice_get old n = c.loop-disk.invariant.checked.rest n (omega arith) in
     let disk_at = slice_get-get_or now n c.index-disks-disk.result within in
     let image_at = slice_get-get_or found n _ is_there in
+    let disk_now = get_or now n c.index-disks-disk.result in
+    let disk_then = c.check_image.new.device in
+    let gives = g.D.Disk.gives in
+    let slots = c.args.slots in
+    let first_at : slice_get old n ≡ Some disk_now = sym same ∙ disk_at in
     record {
       checked =
-          subst (λ (first : Option Finding). Checked g.D.Disk.device g.D.Disk.state c.args.slots found old (slice_set now n c.check_image.new.device) (n + 1) first) (sym c.or-first.ensures)
-          (one_checked g.D.Disk.device g.D.Disk.state c.args.slots found old now n (get_or now n c.index-disks-disk.result) c.check_image.new.device (get_or found n _) c.loop-disk.first c.in_ok-finding.finding
+          subst (λ (first : Option Finding). Checked g.D.Disk.device g.D.Disk.state gives slots found old (slice_set now n disk_then) (n + 1) first) (sym c.or-first.ensures)
+          (one_checked g.D.Disk.device g.D.Disk.state slots found old gives now n disk_now disk_then (get_or found n _) c.loop-disk.first c.in_ok-finding.finding
           c.loop-disk.invariant.checked disk_at image_at c.check_image.ensures.device c.in_ok-finding.ensures.told);
       kept = λ all.
-          one_kept g.D.Disk.device g.D.Disk.state c.args.slots found old now n (get_or now n c.index-disks-disk.result) c.check_image.new.device c.loop-disk.invariant.checked.rest disk_at c.check_image.ensures.unchanged all (c.loop-disk.invariant.kept all);
+          one_kept g.D.Disk.device g.D.Disk.state slots found old now n disk_now disk_then c.loop-disk.invariant.checked.rest disk_at c.check_image.ensures.unchanged all (c.loop-disk.invariant.kept all);
       written = λ all.
-          one_written g.D.Disk.device g.D.Disk.state c.args.slots found old now n (get_or now n c.index-disks-disk.result) (get_or found n _) (g.O.Write.contents c.args.out.now) (g.O.Write.contents c.loop-disk.out) (g.O.Write.contents c.check_image.new.out)
-          c.loop-disk.invariant.checked.rest disk_at image_at c.in_ok-finding.ensures.text all (c.loop-disk.invariant.written all);
+          one_written g.D.Disk.device g.D.Disk.state slots found old (OneCannotBeRead gives slots old now) (OneCannotBeRead gives slots old (slice_set now n disk_then)) now n disk_now (get_or found n _) (CannotBeRead gives slots disk_now disk_then) (g.O.Write.contents c.args.out.now) (g.O.Write.contents c.loop-disk.out) (g.O.Write.contents c.check_image.new.out)
+          c.loop-disk.invariant.checked.rest disk_at image_at (failed_still gives slots old now n disk_then) (failed_here gives slots old now n disk_then disk_now first_at disk_at) c.in_ok-finding.ensures.text all (c.loop-disk.invariant.written all);
     }
 
 pub returns-clause-refusals : goal.returns-clause-refusals
@@ -33,4 +40,4 @@ returns-clause-refusals g c =
     let n = c.loop-disk.disk in
     let all : n ≡ length c.args.disks.now = omega (arith, c.loop-disk-test.false, c.loop-disk.invariant.checked.as_many) in
     subst (λ (m : ℕ). IsToldOfFolder c.args.found.now m c.loop-disk.first) all
-    (told_of_folder g.D.Disk.device g.D.Disk.state c.args.slots c.args.found.now c.args.disks.now n (omega (arith, all)) (omega (arith, all, c.told-found, c.requires.few)) c.loop-disk.first c.loop-disk.invariant.checked.told)
+    (told_of_folder g.D.Disk.device g.D.Disk.state c.args.slots c.args.found.now c.args.disks.now (OneCannotBeRead g.D.Disk.gives c.args.slots c.args.disks.now c.loop-disk.disks) n (omega (arith, all)) (omega (arith, all, c.told-found, c.requires.few)) c.loop-disk.first c.loop-disk.invariant.checked.told)

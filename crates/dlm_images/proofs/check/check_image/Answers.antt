@@ -3,11 +3,12 @@ use Rattle.std.specs.Prelude.{IsTrue, OnOk}
 use Rattle.disk.specs.declared.fault.ImageFault.{ImageFault}
 use Rattle.paxos_block.specs.declared.header.Header.{Header}
 use Rattle.dlm_images.specs.Damage.{WritesTextOf}
+use Rattle.dlm_images.specs.Reading.{CannotBeRead}
 use Rattle.dlm_images.proofs.check.check_image.Goals as goal
 
 pub returns-in-Ok-clause-text : goal.returns-in-Ok-clause-text
 returns-in-Ok-clause-text g c =
     let old = c.args.device.now in
     subst
-    (λ (image : Result Header ImageFault). OnOk c.check_disk.result (IsTrue (g.D.Disk.device old).tells → WritesTextOf image c.args.disk c.args.slots (g.D.Disk.state old).bytes (g.O.Write.contents c.args.out.now) (g.O.Write.contents c.check_disk.new.out)))
+    (λ (image : Result Header ImageFault). OnOk c.check_disk.result (IsTrue (g.D.Disk.device old).tells → WritesTextOf image c.args.disk c.args.slots (g.D.Disk.state old).bytes (CannotBeRead g.D.Disk.gives c.args.slots old c.check_disk.new.device) (g.O.Write.contents c.args.out.now) (g.O.Write.contents c.check_disk.new.out)))
     (sym c.in-Ok.is) c.check_disk.ensures.text

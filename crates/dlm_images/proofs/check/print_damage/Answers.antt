@@ -9,6 +9,7 @@ use Rattle.std.proofs.lemmas.Result.{err_from_is_err_and}
 use Rattle.dlm_images.specs.Damage.{area_text, rows_text, IsDamagedBelow, IsLeftInRows}
 use Rattle.dlm_images.proofs.Found.{image_is, image_cause}
 use Rattle.dlm_images.proofs.Damage.{attach_keeps, image_left, nothing_left}
+use Rattle.dlm_images.proofs.Reading.{fails_in_rows}
 use Rattle.dlm_images.proofs.check.print_damage.Goals as goal
 
 pub returns-in_err-print_rows-clause-unchanged : goal.returns-in_err-print_rows-clause-unchanged
@@ -97,3 +98,10 @@ returns-in_err-beats-clause-left g c =
     (λ tells.
     nothing_left c.in_err-beats.field-0.0 (g.O.Write.contents c.args.out.now) (g.O.Write.contents c.print_area.new.out) c.args.disk c.args.slots c.args.any.now (g.D.Disk.state c.args.device.now).bytes
     c.in_err-beats.ensures.left)
+
+pub returns-in_err-print_rows-clause-device_fault : goal.returns-in_err-print_rows-clause-device_fault
+returns-in_err-print_rows-clause-device_fault g c =
+    let p = err_from_is_err_and c.from_residual-in_err-print_rows.result c.from_residual-in_err-print_rows.ensures.1 in
+    rw (p.1, p.2)
+    (fails_in_rows g.D.Disk.gives c.in_ok-boot.boot.number c.args.slots c.args.device.now c.in_err-print_rows.field-0.0 c.attach.new.self c.print_area.new.device c.print_rows.new.device
+    c.in_ok-boot.ensures.gives c.in_ok-beats.ensures.read c.in_err-print_rows.ensures.device_fault)
