@@ -314,6 +314,13 @@ def fails(library, call):
     wants(f"a migration where {call} fails", (ended.returncode, ended.stdout, ended.stderr), (1, "", "dlm: 34 MigrationFailed\n"))
 
 
+def fails_not(library, call):
+    """No such call is made where all gates are open."""
+    env = {**os.environ, "LD_PRELOAD": library, "FAILS": call}
+    ended = subprocess.run([PROGRAM, "migrate", "d", "e", "16"], env=env, stdin=subprocess.DEVNULL, capture_output=True, check=False, text=True)
+    wants(f"a finished migration without {call}", (ended.returncode, ended.stdout, ended.stderr), (0, "finished 3 disks\n", ""))
+
+
 def first_bytes():
     return [bytes_of(f"e/disk{disk}.img")[0] for disk in range(3)]
 
@@ -368,8 +375,9 @@ def failed_finish():
     make_old("d", 3, 16, [FIRST])
     os.mkdir("e")
     prints("migrate d e 16", "migrated 1 commands, 3 disks, 16 slots\n")
-    # The gate of disk 1 is opened and synced, and then that of disk 2. Where a call fails no other is made.
-    for call, gates_left in (("w0", [0xA5, 0, 0]), ("s0", [0xA5, 0xA5, 0]), ("w1", [0xA5, 0xA5, 0]), ("s1", [0xA5, 0xA5, 0xA5])):
+    # The gate of disk 0 is synced, and that of disk 1 opened and synced, and then that of disk 2. Where a call fails no other is made.
+    one, two, three = [0xA5, 0, 0], [0xA5, 0xA5, 0], [0xA5, 0xA5, 0xA5]
+    for call, gates_left in (("s0", one), ("w1", one), ("s1", two), ("w2", two), ("s2", three)):
         put_byte("e/disk1.img", 0, 0)
         put_byte("e/disk2.img", 0, 0)
         fails(library, call)
@@ -377,6 +385,12 @@ def failed_finish():
         reads(gates_left.count(0xA5))
         prints("migrate d e 16", "finished 3 disks\n")
         are_complete(f"after {call}")
+    # Gates that are open already are synced, each of them, and none is written.
+    for call in ("s0", "s1", "s2"):
+        fails(library, call)
+        are_complete(f"open gates, {call}")
+    for call in ("w0", "w1", "w2", "w3", "s3"):
+        fails_not(library, call)
 
 
 # KILLS
