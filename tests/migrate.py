@@ -62,10 +62,11 @@ def old_header(disk, disks, slots, cluster):
     return (bytes([0xA5, 1, disk, disks]) + slots.to_bytes(4, "big") + numbers(cluster)).ljust(1024, b"\0")
 
 
-def old_block(command):
-    """Host 0's block of a slot once its command is acknowledged: a copy of phase 1, and one of phase 2."""
-    first = bytes([0xA5, 1, 0, 0, 0, 0, 0, 0]) + numbers(1, 1, 0) + bytes(32)
-    second = bytes([0xA5, 1, 1, 0, 0, 0, 0, 0]) + numbers(2, 1, 1) + command
+def old_block(command, host=0):
+    """A host's block of a slot once its command is acknowledged in its first ballot: a copy of phase 1, and one of phase 2."""
+    ballot = host + 1
+    first = bytes([0xA5, 1, 0, 0, 0, 0, 0, 0]) + numbers(1, ballot, 0) + bytes(32)
+    second = bytes([0xA5, 1, 1, 0, 0, 0, 0, 0]) + numbers(2, ballot, ballot) + command
     return first + second
 
 
@@ -395,8 +396,18 @@ def failed_finish():
 
 # KILLS
 
-COMMANDS = [enqueue(lock % 32, lock, lock, 0, b"a") for lock in range(1, 9)]
-TABLE = "recovered 8\na\n" + "".join(f"  granted {lock} {lock % 32} 0 NL\n" for lock in range(1, 9))
+def commands_of(count):
+    """So many commands, each of a client of its own."""
+    return [enqueue(lock % 32, lock, lock, 0, b"a") for lock in range(1, count + 1)]
+
+
+def table_of(count):
+    """What is printed of the table after them."""
+    return f"recovered {count}\na\n" + "".join(f"  granted {lock} {lock % 32} 0 NL\n" for lock in range(1, count + 1))
+
+
+COMMANDS = commands_of(8)
+TABLE = table_of(8)
 MIGRATED = "migrated 8 commands, 3 disks, 32 slots\n"
 # Of what a folder tells whose images are not all open, or not all there.
 NOT_READY = ("dlm: 24 ", "dlm: 25 ", "dlm: 26 ", "dlm: 7 ")
