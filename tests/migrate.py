@@ -62,10 +62,11 @@ def old_header(disk, disks, slots, cluster):
     return (bytes([0xA5, 1, disk, disks]) + slots.to_bytes(4, "big") + numbers(cluster)).ljust(1024, b"\0")
 
 
-def old_block(command):
-    """Host 0's block of a slot once its command is acknowledged: a copy of phase 1, and one of phase 2."""
-    first = bytes([0xA5, 1, 0, 0, 0, 0, 0, 0]) + numbers(1, 1, 0) + bytes(32)
-    second = bytes([0xA5, 1, 1, 0, 0, 0, 0, 0]) + numbers(2, 1, 1) + command
+def old_block(command, host=0):
+    """A host's block of a slot once its command is acknowledged in its first ballot: a copy of phase 1, and one of phase 2."""
+    ballot = host + 1
+    first = bytes([0xA5, 1, 0, 0, 0, 0, 0, 0]) + numbers(1, ballot, 0) + bytes(32)
+    second = bytes([0xA5, 1, 1, 0, 0, 0, 0, 0]) + numbers(2, ballot, ballot) + command
     return first + second
 
 
@@ -314,6 +315,13 @@ def fails(library, call):
     wants(f"a migration where {call} fails", (ended.returncode, ended.stdout, ended.stderr), (1, "", "dlm: 34 MigrationFailed\n"))
 
 
+def fails_not(library, call):
+    """No such call is made where all gates are open."""
+    env = {**os.environ, "LD_PRELOAD": library, "FAILS": call}
+    ended = subprocess.run([PROGRAM, "migrate", "d", "e", "16"], env=env, stdin=subprocess.DEVNULL, capture_output=True, check=False, text=True)
+    wants(f"a finished migration without {call}", (ended.returncode, ended.stdout, ended.stderr), (0, "finished 3 disks\n", ""))
+
+
 def first_bytes():
     return [bytes_of(f"e/disk{disk}.img")[0] for disk in range(3)]
 
@@ -368,8 +376,9 @@ def failed_finish():
     make_old("d", 3, 16, [FIRST])
     os.mkdir("e")
     prints("migrate d e 16", "migrated 1 commands, 3 disks, 16 slots\n")
-    # The gate of disk 1 is opened and synced, and then that of disk 2. Where a call fails no other is made.
-    for call, gates_left in (("w0", [0xA5, 0, 0]), ("s0", [0xA5, 0xA5, 0]), ("w1", [0xA5, 0xA5, 0]), ("s1", [0xA5, 0xA5, 0xA5])):
+    # The gate of disk 0 is synced, and that of disk 1 opened and synced, and then that of disk 2. Where a call fails no other is made.
+    one, two, three = [0xA5, 0, 0], [0xA5, 0xA5, 0], [0xA5, 0xA5, 0xA5]
+    for call, gates_left in (("s0", one), ("w1", one), ("s1", two), ("w2", two), ("s2", three)):
         put_byte("e/disk1.img", 0, 0)
         put_byte("e/disk2.img", 0, 0)
         fails(library, call)
@@ -377,12 +386,28 @@ def failed_finish():
         reads(gates_left.count(0xA5))
         prints("migrate d e 16", "finished 3 disks\n")
         are_complete(f"after {call}")
+    # Gates that are open already are synced, each of them, and none is written.
+    for call in ("s0", "s1", "s2"):
+        fails(library, call)
+        are_complete(f"open gates, {call}")
+    for call in ("w0", "w1", "w2", "w3", "s3"):
+        fails_not(library, call)
 
 
 # KILLS
 
-COMMANDS = [enqueue(lock % 32, lock, lock, 0, b"a") for lock in range(1, 9)]
-TABLE = "recovered 8\na\n" + "".join(f"  granted {lock} {lock % 32} 0 NL\n" for lock in range(1, 9))
+def commands_of(count):
+    """So many commands, each of a client of its own."""
+    return [enqueue(lock % 32, lock, lock, 0, b"a") for lock in range(1, count + 1)]
+
+
+def table_of(count):
+    """What is printed of the table after them."""
+    return f"recovered {count}\na\n" + "".join(f"  granted {lock} {lock % 32} 0 NL\n" for lock in range(1, count + 1))
+
+
+COMMANDS = commands_of(8)
+TABLE = table_of(8)
 MIGRATED = "migrated 8 commands, 3 disks, 32 slots\n"
 # Of what a folder tells whose images are not all open, or not all there.
 NOT_READY = ("dlm: 24 ", "dlm: 25 ", "dlm: 26 ", "dlm: 7 ")

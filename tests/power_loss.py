@@ -8,14 +8,21 @@ without the program); of some states `dlm table` is asked too, over the disks of
 states, so that losses come upon losses.
 
     power_loss.py [--steps N] [--hosts N] [--disks N] [--slots N] [--states N] [--tables N] [--seed N] [--program PATH]
-                  [--forget WHAT] [--format]
+                  [--forget WHAT] [--format] [--migrate]
 
 In each step so many hosts submit at once (none given: one to four), some of which end in the midst. `--format` begins with losses
-within `dlm format`. `--forget body` does not count the syncs after a write of a body, and likewise `closed`, `opened` and `opening`, by
-what was written before: so the test is seen to fail, but for `opening`. It needs `cc`, and does nothing without."""
+within `dlm format`, `--migrate` with losses within `dlm migrate` over three disks. There a run may also be ended, and another one
+follows, as after a loss; power is lost within that one too. In each state no command opens less than the whole log; a further run
+finishes, or moves the log anew, at the latest once the new images are removed; and once a run has told that it moved the log or
+finished, all images are complete and open.
+
+`--forget body` does not count the syncs after a write of a body, and likewise `closed`, `opened` and `opening`, by what was written
+before, and `folder` those of a folder: so the test is seen to fail, but for `opening`. Over a migration `opened` is seen, `body` and
+`folder`. It needs `cc`, and does nothing without."""
 
 import argparse
 import collections
+import copy
 import itertools
 import os
 import random
@@ -27,6 +34,33 @@ import sys
 import tempfile
 
 import lock_log
+import migrate
+
+# What is told of a folder whose images are not all there or not all open.
+NO_SET = re.compile(r"dlm: (7 NoMajority|2[456] \w+ disk\d)\n")
+
+# The shim adds this to the numbers of the images of the old folder.
+OLD = 10
+
+# The log that is moved, over three disks.
+COMMANDS = migrate.commands_of(4)
+SLOTS = 6
+MOVED = f"migrated {len(COMMANDS)} commands, 3 disks, {SLOTS} slots\n"
+FINISHED = "finished 3 disks\n"
+NEW = {disk: migrate.new_image(disk, 3, SLOTS, COMMANDS) for disk in range(3)}
+
+
+def old_images():
+    """The images of the old folder: each command was acknowledged through a host of its own, over two of the three disks."""
+    images = {}
+    for disk in range(3):
+        data = bytearray(migrate.old_image(disk, 3, SLOTS, 7, []))
+        for slot, command in enumerate(COMMANDS):
+            if slot % 3 != disk:
+                at = 2048 + 1024 * slot + 128 * slot
+                data[at:at + 128] = migrate.old_block(command, slot)
+        images[OLD + disk] = data
+    return images
 
 
 def records(path):
@@ -66,6 +100,47 @@ def said(row):
             rows_seen.clear()
         rows_seen[row] = found
     return found
+
+
+def written(data, writes):
+    """These bytes after these writes, as many as they are then."""
+    data = bytearray(data)
+    for at, given in writes:
+        data += bytes(max(0, at + len(given) - len(data)))
+        data[at:at + len(given)] = given
+    return data
+
+
+class Storage:
+    """Images by number: the bytes that last, the writes that no sync followed, the images that are there, and those whose names last."""
+
+    def __init__(self, images):
+        self.lasting = collections.defaultdict(bytearray, images)
+        self.waiting = collections.defaultdict(list)
+        self.there, self.named = set(images), set(images)
+
+    def take(self, record, forgets):
+        """What a call does. `forgets` says whether a sync is not counted, by what was written before it."""
+        kind, image, _, at, given = record
+        if kind == "C":
+            self.there.add(image)
+        elif kind == "W":
+            self.waiting[image].append((at, given))
+        elif kind == "S" and self.waiting[image] and not forgets(self.waiting[image][-1][1]):
+            self.lasting[image] = written(self.lasting[image], self.waiting.pop(image))
+        elif kind == "N" and not forgets(None):
+            self.named |= self.there
+
+    def now(self):
+        """The images as a process finds them."""
+        return {image: written(self.lasting[image], self.waiting[image]) for image in self.there}
+
+    def removed(self, image):
+        """This image is gone, and so is its name."""
+        self.there.discard(image)
+        self.named.discard(image)
+        self.lasting.pop(image, None)
+        self.waiting.pop(image, None)
 
 
 class Walk:
@@ -180,12 +255,14 @@ class Walk:
         self.put(self.images)
         self.ask(self.images, self.acks)
 
-    def forgets(self, written):
-        """Whether a sync after this write is left out."""
-        if len(written) == 1:
-            name = "opened" if written == b"\xa5" else "closed"
+    def forgets(self, last):
+        """Whether a sync after this write is left out; that of a folder comes after none."""
+        if last is None:
+            name = "folder"
+        elif len(last) == 1:
+            name = "opened" if last == b"\xa5" else "closed"
         else:
-            name = "body" if written else "opening"
+            name = "body" if last else "opening"
         return self.given.forget == name
 
     def states(self, durable, pending, count):
@@ -237,49 +314,131 @@ class Walk:
         os.mkdir(self.folder)
         env = {**os.environ, "LD_PRELOAD": self.shim, "DLM_LOG": log}
         subprocess.run([self.given.program, "format", self.folder, str(self.given.disks), "6", "7"], env=env, check=True, stdout=subprocess.DEVNULL)
-        disks = range(self.given.disks)
-        durable, pending, made, named, told = [bytearray() for _ in disks], [[] for _ in disks], set(), set(), ""
-        for kind, image, _, at, given in [*records(log), ("end", 0, 0, 0, b"")]:
-            for _ in range(self.given.states):
+        storage, told = Storage({}), ""
+        for record in [*records(log), None]:
+            for state in self.states_of(storage):
                 self.counts["states of a format"] += 1
-                there = [disk for disk in disks if disk in named or disk in made and self.random.random() < 0.7]
-                self.ask_for_nothing([self.unfinished(*pair) for pair in zip(durable, pending)], there, "formatted" in told)
-            if kind == "W":
-                made.add(image)
-                pending[image].append((at, given))
-            elif kind == "S":
-                for where, new in pending[image]:
-                    durable[image] += bytes(max(0, where + len(new) - len(durable[image])))
-                    durable[image][where:where + len(new)] = new
-                pending[image] = []
-            elif kind == "N":
-                named |= made
-            elif kind == "P":
-                told += given.decode()
+                self.ask_for_nothing(state, "formatted" in told)
+            if record:
+                storage.take(record, self.forgets)
+                told += record[4].decode() if record[0] == "P" else ""
 
-    def unfinished(self, durable, pending):
+    def states_of(self, storage):
+        """What a loss of power may leave of these images: nothing that was not synced, all, and others. An image whose folder was not
+        synced since it was made may be gone."""
+        found = []
+        for way in ["old", "new"] + [None] * self.given.states:
+            likely = {"old": 0.0, "new": 1.0, None: 0.7}[way]
+            there = [image for image in sorted(storage.there) if image in storage.named or self.random.random() < likely]
+            found.append({image: self.unfinished(storage.lasting[image], storage.waiting[image], way) for image in there})
+        return found
+
+    def unfinished(self, lasting, waiting, way):
         """What a loss of power may leave of an image in the making, which may also be shorter."""
-        left = bytearray(durable)
-        for where, new in pending:
-            left += bytes(max(0, where + len(new) - len(left)))
-            how = self.random.choice(["old", "new", "front", "back", "mixed", "zeros", "ones", "nonsense", "gate"])
-            left[where:where + len(new)] = self.left(how, bytes(left[where:where + len(new)]), new)
-        if len(left) > len(durable):
-            del left[self.random.randrange(len(durable), len(left) + 1):]
+        left = bytearray(lasting)
+        for at, new in waiting:
+            left += bytes(max(0, at + len(new) - len(left)))
+            how = way or self.random.choice(["old", "new", "front", "back", "mixed", "zeros", "ones", "nonsense", "gate"])
+            left[at:at + len(new)] = self.left(how, bytes(left[at:at + len(new)]), new)
+        if len(left) > len(lasting) and way != "new":
+            del left[self.random.randrange(len(lasting), len(left) + 1):]
         return left
 
-    def ask_for_nothing(self, state, there, told):
+    def put_anew(self, name, images):
+        """A folder of this name with these images, and nothing else."""
+        folder = os.path.join(self.work, name)
+        shutil.rmtree(folder, ignore_errors=True)
+        os.mkdir(folder)
+        for disk, data in images.items():
+            with open(f"{folder}/disk{disk}.img", "wb") as file:
+                file.write(data)
+        return folder
+
+    def ask_for_nothing(self, state, told):
         """`dlm table` shows an empty log, or refuses the folder, where it was not told that the images are made."""
-        apart = os.path.join(self.work, "apart")
-        shutil.rmtree(apart, ignore_errors=True)
-        os.mkdir(apart)
-        self.put(state, apart, there)
-        out = self.run(["table", apart, "0"])
+        out = self.run(["table", self.put_anew("apart", state), "0"])
         is_empty = out.stdout == "recovered 0\nempty\n" and out.returncode == 0
-        is_refused = re.fullmatch(r"dlm: (7 NoMajority|2[456] \w+ disk\d)\n", out.stderr) and out.returncode == 1
+        is_refused = out.returncode == 1 and NO_SET.fullmatch(out.stderr)
         if not (is_empty or is_refused and not told):
             self.wrong.append(f"format: {out.returncode} {out.stdout!r} {out.stderr!r}, formatted: {told}")
         self.counts["of them refused"] += bool(is_refused)
+
+    def moves(self, storage, told, further):
+        """A run of `dlm migrate` over these images. Power is lost at each place of it. At some places another run follows, after a loss or
+        after the end of the process alone; there power is lost again."""
+        found, refused = self.move(storage)
+        if refused:
+            # Somebody removes the new images, and begins anew.
+            for disk in [image for image in storage.there if image < OLD]:
+                storage.removed(disk)
+            found, refused = self.move(storage)
+        is_first = further == 2
+        ends = set(self.random.sample(range(len(found) + 1), min(len(found) + 1, 3 if is_first else 1)))
+        if is_first:
+            # Each place from the first write of a gate on.
+            ends |= set(range(len(found) - 7, len(found) + 1))
+        for place, record in enumerate([*found, None]):
+            states = self.states_of(storage)
+            if is_first or len(found) < 40 or self.random.random() < 0.1:
+                for state in states:
+                    self.ask_for_all(state, told)
+            if further and place in ends:
+                self.moves(copy.deepcopy(storage), told, further - 1)
+                self.moves(Storage(self.random.choice(states)), told, further - 1)
+            if record:
+                storage.take(record, self.forgets)
+                told += record[4].decode() if record[0] == "P" else ""
+
+    def move(self, storage):
+        """What a run over these images writes down, and whether it was refused since a new image is there."""
+        log = os.path.join(self.work, "log")
+        if os.path.exists(log):
+            os.remove(log)
+        old, new = self.put_both(storage.now())
+        env = {**os.environ, "LD_PRELOAD": self.shim, "DLM_LOG": log, "DLM_OLD": old}
+        out = subprocess.run([self.given.program, "migrate", old, new, str(SLOTS)], env=env, capture_output=True, text=True)
+        self.counts["runs of migrate"] += 1
+        refused = out.stderr == "dlm: 29 AlreadyThere\n"
+        if not refused and (out.returncode or out.stdout not in (MOVED, FINISHED)):
+            self.wrong.append(f"migrate: {out.returncode} {out.stdout!r} {out.stderr!r}")
+        return [] if refused else records(log), refused
+
+    def put_both(self, images):
+        """An old folder and a new one with these images."""
+        old = self.put_anew("old", {image - OLD: data for image, data in images.items() if image >= OLD})
+        return old, self.put_anew("new", {image: data for image, data in images.items() if image < OLD})
+
+    def ask_for_all(self, state, told):
+        """The new folder has the whole log, or reads as none. It has it if that was told, and after a further run. That is refused only while
+        no new image is whole; once these are removed the log is moved anew."""
+        self.counts["states of a migration"] += 1
+        old, new = self.put_both(state)
+        self.is_moved(self.put_anew("apart", {disk: data for disk, data in state.items() if disk < OLD}), bool(told), told)
+        whole = [disk for disk in NEW if state.get(disk) == NEW[disk]]
+        out = self.run(["migrate", old, new, str(SLOTS)])
+        if out.stderr == "dlm: 29 AlreadyThere\n" and not whole:
+            self.counts["of them cleared"] += 1
+            self.put_anew("new", {})
+            out = self.run(["migrate", old, new, str(SLOTS)])
+        if out.returncode or out.stdout != (FINISHED if whole else MOVED):
+            self.wrong.append(f"migrate: whole {whole}, {out.returncode} {out.stdout!r} {out.stderr!r}, told {told!r}")
+        self.is_moved(new, True, told)
+        if whole and self.random.random() < 0.2:
+            # The old folder has its log still.
+            fresh = self.put_anew("fresh", {})
+            out = self.run(["migrate", old, fresh, str(SLOTS)])
+            self.is_moved(fresh, True, told)
+
+    def is_moved(self, folder, must, told):
+        """The folder has the whole log, its images all there and open. If it need not, it may be no set of images."""
+        paths = [f"{folder}/disk{disk}.img" for disk in NEW]
+        all_open = [os.path.exists(path) and migrate.bytes_of(path) for path in paths] == list(NEW.values())
+        # This writes to the images, as every recovery does.
+        out = self.run(["table", folder, "9"])
+        is_whole = out.returncode == 0 and out.stdout == migrate.table_of(len(COMMANDS))
+        is_none = out.returncode == 1 and NO_SET.fullmatch(out.stderr)
+        if not (is_whole and (all_open or not must) or is_none and not must):
+            self.wrong.append(f"migrate: {out.returncode} {out.stdout!r} {out.stderr!r}, all open: {all_open}, told {told!r}")
 
     def look(self, state, acks):
         """By every majority of the disks the greatest vote of an acknowledged slot is its command."""
@@ -325,7 +484,8 @@ def main():
     words.add_argument("--tables", type=int, default=8)
     words.add_argument("--seed", type=int, default=random.randrange(1 << 30))
     words.add_argument("--format", action="store_true")
-    words.add_argument("--forget", choices=["", "opening", "closed", "body", "opened"], default="")
+    words.add_argument("--migrate", action="store_true")
+    words.add_argument("--forget", choices=["", "opening", "closed", "body", "opened", "folder"], default="")
     words.add_argument("--program", default=lock_log.PROGRAM)
     given = words.parse_args()
     lock_log.see_that_it_is_built(given.program)
@@ -339,6 +499,8 @@ def main():
         if given.format:
             walk.formats()
             walk.fresh()
+        if given.migrate:
+            walk.moves(Storage(old_images()), "", 2)
         steps = 0
         while steps < given.steps and not walk.wrong:
             walk.step()

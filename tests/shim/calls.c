@@ -1,9 +1,10 @@
 /* What a process does to disk images, written down, or made slower and coarser. For LD_PRELOAD; tests/power_loss.py and
  * tests/at_once.py build it with `cc -shared -fPIC`.
  *
- * DLM_LOG=FILE   each write, sync and printed line goes into FILE, in the order in which they took effect: of the processes
- *                with the same FILE one makes a call at a time. So does each fsync, which only folders get. A sync makes no
- *                system call then.
+ * DLM_LOG=FILE   each image that is made, each write, sync and printed line goes into FILE, in the order in which they took
+ *                effect: of the processes with the same FILE one makes a call at a time. So does each fsync, which only
+ *                folders get. A sync makes no system call then.
+ * DLM_OLD=PATH   to the numbers of the images in this folder 10 is added there
  * DLM_READ=N     a read is made in pieces of N bytes, each at a moment of its own; -N: the last piece first
  * DLM_WRITE=N    a write, likewise
  * DLM_GAP=P,U    between two pieces it sleeps up to U microseconds, P times in 100
@@ -24,6 +25,7 @@
 #include <unistd.h>
 
 #define MOST_FILES 1024
+#define OLD 10
 
 static int (*real_open)(const char *, int, ...);
 static ssize_t (*real_pread)(int, void *, size_t, off_t);
@@ -32,8 +34,9 @@ static ssize_t (*real_write)(int, const void *, size_t);
 static int (*real_fdatasync)(int);
 static int (*real_fsync)(int);
 
-/* By descriptor: the number of the image and 1, or 0. */
+/* By descriptor: the number of the image, with OLD if it is in the old folder, and 1; or 0. */
 static int images[MOST_FILES];
+static const char *old_folder;
 static int log_fd = -1, read_piece, write_piece, gap_percent, gap_most, pause_percent, pause_most, stop, sleep_for = -1;
 static uint64_t state;
 
@@ -78,6 +81,7 @@ __attribute__((constructor)) static void begin(void) {
     write_piece = number("DLM_WRITE", 0);
     sleep_for = number("DLM_SLEEP", -1);
     stop = number("DLM_STOP", 0);
+    old_folder = getenv("DLM_OLD");
     pair("DLM_GAP", &gap_percent, &gap_most);
     pair("DLM_PAUSE", &pause_percent, &pause_most);
     if (getenv("DLM_LOG"))
@@ -109,6 +113,11 @@ static void one_at_a_time(int begins) {
         flock(log_fd, begins ? LOCK_EX : LOCK_UN);
 }
 
+static int is_in_old(const char *path) {
+    size_t length = old_folder ? strlen(old_folder) : 0;
+    return length && !strncmp(path, old_folder, length) && path[length] == '/';
+}
+
 int open(const char *path, int flags, ...) {
     va_list rest;
     va_start(rest, flags);
@@ -117,9 +126,18 @@ int open(const char *path, int flags, ...) {
     const char *slash = strrchr(path, '/');
     const char *name = slash ? slash + 1 : path;
     int is_image = strlen(name) == 9 && !strncmp(name, "disk", 4) && !strcmp(name + 5, ".img");
+    int image = is_image ? name[4] - '0' + 1 + (is_in_old(path) ? OLD : 0) : 0;
+    int makes = image && flags & O_CREAT && log_fd >= 0;
+    if (makes)
+        one_at_a_time(1);
     int fd = real_open(path, flags, mode);
+    if (makes) {
+        if (fd >= 0)
+            note('C', image - 1, 0, "", 0);
+        one_at_a_time(0);
+    }
     if (fd >= 0 && fd < MOST_FILES)
-        images[fd] = is_image ? name[4] - '0' + 1 : 0;
+        images[fd] = image;
     return fd;
 }
 

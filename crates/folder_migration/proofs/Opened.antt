@@ -11,7 +11,7 @@ use Rattle.paxos_block.specs.declared.header.Header.{Header}
 use Rattle.paxos_block.specs.Headers.{IsRight}
 use Rattle.paxos_block.specs.layouts.Headers.{header_saying}
 use Rattle.dlm_images.specs.Folders.{HasToldFirst}
-use Rattle.folder_migration.specs.Gates.{IsOpenImage, IsClosedImage, Finds, FailsToOpen, not_written, not_synced, IsLeftClosed, FirstBecame}
+use Rattle.folder_migration.specs.Gates.{IsOpenImage, IsClosedImage, Finds, FailsToOpen, not_written, not_synced, FailsToSync, FailsToMakeSure, IsLeftUnsure, FirstBecame}
 use Rattle.folder_migration.specs.declared.gate.Gate.{Gate}
 use Rattle.folder_migration.specs.declared.gate.Gate.TheVariants.{Open, Closed, Neither}
 
@@ -101,8 +101,14 @@ pub opening_ends : {D : Type 0} (gives : D → Call → Answer → D → Type 0)
 opening_ends gives old attached opened new boot (Ok done) attaches writes syncs = tt
 opening_ends gives old attached opened new boot (Err fault) attaches writes syncs = not_synced boot attached opened attaches writes syncs
 
--- so an image is left closed
-pub left_closed : {D : Type 0} (gives : D → Call → Answer → D → Type 0) (header : Header) (size : ℕ) (old looked new : D) (opened : Result Unit DiskFault) → Finds gives header size old looked Closed
-    → IfErr opened (λ fault. FailsToOpen gives looked fault new) → IfErr opened (λ fault. IsLeftClosed gives header size old fault new)
-left_closed gives header size old looked new (Ok done) finds fails = tt
-left_closed gives header size old looked new (Err fault) finds fails = record { looked = looked; finds = finds; fails = fails }
+-- a sync that ends, well or not
+pub syncing_ends : {D : Type 0} (gives : D → Call → Answer → D → Type 0) (old attached new : D) (boot : ℕ) (synced : Result Unit DiskFault) → gives old Attach (Booted boot) attached → gives attached (Sync boot) (done_answer synced) new
+    → IfErr synced (λ fault. FailsToSync gives old fault new)
+syncing_ends gives old attached new boot (Ok done) attaches syncs = tt
+syncing_ends gives old attached new boot (Err fault) attaches syncs = inr (boot, attached, attaches, syncs)
+
+-- so nobody made sure of an image
+pub left_unsure : {D : Type 0} (gives : D → Call → Answer → D → Type 0) (header : Header) (size : ℕ) (gate : Gate) (old looked new : D) (done : Result Unit DiskFault) → Finds gives header size old looked gate
+    → IfErr done (λ fault. FailsToMakeSure gives gate looked fault new) → IfErr done (λ fault. IsLeftUnsure gives header size old fault new)
+left_unsure gives header size gate old looked new (Ok done) finds fails = tt
+left_unsure gives header size gate old looked new (Err fault) finds fails = record { gate = gate; looked = looked; finds = finds; fails = fails }

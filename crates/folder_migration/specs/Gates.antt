@@ -54,32 +54,51 @@ pub record OpensGate {D : Type 0} (gives : D → Call → Answer → D → Type 
   pub opens : gives attached (Write boot 0 (OPEN_GATE ∷ [])) Done opened
   pub syncs : gives opened (Sync boot) Done new
 
+-- what is there was synced
+pub record SyncsGate {D : Type 0} (gives : D → Call → Answer → D → Type 0) (old new : D) : Type 0 where
+  pub boot : ℕ
+  pub attached : D
+  pub attaches : gives old Attach (Booted boot) attached
+  pub syncs : gives attached (Sync boot) Done new
+
 -- it was to be opened, and the first call, the write or the sync was answered with this fault
 pub data FailsToOpen {D : Type 0} (gives : D → Call → Answer → D → Type 0) (old : D) (fault : DiskFault) (new : D) : Type 0 where
   not_attached : gives old Attach (Fault fault) new → FailsToOpen gives old fault new
   not_written : (boot : ℕ) → (attached : D) → gives old Attach (Booted boot) attached → gives attached (Write boot 0 (OPEN_GATE ∷ [])) (Fault fault) new → FailsToOpen gives old fault new
   not_synced : (boot : ℕ) → (attached opened : D) → gives old Attach (Booted boot) attached → gives attached (Write boot 0 (OPEN_GATE ∷ [])) Done opened → gives opened (Sync boot) (Fault fault) new → FailsToOpen gives old fault new
 
+-- it was to be synced, and the first call or the sync was answered with this fault
+abbrev pub FailsToSync : {D : Type 0} → (D → Call → Answer → D → Type 0) → (old : D) → DiskFault → (new : D) → Type 0
+FailsToSync {D} gives old fault new =
+    gives old Attach (Fault fault) new ⊎ ((boot : ℕ) × (attached : D) × gives old Attach (Booted boot) attached × gives attached (Sync boot) (Fault fault) new)
+
 -- LEFT OPEN
 
--- a gate that was found closed was opened, and any other was left as it is
-abbrev pub OpensClosed : {D : Type 0} → (D → Call → Answer → D → Type 0) → Gate → (looked new : D) → Type 0
-OpensClosed gives Closed looked new = OpensGate gives looked new
-OpensClosed gives Open looked new = new ≡ looked
-OpensClosed gives Neither looked new = new ≡ looked
+-- a gate that was found closed was opened and synced, one that was found open was synced, and where there is none all was left as it is
+abbrev pub MakesSure : {D : Type 0} → (D → Call → Answer → D → Type 0) → Gate → (looked new : D) → Type 0
+MakesSure gives Closed looked new = OpensGate gives looked new
+MakesSure gives Open looked new = SyncsGate gives looked new
+MakesSure gives Neither looked new = new ≡ looked
 
--- The gate of an image was looked for, and opened if it was closed.
+-- a call of those was answered with this fault
+abbrev pub FailsToMakeSure : {D : Type 0} → (D → Call → Answer → D → Type 0) → Gate → (looked : D) → DiskFault → (new : D) → Type 0
+FailsToMakeSure gives Closed looked fault new = FailsToOpen gives looked fault new
+FailsToMakeSure gives Open looked fault new = FailsToSync gives looked fault new
+FailsToMakeSure gives Neither looked fault new = ⊥
+
+-- The gate of an image was looked for. If there is one, it is open and synced now.
 pub record IsLeftOpen {D : Type 0} (gives : D → Call → Answer → D → Type 0) (header : Header) (size : ℕ) (old new : D) : Type 0 where
   pub gate : Gate
   pub looked : D
   pub finds : Finds gives header size old looked gate
-  pub opens : OpensClosed gives gate looked new
+  pub sure : MakesSure gives gate looked new
 
--- It was found closed, and could not be opened, for this fault.
-pub record IsLeftClosed {D : Type 0} (gives : D → Call → Answer → D → Type 0) (header : Header) (size : ℕ) (old : D) (fault : DiskFault) (new : D) : Type 0 where
+-- There is one, closed or open, and for this fault nobody made sure that it is open.
+pub record IsLeftUnsure {D : Type 0} (gives : D → Call → Answer → D → Type 0) (header : Header) (size : ℕ) (old : D) (fault : DiskFault) (new : D) : Type 0 where
+  pub gate : Gate
   pub looked : D
-  pub finds : Finds gives header size old looked Closed
-  pub fails : FailsToOpen gives looked fault new
+  pub finds : Finds gives header size old looked gate
+  pub fails : FailsToMakeSure gives gate looked fault new
 
 -- ALL OF THEM
 
@@ -112,7 +131,7 @@ pub record HasOpenGate {D : Type 0} (gives : D → Call → Answer → D → Typ
 abbrev pub AreLeftOpen : {D : Type 0} → (D → Call → Answer → D → Type 0) → (D → Device) → Shape → (cluster n : ℕ) → (old new : List D) → Type 0
 AreLeftOpen gives device config cluster n = FirstBecame (λ disk old new. IsLeftOpen gives (header_of config cluster disk) (device old).size old new) n
 
--- One was left closed for this fault. Those before it were left open, and those after it are as they were.
+-- Of one nobody made sure, for this fault. Those before it were left open, and those after it are as they were.
 pub record IsStopped {D : Type 0} (gives : D → Call → Answer → D → Type 0) (device : D → Device) (config : Shape) (cluster : ℕ) (old : List D) (fault : DiskFault) (new : List D) : Type 0 where
   pub disk : ℕ
   pub now : List D
@@ -120,5 +139,5 @@ pub record IsStopped {D : Type 0} (gives : D → Call → Answer → D → Type 
   pub image : D
   pub left : D
   pub is : slice_get now disk ≡ Some image
-  pub left_closed : IsLeftClosed gives (header_of config cluster disk) (device image).size image fault left
+  pub left_unsure : IsLeftUnsure gives (header_of config cluster disk) (device image).size image fault left
   pub new_is : new ≡ slice_set now disk left

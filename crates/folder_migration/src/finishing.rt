@@ -23,7 +23,7 @@ pub fn is_begun<D: Disk>(config: Config, cluster: u64, images: &mut [D]) -> bool
     false
 }
 
-/// Opens the gates of the images that are complete but for them. Where that fails, no other is looked at.
+/// Opens the gates of the images that are complete but for them, and makes sure of those that are open. Where that fails, no other is looked at.
 pub fn finish<D: Disk>(config: Config, cluster: u64, images: &mut [D]) -> Result<(), DiskFault>
     requires as_many { length images.old ≡ config.disks }
     ensures left_open { OnOk result (AreLeftOpen D.gives D.device config cluster config.disks images.old images.new) }

@@ -1,7 +1,7 @@
 ghost use Rattle.std.specs.Prelude.{◌≡◌, ◌↔◌, ◌≤◌, IsTrue, IfErr, IfOk, OnOk};
 ghost use Rattle.torn_block.specs.declared.layout.TheConstants.{HEADER_LENGTH};
 ghost use Rattle.dlm_images.specs.Folders.{HasToldFirst, FailsToTell};
-ghost use Rattle.folder_migration.specs.Gates.{IsOpenImage, IsClosedImage, Finds, OpensGate, FailsToOpen, IsLeftOpen, IsLeftClosed};
+ghost use Rattle.folder_migration.specs.Gates.{IsOpenImage, IsClosedImage, Finds, OpensGate, FailsToOpen, SyncsGate, FailsToSync, IsLeftOpen, IsLeftUnsure};
 
 use disk::{Disk, DiskFault};
 use paxos_block::{Header, decode_header};
@@ -84,14 +84,25 @@ pub fn open_gate<D: Disk>(device: &mut D) -> Result<(), DiskFault>
     device.sync(boot)
 }
 
-/// Opens the gate of an image that is complete but for it. Anything else is left as it is.
+/// Makes sure of a gate that is open: a run that was ended may have written it, and not synced it.
+pub fn sync_gate<D: Disk>(device: &mut D) -> Result<(), DiskFault>
+    ensures synced { OnOk result (SyncsGate D.gives device.old device.new) }
+    ensures fault { IfErr result (λ fault. FailsToSync D.gives device.old fault device.new) }
+    ensures device { D.device device.new ≡ D.device device.old }
+{
+    let boot = device.attach()?;
+    device.sync(boot)
+}
+
+/// Opens the gate of an image that is complete but for it, and makes sure of one that is open. Anything else is left as it is.
 pub fn leave_open<D: Disk>(device: &mut D, header: &Header) -> Result<(), DiskFault>
     ensures left { OnOk result (IsLeftOpen D.gives header.now (D.device device.old).size device.old device.new) }
-    ensures fault { IfErr result (λ fault. IsLeftClosed D.gives header.now (D.device device.old).size device.old fault device.new) }
+    ensures fault { IfErr result (λ fault. IsLeftUnsure D.gives header.now (D.device device.old).size device.old fault device.new) }
     ensures device { D.device device.new ≡ D.device device.old }
 {
     match find_gate(device, header) {
         Gate::Closed => open_gate(device),
-        Gate::Open | Gate::Neither => Ok(()),
+        Gate::Open => sync_gate(device),
+        Gate::Neither => Ok(()),
     }
 }

@@ -14,7 +14,7 @@ mod old_log;
 
 pub use fault::MoveFault;
 pub use finishing::{finish, is_begun};
-pub use gate::{Gate, find_gate, gate_in, leave_open, open_gate};
+pub use gate::{Gate, find_gate, gate_in, leave_open, open_gate, sync_gate};
 pub use image::clear;
 pub use migrate::{Moved, migrate_folder};
 pub use migrating::migrate_disks;

@@ -25,13 +25,13 @@ use std::rt::Files;
 pub enum Moved {
     /// So many commands were written onto so many new images.
     Moved { commands: u16, disks: u8 },
-    /// The gate of a new image was open already, so all of them were complete. Now the gates of the others are open, too.
+    /// The gate of a new image was open already, so all of them were complete. Now the gates of the others are open, too, and all are synced.
     Finished { disks: u8 },
 }
 
 /// Moves the log of a folder of the first layout onto new images in another folder, with so many slots. No host runs on either.
 ///
-/// Where an earlier run was ended once it had opened a gate, the gates that are left are opened, and nothing else is done.
+/// Where an earlier run was ended once it had opened a gate, the gates that are left are opened, all are synced, and nothing else is done.
 pub fn migrate_folder<R: Files + AllocGlobal>(
     rt: &R,
     old: &str,
@@ -88,7 +88,7 @@ fn first_host() -> HostNumber
     }
 }
 
-/// Opens the gates that an earlier run has left, if it had opened one. Whether it had is the result.
+/// Opens the gates that an earlier run has left, and makes sure of all, if it had opened one. Whether it had is the result.
 fn finish_earlier<R: Files + AllocGlobal>(
     rt: &R,
     folder: &str,
