@@ -1,7 +1,7 @@
 ghost use Rattle.std.specs.Prelude.{◌≡◌, ◌≤◌, ◌<◌, OnOk, IfOk, IfErr};
 ghost use Rattle.paxos_block.specs.Places.{image_length};
 ghost use Rattle.dlm_images.specs.SetFaults.{IsFormatFault};
-ghost use Rattle.dlm_images.specs.Layout.{IsLaidOut, WritesZeros, header_of};
+ghost use Rattle.dlm_images.specs.Layout.{AreLaidOut, IsLaidOut, WasLaidOut, WritesZeros, header_of};
 
 use crate::fault::FolderFault;
 use crate::image::{first_bytes, image_path};
@@ -28,7 +28,8 @@ pub fn format_folder<R: Files + AllocGlobal>(
 ) -> Result<(), FolderFault>
 where
     R::File: FileExt + OpenFile + Drop,
-    ensures { IfErr result (IsFormatFault config.disks) }
+    ensures laid_out { OnOk result (AreLaidOut config cluster config.disks) }
+    ensures fault { IfErr result (IsFormatFault config.disks) }
 {
     let disks = config.disks();
     for disk in 0..disks {
@@ -96,7 +97,8 @@ fn make_image<R: Files>(
 where
     R::File: FileExt + OpenFile + Drop,
     requires { disk < config.disks }
-    ensures { IfErr result (λ fault. fault ≡ ImageFault.Unreadable) }
+    ensures laid_out { OnOk result (WasLaidOut config cluster disk) }
+    ensures fault { IfErr result (λ fault. fault ≡ ImageFault.Unreadable) }
 {
     let size = config.image_length();
     let mut device = new_device(files, path, size)?;

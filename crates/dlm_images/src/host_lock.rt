@@ -1,6 +1,6 @@
 ghost use Rattle.std.specs.Prelude.{◌≡◌, IfOk, IfErr};
 ghost use Rattle.std.specs.Path.{path_buf_bytes, path_join};
-ghost use Rattle.dlm_images.specs.declared.host_lock.LockFault.TheVariants.{NoMemory};
+ghost use Rattle.dlm_images.specs.declared.host_lock.LockFault.TheVariants.{NoMemory, InUse};
 ghost use Rattle.dlm_images.specs.Folders.{lock_name, IsLockFault};
 
 use lock_command::HostNumber;
@@ -17,14 +17,20 @@ pub trait TryLock {
     /// What is known of a file whose lock was given.
     ghost locked: { Self → Type 0 };
 
+    /// What is known of a file whose lock somebody else has.
+    ghost held: { Self → Type 0 };
+
     /// Takes the lock, unless somebody else has it. It never waits.
     fn try_lock(&self) -> Result<(), TryLockError>
-        ensures { IfOk result (λ _. locked self.now) };
+        ensures locked { IfOk result (λ _. locked self.now) }
+        ensures held { IfErr result (λ fault. fault ≡ TryLockError.WouldBlock → held self.now) };
 }
 
 impl TryLock for File {
     // The system alone knows who has a lock.
     ghost locked = { λ file. Unit {0} };
+
+    ghost held = { λ file. Unit {0} };
 
     fn try_lock(&self) -> Result<(), TryLockError> {
         File::try_lock(self)
@@ -65,6 +71,8 @@ where
     R::File: TryLock,
     ensures locked { IfOk result R.File.locked }
     ensures fault { IfErr result (IsLockFault host) }
+    // It was refused for the sake of somebody else only if there was a file whose lock somebody else has.
+    ensures in_use { IfErr result (λ fault. fault ≡ InUse host → (file : _) × R.File.held file) }
 {
     let path = lock_path(rt.alloc(), folder, host)?;
     let file = open_lock_file(rt, path.as_str()).map_err(|_| LockFault::NoLock(host.get()))?;

@@ -11,7 +11,7 @@ use Rattle.migration.specs.declared.end.End.TheVariants as end
 use Rattle.dlm_images.specs.SetFaults.{IsFormatFault}
 use Rattle.dlm_images.specs.declared.fault.FolderFault.{FolderFault}
 use Rattle.dlm_images.specs.declared.fault.FolderFault.TheVariants as folder
-use Rattle.folder_migration.specs.Migrating.{AreBlank, HasWritten, IsFolderFault, MayFail, with_slots}
+use Rattle.folder_migration.specs.Migrating.{AreBlank, AreNotBegun, HasWritten, IsFolderFault, MayFail, with_slots}
 use Rattle.folder_migration.specs.Moving.{HasMoved}
 use Rattle.folder_migration.specs.OldFolders.{IsOpened}
 use Rattle.folder_migration.specs.Recovery.{HasRecovered, RecoversTo}
@@ -38,14 +38,15 @@ pub made_as : {D E : Type 0} (old_gives : D → Call → Answer → D → Type 0
 made_as old_gives new_gives makes other config wide cluster old left commands end as_other w =
     record { log = w.log; blank = w.blank; new = w.new; recovers = w.recovers; made = as_other w.blank w.made; moves = w.moves; commands_is = w.commands_is }
 
-pub written : (slots : ℕ) (config wide : Shape) (cluster : ℕ) (old used left : List FileState) (commands disks : ℕ) (end : End) → IsOpened config cluster old → wide ≡ with_slots config slots → config.slots ≤ slots → used ≡ old
+pub written : (slots : ℕ) (config wide : Shape) (cluster : ℕ) (old used left : List FileState) (commands disks : ℕ) (end : End) → IsOpened config cluster old → wide ≡ with_slots config slots → config.slots ≤ slots → used ≡ old → AreNotBegun wide cluster
     → Writes FileGives FileGives (AreBlank wide) config wide cluster used left commands end → disks ≡ wide.disks → HasWritten slots commands disks end
-written slots config wide cluster old used left commands disks end opened is room same writes as_many = record {
+written slots config wide cluster old used left commands disks end opened is room same not_begun writes as_many = record {
   config = config;
   cluster = cluster;
   old = old;
   left = left;
   ready = record { opened = opened; room = room };
+  not_begun = subst (λ (c : Shape). AreNotBegun c cluster) is not_begun;
   writes =
       subst (λ (c : Shape). Writes FileGives FileGives (AreBlank c) config c cluster old left commands end) is
       (subst (λ (l : List FileState). Writes FileGives FileGives (AreBlank wide) config wide cluster l left commands end) same writes);
@@ -59,9 +60,9 @@ of_format disks few (folder.Image disk fault) is = let below : disk < disks = is
 
 -- why a migration stops is why it is refused
 pub stops : (slots : ℕ) (config wide : Shape) (cluster : ℕ) (old used left : List FileState) (makes : List FileState → Type 0) (fails : FolderFault → Type 0) (fault : MoveFault) → IsOpened config cluster old
-    → wide ≡ with_slots config slots → config.slots ≤ slots → used ≡ old → wide.disks ≤ DISKS → StopsFor FileGives FileGives makes fails config wide cluster used left fault
+    → wide ≡ with_slots config slots → config.slots ≤ slots → used ≡ old → AreNotBegun wide cluster → wide.disks ≤ DISKS → StopsFor FileGives FileGives makes fails config wide cluster used left fault
     → ((images : List FileState) → makes images → AreBlank wide images) → ((x : FolderFault) → fails x → IsFormatFault wide.disks x) → MayFail slots fault
-stops slots config wide cluster old used left makes fails fault opened is room as_old few stopped blank failed = by_fault fault stopped
+stops slots config wide cluster old used left makes fails fault opened is room as_old not_begun few stopped blank failed = by_fault fault stopped
   where
     by_fault : (fault : MoveFault) → StopsFor FileGives FileGives makes fails config wide cluster used left fault → MayFail slots fault
     by_fault NoMemory stopped = tt
@@ -80,7 +81,7 @@ stops slots config wide cluster old used left makes fails fault opened is room a
           commands = stopped.0;
           disks = wide.disks;
           written =
-              written slots config wide cluster old used left stopped.0 wide.disks end.MigrationFailed opened is room as_old
+              written slots config wide cluster old used left stopped.0 wide.disks end.MigrationFailed opened is room as_old not_begun
               (made_as FileGives FileGives makes (AreBlank wide) config wide cluster used left stopped.0 end.MigrationFailed blank stopped.1) refl;
         })
     by_fault TooFewSlots stopped = absurd stopped

@@ -15,7 +15,7 @@ use Rattle.dlm_images.specs.Folders.{IsLockFault}
 use Rattle.dlm_images.specs.SetFaults.{MayRefuse}
 use Rattle.dlm_images.specs.declared.fault.FolderFault.{FolderFault}
 use Rattle.dlm_images.specs.declared.fault.FolderFault.TheVariants as folder
-use Rattle.folder_migration.specs.Gates.{IsCleared, HasOpenGate, AreLeftOpen, IsStopped}
+use Rattle.folder_migration.specs.Gates.{IsCleared, HasOpenGate, HaveNoOpenGate, AreLeftOpen, IsStopped}
 use Rattle.folder_migration.specs.OldFolders.{IsOpened}
 use Rattle.folder_migration.specs.Recovery.{HasRecovered}
 use Rattle.folder_migration.specs.Writing.{Writes}
@@ -49,6 +49,13 @@ pub record IsTooSmall (slots : ℕ) : Type 0 where
 abbrev pub file_device : FileState → Device
 file_device file = record { tells = false; size = file.size; boot = 1; gone = false }
 
+-- None of the new images had an open gate.
+pub record AreNotBegun (config : Shape) (cluster : ℕ) : Type 0 where
+  pub found : List FileState
+  pub looked : List FileState
+  pub as_many : length found ≡ config.disks
+  pub none : HaveNoOpenGate FileGives file_device config cluster config.disks found looked
+
 -- One of the new images had an open gate, and each of them was left open.
 pub record AreFinished (config : Shape) (cluster : ℕ) : Type 0 where
   pub found : List FileState
@@ -81,13 +88,14 @@ pub record AreBlank (config : Shape) (images : List FileState) : Type 0 where
 
 -- HOW IT ENDS
 
--- The log of the old disks was recovered, images were made, and what stands for its commands was written there, up to this end.
+-- No new image was open. The log of the old disks was recovered, images were made, and what stands for its commands was written there, up to this end.
 pub record HasWritten (slots commands disks : ℕ) (end : End) : Type 0 where
   pub config : Shape
   pub cluster : ℕ
   pub old : List FileState
   pub left : List FileState
   pub ready : IsReady slots config cluster old
+  pub not_begun : AreNotBegun (with_slots config slots) cluster
   pub writes : Writes FileGives FileGives (AreBlank (with_slots config slots)) config (with_slots config slots) cluster old left commands end
   pub disks_is : disks ≡ config.disks
 

@@ -1,7 +1,7 @@
-ghost use Rattle.std.specs.Prelude.{◌≡◌, ◌⊎◌, ◌≤◌, ◌<◌, IfOk, IfErr, length, true};
+ghost use Rattle.std.specs.Prelude.{◌≡◌, ◌⊎◌, ◌≤◌, ◌<◌, IfOk, IfErr, length, true, false};
 ghost use Rattle.paxos_block.specs.Places.{image_length};
 ghost use Rattle.dlm_images.specs.SetFaults.{IsFormatFault};
-ghost use Rattle.folder_migration.specs.Migrating.{AreBlank, AreFinished, AreNotFinished, CameTo, IsBlank, MayFail, with_slots};
+ghost use Rattle.folder_migration.specs.Migrating.{AreBlank, AreFinished, AreNotBegun, AreNotFinished, CameTo, IsBlank, MayFail, with_slots};
 
 use crate::fault::MoveFault;
 use crate::finishing::{finish, is_begun};
@@ -98,6 +98,7 @@ fn finish_earlier<R: Files + AllocGlobal>(
 where
     R::File: FileExt + OpenFile + Drop,
     ensures finished { IfOk result (λ finished. finished ≡ true → AreFinished config cluster) }
+    ensures none { IfOk result (λ finished. finished ≡ false → AreNotBegun config cluster) }
     ensures fault { IfErr result (λ fault. (fault ≡ MoveFault.Folder FolderFault.NoMemory) ⊎ ((fault ≡ MoveFault.MigrationFailed) × AreNotFinished config cluster)) }
 {
     let mut images = open_new_folder(rt, folder, config)?;
