@@ -4,7 +4,7 @@ use Rattle.disk.specs.Disk.{Call, Answer}
 use Rattle.disk.specs.Simulated.{SimState, outcome}
 use Rattle.torn_block.specs.declared.layout.TheConstants.{HOSTS}
 use Rattle.lock_command.specs.declared.command.Command.{Command}
-use Rattle.lock_table.specs.declared.reply.Reply.{Reply}
+use Rattle.lock_command.specs.declared.reply.Reply.{Reply}
 use Rattle.slot_log.specs.Shape.{Shape}
 use Rattle.slot_log.specs.declared.outcome.Refusal.{Refusal}
 use Rattle.host.specs.Host.{Operation, Submitting, fresh}

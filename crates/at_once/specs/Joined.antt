@@ -1,7 +1,7 @@
 -- One log of what several hosts keep, each of which has done its own part of what was done at once.
 use Rattle.std.specs.Prelude.{◌≡◌, ◌+◌, ◌<◌, ◌≤◌, ℕ, true, List, length, take, slice_get, Some}
 use Rattle.lock_command.specs.declared.command.Command.{Command}
-use Rattle.lock_table.specs.declared.reply.Reply.{Reply}
+use Rattle.lock_command.specs.declared.reply.Reply.{Reply}
 use Rattle.slot_log.specs.Shape.{Shape}
 use Rattle.host.specs.Host.{reply_after}
 use Rattle.host.specs.Kept.{Kept}

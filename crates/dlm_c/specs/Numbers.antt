@@ -2,14 +2,14 @@
 use Rattle.std.specs.Prelude.{ℕ, ℤ, pos, negsuc, if◌then◌else◌}
 use Rattle.lock_modes.specs.declared.mode.Mode.{Mode}
 use Rattle.lock_modes.specs.declared.mode.Mode.TheVariants.{Null, ConcurrentRead, ConcurrentWrite, ProtectedRead, ProtectedWrite, Exclusive}
-use Rattle.lock_table.specs.declared.record.LockState.{LockState}
-use Rattle.lock_table.specs.declared.record.LockState.TheVariants.{Granted as Holding, Converting, Waiting}
-use Rattle.lock_table.specs.declared.reply.Answer as table
-use Rattle.lock_table.specs.declared.reply.LockValue.{LockValue}
-use Rattle.lock_table.specs.declared.reply.Reply.{Reply}
-use Rattle.lock_table.specs.declared.reply.Answer.TheVariants.{Granted, Queued, Released, Cancelled, Purged, State, Refused}
-use Rattle.lock_table.specs.declared.reply.Refusal as refused
-use Rattle.lock_table.specs.declared.reply.Refusal.TheVariants.{LockInUse, NoSuchLock, NotOwner, AlreadyConverting, StillWaiting, NotQueued, TableFull, Stale, ClientsFull, NothingToCancel}
+use Rattle.lock_command.specs.declared.state.LockState.{LockState}
+use Rattle.lock_command.specs.declared.state.LockState.TheVariants.{Granted as Holding, Converting, Waiting}
+use Rattle.lock_command.specs.declared.reply.Answer as table
+use Rattle.lock_command.specs.declared.reply.LockValue.{LockValue}
+use Rattle.lock_command.specs.declared.reply.Reply.{Reply}
+use Rattle.lock_command.specs.declared.reply.Answer.TheVariants.{Granted, Queued, Released, Cancelled, Purged, State, Refused}
+use Rattle.lock_command.specs.declared.reply.Refusal as refused
+use Rattle.lock_command.specs.declared.reply.Refusal.TheVariants.{LockInUse, NoSuchLock, NotOwner, AlreadyConverting, StillWaiting, NotQueued, TableFull, Stale, ClientsFull, NothingToCancel}
 use Rattle.slot_log.specs.declared.outcome.Refusal as operation
 use Rattle.slot_log.specs.declared.outcome.Refusal.TheVariants.{Outrun, NoMajority, BallotsSpent, LogFull, NotACommand, NotLearned}
 use Rattle.disk.specs.declared.fault.ImageFault.{ImageFault}

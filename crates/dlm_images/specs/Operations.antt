@@ -7,7 +7,7 @@ use Rattle.attempt.specs.History.{Fits}
 use Rattle.attempt.specs.Looking.{OnlyReads}
 use Rattle.slot_log.specs.Shape.{Shape}
 use Rattle.lock_command.specs.declared.command.Command.{Command}
-use Rattle.lock_table.specs.declared.reply.Reply.{Reply}
+use Rattle.lock_command.specs.declared.reply.Reply.{Reply}
 use Rattle.host.specs.Host.{Memory, Doing, Operation, Submitting, Recovering, Looking, goes_on, starts_marking, hears_from, next_in, reply_after}
 use Rattle.host.specs.Kept.{Kept, LeadsTo, is_idle}
 use Rattle.host.specs.declared.answer.HostAnswer.{HostAnswer}

@@ -2,7 +2,7 @@
 ghost use Rattle.std.specs.Prelude.{◌≡◌, ℕ, true, Some, List, [], ◌∷◌, length};
 ghost use Rattle.disk.specs.Disk.{DiskState, Attach};
 ghost use Rattle.lock_command.specs.declared.command.Command.{Command};
-ghost use Rattle.lock_table.specs.declared.reply.Reply.{Reply};
+ghost use Rattle.lock_command.specs.declared.reply.Reply.{Reply};
 ghost use Rattle.lock_table.specs.Apply.{granted};
 ghost use Rattle.host.specs.Host.{Submitting, fresh, is_idle};
 ghost use Rattle.host.specs.Kept.{LeadsTo};

@@ -34,7 +34,7 @@ use Rattle.attempt.specs.Visits.{waits, visited, is_left_at, are_enough}
 use Rattle.lock_command.specs.declared.command.Command.{Command}
 use Rattle.lock_command.specs.Command.{spelling}
 use Rattle.lock_command.specs.Reading.{decoded, checked, command_at}
-use Rattle.lock_table.specs.declared.reply.Reply.{Reply}
+use Rattle.lock_command.specs.declared.reply.Reply.{Reply}
 use Rattle.phases.specs.Notes.{Notes}
 use Rattle.slot_log.specs.Shape.{Shape}
 use Rattle.slot_log.specs.Alone as log_alone

@@ -4,7 +4,7 @@ use Rattle.std.specs.Option.{option_map}
 use Rattle.disk.specs.Disk as device
 use Rattle.lock_command.specs.declared.command.Command.{Command}
 use Rattle.lock_command.specs.Command.{spelling}
-use Rattle.lock_table.specs.declared.reply.Reply.{Reply}
+use Rattle.lock_command.specs.declared.reply.Reply.{Reply}
 use Rattle.slot_log.specs.Shape.{Shape}
 use Rattle.heartbeat.specs.Suggesting.{Readings}
 use Rattle.beats.specs.Answers as beat_answers

@@ -5,7 +5,7 @@ use Rattle.std.proofs.Math.Seq.{drop-cons}
 use Rattle.std.specs.Io.KnownBytes.{Appends}
 use Rattle.std.proofs.KnownBytes.{Appends-trans}
 use Rattle.lock_table.specs.declared.record.LockRecord.{LockRecord}
-use Rattle.lock_table.specs.declared.reply.LockValue.{LockValue}
+use Rattle.lock_command.specs.declared.reply.LockValue.{LockValue}
 use Rattle.inspect.specs.Text.{lock_line, name_line, lines_behind}
 
 -- the lines from a lock on

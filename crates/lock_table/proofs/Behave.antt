@@ -8,13 +8,13 @@ use Rattle.lock_command.specs.declared.command.Action.TheVariants.{Enqueue, Conv
 use Rattle.lock_table.specs.declared.clients.TheConstants.{CLIENTS}
 use Rattle.lock_table.specs.declared.locks.TheConstants.{LOCKS}
 use Rattle.lock_table.specs.declared.record.LockRecord.{LockRecord}
-use Rattle.lock_table.specs.declared.record.LockState.{LockState}
-use Rattle.lock_table.specs.declared.record.LockState.TheVariants.{Granted, Converting, Waiting}
+use Rattle.lock_command.specs.declared.state.LockState.{LockState}
+use Rattle.lock_command.specs.declared.state.LockState.TheVariants.{Granted, Converting, Waiting}
 use Rattle.lock_table.specs.declared.record.KnownClient.{KnownClient}
-use Rattle.lock_table.specs.declared.reply.Refusal.TheVariants as refusal
-use Rattle.lock_table.specs.declared.reply.Answer.{Answer}
-use Rattle.lock_table.specs.declared.reply.Answer.TheVariants as answer
-use Rattle.lock_table.specs.declared.reply.Reply.{Reply}
+use Rattle.lock_command.specs.declared.reply.Refusal.TheVariants as refusal
+use Rattle.lock_command.specs.declared.reply.Answer.{Answer}
+use Rattle.lock_command.specs.declared.reply.Answer.TheVariants as answer
+use Rattle.lock_command.specs.declared.reply.Reply.{Reply}
 use Rattle.lock_table.specs.Values.{Values, zeros, invalid, is_writer, is_downward, given, of_locked, is_granted, is_released, changed, values_after, value_of_lock, asked_value, returned}
 use Rattle.lock_table.specs.Locks.{is_lock, is_on, in_state, lock_in, admits, has_queue, IsDistinct}
 use Rattle.lock_table.specs.Apply.{CommandOutcome, enqueued, converted, released, cancelled, with_own, told, purged, done, Plain, Applied, is_client, kept, replied, carried_out, applied_after, applied}

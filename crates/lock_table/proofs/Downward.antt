@@ -7,11 +7,11 @@ use Rattle.lock_modes.specs.declared.mode.Mode.TheVariants.{Null, ConcurrentRead
 use Rattle.lock_modes.specs.Mode.{conflict, downward}
 use Rattle.lock_command.specs.declared.command.Action.TheVariants.{Convert}
 use Rattle.lock_table.specs.declared.record.LockRecord.{LockRecord}
-use Rattle.lock_table.specs.declared.record.LockState.{LockState}
-use Rattle.lock_table.specs.declared.record.LockState.TheVariants.{Granted, Converting, Waiting}
-use Rattle.lock_table.specs.declared.reply.Answer.{Answer}
-use Rattle.lock_table.specs.declared.reply.Answer.TheVariants as answer
-use Rattle.lock_table.specs.declared.reply.Refusal.TheVariants as refusal
+use Rattle.lock_command.specs.declared.state.LockState.{LockState}
+use Rattle.lock_command.specs.declared.state.LockState.TheVariants.{Granted, Converting, Waiting}
+use Rattle.lock_command.specs.declared.reply.Answer.{Answer}
+use Rattle.lock_command.specs.declared.reply.Answer.TheVariants as answer
+use Rattle.lock_command.specs.declared.reply.Refusal.TheVariants as refusal
 use Rattle.lock_table.specs.State.{holds_against}
 use Rattle.lock_table.specs.Locks.{is_on, is_lock, lock_in, stands_against, admits}
 use Rattle.lock_table.specs.Apply.{CommandOutcome, refused, converted, with_own, done}

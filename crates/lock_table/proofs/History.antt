@@ -8,10 +8,10 @@ use Rattle.lock_command.specs.declared.command.Action.{Action}
 use Rattle.lock_command.specs.declared.command.Action.TheVariants.{Enqueue, Convert, Release, Cancel, Status, Purge, QuietPurge}
 use Rattle.lock_table.specs.declared.clients.TheConstants.{CLIENTS}
 use Rattle.lock_table.specs.declared.record.LockRecord.{LockRecord}
-use Rattle.lock_table.specs.declared.record.LockState.{LockState}
+use Rattle.lock_command.specs.declared.state.LockState.{LockState}
 use Rattle.lock_table.specs.declared.record.KnownClient.{KnownClient}
-use Rattle.lock_table.specs.declared.reply.Answer.{Answer}
-use Rattle.lock_table.specs.declared.reply.LockValue.{LockValue}
+use Rattle.lock_command.specs.declared.reply.Answer.{Answer}
+use Rattle.lock_command.specs.declared.reply.LockValue.{LockValue}
 use Rattle.lock_table.specs.Locks.{is_on, is_through, lock_in}
 use Rattle.lock_table.specs.Picture.{HasZeros}
 use Rattle.lock_table.specs.Values.{Values, zeros, invalid, stored, given, is_writer, is_downward, is_granted, is_released, changed, asked_value, returned}

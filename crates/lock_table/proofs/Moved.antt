@@ -10,8 +10,8 @@ use Rattle.lock_command.specs.Old.{same_action, upgraded_action, upgraded}
 use Rattle.lock_table.specs.declared.clients.TheConstants.{CLIENTS}
 use Rattle.lock_table.specs.declared.record.LockRecord.{LockRecord}
 use Rattle.lock_table.specs.declared.record.KnownClient.{KnownClient}
-use Rattle.lock_table.specs.declared.reply.Reply.{Reply}
-use Rattle.lock_table.specs.declared.reply.Refusal.TheVariants as refusal
+use Rattle.lock_command.specs.declared.reply.Reply.{Reply}
+use Rattle.lock_command.specs.declared.reply.Refusal.TheVariants as refusal
 use Rattle.lock_table.specs.Apply.{Applied, done, is_client, kept, replied, carried_out, unchanged, refusing, applied_after, applied, table_after}
 use Rattle.lock_table.specs.Old.{OldClient, OldTable, OldApplied, is_old_client, old_carried_out, old_applied_after, old_applied, old_table_after, with_zeros, known_again, again}
 use Rattle.lock_table.specs.Stored.{value_in, gives_nothing}

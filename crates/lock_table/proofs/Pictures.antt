@@ -11,8 +11,8 @@ use Rattle.std.proofs.lemmas.Cmp.{then_total, on_total, nat_cmp_total, nat_list_
 use Rattle.std.proofs.lemmas.List.MinMax.{ranks_by}
 use Rattle.lock_command.specs.declared.command.Command.{Command}
 use Rattle.lock_table.specs.declared.record.LockRecord.{LockRecord}
-use Rattle.lock_table.specs.declared.record.LockState.{LockState}
-use Rattle.lock_table.specs.declared.record.LockState.TheVariants.{Granted, Converting, Waiting}
+use Rattle.lock_command.specs.declared.state.LockState.{LockState}
+use Rattle.lock_command.specs.declared.state.LockState.TheVariants.{Granted, Converting, Waiting}
 use Rattle.lock_table.specs.declared.record.KnownClient.{KnownClient}
 use Rattle.lock_table.specs.State.{is_converting, is_waiting}
 use Rattle.lock_table.specs.Locks.{is_lock, is_on, converts_on, waits_on, IsDistinct}

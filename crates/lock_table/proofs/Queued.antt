@@ -11,8 +11,8 @@ use Rattle.std.proofs.lemmas.Cmp.{nat_list_cmp_total, tied_itself}
 use Rattle.std.proofs.lemmas.List.{take-append-drop}
 use Rattle.lock_modes.specs.declared.mode.Mode.TheVariants.{Null}
 use Rattle.lock_table.specs.declared.record.LockRecord.{LockRecord}
-use Rattle.lock_table.specs.declared.record.LockState.{LockState}
-use Rattle.lock_table.specs.declared.record.LockState.TheVariants.{Granted, Converting, Waiting}
+use Rattle.lock_command.specs.declared.state.LockState.{LockState}
+use Rattle.lock_command.specs.declared.state.LockState.TheVariants.{Granted, Converting, Waiting}
 use Rattle.lock_table.specs.State.{is_converting, is_waiting, is_queued}
 use Rattle.lock_table.specs.Locks.{is_on, option_or, converts_on, waits_on, head_of, has_queue}
 use Rattle.lock_table.specs.Picture.{rank_of, number_among, printed_cmp}

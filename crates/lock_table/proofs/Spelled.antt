@@ -9,8 +9,8 @@ use Rattle.std.proofs.lemmas.Bool.{cases_lt, and_parts, leb-true, lt-ltb, le-ltb
 use Rattle.std.proofs.Math.Nat.{mul-le-mul_left}
 use Rattle.lock_command.specs.Name.{is_name_byte, IsName}
 use Rattle.lock_table.specs.declared.record.LockRecord.{LockRecord}
-use Rattle.lock_table.specs.declared.record.LockState.{LockState}
-use Rattle.lock_table.specs.declared.record.LockState.TheVariants.{Granted, Converting, Waiting}
+use Rattle.lock_command.specs.declared.state.LockState.{LockState}
+use Rattle.lock_command.specs.declared.state.LockState.TheVariants.{Granted, Converting, Waiting}
 use Rattle.lock_table.specs.Picture.{rank_of, number_among, printed_cmp}
 use Rattle.lock_table.specs.Indexed.{stands_before_rank}
 use Rattle.lock_table.specs.Keys.{spelled, key_of, lock_key, HasKey}

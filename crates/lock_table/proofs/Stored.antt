@@ -8,10 +8,10 @@ use Rattle.std.proofs.lemmas.List.Kept.{IsSortedBy-filter}
 use Rattle.lock_command.specs.Name.{same_name}
 use Rattle.lock_command.specs.declared.command.Action.{Action}
 use Rattle.lock_command.specs.declared.command.Action.TheVariants.{Enqueue, Convert, Release, Cancel, Status, Purge, QuietPurge}
-use Rattle.lock_table.specs.declared.record.LockState.{LockState}
-use Rattle.lock_table.specs.declared.reply.Answer.{Answer}
+use Rattle.lock_command.specs.declared.state.LockState.{LockState}
+use Rattle.lock_command.specs.declared.reply.Answer.{Answer}
 use Rattle.lock_table.specs.declared.record.LockRecord.{LockRecord}
-use Rattle.lock_table.specs.declared.reply.LockValue.{LockValue}
+use Rattle.lock_command.specs.declared.reply.LockValue.{LockValue}
 use Rattle.lock_table.specs.declared.values.NamedValue.{NamedValue}
 use Rattle.lock_table.specs.Locks.{is_lock, is_on, is_through, lock_in}
 use Rattle.lock_table.specs.Picture.{HasZeros}

@@ -5,10 +5,10 @@ use Rattle.lock_command.specs.Old.{same_action}
 use Rattle.lock_table.specs.declared.clients.TheConstants.{CLIENTS}
 use Rattle.lock_table.specs.declared.record.LockRecord.{LockRecord}
 use Rattle.lock_table.specs.declared.record.KnownClient.{KnownClient}
-use Rattle.lock_table.specs.declared.reply.Answer.{Answer}
-use Rattle.lock_table.specs.declared.reply.Answer.TheVariants.{Refused}
-use Rattle.lock_table.specs.declared.reply.Refusal.TheVariants.{ClientsFull, Stale}
-use Rattle.lock_table.specs.declared.reply.Reply.{Reply}
+use Rattle.lock_command.specs.declared.reply.Answer.{Answer}
+use Rattle.lock_command.specs.declared.reply.Answer.TheVariants.{Refused}
+use Rattle.lock_command.specs.declared.reply.Refusal.TheVariants.{ClientsFull, Stale}
+use Rattle.lock_command.specs.declared.reply.Reply.{Reply}
 use Rattle.lock_table.specs.Values.{zeros, returned}
 use Rattle.lock_table.specs.Apply.{Plain, done}
 

@@ -2,7 +2,7 @@
 use Rattle.std.specs.Prelude.{◌≡◌, ℕ, ◌+◌, ◌≤◌, ◌==◌, nat_le, cond, List, [], map, filter, length, slice_index_or}
 use Rattle.lock_modes.specs.declared.mode.Mode.TheVariants.{Null}
 use Rattle.lock_table.specs.declared.record.LockRecord.{LockRecord}
-use Rattle.lock_table.specs.declared.record.LockState.TheVariants.{Waiting}
+use Rattle.lock_command.specs.declared.state.LockState.TheVariants.{Waiting}
 
 -- what stands behind the last place
 abbrev pub no_lock : LockRecord

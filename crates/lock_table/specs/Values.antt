@@ -7,11 +7,11 @@ use Rattle.lock_command.specs.Name.{same_name}
 use Rattle.lock_command.specs.declared.command.Action.{Action}
 use Rattle.lock_command.specs.declared.command.Action.TheVariants.{Enqueue, Convert, Release, Cancel, Status, Purge, QuietPurge}
 use Rattle.lock_table.specs.declared.record.LockRecord.{LockRecord}
-use Rattle.lock_table.specs.declared.record.LockState.{LockState}
-use Rattle.lock_table.specs.declared.record.LockState.TheVariants.{Granted, Converting, Waiting}
-use Rattle.lock_table.specs.declared.reply.Answer.{Answer}
-use Rattle.lock_table.specs.declared.reply.Answer.TheVariants as answer
-use Rattle.lock_table.specs.declared.reply.LockValue.{LockValue}
+use Rattle.lock_command.specs.declared.state.LockState.{LockState}
+use Rattle.lock_command.specs.declared.state.LockState.TheVariants.{Granted, Converting, Waiting}
+use Rattle.lock_command.specs.declared.reply.Answer.{Answer}
+use Rattle.lock_command.specs.declared.reply.Answer.TheVariants as answer
+use Rattle.lock_command.specs.declared.reply.LockValue.{LockValue}
 use Rattle.lock_table.specs.Locks.{is_on, is_through, lock_in}
 
 -- the value of each name

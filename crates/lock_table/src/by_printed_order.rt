@@ -10,6 +10,7 @@ use crate::bits::{WRITERS, bits_against};
 use crate::keys::SpelledName;
 use crate::locks::LOCKS;
 use crate::record::LockRecord;
+use crate::state::held_bit;
 use lock_modes::Mode;
 use std::alloc::{AllocError, Global};
 use std::marker::Model;
@@ -158,7 +159,7 @@ impl ByPrintedOrder {
         let place = take_place(&mut self.records, &mut self.free, new);
         self.keys[usize::from(place)] = key;
         let _ = self.order.insert(at, place);
-        let _ = self.held.insert(at, new.state.held_bit());
+        let _ = self.held.insert(at, held_bit(&new.state));
     }
 
     /// Takes a lock out.

@@ -9,9 +9,10 @@ use crate::by_lock_number::ByLockNumber;
 use crate::by_printed_order::ByPrintedOrder;
 use crate::keys::SpelledName;
 use crate::locks::LOCKS;
-use crate::record::{LockRecord, LockState};
+use crate::record::LockRecord;
+use crate::state::goal;
 use crate::{by_lock_number, printed};
-use lock_command::{HostNumber, LockName, LockNumber};
+use lock_command::{HostNumber, LockName, LockNumber, LockState};
 use lock_modes::Mode;
 use std::alloc::{AllocError, Global};
 use std::marker::Model;
@@ -144,7 +145,7 @@ impl Index {
         ensures { self.new ≡ in_order printed_cmp (settled self.old name.now) }
     {
         while let Some(first) = self.head(name) {
-            let wanted = first.state.goal();
+            let wanted = goal(&first.state);
             if !self.admits(first.lock, name, wanted) {
                 return;
             }

@@ -9,10 +9,10 @@ use crate::by_printed_order::ByPrintedOrder;
 use crate::clients::{CLIENTS, Clients};
 use crate::locks::LOCKS;
 use crate::record::KnownClient;
-use crate::reply::{Refusal, Reply};
+use crate::reply::refusing;
 use crate::valued::ValuedLocks;
 use crate::values::NamedValue;
-use lock_command::Command;
+use lock_command::{Command, Refusal, Reply};
 use std::alloc::{AllocError, Global};
 use std::marker::Model;
 
@@ -52,9 +52,9 @@ impl IndexedTable {
         ensures room { result ≡ None → find (is_client command.now.client) self.now.clients ≡ None → length self.now.clients < CLIENTS }
     {
         match self.clients.get(place, command.client) {
-            None if self.clients.is_full() => Some(Reply::refusing(Refusal::ClientsFull)),
+            None if self.clients.is_full() => Some(refusing(Refusal::ClientsFull)),
             Some(last) if command.request.get() < last.request.get() => {
-                Some(Reply::refusing(Refusal::Stale))
+                Some(refusing(Refusal::Stale))
             }
             Some(last) if command.request == last.request => Some(last.reply),
             _ => None,

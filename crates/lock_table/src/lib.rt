@@ -16,6 +16,7 @@ mod printed;
 mod purge;
 mod record;
 mod reply;
+mod state;
 mod table;
 mod valued;
 mod values;
@@ -26,9 +27,9 @@ pub use laws::{
     held_modes_are_compatible, lock_numbers_are_distinct, moved_logs_give_the_same,
     requests_count_once, settling_is_complete, values_are_stored_last,
 };
+pub use lock_command::{Answer, LockState, LockValue, Refusal, Reply, is_same_reply};
 pub use locks::LOCKS;
 pub use no_memory::NoMemory;
 pub use picture::Picture;
-pub use record::{KnownClient, LockRecord, LockState};
-pub use reply::{Answer, LockValue, Refusal, Reply, is_same_reply};
+pub use record::{KnownClient, LockRecord};
 pub use table::Table;

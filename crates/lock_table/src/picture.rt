@@ -7,10 +7,10 @@ use crate::clients::CLIENTS;
 use crate::locks::LOCKS;
 use crate::no_memory::NoMemory;
 use crate::record::{KnownClient, LockRecord};
-use crate::reply::LockValue;
 use crate::table::Table;
 use crate::values;
 use crate::values::NamedValue;
+use lock_command::LockValue;
 use std::alloc::Global;
 use std::marker::Model;
 

@@ -3,7 +3,7 @@ ghost use Rattle.std.specs.List.{list_any};
 ghost use Rattle.std.specs.List.Sorted.{IsSorted};
 ghost use Rattle.lock_table.specs.declared.values.NamedValue.{NamedValue};
 ghost use Rattle.lock_table.specs.Locks.{is_on, is_through};
-ghost use Rattle.lock_table.specs.declared.record.LockState.{LockState};
+ghost use Rattle.lock_command.specs.declared.state.LockState.{LockState};
 ghost use Rattle.lock_table.specs.Apply.{done, replied};
 ghost use Rattle.lock_table.specs.Picture.{printed_cmp, HasZeros};
 ghost use Rattle.lock_table.specs.Placed.{in_order};
@@ -12,11 +12,13 @@ ghost use Rattle.lock_table.specs.Values.{zeros, invalid, spoiled, is_writer, is
 
 use crate::by_printed_order::ByPrintedOrder;
 use crate::locks::{LOCKS, Locks};
-use crate::record::{LockRecord, LockState};
-use crate::reply::{Answer, LockValue, Reply};
+use crate::record::LockRecord;
+use crate::reply::{is_granted, is_released};
 use crate::values;
 use crate::values::{NamedValue, Values, store};
-use lock_command::{Action, ClientNumber, HostNumber, LockName, ValueBytes};
+use lock_command::{
+    Action, Answer, ClientNumber, HostNumber, LockName, LockState, LockValue, Reply, ValueBytes,
+};
 use lock_modes::{Mode, downward, writes_alone};
 use std::alloc::{AllocError, Global};
 use std::marker::Model;
@@ -159,10 +161,10 @@ fn entry_by(found: &Option<LockRecord>, action: &Action, answer: &Answer) -> Opt
         return None;
     };
     match action {
-        Action::Convert { mode, value, .. } if answer.is_granted() => {
+        Action::Convert { mode, value, .. } if is_granted(answer) => {
             entry_of(is_downward(*mode, own.state), own, value)
         }
-        Action::Release { value, .. } if answer.is_released() => {
+        Action::Release { value, .. } if is_released(answer) => {
             entry_of(is_writer(own.state), own, value)
         }
         _ => None,

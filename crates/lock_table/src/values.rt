@@ -11,8 +11,7 @@ ghost use Rattle.lock_table.specs.Stored.{is_of, value_in, put_value, is_locked,
 use crate::by_printed_order::ByPrintedOrder;
 use crate::locks::LOCKS;
 use crate::printed;
-use crate::reply::LockValue;
-use lock_command::LockName;
+use lock_command::{LockName, LockValue};
 use std::alloc::{AllocError, Global};
 use std::cmp::Ordering;
 use std::marker::Model;

@@ -1,7 +1,7 @@
 -- What a host of a race is answered, and what its own list of entries and the one log say of that.
 use Rattle.std.specs.Prelude.{◌≡◌, ℕ, false, List, take, slice_get, Some}
 use Rattle.lock_command.specs.declared.command.Command.{Command}
-use Rattle.lock_table.specs.declared.reply.Reply.{Reply}
+use Rattle.lock_command.specs.declared.reply.Reply.{Reply}
 use Rattle.slot_log.specs.Shape.{Shape}
 use Rattle.host.specs.declared.answer.HostAnswer.TheVariants as said
 use Rattle.host.specs.Host.{Host, idles, said_of, reply_after}

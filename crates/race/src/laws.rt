@@ -1,7 +1,7 @@
 // What follows of every race, and the bytes of a bid.
 ghost use Rattle.std.specs.Prelude.{◌≡◌, ◌<◌, ◌∷◌, ◌++◌, ℕ, Bool, IsTrue, List, replicate, slice_index_or};
 ghost use Rattle.lock_command.specs.Command.{spelling};
-ghost use Rattle.lock_table.specs.declared.reply.Reply.{Reply};
+ghost use Rattle.lock_command.specs.declared.reply.Reply.{Reply};
 ghost use Rattle.race.specs.Bids.{bid_of};
 ghost use Rattle.race.specs.Race.{IsRace};
 ghost use Rattle.race.specs.declared.answer.Answer.{Answer};

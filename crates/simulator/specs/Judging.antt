@@ -1,7 +1,7 @@
 -- Whether what was answered goes by a list of commands.
 use Rattle.std.specs.Prelude.{◌≡◌, ◌≤◌, ℕ, List, length, take, All, slice_get, Option, Some, None}
 use Rattle.lock_command.specs.declared.command.Command.{Command}
-use Rattle.lock_table.specs.declared.reply.Reply.{Reply}
+use Rattle.lock_command.specs.declared.reply.Reply.{Reply}
 use Rattle.lock_table.specs.Apply.{table_after}
 use Rattle.lock_table.specs.Picture.{IsPictureOf, Shown}
 use Rattle.host.specs.declared.answer.HostAnswer.{HostAnswer}

@@ -3,12 +3,12 @@ use Rattle.std.specs.Prelude.{ℕ, List, [], ◌∷◌, Option, Some, option_map
 use Rattle.lock_modes.specs.declared.mode.Mode.TheVariants.{Exclusive}
 use Rattle.lock_command.specs.declared.command.Command.{Command}
 use Rattle.lock_table.specs.declared.record.LockRecord.{LockRecord}
-use Rattle.lock_table.specs.declared.record.LockState.{LockState}
-use Rattle.lock_table.specs.declared.record.LockState.TheVariants.{Granted}
-use Rattle.lock_table.specs.declared.reply.Answer.{Answer}
-use Rattle.lock_table.specs.declared.reply.Answer.TheVariants as answer
-use Rattle.lock_table.specs.declared.reply.LockValue.{LockValue}
-use Rattle.lock_table.specs.declared.reply.Reply.{Reply}
+use Rattle.lock_command.specs.declared.state.LockState.{LockState}
+use Rattle.lock_command.specs.declared.state.LockState.TheVariants.{Granted}
+use Rattle.lock_command.specs.declared.reply.Answer.{Answer}
+use Rattle.lock_command.specs.declared.reply.Answer.TheVariants as answer
+use Rattle.lock_command.specs.declared.reply.LockValue.{LockValue}
+use Rattle.lock_command.specs.declared.reply.Reply.{Reply}
 use Rattle.lock_table.specs.Values.{zeros}
 use Rattle.lock_table.specs.Apply.{table_after, without_value}
 use Rattle.paxos_block.specs.Saying.{Said as PBlock}

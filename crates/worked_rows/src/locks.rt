@@ -1,9 +1,9 @@
 // Rows in which the lock table's replies go through the log, over one disk.
 ghost use Rattle.std.specs.Prelude.{◌≡◌, ◌∷◌, []};
 ghost use Rattle.lock_modes.specs.declared.mode.Mode.TheVariants.{ConcurrentRead, ConcurrentWrite, ProtectedRead, ProtectedWrite, Exclusive};
-ghost use Rattle.lock_table.specs.declared.record.LockState.TheVariants as state;
-ghost use Rattle.lock_table.specs.declared.reply.Refusal.TheVariants as refusal;
-ghost use Rattle.lock_table.specs.declared.reply.Answer.TheVariants as answer;
+ghost use Rattle.lock_command.specs.declared.state.LockState.TheVariants as state;
+ghost use Rattle.lock_command.specs.declared.reply.Refusal.TheVariants as refusal;
+ghost use Rattle.lock_command.specs.declared.reply.Answer.TheVariants as answer;
 ghost use Rattle.lock_table.specs.Values.{zeros, invalid};
 ghost use Rattle.worked_rows.specs.Answers.{said_over, world_over, locks_of, replied, told_state, granted, queued, lock_on};
 ghost use Rattle.worked_rows.specs.Events as events;

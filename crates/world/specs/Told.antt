@@ -2,7 +2,7 @@
 use Rattle.std.specs.Prelude.{◌≡◌, ◌⊎◌, ◌<◌, ◌≤◌, ℕ, true, List, length, map, take, Contains, slice_get, Option, Some, None}
 use Rattle.lock_command.specs.declared.command.Command.{Command}
 use Rattle.lock_command.specs.Command.{spelling}
-use Rattle.lock_table.specs.declared.reply.Reply.{Reply}
+use Rattle.lock_command.specs.declared.reply.Reply.{Reply}
 use Rattle.lock_table.specs.Apply.{Plain, table_after}
 use Rattle.lock_table.specs.Picture.{IsPictureOf, Shown}
 use Rattle.host.specs.declared.answer.HostAnswer.{HostAnswer}

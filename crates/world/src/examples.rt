@@ -2,7 +2,7 @@
 ghost use Rattle.std.specs.Prelude.{◌≡◌, ◌≤◌, ◌∷◌, [], ℕ, List, filter, Some, None};
 ghost use Rattle.lock_command.specs.declared.command.Command.{Command};
 ghost use Rattle.lock_command.specs.Command.{spelling};
-ghost use Rattle.lock_table.specs.declared.reply.Reply.{Reply};
+ghost use Rattle.lock_command.specs.declared.reply.Reply.{Reply};
 ghost use Rattle.lock_table.specs.Apply.{granted};
 ghost use Rattle.lock_table.specs.Picture.{Shown};
 ghost use Rattle.lock_table.specs.Locks.{is_lock};

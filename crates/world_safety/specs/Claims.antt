@@ -10,7 +10,7 @@ use Rattle.attempt.specs.Setup.{Setup}
 use Rattle.attempt.specs.Status.{Ended, Decided, status}
 use Rattle.lock_command.specs.declared.command.Command.{Command}
 use Rattle.lock_command.specs.Command.{spelling}
-use Rattle.lock_table.specs.declared.reply.Reply.{Reply}
+use Rattle.lock_command.specs.declared.reply.Reply.{Reply}
 use Rattle.slot_log.specs.Shape.{Shape}
 use Rattle.world.specs.Entry.{Filled, Recover}
 use Rattle.world.specs.World.{World}

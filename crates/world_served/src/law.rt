@@ -1,7 +1,7 @@
 // What becomes of a submission whose host is left alone.
 ghost use Rattle.std.specs.Prelude.{◌≡◌, ◌≤◌, ◌+◌, ◌*◌, List, Some};
 ghost use Rattle.attempt.specs.Numbers.{count};
-ghost use Rattle.lock_table.specs.declared.reply.Answer.TheVariants.{Queued};
+ghost use Rattle.lock_command.specs.declared.reply.Answer.TheVariants.{Queued};
 ghost use Rattle.lock_table.specs.Apply.{granted, without_value};
 ghost use Rattle.slot_log.specs.Shape.{Shape};
 ghost use Rattle.host.specs.Host.{said_of};

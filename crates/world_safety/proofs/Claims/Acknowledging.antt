@@ -7,7 +7,7 @@ use Rattle.attempt.specs.Status.{Status, Due, Ended, End, status, taken}
 use Rattle.lock_command.specs.declared.command.Command.{Command}
 use Rattle.lock_command.specs.Command.{spelling}
 use Rattle.lock_command.specs.Reading.{decoded}
-use Rattle.lock_table.specs.declared.reply.Reply.{Reply}
+use Rattle.lock_command.specs.declared.reply.Reply.{Reply}
 use Rattle.slot_log.specs.Shape.{Shape}
 use Rattle.host.specs.declared.answer.HostAnswer.TheVariants.{Ack}
 use Rattle.host.specs.Host.{Operation, Submitting, Recovering, Looking, Doing, Memory, setup_of, with_heard, with_floor, learns, reply_after, is_submitted, after_learning, takes, by_status, spent_answer}

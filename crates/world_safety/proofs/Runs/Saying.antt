@@ -8,7 +8,7 @@ use Rattle.attempt.specs.Status as attempt
 use Rattle.attempt.specs.Status.{Status, Due, Ended, status}
 use Rattle.lock_command.specs.declared.command.Command.{Command}
 use Rattle.lock_command.specs.Reading.{decoded}
-use Rattle.lock_table.specs.declared.reply.Reply.{Reply}
+use Rattle.lock_command.specs.declared.reply.Reply.{Reply}
 use Rattle.beats.specs.Answers as beat_answers
 use Rattle.beats.specs.Status as beat
 use Rattle.slot_log.specs.Shape.{Shape}

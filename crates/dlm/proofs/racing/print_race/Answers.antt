@@ -1,7 +1,7 @@
 use Rattle.std.proofs.Common.{◌<◌, List, length, get_or, subst}
 use Rattle.std.specs.Io.KnownBytes.{Appends}
 use Rattle.lock_table.specs.Apply.{without_value}
-use Rattle.lock_table.specs.declared.reply.Answer.TheVariants.{Granted}
+use Rattle.lock_command.specs.declared.reply.Answer.TheVariants.{Granted}
 use Rattle.race.specs.declared.answer.Answer.{Answer}
 use Rattle.race.specs.declared.answer.Answer.TheVariants.{Acknowledged}
 use Rattle.dlm.specs.RaceText.{race_line, race_lines}

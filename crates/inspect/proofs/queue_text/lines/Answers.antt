@@ -2,7 +2,7 @@ use Rattle.std.proofs.Common.{◌<◌, ◌≤◌, ◌⊎◌, inl, inr, ℕ, fals
 use Rattle.std.proofs.lemmas.List.{get_or_default}
 use Rattle.std.proofs.lemmas.Bool.{cases_lt}
 use Rattle.std.specs.Io.KnownBytes.{Appends}
-use Rattle.lock_table.specs.declared.reply.LockValue.{LockValue}
+use Rattle.lock_command.specs.declared.reply.LockValue.{LockValue}
 use Rattle.inspect.specs.Text.{name_line}
 use Rattle.inspect.proofs.LineLemmas.{one_more, all_written}
 use Rattle.inspect.proofs.queue_text.lines.Goals as goal

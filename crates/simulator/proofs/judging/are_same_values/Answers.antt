@@ -1,6 +1,6 @@
 use Rattle.std.proofs.Common.{◌<◌, length, false, [], get_or, refl, arith}
 use Rattle.std.proofs.lemmas.List.{get_or_default}
-use Rattle.lock_table.specs.declared.reply.LockValue.{LockValue}
+use Rattle.lock_command.specs.declared.reply.LockValue.{LockValue}
 use Rattle.simulator.proofs.Comparing.{one_same, all_same}
 use Rattle.simulator.proofs.judging.are_same_values.Goals as goal
 

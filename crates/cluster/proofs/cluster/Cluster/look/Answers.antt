@@ -1,5 +1,5 @@
 use Rattle.std.proofs.Common.{rules, ◌≡◌, ℕ, Some, subst, inr}
-use Rattle.lock_table.specs.declared.reply.Reply.{Reply}
+use Rattle.lock_command.specs.declared.reply.Reply.{Reply}
 use Rattle.host.specs.declared.answer.HostAnswer.TheVariants.{Ack, Recovered, Beaten, Marked}
 use Rattle.host.specs.Host.{Looking, said_of}
 use Rattle.world.specs.Entry.{Look}

@@ -4,7 +4,7 @@ use Rattle.std.specs.Prelude.{is_some}
 use Rattle.attempt.specs.Answers.{Answered}
 use Rattle.lock_command.specs.declared.command.Command.{Command}
 use Rattle.lock_command.specs.Reading.{decoded}
-use Rattle.lock_table.specs.declared.reply.Reply.{Reply}
+use Rattle.lock_command.specs.declared.reply.Reply.{Reply}
 use Rattle.phases.specs.Calls.{heard_of}
 use Rattle.slot_log.specs.Learning as log
 use Rattle.slot_log.specs.declared.outcome.LogOutcome.{LogOutcome}

@@ -1,5 +1,5 @@
 use Rattle.std.proofs.Common.{◌≡◌, ◌∙◌, sym, ap, Some, None, true, false, arith, length}
-use Rattle.lock_table.specs.declared.record.LockState.TheVariants.{Granted}
+use Rattle.lock_command.specs.declared.state.LockState.TheVariants.{Granted}
 use Rattle.lock_table.specs.State.{goal_of}
 use Rattle.lock_table.specs.Locks.{head_of, admits, settled, put, granted, in_state, queue}
 use Rattle.lock_table.proofs.Turns.{settled-blocked, settled-idle}

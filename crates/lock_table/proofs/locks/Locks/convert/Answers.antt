@@ -1,6 +1,6 @@
 use Rattle.std.proofs.Common.{◌≡◌, ◌∙◌, arith, rules}
 use Rattle.std.proofs.lemmas.Grind.{common_steps}
-use Rattle.lock_table.specs.declared.record.LockState.TheVariants.{Granted}
+use Rattle.lock_command.specs.declared.state.LockState.TheVariants.{Granted}
 use Rattle.lock_table.specs.Locks.{put, in_state, settled}
 use Rattle.lock_table.proofs.Numbered.{IsDistinct-put}
 use Rattle.lock_table.proofs.Shown.{shown, shown-settled}

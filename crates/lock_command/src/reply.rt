@@ -1,0 +1,80 @@
+ghost use Rattle.std.specs.Prelude.{◌≡◌, ◌↔◌, IsTrue};
+
+use crate::state::LockState;
+
+/// Why a command changed no lock and no queue.
+#[derive(Clone, Copy, Debug, PartialEq, Eq)]
+pub enum Refusal {
+    /// The lock number is in the table.
+    LockInUse,
+    /// The lock number is not in the table.
+    NoSuchLock,
+    /// The lock is another client's.
+    NotOwner,
+    /// The lock is waiting for an earlier conversion.
+    AlreadyConverting,
+    /// The lock has not been granted yet, so it cannot be converted.
+    StillWaiting,
+    /// The lock cannot be granted at once, and the command said `noqueue`.
+    NotQueued,
+    /// The table is full of locks.
+    TableFull,
+    /// The request number is below the client's last. The client's last reply stays kept.
+    Stale,
+    /// The client is new, and the table is full of clients. Nothing is kept of it.
+    ClientsFull,
+    /// The lock is granted.
+    NothingToCancel,
+}
+
+/// What a command did.
+#[derive(Clone, Copy, Debug, PartialEq, Eq)]
+pub enum Answer {
+    Granted,
+    Queued,
+    Released,
+    Cancelled,
+    /// How many locks were taken away.
+    Purged(u16),
+    State(LockState),
+    Refused(Refusal),
+}
+
+/// The value of a name that has locks. It becomes invalid when a lock of the name that holds PW or EX is purged.
+#[derive(Clone, Copy, Debug, PartialEq, Eq)]
+pub struct LockValue {
+    pub bytes: [u8; 16],
+    pub valid: bool,
+}
+
+impl LockValue {
+    /// The value that a name begins with at its first lock: zeros, valid.
+    pub const ZEROS: LockValue = LockValue {
+        bytes: [0; 16],
+        valid: true,
+    };
+}
+
+/// The reply to a command: what it did. A grant, and the state of a lock that holds a mode, also return the value of the name.
+#[derive(Clone, Copy, Debug, PartialEq, Eq)]
+pub struct Reply {
+    pub answer: Answer,
+    pub value: Option<LockValue>,
+}
+
+/// Whether two replies are one. `==` computes the same, and its contract says less.
+pub fn is_same_reply(a: &Reply, b: &Reply) -> bool
+    ensures { IsTrue result ↔ (a.now ≡ b.now) }
+{
+    a.answer == b.answer && is_same_value(a.value, b.value)
+}
+
+fn is_same_value(a: Option<LockValue>, b: Option<LockValue>) -> bool
+    ensures { IsTrue result ↔ (a ≡ b) }
+{
+    match (a, b) {
+        (Some(a), Some(b)) => a == b,
+        (None, None) => true,
+        _ => false,
+    }
+}

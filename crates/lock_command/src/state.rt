@@ -1,0 +1,9 @@
+use lock_modes::Mode;
+
+/// What a lock holds and what it wants.
+#[derive(Clone, Copy, Debug, PartialEq, Eq)]
+pub enum LockState {
+    Granted(Mode),
+    Converting { held: Mode, wanted: Mode },
+    Waiting(Mode),
+}
