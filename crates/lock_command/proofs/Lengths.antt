@@ -7,10 +7,14 @@ use Rattle.byteorder.specs.Numbers.{length-bytes_high_first}
 use Rattle.lock_modes.specs.declared.mode.Mode.{Mode}
 use Rattle.lock_command.specs.declared.command.Command.{Command}
 use Rattle.lock_command.specs.declared.command.Action.{Action}
-use Rattle.lock_command.specs.declared.command.Action.TheVariants.{Enqueue, Convert, Release, Cancel, Status, Purge, QuietPurge}
-use Rattle.lock_command.specs.Command.{Fields, value_bytes, fields_of, number, spelled, spelling}
+use Rattle.lock_command.specs.declared.command.Action.TheVariants.{Enqueue, Convert, Release, Cancel, Status, Purge, QuietPurge, CarryLock, CarryClient}
+use Rattle.lock_command.specs.declared.state.LockState.{LockState}
+use Rattle.lock_command.specs.declared.reply.Answer.{Answer}
+use Rattle.lock_command.specs.declared.reply.LockValue.{LockValue}
+use Rattle.lock_command.specs.declared.reply.Reply.{Reply}
+use Rattle.lock_command.specs.Command.{Fields, value_bytes, told_bytes, fields_of, number, spelled, spelling}
 use Rattle.lock_command.specs.Name.{padded}
-use Rattle.lock_command.specs.Reading.{◌>>=◌, passed, host_of, lock_at, request_at, mode_of, name_of, name_at, no_queue_at, value_of, value_at, enqueue_at, convert_at, action_at, command_at, checked, decoded}
+use Rattle.lock_command.specs.Reading.{◌>>=◌, passed, host_of, lock_at, request_at, mode_of, name_of, name_at, no_queue_at, value_of, value_at, enqueue_at, convert_at, state_at, answer_at, told_of, told_at, carried_lock_at, carried_client_at, action_at, command_at, checked, decoded}
 
 number_long : (n x : ℕ) → length (number n x) ≡ n
 unfolding number
@@ -95,6 +99,43 @@ value_long bytes (Some found) is =
       | false ↦ λ e. absurd (let no : ⊥ = cc in no)
     ] is
 
+-- the name and the value of a lock that is carried over, and the value of a client's reply
+carried_read : (l : Option ℕ) (n : Option (List ℕ)) (s : Option LockState) (v : Option LockValue) (lock : ℕ) (name : List ℕ) (state : LockState) (value : LockValue)
+    → (l >>= λ a. n >>= λ b. s >>= λ d. v >>= λ e. Some (CarryLock a b d e)) ≡ Some (CarryLock lock name state value) → ((found : List ℕ) × (n ≡ Some found)) × (v ≡ Some value)
+carried_read None n s v lock name state value is = absurd (cc)
+carried_read (Some a) None s v lock name state value is = absurd (cc)
+carried_read (Some a) (Some b) None v lock name state value is = absurd (cc)
+carried_read (Some a) (Some b) (Some d) None lock name state value is = absurd (cc)
+carried_read (Some a) (Some b) (Some d) (Some e) lock name state value is = ((b, refl), cc)
+
+replied_read : (a : Option Answer) (v : Option LockValue) (reply : Reply) → (a >>= λ b. Some (CarryClient (record { answer = b; value = v }))) ≡ Some (CarryClient reply) → v ≡ reply.value
+replied_read None v reply is = absurd (cc)
+replied_read (Some b) v reply is =
+    let same : record { answer = b; value = v } ≡ reply = cc in
+    ap (λ (r : Reply). r.value) same
+
+given_long : (bytes : List ℕ) (valid : Bool) (o : Option (List ℕ)) (value : LockValue) → value_of bytes ≡ o → (o >>= λ given. Some (record { bytes = given; valid = valid })) ≡ Some value → length value.bytes ≡ 16
+given_long bytes valid None value e is = absurd (cc)
+given_long bytes valid (Some given) value e is =
+    let same : record { bytes = given; valid = valid } ≡ value = cc in
+    ap (λ (v : LockValue). length v.bytes) (sym same) ∙ passed_long bytes given e
+
+told_of-long : (bytes : List ℕ) (valid : Bool) (value : LockValue) → told_of bytes valid ≡ Some value → length value.bytes ≡ 16
+unfolding told_of
+told_of-long bytes valid value is = given_long (take 16 (drop 32 bytes)) valid (value_of (take 16 (drop 32 bytes))) value refl is
+
+told_long : (bytes : List ℕ) (value : Option LockValue) → told_at bytes ≡ value → length (told_bytes value) ≡ 16
+unfolding told_at
+told_long bytes None is = refl
+told_long bytes (Some value) is =
+    elim (slice_index bytes 4 == 2) as (λ b. (if b then told_of bytes true else if slice_index bytes 4 == 6 then told_of bytes false else None) ≡ Some value → length value.bytes ≡ 16) [
+      | true ↦ λ e. told_of-long bytes true value e
+      | false ↦ λ e. elim (slice_index bytes 4 == 6) as (λ b. (if b then told_of bytes false else None) ≡ Some value → length value.bytes ≡ 16) [
+        | true ↦ λ f. told_of-long bytes false value f
+        | false ↦ λ f. absurd (let no : ⊥ = cc in no)
+      ] e
+    ] is
+
 -- SO ITS SPELLING IS LONG
 
 module _ (host client request : ℕ) where
@@ -108,7 +149,7 @@ module _ (host client request : ℕ) where
       action_read (host_of (slice_index (spelling c) 1)) (request_at (spelling c)) (action_at (spelling c)) (slice_index (spelling c) 2) c (checked_is (spelling c) (command_at (spelling c)) c is)
 
   long_by : (action : Action) → decoded (spelling (whole action)) ≡ Some (whole action) → length (spelling (whole action)) ≡ 48
-  unfolding action_at enqueue_at convert_at whole
+  unfolding action_at enqueue_at convert_at carried_lock_at carried_client_at whole
   long_by (Enqueue lock name mode no_queue) is =
       let c = whole (Enqueue lock name mode no_queue) in
       let found = name_read (lock_at (spelling c)) (name_at (spelling c)) (mode_of (slice_index (spelling c) 3)) (no_queue_at (spelling c)) lock name mode no_queue (what_is_read (Enqueue lock name mode no_queue) is) in
@@ -125,6 +166,14 @@ module _ (host client request : ℕ) where
   long_by (Status lock) is = spelled_long host client request (fields_of (Status lock)) (omega arith) refl
   long_by (Purge purged) is = spelled_long host client request (fields_of (Purge purged)) (omega arith) refl
   long_by (QuietPurge purged) is = spelled_long host client request (fields_of (QuietPurge purged)) (omega arith) refl
+  long_by (CarryLock lock name s value) is =
+      let c = whole (CarryLock lock name s value) in
+      let read = carried_read (lock_at (spelling c)) (name_at (spelling c)) (state_at (spelling c)) (told_at (spelling c)) lock name s value (what_is_read (CarryLock lock name s value) is) in
+      spelled_long host client request (fields_of (CarryLock lock name s value)) (name_short (spelling c) read.0.0 read.0.1) (told_long (spelling c) (Some value) read.1)
+  long_by (CarryClient reply) is =
+      let c = whole (CarryClient reply) in
+      let read = replied_read (answer_at (spelling c)) (told_at (spelling c)) reply (what_is_read (CarryClient reply) is) in
+      spelled_long host client request (fields_of (CarryClient reply)) (omega arith) (told_long (spelling c) reply.value read)
 
 pub spelling_long : (command : Command) → decoded (spelling command) ≡ Some command → length (spelling command) ≡ 48
 unfolding whole

@@ -1,6 +1,6 @@
 -- Each field of a spelling reads as what was spelled.
-use Rattle.std.proofs.Common.{◌≡◌, ◌≤◌, ◌<◌, ◌-◌, ◌^◌, ℕ, Bool, true, false, cond, ◌&&◌, ◌||◌, ◌==◌, nat_le, List, ◌∷◌, ◌++◌, length, length-append, take, drop, Option, Some, None, refl, sym, ap, ◌∙◌, arith}
-use Rattle.std.specs.Prelude.{[], replicate}
+use Rattle.std.proofs.Common.{◌≡◌, ◌≤◌, ◌<◌, ◌+◌, ◌-◌, ◌^◌, ℕ, Bool, true, false, cond, ◌&&◌, ◌||◌, ◌==◌, nat_lt, nat_le, List, ◌∷◌, ◌++◌, length, length-append, take, drop, Option, Some, None, refl, sym, ap, ◌∙◌, arith}
+use Rattle.std.specs.Prelude.{[], replicate, if◌then◌else◌}
 use Rattle.std.proofs.Math.Seq.{take-append_seam, drop-append_seam}
 use Rattle.std.proofs.lemmas.List.{append_assoc, length-replicate, take_all}
 use Rattle.std.proofs.lemmas.Bool.{le-leb, lt-ltb, leb-true, eq-eqb}
@@ -11,10 +11,17 @@ use Rattle.lock_modes.specs.declared.mode.Mode.TheVariants.{Null, ConcurrentRead
 use Rattle.lock_command.specs.declared.number.TheConstants.{HOSTS}
 use Rattle.lock_command.specs.declared.command.Command.{Command}
 use Rattle.lock_command.specs.declared.command.Action.{Action}
-use Rattle.lock_command.specs.declared.command.Action.TheVariants.{Enqueue, Convert, Release, Cancel, Status, Purge, QuietPurge}
+use Rattle.lock_command.specs.declared.command.Action.TheVariants.{Enqueue, Convert, Release, Cancel, Status, Purge, QuietPurge, CarryLock, CarryClient}
+use Rattle.lock_command.specs.declared.state.LockState.{LockState}
+use Rattle.lock_command.specs.declared.state.LockState.TheVariants as state
+use Rattle.lock_command.specs.declared.reply.Answer.{Answer}
+use Rattle.lock_command.specs.declared.reply.Answer.TheVariants as answer
+use Rattle.lock_command.specs.declared.reply.Refusal.{Refusal}
+use Rattle.lock_command.specs.declared.reply.Refusal.TheVariants as refusal
+use Rattle.lock_command.specs.declared.reply.LockValue.{LockValue}
 use Rattle.lock_command.specs.Name.{IsName, padded}
-use Rattle.lock_command.specs.Command.{Fields, flags_of, value_bytes, fields_of, number, spelled, spelling, mode_number, IsLock, IsValue, FitsAction, Fits}
-use Rattle.lock_command.specs.Reading.{◌>>=◌, passed, lock_at, request_at, mode_of, name_of, name_at, no_queue_at, value_of, value_at, enqueue_at, convert_at, action_at, command_at}
+use Rattle.lock_command.specs.Command.{Fields, flags_of, value_bytes, first_mode, state_number, refusal_number, told_flags, told_bytes, fields_of, number, spelled, spelling, mode_number, IsLock, IsValue, IsTold, FitsAnswer, FitsAction, Fits}
+use Rattle.lock_command.specs.Reading.{◌>>=◌, passed, lock_at, request_at, mode_of, name_of, name_at, no_queue_at, value_of, value_at, enqueue_at, convert_at, state_of, state_at, refusal_of, count_at, answer_at, told_of, told_at, carried_lock_at, carried_client_at, action_at, command_at}
 
 passed_true : {A : Type 0} (test : Bool) (x : A) → test ≡ true → passed test x ≡ Some x
 passed_true test x h = ap (λ t. passed t x) h
@@ -99,8 +106,100 @@ value_at-released : (host client request lock : ℕ) (value : Option (List ℕ))
 unfolding value_at number
 value_at-released host client request lock value fits = value_again false value [] refl fits
 
+-- WHAT IS CARRIED OVER
+
+converting-number : (held wanted : Mode) → state_of (2 + mode_number wanted) held ≡ Some (state.Converting held wanted)
+unfolding state_of
+converting-number held Null = refl
+converting-number held ConcurrentRead = refl
+converting-number held ConcurrentWrite = refl
+converting-number held ProtectedRead = refl
+converting-number held ProtectedWrite = refl
+converting-number held Exclusive = refl
+
+state_of-number : (s : LockState) → state_of (state_number s) (first_mode s) ≡ Some s
+unfolding state_of
+state_of-number (state.Granted mode) = refl
+state_of-number (state.Waiting wanted) = refl
+state_of-number (state.Converting held wanted) = converting-number held wanted
+
+state_again : (s : LockState) → (mode_of (mode_number (first_mode s)) >>= λ m. state_of (state_number s) m) ≡ Some s
+state_again s = ap (λ (found : Option Mode). found >>= λ m. state_of (state_number s) m) (mode_of-mode_number (first_mode s)) ∙ state_of-number s
+
+-- an answer by its number, beside the state and the count that are told
+abbrev answer_in : ℕ → Option LockState → ℕ → Option Answer
+answer_in n told count =
+    if n == 8 then Some answer.Granted
+    else if n == 9 then Some answer.Queued
+    else if n == 10 then Some answer.Released
+    else if n == 21 then Some answer.Cancelled
+    else if n == 22 then Some (answer.Purged count)
+    else if nat_lt n 8 then (told >>= λ s. Some (answer.State s))
+    else (refusal_of n >>= λ why. Some (answer.Refused why))
+
+converting_in : (held wanted : Mode) (count : ℕ) → answer_in (2 + mode_number wanted) (Some (state.Converting held wanted)) count ≡ Some (answer.State (state.Converting held wanted))
+converting_in held Null count = refl
+converting_in held ConcurrentRead count = refl
+converting_in held ConcurrentWrite count = refl
+converting_in held ProtectedRead count = refl
+converting_in held ProtectedWrite count = refl
+converting_in held Exclusive count = refl
+
+state_in : (s : LockState) (count : ℕ) → answer_in (state_number s) (Some s) count ≡ Some (answer.State s)
+state_in (state.Granted mode) count = refl
+state_in (state.Waiting wanted) count = refl
+state_in (state.Converting held wanted) count = converting_in held wanted count
+
+refusal_in : (why : Refusal) (told : Option LockState) (count : ℕ) → answer_in (refusal_number why) told count ≡ Some (answer.Refused why)
+unfolding refusal_of
+refusal_in refusal.LockInUse told count = refl
+refusal_in refusal.NoSuchLock told count = refl
+refusal_in refusal.NotOwner told count = refl
+refusal_in refusal.AlreadyConverting told count = refl
+refusal_in refusal.StillWaiting told count = refl
+refusal_in refusal.NotQueued told count = refl
+refusal_in refusal.TableFull told count = refl
+refusal_in refusal.Stale told count = refl
+refusal_in refusal.ClientsFull told count = refl
+refusal_in refusal.NothingToCancel told count = refl
+
+answer_at-spelled : (host client request : ℕ) (a : Answer) (v : Option LockValue) → FitsAnswer a
+    → answer_at (spelled host client request (fields_of (CarryClient (record { answer = a; value = v })))) ≡ Some a
+unfolding answer_at state_at count_at number
+answer_at-spelled host client request answer.Granted v fits = refl
+answer_at-spelled host client request answer.Queued v fits = refl
+answer_at-spelled host client request answer.Released v fits = refl
+answer_at-spelled host client request answer.Cancelled v fits = refl
+answer_at-spelled host client request (answer.Purged count) v fits =
+    let f = fields_of (CarryClient (record { answer = answer.Purged count; value = v })) in
+    let bound : count < 256 ^ 2 = omega (arith, fits) in
+    ap (λ n. Some (answer.Purged n)) (big_number-reads_back 2 count (behind_lock request f) bound)
+answer_at-spelled host client request (answer.State s) v fits =
+    let bytes = spelled host client request (fields_of (CarryClient (record { answer = answer.State s; value = v }))) in
+    ap (λ (o : Option LockState). answer_in (state_number s) o (count_at bytes)) (state_again s) ∙ state_in s (count_at bytes)
+answer_at-spelled host client request (answer.Refused why) v fits =
+    let bytes = spelled host client request (fields_of (CarryClient (record { answer = answer.Refused why; value = v }))) in
+    refusal_in why (state_at bytes) (count_at bytes)
+
+-- a value by its flags and its bytes
+abbrev told_in : ℕ → Option (List ℕ) → Option LockValue
+told_in flags given =
+    if flags == 2 then (given >>= λ g. Some (record { bytes = g; valid = true }))
+    else if flags == 6 then (given >>= λ g. Some (record { bytes = g; valid = false }))
+    else None
+
+valid_again : (bytes : List ℕ) (valid : Bool) → told_in (cond valid 2 6) (Some bytes) ≡ Some (record { bytes = bytes; valid = valid })
+valid_again bytes true = refl
+valid_again bytes false = refl
+
+told_again : (name : List ℕ) (value : Option LockValue) → length (padded name) ≡ 15 → IsTold value
+    → told_in (told_flags value) (value_of (take 16 (drop 15 (padded name ++ told_bytes value)))) ≡ value
+told_again name None placed fits = refl
+told_again name (Some value) placed fits =
+    ap (told_in (told_flags (Some value))) (behind_name name value.bytes placed fits) ∙ valid_again value.bytes value.valid
+
 action_at-spelled : (host client request : ℕ) (a : Action) → FitsAction a → action_at (spelled host client request (fields_of a)) ≡ Some a
-unfolding action_at enqueue_at convert_at number
+unfolding action_at enqueue_at convert_at carried_lock_at carried_client_at state_at told_at told_of number
 action_at-spelled host client request (Enqueue lock name mode no_queue) fits =
     ap (λ (found : Option ℕ). found >>= λ l. name_at (spelled host client request (fields_of (Enqueue lock name mode no_queue))) >>= λ n. mode_of (mode_number mode) >>= λ m. Some (Enqueue l n m (no_queue_at (spelled host client request (fields_of (Enqueue lock name mode no_queue)))))) (lock_at-spelled host client request (fields_of (Enqueue lock name mode no_queue)) fits.0)
     ∙ ap (λ (found : Option (List ℕ)). found >>= λ n. mode_of (mode_number mode) >>= λ m. Some (Enqueue lock n m (no_queue_at (spelled host client request (fields_of (Enqueue lock name mode no_queue)))))) (name_at-spelled host client request (fields_of (Enqueue lock name mode no_queue)) fits.1)
@@ -124,6 +223,16 @@ action_at-spelled host client request (Purge purged) fits =
     ap (λ (found : Option ℕ). found >>= λ h. Some (Purge h)) (passed_true _ purged (lt-ltb purged HOSTS fits))
 action_at-spelled host client request (QuietPurge purged) fits =
     ap (λ (found : Option ℕ). found >>= λ h. Some (QuietPurge h)) (passed_true _ purged (lt-ltb purged HOSTS fits))
+action_at-spelled host client request (CarryLock lock name s value) fits =
+    let bytes = spelled host client request (fields_of (CarryLock lock name s value)) in
+    ap (λ (found : Option ℕ). found >>= λ l. name_at bytes >>= λ n. state_at bytes >>= λ t. told_at bytes >>= λ v. Some (CarryLock l n t v)) (lock_at-spelled host client request (fields_of (CarryLock lock name s value)) fits.0)
+    ∙ ap (λ (found : Option (List ℕ)). found >>= λ n. state_at bytes >>= λ t. told_at bytes >>= λ v. Some (CarryLock lock n t v)) (name_at-spelled host client request (fields_of (CarryLock lock name s value)) fits.1)
+    ∙ ap (λ (found : Option LockState). found >>= λ t. told_at bytes >>= λ v. Some (CarryLock lock name t v)) (state_again s)
+    ∙ ap (λ (found : Option LockValue). found >>= λ v. Some (CarryLock lock name s v)) (told_again name (Some value) (padded_long name fits.1) fits.2)
+action_at-spelled host client request (CarryClient reply) fits =
+    let bytes = spelled host client request (fields_of (CarryClient reply)) in
+    ap (λ (found : Option Answer). found >>= λ a. Some (CarryClient (record { answer = a; value = told_at bytes }))) (answer_at-spelled host client request reply.answer reply.value fits.0)
+    ∙ ap (λ v. Some (CarryClient (record { answer = reply.answer; value = v }))) (told_again [] reply.value refl fits.1)
 
 -- a command that fits is read from its spelling
 pub command_at-spelling : (c : Command) → Fits c → command_at (spelling c) ≡ Some c

@@ -1,12 +1,19 @@
 -- What the fields of 48 bytes read as, each by itself. It says nothing of the bytes that no field of the kind reads.
-use Rattle.std.specs.Prelude.{ℕ, ◌==◌, ◌^◌, nat_lt, nat_le, Bool, ◌&&◌, ◌||◌, List, length, take, drop, slice_index, Option, Some, None, if◌then◌else◌, bytes_eq}
+use Rattle.std.specs.Prelude.{ℕ, ◌==◌, ◌^◌, nat_lt, nat_le, Bool, true, false, ◌&&◌, ◌||◌, List, length, take, drop, slice_index, Option, Some, None, if◌then◌else◌, bytes_eq}
 use Rattle.byteorder.specs.Endian.{big_number}
 use Rattle.lock_modes.specs.declared.mode.Mode.{Mode}
 use Rattle.lock_modes.specs.declared.mode.Mode.TheVariants.{Null, ConcurrentRead, ConcurrentWrite, ProtectedRead, ProtectedWrite, Exclusive}
 use Rattle.lock_command.specs.declared.number.TheConstants.{HOSTS}
 use Rattle.lock_command.specs.declared.command.Command.{Command}
 use Rattle.lock_command.specs.declared.command.Action.{Action}
-use Rattle.lock_command.specs.declared.command.Action.TheVariants.{Enqueue, Convert, Release, Cancel, Status, Purge, QuietPurge}
+use Rattle.lock_command.specs.declared.command.Action.TheVariants.{Enqueue, Convert, Release, Cancel, Status, Purge, QuietPurge, CarryLock, CarryClient}
+use Rattle.lock_command.specs.declared.state.LockState.{LockState}
+use Rattle.lock_command.specs.declared.state.LockState.TheVariants as state
+use Rattle.lock_command.specs.declared.reply.Answer.{Answer}
+use Rattle.lock_command.specs.declared.reply.Answer.TheVariants as answer
+use Rattle.lock_command.specs.declared.reply.Refusal.{Refusal}
+use Rattle.lock_command.specs.declared.reply.Refusal.TheVariants as refusal
+use Rattle.lock_command.specs.declared.reply.LockValue.{LockValue}
 use Rattle.lock_command.specs.Name.{is_name}
 use Rattle.lock_command.specs.Command.{spelling}
 
@@ -77,6 +84,83 @@ convert_at bytes = do
   mode ← mode_of (slice_index bytes 3)
   Some (Convert lock mode (no_queue_at bytes) (value_at bytes))
 
+-- the state of a number and of its first mode
+unfoldable pub state_of : ℕ → Mode → Option LockState
+state_of n mode =
+    if n == 0 then Some (state.Granted mode)
+    else if n == 1 then Some (state.Waiting mode)
+    else if n == 2 then Some (state.Converting mode Null)
+    else if n == 3 then Some (state.Converting mode ConcurrentRead)
+    else if n == 4 then Some (state.Converting mode ConcurrentWrite)
+    else if n == 5 then Some (state.Converting mode ProtectedRead)
+    else if n == 6 then Some (state.Converting mode ProtectedWrite)
+    else if n == 7 then Some (state.Converting mode Exclusive)
+    else None
+
+-- the state that bytes 16 and 3 tell
+unfoldable pub state_at : List ℕ → Option LockState
+state_at bytes = do
+  mode ← mode_of (slice_index bytes 3)
+  state_of (slice_index bytes 16) mode
+
+-- the refusal of a number
+unfoldable pub refusal_of : ℕ → Option Refusal
+refusal_of n =
+    if n == 11 then Some refusal.LockInUse
+    else if n == 12 then Some refusal.NoSuchLock
+    else if n == 13 then Some refusal.NotOwner
+    else if n == 14 then Some refusal.AlreadyConverting
+    else if n == 15 then Some refusal.StillWaiting
+    else if n == 16 then Some refusal.NotQueued
+    else if n == 17 then Some refusal.TableFull
+    else if n == 18 then Some refusal.Stale
+    else if n == 19 then Some refusal.ClientsFull
+    else if n == 20 then Some refusal.NothingToCancel
+    else None
+
+-- the count in bytes 6 and 7
+unfoldable pub count_at : List ℕ → ℕ
+count_at bytes = big_number 2 (drop 6 bytes)
+
+-- the answer that byte 16 tells: numbers below 8 are states
+unfoldable pub answer_at : List ℕ → Option Answer
+answer_at bytes =
+    let n = slice_index bytes 16 in
+    if n == 8 then Some answer.Granted
+    else if n == 9 then Some answer.Queued
+    else if n == 10 then Some answer.Released
+    else if n == 21 then Some answer.Cancelled
+    else if n == 22 then Some (answer.Purged (count_at bytes))
+    else if nat_lt n 8 then (do s ← state_at bytes; Some (answer.State s))
+    else (do why ← refusal_of n; Some (answer.Refused why))
+
+-- the value in bytes 32 to 47
+unfoldable pub told_of : List ℕ → Bool → Option LockValue
+told_of bytes valid = do
+  given ← value_of (take 16 (drop 32 bytes))
+  Some (record { bytes = given; valid = valid })
+
+-- where byte 4 says that one is told
+unfoldable pub told_at : List ℕ → Option LockValue
+told_at bytes =
+    let flags = slice_index bytes 4 in
+    if flags == 2 then told_of bytes true
+    else if flags == 6 then told_of bytes false
+    else None
+
+unfoldable pub carried_lock_at : List ℕ → Option Action
+carried_lock_at bytes = do
+  lock ← lock_at bytes
+  name ← name_at bytes
+  s ← state_at bytes
+  value ← told_at bytes
+  Some (CarryLock lock name s value)
+
+unfoldable pub carried_client_at : List ℕ → Option Action
+carried_client_at bytes = do
+  a ← answer_at bytes
+  Some (CarryClient (record { answer = a; value = told_at bytes }))
+
 unfoldable pub action_at : List ℕ → Option Action
 action_at bytes =
     let kind = slice_index bytes 0 in
@@ -87,6 +171,8 @@ action_at bytes =
     else if kind == 5 then (do lock ← lock_at bytes; Some (Status lock))
     else if kind == 6 then (do host ← host_of (slice_index bytes 16); Some (Purge host))
     else if kind == 7 then (do host ← host_of (slice_index bytes 16); Some (QuietPurge host))
+    else if kind == 8 then carried_lock_at bytes
+    else if kind == 9 then carried_client_at bytes
     else None
 
 -- the command

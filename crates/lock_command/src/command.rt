@@ -1,5 +1,7 @@
 use crate::name::LockName;
 use crate::number::{ClientNumber, HostNumber, LockNumber, RequestNumber};
+use crate::reply::{LockValue, Reply};
+use crate::state::LockState;
 use crate::value::ValueBytes;
 use lock_modes::Mode;
 
@@ -14,13 +16,26 @@ pub struct Command {
 
 impl Command {
     ghost use Rattle.std.specs.Prelude.{◌≡◌};
-    ghost use Rattle.lock_command.specs.Command.{is_submittable};
+    ghost use Rattle.lock_command.specs.Command.{is_carried, is_submittable};
 
-    /// Whether a client may ask for it. A quiet purge stands only in a log that was moved.
+    /// Whether a client may ask for it. Quiet purges, and what is carried over, stand only in a log that was written as a whole.
     pub fn is_submittable(&self) -> bool
         ensures { result ≡ is_submittable self.now }
     {
-        !matches!(&self.action, Action::QuietPurge(_))
+        !matches!(
+            &self.action,
+            Action::QuietPurge(_) | Action::CarryLock { .. } | Action::CarryClient(_)
+        )
+    }
+
+    /// Whether it carries a part of a table over into a new log.
+    pub fn is_carried(&self) -> bool
+        ensures { result ≡ is_carried self.now.action }
+    {
+        matches!(
+            &self.action,
+            Action::CarryLock { .. } | Action::CarryClient(_)
+        )
     }
 }
 
@@ -54,4 +69,14 @@ pub enum Action {
     Purge(HostNumber),
     /// The same, and values stay valid. So a purge of the first layout, which has no values, stands in a log that was moved. No client asks for it.
     QuietPurge(HostNumber),
+    /// A lock as it stands: the command's client has it, and it was enqueued through the command's host. With it, the value of its
+    /// name. So a log that was renewed begins. No client asks for it.
+    CarryLock {
+        lock: LockNumber,
+        name: LockName,
+        state: LockState,
+        value: LockValue,
+    },
+    /// The reply to the last request of the command's client. That request's number is the command's. No client asks for it.
+    CarryClient(Reply),
 }

@@ -1,11 +1,13 @@
 ghost use Rattle.std.specs.Prelude.{bytes_eq, ◌≡◌, ◌↔◌, slice_index, IfSome, IsTrue};
 ghost use Rattle.lock_command.specs.Command.{spelling, Fits as FitsCommand};
-ghost use Rattle.lock_command.specs.Reading.{host_of, lock_at, request_at, mode_of, name_at, no_queue_at, value_at, enqueue_at, convert_at, action_at, command_at, decoded};
+ghost use Rattle.lock_command.specs.Reading.{host_of, lock_at, request_at, mode_of, name_at, no_queue_at, value_at, enqueue_at, convert_at, state_of, state_at, refusal_of, count_at, answer_at, told_of, told_at, carried_lock_at, carried_client_at, action_at, command_at, decoded};
 
 use crate::command::{Action, Command};
 use crate::name::LockName;
 use crate::number::{ClientNumber, HostNumber, LockNumber, RequestNumber};
+use crate::reply::{Answer, LockValue, Refusal, Reply};
 use crate::spelling::Value;
+use crate::state::LockState;
 use crate::value::ValueBytes;
 use byteorder::{BigEndian, ByteOrder};
 use lock_modes::Mode;
@@ -98,6 +100,119 @@ fn convert_at(value: &Value) -> Option<Action>
     })
 }
 
+#[tactic(auto, unfolding(crate::specs::Reading::state_of))]
+fn state_of(number: u8, mode: Mode) -> Option<LockState>
+    ensures { result ≡ state_of number mode }
+{
+    let wanted = match number {
+        0 => return Some(LockState::Granted(mode)),
+        1 => return Some(LockState::Waiting(mode)),
+        2 => Mode::Null,
+        3 => Mode::ConcurrentRead,
+        4 => Mode::ConcurrentWrite,
+        5 => Mode::ProtectedRead,
+        6 => Mode::ProtectedWrite,
+        7 => Mode::Exclusive,
+        _ => return None,
+    };
+    Some(LockState::Converting { held: mode, wanted })
+}
+
+#[tactic(auto, unfolding(crate::specs::Reading::state_at))]
+fn state_at(value: &Value) -> Option<LockState>
+    ensures { result ≡ state_at value.now }
+{
+    state_of(value[16], mode_of(value[3])?)
+}
+
+#[tactic(auto, unfolding(crate::specs::Reading::refusal_of))]
+fn refusal_of(number: u8) -> Option<Refusal>
+    ensures { result ≡ refusal_of number }
+{
+    match number {
+        11 => Some(Refusal::LockInUse),
+        12 => Some(Refusal::NoSuchLock),
+        13 => Some(Refusal::NotOwner),
+        14 => Some(Refusal::AlreadyConverting),
+        15 => Some(Refusal::StillWaiting),
+        16 => Some(Refusal::NotQueued),
+        17 => Some(Refusal::TableFull),
+        18 => Some(Refusal::Stale),
+        19 => Some(Refusal::ClientsFull),
+        20 => Some(Refusal::NothingToCancel),
+        _ => None,
+    }
+}
+
+#[tactic(auto, unfolding(crate::specs::Reading::count_at))]
+fn count_at(value: &Value) -> u16
+    ensures { result ≡ count_at value.now }
+{
+    BigEndian::read_u16(&value[6..])
+}
+
+#[tactic(auto, unfolding(crate::specs::Reading::answer_at))]
+fn answer_at(value: &Value) -> Option<Answer>
+    ensures { result ≡ answer_at value.now }
+{
+    match value[16] {
+        8 => Some(Answer::Granted),
+        9 => Some(Answer::Queued),
+        10 => Some(Answer::Released),
+        21 => Some(Answer::Cancelled),
+        22 => Some(Answer::Purged(count_at(value))),
+        number => {
+            if number < 8 {
+                Some(Answer::State(state_at(value)?))
+            } else {
+                Some(Answer::Refused(refusal_of(number)?))
+            }
+        }
+    }
+}
+
+#[tactic(auto, unfolding(crate::specs::Reading::told_of))]
+fn told_of(value: &Value, valid: bool) -> Option<LockValue>
+    ensures { result ≡ told_of value.now valid }
+{
+    let mut bytes = [0; 16];
+    bytes.copy_from_slice(&value[32..48]);
+    Some(LockValue { bytes, valid })
+}
+
+#[tactic(auto, unfolding(crate::specs::Reading::told_at))]
+fn told_at(value: &Value) -> Option<LockValue>
+    ensures { result ≡ told_at value.now }
+{
+    match value[4] {
+        2 => told_of(value, true),
+        6 => told_of(value, false),
+        _ => None,
+    }
+}
+
+#[tactic(auto, unfolding(crate::specs::Reading::carried_lock_at))]
+fn carried_lock_at(value: &Value) -> Option<Action>
+    ensures { result ≡ carried_lock_at value.now }
+{
+    Some(Action::CarryLock {
+        lock: lock_at(value)?,
+        name: name_at(value)?,
+        state: state_at(value)?,
+        value: told_at(value)?,
+    })
+}
+
+#[tactic(auto, unfolding(crate::specs::Reading::carried_client_at))]
+fn carried_client_at(value: &Value) -> Option<Action>
+    ensures { result ≡ carried_client_at value.now }
+{
+    Some(Action::CarryClient(Reply {
+        answer: answer_at(value)?,
+        value: told_at(value),
+    }))
+}
+
 #[tactic(auto, unfolding(crate::specs::Reading::action_at))]
 fn action_at(value: &Value) -> Option<Action>
     ensures { result ≡ action_at value.now }
@@ -113,6 +228,8 @@ fn action_at(value: &Value) -> Option<Action>
         5 => Some(Action::Status(lock_at(value)?)),
         6 => Some(Action::Purge(host_of(value[16])?)),
         7 => Some(Action::QuietPurge(host_of(value[16])?)),
+        8 => carried_lock_at(value),
+        9 => carried_client_at(value),
         _ => None,
     }
 }
