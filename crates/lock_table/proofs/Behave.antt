@@ -1,10 +1,11 @@
 -- Two plain tables with the same locks and clients do and answer the same.
-use Rattle.std.proofs.Common.{◌≡◌, ℕ, Bool, true, false, cond, not, ◌&&◌, ◌||◌, ◌==◌, nat_lt, nat_le, List, [], ◌∷◌, length, Option, Some, None, is_some, map, refl, sym, ap, ◌∙◌}
-use Rattle.std.specs.List.{filter, find, list_any}
+use Rattle.std.proofs.Common.{◌≡◌, ℕ, Bool, true, false, cond, not, ◌&&◌, ◌||◌, ◌==◌, nat_lt, nat_le, List, [], ◌∷◌, length, Option, Some, None, is_some, map, refl, sym, ap, ◌∙◌, arith}
+use Rattle.std.specs.List.{filter, find, fold, list_any}
 use Rattle.lock_modes.specs.declared.mode.Mode.{Mode}
 use Rattle.lock_command.specs.declared.command.Command.{Command}
+use Rattle.lock_command.specs.Command.{is_carried}
 use Rattle.lock_command.specs.declared.command.Action.{Action}
-use Rattle.lock_command.specs.declared.command.Action.TheVariants.{Enqueue, Convert, Release, Cancel, Status, Purge, QuietPurge}
+use Rattle.lock_command.specs.declared.command.Action.TheVariants.{Enqueue, Convert, Release, Cancel, Status, Purge, QuietPurge, CarryLock, CarryClient}
 use Rattle.lock_table.specs.declared.clients.TheConstants.{CLIENTS}
 use Rattle.lock_table.specs.declared.locks.TheConstants.{LOCKS}
 use Rattle.lock_table.specs.declared.record.LockRecord.{LockRecord}
@@ -17,7 +18,7 @@ use Rattle.lock_command.specs.declared.reply.Answer.TheVariants as answer
 use Rattle.lock_command.specs.declared.reply.Reply.{Reply}
 use Rattle.lock_table.specs.Values.{Values, zeros, invalid, is_writer, is_downward, given, of_locked, is_granted, is_released, changed, values_after, value_of_lock, asked_value, returned}
 use Rattle.lock_table.specs.Locks.{is_lock, is_on, in_state, lock_in, admits, has_queue, IsDistinct}
-use Rattle.lock_table.specs.Apply.{CommandOutcome, enqueued, converted, released, cancelled, with_own, told, purged, done, Plain, Applied, is_client, kept, replied, carried_out, applied_after, applied}
+use Rattle.lock_table.specs.Apply.{CommandOutcome, enqueued, converted, released, cancelled, with_own, told, purged, carried, done, Plain, Applied, is_client, kept, keeps_none, kept_after, told_again, replied, carried_out, applied_after, applied, no_locks, table_after}
 use Rattle.lock_table.specs.Locks.{is_through}
 use Rattle.lock_table.specs.Picture.{HasSameLocks, HasSameClients, HasZeros}
 use Rattle.lock_table.proofs.Parts.{find_alike, length_alike, AlikeBy-filter, AlikeBy-append}
@@ -86,6 +87,12 @@ same-purged a b host s distinct =
       answer = ap answer.Purged (same-length _ _ gone);
     }
 
+same-carried : (a b : List LockRecord) (r : LockRecord) → HasSameLocks a b → IsSameOutcome (carried a r) (carried b r)
+same-carried a b r s =
+    by_test _ _ _ _ _ _ (ap is_some (same-lock_in r.lock a b s)) (answered a b (answer.Refused refusal.LockInUse) s)
+    (by_test _ _ _ _ _ _ (ap (nat_le LOCKS) (same-length a b s)) (answered a b (answer.Refused refusal.TableFull) s)
+    (answered _ _ (answer.State r.state) (same-put r a b s)))
+
 same-done : (a b : List LockRecord) (host client : ℕ) (action : Action) → HasSameLocks a b → IsDistinct a → IsSameOutcome (done a host client action) (done b host client action)
 same-done a b host client (Enqueue lock name mode no_queue) s distinct = same-enqueued a b (record { lock = lock; client = client; host = host; name = name; state = Waiting mode }) mode no_queue s
 same-done a b host client (Convert lock mode no_queue value) s distinct =
@@ -97,6 +104,8 @@ same-done a b host client (Cancel lock) s distinct =
 same-done a b host client (Status lock) s distinct = rw (same-lock_in lock a b s) (same-told a b (lock_in b lock) s)
 same-done a b host client (Purge gone) s distinct = same-purged a b gone s distinct
 same-done a b host client (QuietPurge gone) s distinct = same-purged a b gone s distinct
+same-done a b host client (CarryLock lock name state value) s distinct = same-carried a b (record { lock = lock; client = client; host = host; name = name; state = state }) s
+same-done a b host client (CarryClient reply) s distinct = answered a b reply.answer s
 
 client_of : KnownClient → ℕ
 client_of k = k.client
@@ -104,6 +113,14 @@ client_of k = k.client
 same-kept : (k : KnownClient) (x y : List KnownClient) → HasSameClients x y → HasSameClients (kept x k) (kept y k)
 unfolding client_of
 same-kept k x y s = AlikeBy-append client_of (k ∷ []) _ _ (AlikeBy-filter client_of (λ other. not (is_client k.client other)) x y s)
+
+-- and so it is where a command may keep nothing
+same-kept_after : (action : Action) (k j : KnownClient) (x y : List KnownClient) → k ≡ j → HasSameClients x y → HasSameClients (kept_after action x k) (kept_after action y j)
+same-kept_after action k j x y same s n =
+    elim (keeps_none action) as (λ b. filter (is_client n) (cond b x (kept x k)) ≡ filter (is_client n) (cond b y (kept y j))) [
+      | true ↦ s n
+      | false ↦ same-kept k x y s n ∙ ap (λ (o : KnownClient). filter (is_client n) (kept y o)) same
+    ]
 
 -- the same values are stored
 same-changed : (a b : List LockRecord) (values : Values) (action : Action) (r : Answer) → HasSameLocks a b → changed values a action r ≡ changed values b action r
@@ -114,6 +131,8 @@ same-changed a b values (Cancel lock) r s = refl
 same-changed a b values (Status lock) r s = refl
 same-changed a b values (Purge host) r s = λ i name. cond (same-any (λ r. is_on name r && (is_through host r && is_writer r.state)) a b s i) (invalid (values name)) (values name)
 same-changed a b values (QuietPurge host) r s = refl
+same-changed a b values (CarryLock lock name state value) r s = refl
+same-changed a b values (CarryClient reply) r s = refl
 
 pub same-of_locked : (a b : List LockRecord) (values : Values) → HasSameLocks a b → of_locked a values ≡ of_locked b values
 same-of_locked a b values s = λ i name. cond (same-any (is_on name) a b s i) (values name) zeros
@@ -126,6 +145,8 @@ same-asked a b values (Cancel lock) s = refl
 same-asked a b values (Status lock) s = ap (value_of_lock values) (same-lock_in lock a b s)
 same-asked a b values (Purge host) s = refl
 same-asked a b values (QuietPurge host) s = refl
+same-asked a b values (CarryLock lock name state value) s = refl
+same-asked a b values (CarryClient reply) s = refl
 
 pub same-values_after : (x y p q : List LockRecord) (v w : Values) (action : Action) (r t : Answer) → v ≡ w → HasSameLocks x y → HasSameLocks p q → r ≡ t → values_after v x p action r ≡ values_after w y q action t
 same-values_after x y p q v w action r t values before after answers =
@@ -135,7 +156,7 @@ same-values_after x y p q v w action r t values before after answers =
 
 pub same-replied : (x y : List LockRecord) (v w : Values) (action : Action) (r t : Answer) → v ≡ w → HasSameLocks x y → r ≡ t → replied v x action r ≡ replied w y action t
 same-replied x y v w action r t values before answers =
-    (λ i. replied (values i) x action (answers i)) ∙ ap (λ v. record { answer = t; value = returned t v }) (same-asked x y w action before)
+    (λ i. replied (values i) x action (answers i)) ∙ ap (λ v. told_again action (record { answer = t; value = returned t v })) (same-asked x y w action before)
 
 -- the same table is left, and the same is answered
 pub record IsSameApplied (x y : Applied) : Type 0 where
@@ -160,7 +181,7 @@ same-carried_out x y c locks values clients distinct =
     record {
       locks = o.locks;
       values = after;
-      clients = λ n. same-kept _ x.clients y.clients clients n ∙ ap (λ (r : Reply). filter (is_client n) (kept y.clients (record { client = c.client; request = c.request; reply = r }))) same;
+      clients = same-kept_after c.action _ _ x.clients y.clients (ap (λ (r : Reply). record { client = c.client; request = c.request; reply = r }) same) clients;
       reply = same;
     }
 
@@ -223,6 +244,10 @@ distinct-done a host client (Cancel lock) d = distinct-own a client (λ r. cance
 distinct-done a host client (Status lock) d = distinct-told a (lock_in a lock) d
 distinct-done a host client (Purge gone) d = IsDistinct-settled_all (map (λ (r : LockRecord). r.name) (filter (is_through gone) a)) _ (IsDistinct-filter (λ r. not (is_through gone r)) a d)
 distinct-done a host client (QuietPurge gone) d = IsDistinct-settled_all (map (λ (r : LockRecord). r.name) (filter (is_through gone) a)) _ (IsDistinct-filter (λ r. not (is_through gone r)) a d)
+distinct-done a host client (CarryLock lock name state value) d =
+    distinct_by_test (is_some (lock_in a lock)) _ _ d
+    (distinct_by_test (nat_le LOCKS (length a)) _ _ d (IsDistinct-put a (record { lock = lock; client = client; host = host; name = name; state = state }) d))
+distinct-done a host client (CarryClient reply) d = d
 
 LeavesTableDistinct : Applied → Type 0
 LeavesTableDistinct x = IsDistinct x.table.locks
@@ -240,6 +265,14 @@ distinct-after t c (Some k) d =
 pub distinct-applied : (t : Plain) (c : Command) → IsDistinct t.locks → IsDistinct (applied t c).table.locks
 unfolding applied LeavesTableDistinct
 distinct-applied t c d = distinct-after t c (find (is_client c.client) t.clients) d
+
+distinct_from : (commands : List Command) (t : Plain) → IsDistinct t.locks → IsDistinct (fold (λ u c. (applied u c).table) t commands).locks
+distinct_from [] t d = d
+distinct_from (c ∷ commands) t d = distinct_from commands (applied t c).table (distinct-applied t c d)
+
+-- nor do many commands
+pub reachable_distinct : (commands : List Command) → IsDistinct (table_after commands).locks
+reachable_distinct commands = distinct_from commands no_locks (λ lock. omega arith)
 
 -- a command leaves zeros under names without locks
 zeros_by_truth : (P : Applied → Type 0) (t : Bool) (x y : Applied) → P x → P y → P (cond t x y)
@@ -262,3 +295,15 @@ zeros-after t c (Some k) has =
 pub zeros-applied : (t : Plain) (c : Command) → HasZeros t.locks t.values → HasZeros (applied t c).table.locks (applied t c).table.values
 unfolding applied LeavesZeros
 zeros-applied t c has = zeros-after t c (find (is_client c.client) t.clients) has
+
+-- what is told of a command that a client may ask for
+pub told_asked : (action : Action) (r : Reply) → is_carried action ≡ false → told_again action r ≡ r
+told_asked (Enqueue lock name mode no_queue) r asked = refl
+told_asked (Convert lock mode no_queue value) r asked = refl
+told_asked (Release lock value) r asked = refl
+told_asked (Cancel lock) r asked = refl
+told_asked (Status lock) r asked = refl
+told_asked (Purge host) r asked = refl
+told_asked (QuietPurge host) r asked = refl
+told_asked (CarryLock lock name state value) r asked = refl
+told_asked (CarryClient reply) r asked = let impossible : ⊥ = cc in absurd impossible

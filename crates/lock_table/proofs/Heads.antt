@@ -6,8 +6,9 @@ use Rattle.std.proofs.lemmas.List.Folds.{list_any-append}
 use Rattle.lock_modes.specs.declared.mode.Mode.{Mode}
 use Rattle.lock_command.specs.Name.{same_name}
 use Rattle.lock_command.specs.declared.command.Command.{Command}
+use Rattle.lock_command.specs.Command.{is_carried}
 use Rattle.lock_command.specs.declared.command.Action.{Action}
-use Rattle.lock_command.specs.declared.command.Action.TheVariants.{Enqueue, Convert, Release, Cancel, Status, Purge, QuietPurge}
+use Rattle.lock_command.specs.declared.command.Action.TheVariants.{Enqueue, Convert, Release, Cancel, Status, Purge, QuietPurge, CarryLock, CarryClient}
 use Rattle.lock_table.specs.declared.clients.TheConstants.{CLIENTS}
 use Rattle.lock_table.specs.declared.locks.TheConstants.{LOCKS}
 use Rattle.lock_table.specs.declared.record.LockRecord.{LockRecord}
@@ -16,8 +17,9 @@ use Rattle.lock_command.specs.declared.state.LockState.TheVariants.{Granted, Con
 use Rattle.lock_table.specs.declared.record.KnownClient.{KnownClient}
 use Rattle.lock_table.specs.State.{is_converting, is_waiting, is_queued, goal_of, holds_against}
 use Rattle.lock_table.specs.Locks.{is_lock, is_on, in_state, option_or, lock_in, without, put, converts_on, waits_on, conversions, head_of, has_queue, stands_against, admits, settled, settled_all, IsDistinct}
-use Rattle.lock_table.specs.Apply.{CommandOutcome, enqueued, converted, released, cancelled, with_own, told, purged, done, Plain, Applied, is_client, applied_after, applied, no_locks, table_after}
+use Rattle.lock_table.specs.Apply.{CommandOutcome, enqueued, converted, released, cancelled, with_own, told, purged, done, Plain, Applied, is_client, applied_after, applied, no_locks}
 use Rattle.lock_table.specs.Locks.{is_through}
+use Rattle.lock_table.specs.Carrying.{AreOrdinary}
 use Rattle.lock_table.specs.Laws.{IsSettled, IsSettledEverywhere}
 use Rattle.lock_table.proofs.Parts.{first, find_is_first, filter-filter, filter_within, or_false}
 use Rattle.lock_table.proofs.Numbered.{numbered, numbered-filter, without_absent, IsDistinct-filter, IsDistinct-put}
@@ -26,7 +28,7 @@ use Rattle.lock_table.proofs.Quiet.{find-append}
 use Rattle.lock_table.proofs.Apart.{on, and_first, name_is, same_name-itself, admits-on, on-put_apart, on-without_apart, absent_apart, settled-apart}
 use Rattle.lock_table.proofs.Settled.{settled_is_settled, is_among, settled_all-on}
 use Rattle.lock_table.proofs.Behave.{any-names, distinct-done}
-use Rattle.lock_table.proofs.Reachable.{either, found_again}
+use Rattle.lock_table.proofs.Reachable.{either, found_again, first_asked}
 
 found_passes : (P : LockRecord → Bool) (xs : List LockRecord) (r : LockRecord) → find P xs ≡ Some r → P r ≡ true
 found_passes P [] r h = let impossible : ⊥ = cc in absurd impossible
@@ -327,18 +329,20 @@ calm-purged a host distinct before name =
           settled_by_part name a (settled_all left names) (sym (is ∙ part_apart (is_on name) (is_through host) a (sym (any-names name gone) ∙ e))) (before name)
     ] refl part
 
-calm-done : (a : List LockRecord) (host client : ℕ) (action : Action) → IsDistinct a → IsSettledEverywhere a → IsSettledEverywhere (done a host client action).locks
+calm-done : (a : List LockRecord) (host client : ℕ) (action : Action) → is_carried action ≡ false → IsDistinct a → IsSettledEverywhere a → IsSettledEverywhere (done a host client action).locks
 unfolding HasCalm
-calm-done a host client (Enqueue lock name mode no_queue) distinct before = calm-enqueued a (record { lock = lock; client = client; host = host; name = name; state = Waiting mode }) mode no_queue distinct before
-calm-done a host client (Convert lock mode no_queue value) distinct before =
+calm-done a host client (Enqueue lock name mode no_queue) asked distinct before = calm-enqueued a (record { lock = lock; client = client; host = host; name = name; state = Waiting mode }) mode no_queue distinct before
+calm-done a host client (Convert lock mode no_queue value) asked distinct before =
     calm-own a client (λ r. converted a r mode no_queue r.state) (lock_in a lock) before (λ r found. calm-converted a r mode no_queue distinct before (found_again a lock r found) r.state refl)
-calm-done a host client (Release lock value) distinct before =
+calm-done a host client (Release lock value) asked distinct before =
     calm-own a client (released a) (lock_in a lock) before (λ r found. calm-without_settled a r distinct before (found_again a lock r found))
-calm-done a host client (Cancel lock) distinct before =
+calm-done a host client (Cancel lock) asked distinct before =
     calm-own a client (λ r. cancelled a r r.state) (lock_in a lock) before (λ r found. calm-cancelled a r distinct before (found_again a lock r found) r.state)
-calm-done a host client (Status lock) distinct before = calm-told a (lock_in a lock) before
-calm-done a host client (Purge gone) distinct before = calm-purged a gone distinct before
-calm-done a host client (QuietPurge gone) distinct before = calm-purged a gone distinct before
+calm-done a host client (Status lock) asked distinct before = calm-told a (lock_in a lock) before
+calm-done a host client (Purge gone) asked distinct before = calm-purged a gone distinct before
+calm-done a host client (QuietPurge gone) asked distinct before = calm-purged a gone distinct before
+calm-done a host client (CarryLock lock name state value) asked distinct before = let impossible : ⊥ = cc in absurd impossible
+calm-done a host client (CarryClient reply) asked distinct before = before
 
 -- the two together, which every command keeps
 pub record IsCalm (locks : List LockRecord) : Type 0 where
@@ -348,23 +352,23 @@ pub record IsCalm (locks : List LockRecord) : Type 0 where
 HasCalmAfter : Applied → Type 0
 HasCalmAfter x = IsCalm x.table.locks
 
-both-done : (t : Plain) (c : Command) → IsCalm t.locks → IsCalm (done t.locks c.host c.client c.action).locks
-both-done t c calm = record { distinct = distinct-done t.locks c.host c.client c.action calm.distinct; settled = calm-done t.locks c.host c.client c.action calm.distinct calm.settled }
+both-done : (t : Plain) (c : Command) → is_carried c.action ≡ false → IsCalm t.locks → IsCalm (done t.locks c.host c.client c.action).locks
+both-done t c asked calm = record { distinct = distinct-done t.locks c.host c.client c.action calm.distinct; settled = calm-done t.locks c.host c.client c.action asked calm.distinct calm.settled }
 
-calm-after : (t : Plain) (c : Command) (found : Option KnownClient) → IsCalm t.locks → HasCalmAfter (applied_after t c found)
+calm-after : (t : Plain) (c : Command) (found : Option KnownClient) → is_carried c.action ≡ false → IsCalm t.locks → HasCalmAfter (applied_after t c found)
 unfolding HasCalmAfter
-calm-after t c None calm = either HasCalmAfter (nat_le CLIENTS (length t.clients)) _ _ (λ _. calm) (λ _. both-done t c calm)
-calm-after t c (Some k) calm =
+calm-after t c None asked calm = either HasCalmAfter (nat_le CLIENTS (length t.clients)) _ _ (λ _. calm) (λ _. both-done t c asked calm)
+calm-after t c (Some k) asked calm =
     either HasCalmAfter (nat_lt c.request k.request) _ _ (λ _. calm)
-    (λ _. either HasCalmAfter (c.request == k.request) _ _ (λ _. calm) (λ _. both-done t c calm))
+    (λ _. either HasCalmAfter (c.request == k.request) _ _ (λ _. calm) (λ _. both-done t c asked calm))
 
-calm-applied : (t : Plain) (c : Command) → IsCalm t.locks → IsCalm (applied t c).table.locks
+calm-applied : (t : Plain) (c : Command) → is_carried c.action ≡ false → IsCalm t.locks → IsCalm (applied t c).table.locks
 unfolding applied HasCalmAfter
-calm-applied t c calm = calm-after t c (find (is_client c.client) t.clients) calm
+calm-applied t c asked calm = calm-after t c (find (is_client c.client) t.clients) asked calm
 
-calm_from : (commands : List Command) (t : Plain) → IsCalm t.locks → IsCalm (fold (λ u c. (applied u c).table) t commands).locks
-calm_from [] t calm = calm
-calm_from (c ∷ commands) t calm = calm_from commands (applied t c).table (calm-applied t c calm)
+pub calm_from : (commands : List Command) (t : Plain) → AreOrdinary commands → IsCalm t.locks → IsCalm (fold (λ u c. (applied u c).table) t commands).locks
+calm_from [] t all calm = calm
+calm_from (c ∷ commands) t all calm = calm_from commands (applied t c).table (first_asked c commands all).1 (calm-applied t c (first_asked c commands all).0 calm)
 
-pub reachable_calm : (commands : List Command) → IsCalm (table_after commands).locks
-reachable_calm commands = calm_from commands no_locks (record { distinct = λ lock. omega arith; settled = λ name r turn. let impossible : ⊥ = cc in absurd impossible })
+pub no_locks_calm : IsCalm no_locks.locks
+no_locks_calm = record { distinct = λ lock. omega arith; settled = λ name r turn. let impossible : ⊥ = cc in absurd impossible }

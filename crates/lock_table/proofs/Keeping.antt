@@ -5,13 +5,13 @@ use Rattle.std.proofs.lemmas.List.Folds.{list_any-append}
 use Rattle.lock_modes.specs.declared.mode.Mode.{Mode}
 use Rattle.lock_command.specs.Name.{same_name}
 use Rattle.lock_command.specs.declared.command.Action.{Action}
-use Rattle.lock_command.specs.declared.command.Action.TheVariants.{Enqueue, Convert, Release, Cancel, Status, Purge, QuietPurge}
+use Rattle.lock_command.specs.declared.command.Action.TheVariants.{Enqueue, Convert, Release, Cancel, Status, Purge, QuietPurge, CarryLock, CarryClient}
 use Rattle.lock_table.specs.declared.locks.TheConstants.{LOCKS}
 use Rattle.lock_table.specs.declared.record.LockRecord.{LockRecord}
 use Rattle.lock_command.specs.declared.state.LockState.{LockState}
 use Rattle.lock_command.specs.declared.state.LockState.TheVariants.{Granted, Converting, Waiting}
 use Rattle.lock_table.specs.Locks.{is_on, is_lock, in_state, lock_in, without, put, admits, has_queue, settled, IsDistinct}
-use Rattle.lock_table.specs.Apply.{CommandOutcome, enqueued, converted, released, cancelled, with_own, told, done}
+use Rattle.lock_table.specs.Apply.{carried, CommandOutcome, enqueued, converted, released, cancelled, with_own, told, done}
 use Rattle.lock_table.specs.declared.values.NamedValue.{NamedValue}
 use Rattle.lock_table.specs.Picture.{printed_cmp}
 use Rattle.lock_table.specs.Placed.{in_order}
@@ -108,6 +108,13 @@ unfolding HasAfter
 has-own name a client does None has each = has
 has-own name a client does (Some r) has each = either (HasAfter name) (r.client == client) _ _ (λ _. each r refl) (λ _. has)
 
+has-carried : (name : List ℕ) (a : List LockRecord) (r : LockRecord) → Has name a → HasAfter name (carried a r)
+unfolding HasAfter
+has-carried name a r has =
+    either (HasAfter name) (is_some (lock_in a r.lock)) _ _ (λ _. has)
+    (λ fresh. either (HasAfter name) (nat_le LOCKS (length a)) _ _ (λ _. has)
+    (λ _. new_keeps name r a (none_found (lock_in a r.lock) fresh) has))
+
 has-told : (name : List ℕ) (a : List LockRecord) (found : Option LockRecord) → Has name a → HasAfter name (told a found)
 unfolding HasAfter
 has-told name a None has = has
@@ -127,6 +134,8 @@ keeps_locks name a host client (Cancel lock) distinct has still =
 keeps_locks name a host client (Status lock) distinct has still = has-told name a (lock_in a lock) has
 keeps_locks name a host client (Purge gone) distinct has still = let impossible : ⊥ = cc in absurd impossible
 keeps_locks name a host client (QuietPurge gone) distinct has still = let impossible : ⊥ = cc in absurd impossible
+keeps_locks name a host client (CarryLock lock on_name state value) distinct has still = has-carried name a (record { lock = lock; client = client; host = host; name = on_name; state = state }) has
+keeps_locks name a host client (CarryClient reply) distinct has still = has
 
 -- so what is stored is stored under names that have locks, but for those that a command may have taken the last lock of
 pub still_locked : (entries : List NamedValue) (a now : List LockRecord) (host client : ℕ) (action : Action) → IsDistinct a → IsValued a entries → now ≡ in_order printed_cmp (done a host client action).locks

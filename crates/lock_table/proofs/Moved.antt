@@ -2,7 +2,6 @@
 use Rattle.std.proofs.Common.{◌≡◌, ℕ, ◌==◌, nat_lt, nat_le, Bool, true, false, cond, not, List, [], ◌∷◌, ◌++◌, length, map, Option, Some, None, refl, sym, ap, ◌∙◌}
 use Rattle.std.specs.List.{fold, filter, find}
 use Rattle.std.proofs.lemmas.List.{length-map, map-append}
-use Rattle.lock_command.specs.declared.command.Action.{Action}
 use Rattle.lock_command.specs.declared.old.OldAction.{OldAction}
 use Rattle.lock_command.specs.declared.old.OldAction.TheVariants.{Enqueue, Convert, Release, Cancel, Status, Purge}
 use Rattle.lock_command.specs.declared.old.OldCommand.{OldCommand}
@@ -12,10 +11,10 @@ use Rattle.lock_table.specs.declared.record.LockRecord.{LockRecord}
 use Rattle.lock_table.specs.declared.record.KnownClient.{KnownClient}
 use Rattle.lock_command.specs.declared.reply.Reply.{Reply}
 use Rattle.lock_command.specs.declared.reply.Refusal.TheVariants as refusal
-use Rattle.lock_table.specs.Apply.{Applied, done, is_client, kept, replied, carried_out, unchanged, refusing, applied_after, applied, table_after}
+use Rattle.lock_table.specs.Apply.{Applied, done, is_client, kept, keeps_none, kept_after, told_again, replied, carried_out, unchanged, refusing, applied_after, applied, table_after}
 use Rattle.lock_table.specs.Old.{OldClient, OldTable, OldApplied, is_old_client, old_carried_out, old_applied_after, old_applied, old_table_after, with_zeros, known_again, again}
 use Rattle.lock_table.specs.Stored.{value_in, gives_nothing}
-use Rattle.lock_table.specs.Values.{Values, asked_value, returned, values_after, zeros}
+use Rattle.lock_table.specs.Values.{asked_value, returned, values_after, zeros}
 use Rattle.lock_table.proofs.Stored.{nothing_after, asked_zeros}
 
 -- what an old command comes to today
@@ -39,6 +38,22 @@ stores_nothing (Release lock) = refl
 stores_nothing (Cancel lock) = refl
 stores_nothing (Status lock) = refl
 stores_nothing (Purge host) = refl
+
+told_upgraded : (action : OldAction) (r : Reply) → told_again (upgraded_action action) r ≡ r
+told_upgraded (Enqueue lock name mode no_queue) r = refl
+told_upgraded (Convert lock mode no_queue) r = refl
+told_upgraded (Release lock) r = refl
+told_upgraded (Cancel lock) r = refl
+told_upgraded (Status lock) r = refl
+told_upgraded (Purge host) r = refl
+
+keeps_upgraded : (action : OldAction) → keeps_none (upgraded_action action) ≡ false
+keeps_upgraded (Enqueue lock name mode no_queue) = refl
+keeps_upgraded (Convert lock mode no_queue) = refl
+keeps_upgraded (Release lock) = refl
+keeps_upgraded (Cancel lock) = refl
+keeps_upgraded (Status lock) = refl
+keeps_upgraded (Purge host) = refl
 
 filter_again : (client : ℕ) (clients : List OldClient) → filter (λ k. not (is_client client k)) (map known_again clients) ≡ map known_again (filter (λ k. not (is_old_client client k)) clients)
 filter_again client [] = refl
@@ -70,12 +85,13 @@ carried_again t c =
     let asked : asked_value (values_after (value_in []) t.locks outcome.locks action outcome.answer) t.locks action ≡ zeros =
     ap (λ v. asked_value v t.locks action) values ∙ sym (asked_zeros t.locks action) in
     let reply : replied (values_after (value_in []) t.locks outcome.locks action outcome.answer) t.locks action outcome.answer ≡ with_zeros (old_carried_out t c).answer =
-    λ i. record { answer = (same i).answer; value = returned (same i).answer (asked i) } in
+    told_upgraded c.action _ ∙ (λ i. record { answer = (same i).answer; value = returned (same i).answer (asked i) }) in
     let last : OldClient = record { client = c.client; request = c.request; answer = (old_carried_out t c).answer } in
     let others = filter (λ k. not (is_old_client c.client k)) t.clients in
-    let clients : kept (map known_again t.clients) (record { client = c.client; request = c.request; reply = replied (values_after (value_in []) t.locks outcome.locks action outcome.answer) t.locks action outcome.answer })
+    let clients : kept_after action (map known_again t.clients) (record { client = c.client; request = c.request; reply = replied (values_after (value_in []) t.locks outcome.locks action outcome.answer) t.locks action outcome.answer })
     ≡ map known_again (others ++ last ∷ []) =
-    ap (λ (r : Reply). filter (λ k. not (is_client c.client k)) (map known_again t.clients) ++ record { client = c.client; request = c.request; reply = r } ∷ []) reply
+    ap (λ b. cond b (map known_again t.clients) (kept (map known_again t.clients) (record { client = c.client; request = c.request; reply = replied (values_after (value_in []) t.locks outcome.locks action outcome.answer) t.locks action outcome.answer }))) (keeps_upgraded c.action)
+    ∙ ap (λ (r : Reply). filter (λ k. not (is_client c.client k)) (map known_again t.clients) ++ record { client = c.client; request = c.request; reply = r } ∷ []) reply
     ∙ ap (λ l. l ++ known_again last ∷ []) (filter_again c.client t.clients)
     ∙ sym (map-append known_again others (last ∷ [])) in
     λ i. record { table = record { locks = (same i).locks; values = values i; clients = clients i }; reply = reply i }

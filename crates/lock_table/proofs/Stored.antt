@@ -6,8 +6,9 @@ use Rattle.std.specs.Ordering.{is_lt}
 use Rattle.std.proofs.lemmas.List.Folds.{list_any-append}
 use Rattle.std.proofs.lemmas.List.Kept.{IsSortedBy-filter}
 use Rattle.lock_command.specs.Name.{same_name}
+use Rattle.lock_command.specs.Command.{is_carried}
 use Rattle.lock_command.specs.declared.command.Action.{Action}
-use Rattle.lock_command.specs.declared.command.Action.TheVariants.{Enqueue, Convert, Release, Cancel, Status, Purge, QuietPurge}
+use Rattle.lock_command.specs.declared.command.Action.TheVariants.{Enqueue, Convert, Release, Cancel, Status, Purge, QuietPurge, CarryLock, CarryClient}
 use Rattle.lock_command.specs.declared.state.LockState.{LockState}
 use Rattle.lock_command.specs.declared.reply.Answer.{Answer}
 use Rattle.lock_table.specs.declared.record.LockRecord.{LockRecord}
@@ -288,15 +289,17 @@ entry_if true entries lets found value = entry_stores entries lets found value
 entry_if false entries lets found value = refl
 
 -- what is stored in the end is what the command changes
-pub stores_changed : (before entries : List NamedValue) (locks : List LockRecord) (action : Action) (a : Answer) → value_in entries ≡ spoiled_by (value_in before) locks action
+pub stores_changed : (before entries : List NamedValue) (locks : List LockRecord) (action : Action) (a : Answer) → is_carried action ≡ false → value_in entries ≡ spoiled_by (value_in before) locks action
     → value_in (put_if entries (entry_by (asked_lock locks action) action a)) ≡ changed (value_in before) locks action a
-stores_changed before entries locks (Enqueue lock name mode no_queue) a is = is
-stores_changed before entries locks (Convert lock mode no_queue value) a is = entry_if (is_granted a) entries (is_downward mode) (lock_in locks lock) value ∙ ap (λ v. cond (is_granted a) (given v (is_downward mode) (lock_in locks lock) value) v) is
-stores_changed before entries locks (Release lock value) a is = entry_if (is_released a) entries is_writer (lock_in locks lock) value ∙ ap (λ v. cond (is_released a) (given v is_writer (lock_in locks lock) value) v) is
-stores_changed before entries locks (Cancel lock) a is = is
-stores_changed before entries locks (Status lock) a is = is
-stores_changed before entries locks (Purge host) a is = is
-stores_changed before entries locks (QuietPurge host) a is = is
+stores_changed before entries locks (Enqueue lock name mode no_queue) a asked is = is
+stores_changed before entries locks (Convert lock mode no_queue value) a asked is = entry_if (is_granted a) entries (is_downward mode) (lock_in locks lock) value ∙ ap (λ v. cond (is_granted a) (given v (is_downward mode) (lock_in locks lock) value) v) is
+stores_changed before entries locks (Release lock value) a asked is = entry_if (is_released a) entries is_writer (lock_in locks lock) value ∙ ap (λ v. cond (is_released a) (given v is_writer (lock_in locks lock) value) v) is
+stores_changed before entries locks (Cancel lock) a asked is = is
+stores_changed before entries locks (Status lock) a asked is = is
+stores_changed before entries locks (Purge host) a asked is = is
+stores_changed before entries locks (QuietPurge host) a asked is = is
+stores_changed before entries locks (CarryLock lock name state value) a asked is = let impossible : ⊥ = cc in absurd impossible
+stores_changed before entries locks (CarryClient reply) a asked is = is
 
 entry_named : (locks : List LockRecord) (b : Bool) (lets : LockState → Bool) (lock : ℕ) (found : Option LockRecord) (value : Option (List ℕ)) (e : NamedValue) → lock_in locks lock ≡ found
     → cond b (entry_of lets found value) None ≡ Some e → list_any (is_on e.name) locks ≡ true
@@ -320,6 +323,8 @@ entry_has locks (Cancel lock) a e h = let impossible : ⊥ = cc in absurd imposs
 entry_has locks (Status lock) a e h = let impossible : ⊥ = cc in absurd impossible
 entry_has locks (Purge host) a e h = let impossible : ⊥ = cc in absurd impossible
 entry_has locks (QuietPurge host) a e h = let impossible : ⊥ = cc in absurd impossible
+entry_has locks (CarryLock lock name state value) a e h = let impossible : ⊥ = cc in absurd impossible
+entry_has locks (CarryClient reply) a e h = let impossible : ⊥ = cc in absurd impossible
 
 valued_if : (locks : List LockRecord) (entries : List NamedValue) (o : Option NamedValue) → IsValued locks entries → ((e : NamedValue) → o ≡ Some e → list_any (is_on e.name) locks ≡ true) → IsValued locks (put_if entries o)
 valued_if locks entries None valued has = valued
@@ -339,6 +344,8 @@ asked_same v locks (Cancel lock) = refl
 asked_same v locks (Status lock) = refl
 asked_same v locks (Purge host) = refl
 asked_same v locks (QuietPurge host) = refl
+asked_same v locks (CarryLock lock name state value) = refl
+asked_same v locks (CarryClient reply) = refl
 
 pub of_locked_zeros : (locks : List LockRecord) (v : Values) → HasZeros locks (of_locked locks v)
 of_locked_zeros locks v name none = ap (λ b. cond b (v name) zeros) none
@@ -364,6 +371,8 @@ changed_nothing v locks (Cancel lock) a nothing = refl
 changed_nothing v locks (Status lock) a nothing = refl
 changed_nothing v locks (Purge host) a nothing = let impossible : ⊥ = cc in absurd impossible
 changed_nothing v locks (QuietPurge host) a nothing = refl
+changed_nothing v locks (CarryLock lock name state value) a nothing = let impossible : ⊥ = cc in absurd impossible
+changed_nothing v locks (CarryClient reply) a nothing = refl
 
 -- nothing is stored then
 pub nothing_after : (before after : List LockRecord) (action : Action) (a : Answer) → gives_nothing action ≡ true → value_in [] ≡ values_after (value_in []) before after action a
@@ -383,6 +392,8 @@ asked_zeros locks (Cancel lock) = refl
 asked_zeros locks (Status lock) = sym (asked_of_lock (lock_in locks lock))
 asked_zeros locks (Purge host) = refl
 asked_zeros locks (QuietPurge host) = refl
+asked_zeros locks (CarryLock lock name state value) = refl
+asked_zeros locks (CarryClient reply) = refl
 
 pub valued_none : (locks : List LockRecord) → IsValued locks []
 valued_none locks = record { named = record { rising = λ k d from far. absurd (omega (arith, far)); one = λ name. omega arith }; locked = λ name there. let impossible : ⊥ = cc in absurd impossible }

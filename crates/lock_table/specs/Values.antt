@@ -5,7 +5,7 @@ use Rattle.lock_modes.specs.declared.mode.Mode.{Mode}
 use Rattle.lock_modes.specs.Mode.{writes_alone, downward}
 use Rattle.lock_command.specs.Name.{same_name}
 use Rattle.lock_command.specs.declared.command.Action.{Action}
-use Rattle.lock_command.specs.declared.command.Action.TheVariants.{Enqueue, Convert, Release, Cancel, Status, Purge, QuietPurge}
+use Rattle.lock_command.specs.declared.command.Action.TheVariants.{Enqueue, Convert, Release, Cancel, Status, Purge, QuietPurge, CarryLock, CarryClient}
 use Rattle.lock_table.specs.declared.record.LockRecord.{LockRecord}
 use Rattle.lock_command.specs.declared.state.LockState.{LockState}
 use Rattle.lock_command.specs.declared.state.LockState.TheVariants.{Granted, Converting, Waiting}
@@ -65,7 +65,12 @@ abbrev pub is_released : Answer → Bool
 is_released answer.Released = true
 is_released _ = false
 
--- what a command stores that was answered so: what a downward conversion gives, and the release of a lock that writes alone
+-- the answer tells the state of a lock
+abbrev pub is_state : Answer → Bool
+is_state (answer.State state) = true
+is_state _ = false
+
+-- what a command stores that was answered so: what a downward conversion gives, and the release of a lock that writes alone; and what is carried over with a lock
 abbrev pub changed : Values → List LockRecord → Action → Answer → Values
 changed values locks (Enqueue lock name mode no_queue) a = values
 changed values locks (Convert lock mode no_queue value) a = if is_granted a then given values (is_downward mode) (lock_in locks lock) value else values
@@ -74,6 +79,8 @@ changed values locks (Cancel lock) a = values
 changed values locks (Status lock) a = values
 changed values locks (Purge host) a = spoiled values locks host
 changed values locks (QuietPurge host) a = values
+changed values locks (CarryLock lock name state value) a = if is_state a then stored values name value else values
+changed values locks (CarryClient reply) a = values
 
 -- and of names that have locks still
 abbrev pub values_after : Values → List LockRecord → List LockRecord → Action → Answer → Values
@@ -93,6 +100,8 @@ asked_value values locks (Cancel lock) = zeros
 asked_value values locks (Status lock) = value_of_lock values (lock_in locks lock)
 asked_value values locks (Purge host) = zeros
 asked_value values locks (QuietPurge host) = zeros
+asked_value values locks (CarryLock lock name state value) = values name
+asked_value values locks (CarryClient reply) = zeros
 
 -- a grant returns the value of its name, and so does the state of a lock that holds a mode
 abbrev pub returned : Answer → LockValue → Option LockValue

@@ -1,5 +1,5 @@
 ghost use Rattle.std.specs.Prelude.{◌≡◌, ◌<◌, ◌≤◌, [], IfOk, IfSome, None, find, length};
-ghost use Rattle.lock_table.specs.Apply.{applied, carried_out, is_client, unchanged};
+ghost use Rattle.lock_table.specs.Apply.{applied, carried_out, is_client, keeps_none, unchanged};
 ghost use Rattle.lock_table.specs.Indexed.{IsPlaceOf};
 ghost use Rattle.lock_table.specs.Picture.{printed_cmp, client_cmp, HasZeros};
 ghost use Rattle.lock_table.specs.Placed.{in_order};
@@ -12,7 +12,7 @@ use crate::record::KnownClient;
 use crate::reply::refusing;
 use crate::valued::ValuedLocks;
 use crate::values::NamedValue;
-use lock_command::{Command, Refusal, Reply};
+use lock_command::{Action, Command, Refusal, Reply};
 use std::alloc::{AllocError, Global};
 use std::marker::Model;
 
@@ -79,7 +79,9 @@ impl IndexedTable {
         let reply = self
             .valued
             .act(command.host, command.client, &command.action);
-        self.clients.keep(place, known(command, &reply));
+        if !keeps_none(&command.action) {
+            self.clients.keep(place, known(command, &reply));
+        }
         reply
     }
 
@@ -104,6 +106,13 @@ impl IndexedTable {
     {
         self.clients.known()
     }
+}
+
+/// Whether nothing is kept of the command's client: a lock is carried over.
+fn keeps_none(action: &Action) -> bool
+    ensures { result ≡ keeps_none action.now }
+{
+    matches!(action, Action::CarryLock { .. })
 }
 
 /// What is kept of a command's client.

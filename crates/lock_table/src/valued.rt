@@ -1,19 +1,21 @@
-ghost use Rattle.std.specs.Prelude.{◌≡◌, ◌≤◌, ◌<◌, IfOk, IfSome, [], length, filter, not, ◌&&◌, Bool, true, false, ℕ, List, IsTrue, Some};
+ghost use Rattle.std.specs.Prelude.{◌≡◌, ◌≤◌, ◌<◌, IfOk, IfSome, [], length, filter, not, ◌&&◌, Bool, true, false, ℕ, List, IsTrue, Some, if◌then◌else◌};
 ghost use Rattle.std.specs.List.{list_any};
 ghost use Rattle.std.specs.List.Sorted.{IsSorted};
+ghost use Rattle.lock_table.specs.declared.record.LockRecord.{LockRecord};
 ghost use Rattle.lock_table.specs.declared.values.NamedValue.{NamedValue};
 ghost use Rattle.lock_table.specs.Locks.{is_on, is_through};
 ghost use Rattle.lock_command.specs.declared.state.LockState.{LockState};
-ghost use Rattle.lock_table.specs.Apply.{done, replied};
+ghost use Rattle.lock_command.specs.Command.{is_carried};
+ghost use Rattle.lock_table.specs.Apply.{carried, done, replied};
 ghost use Rattle.lock_table.specs.Picture.{printed_cmp, HasZeros};
 ghost use Rattle.lock_table.specs.Placed.{in_order};
 ghost use Rattle.lock_table.specs.Stored.{is_of, value_in, put_value, put_if, AreNamed, IsValued, spoiled_by, entry_of, entry_by, gives_nothing, is_locked, may_lose, asked_lock, asked_value_by};
-ghost use Rattle.lock_table.specs.Values.{zeros, invalid, spoiled, is_writer, is_downward, values_after, returned};
+ghost use Rattle.lock_table.specs.Values.{zeros, invalid, spoiled, stored, is_writer, is_downward, is_state, of_locked, values_after, returned};
 
 use crate::by_printed_order::ByPrintedOrder;
 use crate::locks::{LOCKS, Locks};
 use crate::record::LockRecord;
-use crate::reply::{is_granted, is_released};
+use crate::reply::{is_granted, is_released, is_state};
 use crate::values;
 use crate::values::{NamedValue, Values, store};
 use lock_command::{
@@ -86,8 +88,12 @@ fn gives_nothing(action: &Action) -> bool
     match action {
         Action::Convert { value, .. } | Action::Release { value, .. } => value.is_none(),
         Action::Purge(_) => false,
-        Action::Enqueue { .. } | Action::Cancel(_) | Action::Status(_) | Action::QuietPurge(_) =>
-            true,
+        Action::CarryLock { .. } => false,
+        Action::Enqueue { .. }
+        | Action::Cancel(_)
+        | Action::Status(_)
+        | Action::QuietPurge(_)
+        | Action::CarryClient(_) => true,
     }
 }
 
@@ -182,6 +188,21 @@ fn store_by(values: &mut Values, found: &Option<LockRecord>, action: &Action, an
     }
 }
 
+/// Stores a value that is carried over under its name. Zeros are left out while nothing is stored: each name has them.
+fn store_carried(values: &mut Values, new: NamedValue)
+    requires named { AreNamed values.old }
+    requires room { length (filter (λ o. not (is_of new.name o)) values.old) < LOCKS }
+    ensures values { value_in values.new ≡ value_in (put_value values.old new) }
+    ensures valued { (locks : List LockRecord) → IsValued locks (put_value values.old new) → IsValued locks values.new }
+    // So commands on a table that stores no values look none up, also after a renewal.
+    ensures zeros { values.old ≡ [] → new.value ≡ zeros → values.new ≡ [] }
+{
+    if values.is_empty() && new.value == LockValue::ZEROS {
+        return;
+    }
+    store(values, new);
+}
+
 /// Lets the values of names go that a command took the last lock of.
 fn keep_locked(
     values: &mut Values,
@@ -258,7 +279,9 @@ impl ValuedLocks {
         ensures value { result ≡ asked_value_by (value_in self.now.entries) found.now action.now }
     {
         match action {
-            Action::Enqueue { name, .. } => values::value_in(self.values.entries(), *name),
+            Action::Enqueue { name, .. } | Action::CarryLock { name, .. } => {
+                values::value_in(self.values.entries(), *name)
+            }
             Action::Convert { .. } | Action::Status(_) => match found {
                 Some(own) => values::value_in(self.values.entries(), own.name),
                 None => LockValue::ZEROS,
@@ -267,8 +290,70 @@ impl ValuedLocks {
         }
     }
 
-    /// Does what a client asks through a host.
+    /// Carries a lock over, and the value of its name.
+    fn carry(&mut self, new: LockRecord, value: LockValue) -> Reply
+        ensures locks { self.new.locks ≡ in_order printed_cmp (carried self.old.locks new).locks }
+        ensures values { value_in self.new.entries ≡ of_locked (carried self.old.locks new).locks (if is_state (carried self.old.locks new).answer then stored (value_in self.old.entries) new.name value else value_in self.old.entries) }
+        ensures zeros { HasZeros self.new.locks (value_in self.new.entries) }
+        ensures reply { result ≡ record { answer = (carried self.old.locks new).answer; value = returned (carried self.old.locks new).answer (value_in self.new.entries new.name) } }
+    {
+        let name = new.name;
+        let answer = self.locks.carry(new);
+        if !is_state(&answer) {
+            return Reply {
+                answer,
+                value: None,
+            };
+        }
+        store_carried(&mut self.values, NamedValue { name, value });
+        Reply {
+            answer,
+            value: returned(answer, value),
+        }
+    }
+
+    /// Does what a command asks of a client through a host, or carries over.
     pub fn act(&mut self, host: HostNumber, client: ClientNumber, action: &Action) -> Reply
+        ensures locks { self.new.locks ≡ in_order printed_cmp (done self.old.locks host client action.now).locks }
+        ensures values { value_in self.new.entries ≡ values_after (value_in self.old.entries) self.old.locks (done self.old.locks host client action.now).locks action.now (done self.old.locks host client action.now).answer }
+        ensures zeros { HasZeros self.new.locks (value_in self.new.entries) }
+        ensures reply { result ≡ replied (value_in self.new.entries) self.old.locks action.now (done self.old.locks host client action.now).answer }
+    {
+        match action {
+            Action::CarryLock {
+                lock,
+                name,
+                state,
+                value,
+            } => {
+                let new = LockRecord {
+                    lock: *lock,
+                    client,
+                    host,
+                    name: *name,
+                    state: *state,
+                };
+                self.carry(new, *value)
+            }
+            Action::CarryClient(reply) => self.answer_again(reply),
+            _ => self.serve(host, client, action),
+        }
+    }
+
+    /// Gives the reply that a client had, and changes nothing.
+    fn answer_again(&self, reply: &Reply) -> Reply
+        ensures printed { in_order printed_cmp self.now.locks ≡ self.now.locks }
+        ensures zeros { HasZeros self.now.locks (value_in self.now.entries) }
+        ensures values { value_in self.now.entries ≡ of_locked self.now.locks (value_in self.now.entries) }
+        ensures reply { result ≡ reply.now }
+    {
+        let _ = self.locks.printed();
+        *reply
+    }
+
+    /// Does what a client asks through a host.
+    fn serve(&mut self, host: HostNumber, client: ClientNumber, action: &Action) -> Reply
+        requires asked { is_carried action.now ≡ false }
         ensures locks { self.new.locks ≡ in_order printed_cmp (done self.old.locks host client action.now).locks }
         ensures values { value_in self.new.entries ≡ values_after (value_in self.old.entries) self.old.locks (done self.old.locks host client action.now).locks action.now (done self.old.locks host client action.now).answer }
         ensures zeros { HasZeros self.new.locks (value_in self.new.entries) }

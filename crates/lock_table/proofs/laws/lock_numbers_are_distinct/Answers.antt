@@ -1,5 +1,5 @@
-use Rattle.lock_table.proofs.Heads.{reachable_calm}
+use Rattle.lock_table.proofs.Behave.{reachable_distinct}
 use Rattle.lock_table.proofs.laws.lock_numbers_are_distinct.Goals as goal
 
 pub returns : goal.returns
-returns c = record { distinct = λ commands. (reachable_calm commands).distinct }
+returns c = record { distinct = reachable_distinct }

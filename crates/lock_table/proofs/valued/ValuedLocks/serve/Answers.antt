@@ -8,11 +8,11 @@ use Rattle.lock_table.specs.declared.record.LockRecord.{LockRecord}
 use Rattle.lock_table.specs.Locks.{IsDistinct}
 use Rattle.lock_table.specs.Stored.{Valued, value_in, is_locked, put_if, IsValued, entry_by, asked_lock, asked_value_by, may_lose}
 use Rattle.lock_table.specs.Values.{of_locked, changed, values_after, asked_value, returned}
-use Rattle.lock_table.proofs.Behave.{same-of_locked, distinct-done}
+use Rattle.lock_table.proofs.Behave.{same-of_locked, distinct-done, told_asked}
 use Rattle.lock_table.proofs.Keeping.{still_locked}
 use Rattle.lock_table.proofs.Pictures.{same_in_order}
 use Rattle.lock_table.proofs.Stored.{room_for, valued_none, nothing_after, entry_has, valued_stored, valued_again, locked_values, stores_changed, asked_same, of_locked_zeros}
-use Rattle.lock_table.proofs.valued.ValuedLocks.act.Goals as goal
+use Rattle.lock_table.proofs.valued.ValuedLocks.serve.Goals as goal
 
 -- WHERE NOTHING IS STORED, AND NOTHING IS GIVEN
 
@@ -89,7 +89,7 @@ returns-clause-values c =
     let found : c.asked_lock-found.result ≡ asked_lock xs action = c.asked_lock-found.ensures.found ∙ ap (λ (v : Valued). asked_lock v.locks action) (sym c.self.view_is) ∙ ap (λ l. asked_lock l action) (sym c.printed.ensures.locks) in
     let put : c.store_by.new.values ≡ put_if c.spoil_by.new.values (entry_by (asked_lock xs action) action a) = c.store_by.ensures ∙ ap (λ f. put_if c.spoil_by.new.values (entry_by f action a)) found in
     let stored : value_in c.store_by.new.values ≡ changed (value_in before) own action a =
-    ap value_in put ∙ stores_changed before c.spoil_by.new.values xs action a c.spoil_by.ensures.values ∙ ap (λ l. changed (value_in before) l action a) c.printed.ensures.locks in
+    ap value_in put ∙ stores_changed before c.spoil_by.new.values xs action a c.requires.asked c.spoil_by.ensures.values ∙ ap (λ l. changed (value_in before) l action a) c.printed.ensures.locks in
     let kept : c.keep_locked.new.values ≡ filter (is_locked now) c.store_by.new.values = c.keep_locked.ensures ∙ ap (λ l. filter (is_locked l) c.store_by.new.values) c.printed-2.ensures.locks in
     ap value_in kept ∙ locked_values now c.store_by.new.values ∙ ap (of_locked now) stored
     ∙ ap (λ l. of_locked l (changed (value_in before) own action a)) c.act-answer-2.ensures.locks
@@ -113,3 +113,4 @@ returns-clause-reply c =
     let asked : c.asked_value-value.result ≡ asked_value v old.locks action =
     c.asked_value-value.ensures.value ∙ ap (λ f. asked_value_by v f action) c.asked_lock-found.ensures.found ∙ asked_same v old.locks action in
     ap (λ w. record { answer = c.act-answer-2.result; value = w }) c.returned-2.ensures ∙ (λ i. record { answer = answered i; value = returned (answered i) (asked i) })
+    ∙ sym (told_asked action _ c.requires.asked)

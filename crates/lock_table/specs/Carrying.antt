@@ -1,0 +1,56 @@
+-- The commands that carry a table over into a new log, and which logs there are.
+use Rattle.std.specs.Prelude.{◌≡◌, ◌==◌, ◌≤◌, ℕ, zero, suc, true, not, ◌||◌, List, [], ◌∷◌, ◌++◌, map, filter, find, Some, Bool}
+use Rattle.std.specs.List.{list_all, list_any}
+use Rattle.lock_command.specs.declared.command.Command.{Command}
+use Rattle.lock_command.specs.declared.command.Action.TheVariants.{CarryLock, CarryClient}
+use Rattle.lock_command.specs.declared.reply.LockValue.{LockValue}
+use Rattle.lock_command.specs.Command.{is_carried}
+use Rattle.lock_table.specs.declared.record.LockRecord.{LockRecord}
+use Rattle.lock_table.specs.declared.record.KnownClient.{KnownClient}
+use Rattle.lock_table.specs.Apply.{is_client, table_after}
+use Rattle.lock_table.specs.Picture.{Shown, IsPictureOf}
+
+-- a lock as it stands, and the value of its name
+abbrev pub carried_lock : LockRecord → LockValue → Command
+carried_lock r value = record { host = r.host; client = r.client; request = 1; action = CarryLock r.lock r.name r.state value }
+
+-- a client, the number of its last request, and the reply to it
+abbrev pub carried_client : KnownClient → Command
+carried_client k = record { host = 0; client = k.client; request = k.request; action = CarryClient k.reply }
+
+-- each lock with the value beside it
+abbrev pub carried_locks : List LockRecord → List LockValue → List Command
+carried_locks [] values = []
+carried_locks (r ∷ locks) [] = []
+carried_locks (r ∷ locks) (value ∷ values) = carried_lock r value ∷ carried_locks locks values
+
+-- all that a table shows: its locks as they are shown, and then its clients
+abbrev pub carried_over : Shown → List Command
+carried_over shown = carried_locks shown.locks shown.values ++ map carried_client shown.clients
+
+-- CLIENTS THAT ARE LEFT OUT
+
+-- the client is known from now on: it is not to be left out, or it has a lock
+abbrev pub stays_known : (ℕ → Bool) → Shown → KnownClient → Bool
+stays_known leave shown k = not (leave k.client) || list_any (λ (r : LockRecord). r.client == k.client) shown.locks
+
+-- the picture without clients that are to be left out and have no lock
+abbrev pub without_clients : (ℕ → Bool) → Shown → Shown
+without_clients leave shown = record { locks = shown.locks; values = shown.values; clients = filter (stays_known leave shown) shown.clients }
+
+-- the client is known, and its last request has this number or a greater one
+abbrev pub IsKnownFrom : ℕ → ℕ → List KnownClient → Type 0
+IsKnownFrom client request clients = (k : KnownClient) × (find (is_client client) clients ≡ Some k) × (request ≤ k.request)
+
+-- WHICH LOGS THERE ARE
+
+-- none of these commands carries anything over
+abbrev pub AreOrdinary : List Command → Type 0
+AreOrdinary commands = list_all (λ c. not (is_carried c.action)) commands ≡ true
+
+-- The log of a cluster that was renewed so often: what carries the table of the log before over, and then what was submitted.
+abbrev pub IsLogAfter : ℕ → List Command → Type 0
+IsLogAfter zero log = AreOrdinary log
+IsLogAfter (suc n) log =
+    (past : List Command) × (shown : Shown) × (later : List Command)
+    × IsLogAfter n past × IsPictureOf shown (table_after past) × AreOrdinary later × (log ≡ carried_over shown ++ later)
