@@ -6,7 +6,7 @@ use Rattle.lock_modes.specs.declared.mode.Mode.TheVariants.{Null, ConcurrentRead
 use Rattle.lock_command.specs.declared.number.TheConstants.{HOSTS}
 use Rattle.lock_command.specs.declared.command.Command.{Command}
 use Rattle.lock_command.specs.declared.command.Action.{Action}
-use Rattle.lock_command.specs.declared.command.Action.TheVariants.{Enqueue, Convert, Release, Cancel, Status, Purge, QuietPurge}
+use Rattle.lock_command.specs.declared.command.Action.TheVariants.{Enqueue, Convert, Release, Cancel, Status, Purge, QuietPurge, CarryLock, CarryClient}
 use Rattle.lock_command.specs.Name.{IsName, is_name}
 use Rattle.lock_command.specs.Command.{IsValue, FitsAction, Fits}
 use Rattle.lock_command.specs.Reading.{◌>>=◌, name_of}
@@ -249,6 +249,8 @@ action_at-only (Cancel lock) fits said = ap (λ (found : Option ℕ). found >>= 
 action_at-only (Status lock) fits said = ap (λ (found : Option ℕ). found >>= λ l. Some (Status l)) (lock_of-only lock fits)
 action_at-only (Purge host) fits said = ap (λ (found : Option ℕ). found >>= λ h. Some (Purge h)) (number_in-only 0 (HOSTS - 1) host (omega arith) (omega arith) (omega arith))
 action_at-only (QuietPurge host) fits said = absurd said
+action_at-only (CarryLock lock name state value) fits said = absurd said
+action_at-only (CarryClient reply) fits said = absurd said
 
 -- words that spell this command, through a host
 pub record Commands (host : ℕ) (words : List (List ℕ)) (c : Command) : Type 0 where

@@ -6,7 +6,7 @@ use Rattle.lock_modes.specs.declared.mode.Mode.TheVariants.{Null, ConcurrentRead
 use Rattle.lock_command.specs.declared.number.TheConstants.{HOSTS}
 use Rattle.lock_command.specs.declared.command.Command.{Command}
 use Rattle.lock_command.specs.declared.command.Action.{Action}
-use Rattle.lock_command.specs.declared.command.Action.TheVariants.{Enqueue, Convert, Release, Cancel, Status, Purge, QuietPurge}
+use Rattle.lock_command.specs.declared.command.Action.TheVariants.{Enqueue, Convert, Release, Cancel, Status, Purge, QuietPurge, CarryLock, CarryClient}
 use Rattle.lock_command.specs.Command.{Fits as FitsCommand}
 use Rattle.slot_log.specs.Shape.{Shape}
 use Rattle.lock_script.specs.declared.event.Event.{Event}
@@ -48,7 +48,7 @@ value_words (Some bytes) = codes "value" ∷ hex_word bytes ∷ []
 
 -- COMMANDS
 
--- a quiet purge has no word
+-- a quiet purge has no word, nor has what is carried over
 abbrev pub kind_word : Action → List ℕ
 kind_word (Enqueue lock name mode no_queue) = codes "enqueue"
 kind_word (Convert lock mode no_queue value) = codes "convert"
@@ -57,6 +57,8 @@ kind_word (Cancel lock) = codes "cancel"
 kind_word (Status lock) = codes "status"
 kind_word (Purge host) = codes "purge"
 kind_word (QuietPurge host) = []
+kind_word (CarryLock lock name state value) = []
+kind_word (CarryClient reply) = []
 
 -- what is asked, behind the request's number
 abbrev pub action_words : Action → List (List ℕ)
@@ -67,6 +69,8 @@ action_words (Cancel lock) = decimal lock ∷ []
 action_words (Status lock) = decimal lock ∷ []
 action_words (Purge host) = decimal host ∷ []
 action_words (QuietPurge host) = []
+action_words (CarryLock lock name state value) = []
+action_words (CarryClient reply) = []
 
 -- a command; its host stands in front of it
 abbrev pub command_words : Command → List (List ℕ)
@@ -99,11 +103,13 @@ abbrev pub AreBytes : Option (List ℕ) → Type 0
 AreBytes None = ⊤
 AreBytes (Some bytes) = All (λ byte. byte < 2 ^ 8) bytes
 
--- a line can say what is asked: a value that is given is of bytes, and nobody asks for a quiet purge
+-- a line can say what is asked: a value that is given is of bytes, and nobody asks for a quiet purge, or for what is carried over
 abbrev pub CanBeSaid : Action → Type 0
 CanBeSaid (Convert lock mode no_queue value) = AreBytes value
 CanBeSaid (Release lock value) = AreBytes value
 CanBeSaid (QuietPurge host) = ⊥
+CanBeSaid (CarryLock lock name state value) = ⊥
+CanBeSaid (CarryClient reply) = ⊥
 CanBeSaid _ = ⊤
 
 -- a command that a line can say
