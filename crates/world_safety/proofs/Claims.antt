@@ -3,6 +3,7 @@ pub mod Acknowledging
 pub mod Recovering
 pub mod Begun
 pub mod Majorities
+pub mod Renewing
 pub mod Safety
 pub mod Growing
 pub mod Ballots

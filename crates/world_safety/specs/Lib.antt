@@ -8,5 +8,6 @@ pub mod Log
 pub mod Marking
 pub mod Marks
 pub mod Next
+pub mod Renewals
 pub mod Tied
 pub mod Tracks

@@ -1,0 +1,35 @@
+-- A full log is final, and a run that begins with what carries its table over goes on from it.
+use Rattle.std.proofs.Common.{◌≡◌, ◌≤◌, ◌+◌, ℕ, List, ◌++◌, length, take, drop, sym, ap, subst, ◌∙◌}
+use Rattle.std.proofs.lemmas.List.{take-take, take-append-drop}
+use Rattle.lock_command.specs.declared.command.Command.{Command}
+use Rattle.lock_table.specs.Apply.{applied, table_after}
+use Rattle.lock_table.specs.Carrying.{carried_over}
+use Rattle.lock_table.specs.Picture.{Shown, IsPictureOf}
+use Rattle.lock_table.proofs.Carrying.{pictured_later, replied_later}
+use Rattle.slot_log.specs.Shape.{Shape}
+use Rattle.world.specs.Entry.{Filled}
+use Rattle.world.specs.World.{IsRun}
+use Rattle.world.specs.Chosen.{migrated}
+use Rattle.world.specs.Headline.{HasOneLog, prefix_at}
+use Rattle.world_safety.specs.Renewals.{FullLogsAreFinal, GoesOn, RecoveriesGoOn}
+use Rattle.world_safety.proofs.Claims.Safety.{headline}
+
+pub full_logs_are_final : (c : Shape) (log : List Filled) → IsRun c log → FullLogsAreFinal c log
+full_logs_are_final c log is_run i j host other full also =
+    let h : HasOneLog c log = headline c log is_run in
+    h.is_safe.prefix i host ∙ ap (λ n. take n h.commands) (full ∙ sym also) ∙ sym (h.is_safe.prefix j other)
+
+pub recoveries_go_on : (c : Shape) (log : List Filled) → IsRun c log → RecoveriesGoOn c log
+recoveries_go_on c log is_run past shown i host n pictured begun says =
+    let h : HasOneLog c log = headline c log is_run in
+    let m = length (migrated log) in
+    let learned = take n h.commands in
+    let later : List Command = drop m learned in
+    let first : take m learned ≡ carried_over shown = take-take m n h.commands (h.is_safe.keeps i host n says) ∙ sym h.is_safe.begun ∙ begun in
+    let is : prefix_at c log (i + 1) host ≡ carried_over shown ++ later = (h.is_safe.recovered i host n says).1 ∙ sym (take-append-drop m learned) ∙ ap (λ l. l ++ later) first in
+    record {
+      later = later;
+      is = is;
+      shows = λ after then. subst (λ (l : List Command). IsPictureOf after (table_after l)) (sym is) (pictured_later past later shown after pictured then);
+      replies = λ command. ap (λ (l : List Command). (applied (table_after l) command).reply) is ∙ replied_later past later shown command pictured;
+    }
