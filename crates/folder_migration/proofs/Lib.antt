@@ -2,4 +2,5 @@ pub mod Calling
 pub mod OldOpening
 pub mod Opened
 pub mod Recovering
+pub mod Renewing
 pub mod Writing

@@ -3,4 +3,5 @@ pub mod Migrating
 pub mod Moving
 pub mod OldFolders
 pub mod Recovery
+pub mod Renewing
 pub mod Writing

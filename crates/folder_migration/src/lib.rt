@@ -11,6 +11,7 @@ mod migrating;
 mod moving;
 mod old_folder;
 mod old_log;
+mod renewal;
 
 pub use fault::MoveFault;
 pub use finishing::{finish, is_begun};
@@ -21,3 +22,4 @@ pub use migrating::migrate_disks;
 pub use moving::move_log;
 pub use old_folder::{OldFolder, open_old_folder};
 pub use old_log::recover_log;
+pub use renewal::renew_disks;
