@@ -5,7 +5,8 @@ that a few lines of C stand before the C library, and where there is no C compil
 one at any, one once a new image is there, one once a gate is open. After each it looks that the next run ends it or is refused, and that no
 state of the new folder reads as a cluster that lacks a command.
 
-The old images are written here byte by byte, by docs/FORMAT.md. It prints each difference, and how many there were; the status is 1 where
+The old images are written here byte by byte, by docs/FORMAT.md. So are new ones whose log begins with what carries a table over: no command
+writes those yet, and each has to read them. It prints each difference, and how many there were; the status is 1 where
 there was one. The program has to be built: `./dlm` does so.
 """
 import argparse
@@ -225,6 +226,61 @@ def empty_log():
     os.mkdir("e")
     prints("migrate d e 16", "migrated 0 commands, 3 disks, 16 slots\n")
     prints("table e 1", "recovered 0\nempty\n")
+
+
+# A TABLE THAT IS CARRIED OVER
+
+# No command of the program writes such a log yet. Each reads one.
+def carried_lock(host, client, mode, flags, name, lock, state, value=b""):
+    head = bytes([8, host, client, mode, flags, len(name)]) + lock.to_bytes(2, "big")
+    return head + numbers(1) + bytes([state]) + name.ljust(15, b"\0") + value.ljust(16, b"\0")
+
+
+def carried_client(client, request, answer, mode=0, flags=0, count=0, value=b""):
+    head = bytes([9, 0, client, mode, flags, 0]) + count.to_bytes(2, "big")
+    return head + numbers(request) + bytes([answer]) + bytes(15) + value.ljust(16, b"\0")
+
+
+CARRIED = [
+    carried_lock(0, 4, 5, 2, b"a", 9, 0, b"sixteen bytes on"),
+    carried_lock(1, 2, 3, 6, b"db", 2, 0),
+    carried_lock(0, 1, 3, 6, b"db", 1, 7),
+    carried_lock(2, 3, 1, 6, b"db", 3, 1),
+    carried_client(1, 2, 9),
+    carried_client(2, 1, 8, flags=6),
+    carried_client(3, 7, 1, mode=1),
+    carried_client(4, 3, 7, mode=3, flags=2, value=b"sixteen bytes on"),
+    carried_client(5, 3, 22, count=256),
+    carried_client(6, 2, 13),
+]
+
+
+@test
+def log_that_carries_a_table_over():
+    os.mkdir("e")
+    for disk in range(3):
+        with open(f"e/disk{disk}.img", "wb") as file:
+            file.write(new_image(disk, 3, 32, CARRIED))
+    invalid = "00000000000000000000000000000000 invalid"
+    value = b"sixteen bytes on".hex()
+    locks = f"a {value}\n  granted 9 4 0 EX\ndb {invalid}\n  granted 2 2 1 PR\n  converting 1 1 0 PR EX\n"
+    prints("table e 1", f"recovered 10\n{locks}  waiting 3 3 2 CR\n")
+    # Each client's last request again, through any host, whatever it asks now. Then an older one.
+    last = [
+        (1, 2, "Queued"),
+        (2, 1, f"Granted({invalid})"),
+        (3, 7, "State(held=-, wanted=CR)"),
+        (4, 3, f"State(held=PR, wanted=EX, value={value})"),
+        (5, 3, "Purged(256)"),
+        (6, 2, "13 NotOwner"),
+    ]
+    for place, (client, request, reply) in enumerate(last):
+        prints(f"submit e 7 release {client} {request} 1", f"ack {10 + place} {reply}\n")
+    prints("submit e 7 release 3 6 3", "ack 16 18 Stale\n")
+    # And the table goes on.
+    prints("submit e 7 release 2 2 2", "ack 17 Released\n")
+    prints("submit e 7 status 1 3 1", f"ack 18 State(held=EX, wanted=-, value={invalid})\n")
+    prints("submit e 7 cancel 3 8 3", "ack 19 Cancelled\n")
 
 
 # CALLS THAT FAIL

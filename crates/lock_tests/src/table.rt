@@ -1,5 +1,6 @@
 use lock_command::{
     Action, ClientNumber, Command, HostNumber, LockName, LockNumber, RequestNumber, ValueBytes,
+    decode,
 };
 use lock_modes::Mode;
 use lock_table::{Answer, LockState, Picture, Refusal, Table};
@@ -334,5 +335,68 @@ fn clients_full(rt: HostRuntime) -> Result<(), Fail> {
         (0, 0, 1, Ask::Status(5), unknown),
     ];
     assert!(rt; plays_behind_all_clients(rt.alloc(), &steps)?);
+    Ok(())
+}
+
+/// Applies to a new table what carries this one over.
+fn carry_over(alloc: Global, table: &Table, new: &mut Table) -> Result<(), Fail> {
+    for value in &table.carried_over(alloc)? {
+        let command = decode(value).ok_or("decode")?;
+        let _ = new.apply(&command);
+    }
+    Ok(())
+}
+
+/// Whether a table replies to the first steps as it has to; and the one that it is carried over to, to the later ones, and ends so.
+fn carries_over(
+    alloc: Global,
+    tables: (&mut Table, &mut Table),
+    steps: &[Step],
+    later: &[Step],
+    lines: &[Line],
+    clients: usize,
+) -> Result<bool, Fail> {
+    let (table, new) = tables;
+    if !replies(table, steps)? {
+        return Ok(false);
+    }
+    carry_over(alloc, table, new)?;
+    ends_at(alloc, new, later, lines, clients)
+}
+
+#[test]
+fn table_that_is_carried_over(rt: HostRuntime) -> Result<(), Fail> {
+    let stale = Answer::Refused(Refusal::Stale);
+    let steps = [
+        (0, 1, 1, Ask::Enqueue(1, SHARED, b'b'), Answer::Granted),
+        (1, 2, 1, Ask::Enqueue(2, SHARED, b'b'), Answer::Granted),
+        (0, 1, 2, Ask::Convert(1, ALONE), Answer::Queued),
+        (2, 3, 7, Ask::Enqueue(3, READ, b'b'), Answer::Queued),
+        (0, 4, 1, Ask::Enqueue(4, ALONE, b'a'), Answer::Granted),
+        (0, 5, 3, Ask::Purge(9), Answer::Purged(0)),
+    ];
+    let later = [
+        (3, 5, 3, Ask::Status(1), Answer::Purged(0)),
+        (3, 1, 1, Ask::Release(1), stale),
+        (3, 3, 7, Ask::Release(3), Answer::Queued),
+        (1, 2, 2, Ask::Release(2), Answer::Released),
+    ];
+    let lines = [
+        (b'a', 4, 4, 0, LockState::Granted(ALONE)),
+        (b'b', 1, 1, 0, LockState::Granted(ALONE)),
+        (b'b', 3, 3, 2, LockState::Waiting(READ)),
+    ];
+    let mut table = Table::new(rt.alloc())?;
+    let mut new = Table::new(rt.alloc())?;
+    assert!(rt;
+        carries_over(
+            rt.alloc(),
+            (&mut table, &mut new),
+            &steps,
+            &later,
+            &lines,
+            5
+        )?
+    );
     Ok(())
 }
