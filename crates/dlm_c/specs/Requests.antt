@@ -2,7 +2,7 @@
 use Rattle.std.specs.Prelude.{◌≡◌, ℕ, pos, List, Bool, true, false, Option, Some, None}
 use Rattle.lock_command.specs.declared.command.Command.{Command}
 use Rattle.lock_command.specs.declared.command.Action.{Action}
-use Rattle.lock_command.specs.declared.command.Action.TheVariants.{Enqueue, Convert, Release, Cancel, Status, Purge, QuietPurge}
+use Rattle.lock_command.specs.declared.command.Action.TheVariants.{Enqueue, Convert, Release, Cancel, Status, Purge, QuietPurge, CarryLock, CarryClient}
 use Rattle.dlm_c.specs.declared.request.Request.{Request}
 use Rattle.dlm_c.specs.Numbers.{mode_number}
 
@@ -27,6 +27,8 @@ AsksFor r name (Cancel lock) = (r.action ≡ 4) × (lock ≡ r.lock)
 AsksFor r name (Status lock) = (r.action ≡ 5) × (lock ≡ r.lock)
 AsksFor r name (Purge host) = (r.action ≡ 6) × (host ≡ r.purged)
 AsksFor r name (QuietPurge host) = ⊥
+AsksFor r name (CarryLock lock on state value) = ⊥
+AsksFor r name (CarryClient reply) = ⊥
 
 -- The command that a request asks for, through this host and under this name.
 pub record IsAsked (r : Request) (name : List ℕ) (host : ℕ) (command : Command) : Type 0 where
