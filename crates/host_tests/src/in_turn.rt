@@ -1,5 +1,5 @@
 ghost use Rattle.std.specs.Prelude.{◌≡◌, false};
-ghost use Rattle.lock_command.specs.Command.{is_quiet};
+ghost use Rattle.lock_command.specs.Command.{is_carried, is_quiet};
 
 use crate::replies::{GRANTED, QUEUED};
 use at_once::{Turns, submit_in_turn};
@@ -14,7 +14,8 @@ use std::test::Fail;
 
 // A lock on a name, for a client alone.
 fn exclusive(lock: LockNumber, name: LockName) -> Action
-    ensures { is_quiet result ≡ false }
+    ensures loud { is_quiet result ≡ false }
+    ensures asked { is_carried result ≡ false }
 {
     Action::Enqueue {
         lock,

@@ -1,5 +1,5 @@
 ghost use Rattle.std.specs.Prelude.{◌≡◌, ◌≤◌, IfSome, true, false};
-ghost use Rattle.lock_command.specs.Command.{is_quiet, is_submittable};
+ghost use Rattle.lock_command.specs.Command.{is_carried, is_quiet, is_submittable};
 ghost use Rattle.cluster.specs.Opening.{IsNamed};
 
 use crate::looked::mark_once;
@@ -836,7 +836,7 @@ fn turn(host: HostNumber, round: u16) -> Option<Command>
 }
 
 fn action_in(round: u16, lock: LockNumber) -> Option<Action>
-    ensures { IfSome result (λ action. is_quiet action ≡ false) }
+    ensures { IfSome result (λ action. (is_quiet action ≡ false) × (is_carried action ≡ false)) }
 {
     if round % 2 == 0 {
         return Some(Action::Release { lock, value: None });
