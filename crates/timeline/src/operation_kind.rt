@@ -19,11 +19,12 @@ impl OperationKind {
     /// What a submission of this asks for.
     pub fn of(action: &Action) -> OperationKind {
         match action {
-            Action::Enqueue { .. } => OperationKind::Enqueue,
+            // Nobody submits what is carried over.
+            Action::Enqueue { .. } | Action::CarryLock { .. } => OperationKind::Enqueue,
             Action::Convert { .. } => OperationKind::Convert,
             Action::Release { .. } => OperationKind::Release,
             Action::Cancel(_) => OperationKind::Cancel,
-            Action::Status(_) => OperationKind::Status,
+            Action::Status(_) | Action::CarryClient(_) => OperationKind::Status,
             Action::Purge(_) | Action::QuietPurge(_) => OperationKind::Purge,
         }
     }
