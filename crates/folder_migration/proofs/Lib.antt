@@ -3,4 +3,5 @@ pub mod OldOpening
 pub mod Opened
 pub mod Recovering
 pub mod Renewing
+pub mod RenewingFolders
 pub mod Writing

@@ -4,4 +4,5 @@ pub mod Moving
 pub mod OldFolders
 pub mod Recovery
 pub mod Renewing
+pub mod RenewingFolders
 pub mod Writing
