@@ -1,5 +1,5 @@
 -- A renewal of a folder, by what it came to over the host that recovered.
-use Rattle.std.proofs.Common.{◌≡◌, ℕ, List, length, Result, Ok, Err, IfErr, refl, sym, ◌∙◌, subst, inl}
+use Rattle.std.proofs.Common.{◌≡◌, ℕ, List, length, Result, Ok, Err, IfErr, sym, ◌∙◌, subst, inl}
 use Rattle.disk.specs.FileStates.{FileState, FileGives}
 use Rattle.disk.specs.Disk.{Call, Answer}
 use Rattle.lock_command.specs.declared.command.Command.{Command}

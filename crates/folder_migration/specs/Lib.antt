@@ -1,3 +1,4 @@
+pub mod Filling
 pub mod Gates
 pub mod Migrating
 pub mod Moving

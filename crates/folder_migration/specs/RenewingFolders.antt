@@ -3,11 +3,9 @@ use Rattle.std.specs.Prelude.{◌≡◌, ◌⊎◌, ℕ, List, length, Some}
 use Rattle.disk.specs.FileStates.{FileState, FileGives}
 use Rattle.disk.specs.declared.fault.DiskFault.{DiskFault}
 use Rattle.slot_log.specs.Shape.{Shape}
-use Rattle.lock_command.specs.declared.command.Command.{Command}
 use Rattle.host.specs.Host.{Recovering, fresh}
 use Rattle.host.specs.Kept as hosts
 use Rattle.host.specs.declared.answer.HostAnswer.TheVariants as answer
-use Rattle.migration.specs.declared.end.End.{End}
 use Rattle.migration.specs.declared.end.End.TheVariants as end
 use Rattle.dlm_images.specs.Folders.{IsLockFault, IsOpened}
 use Rattle.dlm_images.specs.Operations.{HasOperated, Standing}

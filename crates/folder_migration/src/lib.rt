@@ -3,6 +3,7 @@
 
 mod device;
 mod fault;
+mod fill;
 mod finishing;
 mod gate;
 mod image;
@@ -18,6 +19,7 @@ mod renewal;
 mod successor;
 
 pub use fault::MoveFault;
+pub use fill::{FillFault, fill_log};
 pub use finishing::{finish, finish_left, has_gate};
 pub use gate::{Gate, find_gate, gate_in, leave_open, open_gate, sync_gate};
 pub use image::clear;
