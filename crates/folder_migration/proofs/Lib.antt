@@ -1,6 +1,8 @@
 pub mod Calling
+pub mod Filling
 pub mod OldOpening
 pub mod Opened
 pub mod Recovering
 pub mod Renewing
+pub mod RenewingFolders
 pub mod Writing

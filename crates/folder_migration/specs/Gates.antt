@@ -112,20 +112,28 @@ pub record FirstBecame {D : Type 0} (becomes : ℕ → D → D → Type 0) (n : 
 abbrev pub FindsOf : {D : Type 0} → (D → Call → Answer → D → Type 0) → (D → Device) → Shape → (cluster : ℕ) → Gate → ℕ → D → D → Type 0
 FindsOf gives device config cluster gate disk old new = Finds gives (header_of config cluster disk) (device old).size old new gate
 
+-- of none of the first so many this is found
+abbrev pub HaveNoGate : {D : Type 0} → (D → Call → Answer → D → Type 0) → (D → Device) → Shape → (cluster : ℕ) → Gate → (n : ℕ) → (old new : List D) → Type 0
+HaveNoGate gives device config cluster gate n = FirstBecame (λ disk old new. (other : Gate) × ¬ (other ≡ gate) × FindsOf gives device config cluster other disk old new) n
+
 -- no gate of the first so many is open
 abbrev pub HaveNoOpenGate : {D : Type 0} → (D → Call → Answer → D → Type 0) → (D → Device) → Shape → (cluster n : ℕ) → (old new : List D) → Type 0
-HaveNoOpenGate gives device config cluster n = FirstBecame (λ disk old new. (gate : Gate) × ¬ (gate ≡ Open) × FindsOf gives device config cluster gate disk old new) n
+HaveNoOpenGate gives device config cluster = HaveNoGate gives device config cluster Open
 
--- The images were looked at up to one whose gate is open. Those before it have none, and those after it are as they were.
-pub record HasOpenGate {D : Type 0} (gives : D → Call → Answer → D → Type 0) (device : D → Device) (config : Shape) (cluster : ℕ) (old new : List D) : Type 0 where
+-- The images were looked at up to one of which this is found. Of those before it this is not found, and those after it are as they were.
+pub record HasGate {D : Type 0} (gives : D → Call → Answer → D → Type 0) (device : D → Device) (config : Shape) (cluster : ℕ) (gate : Gate) (old new : List D) : Type 0 where
   pub disk : ℕ
   pub now : List D
-  pub before_it : HaveNoOpenGate gives device config cluster disk old now
+  pub before_it : HaveNoGate gives device config cluster gate disk old now
   pub image : D
   pub looked : D
   pub is : slice_get now disk ≡ Some image
-  pub found : FindsOf gives device config cluster Open disk image looked
+  pub found : FindsOf gives device config cluster gate disk image looked
   pub new_is : new ≡ slice_set now disk looked
+
+-- up to one whose gate is open
+abbrev pub HasOpenGate : {D : Type 0} → (D → Call → Answer → D → Type 0) → (D → Device) → Shape → (cluster : ℕ) → (old new : List D) → Type 0
+HasOpenGate gives device config cluster = HasGate gives device config cluster Open
 
 -- the first so many were left open
 abbrev pub AreLeftOpen : {D : Type 0} → (D → Call → Answer → D → Type 0) → (D → Device) → Shape → (cluster n : ℕ) → (old new : List D) → Type 0
@@ -141,3 +149,27 @@ pub record IsStopped {D : Type 0} (gives : D → Call → Answer → D → Type 
   pub is : slice_get now disk ≡ Some image
   pub left_unsure : IsLeftUnsure gives (header_of config cluster disk) (device image).size image fault left
   pub new_is : new ≡ slice_set now disk left
+
+-- WHAT IS LEFT OF A RUN
+
+-- A gate was open, and another one closed. Each was left open.
+pub record AreFinishedFrom {D : Type 0} (gives : D → Call → Answer → D → Type 0) (device : D → Device) (config : Shape) (cluster : ℕ) (old new : List D) : Type 0 where
+  pub looked : List D
+  pub again : List D
+  pub begun : HasGate gives device config cluster Open old looked
+  pub left : HasGate gives device config cluster Closed looked again
+  pub left_open : AreLeftOpen gives device config cluster config.disks again new
+
+-- No gate was open, or one was and none was closed.
+abbrev pub HaveNothingLeft : {D : Type 0} → (D → Call → Answer → D → Type 0) → (D → Device) → Shape → (cluster : ℕ) → (old new : List D) → Type 0
+HaveNothingLeft {D} gives device config cluster old new =
+    HaveNoGate gives device config cluster Open config.disks old new
+    ⊎ ((looked : List D) × HasGate gives device config cluster Open old looked × HaveNoGate gives device config cluster Closed config.disks looked new)
+
+-- One was open, and another one closed. Of one nobody made sure, for this fault.
+pub record AreStoppedFrom {D : Type 0} (gives : D → Call → Answer → D → Type 0) (device : D → Device) (config : Shape) (cluster : ℕ) (old : List D) (fault : DiskFault) (new : List D) : Type 0 where
+  pub looked : List D
+  pub again : List D
+  pub begun : HasGate gives device config cluster Open old looked
+  pub left : HasGate gives device config cluster Closed looked again
+  pub stopped : IsStopped gives device config cluster again fault new

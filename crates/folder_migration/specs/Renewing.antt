@@ -10,10 +10,10 @@ use Rattle.lock_table.specs.Picture.{Shown, IsPictureOf}
 use Rattle.migration.specs.Kept.{setup_by}
 use Rattle.migration.specs.declared.end.End.{End}
 use Rattle.migration.specs.declared.end.End.TheVariants as end
-use Rattle.dlm_images.specs.declared.fault.FolderFault.{FolderFault}
 use Rattle.folder_migration.specs.Moving.{HasMoved}
-use Rattle.folder_migration.specs.declared.fault.MoveFault.{MoveFault}
-use Rattle.folder_migration.specs.declared.fault.MoveFault.TheVariants.{NoMemory, Folder, TooFewSlots, Lock, Refused, MigrationFailed}
+use Rattle.folder_migration.specs.declared.renew_fault.NewFault.{NewFault}
+use Rattle.folder_migration.specs.declared.renew_fault.RenewFault.{RenewFault}
+use Rattle.folder_migration.specs.declared.renew_fault.RenewFault.TheVariants.{NoMemory, Old, SameCluster, Lock, Refused, NotFull, TooFewSlots, New, RenewalFailed}
 
 -- The table after these commands was carried over onto disks that were made, up to this end.
 pub record Carries {E : Type 0} (gives : E → Call → Answer → E → Type 0) (makes : List E → Type 0) (config : Shape) (cluster : ℕ) (learned : List Command) (commands : ℕ) (end : End) : Type 0 where
@@ -26,11 +26,18 @@ pub record Carries {E : Type 0} (gives : E → Call → Answer → E → Type 0)
   pub commands_is : commands ≡ length (carried_over shown)
   pub free : commands < config.slots
 
+-- what carries over the table after these commands takes as many slots as there are, or more
+abbrev pub HasTooFewSlots : ℕ → List Command → Type 0
+HasTooFewSlots slots learned = (shown : Shown) × IsPictureOf shown (table_after learned) × (slots ≤ length (carried_over shown))
+
 -- why it stops: no memory; too few slots for what is carried over; no disks are made; a call on those fails
-abbrev pub StopsRenewing : {E : Type 0} → (E → Call → Answer → E → Type 0) → (makes : List E → Type 0) → (fails : FolderFault → Type 0) → (config : Shape) → (cluster : ℕ) → (learned : List Command) → MoveFault → Type 0
+abbrev pub StopsRenewing : {E : Type 0} → (E → Call → Answer → E → Type 0) → (makes : List E → Type 0) → (fails : NewFault → Type 0) → (config : Shape) → (cluster : ℕ) → (learned : List Command) → RenewFault → Type 0
 StopsRenewing gives makes fails config cluster learned NoMemory = Unit {0}
-StopsRenewing gives makes fails config cluster learned TooFewSlots = (shown : Shown) × IsPictureOf shown (table_after learned) × (config.slots ≤ length (carried_over shown))
-StopsRenewing gives makes fails config cluster learned (Folder fault) = fails fault
-StopsRenewing gives makes fails config cluster learned MigrationFailed = (commands : ℕ) × Carries gives makes config cluster learned commands end.MigrationFailed
-StopsRenewing gives makes fails config cluster learned (Refused refusal) = ⊥
+StopsRenewing gives makes fails config cluster learned TooFewSlots = HasTooFewSlots config.slots learned
+StopsRenewing gives makes fails config cluster learned (New fault) = fails fault
+StopsRenewing gives makes fails config cluster learned RenewalFailed = (commands : ℕ) × Carries gives makes config cluster learned commands end.MigrationFailed
+StopsRenewing gives makes fails config cluster learned (Old fault) = ⊥
+StopsRenewing gives makes fails config cluster learned SameCluster = ⊥
 StopsRenewing gives makes fails config cluster learned (Lock fault) = ⊥
+StopsRenewing gives makes fails config cluster learned (Refused refusal) = ⊥
+StopsRenewing gives makes fails config cluster learned NotFull = ⊥

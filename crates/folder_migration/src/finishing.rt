@@ -1,26 +1,47 @@
-ghost use Rattle.std.specs.Prelude.{◌≡◌, true, false, IfErr, OnOk, length};
+ghost use Rattle.std.specs.Prelude.{◌≡◌, true, false, IfErr, IfOk, OnOk, length};
 ghost use Rattle.dlm_images.specs.Layout.{header_of};
-ghost use Rattle.folder_migration.specs.Gates.{HasOpenGate, HaveNoOpenGate, AreLeftOpen, IsStopped};
+ghost use Rattle.folder_migration.specs.Gates.{AreFinishedFrom, AreLeftOpen, AreStoppedFrom, HasGate, HaveNoGate, HaveNothingLeft, IsStopped};
 
 use crate::gate::{Gate, find_gate, leave_open};
 use disk::{Disk, DiskFault};
 use host::Config;
 use paxos_block::Header;
 
-/// Whether the gate of some new image is open. Once one is found, no other is looked at.
-pub fn is_begun<D: Disk>(config: Config, cluster: u64, images: &mut [D]) -> bool
+/// Whether the gate of some new image is found so. Once one is, no other is looked at.
+pub fn has_gate<D: Disk>(config: Config, cluster: u64, images: &mut [D], gate: Gate) -> bool
     requires as_many { length images.old ≡ config.disks }
-    ensures begun { result ≡ true → HasOpenGate D.gives D.device config cluster images.old images.new }
-    ensures none { result ≡ false → HaveNoOpenGate D.gives D.device config cluster config.disks images.old images.new }
+    ensures found { result ≡ true → HasGate D.gives D.device config cluster gate images.old images.new }
+    ensures none { result ≡ false → HaveNoGate D.gives D.device config cluster gate config.disks images.old images.new }
     ensures as_many { length images.new ≡ length images.old }
 {
     for disk in 0..config.disks() {
         let header = new_header(config, cluster, disk);
-        if find_gate(&mut images[usize::from(disk)], &header) == Gate::Open {
+        if find_gate(&mut images[usize::from(disk)], &header) == gate {
             return true;
         }
     }
     false
+}
+
+/// Opens the gates that are left of a run which was ended between two of them. Whether there was one is the result.
+pub fn finish_left<D: Disk>(
+    config: Config,
+    cluster: u64,
+    images: &mut [D],
+) -> Result<bool, DiskFault>
+    requires as_many { length images.old ≡ config.disks }
+    ensures finished { IfOk result (λ finished. finished ≡ true → AreFinishedFrom D.gives D.device config cluster images.old images.new) }
+    ensures none { IfOk result (λ finished. finished ≡ false → HaveNothingLeft D.gives D.device config cluster images.old images.new) }
+    ensures stopped { IfErr result (λ fault. AreStoppedFrom D.gives D.device config cluster images.old fault images.new) }
+{
+    if !has_gate(config, cluster, images, Gate::Open) {
+        return Ok(false);
+    }
+    if !has_gate(config, cluster, images, Gate::Closed) {
+        return Ok(false);
+    }
+    finish(config, cluster, images)?;
+    Ok(true)
 }
 
 /// Opens the gates of the images that are complete but for them, and makes sure of those that are open. Where that fails, no other is looked at.

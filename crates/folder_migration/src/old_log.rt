@@ -16,7 +16,7 @@ use std::alloc::Global;
 use torn_block::{DISKS, Layout1, SLOTS};
 
 /// How often the recovery may be outrun.
-const TRIES: u8 = 8;
+pub const TRIES: u8 = 8;
 
 /// No recovery has more steps: each of its attempts makes 17 calls a disk at most, and then a value that it found may be judged.
 /// Each attempt learns a slot, or uses one of the tries, or is the last.

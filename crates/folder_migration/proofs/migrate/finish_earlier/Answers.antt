@@ -12,10 +12,10 @@ written_back n new old is = ap (λ (m : ℕ). take m (new ++ drop (length new) o
 pub returns-clause-fault : goal.returns-clause-fault
 returns-clause-fault g c =
     let images = c.in_ok-images.images in
-    let looked = c.is_begun.new.images in
-    let long : images.len ≡ length looked = omega (arith, c.is_begun.ensures.as_many, c.deref_mut.ensures.len) in
+    let looked = c.has_gate.new.images in
+    let long : images.len ≡ length looked = omega (arith, c.has_gate.ensures.as_many, c.deref_mut.ensures.len) in
     let same = c.deref_mut-2.ensures.value ∙ written_back images.len looked images.items long in
-    let open_one : c.is_begun.result ≡ true = search rules in
+    let open_one : c.has_gate.result ≡ true = search rules in
     inr (
       refl,
       record {
@@ -24,7 +24,7 @@ returns-clause-fault g c =
         left = c.finish.new.images;
         fault = c.in-Err.field-0;
         as_many = ap length c.deref_mut.ensures.value ∙ c.in_ok-images.ensures.as_many;
-        begun = subst (λ (now : List FileState). HasOpenGate FileGives file_device c.args.config c.args.cluster c.deref_mut.result.now now) (sym same) (c.is_begun.ensures.begun open_one);
+        begun = subst (λ (now : List FileState). HasOpenGate FileGives file_device c.args.config c.args.cluster c.deref_mut.result.now now) (sym same) (c.has_gate.ensures.found open_one);
         stopped = c.in-Err.ensures.stopped;
       },
     )

@@ -7,12 +7,12 @@ pub returns-in-Migrated-clause-renewed : goal.returns-in-Migrated-clause-renewed
 returns-in-Migrated-clause-renewed g c =
     let free : c.len-commands.result < c.args.config.slots = omega (arith, c.if-len-from.false, c.len.ensures, c.from.ensures, c.slots.ensures.value, c.len-commands.ensures) in
     carries g.E.Disk.gives _ c.args.config c.args.cluster c.args.host.now.core.prefix c.table.result.now c.in-Ok.log.items c.in_ok-images.images.items c.deref_mut.result.now c.move_log.new.disks
-    c.len-commands.result Migrated c.table.ensures c.in-Ok.ensures.commands (c.in_ok-images.images, c.in_ok-images.ensures, refl) c.deref_mut.ensures.value c.in-Migrated.ensures.moved (omega arith) free
+    c.len-commands.result Migrated c.table.ensures c.in-Ok.ensures.commands ((c.in_ok-images.images, c.in_ok-images._kept), c.in_ok-images.ensures, refl) c.deref_mut.ensures.value c.in-Migrated.ensures.moved (omega arith) free
 
 pub returns-clause-stopped : goal.returns-clause-stopped
 returns-clause-stopped g c =
     let free : c.len-commands.result < c.args.config.slots = omega (arith, c.if-len-from.false, c.len.ensures, c.from.ensures, c.slots.ensures.value, c.len-commands.ensures) in (
       c.len-commands.result,
       carries g.E.Disk.gives _ c.args.config c.args.cluster c.args.host.now.core.prefix c.table.result.now c.in-Ok.log.items c.in_ok-images.images.items c.deref_mut.result.now c.move_log.new.disks
-          c.len-commands.result MigrationFailed c.table.ensures c.in-Ok.ensures.commands (c.in_ok-images.images, c.in_ok-images.ensures, refl) c.deref_mut.ensures.value c.in-MigrationFailed.ensures.moved (omega arith) free,
+          c.len-commands.result MigrationFailed c.table.ensures c.in-Ok.ensures.commands ((c.in_ok-images.images, c.in_ok-images._kept), c.in_ok-images.ensures, refl) c.deref_mut.ensures.value c.in-MigrationFailed.ensures.moved (omega arith) free,
     )

@@ -1,5 +1,5 @@
 use Rattle.std.proofs.Common.{◌≡◌, ◌≤◌, length, vec_capacity}
-use Rattle.folder_migration.proofs.migrate.open_new_folder.Given as goal
+use Rattle.folder_migration.proofs.new_folder.open_new_folder.Given as goal
 
 abbrev pub invariant-loop-disk : goal.invariant-loop-disk
 invariant-loop-disk g l = record {

@@ -1,0 +1,141 @@
+ghost use Rattle.std.specs.Prelude.{◌≡◌, ◌<◌, IfOk, IfErr, length};
+ghost use Rattle.paxos_block.specs.Places.{image_length};
+ghost use Rattle.dlm_images.specs.SetFaults.{IsFormatFault};
+ghost use Rattle.folder_migration.specs.Migrating.{AreBlank, IsBlank};
+
+use crate::image::clear;
+use disk::{FileDisk, ImageFault};
+use dlm_images::{
+    Access, FolderFault, image_path, is_taken, new_device, open_as_told, sync_folder,
+};
+use host::Config;
+use lock_command::HostNumber;
+use std::fs::OpenFile;
+use std::os::unix::fs::FileExt;
+use std::rt::Files;
+
+/// The host that writes new images: a log that is moved is as this host would have left it.
+pub fn first_host() -> HostNumber
+    ensures { result ≡ 0 }
+{
+    match HostNumber::new(0) {
+        Some(host) => host,
+        None => unreachable!(),
+    }
+}
+
+/// The disks of the new images. Of one that cannot be opened every call fails.
+pub fn open_new_folder<R: Files + AllocGlobal>(
+    rt: &R,
+    folder: &str,
+    config: Config,
+) -> Result<Vec<FileDisk<R::File>>, FolderFault>
+where
+    R::File: FileExt + OpenFile + Drop,
+    ensures as_many { IfOk result (λ images. length images.items ≡ config.disks) }
+    ensures fault { IfErr result (λ fault. fault ≡ FolderFault.NoMemory) }
+{
+    let mut images = Vec::with_capacity(rt.alloc(), usize::from(config.disks()))?;
+    for disk in 0..config.disks() {
+        let path = image_path(rt.alloc(), folder, disk)?;
+        let image = open_as_told(rt, path.as_str(), Access::ReadAndWrite).unwrap_or_else(
+            |_| FileDisk::missing(0),
+        );
+        images.push_reserved(image);
+    }
+    Ok(images)
+}
+
+/// Makes the new images of zeros, if none of them is there.
+pub fn make_free_images<R: Files + AllocGlobal>(
+    rt: &R,
+    folder: &str,
+    config: Config,
+) -> Result<Vec<FileDisk<R::File>>, FolderFault>
+where
+    R::File: FileExt + OpenFile + Drop,
+    ensures blank { IfOk result (λ images. AreBlank config images.items) }
+    ensures fault { IfErr result (IsFormatFault config.disks) }
+{
+    refuse_taken(rt, folder, config)?;
+    make_images(rt, folder, config)
+}
+
+/// Refuses a folder where one of the new images is there.
+pub fn refuse_taken<R: Files + AllocGlobal>(
+    rt: &R,
+    folder: &str,
+    config: Config,
+) -> Result<(), FolderFault>
+where
+    R::File: FileExt + OpenFile + Drop,
+    ensures fault { IfErr result (IsFormatFault config.disks) }
+{
+    for disk in 0..config.disks() {
+        let path = image_path(rt.alloc(), folder, disk)?;
+        let taken = is_taken(rt, path.as_str(), config.image_length()).map_err(
+            |fault| FolderFault::Image { disk, fault },
+        )?;
+        if taken {
+            return Err(FolderFault::AlreadyThere);
+        }
+    }
+    Ok(())
+}
+
+/// Makes the new images of zeros.
+pub fn make_images<R: Files + AllocGlobal>(
+    rt: &R,
+    folder: &str,
+    config: Config,
+) -> Result<Vec<FileDisk<R::File>>, FolderFault>
+where
+    R::File: FileExt + OpenFile + Drop,
+    ensures blank { IfOk result (λ images. AreBlank config images.items) }
+    ensures fault { IfErr result (IsFormatFault config.disks) }
+{
+    let mut images = Vec::with_capacity(rt.alloc(), usize::from(config.disks()))?;
+    for disk in 0..config.disks() {
+        let image = make_image(rt, folder, config, disk)?;
+        images.push_reserved(image);
+    }
+    Ok(images)
+}
+
+/// Makes the new image of this number, of zeros.
+fn make_image<R: Files + AllocGlobal>(
+    rt: &R,
+    folder: &str,
+    config: Config,
+    disk: u8,
+) -> Result<FileDisk<R::File>, FolderFault>
+where
+    R::File: FileExt + OpenFile + Drop,
+    requires { disk < config.disks }
+    ensures blank { IfOk result (IsBlank (image_length config.slots)) }
+    ensures fault { IfErr result (IsFormatFault config.disks) }
+{
+    let path = image_path(rt.alloc(), folder, disk)?;
+    make_zeros(rt, folder, path.as_str(), config.image_length()).map_err(
+        |fault| FolderFault::Image { disk, fault },
+    )
+}
+
+/// A new file of so many zeros, or a block device that begins with them. Its name is made sure of, too.
+fn make_zeros<R: Files>(
+    files: &R,
+    folder: &str,
+    path: &str,
+    size: u64,
+) -> Result<FileDisk<R::File>, ImageFault>
+where
+    R::File: FileExt + OpenFile + Drop,
+    ensures blank { IfOk result (IsBlank size) }
+    ensures fault { IfErr result (λ fault. fault ≡ ImageFault.Unreadable) }
+{
+    let mut device = new_device(files, path, size)?;
+    if clear(&mut device, size).is_err() || sync_folder(files, folder).is_err() {
+        return Err(ImageFault::Unreadable);
+    }
+    Ok(device)
+}

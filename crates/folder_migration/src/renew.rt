@@ -1,0 +1,153 @@
+ghost use Rattle.std.specs.Prelude.{◌≡◌, ◌⊎◌, IfOk, IfErr, length, true, false};
+ghost use Rattle.disk.specs.FileStates.{FileGives};
+ghost use Rattle.host.specs.Host.{Recovering};
+ghost use Rattle.dlm_images.specs.Operations.{HasOperated};
+ghost use Rattle.migration.specs.declared.end.End.TheVariants.{Migrated};
+ghost use Rattle.folder_migration.specs.Migrating.{AreBlank};
+ghost use Rattle.folder_migration.specs.Renewing.{Carries};
+ghost use Rattle.folder_migration.specs.RenewingFolders.{AreLeftFinished, AreLeftUnfinished, CameToRenew, EndsOver, IsNewFault, MayNotRenew, NothingIsLeft};
+ghost use Rattle.folder_migration.specs.declared.old_log.TheConstants.{TRIES};
+
+use crate::finishing::finish_left;
+use crate::new_folder::{first_host, make_images, open_new_folder, refuse_taken};
+use crate::old_log::TRIES;
+use crate::renew_fault::{NewFault, RenewFault};
+use crate::renewal::renew_disks;
+use crate::successor::{name_successor, names_successor, successor_line};
+use disk::FileDisk;
+use dlm_images::{DiskHost, TryLock, lock_host, open_folder};
+use host::Config;
+use lock_command::HostNumber;
+use std::fs::OpenFile;
+use std::os::unix::fs::FileExt;
+use std::rt::Files;
+
+/// What came of a renewal.
+#[derive(Clone, Copy, Debug, PartialEq, Eq)]
+pub enum Renewed {
+    /// So many commands carry the table over onto so many new images.
+    Renewed { commands: u16, disks: u8 },
+    /// An earlier run was ended between two gates, so all new images were complete. Now the gates of the others are open, too, and all are synced.
+    Finished { disks: u8 },
+}
+
+/// Carries the table after a full log over into a new folder. It works as this host of the old cluster, beside others.
+///
+/// The old folder names its successor from then on. A second run goes on only with the same words.
+pub fn renew_folder<R: Files + AllocGlobal>(
+    rt: &R,
+    old: &str,
+    host: HostNumber,
+    new: &str,
+    config: Config,
+    cluster: u64,
+) -> Result<Renewed, RenewFault>
+where
+    R::File: FileExt + OpenFile + TryLock + Drop,
+    ensures came_to { IfOk result (CameToRenew host config cluster) }
+    ensures fault { IfErr result (MayNotRenew host config cluster) }
+{
+    let images = open_folder(rt, old)?;
+    if images.cluster == cluster {
+        return Err(RenewFault::SameCluster);
+    }
+    let Ok(line) = successor_line(rt.alloc(), new, config, cluster) else {
+        return Err(RenewFault::NoMemory);
+    };
+    let named = names_successor(rt, old, line.as_str())?;
+    let disks = config.disks();
+    // Nothing is made of a set before it is named. So what else looks like a run that was ended, as a `format` that was, is none.
+    if named && finish_renewal(rt, new, config, cluster)? {
+        return Ok(Renewed::Finished { disks });
+    }
+    let _lock = lock_host(rt, old, host)?;
+    let slots = images.config.slots();
+    let mut over = images.host(rt.alloc(), host)?;
+    let commands = renew_over(
+        rt,
+        &mut over,
+        slots,
+        old,
+        line.as_str(),
+        new,
+        config,
+        cluster,
+    )?;
+    Ok(Renewed::Renewed { commands, disks })
+}
+
+/// Opens the gates that are left of a run which was ended between two of them. Whether there was one is the result.
+fn finish_renewal<R: Files + AllocGlobal>(
+    rt: &R,
+    folder: &str,
+    config: Config,
+    cluster: u64,
+) -> Result<bool, RenewFault>
+where
+    R::File: FileExt + OpenFile + Drop,
+    ensures finished { IfOk result (λ finished. finished ≡ true → AreLeftFinished config cluster) }
+    ensures none { IfOk result (λ finished. finished ≡ false → NothingIsLeft config cluster) }
+    ensures fault { IfErr result (λ fault. (fault ≡ RenewFault.NoMemory) ⊎ ((fault ≡ RenewFault.RenewalFailed) × AreLeftUnfinished config cluster)) }
+{
+    let Ok(mut images) = open_new_folder(rt, folder, config) else {
+        return Err(RenewFault::NoMemory);
+    };
+    match finish_left(config, cluster, &mut images) {
+        Ok(finished) => Ok(finished),
+        Err(_) => Err(RenewFault::RenewalFailed),
+    }
+}
+
+// What is done through a host is a function of its own, to which the host is lent: who owns one drops it on each way out.
+
+/// Recovers the old log, which has so many slots, and carries its table over once all of them are learned.
+fn renew_over<R: Files + AllocGlobal>(
+    rt: &R,
+    host: &mut DiskHost<FileDisk<R::File>>,
+    slots: u16,
+    old: &str,
+    line: &str,
+    new: &str,
+    config: Config,
+    cluster: u64,
+) -> Result<u16, RenewFault>
+where
+    R::File: FileExt + OpenFile + TryLock + Drop,
+    ensures recovered { HasOperated FileGives Recovering TRIES host.old host.new }
+    ensures full { IfOk result (λ commands. length host.new.core.prefix ≡ slots) }
+    ensures renewed { IfOk result (λ commands. Carries FileGives (AreBlank config) config cluster host.new.core.prefix commands Migrated) }
+    ensures stopped { IfErr result (EndsOver slots config cluster host.new) }
+{
+    host.recover(TRIES)?;
+    if host.learned() != slots {
+        return Err(RenewFault::NotFull);
+    }
+    renew_disks(
+        rt.alloc(),
+        host,
+        config,
+        cluster,
+        || make_successor(rt, old, line, new, config),
+    )
+}
+
+/// Names the successor of the old folder and makes its images of zeros, if none of them is there. The file that is given keeps others from
+/// working there as host 0, which is the one that writes new images.
+fn make_successor<R: Files + AllocGlobal>(
+    rt: &R,
+    old: &str,
+    line: &str,
+    new: &str,
+    config: Config,
+) -> Result<(Vec<FileDisk<R::File>>, R::File), NewFault>
+where
+    R::File: FileExt + OpenFile + TryLock + Drop,
+    ensures blank { IfOk result (λ made. AreBlank config made.0.items) }
+    ensures fault { IfErr result (IsNewFault config.disks) }
+{
+    refuse_taken(rt, new, config)?;
+    name_successor(rt, old, line)?;
+    let images = make_images(rt, new, config)?;
+    let lock = lock_host(rt, new, first_host())?;
+    Ok((images, lock))
+}

@@ -1,0 +1,105 @@
+ghost use Rattle.std.specs.Prelude.{◌≡◌, IfErr};
+ghost use Rattle.folder_migration.specs.RenewingFolders.{IsNamingFault};
+
+use crate::renew_fault::NewFault;
+use dlm_images::{FolderFault, TryLock, sync_folder};
+use host::Config;
+use std::alloc::{AllocError, Global};
+use std::fs::{OpenFile, OpenOptions, TryLockError};
+use std::io::Write;
+use std::path::{Path, PathBuf};
+use std::rt::Files;
+use std::{fs, io};
+
+/// The file of a folder that names the set into which the folder's log was renewed.
+const NAME: &str = "renewed";
+
+/// The line by which a folder names its successor.
+pub fn successor_line(
+    alloc: Global,
+    new: &str,
+    config: Config,
+    cluster: u64,
+) -> Result<String, AllocError> {
+    let disks = config.disks();
+    let slots = config.slots();
+    format!(in alloc; "{new} {disks} {slots} {cluster}\n")
+}
+
+/// Refuses a folder that names another successor. Whether it names this one is the result.
+///
+/// A line that has no end was written by a run that was ended before it made anything, so it names none.
+pub fn names_successor<R: Files + AllocGlobal>(
+    rt: &R,
+    folder: &str,
+    line: &str,
+) -> Result<bool, NewFault>
+    ensures fault { IfErr result IsNamingFault }
+{
+    let path = successor_path(rt.alloc(), folder)?;
+    match fs::read_to_string(rt, path.as_str()) {
+        Ok(named) => of_named(named.as_str(), line),
+        Err(error) => match error.kind() {
+            io::ErrorKind::NotFound => Ok(false),
+            io::ErrorKind::OutOfMemory => Err(NewFault::Folder(FolderFault::NoMemory)),
+            _ => Err(NewFault::NotNamed),
+        },
+    }
+}
+
+fn of_named(named: &str, line: &str) -> Result<bool, NewFault>
+    ensures fault { IfErr result IsNamingFault }
+{
+    if named == line {
+        Ok(true)
+    } else if named.ends_with('\n') {
+        Err(NewFault::RenewedElsewhere)
+    } else {
+        Ok(false)
+    }
+}
+
+/// Names the successor of a folder, and makes sure of it, before anything of the successor is made.
+pub fn name_successor<R: Files + AllocGlobal>(
+    rt: &R,
+    folder: &str,
+    line: &str,
+) -> Result<(), NewFault>
+where
+    R::File: OpenFile + TryLock,
+    ensures fault { IfErr result IsNamingFault }
+{
+    let path = successor_path(rt.alloc(), folder)?;
+    let Ok(mut file) = OpenOptions::new()
+        .read(true)
+        .write(true)
+        .create(true)
+        .open(rt, path.as_str())
+    else {
+        return Err(NewFault::NotNamed);
+    };
+    // Of two runs that name one at once the second finds the first one's line, or is refused here.
+    match file.try_lock() {
+        Ok(()) => {}
+        Err(TryLockError::WouldBlock) => return Err(NewFault::RenewedElsewhere),
+        Err(TryLockError::Error(_)) => return Err(NewFault::NotNamed),
+    }
+    let named = names_successor(rt, folder, line)?;
+    if write_line(&mut file, named, line).is_err() || sync_folder(rt, folder).is_err() {
+        return Err(NewFault::NotNamed);
+    }
+    Ok(())
+}
+
+/// Writes the line in place of what a run that was ended left of its own, unless it is there.
+fn write_line<F: Write + OpenFile>(file: &mut F, named: bool, line: &str) -> io::Result<()> {
+    if !named {
+        file.set_len(0)?;
+        file.write_all(line.as_bytes())?;
+    }
+    file.sync_all()
+}
+
+fn successor_path(alloc: Global, folder: &str) -> Result<PathBuf, AllocError> {
+    Path::new(folder).join(alloc, NAME)
+}
