@@ -35,8 +35,8 @@ expect() {
     fi
 }
 
-expect 'dlm ' '<check> <format> <mark> <migrate> <race> <run> <submit> <sweep> <table>'
-expect 'dlm f' '<format>'
+expect 'dlm ' '<check> <fill> <format> <mark> <migrate> <race> <renew> <run> <submit> <sweep> <table>'
+expect 'dlm f' '<fill> <format>'
 expect 'dlm race ' '<race> <1> <2> <3> <4> <5> <6> <7> <8> <9> <10> <11> <12> <13> <14> <15> <16>'
 expect 'dlm run o' '<run> <one.dlm>'
 expect 'dlm sweep o' '<sweep> <one.dlm>'
@@ -46,6 +46,8 @@ expect 'dlm format im' '<format> <images>'
 expect 'dlm format images ' '<format> <images> <1> <2> <3> <4> <5> <6> <7>'
 expect 'dlm table images ' '<table> <images> <0> <1> <2> <3> <4> <5> <6> <7> <8> <9> <10> <11> <12> <13> <14> <15>'
 expect 'dlm migrate images ' '<migrate> <images> <images> <more images>'
+expect 'dlm renew images 1 ' '<renew> <images> <1> <images> <more images>'
+expect 'dlm renew images 1 images ' '<renew> <images> <1> <images> <1> <2> <3> <4> <5> <6> <7>'
 expect 'dlm mark images ' '<mark> <images> <0> <1> <2> <3> <4> <5> <6> <7> <8> <9> <10> <11> <12> <13> <14> <15>'
 expect 'dlm submit images 0 ' '<submit> <images> <0> <cancel> <convert> <enqueue> <purge> <release> <status>'
 expect 'dlm submit images 0 c' '<submit> <images> <0> <cancel> <convert>'
@@ -57,7 +59,7 @@ expect 'dlm submit images 0 convert 1 2 1 PW noqueue ' '<submit> <images> <0> <c
 expect 'dlm submit images 0 release 1 2 7 ' '<submit> <images> <0> <release> <1> <2> <7> <value>'
 expect 'dlm submit images 0 purge 1 2 ' '<submit> <images> <0> <purge> <1> <2> <0> <1> <2> <3> <4> <5> <6> <7> <8> <9> <10> <11> <12> <13> <14> <15>'
 expect 'dlm submit images 0 release 1 2 7' '<submit> <images> <0> <release> <1> <2> <7>'
-expect './dlm f' '<format>'
+expect './dlm fo' '<format>'
 
 # asked TYPED WORDS: fish offers these words.
 asked() {
@@ -71,7 +73,7 @@ asked() {
 }
 
 if command -v fish >/dev/null; then
-    asked 'dlm ' 'check format mark migrate race run submit sweep table'
+    asked 'dlm ' 'check fill format mark migrate race renew run submit sweep table'
     asked 'dlm table ' 'images/ more images/'
     asked 'dlm submit images 0 ' 'cancel convert enqueue purge release status'
     asked 'dlm submit images 0 enqueue 1 1 1 ' 'CR CW EX NL PR PW'

@@ -5,8 +5,8 @@ that a few lines of C stand before the C library, and where there is no C compil
 one at any, one once a new image is there, one once a gate is open. After each it looks that the next run ends it or is refused, and that no
 state of the new folder reads as a cluster that lacks a command.
 
-The old images are written here byte by byte, by docs/FORMAT.md. So are new ones whose log begins with what carries a table over: no command
-writes those yet, and each has to read them. It prints each difference, and how many there were; the status is 1 where
+The old images are written here byte by byte, by docs/FORMAT.md. So are new ones whose log begins with what carries a table over, as `dlm renew`
+writes them: each command has to read them. It prints each difference, and how many there were; the status is 1 where
 there was one. The program has to be built: `./dlm` does so.
 """
 import argparse
@@ -230,7 +230,7 @@ def empty_log():
 
 # A TABLE THAT IS CARRIED OVER
 
-# No command of the program writes such a log yet. Each reads one.
+# As `dlm renew` writes such a log. Each command reads one.
 def carried_lock(host, client, mode, flags, name, lock, state, value=b""):
     head = bytes([8, host, client, mode, flags, len(name)]) + lock.to_bytes(2, "big")
     return head + numbers(1) + bytes([state]) + name.ljust(15, b"\0") + value.ljust(16, b"\0")

@@ -2,8 +2,8 @@
 use Rattle.std.specs.Prelude.{◌+◌, ℕ, List, Option, ⊤}
 use Rattle.std.specs.Io.KnownBytes.{Appends}
 use Rattle.dlm_words.specs.declared.words.Subcommand.{Subcommand}
-use Rattle.dlm_words.specs.declared.words.Subcommand.TheVariants.{Run, Sweep, Format, Submit, Table, Mark, Check, Migrate, Race}
-use Rattle.dlm_tasks.specs.Printed.{WritesAcknowledgement, WritesMarks, WritesMove, WritesSweep, WritesTable, formatted_text}
+use Rattle.dlm_words.specs.declared.words.Subcommand.TheVariants.{Run, Sweep, Format, Submit, Table, Mark, Check, Migrate, Fill, Renew, Race}
+use Rattle.dlm_tasks.specs.Printed.{WritesAcknowledgement, WritesFilling, WritesMarks, WritesMove, WritesRenewal, WritesSweep, WritesTable, formatted_text}
 use Rattle.dlm_tasks.specs.declared.images.TheConstants.{TRIES}
 use Rattle.dlm.specs.RaceText.{WritesRace}
 
@@ -17,4 +17,6 @@ HasPrinted (Table folder host) before after = WritesTable TRIES host before afte
 HasPrinted (Mark folder host) before after = WritesMarks TRIES before after
 HasPrinted (Check folder) before after = ⊤
 HasPrinted (Migrate old new slots) before after = WritesMove slots before after
+HasPrinted (Fill folder host) before after = WritesFilling host before after
+HasPrinted (Renew old host new config cluster) before after = WritesRenewal host config cluster before after
 HasPrinted (Race last) before after = WritesRace (last + 1) before after

@@ -59,6 +59,14 @@ where
         Subcommand::Mark { folder, host } => images::mark(rt, folder, host, out),
         Subcommand::Check { folder } => images::check(rt, folder, out),
         Subcommand::Migrate { old, new, slots } => images::migrate(rt, old, new, slots, out),
+        Subcommand::Fill { folder, host } => images::fill(rt, folder, host, out),
+        Subcommand::Renew {
+            old,
+            host,
+            new,
+            config,
+            cluster,
+        } => images::renew(rt, old, host, new, config, cluster, out),
         Subcommand::Race { last } => racing::race_hosts(rt, last, out),
         Subcommand::Sweep { script } => sweep_file(rt, script, out),
     }

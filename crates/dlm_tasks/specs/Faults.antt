@@ -13,8 +13,14 @@ use Rattle.dlm_images.specs.declared.host_lock.LockFault.{LockFault}
 use Rattle.dlm_images.specs.declared.host_lock.LockFault.TheVariants as lock
 use Rattle.folder_migration.specs.declared.fault.MoveFault.{MoveFault}
 use Rattle.folder_migration.specs.declared.fault.MoveFault.TheVariants as move
+use Rattle.folder_migration.specs.declared.fill.FillFault.{FillFault}
+use Rattle.folder_migration.specs.declared.fill.FillFault.TheVariants as fill
+use Rattle.folder_migration.specs.declared.renew_fault.NewFault.{NewFault}
+use Rattle.folder_migration.specs.declared.renew_fault.NewFault.TheVariants as new
+use Rattle.folder_migration.specs.declared.renew_fault.RenewFault.{RenewFault}
+use Rattle.folder_migration.specs.declared.renew_fault.RenewFault.TheVariants as renew
 use Rattle.dlm_tasks.specs.declared.fault.Fault.{Fault}
-use Rattle.dlm_tasks.specs.declared.fault.Fault.TheVariants.{Damaged, Operation, NoMemory, BadLine, NotFormatted, WrongHeader, UnreadableImage, AlreadyThere, OldLayout, TooFewSlots, MigrationFailed, HostInUse, NoLock}
+use Rattle.dlm_tasks.specs.declared.fault.Fault.TheVariants.{Damaged, Operation, NoMemory, BadLine, NotFormatted, WrongHeader, Unreadable, UnreadableImage, AlreadyThere, OldLayout, TooFewSlots, MigrationFailed, HostInUse, NoLock, NotFull, SameCluster, NoClient, RenewedElsewhere}
 
 -- an operation of a host was refused
 abbrev pub of_refusal : Refusal → Fault
@@ -55,3 +61,28 @@ of_move move.TooFewSlots = TooFewSlots
 of_move (move.Lock fault) = of_lock fault
 of_move (move.Refused refusal) = of_refusal refusal
 of_move move.MigrationFailed = MigrationFailed
+
+-- a log was not filled
+abbrev pub of_filling : FillFault → Fault
+of_filling fill.NoMemory = NoMemory
+of_filling fill.NoClient = NoClient
+of_filling (fill.Refused refusal) = of_refusal refusal
+
+-- the new images of a renewal are not made
+abbrev pub of_new : NewFault → Fault
+of_new new.RenewedElsewhere = RenewedElsewhere
+of_new new.NotNamed = Unreadable
+of_new (new.Folder fault) = of_folder fault
+of_new (new.Lock fault) = of_lock fault
+
+-- a cluster was not renewed
+abbrev pub of_renewal : RenewFault → Fault
+of_renewal renew.NoMemory = NoMemory
+of_renewal (renew.Old fault) = of_folder fault
+of_renewal renew.SameCluster = SameCluster
+of_renewal (renew.Lock fault) = of_lock fault
+of_renewal (renew.Refused refusal) = of_refusal refusal
+of_renewal renew.NotFull = NotFull
+of_renewal renew.TooFewSlots = TooFewSlots
+of_renewal (renew.New fault) = of_new fault
+of_renewal renew.RenewalFailed = MigrationFailed

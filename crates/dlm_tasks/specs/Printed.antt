@@ -31,9 +31,13 @@ use Rattle.simulator.specs.Sweeping.{recovered_behind, variants}
 use Rattle.dlm_images.specs.Marking.{RecoversAndMarks}
 use Rattle.dlm_images.specs.Operations.{HasOperated, IsAcknowledged, Standing}
 use Rattle.dlm_images.specs.Tries.{HasTried}
+use Rattle.folder_migration.specs.Filling.{Fills}
 use Rattle.folder_migration.specs.Migrating.{CameTo}
+use Rattle.folder_migration.specs.RenewingFolders.{CameToRenew}
 use Rattle.folder_migration.specs.declared.migrate.Moved.{Moved}
 use Rattle.folder_migration.specs.declared.migrate.Moved.TheVariants.{Moved as WasMoved, Finished}
+use Rattle.folder_migration.specs.declared.renew.Renewed.{Renewed}
+use Rattle.folder_migration.specs.declared.renew.Renewed.TheVariants as renewal
 use Rattle.dlm_words.specs.Text.{answer_text}
 
 -- EVENTS
@@ -137,6 +141,32 @@ pub record WritesMove (slots : ℕ) (before after : Option (List ℕ)) : Type 0 
   pub moved : Moved
   pub came_to : CameTo slots moved
   pub written : Appends before after (moved_text slots moved)
+
+-- how many slots were filled
+abbrev pub filled_text : ℕ → List ℕ
+filled_text count = codes "filled " ++ decimal count ++ (codes " slots" ++ 10 ∷ [])
+
+-- The log of a folder was filled up by a host of this number that knew nothing, and how many slots it filled was written.
+pub record WritesFilling (number : ℕ) (before after : Option (List ℕ)) : Type 0 where
+  pub shape : Shape
+  pub old : Standing FileState
+  pub new : Standing FileState
+  pub count : ℕ
+  pub started : hosts.LeadsTo shape number fresh old.core
+  pub fills : Fills FileGives shape.slots count old new
+  pub written : Appends before after (filled_text count)
+
+-- how many commands carry the table over onto how many images, or on how many the gates that were left were opened
+abbrev pub renewed_text : ℕ → Renewed → List ℕ
+renewed_text slots (renewal.Renewed commands disks) =
+    codes "renewed " ++ decimal commands ++ codes " commands, " ++ decimal disks ++ codes " disks, " ++ decimal slots ++ (codes " slots" ++ 10 ∷ [])
+renewed_text slots (renewal.Finished disks) = codes "finished " ++ decimal disks ++ (codes " disks" ++ 10 ∷ [])
+
+-- The table after a full log was carried over, and what that came to was written.
+pub record WritesRenewal (host : ℕ) (config : Shape) (cluster : ℕ) (before after : Option (List ℕ)) : Type 0 where
+  pub renewed : Renewed
+  pub came_to : CameToRenew host config cluster renewed
+  pub written : Appends before after (renewed_text config.slots renewed)
 
 -- SWEEPS
 

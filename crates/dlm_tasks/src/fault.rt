@@ -1,11 +1,11 @@
 ghost use Rattle.std.specs.Prelude.{◌≡◌};
-ghost use Rattle.dlm_tasks.specs.Faults.{of_image, of_script, of_refusal, of_folder, of_finding, of_lock, of_move};
+ghost use Rattle.dlm_tasks.specs.Faults.{of_image, of_script, of_refusal, of_folder, of_filling, of_finding, of_lock, of_move, of_new, of_renewal};
 ghost use Rattle.dlm_tasks.specs.declared.fault.Fault.TheVariants.{NoMemory};
 
 use disk::ImageFault;
 use dlm_images::{Finding, FolderFault, LockFault};
 use dlm_words::RefusalText;
-use folder_migration::MoveFault;
+use folder_migration::{FillFault, MoveFault, NewFault, RenewFault};
 use host::Refusal;
 use simulator::ScriptFault;
 use std::io;
@@ -33,7 +33,7 @@ pub enum Fault {
     /// The number of an image with another header than it should have.
     #[error("25 WrongHeader disk{0}")]
     WrongHeader(u8),
-    /// The script cannot be read.
+    /// The script cannot be read, or the file that names a folder's successor cannot be read or written.
     #[error("26 Unreadable")]
     Unreadable,
     /// The number of an image that cannot be opened, read, made or written.
@@ -51,7 +51,7 @@ pub enum Fault {
     /// The number of an image that has the first layout, and no other fault.
     #[error("32 OldLayout disk{0}")]
     OldLayout(u8),
-    /// A log that is moved needs as many slots as it had.
+    /// A log that is moved needs as many slots as it had, and one that is renewed more than its table takes.
     #[error("33 TooFewSlots")]
     TooFewSlots,
     #[error("34 MigrationFailed")]
@@ -64,6 +64,18 @@ pub enum Fault {
     /// The number of a host that could not be locked.
     #[error("37 NoLock host{0}")]
     NoLock(u8),
+    /// A log that is to be renewed has slots left.
+    #[error("38 NotFull")]
+    NotFull,
+    /// The new images of a renewal would have the cluster number of the old ones.
+    #[error("39 SameCluster")]
+    SameCluster,
+    /// A log that is to be filled knows no client.
+    #[error("40 NoClient")]
+    NoClient,
+    /// The folder that is to be renewed names another successor.
+    #[error("41 RenewedElsewhere")]
+    RenewedElsewhere,
 }
 
 impl Fault {
@@ -153,6 +165,49 @@ impl From<MoveFault> for Fault {
             MoveFault::Lock(fault) => Fault::from(fault),
             MoveFault::Refused(refusal) => Fault::from(refusal),
             MoveFault::MigrationFailed => Fault::MigrationFailed,
+        }
+    }
+}
+
+impl From<FillFault> for Fault {
+    ghost from_gives = { λ of fault. fault ≡ of_filling of };
+
+    fn from(fault: FillFault) -> Self {
+        match fault {
+            FillFault::NoMemory => Fault::NoMemory,
+            FillFault::NoClient => Fault::NoClient,
+            FillFault::Refused(refusal) => Fault::from(refusal),
+        }
+    }
+}
+
+impl From<NewFault> for Fault {
+    ghost from_gives = { λ of fault. fault ≡ of_new of };
+
+    fn from(fault: NewFault) -> Self {
+        match fault {
+            NewFault::RenewedElsewhere => Fault::RenewedElsewhere,
+            NewFault::NotNamed => Fault::Unreadable,
+            NewFault::Folder(fault) => Fault::from(fault),
+            NewFault::Lock(fault) => Fault::from(fault),
+        }
+    }
+}
+
+impl From<RenewFault> for Fault {
+    ghost from_gives = { λ of fault. fault ≡ of_renewal of };
+
+    fn from(fault: RenewFault) -> Self {
+        match fault {
+            RenewFault::NoMemory => Fault::NoMemory,
+            RenewFault::Old(fault) => Fault::from(fault),
+            RenewFault::SameCluster => Fault::SameCluster,
+            RenewFault::Lock(fault) => Fault::from(fault),
+            RenewFault::Refused(refusal) => Fault::from(refusal),
+            RenewFault::NotFull => Fault::NotFull,
+            RenewFault::TooFewSlots => Fault::TooFewSlots,
+            RenewFault::New(fault) => Fault::from(fault),
+            RenewFault::RenewalFailed => Fault::MigrationFailed,
         }
     }
 }

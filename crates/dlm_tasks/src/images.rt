@@ -1,8 +1,11 @@
 ghost use Rattle.std.specs.Prelude.{◌≡◌, ℕ, true, IfOk, OnOk};
 ghost use Rattle.std.specs.Io.KnownBytes.{Appends};
 ghost use Rattle.lock_command.specs.Command.{is_submittable};
+ghost use Rattle.host.specs.Host.{fresh};
+ghost use Rattle.host.specs.Kept.{LeadsTo};
 ghost use Rattle.host.specs.declared.answer.HostAnswer.TheVariants.{Ack};
-ghost use Rattle.dlm_tasks.specs.Printed.{IsFresh, WritesAcknowledgement, WritesMarks, WritesMove, WritesTable, answer_line, formatted_text, marked_text, moved_text, table_text};
+ghost use Rattle.folder_migration.specs.Filling.{IsOver};
+ghost use Rattle.dlm_tasks.specs.Printed.{IsFresh, WritesAcknowledgement, WritesFilling, WritesMarks, WritesMove, WritesRenewal, WritesTable, answer_line, filled_text, formatted_text, marked_text, moved_text, renewed_text, table_text};
 
 use crate::command_failure::CommandFailure;
 use crate::fault::Fault;
@@ -12,7 +15,7 @@ use dlm_images::{
     open_folder, open_folder_to_read, submit_patiently,
 };
 use dlm_words::ReplyText;
-use folder_migration::{Moved, migrate_folder};
+use folder_migration::{Moved, Renewed, fill_log, migrate_folder, renew_folder};
 use host::Config;
 use inspect::queues;
 use lock_command::{Command, HostNumber};
@@ -136,6 +139,41 @@ where
     Ok(())
 }
 
+/// Fills the log of a folder up with requests that change nothing, and prints how many slots that took.
+pub fn fill<R: Files + Clock + RandomSource + AllocGlobal, O: Write>(
+    rt: &R,
+    folder: &str,
+    host: HostNumber,
+    out: &mut O,
+) -> Result<(), CommandFailure>
+where
+    R::File: FileExt + OpenFile + TryLock + Drop,
+    ensures { OnOk result (WritesFilling host (O.contents out.old) (O.contents out.new)) }
+{
+    let (config, mut over, _lock) = sized_host_over(rt, folder, host)?;
+    fill_through(rt, &mut over, config, out)
+}
+
+/// Carries the table after the full log of a folder over into another folder, and prints what that came to.
+pub fn renew<R: Files + AllocGlobal, O: Write>(
+    rt: &R,
+    old: &str,
+    host: HostNumber,
+    new: &str,
+    config: Config,
+    cluster: u64,
+    out: &mut O,
+) -> Result<(), CommandFailure>
+where
+    R::File: FileExt + OpenFile + TryLock + Drop,
+    ensures { OnOk result (WritesRenewal host config cluster (O.contents out.old) (O.contents out.new)) }
+{
+    let renewed = renew_folder(rt, old, host, new, config, cluster).map_err(Fault::from)?;
+    print_renewed(renewed, config, out)?;
+    out.flush()?;
+    Ok(())
+}
+
 /// A host over the disks of a folder, which has learned nothing yet, and the file that keeps its number locked.
 fn host_over<R: Files + AllocGlobal>(
     rt: &R,
@@ -148,10 +186,26 @@ where
     ensures fresh { IfOk result (λ over. IsFresh host over.0) }
     ensures locked { IfOk result (λ over. R.File.locked over.1) }
 {
+    let (_, over, lock) = sized_host_over(rt, folder, host)?;
+    Ok((over, lock))
+}
+
+/// The same, and how large its log is.
+fn sized_host_over<R: Files + AllocGlobal>(
+    rt: &R,
+    folder: &str,
+    host: HostNumber,
+) -> Result<(Config, DiskHost<FileDisk<R::File>>, R::File), Fault>
+where
+    R::File: FileExt + OpenFile + TryLock + Drop,
+    ensures fresh { IfOk result (λ over. LeadsTo over.0 host fresh over.1.core) }
+    ensures locked { IfOk result (λ over. R.File.locked over.2) }
+{
     let images = open_folder(rt, folder)?;
+    let config = images.config;
     let lock = lock_host(rt, folder, host)?;
     let over = images.host(rt.alloc(), host)?;
-    Ok((over, lock))
+    Ok((config, over, lock))
 }
 
 // What is done through a host is a function of its own, to which the host is lent: who owns one drops it on each way out.
@@ -204,6 +258,21 @@ fn mark_through<F: FileExt + OpenFile + Drop, O: Write>(
     }
 }
 
+fn fill_through<R: Clock + RandomSource + AllocGlobal, F: FileExt + OpenFile + Drop, O: Write>(
+    rt: &R,
+    host: &mut DiskHost<FileDisk<F>>,
+    config: Config,
+    out: &mut O,
+) -> Result<(), CommandFailure>
+    requires { IsOver config host.old }
+    ensures { OnOk result ((number : ℕ) → LeadsTo config number fresh host.old.core → WritesFilling number (O.contents out.old) (O.contents out.new)) }
+{
+    match fill_log(rt, rt.alloc(), host, config) {
+        Ok(count) => print_filled(count, out),
+        Err(fault) => Err(CommandFailure::from(Fault::from(fault))),
+    }
+}
+
 fn print_ack<O: Write>(done: Acknowledgement, out: &mut O) -> Result<(), CommandFailure>
     ensures { OnOk result (Appends (O.contents out.old) (O.contents out.new) (answer_line (Ack done.slot done.reply))) }
 {
@@ -240,6 +309,14 @@ fn print_table<O: Write>(
     Ok(())
 }
 
+fn print_filled<O: Write>(count: u16, out: &mut O) -> Result<(), CommandFailure>
+    ensures { OnOk result (Appends (O.contents out.old) (O.contents out.new) (filled_text count)) }
+{
+    writeln!(out, "filled {count} slots")?;
+    out.flush()?;
+    Ok(())
+}
+
 fn print_moved<O: Write>(moved: Moved, slots: SlotCount, out: &mut O) -> io::Result<()>
     ensures { OnOk result (Appends (O.contents out.old) (O.contents out.new) (moved_text slots moved)) }
 {
@@ -252,5 +329,20 @@ fn print_moved<O: Write>(moved: Moved, slots: SlotCount, out: &mut O) -> io::Res
             )
         }
         Moved::Finished { disks } => writeln!(out, "finished {disks} disks"),
+    }
+}
+
+fn print_renewed<O: Write>(renewed: Renewed, config: Config, out: &mut O) -> io::Result<()>
+    ensures { OnOk result (Appends (O.contents out.old) (O.contents out.new) (renewed_text config.slots renewed)) }
+{
+    match renewed {
+        Renewed::Renewed { commands, disks } => {
+            let slots = config.slots();
+            writeln!(
+                out,
+                "renewed {commands} commands, {disks} disks, {slots} slots"
+            )
+        }
+        Renewed::Finished { disks } => writeln!(out, "finished {disks} disks"),
     }
 }

@@ -53,6 +53,19 @@ pub enum Subcommand<'a> {
         new: &'a str,
         slots: SlotCount,
     },
+    /// Fill the log in this folder up, through this host, with requests that change nothing.
+    Fill {
+        folder: &'a str,
+        host: HostNumber,
+    },
+    /// Carry the table after the full log of a folder, as this host learns it, over into another folder.
+    Renew {
+        old: &'a str,
+        host: HostNumber,
+        new: &'a str,
+        config: Config,
+        cluster: u64,
+    },
     /// Race the hosts up to this one.
     Race {
         last: HostNumber,
@@ -110,6 +123,8 @@ pub fn task_of<'a>(alloc: Global, words: &'a [&'a str]) -> Result<Subcommand<'a>
         Some(("mark", mark)) => mark_task(mark),
         Some(("check", check)) => check_task(check),
         Some(("migrate", migrate)) => migrate_task(migrate),
+        Some(("fill", fill)) => fill_task(fill),
+        Some(("renew", renew)) => renew_task(renew),
         Some(("race", race)) => race_task(race),
         Some(("sweep", sweep)) => sweep_task(sweep),
         _ => Err(WordsFault::Usage),
@@ -138,6 +153,8 @@ fn program<'a>(alloc: Global) -> Result<clap::Command<'a>, AllocError> {
     let program = with(program, mark_command(alloc))?;
     let program = with(program, check_command(alloc))?;
     let program = with(program, migrate_command(alloc))?;
+    let program = with(program, fill_command(alloc))?;
+    let program = with(program, renew_command(alloc))?;
     let program = with(program, race_command(alloc))?;
     with(program, sweep_command(alloc))
 }
@@ -207,6 +224,24 @@ fn migrate_command<'a>(alloc: Global) -> Result<clap::Command<'a>, AllocError> {
         .arg(word(alloc, "old"))?
         .arg(word(alloc, "new"))?
         .arg(word(alloc, "slots"))
+}
+
+fn fill_command<'a>(alloc: Global) -> Result<clap::Command<'a>, AllocError> {
+    clap::Command::new(alloc, "fill")
+        .disable_help_flag(true)
+        .arg(word(alloc, "folder"))?
+        .arg(word(alloc, "host"))
+}
+
+fn renew_command<'a>(alloc: Global) -> Result<clap::Command<'a>, AllocError> {
+    clap::Command::new(alloc, "renew")
+        .disable_help_flag(true)
+        .arg(word(alloc, "old"))?
+        .arg(word(alloc, "host"))?
+        .arg(word(alloc, "new"))?
+        .arg(word(alloc, "disks"))?
+        .arg(word(alloc, "slots"))?
+        .arg(word(alloc, "cluster"))
 }
 
 fn race_command<'a>(alloc: Global) -> Result<clap::Command<'a>, AllocError> {
@@ -283,6 +318,31 @@ fn migrate_task<'a>(migrate: &ArgMatches<'a>) -> Result<Subcommand<'a>, WordsFau
         old: given(migrate, "old")?,
         new: given(migrate, "new")?,
         slots: slots_of(given(migrate, "slots")?)?,
+    })
+}
+
+fn fill_task<'a>(fill: &ArgMatches<'a>) -> Result<Subcommand<'a>, WordsFault>
+    ensures { IfOk result MayBeAsked }
+{
+    let folder = given(fill, "folder")?;
+    let host = host_of(given(fill, "host")?)?;
+    Ok(Subcommand::Fill { folder, host })
+}
+
+fn renew_task<'a>(renew: &ArgMatches<'a>) -> Result<Subcommand<'a>, WordsFault>
+    ensures { IfOk result MayBeAsked }
+{
+    let old = given(renew, "old")?;
+    let host = host_of(given(renew, "host")?)?;
+    let new = given(renew, "new")?;
+    let config = config_of(given(renew, "disks")?, given(renew, "slots")?)?;
+    let cluster = cluster_of(given(renew, "cluster")?)?;
+    Ok(Subcommand::Renew {
+        old,
+        host,
+        new,
+        config,
+        cluster,
     })
 }
 
