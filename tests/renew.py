@@ -221,20 +221,22 @@ def refusals():
     refused("renew d 1 e 3 16 8", "dlm: 29 AlreadyThere\n")
     wants("what is there", (os.listdir("e"), os.path.exists("d/renewed")), (["disk2.img"], False))
     os.remove("e/disk2.img")
-    # The successor is named before its folder is looked into. Then other words are refused.
+    # A folder that is not there, and one where somebody works as host 0, is not named.
     os.rmdir("e")
-    refused("renew d 1 e 3 16 8", "dlm: 26 Unreadable disk0\n")
-    wants("the successor", bytes_of("d/renewed"), b"e 3 16 8\n")
+    refused("renew d 1 e 3 16 8", "dlm: 37 NoLock host0\n")
     os.mkdir("e")
+    with open("e/host0.lock", "w+b") as lock:
+        fcntl.flock(lock, fcntl.LOCK_EX)
+        refused("renew d 1 e 3 16 8", "dlm: 36 HostInUse host0\n")
+    wants("what was made", (os.listdir("e"), os.path.exists("d/renewed")), (["host0.lock"], False))
+    os.remove("e/host0.lock")
+    # Once a successor is named, other words are refused.
+    with open("d/renewed", "w") as file:
+        file.write("e 3 16 8\n")
     os.mkdir("f")
     for words in ("renew d 1 f 3 16 8", "renew d 1 e 2 16 8", "renew d 1 e 3 17 8", "renew d 1 e 3 16 9"):
         refused(words, "dlm: 41 RenewedElsewhere\n")
     wants("the new folders", (os.listdir("e"), os.listdir("f")), ([], []))
-    with open("e/host0.lock", "w+b") as lock:
-        fcntl.flock(lock, fcntl.LOCK_EX)
-        refused("renew d 1 e 3 16 8", "dlm: 36 HostInUse host0\n")
-    for disk in range(3):
-        os.remove(f"e/disk{disk}.img")
     prints("renew d 1 e 3 16 8", "renewed 2 commands, 3 disks, 16 slots\n")
     prints("table e 1", "recovered 2\n" + HELD)
     # All gates are open: nobody is told that this is his table.

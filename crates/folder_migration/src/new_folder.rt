@@ -14,7 +14,7 @@ use std::fs::OpenFile;
 use std::os::unix::fs::FileExt;
 use std::rt::Files;
 
-/// The host that writes new images: a log that is moved is as this host would have left it.
+/// The host that recovers a log of the first layout, and that writes new images: what is moved is as this host would have left it.
 pub fn first_host() -> HostNumber
     ensures { result ≡ 0 }
 {

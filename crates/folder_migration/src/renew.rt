@@ -132,7 +132,7 @@ where
 }
 
 /// Names the successor of the old folder and makes its images of zeros, if none of them is there. The file that is given keeps others from
-/// working there as host 0, which is the one that writes new images.
+/// working there as host 0, which is the one that writes new images. It is locked first, so a folder that is not there is never named.
 fn make_successor<R: Files + AllocGlobal>(
     rt: &R,
     old: &str,
@@ -146,8 +146,8 @@ where
     ensures fault { IfErr result (IsNewFault config.disks) }
 {
     refuse_taken(rt, new, config)?;
+    let lock = lock_host(rt, new, first_host())?;
     name_successor(rt, old, line)?;
     let images = make_images(rt, new, config)?;
-    let lock = lock_host(rt, new, first_host())?;
     Ok((images, lock))
 }
