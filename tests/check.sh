@@ -1,12 +1,12 @@
 #!/usr/bin/env bash
-# check.sh [FOLDER..]: runs each script NAME.dlm at and below the folders (none: this one) by ./dlm run, in a folder `sweep` by
+# check.sh [FOLDER..]: runs each script NAME.dlm at and below the folders (none: scripts/) by ./dlm run, in a folder `sweep` by
 # ./dlm sweep, and compares what is printed with NAME.out, what is told on standard error with NAME.err (none: nothing) and the
 # status with NAME.status (none: 0).
 set -uo pipefail
 
 tests=$(dirname -- "$(readlink -f -- "${BASH_SOURCE[0]}")")
 dlm=$tests/../dlm
-[[ $# -gt 0 ]] || set -- "$tests"
+[[ $# -gt 0 ]] || set -- "$tests/scripts"
 
 work=$(mktemp -d)
 trap 'rm -r -- "$work"' EXIT

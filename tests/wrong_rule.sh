@@ -1,7 +1,7 @@
 #!/usr/bin/env bash
 # wrong_rule.sh: a sweep finds what is wrong. In a copy of the crates a sync makes nothing safe (simulator/wrong/sync_left_out.edit). The copy's
-# dlm, of which nothing is proved, sweeps scripts of tests/sweep. Crashes then lose what was acknowledged, so that runs have to be wrong: as many
-# as another program counts under that rule, and the same one first (tests/sweep_wrong.txt: the script, what is printed and told).
+# dlm, of which nothing is proved, sweeps scripts of scripts/sweep. Crashes then lose what was acknowledged, so that runs have to be wrong: as many
+# as another program counts under that rule, and the same one first (scripts/sweep_wrong.txt: the script, what is printed and told).
 # It takes two minutes or so.
 set -uo pipefail
 
@@ -38,7 +38,7 @@ printf 'cluster 1 4\nstart 0\nsubmit 0 1 enqueue 1 1 10 EX db\nstep 0 17\nsubmit
 swept=0
 differ=0
 while IFS=: read -r name wanted; do
-    script=$tests/sweep/$name.dlm
+    script=$tests/scripts/sweep/$name.dlm
     [[ $name != two_submissions ]] || script=$work/two_submissions.dlm
     found=$("$work/compiled/made" sweep "$script" 2> "$work/told" < /dev/null) || true
     found=" $found $(<"$work/told")"
@@ -47,6 +47,6 @@ while IFS=: read -r name wanted; do
         echo "$name:$found, and not$wanted"
         differ=$((differ + 1))
     fi
-done < <(echo 'two_submissions: 138 runs, 276 recovered, 34 wrong dlm: 31 WrongRun 70' && cat -- "$tests/sweep_wrong.txt")
+done < <(echo 'two_submissions: 138 runs, 276 recovered, 34 wrong dlm: 31 WrongRun 70' && cat -- "$tests/scripts/sweep_wrong.txt")
 echo "a wrong rule is found: $swept sweeps, $differ differ"
 [[ $differ -eq 0 && $swept -gt 1 ]]
