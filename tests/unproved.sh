@@ -5,11 +5,8 @@
 # The last line counts the tests, and the status is 1 where one failed.
 set -uo pipefail
 
-top=$(dirname -- "$(dirname -- "$(readlink -f -- "${BASH_SOURCE[0]}")")")
-work=$(mktemp -d)
-trap 'rm -r -- "$work"' EXIT
+source "$(dirname -- "$(readlink -f -- "${BASH_SOURCE[0]}")")/lib.sh"
 passed=0
-failed=0
 
 "$top/dlm-unproved" run "$top/examples/first_reply.dlm" > /dev/null || exit
 mkdir -p -- "$work/crates/dlm/out"

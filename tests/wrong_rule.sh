@@ -5,13 +5,11 @@
 # It takes two minutes or so.
 set -uo pipefail
 
-tests=$(dirname -- "$(readlink -f -- "${BASH_SOURCE[0]}")")
-work=$(mktemp -d)
-trap 'rm -r -- "$work"' EXIT
+source "$(dirname -- "$(readlink -f -- "${BASH_SOURCE[0]}")")/lib.sh"
 
 mkdir -- "$work/crates" "$work/compiled"
-cp -- "$tests/../"{crates.txt,HANDLES} "$work/"
-for crate in "$tests/../crates/"*/; do
+cp -- "$top/"{crates.txt,HANDLES} "$work/"
+for crate in "$top/crates/"*/; do
     name=$(basename -- "$crate")
     mkdir -- "$work/crates/$name"
     for part in src specs proofs; do
@@ -19,7 +17,7 @@ for crate in "$tests/../crates/"*/; do
     done
 done
 
-edit=$tests/../crates/simulator/wrong/sync_left_out.edit
+edit=$top/crates/simulator/wrong/sync_left_out.edit
 file=$work/crates/simulator/$(sed -n 's/^file: //p' "$edit")
 right=$(sed -n 's/^old: //p' "$edit")
 wrong=$(sed -n 's/^new: //p' "$edit")
@@ -30,8 +28,8 @@ if [[ $source != *"$right"* ]]; then
 fi
 printf '%s\n' "${source/"$right"/"$wrong"}" > "$file"
 
+source "$top/unproved.sh"
 top=$work
-source "$tests/../unproved.sh"
 compile_unproved "$work/compiled" dlm || exit 1
 
 printf 'cluster 1 4\nstart 0\nsubmit 0 1 enqueue 1 1 10 EX db\nstep 0 17\nsubmit 0 1 enqueue 2 1 11 EX db\nstep 0 17\n' > "$work/two_submissions.dlm"
