@@ -6,7 +6,7 @@ source "$(dirname -- "$(readlink -f -- "${BASH_SOURCE[0]}")")/lib.sh"
 mkdir -p -- "$work/bin" "$work/crates/"{dlm,disk,beats,inspect,bench}/src "$work/crates/disk/"{specs,must-fail,wrong}
 echo none > "$work/HANDLES"
 cp -- "$top/dlm" "$top/build.sh" "$work"
-printf 'inspect:\ndisk: thiserror\nbeats: disk\nbench: disk\ndlm: inspect beats thiserror\n' > "$work/crates.txt"
+printf '# bytes: a heading\ninspect:\ndisk: thiserror\nbeats: disk\nbench: disk\ndlm: inspect beats thiserror\n' > "$work/crates.txt"
 touch -- "$work/crates/dlm/src/main.rt" "$work/crates/disk/src/lib.rt" "$work/crates/disk/src/more.rt"
 
 # It proves the crates of the folder that it is run in, of which one was proved before. It fails where there is a file `broken`, and edits a source
