@@ -14,7 +14,7 @@ FIRST = [("world", "Headline", name) for name in ("Headline", "HeadlineOfEvents"
 HEAD = re.compile(r"(?:abbrev |unfoldable )*(?:pub )?(?:(?:data|record) )?([\w◌]\S*)")
 USE = re.compile(r"(?:pub |ghost )?use Rattle\.(\w+)\.specs\.([\w.]+?)(?:\.\{(.*)\}| as (\w+)|)$")
 # A name, which may stand after that of a module, or an operator. What stands after the dot of `this.that` is a field where `this` is no module.
-NAME = re.compile(r"(?:(\w+)\.)?(\w+)|([<>=+*&|-]+)")
+NAME = re.compile(r"(?:(\w+)\.)?(\w+)(?:\.\w+)*|([<>=+*&|-]+)")
 
 
 class File:
