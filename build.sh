@@ -6,7 +6,7 @@ find_below() {
     local name libraries
     local -A named=()
     while read -r name libraries; do
-        [[ -z $name ]] || named[${name%:}]=$libraries
+        [[ $name != [a-z]* ]] || named[${name%:}]=$libraries
     done < "$top/crates.txt"
     below=()
     add_below "$1"

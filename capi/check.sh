@@ -3,20 +3,17 @@
 # that dies, several at once, and the same folder by the program dlm. Under valgrind, and with the sanitizers of gcc, where they are there.
 # Where there is no C compiler it says so, and ends well.
 set -euo pipefail
-here=$(cd -- "$(dirname -- "$(readlink -f -- "${BASH_SOURCE[0]}")")" && pwd)
-top=$(dirname -- "$here")
+source "$(dirname -- "$(readlink -f -- "${BASH_SOURCE[0]}")")/../tests/lib.sh"
+here=$top/capi
 if ! command -v cc > /dev/null; then
     echo "left out: capi/check.sh, the library for C: no C compiler (cc)"
     exit 0
 fi
-work=$(mktemp -d)
-trap 'rm -rf -- "$work"' EXIT
 export PREFIX=$work/usr
 "$here/install.sh" > "$work/installed.txt"
 export PKG_CONFIG_PATH=$PREFIX/lib/pkgconfig LD_LIBRARY_PATH=$PREFIX/lib
 strict="-Wall -Wextra -pedantic -Werror"
 flags="-I $PREFIX/include -L $PREFIX/lib -lmidgegalena"
-failed=0
 passed=0
 tried() { # NAME COMMAND..: passes where the command does
     local name=$1

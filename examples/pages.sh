@@ -5,11 +5,9 @@
 # examples and tests of the top. Blocks of `rt` are left out.
 set -uo pipefail
 
-top=$(dirname -- "$(dirname -- "$(readlink -f -- "${BASH_SOURCE[0]}")")")
+source "$(dirname -- "$(readlink -f -- "${BASH_SOURCE[0]}")")/../tests/lib.sh"
 [[ $# -gt 0 ]] || set -- "$top"/{README,docs/TUTORIAL,docs/OPERATIONS,docs/SCRIPTS,crates/dlm/README}.md "$top/man/dlm.1"
 
-work=$(mktemp -d)
-trap 'rm -r -- "$work"' EXIT
 # The first run builds the program, if it has to.
 "$top/dlm" run /dev/null >/dev/null 2>&1
 
@@ -44,7 +42,6 @@ run_command() {
     command=
 }
 
-failed=0
 for page in "$@"; do
     name=$(realpath --relative-to="$top" -- "$page")
     rm -rf -- "$work/folder"

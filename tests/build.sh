@@ -2,13 +2,11 @@
 # When `./dlm` builds, and what it says: in a folder of its own, with a program in the place of `rt` that builds in no time.
 set -uo pipefail
 
-tests=$(dirname -- "$(readlink -f -- "${BASH_SOURCE[0]}")")
-work=$(mktemp -d)
-trap 'rm -r -- "$work"' EXIT
+source "$(dirname -- "$(readlink -f -- "${BASH_SOURCE[0]}")")/lib.sh"
 mkdir -p -- "$work/bin" "$work/crates/"{dlm,disk,beats,inspect,bench}/src "$work/crates/disk/"{specs,must-fail,wrong}
 echo none > "$work/HANDLES"
-cp -- "$tests/../dlm" "$tests/../build.sh" "$work"
-printf 'inspect:\ndisk: thiserror\nbeats: disk\nbench: disk\ndlm: inspect beats thiserror\n' > "$work/crates.txt"
+cp -- "$top/dlm" "$top/build.sh" "$work"
+printf '# bytes: a heading\ninspect:\ndisk: thiserror\nbeats: disk\nbench: disk\ndlm: inspect beats thiserror\n' > "$work/crates.txt"
 touch -- "$work/crates/dlm/src/main.rt" "$work/crates/disk/src/lib.rt" "$work/crates/disk/src/more.rt"
 
 # It proves the crates of the folder that it is run in, of which one was proved before. It fails where there is a file `broken`, and edits a source
@@ -30,7 +28,6 @@ echo "4 passed, 0 failed"
 END
 chmod +x -- "$work/bin/rt"
 PATH=$work/bin:$PATH
-failed=0
 told='dlm: beats: 7 functions proved, 1 left
 dlm: disk: proved before, 2 left
 dlm: dlm: 7 functions proved, 0 left

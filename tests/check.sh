@@ -1,15 +1,13 @@
 #!/usr/bin/env bash
-# check.sh [FOLDER..]: runs each script NAME.dlm at and below the folders (none: this one) by ./dlm run, in a folder `sweep` by
+# check.sh [FOLDER..]: runs each script NAME.dlm at and below the folders (none: scripts/) by ./dlm run, in a folder `sweep` by
 # ./dlm sweep, and compares what is printed with NAME.out, what is told on standard error with NAME.err (none: nothing) and the
 # status with NAME.status (none: 0).
 set -uo pipefail
 
-tests=$(dirname -- "$(readlink -f -- "${BASH_SOURCE[0]}")")
-dlm=$tests/../dlm
-[[ $# -gt 0 ]] || set -- "$tests"
+source "$(dirname -- "$(readlink -f -- "${BASH_SOURCE[0]}")")/lib.sh"
+need_program
+[[ $# -gt 0 ]] || set -- "$tests/scripts"
 
-work=$(mktemp -d)
-trap 'rm -r -- "$work"' EXIT
 : >"$work/empty"
 echo 0 >"$work/zero"
 
@@ -22,22 +20,14 @@ wanted() {
 check() {
     local name=${1%.dlm} word=run
     [[ $1 != */sweep/* ]] || word=sweep
-    "$dlm" "$word" "$1" >"$work/out" 2>"$work/err" </dev/null
+    "$program" "$word" "$1" >"$work/out" 2>"$work/err" </dev/null
     echo $? >"$work/status"
     diff -u -- "$(wanted "$name.out" "$work/empty")" "$work/out" &&
         diff -u -- "$(wanted "$name.err" "$work/empty")" "$work/err" &&
         diff -u -- "$(wanted "$name.status" "$work/zero")" "$work/status"
 }
 
-# The first run builds the program, if it has to.
-"$dlm" run "$work/empty" >"$work/built" 2>&1
-if [[ $? -eq 125 ]]; then
-    cat -- "$work/built"
-    exit 1
-fi
-
 count=0
-failed=0
 while IFS= read -r script; do
     count=$((count + 1))
     if ! check "$script"; then

@@ -3,17 +3,8 @@
 # places are those of docs/FORMAT.md: host h's heartbeat block at 4096 + 256 * h, its block of slot s at 8192 + 4096 * s + 256 * h.
 set -uo pipefail
 
-tests=$(dirname -- "$(readlink -f -- "${BASH_SOURCE[0]}")")
-program=$tests/../crates/dlm/out/dlm
-"$tests/../dlm" run /dev/null >/dev/null 2>&1
-if [[ ! -x $program ]]; then
-    echo "dlm is not built"
-    exit 1
-fi
-
-work=$(mktemp -d)
-trap 'rm -r -- "$work"' EXIT
-failed=0
+source "$(dirname -- "$(readlink -f -- "${BASH_SOURCE[0]}")")/lib.sh"
+need_program
 checks=0
 
 # expect NAME STATUS PRINTED TOLD WORD..: runs the words, and compares their status and what they write on both streams.

@@ -4,16 +4,13 @@
 # where they are installed.
 set -uo pipefail
 
-top=$(dirname -- "$(dirname -- "$(readlink -f -- "${BASH_SOURCE[0]}")")")
-work=$(mktemp -d)
-trap 'rm -r -- "$work"' EXIT
+source "$(dirname -- "$(readlink -f -- "${BASH_SOURCE[0]}")")/lib.sh"
 mkdir -- "$work/images" "$work/more images"
 : >"$work/one.dlm"
 # A program that shows its words.
 printf '#!/usr/bin/env bash\nprintf "line:"; printf " <%%s>" "$@"; echo\n' >"$work/dlm"
 chmod +x "$work/dlm"
 cd -- "$work" || exit 1
-failed=0
 tried=0
 
 # The words of the line that bash makes of what is typed.

@@ -3,15 +3,8 @@
 # at once submit over them, killed at random (tests/at_once.py), for so many rounds (none given: 1). It needs root and loop devices, and says so where it cannot.
 set -uo pipefail
 
-tests=$(dirname -- "$(readlink -f -- "${BASH_SOURCE[0]}")")
-program=${DLM:-$tests/../crates/dlm/out/dlm}
-[[ -n ${DLM:-} ]] || "$tests/../dlm" run /dev/null >/dev/null 2>&1
-if [[ ! -x $program ]]; then
-    echo "dlm is not built"
-    exit 1
-fi
-
-work=$(mktemp -d)
+source "$(dirname -- "$(readlink -f -- "${BASH_SOURCE[0]}")")/lib.sh"
+need_program
 devices=()
 finish() {
     local device
@@ -31,20 +24,6 @@ add() {
         exit 0
     }
     devices+=("$device")
-}
-
-failed=0
-
-# expect NAME STATUS TEXT WORD..: runs the words, and compares their status and all that they write.
-expect() {
-    local name=$1 status=$2 text=$3 written ended
-    shift 3
-    written=$("$@" 2>&1)
-    ended=$?
-    if [[ $ended -ne $status || $written != "$text" ]]; then
-        echo "$name: status $ended (wanted $status), written: $written (wanted: $text)"
-        failed=$((failed + 1))
-    fi
 }
 
 # zeros DEVICE..: what stands first on these is forgotten.

@@ -3,29 +3,8 @@
 # zeros and one of another cluster, marks that are missing or damaged. Each is told by the right refusal, and nothing is lost on the others.
 set -uo pipefail
 
-tests=$(dirname -- "$(readlink -f -- "${BASH_SOURCE[0]}")")
-program=$tests/../crates/dlm/out/dlm
-"$tests/../dlm" run /dev/null >/dev/null 2>&1
-if [[ ! -x $program ]]; then
-    echo "dlm is not built"
-    exit 1
-fi
-
-work=$(mktemp -d)
-trap 'rm -r -- "$work"' EXIT
-failed=0
-
-# expect NAME STATUS TEXT WORD..: runs the words, and compares their status and all that they write.
-expect() {
-    local name=$1 status=$2 text=$3 written ended
-    shift 3
-    written=$("$@" 2>&1)
-    ended=$?
-    if [[ $ended -ne $status || $written != "$text" ]]; then
-        echo "$name: status $ended (wanted $status), written: $written (wanted: $text)"
-        failed=$((failed + 1))
-    fi
-}
+source "$(dirname -- "$(readlink -f -- "${BASH_SOURCE[0]}")")/lib.sh"
+need_program
 
 # A folder of three images with one acknowledged command.
 fresh() {

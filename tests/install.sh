@@ -2,18 +2,10 @@
 # install.sh into a folder and out of it again: the program runs there, the page is found by man, and nothing is left behind.
 set -uo pipefail
 
-top=$(dirname -- "$(dirname -- "$(readlink -f -- "${BASH_SOURCE[0]}")")")
-work=$(mktemp -d)
-trap 'rm -r -- "$work"' EXIT
-failed=0
+source "$(dirname -- "$(readlink -f -- "${BASH_SOURCE[0]}")")/lib.sh"
 # With the library for C there are seven more, two of them links.
 files=5
 [[ ! -f $top/capi/out/libmidgegalena.a ]] || files=12
-
-fail() {
-    echo "install.sh: $1"
-    failed=1
-}
 
 for prefix in /usr/local '/opt/lock manager'; do
     DESTDIR=$work/root PREFIX=$prefix "$top/install.sh" >"$work/told" 2>"$work/said" || fail "ends with $?"
@@ -36,4 +28,4 @@ done
 [[ $? -eq 2 ]] || fail "takes any word"
 
 [[ $failed -eq 0 ]] && echo "install.sh: in and out, by two prefixes"
-exit "$failed"
+exit $((failed > 0))

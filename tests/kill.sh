@@ -7,19 +7,11 @@
 set -uo pipefail
 
 kills=${1:-200}
-tests=$(dirname -- "$(readlink -f -- "${BASH_SOURCE[0]}")")
-program=$tests/../crates/dlm/out/dlm
-
-# The wrapper builds the program, if it has to.
-"$tests/../dlm" run /dev/null >/dev/null 2>&1
-if [[ ! -x $program ]]; then
-    echo "dlm is not built"
-    exit 1
-fi
 
 # In memory where there is such a folder: what is tested is the order of the calls, not the device.
-work=$(mktemp -d -p "$([[ -w /dev/shm ]] && echo /dev/shm || echo "${TMPDIR:-/tmp}")")
-trap 'rm -r -- "$work"' EXIT
+[[ ! -w /dev/shm ]] || work_in=/dev/shm
+source "$(dirname -- "$(readlink -f -- "${BASH_SOURCE[0]}")")/lib.sh"
+need_program
 
 killed=0
 finished=0

@@ -2,19 +2,12 @@
 # examples/pages.sh runs the commands of a page in a folder of its own: what a user keeps at the top under the same name stays as it is. And each page has folders of its own names.
 set -uo pipefail
 
-top=$(dirname -- "$(dirname -- "$(readlink -f -- "${BASH_SOURCE[0]}")")")
-work=$(mktemp -d)
-trap 'rm -r -- "$work"' EXIT
-failed=0
-
-fail() {
-    echo "pages.sh: $1"
-    failed=1
-}
+source "$(dirname -- "$(readlink -f -- "${BASH_SOURCE[0]}")")/lib.sh"
 
 # A top with a program that does nothing, a user's images, and a page that makes and damages some of its own.
 mkdir -p -- "$work"/{crates,docs,examples,tests,images}
 cp -- "$top/examples/pages.sh" "$work/examples"
+cp -- "$tests/lib.sh" "$work/tests"
 printf '#!/usr/bin/env bash\n' > "$work/dlm"
 chmod +x -- "$work/dlm"
 echo kept > "$work/images/disk1.img"
@@ -37,4 +30,4 @@ twice=$(cd -- "$top" && grep -oE '^\$ .*mkdir [a-z_-]+' README.md docs/*.md crat
 [[ -z $twice ]] || fail "folders of two pages: $twice"
 
 [[ $failed -eq 0 ]] && echo "pages.sh: each page keeps to its own folder"
-exit "$failed"
+exit $((failed > 0))

@@ -6,18 +6,8 @@ set -uo pipefail
 
 races=${1:-100}
 hosts=${2:-16}
-tests=$(dirname -- "$(readlink -f -- "${BASH_SOURCE[0]}")")
-program=$tests/../crates/dlm/out/dlm
-
-# The wrapper builds the program, if it has to.
-"$tests/../dlm" run /dev/null >/dev/null 2>&1
-if [[ ! -x $program ]]; then
-    echo "dlm is not built"
-    exit 1
-fi
-
-work=$(mktemp -d)
-trap 'rm -r -- "$work"' EXIT
+source "$(dirname -- "$(readlink -f -- "${BASH_SOURCE[0]}")")/lib.sh"
+need_program
 
 # What is wrong with the race whose lines are read, if anything.
 wrong() {

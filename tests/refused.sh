@@ -4,22 +4,16 @@
 # with ample memory, to the end of a line, and tells `21 NoMemory`, until one prints all. Then the operations of a cluster, by `bench refused`.
 set -uo pipefail
 
-tests=$(dirname -- "$(readlink -f -- "${BASH_SOURCE[0]}")")
-top=$(dirname -- "$tests")
-program=$top/crates/dlm/out/dlm
+source "$(dirname -- "$(readlink -f -- "${BASH_SOURCE[0]}")")/lib.sh"
+need_program
 bench=$top/crates/bench/out/bench
 source "$top/build.sh"
-"$top/dlm" run /dev/null >/dev/null 2>&1
 (ensure_built bench) >/dev/null
-if [[ ! -x $program || ! -x $bench ]]; then
-    echo "dlm or bench is not built"
+if [[ ! -x $bench ]]; then
+    echo "bench is not built"
     exit 1
 fi
 tunables=glibc.malloc.mmap_threshold=1:glibc.malloc.mmap_max=1000000:glibc.malloc.top_pad=0
-
-work=$(mktemp -d)
-trap 'rm -r -- "$work"' EXIT
-failed=0
 
 # refuse NAME WORD..: the words of dlm under each limit.
 refuse() {

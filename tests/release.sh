@@ -3,15 +3,7 @@
 # There may be no change that is not committed.
 set -uo pipefail
 
-top=$(dirname -- "$(dirname -- "$(readlink -f -- "${BASH_SOURCE[0]}")")")
-work=$(mktemp -d)
-trap 'rm -r -- "$work"' EXIT
-failed=0
-
-fail() {
-    echo "release.sh: $1"
-    failed=1
-}
+source "$(dirname -- "$(readlink -f -- "${BASH_SOURCE[0]}")")/lib.sh"
 
 first=$("$top/release.sh" "$work/first") || exit 1
 second=$("$top/release.sh" "$work/second") || exit 1
@@ -45,4 +37,4 @@ cp -- "$(type -P true)" "$program.new" && mv -- "$program.new" "$program"
 grep -q 'is not what a build here has proved' "$work/told" || fail "does not say that the program was not proved"
 
 [[ $failed -eq 0 ]] && echo "release.sh: one archive, in and out without rt"
-exit "$failed"
+exit $((failed > 0))

@@ -1,15 +1,12 @@
 #!/usr/bin/env bash
-# unproved.sh: the tests of the program before it is proved, in two minutes or so: all scripts of tests/ and examples/, words, folders, races,
+# unproved.sh: the tests of the program before it is proved, in two minutes or so: all scripts of tests/scripts/ and examples/, words, folders, races,
 # faults of files, damaged images, kills, migrations and hosts at once, by what ./dlm-unproved compiled. They run in a copy, in which that program
 # stands where the proved one stands here. IT PROVES NOTHING: ./dlm and the gate do.
 # The last line counts the tests, and the status is 1 where one failed.
 set -uo pipefail
 
-top=$(dirname -- "$(dirname -- "$(readlink -f -- "${BASH_SOURCE[0]}")")")
-work=$(mktemp -d)
-trap 'rm -r -- "$work"' EXIT
+source "$(dirname -- "$(readlink -f -- "${BASH_SOURCE[0]}")")/lib.sh"
 passed=0
-failed=0
 
 "$top/dlm-unproved" run "$top/examples/first_reply.dlm" > /dev/null || exit
 mkdir -p -- "$work/crates/dlm/out"
@@ -48,7 +45,7 @@ END
 chmod +x -- "$work/tests/readme.sh"
 
 try readme.sh "$top" "$work/first"
-try check.sh "$work/tests" "$work/examples"
+try check.sh "$work/tests/scripts" "$work/examples"
 try program.py
 try closed.py
 try race.sh

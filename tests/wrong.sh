@@ -3,9 +3,7 @@
 # each edit, but for those that the file `let_through` names.
 set -uo pipefail
 
-tests=$(dirname -- "$(readlink -f -- "${BASH_SOURCE[0]}")")
-work=$(mktemp -d)
-trap 'rm -r -- "$work"' EXIT
+source "$(dirname -- "$(readlink -f -- "${BASH_SOURCE[0]}")")/lib.sh"
 mkdir -p -- "$work/bin" "$work/tests"
 cp -- "$tests/wrong.py" "$work/tests"
 echo 'Handles allowed: none.' > "$work/HANDLES"
@@ -35,7 +33,6 @@ chmod +x -- "$work/bin/rt"
 export PATH=$work/bin:$PATH LET_THROUGH=$work/let_through WRONG_DAY=0
 : > "$LET_THROUGH"
 wrong=$work/tests/wrong.py
-failed=0
 tried=0
 
 # expect WHAT CRATE..: these crates are due, not counting those that are in turn.

@@ -1,17 +1,15 @@
 #!/usr/bin/env bash
 # wrong_rule.sh: a sweep finds what is wrong. In a copy of the crates a sync makes nothing safe (simulator/wrong/sync_left_out.edit). The copy's
-# dlm, of which nothing is proved, sweeps scripts of tests/sweep. Crashes then lose what was acknowledged, so that runs have to be wrong: as many
-# as another program counts under that rule, and the same one first (tests/sweep_wrong.txt: the script, what is printed and told).
+# dlm, of which nothing is proved, sweeps scripts of scripts/sweep. Crashes then lose what was acknowledged, so that runs have to be wrong: as many
+# as another program counts under that rule, and the same one first (scripts/sweep_wrong.txt: the script, what is printed and told).
 # It takes two minutes or so.
 set -uo pipefail
 
-tests=$(dirname -- "$(readlink -f -- "${BASH_SOURCE[0]}")")
-work=$(mktemp -d)
-trap 'rm -r -- "$work"' EXIT
+source "$(dirname -- "$(readlink -f -- "${BASH_SOURCE[0]}")")/lib.sh"
 
 mkdir -- "$work/crates" "$work/compiled"
-cp -- "$tests/../"{crates.txt,HANDLES} "$work/"
-for crate in "$tests/../crates/"*/; do
+cp -- "$top/"{crates.txt,HANDLES} "$work/"
+for crate in "$top/crates/"*/; do
     name=$(basename -- "$crate")
     mkdir -- "$work/crates/$name"
     for part in src specs proofs; do
@@ -19,7 +17,7 @@ for crate in "$tests/../crates/"*/; do
     done
 done
 
-edit=$tests/../crates/simulator/wrong/sync_left_out.edit
+edit=$top/crates/simulator/wrong/sync_left_out.edit
 file=$work/crates/simulator/$(sed -n 's/^file: //p' "$edit")
 right=$(sed -n 's/^old: //p' "$edit")
 wrong=$(sed -n 's/^new: //p' "$edit")
@@ -30,15 +28,15 @@ if [[ $source != *"$right"* ]]; then
 fi
 printf '%s\n' "${source/"$right"/"$wrong"}" > "$file"
 
+source "$top/unproved.sh"
 top=$work
-source "$tests/../unproved.sh"
 compile_unproved "$work/compiled" dlm || exit 1
 
 printf 'cluster 1 4\nstart 0\nsubmit 0 1 enqueue 1 1 10 EX db\nstep 0 17\nsubmit 0 1 enqueue 2 1 11 EX db\nstep 0 17\n' > "$work/two_submissions.dlm"
 swept=0
 differ=0
 while IFS=: read -r name wanted; do
-    script=$tests/sweep/$name.dlm
+    script=$tests/scripts/sweep/$name.dlm
     [[ $name != two_submissions ]] || script=$work/two_submissions.dlm
     found=$("$work/compiled/made" sweep "$script" 2> "$work/told" < /dev/null) || true
     found=" $found $(<"$work/told")"
@@ -47,6 +45,6 @@ while IFS=: read -r name wanted; do
         echo "$name:$found, and not$wanted"
         differ=$((differ + 1))
     fi
-done < <(echo 'two_submissions: 138 runs, 276 recovered, 34 wrong dlm: 31 WrongRun 70' && cat -- "$tests/sweep_wrong.txt")
+done < <(echo 'two_submissions: 138 runs, 276 recovered, 34 wrong dlm: 31 WrongRun 70' && cat -- "$tests/scripts/sweep_wrong.txt")
 echo "a wrong rule is found: $swept sweeps, $differ differ"
 [[ $differ -eq 0 && $swept -gt 1 ]]

@@ -3,7 +3,7 @@ use Rattle.std.proofs.Common.{◌≡◌, ◌+◌, ◌-◌, ◌≤◌, ◌<◌, �
 use Rattle.std.specs.Prelude.{slice_index, slice_index_or}
 use Rattle.std.proofs.lemmas.List.{length-replicate, length-take-le}
 use Rattle.disk.specs.declared.fault.DiskFault.TheVariants.{Reset, Failed, Gone}
-use Rattle.disk.specs.Disk.{DiskState, Call, Attach, Read, Write, Sync, Answer, Booted, Told, Done, Fault, FailureLeaves, Succeeds, Step, Crashes, Torn, written, synced, lost}
+use Rattle.disk.specs.Disk.{DiskState, Call, Attach, Read, Write, Sync, Answer, Booted, Told, Done, Fault, FailureLeaves, Succeeds, Step, Crashes, Torn, written, synced}
 use Rattle.disk.specs.Simulated.{fresh_disk}
 use Rattle.disk.specs.Cut.{cut, HasFirst, IsInFirst}
 use Rattle.disk.proofs.CutLemmas.{cut_steps, first_stay}
@@ -271,9 +271,6 @@ module _ (slots : ℕ) where
 
   pub there_crashed : (old new : DiskState) → IsThere old → Crashes old new → IsThere new
   there_crashed old new has s = crashed_long n long_enough old new has s
-
-  pub used_lost : (disk : DiskState) → used slots (lost disk) ≡ lost (used slots disk)
-  used_lost disk = refl
 
   pub there_begun : (disk shows : DiskState) → used slots disk ≡ shows → IsImage slots shows → IsThere disk
   there_begun disk shows is image =

@@ -1,18 +1,17 @@
 -- What a seat keeps, before and behind an answer.
-use Rattle.std.proofs.Common.{◌≡◌, ◌≤◌, ◌<◌, ℕ, Bool, true, false, subst, List, ◌++◌, length, Option, Some, None, refl, sym, ap, ◌∙◌, arith, length-append}
+use Rattle.std.proofs.Common.{◌≡◌, ◌≤◌, ℕ, false, List, ◌++◌, length, Option, Some, None, refl, sym, ap, ◌∙◌, arith, length-append}
 use Rattle.std.specs.Prelude.{◌&&◌, not, is_some}
 use Rattle.disk.specs.Disk.{Call, Answer}
 use Rattle.beats.specs.Answers.{Answered as Beaten}
 use Rattle.lock_command.specs.declared.command.Command.{Command}
 use Rattle.slot_log.specs.Shape.{Shape}
 use Rattle.host.specs.Host.{Host, Running, Memory, Doing, Marking, hears_from, rests, is_idle_in, next_marking, next_beside, next_doing, next_in, next_of}
-use Rattle.host.specs.Kept.{Kept, LeadsTo, MarkingLeadsTo, has_no_beat}
-use Rattle.host.proofs.Hosts.{rests_by, no_marking}
+use Rattle.host.specs.Kept.{Kept, LeadsTo}
 use Rattle.world.specs.Entry.{Called, host_step}
 use Rattle.cluster_tie.specs.Parts.{Own, adds}
 use Rattle.cluster.specs.declared.receipt.Receipt.{Receipt}
 use Rattle.cluster.specs.Receipts.{receipt_by, receipts_said, receipts_at, receipts_of}
-use Rattle.cluster.specs.Seat.{host_in, due_in, IsDueOn, IsDoing, IsRunning}
+use Rattle.cluster.specs.Seat.{host_in, due_in, IsDueOn, IsRunning}
 use Rattle.cluster.proofs.Adding.{host_adds, receipts_adds}
 use Rattle.cluster.proofs.Heard.{hears_keeps, hears_counts, said_is}
 
@@ -35,31 +34,6 @@ module _ (c : Shape) (own : Own) (core : Kept) (sub : Option Command) (r : IsRun
   -- a call is due where a task is under way
   pub busy : (k : ℕ) → IsDueOn c own k → is_idle_in r.memory r.memory.doing ≡ false
   busy k due = due_busy c own.number r.memory r.memory.doing (k, (due_in c own).1) (sym next_is ∙ due)
-
-  -- with no beat and no marking under way, an attempt is
-  resting : core.beat ≡ None → core.marking ≡ None → is_idle_in r.memory r.memory.doing ≡ false → is_some r.memory.doing ≡ true
-  resting none unmarking at_work = go r.memory.doing at_work
-    where
-      rest : rests r.memory.beats.heard ≡ true
-      rest = sym (rests_by c own.number r.memory.beats.heard core.beat r.leads.beat) ∙ ap has_no_beat none
-
-      unmarked : r.memory.marking ≡ None
-      unmarked = no_marking c own.number r.memory r.memory.marking (subst (MarkingLeadsTo c own.number r.memory r.memory.marking) unmarking r.leads.marking)
-
-      idle : (rests r.memory.beats.heard && not (is_some r.memory.marking)) ≡ true
-      idle = ap (λ (b : Bool). b && not (is_some r.memory.marking)) rest ∙ ap (λ (o : Option Marking). not (is_some o)) unmarked
-
-      go : (o : Option Doing) → is_idle_in r.memory o ≡ false → is_some o ≡ true
-      go None off = absurd (let both : true ≡ false = sym idle ∙ off in cc both)
-      go (Some t) off = refl
-
-  pub below : (o : Option Doing) → is_some o ≡ true → IsDoing c r.memory o sub → length r.memory.learned < c.slots
-  below None at_work is = absurd (cc at_work)
-  below (Some t) at_work is = is.0
-
-  -- so there is room for one receipt more
-  pub few : (acks : ℕ) → core.beat ≡ None → core.marking ≡ None → is_idle_in r.memory r.memory.doing ≡ false → acks ≤ length core.prefix → acks < c.slots
-  few acks none unmarking at_work less = let slots = below r.memory.doing (resting none unmarking at_work) r.doing in let same = ap (λ (l : List Command). length l) r.leads.prefix in omega (arith, slots, same, less)
 
   module _ (new : Kept) (at k : ℕ) (call : Call) (answer : Answer) (left : List ℕ) (at_work : is_idle_in r.memory r.memory.doing ≡ false)
       (next : (c : Shape) (h : ℕ) (m : Memory) → LeadsTo c h m core → LeadsTo c h (hears_from c h m m.doing k answer) new) where

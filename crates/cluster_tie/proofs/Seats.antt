@@ -13,13 +13,13 @@ abbrev pub Shows : TableId → Known → TableId → Me ℕ Known → Type 0
 Shows name v table me = (table ≡ name) × (me ≡ (v, []))
 
 module _ {name : TableId} where
-  module _ {keeps : Bool} {log : List Filled} {p : Part} {ps : List Part} {at : TableId} {me : Me ℕ Known} (shows : Shows name (record { keeps = keeps; log = log; parts = p ∷ ps }) at me) where
+  module _ {is_journal : Bool} {log : List Filled} {p : Part} {ps : List Part} {at : TableId} {me : Me ℕ Known} (shows : Shows name (record { is_journal = is_journal; log = log; parts = p ∷ ps }) at me) where
     -- A seat may give its first part to a new one.
     pub gives : {table : TableId} {id : ℕ} → table ≡ name → 0 < table.words → Each (Apart p) ps → (at ≡ table) × (0 < table.words) × Splits Tied id me.0 (kept_back me.0) (handed me.0)
     gives is words apart = (shows.0 ∙ sym is, words, splits_as _ me.0 p ps (ap (λ (m : Me ℕ Known). m.0.parts) shows.1) apart)
 
     -- Then it shows the others, and the new one shows that part.
-    pub left : {at' by : TableId} {id' id : ℕ} {me' other : Me ℕ Known} → (at' ≡ at) × (id' ≡ id) × (me' ≡ (kept_back me.0, me.1)) × (by ≡ at) × (other ≡ (handed me.0, [])) → Shows name (record { keeps = keeps; log = log; parts = ps }) at' me'
+    pub left : {at' by : TableId} {id' id : ℕ} {me' other : Me ℕ Known} → (at' ≡ at) × (id' ≡ id) × (me' ≡ (kept_back me.0, me.1)) × (by ≡ at) × (other ≡ (handed me.0, [])) → Shows name (record { is_journal = is_journal; log = log; parts = ps }) at' me'
     left s = (s.0 ∙ shows.0, s.2 ∙ ap (λ (m : Me ℕ Known). (kept_back m.0, m.1)) shows.1)
 
     pub given : {at' by : TableId} {id' id : ℕ} {me' other : Me ℕ Known} → (at' ≡ at) × (id' ≡ id) × (me' ≡ (kept_back me.0, me.1)) × (by ≡ at) × (other ≡ (handed me.0, [])) → Shows name (holder (p ∷ [])) by other

@@ -149,7 +149,7 @@ splits id v p ps is apart views h at =
     let parts : Each (IsPartOf id h.1 h.2) (p ∷ ps) = subst (Each (IsPartOf id h.1 h.2)) is mine.1 in
     let to : ℕ = length (set views id (kept_back v)) in
     let owner = given h.1 p to in
-    let rest : kept_back v ≡ record { keeps = v.keeps; log = v.log; parts = ps } = ap (λ (l : List Part). record { keeps = v.keeps; log = v.log; parts = drop 1 l }) is in
+    let rest : kept_back v ≡ record { is_journal = v.is_journal; log = v.log; parts = ps } = ap (λ (l : List Part). record { is_journal = v.is_journal; log = v.log; parts = drop 1 l }) is in
     let one : handed v ≡ holder (p ∷ []) = ap (λ (l : List Part). holder (take 1 l)) is in
     let fits_rest : Fits h.0 owner h.2 id (kept_back v) = subst (Fits h.0 owner h.2 id) (sym rest) (mine.0, all_given id h.1 h.2 p to ps apart parts.1) in
     let fits_one : Fits h.0 owner h.2 to (handed v) = subst (Fits h.0 owner h.2 to) (sym one) ((λ k. absurd (off k)), ((ap (λ (b : Bool). cond b to (h.1 p.of_disk p.number)) (same_itself p.of_disk p.number p.entries), parts.0.1), tt)) in

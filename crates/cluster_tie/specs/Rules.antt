@@ -24,7 +24,7 @@ IsPartOf by owner log p =
 
 abbrev pub Fits : ℕ → (Bool → ℕ → ℕ) → List Filled → ℕ → Known → Type 0
 Fits seat owner log by v =
-    (v.keeps ≡ true → (by ≡ seat) × (v.log ≡ log)) × Each (IsPartOf by owner log) v.parts
+    (v.is_journal ≡ true → (by ≡ seat) × (v.log ≡ log)) × Each (IsPartOf by owner log) v.parts
 
 abbrev pub Kept : List Known → Type 0
 Kept views =
@@ -47,7 +47,7 @@ Agrees log p = p.entries ≡ placed 0 p.of_disk p.number log
 -- the entry is put behind the list and behind the parts that it belongs to; and what the parts were
 abbrev pub Appended : Filled → Known → Known → Type 0
 Appended e v w =
-    (w ≡ record { keeps = v.keeps; log = v.log ++ e ∷ []; parts = map (grown (length v.log) e) v.parts }) × Each (Agrees v.log) v.parts
+    (w ≡ record { is_journal = v.is_journal; log = v.log ++ e ∷ []; parts = map (grown (length v.log) e) v.parts }) × Each (Agrees v.log) v.parts
 
 abbrev pub appended : Filled → Step ℕ → Me ℕ Known → ℕ → Me ℕ Known → Type 0
 appended e s m n k = Appended e m.0 k.0 × (k.1 ≡ m.1)

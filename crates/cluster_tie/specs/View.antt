@@ -12,7 +12,7 @@ pub record Part : Type 0 where
 
 -- whether it is the journal's, which knows the whole list; and the parts that it holds, its own or lent to it
 pub record Known : Type 0 where
-  pub keeps : Bool
+  pub is_journal : Bool
   pub log : List Filled
   pub parts : List Part
 
@@ -21,10 +21,10 @@ part kind n xs = record { of_disk = kind; number = n; entries = xs }
 
 -- the journal's, with the parts that are lent to it
 abbrev pub keeper : List Filled → List Part → Known
-keeper log parts = record { keeps = true; log = log; parts = parts }
+keeper log parts = record { is_journal = true; log = log; parts = parts }
 
 abbrev pub holder : List Part → Known
-holder parts = record { keeps = false; log = []; parts = parts }
+holder parts = record { is_journal = false; log = []; parts = parts }
 
 -- that of a disk's or a host's token
 abbrev pub own : Bool → ℕ → List Placed → Known
@@ -42,14 +42,14 @@ entries_in (p ∷ ps) = p.entries
 
 -- the first part goes to a seat of its own, and the others stay
 abbrev pub kept_back : Known → Known
-kept_back v = record { keeps = v.keeps; log = v.log; parts = drop 1 v.parts }
+kept_back v = record { is_journal = v.is_journal; log = v.log; parts = drop 1 v.parts }
 
 abbrev pub handed : Known → Known
 handed v = holder (take 1 v.parts)
 
 -- the other's parts are taken in
 abbrev pub lent : Known → Known → Known
-lent v w = record { keeps = v.keeps; log = v.log; parts = v.parts ++ w.parts }
+lent v w = record { is_journal = v.is_journal; log = v.log; parts = v.parts ++ w.parts }
 
 -- AT FIRST
 

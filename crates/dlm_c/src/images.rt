@@ -4,7 +4,7 @@ ghost use Rattle.dlm_images.specs.Sets.{AreHeaders};
 ghost use Rattle.dlm_c.specs.Images.{Finds, AreFound, long_of, used_of, TellsImages};
 
 use disk::ImageFault;
-use dlm_images::{image_header, long_as_told};
+use dlm_images::{image_header, length_in_header};
 use host::Config;
 use paxos_block::Header;
 use torn_block::{DISKS, HEADER_LENGTH};
@@ -69,7 +69,7 @@ impl Image {
         ensures { result ≡ long_of self.now }
     {
         if self.is_device == 1 {
-            long_as_told(&self.bytes).min(self.size)
+            length_in_header(&self.bytes).min(self.size)
         } else {
             self.size
         }

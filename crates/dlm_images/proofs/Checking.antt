@@ -98,9 +98,6 @@ module _ {D : Type 0} (device : D → Device) (state : D → DiskState) (slots :
   told_more F n (Some first) finding before here = (before.0, (let below = before.1 in omega (arith, below)), before.2, before.3)
 
   module _ (gives : D → Call → Answer → D → Type 0) where
-    pub none_checked : AreLarge device slots old → Checked device state gives slots found old old 0 None
-    none_checked large = record { as_many = refl; large = large; rest = λ k after. refl; told = λ k below. absurd (omega (arith, below)) }
-
     -- the next one is checked
     pub one_checked : (now : List D) (n : ℕ) (x y : D) (image : Result Header ImageFault) (first finding : Option Finding)
         → Checked device state gives slots found old now n first → slice_get now n ≡ Some x → slice_get found n ≡ Some image → device y ≡ device x

@@ -6,7 +6,7 @@ use Rattle.std.proofs.lemmas.List.{append-nil}
 use Rattle.std.proofs.lemmas.Option.{slice_get_within}
 use Rattle.std.proofs.lemmas.List.Folds.{concat-append}
 use Rattle.std.specs.Io.KnownBytes.{Appends}
-use Rattle.std.proofs.KnownBytes.{Appends-nil, Appends-trans}
+use Rattle.std.proofs.KnownBytes.{Appends-trans}
 use Rattle.disk.specs.Disk.{Device, DiskState}
 use Rattle.disk.specs.declared.fault.DiskFault.{DiskFault}
 use Rattle.disk.specs.declared.fault.ImageFault.{ImageFault}
@@ -65,9 +65,6 @@ map_set f (z ∷ zs) zero x y there same = let e : z ≡ x = cc in ap (λ v. v �
 map_set f (z ∷ zs) (suc n) x y there same = ap (λ l. f z ∷ l) (map_set f zs n x y there same)
 
 module _ {D : Type 0} (device : D → Device) (state : D → DiskState) (slots : ℕ) (found : Found) (old : List D) where
-  pub none_written : (F : ℕ → Type 0) (a : Option (List ℕ)) → WritesTexts state slots found old F 0 a a
-  none_written F a = ([], refl, (λ k disk image text there imaged is. absurd (cc)), Appends-nil a)
-
   -- the text of the next one is written
   pub one_written : (F G : ℕ → Type 0) (now : List D) (n : ℕ) (x : D) (image : Result Header ImageFault) (failed : Type 0) (a b c : Option (List ℕ))
       → ((k : ℕ) → n ≤ k → slice_get now k ≡ slice_get old k) → slice_get now n ≡ Some x → slice_get found n ≡ Some image

@@ -39,7 +39,7 @@ pub record HasToldFirst {D : Type 0} (gives : D → Call → Answer → D → Ty
   pub tells : gives attached (Read boot 0 HEADER_LENGTH) (Told bytes) new
 
 -- The device told its first bytes. It is used on as far as the image goes of which they tell, or to its end.
-pub record IsCutAsTold (old new : FileState) : Type 0 where
+pub record IsCutToHeader (old new : FileState) : Type 0 where
   pub bytes : List ℕ
   pub read : FileState
   pub told : HasToldFirst FileGives old bytes read

@@ -31,7 +31,7 @@ pub fn image_header(disk: u8, long: u64, bytes: &[u8; HEADER_LENGTH]) -> Result<
 }
 
 /// How long an image is by its first bytes, in the layout whose number they have. The bytes may be wrong otherwise.
-pub fn long_as_told(bytes: &[u8; HEADER_LENGTH]) -> u64
+pub fn length_in_header(bytes: &[u8; HEADER_LENGTH]) -> u64
     ensures told { result ≡ headers.told_length bytes.now }
     // An image that is right by either layout is that long.
     ensures right { (disk long : ℕ) (header : Header) → IsRight disk long bytes.now header → result ≡ long }

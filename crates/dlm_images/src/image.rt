@@ -3,10 +3,10 @@ ghost use Rattle.std.specs.Path.{path_buf_bytes, path_join};
 ghost use Rattle.paxos_block.specs.Places.{image_length};
 ghost use Rattle.paxos_block.specs.Headers.{IsHeader};
 ghost use Rattle.dlm_images.specs.declared.fault.FolderFault.TheVariants.{NoMemory};
-ghost use Rattle.dlm_images.specs.Folders.{image_name, HasToldFirst, FailsToTell, IsCutAsTold, ReadsHeader, ReadsNoHeader};
+ghost use Rattle.dlm_images.specs.Folders.{image_name, HasToldFirst, FailsToTell, IsCutToHeader, ReadsHeader, ReadsNoHeader};
 
 use crate::fault::FolderFault;
-use crate::header::{image_header, long_as_told};
+use crate::header::{image_header, length_in_header};
 use disk::{Disk, DiskFault, FileDisk, ImageFault};
 use paxos_block::Header;
 use std::alloc::Global;
@@ -46,13 +46,13 @@ where
     ensures long { IfOk result (λ image. image.1.size ≡ image_length image.0.slots) }
     ensures used { IfOk result (λ image. image.1.used ≡ true) }
 {
-    let mut file = open_as_told(files, path, access)?;
+    let mut file = open_cut_to_header(files, path, access)?;
     let header = read_header(&mut file, disk)?;
     Ok((header, file))
 }
 
 /// Opens the file or block device at this path. What a device has after its image is left out of use.
-pub fn open_as_told<R: Files>(
+pub fn open_cut_to_header<R: Files>(
     files: &R,
     path: &str,
     access: Access,
@@ -66,20 +66,20 @@ where
         Access::Read => FileDisk::open_to_read(files, path)?,
     };
     if file.is_block_device() {
-        cut_as_told(&mut file)?;
+        cut_to_header(&mut file)?;
     }
     Ok(file)
 }
 
 /// Leaves what a device has after its image out of use, if its first bytes say how long the image is and there is room for it.
-fn cut_as_told<F: FileExt + OpenFile + Drop>(device: &mut FileDisk<F>) -> Result<(), ImageFault>
-    ensures cut { OnOk result (HEADER_LENGTH ≤ device.old.size → IsCutAsTold device.old device.new) }
+fn cut_to_header<F: FileExt + OpenFile + Drop>(device: &mut FileDisk<F>) -> Result<(), ImageFault>
+    ensures cut { OnOk result (HEADER_LENGTH ≤ device.old.size → IsCutToHeader device.old device.new) }
     ensures fault { IfErr result (λ fault. fault ≡ ImageFault.Unreadable) }
 {
     let Ok(bytes) = first_bytes(device) else {
         return Err(ImageFault::Unreadable);
     };
-    device.cut(long_as_told(&bytes).min(device.size()));
+    device.cut(length_in_header(&bytes).min(device.size()));
     Ok(())
 }
 

@@ -6,7 +6,7 @@ ghost use Rattle.folder_migration.specs.Migrating.{AreBlank, IsBlank};
 use crate::image::clear;
 use disk::{FileDisk, ImageFault};
 use dlm_images::{
-    Access, FolderFault, image_path, is_taken, new_device, open_as_told, sync_folder,
+    Access, FolderFault, image_path, is_taken, new_device, open_cut_to_header, sync_folder,
 };
 use host::Config;
 use lock_command::HostNumber;
@@ -38,7 +38,7 @@ where
     let mut images = Vec::with_capacity(rt.alloc(), usize::from(config.disks()))?;
     for disk in 0..config.disks() {
         let path = image_path(rt.alloc(), folder, disk)?;
-        let image = open_as_told(rt, path.as_str(), Access::ReadAndWrite).unwrap_or_else(
+        let image = open_cut_to_header(rt, path.as_str(), Access::ReadAndWrite).unwrap_or_else(
             |_| FileDisk::missing(0),
         );
         images.push_reserved(image);

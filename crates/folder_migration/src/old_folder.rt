@@ -7,7 +7,9 @@ ghost use Rattle.dlm_images.specs.SetFaults.{MayRefuse};
 ghost use Rattle.folder_migration.specs.OldFolders.{IsOpened, IsDiskOf, ReadsHeader, ReadsNoHeader};
 
 use disk::{Disk, FileDisk, ImageFault};
-use dlm_images::{Access, FolderFault, first_bytes, image_path, open_as_told, resize, set_of};
+use dlm_images::{
+    Access, FolderFault, first_bytes, image_path, open_cut_to_header, resize, set_of,
+};
 use host::Config;
 use paxos_block::{Header, decode_header, image_length};
 use std::fs::OpenFile;
@@ -88,7 +90,7 @@ where
     ensures long { IfOk result (λ image. image.1.size ≡ image_length Version1 image.0.slots) }
     ensures used { IfOk result (λ image. image.1.used ≡ true) }
 {
-    let mut image = open_as_told(files, path, Access::ReadAndWrite)?;
+    let mut image = open_cut_to_header(files, path, Access::ReadAndWrite)?;
     let header = read_old_header(&mut image, disk)?;
     Ok((header, image))
 }

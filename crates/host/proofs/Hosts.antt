@@ -1,6 +1,6 @@
 -- What a host knows is what its learner knows, once each value that it offers is judged by its spelling.
 use Rattle.std.proofs.Common.{◌≡◌, ◌≤◌, ◌-◌, ◌*◌, ◌&&◌, ℕ, Bool, true, false, zero, suc, List, [], ◌∷◌, ◌++◌, ◌<◌, get_or, length, map, Option, Some, None, refl, sym, ◌∙◌, ap, ap₂, not, subst, arith, length-append, if◌then◌else◌}
-use Rattle.std.specs.Prelude.{bytes_eq, IsNone, is_some, nat_lt, nat_le, slice_get, take}
+use Rattle.std.specs.Prelude.{bytes_eq, is_some, nat_lt, nat_le, slice_get, take}
 use Rattle.beats.specs.declared.notes.Notes as beat_notes
 use Rattle.marks.specs.declared.notes.Notes as mark_notes
 use Rattle.marks.specs.declared.end.End as mark_end
@@ -49,9 +49,9 @@ use Rattle.slot_log.specs.declared.outcome.Refusal.TheVariants as refusal
 use Rattle.host.specs.declared.answer.HostAnswer.{HostAnswer}
 use Rattle.host.specs.declared.answer.HostAnswer.TheVariants.{Ack, Recovered, Looked, Beaten, Marked, Refused}
 use Rattle.host.specs.Alone.{IsAnsweredAlone, IsWithinNine, IsMarkedWithinNine}
-use Rattle.host.specs.Host.{Beats, Memory, Doing, Operation, Submitting, Recovering, Looking, input_of, floor_for, setup_of, says, begins, goes_on, full_answer, spent_answer, learns, takes, after_learning, is_submitted, with_floor, by_status, hears, with_heard, reply_after, hears_from, hears_beat, beat_of, beat_by, with_beats, suggested, is_idle_in, rests, next_in, next_doing, next_beside, next_marking, Marking, marking_of, marking_by, marking_with, hears_beside, hears_marking, with_marking, starts_marking, spelled}
+use Rattle.host.specs.Host.{Beats, Memory, Doing, Operation, Submitting, Recovering, Looking, input_of, floor_for, setup_of, says, begins, goes_on, full_answer, spent_answer, learns, takes, after_learning, is_submitted, with_floor, by_status, hears, with_heard, reply_after, hears_from, beat_of, beat_by, with_beats, suggested, is_idle_in, rests, next_in, next_doing, next_beside, Marking, marking_of, marking_by, marking_with, hears_beside, hears_marking, with_marking, starts_marking, spelled}
 use Rattle.host.specs.declared.host_core.HostCore.TheInside.{Inside}
-use Rattle.host.specs.Kept.{Kept, LeadsTo, operation_of, outcome_in, doing_of, values_with, values_of, answer_of, option_list, BeatLeadsTo, MarkingLeadsTo, BeatsAlone, MarksAlone, IsOneAtATime, IsAloneToo, due_in, due_beside, due_call, has_no_beat, has_no_marking, is_idle}
+use Rattle.host.specs.Kept.{Kept, LeadsTo, operation_of, outcome_in, doing_of, values_with, values_of, answer_of, option_list, BeatLeadsTo, MarkingLeadsTo, BeatsAlone, MarksAlone, IsOneAtATime, IsAloneToo, due_in, due_call, has_no_beat, has_no_marking, is_idle}
 
 -- ANSWERS
 
@@ -563,10 +563,6 @@ from_attempt c h m (Some t) d heard some = ap (λ (y : Heard). hears c h m (Some
 -- A BEAT GOES ON
 
 -- where a test tells that there is none, there is none
-pub none_by : {A : Type 0} (o : Option A) → IsNone o → o ≡ None
-none_by None is = refl
-none_by (Some x) is = absurd (cc)
-
 pub none_is : {A : Type 0} (o : Option A) → is_some o ≡ false → o ≡ None
 none_is None is = refl
 none_is (Some x) is = absurd (cc)
@@ -716,11 +712,6 @@ module _ (c : Shape) (h : ℕ) (m : Memory) (p : Inside) (view : Kept) (shown : 
 
 -- A MARKING GOES ON
 
--- none is under way
-pub no_marking_nine : (c : Shape) (h : ℕ) (m : Memory) (o : Option Marking) → MarkingLeadsTo c h m o None → IsMarkedWithinNine c o
-no_marking_nine c h m None going = tt
-no_marking_nine c h m (Some t) going = absurd going
-
 is_marking_due : (st : mark.Status) → None ≡ mark_kept.end_of_status st → (d : ℕ) × (st ≡ mark.Due d)
 is_marking_due (mark.Due d) is = (d, refl)
 is_marking_due (mark.Ended end) is = absurd (cc)
@@ -783,14 +774,6 @@ module _ (c : Shape) (h : ℕ) (m : Memory) (p : Inside) (view : Kept) (shown : 
       (subst (λ (o : Option beat_notes.Notes). LeadsTo c h (hears_from c h m m.doing (due_in mk.learner o mk.marking).0 (device_answer answer)) new) (sym marks_alone.resting)
       (subst (λ (o : Option mark_notes.Notes). LeadsTo c h (hears_from c h m m.doing (due_in mk.learner None o).0 (device_answer answer)) new) (sym marks)
       (subst (λ (o : Memory). LeadsTo c h o new) (sym (marking_is ∙ comes)) leads_on)))
-
-  -- the call that is due is the marking's
-  pub marking_next : (call : ℕ × device.Call) → ((s : mark.Setup) (answers : List Answered) → mark_kept.LeadsTo s answers b → mark.next_call s (on answers) ≡ Some call) → next_in c h m ≡ Some call
-  marking_next call due =
-      ap (λ (o : Option Doing). next_doing c h m o) no_doing
-      ∙ ap (λ (o : Option (List beat_answers.Answered)). next_beside c h m o) no_beats
-      ∙ ap (λ (o : Option Marking). next_marking c h m o) marking.1
-      ∙ due mark_setup marking.0.heard marking.2
 
   -- no attempt is under way
   pub marking_rests : m.doing ≡ None

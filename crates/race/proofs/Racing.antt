@@ -1,17 +1,15 @@
 -- What an operation leaves of a host's number, and how it was refused.
-use Rattle.std.proofs.Common.{◌≡◌, ◌⊎◌, ◌+◌, ◌<◌, ℕ, List, [], ◌∷◌, ◌++◌, length, get_or, inl, inr, refl, sym, ap, subst, ◌∙◌, arith, append_assoc}
+use Rattle.std.proofs.Common.{◌≡◌, ◌⊎◌, ◌+◌, ◌<◌, ℕ, List, [], ◌∷◌, ◌++◌, length, get_or, inl, inr, sym, ap, subst, ◌∙◌, arith}
 use Rattle.std.proofs.lemmas.List.{length-append, get_or_default}
 use Rattle.slot_log.specs.Shape.{Shape}
-use Rattle.lock_command.specs.declared.command.Command.{Command}
-use Rattle.world.specs.Entry.{Filled, Submit, Beat}
-use Rattle.cluster_tie.specs.Parts.{Placed, Own, adds, entries}
+use Rattle.world.specs.Entry.{Filled}
+use Rattle.cluster_tie.specs.Parts.{Own, adds}
 use Rattle.cluster.specs.declared.fault.HostFault.{HostFault}
 use Rattle.cluster.specs.declared.fault.HostFault.TheVariants.{Refused, NoMemory, JournalFull, SeatTaken, SeatsMissing, OpenCall}
 use Rattle.cluster.specs.Cluster.{GoesOn}
 use Rattle.cluster.specs.Operations.{Operates, Stops, IsUnbegun, Fails}
 use Rattle.cluster.specs.Seat.{host_in}
 use Rattle.race.specs.Answers.{IsRefusedBy, IsTold}
-use Rattle.race.specs.Bids.{bid_of, HasBeaten, HasBid}
 use Rattle.race.specs.declared.answer.Answer.{Answer}
 use Rattle.race.specs.declared.answer.Answer.TheVariants.{Refused as Unmet}
 use Rattle.race.proofs.Lists.{each_push}
@@ -53,30 +51,6 @@ refused_after c e SeatTaken old new (inl is) = absurd is
 refused_after c e SeatTaken old new (inr stops) = absurd stops.1
 refused_after c e SeatsMissing old new (inl is) = absurd is
 refused_after c e SeatsMissing old new (inr stops) = absurd stops.1
-
--- BEATS, AND BIDS
-
-apart : (xs : List Placed) (at : ℕ) (e : Filled) (ys : List Placed) → entries ((xs ++ (at, e) ∷ []) ++ ys) ≡ entries xs ++ e ∷ entries ys
-apart [] at e ys = refl
-apart (x ∷ xs) at e ys = ap (λ (l : List Filled). x.1 ∷ l) (apart xs at e ys)
-
--- what an operation's list is
-operated : (c : Shape) (e : Filled) (old new : Own) → (done : Operates c e old new) → entries new.entries ≡ entries old.entries ++ e ∷ entries done.1.added
-operated c e old new done = ap (λ (o : Own). entries o.entries) done.1.is ∙ apart old.entries done.0 e done.1.added
-
-pub beaten_after : (c : Shape) (old new : Own) → Operates c (Beat old.number) old new → HasBeaten new.number (entries new.entries)
-beaten_after c old new done =
-    subst (λ (h : ℕ). HasBeaten h (entries new.entries)) (sym (number_after c (Beat old.number) old new done))
-    (record { before = entries old.entries; after = entries done.1.added; is = operated c (Beat old.number) old new done })
-
-pub bid_after : (c : Shape) (command : Command) (old new : Own) → command ≡ bid_of old.number → HasBeaten old.number (entries old.entries) → Operates c (Submit old.number command 255) old new → HasBid new.number (entries new.entries)
-bid_after c command old new is beaten done =
-    let h = old.number in
-    let rest : List Filled = entries done.1.added in
-    let own : entries new.entries ≡ entries old.entries ++ Submit h (bid_of h) 255 ∷ rest = operated c (Submit h command 255) old new done ∙ ap (λ (b : Command). entries old.entries ++ Submit h b 255 ∷ rest) is in
-    let all : entries new.entries ≡ (beaten.before ++ Beat h ∷ beaten.after) ++ Submit h (bid_of h) 255 ∷ rest = own ∙ ap (λ (l : List Filled). l ++ Submit h (bid_of h) 255 ∷ rest) beaten.is in
-    subst (λ (n : ℕ). HasBid n (entries new.entries)) (sym (number_after c (Submit h command 255) old new done))
-    (record { before = beaten.before; between = beaten.after; after = rest; is = all ∙ append_assoc beaten.before (Beat h ∷ beaten.after) (Submit h (bid_of h) 255 ∷ rest) })
 
 -- an outcome that did not come tells no more than its seat does
 told_or_missing : (c : Shape) (own : Own) (given answer : Answer) → (answer ≡ given) ⊎ (answer ≡ Unmet NoMemory) → IsTold c own given → IsTold c own answer

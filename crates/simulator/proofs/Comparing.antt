@@ -1,7 +1,7 @@
 -- Lists that are compared item by item, and tables that are folded anew.
 use Rattle.std.specs.Prelude.{All}
 use Rattle.std.proofs.Common.{ℕ, ◌+◌, ◌<◌, ◌≤◌, ◌≡◌, Some, List, [], ◌∷◌, ◌++◌, length, take, get_or, sym, ap, ◌∙◌, subst, arith}
-use Rattle.std.proofs.lemmas.List.{take_more, take_all, get_or_default}
+use Rattle.std.proofs.lemmas.List.{take_more, take_all}
 use Rattle.std.proofs.lemmas.List.Sums.{fold-append}
 use Rattle.std.proofs.lemmas.List.Elements.{All-push}
 use Rattle.std.proofs.lemmas.Option.{slice_get-get_or, slice_get_within, get_or_from_slice_get}
@@ -19,13 +19,6 @@ module _ {X : Type 0} (a b : List X) (i : ℕ) (x y : X) (inside : i < length a)
   one_same so_far same =
       take_more a i x inside ∙ ap (λ (z : X). take i a ++ z ∷ []) (sym is_x ∙ same) ∙ ap (λ (l : List X). l ++ y ∷ []) so_far
       ∙ ap (λ (z : X). take i b ++ z ∷ []) is_y ∙ sym (take_more b i y (omega (arith, inside, many)))
-
-  -- lists that are one have one item there
-  pub same_there : a ≡ b → x ≡ y
-  same_there same = is_x ∙ ap (λ (l : List X). get_or l i x) same ∙ default ∙ sym is_y
-    where
-      default : get_or b i x ≡ get_or b i y
-      default = get_or_default b i x y (omega (arith, inside, many))
 
 -- to the end
 pub all_same : {X : Type 0} (a b : List X) (i : ℕ) → length a ≤ i → length a ≡ length b → take i a ≡ take i b → a ≡ b

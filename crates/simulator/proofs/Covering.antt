@@ -8,10 +8,9 @@ use Rattle.std.proofs.lemmas.List.Elements.{All-weaker, All-append, All-contains
 use Rattle.std.proofs.lemmas.Option.{slice_get_within}
 use Rattle.torn_block.specs.declared.layout.TheConstants.{HOSTS}
 use Rattle.lock_command.specs.declared.command.Command.{Command}
-use Rattle.slot_log.specs.Shape.{Shape}
 use Rattle.host.specs.declared.answer.HostAnswer.{HostAnswer}
 use Rattle.host.specs.declared.answer.HostAnswer.TheVariants.{Ack, Recovered, Looked, Beaten, Marked, Refused}
-use Rattle.host.specs.Host.{Host, is_stopped, idles, learned_of}
+use Rattle.host.specs.Host.{is_stopped, idles, learned_of}
 use Rattle.host.specs.Kept as hosts
 use Rattle.world.specs.Happens.{Event, Start, Stop, Recover, Step, Line}
 use Rattle.world.specs.World.{IsRun}
@@ -23,7 +22,6 @@ use Rattle.simulator.specs.declared.answer.Answer.{Answer}
 use Rattle.simulator.specs.declared.simulated_cluster.Said.{Said}
 use Rattle.simulator.specs.Answers.{line_of, IsPicturedIn}
 use Rattle.simulator.specs.Judging.{AllGoBy}
-use Rattle.simulator.specs.Kept.{IsHost}
 use Rattle.simulator.specs.OneLog.{IsOneLog}
 use Rattle.simulator.specs.Past.{Past, world_of, answers_of}
 use Rattle.simulator.specs.Replayed.{GoesOn, Says, HasLearned, HasKept, IsListed, Lists}
@@ -32,7 +30,6 @@ use Rattle.simulator.proofs.Judged.{IsWithin, all_go}
 use Rattle.simulator.proofs.Opened.{run_is_run}
 use Rattle.simulator.proofs.Recovering.{EndsRecovery, IsToldBy, begun, is_fresh, Whole, whole, stays_behind, stopped_behind}
 use Rattle.simulator.proofs.Replaying.{more_answered}
-use Rattle.simulator.proofs.Shown.{running_by}
 use Rattle.simulator.proofs.Telling.{told_at, misses_nothing, holds_learned, counted, tells}
 
 -- an answer has the number of an event
@@ -202,10 +199,6 @@ all_by p can report items n lists covered many begins =
     (All-contains (λ (x : Line). IsWithin n x.said) (answers_of p) (line_of a) covered (subst (λ (l : List Line). Contains l (line_of a)) lists.lines (Contains-map line_of report a in_a))) in
     subst (λ (l : List Command). AllGoBy l report) (sym is)
     (all_go p.opening p.events t.log (length items) long report (λ k other inside. (at_most (get_or report k other) (Contains-get_or report k other inside), t.answers k other inside)))
-
--- what a running host tells of itself
-pub learned_is : (c : Shape) (h : ℕ) (x : Host) (k : hosts.Kept) → IsHost c h x (Some k) → k.prefix ≡ learned_of x
-learned_is c h x k is = let r = running_by c h x k is in r.2.prefix ∙ sym (ap learned_of r.1)
 
 -- A SCRIPT'S END
 

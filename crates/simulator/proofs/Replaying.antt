@@ -8,7 +8,7 @@ use Rattle.std.proofs.lemmas.List.Folds.{list_any-append}
 use Rattle.slot_log.specs.Shape.{Shape}
 use Rattle.host.specs.declared.answer.HostAnswer.{HostAnswer}
 use Rattle.host.specs.declared.answer.HostAnswer.TheVariants.{Ack, Recovered, Looked, Beaten, Marked, Refused}
-use Rattle.host.specs.Host.{Host, Stopped, Running, is_stopped, said_of}
+use Rattle.host.specs.Host.{said_of}
 use Rattle.world.specs.Entry.{Filled}
 use Rattle.world.specs.World.{world}
 use Rattle.world.specs.Happens.{Event, Start, Stop, Recover, Step, Line, entry_of, with_entry, lines_at, answers_from}
@@ -49,20 +49,7 @@ says_it old new event a on lines =
       runs = subst (λ (p : Past). said_of ((world_of p).host a.host) ≡ Some a.said) (sym on) s.says;
     }
 
-pub says_nothing : (old new : Past) → answers_of new ≡ answers_of old ++ lines_in None → Says old new None
-says_nothing old new lines = record { answered = lines; runs = tt }
-
-running : (x : Host) (said : HostAnswer) → said_of x ≡ Some said → is_stopped x ≡ false
-running Stopped said says = absurd (cc)
-running (Running m) said says = refl
-
-pub speaker_is_running : (old new : Past) (said : Said) → Says old new (Some said) → is_stopped ((world_of new).host said.host) ≡ false
-speaker_is_running old new said says = running _ said.answer says.runs
-
 -- ONE AFTER THE OTHER
-
-pub goes_nowhere : (p : Past) → GoesOn p p []
-goes_nowhere p = ap (λ (l : List Event). record { opening = p.opening; events = l }) (sym (append-nil p.events))
 
 pub goes_further : (start old new : Past) (more events : List Event) → GoesOn start old more → GoesOn old new events → GoesOn start new (more ++ events)
 goes_further start old new more events before after =
@@ -100,22 +87,7 @@ or_false : (b : Bool) → b ≡ (b || false)
 or_false true = refl
 or_false false = refl
 
-or_true : (b : Bool) → true ≡ (b || true)
-or_true true = refl
-or_true false = refl
-
--- nothing is said,
-pub hears_nothing : (start old new : Past) (has : Bool) → Says old new None → Heard start old has → Heard start new has
-hears_nothing start old new has says before = heard_more start old new has has None says (or_false has) before
-
--- or that a host has recovered,
-pub hears_recovery : (start old new : Past) (has : Bool) (said : Said) (n : ℕ) → said.answer ≡ Recovered n → Says old new (Some said) → Heard start old has → Heard start new true
-hears_recovery start old new has said n is says before =
-    let found : list_any is_recovery (lines_of (length old.events) (Some said)) ≡ true =
-    ap (λ (a : HostAnswer). list_any is_recovery (lines_of (length old.events) (Some (record { host = said.host; answer = a })))) is in
-    heard_more start old new has true (Some said) says (or_true has ∙ ap (λ (b : Bool). has || b) (sym found)) before
-
--- or something else
+-- something else than that it has recovered
 abbrev pub IsOther : HostAnswer → Type 0
 IsOther answer = (n : ℕ) → answer ≡ Recovered n → ⊥
 

@@ -4,7 +4,7 @@ use Rattle.beats.specs.declared.notes.Notes.{Notes}
 use Rattle.marks.specs.declared.notes.Notes as mark_notes
 use Rattle.host.specs.Host.{Memory}
 use Rattle.host.specs.Kept.{Kept, LeadsTo, BeatLeadsTo, MarkingLeadsTo, due_call}
-use Rattle.host.proofs.Hosts.{from_attempt, no_beat_nine, no_marking_nine, none_is}
+use Rattle.host.proofs.Hosts.{from_attempt, no_beat_nine, none_is}
 use Rattle.host.proofs.host_core.HostCore.hear.Goals as goal
 
 pub returns-else-is_some-2-clause-leads : goal.returns-else-is_some-2-clause-leads

@@ -1,6 +1,6 @@
 use Rattle.std.proofs.Common.{◌∙◌, arith}
 use Rattle.dlm_images.proofs.Headers.{old_number, right_number, right_told, old_told}
-use Rattle.dlm_images.proofs.header.long_as_told.Goals as goal
+use Rattle.dlm_images.proofs.header.length_in_header.Goals as goal
 
 pub returns-then-bytes-eq-VERSION-clause-right : goal.returns-then-bytes-eq-VERSION-clause-right
 returns-then-bytes-eq-VERSION-clause-right c = λ disk long header right.
