@@ -148,6 +148,15 @@ tried "failover" "$work/failover" "$work/images"
 cp -- "$work/out.txt" "$work/said.txt"
 tried "what failover says" diff "$work/said.txt" "$here/examples/c/failover.out"
 
+# The log gets full in the midst of the work, and is renewed; hosts are killed and started again.
+tried "renewed, built" cc -std=c99 $common "$here/examples/c/renewed.c" $flags -o "$work/renewed"
+if [[ -x $dlm ]] && command -v python3 > /dev/null; then
+    folder
+    tried "renewed" python3 "$here/tests/renewed.py" "$work/renewed" "$dlm" "$work/images" 30 20
+else
+    left_out "renewed logs: the program is not built, or there is no Python"
+fi
+
 # From Python.
 if command -v python3 > /dev/null; then
     folder
@@ -209,6 +218,11 @@ if command -v valgrind > /dev/null; then
         [[ $program != contend ]] || given+=(3 5)
         tried "valgrind $program" valgrind -q --leak-check=full --errors-for-leak-kinds=all --error-exitcode=9 "$work/$program" "${given[@]}"
     done
+    if [[ -x $dlm ]] && command -v python3 > /dev/null; then
+        folder
+        tried "valgrind renewed" python3 "$here/tests/renewed.py" "$work/renewed" "$dlm" "$work/images" 15 2 \
+            valgrind -q --leak-check=full --errors-for-leak-kinds=all --error-exitcode=9
+    fi
 else
     left_out "valgrind: there is none"
 fi
