@@ -152,7 +152,7 @@ tried "what failover says" diff "$work/said.txt" "$here/examples/c/failover.out"
 tried "renewed, built" cc -std=c99 $common "$here/examples/c/renewed.c" $flags -o "$work/renewed"
 if [[ -x $dlm ]] && command -v python3 > /dev/null; then
     folder
-    tried "renewed" python3 "$here/tests/renewed.py" "$work/renewed" "$dlm" "$work/images" 30 20
+    tried "renewed" python3 "$here/tests/renewed.py" "$work/renewed" "$dlm" "$work/images" 20 10
 else
     left_out "renewed logs: the program is not built, or there is no Python"
 fi
@@ -220,7 +220,7 @@ if command -v valgrind > /dev/null; then
     done
     if [[ -x $dlm ]] && command -v python3 > /dev/null; then
         folder
-        tried "valgrind renewed" python3 "$here/tests/renewed.py" "$work/renewed" "$dlm" "$work/images" 15 2 \
+        tried "valgrind renewed" python3 "$here/tests/renewed.py" "$work/renewed" "$dlm" "$work/images" 15 1 \
             valgrind -q --leak-check=full --errors-for-leak-kinds=all --error-exitcode=9
     fi
 else
