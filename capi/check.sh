@@ -75,6 +75,11 @@ tried "images, built" cc -std=c99 $common "$here/tests/images.c" $flags -o "$wor
 folder
 tried "images" "$work/images_test" "$work/images" "$dlm"
 
+# How full a log is, and a full one.
+tried "full log, built" cc -std=c99 $common "$here/tests/full_log.c" $flags -o "$work/full_log"
+folder
+tried "full log" "$work/full_log" "$work/images" "$dlm"
+
 # Standard input, output and error are closed, in each of seven ways: no image's header changes.
 tried "closed, built" cc -std=c99 $common "$here/tests/closed.c" $flags -o "$work/closed"
 tried "format, built" cc -std=c99 $common -x c - $flags -o "$work/format" << 'END'
@@ -129,7 +134,7 @@ for page in page page_value manual; do
     in_folder ./format images 1
     tried "$page, full log" in_folder bash -c './leaves && ! ./"$1"' _ "$page"
     cp -- "$work/out.txt" "$work/said.txt"
-    tried "$page, full log: it says so" grep -qx 'all slots of the log are taken; move to a new folder' "$work/said.txt"
+    tried "$page, full log: it says so" grep -q '^all slots of the log are taken; ' "$work/said.txt"
     tried "$page, full log: no lock" bash -c '! grep -q "db is ours" "$1"' _ "$work/said.txt"
 done
 
@@ -139,6 +144,15 @@ folder
 tried "failover" "$work/failover" "$work/images"
 cp -- "$work/out.txt" "$work/said.txt"
 tried "what failover says" diff "$work/said.txt" "$here/examples/c/failover.out"
+
+# The log gets full in the midst of the work, and is renewed; hosts are killed and started again.
+tried "renewed, built" cc -std=c99 $common "$here/examples/c/renewed.c" $flags -o "$work/renewed"
+if [[ -x $dlm ]] && command -v python3 > /dev/null; then
+    folder
+    tried "renewed" python3 "$here/tests/renewed.py" "$work/renewed" "$dlm" "$work/images" 20 10
+else
+    left_out "renewed logs: the program is not built, or there is no Python"
+fi
 
 # From Python.
 if command -v python3 > /dev/null; then
@@ -195,18 +209,23 @@ for page in README.md docs/LIBRARY.md; do tried "lines of C in $page" grep -q "\
 
 # Memory.
 if command -v valgrind > /dev/null; then
-    for program in calls values refused_memory images_test failover contend; do
+    for program in calls values full_log refused_memory images_test failover contend; do
         folder
         given=("$work/images")
         [[ $program != contend ]] || given+=(3 5)
         tried "valgrind $program" valgrind -q --leak-check=full --errors-for-leak-kinds=all --error-exitcode=9 "$work/$program" "${given[@]}"
     done
+    if [[ -x $dlm ]] && command -v python3 > /dev/null; then
+        folder
+        tried "valgrind renewed" python3 "$here/tests/renewed.py" "$work/renewed" "$dlm" "$work/images" 15 1 \
+            valgrind -q --leak-check=full --errors-for-leak-kinds=all --error-exitcode=9
+    fi
 else
     left_out "valgrind: there is none"
 fi
 if echo 'int main(void) { return 0; }' | cc -x c -fsanitize=address,undefined - -o "$work/sanitizer" 2> "$work/out.txt" && command -v rt > /dev/null; then
     kit=$(dirname -- "$(dirname -- "$(readlink -f -- "$(command -v rt)")")")/c
-    for program in calls values images contend; do
+    for program in calls values full_log images contend; do
         tried "sanitized $program, built" cc -std=c99 $common -fsanitize=address,undefined -fno-sanitize-recover=all "$here/tests/$program.c" \
             "$here/src/midgegalena.c" "$top/crates/dlm_c/out/libdlm_c.a" "$kit/libos_c.a" "$kit/liblibc_c.a" -o "$work/sanitized_$program"
         folder

@@ -26,9 +26,9 @@ extern "C" {
 
 /* The library's numbers: an increase of the first breaks programs, an increase of the second adds to what there is. */
 #define MG_VERSION_MAJOR 0
-#define MG_VERSION_MINOR 3
+#define MG_VERSION_MINOR 4
 
-/* "0.3", of the library that is linked. */
+/* "0.4", of the library that is linked. */
 const char *mg_version(void);
 
 /* ---- limits ---- */
@@ -59,7 +59,7 @@ enum mg_outcome {
     MG_OUTRUN = 6,
     MG_NO_MAJORITY = 7,
     MG_BALLOTS_SPENT = 8,
-    MG_LOG_FULL = 9,
+    MG_LOG_FULL = 9, /* of mg_wait, too: see "commands" */
     MG_NOT_A_COMMAND = 10,
 
     /* The command is in the log, and the lock table refused it: nothing was changed */
@@ -133,6 +133,11 @@ int mg_set_tries(struct mg_host *host, unsigned tries);
  * is free for mg_enqueue. `answer` may be NULL.
  *
  * A command that is acknowledged is marked then, so that others learn it by mg_look. A mark that fails is not told.
+ *
+ * A full log refuses each command with MG_LOG_FULL, and ends mg_wait so for a lock that waits. Nothing was changed, and nothing
+ * in this folder changes any more: the host knows all of it, and goes on showing it. mg_open, mg_look, mg_refresh and mg_mark end
+ * well. Once the log is renewed (`dlm renew`), close the host, open the folder again by its link, and call again with the same
+ * request number. The command gets the reply that it got before, or is carried out then. mg_log tells in time.
  */
 
 enum mg_reply {
@@ -198,7 +203,8 @@ int mg_mark(struct mg_host *host, uint64_t *learned);
  *
  * MG_OK: the lock holds the mode `*granted`, where that is not NULL, and wants no other: it was granted, or a conversion was
  * cancelled and left it what it held. MG_NO_SUCH_LOCK: it is gone: cancelled, released or purged. MG_TIMED_OUT after
- * `timeout` milliseconds, below 0 for no end; the lock still waits. Another number ends it at once. */
+ * `timeout` milliseconds, below 0 for no end; the lock still waits. MG_LOG_FULL: it waits, and all slots are learned, so in this
+ * folder it waits for ever. Another number ends it at once. */
 int mg_wait(struct mg_host *host, unsigned lock, int interval, int timeout, int *granted);
 
 /* ---- the table, as the host knows it: no device call ---- */
@@ -230,6 +236,10 @@ struct mg_host_view {
 };
 
 int mg_host_facts(struct mg_host *host, struct mg_host_view *into);
+
+/* How many slots the log has, and how many of them hold the commands that this host has learned. Others may have taken more
+ * since: mg_look learns them. Where both are the same the log is full. Either may be NULL. */
+int mg_log(struct mg_host *host, uint64_t *slots, uint64_t *used);
 
 /* The lock of this number, or MG_NO_SUCH_LOCK. */
 int mg_lock(struct mg_host *host, unsigned lock, struct mg_lock_view *into);

@@ -158,7 +158,8 @@ static const struct meaning MEANINGS[] = {
     {MG_NO_MAJORITY, "NoMajority",
      "no majority of the disks answers; bring them back, and ask again, with the same request number"},
     {MG_BALLOTS_SPENT, "BallotsSpent", "the ballots of this host are spent; try through another host number"},
-    {MG_LOG_FULL, "LogFull", "all slots of the log are taken; move to a new folder"},
+    {MG_LOG_FULL, "LogFull",
+     "all slots of the log are taken; once it is renewed open the folder again, and ask again, with the same request number"},
     {MG_NOT_A_COMMAND, "NotACommand", "a committed value spells no command; somebody else wrote to the images"},
     {MG_LOCK_IN_USE, "LockInUse", "the lock number is in the table"},
     {MG_NO_SUCH_LOCK, "NoSuchLock", "the lock number is not in the table"},
@@ -419,6 +420,7 @@ int mg_open(const char *folder, unsigned number, struct mg_host **out, int *disk
     int status;
     struct mg_host *host;
     struct images *images;
+    char *followed;
     if (disk)
         *disk = -1;
     if (out)
@@ -433,7 +435,10 @@ int mg_open(const char *folder, unsigned number, struct mg_host **out, int *disk
     for (unsigned k = 0; k < MG_DISKS; k++)
         host->files[k] = NO_FILE;
     images = calloc(1, sizeof *images);
-    status = images ? open_host(host, images, folder, number, &at_fault) : MG_NO_MEMORY;
+    /* A link is followed once: one that is moved meanwhile would give images of one folder, and the lock of another. */
+    followed = realpath(folder, NULL);
+    status = images ? open_host(host, images, followed ? followed : folder, number, &at_fault) : MG_NO_MEMORY;
+    free(followed);
     free(images);
     if (disk)
         *disk = at_fault;
@@ -792,6 +797,11 @@ static int look_further(struct mg_host *host, int64_t *recovers) {
     return status == MG_OUTRUN ? MG_OK : status;
 }
 
+static bool is_full(struct mg_host *host) {
+    uint64_t slots, used;
+    return mg_log(host, &slots, &used) == MG_OK && used >= slots;
+}
+
 int mg_wait(struct mg_host *host, unsigned lock, int interval, int timeout, int *granted) {
     int64_t start, recovers;
     int64_t pause = 1;
@@ -815,6 +825,9 @@ int mg_wait(struct mg_host *host, unsigned lock, int interval, int timeout, int 
                 *granted = view.held;
             return MG_OK;
         }
+        /* No command comes into it any more, so here the lock would wait for ever. */
+        if (is_full(host))
+            return MG_LOG_FULL;
         if (timeout >= 0) {
             int64_t left = timeout - (milliseconds() - start);
             if (left <= 0)
@@ -834,6 +847,18 @@ int mg_host_facts(struct mg_host *host, struct mg_host_view *into) {
         return MG_BAD_ARGUMENT;
     memset(into, 0, sizeof *into);
     return status_of(dlm_c_host(&host->handle, into));
+}
+
+int mg_log(struct mg_host *host, uint64_t *slots, uint64_t *used) {
+    struct mg_host_view view;
+    int status;
+    memset(&view, 0, sizeof view);
+    status = mg_host_facts(host, &view);
+    if (slots)
+        *slots = view.slots;
+    if (used)
+        *used = view.learned;
+    return status;
 }
 
 int mg_lock(struct mg_host *host, unsigned lock, struct mg_lock_view *into) {

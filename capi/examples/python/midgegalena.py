@@ -10,7 +10,7 @@ from contextlib import contextmanager
 from ctypes import POINTER, Structure, byref, c_char_p, c_int, c_int32, c_size_t, c_uint, c_uint8, c_uint32, c_uint64, c_void_p
 
 NL, CR, CW, PR, PW, EX = range(6)
-OK, OUTRUN, NO_MAJORITY, TIMED_OUT, NOT_QUEUED, NO_SUCH_LOCK = 0, 6, 7, -2, 16, 12
+OK, OUTRUN, NO_MAJORITY, LOG_FULL, TIMED_OUT, NOT_QUEUED, NO_SUCH_LOCK = 0, 6, 7, 9, -2, 16, 12
 NO_QUEUE = 1
 GRANTED = 1
 VALID = 1
@@ -48,6 +48,7 @@ def load(path=None):
     lib.mg_value.argtypes = [c_void_p, c_uint, POINTER(Value)]
     lib.mg_wait.argtypes = [c_void_p, c_uint, c_int, c_int, POINTER(c_int)]
     lib.mg_refresh.argtypes = [c_void_p, POINTER(c_uint64)]
+    lib.mg_log.argtypes = [c_void_p, POINTER(c_uint64), POINTER(c_uint64)]
     lib.mg_locks.argtypes = [c_void_p, POINTER(LockView), c_size_t, POINTER(c_size_t)]
     lib.mg_clients.argtypes = [c_void_p, POINTER(ClientView), c_size_t, POINTER(c_size_t)]
     lib.mg_text.argtypes = [c_void_p, c_char_p, c_size_t, POINTER(c_size_t)]
@@ -65,7 +66,10 @@ class Refused(Exception):
 class Cluster:
     """One host of a folder, and one client of it. For one thread.
 
-    It begins by releasing what an earlier run of this client left, as one that was killed; with `keep` it leaves that as it is."""
+    It begins by releasing what an earlier run of this client left, as one that was killed; with `keep` it leaves that as it is.
+
+    A full log refuses each call with LOG_FULL. Once it is renewed, close this one, and open another over the link that leads to
+    the folder: it goes on above the same request, and releases what this one could not. `log` tells in time."""
 
     def __init__(self, folder, host, client, library=None, keep=False):
         self.lib = load(library)
@@ -116,6 +120,12 @@ class Cluster:
 
     def locks(self):
         return [(v.name.decode(), v.lock, v.client, v.held, v.wanted) for v in self._views(self.lib.mg_locks, LockView, 256)]
+
+    def log(self):
+        """How many slots the log has, and how many of them hold the commands that this host has learned."""
+        slots, used = c_uint64(), c_uint64()
+        self._check(self.lib.mg_log(self.handle, byref(slots), byref(used)))
+        return slots.value, used.value
 
     def value(self, lock):
         """The 16 bytes that are kept with the lock's name, and whether they are valid."""

@@ -35,6 +35,8 @@ with Cluster(folder, host=0, client=1, library=library) as first, Cluster(folder
         with second.lock("seats", PR) as lock:
             sold, valid = second.value(lock)
             print("sold", int.from_bytes(sold, "big"), "valid" if valid else "perhaps")
+    slots, used = second.log()
+    print("renew the log" if 10 * used >= 9 * slots else f"{slots - used} slots are left")
     try:
         Cluster(folder, host=1, client=3, library=library)
     except Refused as why:
