@@ -1,5 +1,5 @@
 ghost use Rattle.std.specs.Prelude.{◌≡◌, ◌↔◌, IsTrue};
-ghost use Rattle.lock_command.specs.Refusals.{refusal_number, refusal_name, refusals, refusal_of};
+ghost use Rattle.lock_command.specs.Refusals.{refusal_number, refusal_name, refusal_of};
 
 use crate::state::LockState;
 
@@ -43,7 +43,7 @@ impl Refusal {
         Refusal::NothingToCancel,
     ];
 
-    /// The number that is printed.
+    /// The number that is printed. A client that is carried over has it in its bytes.
     pub fn number(self) -> u8
         ensures { result ≡ refusal_number self }
     {
@@ -73,7 +73,10 @@ impl Refusal {
     pub fn of_number(number: u8) -> Option<Refusal>
         ensures { result ≡ refusal_of number }
     {
-        Refusal::ALL.iter().copied().find(|refusal| refusal.number() == number)
+        Refusal::ALL
+            .iter()
+            .copied()
+            .find(|refusal| refusal.number() == number)
     }
 }
 
