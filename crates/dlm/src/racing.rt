@@ -1,11 +1,11 @@
 ghost use Rattle.std.specs.Prelude.{◌≡◌, ◌+◌, OnOk};
 ghost use Rattle.std.specs.Io.KnownBytes.{Appends};
 ghost use Rattle.dlm.specs.Faults.{of_host};
-ghost use Rattle.dlm.specs.RaceText.{WritesRace, host_fault_text, race_line, race_text};
+ghost use Rattle.dlm.specs.RaceText.{WritesRace, race_line, race_text};
 
 use cluster::HostFault;
 use dlm_tasks::{CommandFailure, Fault};
-use dlm_words::{ReplyText, refusal_text};
+use dlm_words::{RefusalText, ReplyText};
 use lock_command::HostNumber;
 use race::{Answer, Race, run_race};
 use std::alloc::AllocGlobal;
@@ -76,23 +76,34 @@ impl fmt::Display for RaceText {
                 write!(f, "ack {slot} {reply}")
             }
             Answer::Refused(fault) => {
-                let fault = host_fault_text(fault);
+                let fault = FaultText(fault);
                 write!(f, "refused {fault}")
             }
         }
     }
 }
 
-/// The number and the name of what a cluster of host threads refuses.
-fn host_fault_text(fault: HostFault) -> &'static str
-    ensures { result.now ≡ host_fault_text fault }
-{
-    match fault {
-        HostFault::Refused(refusal) => refusal_text(refusal),
-        HostFault::NoMemory => "21 NoMemory",
-        HostFault::JournalFull => "22 JournalFull",
-        HostFault::SeatTaken => "27 SeatTaken",
-        HostFault::SeatsMissing => "28 SeatsMissing",
-        HostFault::OpenCall => "35 OpenCall",
+/// What a cluster of host threads refuses, as it is printed.
+#[derive(Clone, Copy)]
+struct FaultText(HostFault);
+
+impl fmt::Display for FaultText {
+    ghost use Rattle.std.specs.Prelude.{Some};
+    ghost use Rattle.dlm.specs.RaceText.{host_fault_text};
+
+    ghost output = { λ f. Some (host_fault_text f.0) };
+
+    fn fmt<W: fmt::Write>(&self, f: &mut fmt::Formatter<W>) -> fmt::Result {
+        match self.0 {
+            HostFault::Refused(refusal) => {
+                let refusal = RefusalText(refusal);
+                write!(f, "{refusal}")
+            }
+            HostFault::NoMemory => f.write_str("21 NoMemory"),
+            HostFault::JournalFull => f.write_str("22 JournalFull"),
+            HostFault::SeatTaken => f.write_str("27 SeatTaken"),
+            HostFault::SeatsMissing => f.write_str("28 SeatsMissing"),
+            HostFault::OpenCall => f.write_str("35 OpenCall"),
+        }
     }
 }

@@ -9,11 +9,12 @@ use Rattle.lock_command.specs.declared.reply.LockValue.{LockValue}
 use Rattle.lock_command.specs.declared.reply.Reply.{Reply}
 use Rattle.lock_command.specs.declared.reply.Answer.TheVariants.{Granted, Queued, Released, Cancelled, Purged, State, Refused}
 use Rattle.lock_command.specs.declared.reply.Refusal as refused
-use Rattle.lock_command.specs.declared.reply.Refusal.TheVariants.{LockInUse, NoSuchLock, NotOwner, AlreadyConverting, StillWaiting, NotQueued, TableFull, Stale, ClientsFull, NothingToCancel}
+use Rattle.lock_command.specs.declared.reply.Refusal.TheVariants.{NoSuchLock}
+use Rattle.lock_command.specs.Refusals as of_table
 use Rattle.slot_log.specs.declared.outcome.Refusal as operation
-use Rattle.slot_log.specs.declared.outcome.Refusal.TheVariants.{Outrun, NoMajority, BallotsSpent, LogFull, NotACommand, NotLearned}
+use Rattle.slot_log.specs.Refusals as of_operation
 use Rattle.disk.specs.declared.fault.ImageFault.{ImageFault}
-use Rattle.disk.specs.declared.fault.ImageFault.TheVariants.{NotFormatted, WrongHeader, Unreadable, OldLayout}
+use Rattle.dlm_images.specs.ImageFaults.{image_fault_number}
 use Rattle.dlm_c.specs.declared.answer.Answer.{Answer}
 use Rattle.dlm_c.specs.declared.fault.Fault.{Fault}
 use Rattle.dlm_c.specs.declared.fault.Fault.TheVariants as fault
@@ -49,25 +50,11 @@ nothing_said = negsuc 6
 
 -- a refusal that ends an operation
 abbrev pub operation_number : operation.Refusal → ℤ
-operation_number Outrun = pos 6
-operation_number NoMajority = pos 7
-operation_number BallotsSpent = pos 8
-operation_number LogFull = pos 9
-operation_number NotACommand = pos 10
-operation_number NotLearned = pos 30
+operation_number refusal = pos (of_operation.refusal_number refusal)
 
 -- a refusal of the lock table
 abbrev pub table_number : refused.Refusal → ℤ
-table_number LockInUse = pos 11
-table_number NoSuchLock = pos 12
-table_number NotOwner = pos 13
-table_number AlreadyConverting = pos 14
-table_number StillWaiting = pos 15
-table_number NotQueued = pos 16
-table_number TableFull = pos 17
-table_number Stale = pos 18
-table_number ClientsFull = pos 19
-table_number NothingToCancel = pos 20
+table_number refusal = pos (of_table.refusal_number refusal)
 
 abbrev pub no_such_lock : ℤ
 no_such_lock = table_number NoSuchLock
@@ -152,10 +139,7 @@ status_of reply = refusal_number reply.answer
 
 -- a fault of an image
 abbrev pub image_number : ImageFault → ℤ
-image_number NotFormatted = pos 24
-image_number WrongHeader = pos 25
-image_number Unreadable = pos 26
-image_number OldLayout = pos 32
+image_number fault = pos (image_fault_number fault)
 
 -- why a call did not do what it was asked
 abbrev pub fault_number : Fault → ℤ

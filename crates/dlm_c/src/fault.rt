@@ -2,8 +2,7 @@ ghost use Rattle.std.specs.Prelude.{◌≡◌};
 ghost use Rattle.dlm_c.specs.declared.fault.Fault.TheVariants.{NoMemory, Images};
 ghost use Rattle.dlm_c.specs.Numbers.{fault_number, disk_number, operation_number, table_number};
 
-use disk::ImageFault;
-use dlm_images::SetFault;
+use dlm_images::{SetFault, image_fault_number};
 use host::Refusal;
 
 /// An argument is none that the call takes.
@@ -47,14 +46,9 @@ impl Fault {
             Fault::BadArgument => BAD_ARGUMENT,
             Fault::Closed => CLOSED,
             Fault::Open => -3,
-            Fault::NoSuchLock => 12,
+            Fault::NoSuchLock => table_number(lock_table::Refusal::NoSuchLock),
             Fault::NoMemory => 21,
-            Fault::Images(why) => match why.fault {
-                ImageFault::NotFormatted => 24,
-                ImageFault::WrongHeader => 25,
-                ImageFault::Unreadable => 26,
-                ImageFault::OldLayout => 32,
-            },
+            Fault::Images(why) => i32::from(image_fault_number(why.fault)),
         }
     }
 
@@ -73,32 +67,14 @@ impl Fault {
 pub fn operation_number(refusal: Refusal) -> i32
     ensures { result ≡ operation_number refusal }
 {
-    match refusal {
-        Refusal::Outrun => 6,
-        Refusal::NoMajority => 7,
-        Refusal::BallotsSpent => 8,
-        Refusal::LogFull => 9,
-        Refusal::NotACommand => 10,
-        Refusal::NotLearned => 30,
-    }
+    i32::from(refusal.number())
 }
 
 /// The number of a refusal of the lock table.
 pub fn table_number(refusal: lock_table::Refusal) -> i32
     ensures { result ≡ table_number refusal }
 {
-    match refusal {
-        lock_table::Refusal::LockInUse => 11,
-        lock_table::Refusal::NoSuchLock => 12,
-        lock_table::Refusal::NotOwner => 13,
-        lock_table::Refusal::AlreadyConverting => 14,
-        lock_table::Refusal::StillWaiting => 15,
-        lock_table::Refusal::NotQueued => 16,
-        lock_table::Refusal::TableFull => 17,
-        lock_table::Refusal::Stale => 18,
-        lock_table::Refusal::ClientsFull => 19,
-        lock_table::Refusal::NothingToCancel => 20,
-    }
+    i32::from(refusal.number())
 }
 
 impl From<disk::NoMemory> for Fault {

@@ -5,7 +5,7 @@ use Rattle.std.specs.List.{concat, flat_map, range_with_len}
 use Rattle.disk.specs.Disk.{Device, DiskState}
 use Rattle.disk.specs.declared.fault.DiskFault.{DiskFault}
 use Rattle.disk.specs.declared.fault.ImageFault.{ImageFault}
-use Rattle.disk.specs.declared.fault.ImageFault.TheVariants.{NotFormatted, WrongHeader, Unreadable, OldLayout}
+use Rattle.disk.specs.declared.fault.ImageFault.TheVariants.{Unreadable}
 use Rattle.torn_block.specs.declared.layout.TheConstants.{HOSTS}
 use Rattle.paxos_block.specs.Places.{area_of, row_of, image_length}
 use Rattle.paxos_block.specs.Damage as rows
@@ -13,6 +13,7 @@ use Rattle.paxos_block.specs.declared.header.Header.{Header}
 use Rattle.heartbeat.specs.Damage as areas
 use Rattle.paxos_block.specs.Row.{IsDamagedRow}
 use Rattle.heartbeat.specs.Beat.{IsDamagedArea}
+use Rattle.dlm_images.specs.ImageFaults.{image_fault_number, image_fault_name}
 use Rattle.dlm_images.specs.Sets.{Found}
 use Rattle.dlm_images.specs.declared.check.Blocks.{Blocks}
 use Rattle.dlm_images.specs.declared.check.Blocks.TheVariants.{Heartbeat, Slot}
@@ -56,14 +57,9 @@ abbrev pub rows_text : ℕ → ℕ → List ℕ → List ℕ
 rows_text disk slots bytes = flat_map (row_text disk bytes) (range_with_len 0 slots)
 
 -- the line of an image that is not used
-abbrev pub fault_name : ImageFault → List ℕ
-fault_name NotFormatted = codes "24 NotFormatted"
-fault_name WrongHeader = codes "25 WrongHeader"
-fault_name Unreadable = codes "26 Unreadable"
-fault_name OldLayout = codes "32 OldLayout"
-
 abbrev pub fault_line : ℕ → ImageFault → List ℕ
-fault_line disk fault = codes "disk" ++ decimal disk ++ codes " " ++ fault_name fault ++ 10 ∷ []
+fault_line disk fault =
+    codes "disk" ++ decimal disk ++ codes " " ++ decimal (image_fault_number fault) ++ codes " " ++ image_fault_name fault ++ 10 ∷ []
 
 -- the heartbeat blocks first, and then the blocks of each slot
 abbrev pub image_text : ℕ → ℕ → List ℕ → List ℕ

@@ -2,6 +2,7 @@ pub mod Damage
 pub mod Examples
 pub mod Folders
 pub mod Headers
+pub mod ImageFaults
 pub mod Layout
 pub mod Marking
 pub mod Operations

@@ -13,6 +13,7 @@ ghost use Rattle.dlm_images.specs.Damage.{IfDevice, AreLarge, IsDamagedImage, Is
 ghost use Rattle.dlm_images.specs.Reading.{area_read, row_read, row_reads, Tells, FailsAmong, FailsToShow, CannotBeRead, OneCannotBeRead};
 
 use crate::folder::Folder;
+use crate::image_fault::{image_fault_name, image_fault_number};
 use disk::{Boot, Disk, DiskFault, ImageFault};
 use heartbeat::damaged_beats;
 use paxos_block::{AREA_PLACE, Header, damaged_hosts, row_place};
@@ -332,12 +333,8 @@ fn print_fault<O: Write>(disk: u8, fault: ImageFault, out: &mut O) -> io::Result
     ensures finding { IfOk result (λ finding. finding ≡ Finding.Image disk fault) }
     ensures text { OnOk result (Appends (O.contents out.old) (O.contents out.new) (fault_line disk fault)) }
 {
-    let name = match fault {
-        ImageFault::NotFormatted => "24 NotFormatted",
-        ImageFault::WrongHeader => "25 WrongHeader",
-        ImageFault::Unreadable => "26 Unreadable",
-        ImageFault::OldLayout => "32 OldLayout",
-    };
-    writeln!(out, "disk{disk} {name}")?;
+    let number = image_fault_number(fault);
+    let name = image_fault_name(fault);
+    writeln!(out, "disk{disk} {number} {name}")?;
     Ok(Finding::Image { disk, fault })
 }

@@ -10,6 +10,7 @@ mod format;
 mod header;
 mod host_lock;
 mod image;
+mod image_fault;
 mod operation;
 mod patience;
 mod recover_and_mark;
@@ -24,6 +25,7 @@ pub use format::{format_folder, is_taken, lay_out, new_device, put_zeros, sync_f
 pub use header::{image_header, length_in_header};
 pub use host_lock::{LockFault, TryLock, lock_host, lock_path};
 pub use image::{Access, first_bytes, image_path, open_cut_to_header};
+pub use image_fault::{image_fault_name, image_fault_number};
 pub use operation::drive;
 pub use patience::submit_patiently;
 pub use recover_and_mark::MarkedLog;

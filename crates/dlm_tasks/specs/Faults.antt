@@ -1,7 +1,4 @@
 -- Which fault a task makes of a refusal of its parts.
-use Rattle.std.specs.Prelude.{ℕ}
-use Rattle.disk.specs.declared.fault.ImageFault.{ImageFault}
-use Rattle.disk.specs.declared.fault.ImageFault.TheVariants as image
 use Rattle.lock_script.specs.declared.script.ScriptFault.{ScriptFault}
 use Rattle.lock_script.specs.declared.script.ScriptFault.TheVariants as script
 use Rattle.slot_log.specs.declared.outcome.Refusal.{Refusal}
@@ -20,18 +17,11 @@ use Rattle.folder_migration.specs.declared.renew_fault.NewFault.TheVariants as n
 use Rattle.folder_migration.specs.declared.renew_fault.RenewFault.{RenewFault}
 use Rattle.folder_migration.specs.declared.renew_fault.RenewFault.TheVariants as renew
 use Rattle.dlm_tasks.specs.declared.fault.Fault.{Fault}
-use Rattle.dlm_tasks.specs.declared.fault.Fault.TheVariants.{Damaged, Operation, NoMemory, BadLine, NotFormatted, WrongHeader, Unreadable, UnreadableImage, AlreadyThere, OldLayout, TooFewSlots, MigrationFailed, HostInUse, NoLock, NotFull, SameCluster, NoClient, RenewedElsewhere}
+use Rattle.dlm_tasks.specs.declared.fault.Fault.TheVariants.{Damaged, Operation, Image, NoMemory, BadLine, Unreadable, AlreadyThere, TooFewSlots, MigrationFailed, HostInUse, NoLock, NotFull, SameCluster, NoClient, RenewedElsewhere}
 
 -- an operation of a host was refused
 abbrev pub of_refusal : Refusal → Fault
 of_refusal refusal = Operation (record { 0 = refusal })
-
--- the image of this number is not used
-abbrev pub of_image : ℕ → ImageFault → Fault
-of_image disk image.NotFormatted = NotFormatted disk
-of_image disk image.WrongHeader = WrongHeader disk
-of_image disk image.Unreadable = UnreadableImage disk
-of_image disk image.OldLayout = OldLayout disk
 
 abbrev pub of_script : ScriptFault → Fault
 of_script script.NoMemory = NoMemory
@@ -40,11 +30,11 @@ of_script (script.BadLine line) = BadLine line
 abbrev pub of_folder : FolderFault → Fault
 of_folder folder.NoMemory = NoMemory
 of_folder folder.AlreadyThere = AlreadyThere
-of_folder (folder.Image disk fault) = of_image disk fault
+of_folder (folder.Image disk fault) = Image disk fault
 
 -- what a check of the images found
 abbrev pub of_finding : Finding → Fault
-of_finding (found.Image disk fault) = of_image disk fault
+of_finding (found.Image disk fault) = Image disk fault
 of_finding found.Damaged = Damaged
 
 -- a host's number could not be locked

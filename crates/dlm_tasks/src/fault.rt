@@ -1,9 +1,9 @@
 ghost use Rattle.std.specs.Prelude.{◌≡◌};
-ghost use Rattle.dlm_tasks.specs.Faults.{of_image, of_script, of_refusal, of_folder, of_filling, of_finding, of_lock, of_move, of_new, of_renewal};
+ghost use Rattle.dlm_tasks.specs.Faults.{of_script, of_refusal, of_folder, of_filling, of_finding, of_lock, of_move, of_new, of_renewal};
 ghost use Rattle.dlm_tasks.specs.declared.fault.Fault.TheVariants.{NoMemory};
 
 use disk::ImageFault;
-use dlm_images::{Finding, FolderFault, LockFault};
+use dlm_images::{Finding, FolderFault, LockFault, image_fault_name, image_fault_number};
 use dlm_words::RefusalText;
 use folder_migration::{FillFault, MoveFault, NewFault, RenewFault};
 use host::Refusal;
@@ -20,6 +20,9 @@ pub enum Fault {
     /// An operation of a host was refused.
     #[error("{0}")]
     Operation(RefusalText),
+    /// The image of this number is not used.
+    #[error("{number} {name} disk{disk}", number = image_fault_number(*.fault), name = image_fault_name(*.fault))]
+    Image { disk: u8, fault: ImageFault },
     #[error("21 NoMemory")]
     NoMemory,
     #[error("22 JournalFull")]
@@ -27,18 +30,9 @@ pub enum Fault {
     /// The number of the script's first bad line, from 1.
     #[error("23 BadLine {0}")]
     BadLine(usize),
-    /// The number of an image without an open gate.
-    #[error("24 NotFormatted disk{0}")]
-    NotFormatted(u8),
-    /// The number of an image with another header than it should have.
-    #[error("25 WrongHeader disk{0}")]
-    WrongHeader(u8),
     /// The script cannot be read, or the file that names a folder's successor cannot be read or written.
     #[error("26 Unreadable")]
     Unreadable,
-    /// The number of an image that cannot be opened, read, made or written.
-    #[error("26 Unreadable disk{0}")]
-    UnreadableImage(u8),
     #[error("27 SeatTaken")]
     SeatTaken,
     #[error("28 SeatsMissing")]
@@ -48,9 +42,6 @@ pub enum Fault {
     /// The number of the first wrong run of a sweep, from 0: its answers do not fit the log that was recovered.
     #[error("31 WrongRun {0}")]
     WrongRun(usize),
-    /// The number of an image that has the first layout, and no other fault.
-    #[error("32 OldLayout disk{0}")]
-    OldLayout(u8),
     /// A log that is moved needs as many slots as it had, and one that is renewed more than its table takes.
     #[error("33 TooFewSlots")]
     TooFewSlots,
@@ -79,18 +70,6 @@ pub enum Fault {
 }
 
 impl Fault {
-    /// Why the image of this number is not used.
-    fn of_image(disk: u8, fault: ImageFault) -> Self
-        ensures { result ≡ of_image disk fault }
-    {
-        match fault {
-            ImageFault::NotFormatted => Fault::NotFormatted(disk),
-            ImageFault::WrongHeader => Fault::WrongHeader(disk),
-            ImageFault::Unreadable => Fault::UnreadableImage(disk),
-            ImageFault::OldLayout => Fault::OldLayout(disk),
-        }
-    }
-
     /// Why a source could not be read.
     pub fn of_reading(error: &io::Error) -> Self {
         match error.kind() {
@@ -126,7 +105,7 @@ impl From<FolderFault> for Fault {
         match fault {
             FolderFault::NoMemory => Fault::NoMemory,
             FolderFault::AlreadyThere => Fault::AlreadyThere,
-            FolderFault::Image { disk, fault } => Fault::of_image(disk, fault),
+            FolderFault::Image { disk, fault } => Fault::Image { disk, fault },
         }
     }
 }
@@ -136,7 +115,7 @@ impl From<Finding> for Fault {
 
     fn from(finding: Finding) -> Self {
         match finding {
-            Finding::Image { disk, fault } => Fault::of_image(disk, fault),
+            Finding::Image { disk, fault } => Fault::Image { disk, fault },
             Finding::Damaged => Fault::Damaged,
         }
     }

@@ -8,9 +8,9 @@ use Rattle.lock_command.specs.declared.reply.LockValue.{LockValue}
 use Rattle.lock_command.specs.declared.reply.Reply.{Reply}
 use Rattle.lock_command.specs.declared.reply.Answer.TheVariants.{Granted, Queued, Released, Cancelled, Purged, State, Refused}
 use Rattle.lock_command.specs.declared.reply.Refusal as table
-use Rattle.lock_command.specs.declared.reply.Refusal.TheVariants.{LockInUse, NoSuchLock, NotOwner, AlreadyConverting, StillWaiting, NotQueued, TableFull, Stale, ClientsFull, NothingToCancel}
+use Rattle.lock_command.specs.Refusals as of_table
 use Rattle.slot_log.specs.declared.outcome.Refusal as operation
-use Rattle.slot_log.specs.declared.outcome.Refusal.TheVariants.{Outrun, NoMajority, BallotsSpent, LogFull, NotACommand, NotLearned}
+use Rattle.slot_log.specs.Refusals as of_operation
 use Rattle.host.specs.declared.answer.HostAnswer.{HostAnswer}
 use Rattle.host.specs.declared.answer.HostAnswer.TheVariants.{Ack, Recovered, Looked, Beaten, Marked, Refused as Ended}
 use Rattle.inspect.specs.Text.{mode_name, is_zeros, value_text}
@@ -31,18 +31,9 @@ wanted_mode (Holding mode) = None
 wanted_mode (Converting held wanted) = Some wanted
 wanted_mode (Waiting wanted) = Some wanted
 
--- the numbers and names of the lock table's refusals
+-- a refusal of the lock table
 abbrev pub table_refusal_text : table.Refusal → List ℕ
-table_refusal_text LockInUse = codes "11 LockInUse"
-table_refusal_text NoSuchLock = codes "12 NoSuchLock"
-table_refusal_text NotOwner = codes "13 NotOwner"
-table_refusal_text AlreadyConverting = codes "14 AlreadyConverting"
-table_refusal_text StillWaiting = codes "15 StillWaiting"
-table_refusal_text NotQueued = codes "16 NotQueued"
-table_refusal_text TableFull = codes "17 TableFull"
-table_refusal_text Stale = codes "18 Stale"
-table_refusal_text ClientsFull = codes "19 ClientsFull"
-table_refusal_text NothingToCancel = codes "20 NothingToCancel"
+table_refusal_text refusal = decimal (of_table.refusal_number refusal) ++ codes " " ++ of_table.refusal_name refusal
 
 -- the modes of a lock
 abbrev pub modes_text : LockState → List ℕ
@@ -69,14 +60,9 @@ done_text (Refused refusal) value = table_refusal_text refusal
 abbrev pub reply_text : Reply → List ℕ
 reply_text reply = done_text reply.answer (shown_value reply.value)
 
--- the numbers and names of the refusals that end an operation
+-- a refusal that ends an operation
 abbrev pub refusal_text : operation.Refusal → List ℕ
-refusal_text Outrun = codes "6 Outrun"
-refusal_text NoMajority = codes "7 NoMajority"
-refusal_text BallotsSpent = codes "8 BallotsSpent"
-refusal_text LogFull = codes "9 LogFull"
-refusal_text NotACommand = codes "10 NotACommand"
-refusal_text NotLearned = codes "30 NotLearned"
+refusal_text refusal = decimal (of_operation.refusal_number refusal) ++ codes " " ++ of_operation.refusal_name refusal
 
 -- what a host answers
 abbrev pub answer_text : HostAnswer → List ℕ

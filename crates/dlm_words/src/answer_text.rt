@@ -1,6 +1,3 @@
-ghost use Rattle.std.specs.Prelude.{◌≡◌};
-ghost use Rattle.dlm_words.specs.Text.{refusal_text};
-
 use crate::reply_text::ReplyText;
 use host::{HostAnswer, Refusal};
 use std::fmt;
@@ -26,7 +23,7 @@ impl fmt::Display for AnswerText {
             HostAnswer::Beaten { host } => write!(f, "beaten {host}"),
             HostAnswer::Marked { count } => write!(f, "marked {count}"),
             HostAnswer::Refused(refusal) => {
-                let refusal = refusal_text(refusal);
+                let refusal = RefusalText(refusal);
                 write!(f, "refused {refusal}")
             }
         }
@@ -44,20 +41,8 @@ impl fmt::Display for RefusalText {
     ghost output = { λ r. Some (refusal_text r.0) };
 
     fn fmt<W: fmt::Write>(&self, f: &mut fmt::Formatter<W>) -> fmt::Result {
-        f.write_str(refusal_text(self.0))
-    }
-}
-
-/// The number and the name of a refusal of an operation.
-pub fn refusal_text(refusal: Refusal) -> &'static str
-    ensures { result.now ≡ refusal_text refusal }
-{
-    match refusal {
-        Refusal::Outrun => "6 Outrun",
-        Refusal::NoMajority => "7 NoMajority",
-        Refusal::BallotsSpent => "8 BallotsSpent",
-        Refusal::LogFull => "9 LogFull",
-        Refusal::NotACommand => "10 NotACommand",
-        Refusal::NotLearned => "30 NotLearned",
+        let number = self.0.number();
+        let name = self.0.name();
+        write!(f, "{number} {name}")
     }
 }

@@ -8,6 +8,6 @@ mod reply_text;
 mod value_text;
 mod words;
 
-pub use answer_text::{AnswerText, RefusalText, refusal_text};
+pub use answer_text::{AnswerText, RefusalText};
 pub use reply_text::ReplyText;
 pub use words::{Subcommand, WordsFault, task_of};

@@ -1,9 +1,9 @@
 ghost use Rattle.std.specs.Prelude.{◌≡◌};
-ghost use Rattle.dlm_words.specs.Text.{held_mode, wanted_mode, table_refusal_text};
+ghost use Rattle.dlm_words.specs.Text.{held_mode, wanted_mode};
 
 use crate::mode_text::ModeText;
 use crate::value_text::{ValueText, shown_value};
-use lock_table::{Answer, LockState, Refusal, Reply};
+use lock_table::{Answer, LockState, Reply};
 use std::fmt;
 
 /// A reply of the lock table, as it is printed.
@@ -33,7 +33,11 @@ impl fmt::Display for ReplyText {
                 let value = ValueText(value);
                 write!(f, "State(held={held}, wanted={wanted}, value={value})")
             }
-            (Answer::Refused(refusal), _) => f.write_str(refusal_text(refusal)),
+            (Answer::Refused(refusal), _) => {
+                let number = refusal.number();
+                let name = refusal.name();
+                write!(f, "{number} {name}")
+            }
         }
     }
 }
@@ -47,23 +51,5 @@ fn modes_of(state: LockState) -> (ModeText, ModeText)
         LockState::Granted(held) => (ModeText(Some(held)), ModeText(None)),
         LockState::Converting { held, wanted } => (ModeText(Some(held)), ModeText(Some(wanted))),
         LockState::Waiting(wanted) => (ModeText(None), ModeText(Some(wanted))),
-    }
-}
-
-/// The number and the name of a refusal of the lock table.
-fn refusal_text(refusal: Refusal) -> &'static str
-    ensures { result.now ≡ table_refusal_text refusal }
-{
-    match refusal {
-        Refusal::LockInUse => "11 LockInUse",
-        Refusal::NoSuchLock => "12 NoSuchLock",
-        Refusal::NotOwner => "13 NotOwner",
-        Refusal::AlreadyConverting => "14 AlreadyConverting",
-        Refusal::StillWaiting => "15 StillWaiting",
-        Refusal::NotQueued => "16 NotQueued",
-        Refusal::TableFull => "17 TableFull",
-        Refusal::Stale => "18 Stale",
-        Refusal::ClientsFull => "19 ClientsFull",
-        Refusal::NothingToCancel => "20 NothingToCancel",
     }
 }

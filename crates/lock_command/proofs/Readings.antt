@@ -20,8 +20,9 @@ use Rattle.lock_command.specs.declared.reply.Refusal.{Refusal}
 use Rattle.lock_command.specs.declared.reply.Refusal.TheVariants as refusal
 use Rattle.lock_command.specs.declared.reply.LockValue.{LockValue}
 use Rattle.lock_command.specs.Name.{IsName, padded}
-use Rattle.lock_command.specs.Command.{Fields, flags_of, value_bytes, first_mode, state_number, refusal_number, told_flags, told_bytes, fields_of, number, spelled, spelling, mode_number, IsLock, IsValue, IsTold, FitsAnswer, FitsAction, Fits}
-use Rattle.lock_command.specs.Reading.{◌>>=◌, passed, lock_at, request_at, mode_of, name_of, name_at, no_queue_at, value_of, value_at, enqueue_at, convert_at, state_of, state_at, refusal_of, count_at, answer_at, told_of, told_at, carried_lock_at, carried_client_at, action_at, command_at}
+use Rattle.lock_command.specs.Command.{Fields, flags_of, value_bytes, first_mode, state_number, told_flags, told_bytes, fields_of, number, spelled, spelling, mode_number, IsLock, IsValue, IsTold, FitsAnswer, FitsAction, Fits}
+use Rattle.lock_command.specs.Refusals.{refusal_number, refusal_of}
+use Rattle.lock_command.specs.Reading.{◌>>=◌, passed, lock_at, request_at, mode_of, name_of, name_at, no_queue_at, value_of, value_at, enqueue_at, convert_at, state_of, state_at, count_at, answer_at, told_of, told_at, carried_lock_at, carried_client_at, action_at, command_at}
 
 passed_true : {A : Type 0} (test : Bool) (x : A) → test ≡ true → passed test x ≡ Some x
 passed_true test x h = ap (λ t. passed t x) h

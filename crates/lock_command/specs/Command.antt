@@ -11,10 +11,9 @@ use Rattle.lock_command.specs.declared.state.LockState.{LockState}
 use Rattle.lock_command.specs.declared.state.LockState.TheVariants as state
 use Rattle.lock_command.specs.declared.reply.Answer.{Answer}
 use Rattle.lock_command.specs.declared.reply.Answer.TheVariants as answer
-use Rattle.lock_command.specs.declared.reply.Refusal.{Refusal}
-use Rattle.lock_command.specs.declared.reply.Refusal.TheVariants as refusal
 use Rattle.lock_command.specs.declared.reply.LockValue.{LockValue}
 use Rattle.lock_command.specs.Name.{IsName, padded}
+use Rattle.lock_command.specs.Refusals.{refusal_number}
 
 -- the number of a mode
 abbrev pub mode_number : Mode → ℕ
@@ -57,19 +56,6 @@ abbrev pub state_number : LockState → ℕ
 state_number (state.Granted mode) = 0
 state_number (state.Waiting wanted) = 1
 state_number (state.Converting held wanted) = 2 + mode_number wanted
-
--- the number of a refusal, as it is printed
-abbrev pub refusal_number : Refusal → ℕ
-refusal_number refusal.LockInUse = 11
-refusal_number refusal.NoSuchLock = 12
-refusal_number refusal.NotOwner = 13
-refusal_number refusal.AlreadyConverting = 14
-refusal_number refusal.StillWaiting = 15
-refusal_number refusal.NotQueued = 16
-refusal_number refusal.TableFull = 17
-refusal_number refusal.Stale = 18
-refusal_number refusal.ClientsFull = 19
-refusal_number refusal.NothingToCancel = 20
 
 -- the number of an answer: a state and a refusal have their own
 abbrev pub answer_number : Answer → ℕ

@@ -11,11 +11,10 @@ use Rattle.lock_command.specs.declared.state.LockState.{LockState}
 use Rattle.lock_command.specs.declared.state.LockState.TheVariants as state
 use Rattle.lock_command.specs.declared.reply.Answer.{Answer}
 use Rattle.lock_command.specs.declared.reply.Answer.TheVariants as answer
-use Rattle.lock_command.specs.declared.reply.Refusal.{Refusal}
-use Rattle.lock_command.specs.declared.reply.Refusal.TheVariants as refusal
 use Rattle.lock_command.specs.declared.reply.LockValue.{LockValue}
 use Rattle.lock_command.specs.Name.{is_name}
 use Rattle.lock_command.specs.Command.{spelling}
+use Rattle.lock_command.specs.Refusals.{refusal_of}
 
 -- a reading, and what is read after it
 infixl 10 ◌>>=◌
@@ -102,21 +101,6 @@ unfoldable pub state_at : List ℕ → Option LockState
 state_at bytes = do
   mode ← mode_of (slice_index bytes 3)
   state_of (slice_index bytes 16) mode
-
--- the refusal of a number
-unfoldable pub refusal_of : ℕ → Option Refusal
-refusal_of n =
-    if n == 11 then Some refusal.LockInUse
-    else if n == 12 then Some refusal.NoSuchLock
-    else if n == 13 then Some refusal.NotOwner
-    else if n == 14 then Some refusal.AlreadyConverting
-    else if n == 15 then Some refusal.StillWaiting
-    else if n == 16 then Some refusal.NotQueued
-    else if n == 17 then Some refusal.TableFull
-    else if n == 18 then Some refusal.Stale
-    else if n == 19 then Some refusal.ClientsFull
-    else if n == 20 then Some refusal.NothingToCancel
-    else None
 
 -- the count in bytes 6 and 7
 unfoldable pub count_at : List ℕ → ℕ

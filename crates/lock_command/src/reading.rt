@@ -1,6 +1,6 @@
 ghost use Rattle.std.specs.Prelude.{bytes_eq, ◌≡◌, ◌↔◌, slice_index, IfSome, IsTrue};
 ghost use Rattle.lock_command.specs.Command.{spelling, Fits as FitsCommand};
-ghost use Rattle.lock_command.specs.Reading.{host_of, lock_at, request_at, mode_of, name_at, no_queue_at, value_at, enqueue_at, convert_at, state_of, state_at, refusal_of, count_at, answer_at, told_of, told_at, carried_lock_at, carried_client_at, action_at, command_at, decoded};
+ghost use Rattle.lock_command.specs.Reading.{host_of, lock_at, request_at, mode_of, name_at, no_queue_at, value_at, enqueue_at, convert_at, state_of, state_at, count_at, answer_at, told_of, told_at, carried_lock_at, carried_client_at, action_at, command_at, decoded};
 
 use crate::command::{Action, Command};
 use crate::name::LockName;
@@ -125,25 +125,6 @@ fn state_at(value: &Value) -> Option<LockState>
     state_of(value[16], mode_of(value[3])?)
 }
 
-#[tactic(auto, unfolding(crate::specs::Reading::refusal_of))]
-fn refusal_of(number: u8) -> Option<Refusal>
-    ensures { result ≡ refusal_of number }
-{
-    match number {
-        11 => Some(Refusal::LockInUse),
-        12 => Some(Refusal::NoSuchLock),
-        13 => Some(Refusal::NotOwner),
-        14 => Some(Refusal::AlreadyConverting),
-        15 => Some(Refusal::StillWaiting),
-        16 => Some(Refusal::NotQueued),
-        17 => Some(Refusal::TableFull),
-        18 => Some(Refusal::Stale),
-        19 => Some(Refusal::ClientsFull),
-        20 => Some(Refusal::NothingToCancel),
-        _ => None,
-    }
-}
-
 #[tactic(auto, unfolding(crate::specs::Reading::count_at))]
 fn count_at(value: &Value) -> u16
     ensures { result ≡ count_at value.now }
@@ -165,7 +146,7 @@ fn answer_at(value: &Value) -> Option<Answer>
             if number < 8 {
                 Some(Answer::State(state_at(value)?))
             } else {
-                Some(Answer::Refused(refusal_of(number)?))
+                Some(Answer::Refused(Refusal::of_number(number)?))
             }
         }
     }

@@ -1,4 +1,5 @@
 ghost use Rattle.std.specs.Prelude.{◌≡◌, ◌↔◌, IsTrue};
+ghost use Rattle.lock_command.specs.Refusals.{refusal_number, refusal_name, refusal_of};
 
 use crate::state::LockState;
 
@@ -6,25 +7,77 @@ use crate::state::LockState;
 #[derive(Clone, Copy, Debug, PartialEq, Eq)]
 pub enum Refusal {
     /// The lock number is in the table.
-    LockInUse,
+    LockInUse = 11,
     /// The lock number is not in the table.
-    NoSuchLock,
+    NoSuchLock = 12,
     /// The lock is another client's.
-    NotOwner,
+    NotOwner = 13,
     /// The lock is waiting for an earlier conversion.
-    AlreadyConverting,
+    AlreadyConverting = 14,
     /// The lock has not been granted yet, so it cannot be converted.
-    StillWaiting,
+    StillWaiting = 15,
     /// The lock cannot be granted at once, and the command said `noqueue`.
-    NotQueued,
+    NotQueued = 16,
     /// The table is full of locks.
-    TableFull,
+    TableFull = 17,
     /// The request number is below the client's last. The client's last reply stays kept.
-    Stale,
+    Stale = 18,
     /// The client is new, and the table is full of clients. Nothing is kept of it.
-    ClientsFull,
+    ClientsFull = 19,
     /// The lock is granted.
-    NothingToCancel,
+    NothingToCancel = 20,
+}
+
+impl Refusal {
+    /// All refusals.
+    const ALL: [Refusal; 10] = [
+        Refusal::LockInUse,
+        Refusal::NoSuchLock,
+        Refusal::NotOwner,
+        Refusal::AlreadyConverting,
+        Refusal::StillWaiting,
+        Refusal::NotQueued,
+        Refusal::TableFull,
+        Refusal::Stale,
+        Refusal::ClientsFull,
+        Refusal::NothingToCancel,
+    ];
+
+    /// The number that is printed. A client that is carried over has it in its bytes.
+    pub fn number(self) -> u8
+        ensures { result ≡ refusal_number self }
+    {
+        self as u8
+    }
+
+    /// The name that is printed after the number.
+    pub fn name(self) -> &'static str
+        ensures { result.now ≡ refusal_name self }
+    {
+        match self {
+            Refusal::LockInUse => "LockInUse",
+            Refusal::NoSuchLock => "NoSuchLock",
+            Refusal::NotOwner => "NotOwner",
+            Refusal::AlreadyConverting => "AlreadyConverting",
+            Refusal::StillWaiting => "StillWaiting",
+            Refusal::NotQueued => "NotQueued",
+            Refusal::TableFull => "TableFull",
+            Refusal::Stale => "Stale",
+            Refusal::ClientsFull => "ClientsFull",
+            Refusal::NothingToCancel => "NothingToCancel",
+        }
+    }
+
+    /// The refusal that has this number.
+    #[tactic(auto, unfolding(crate::specs::Refusals::refusal_of))]
+    pub fn of_number(number: u8) -> Option<Refusal>
+        ensures { result ≡ refusal_of number }
+    {
+        Refusal::ALL
+            .iter()
+            .copied()
+            .find(|refusal| refusal.number() == number)
+    }
 }
 
 /// What a command did.

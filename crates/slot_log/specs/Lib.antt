@@ -1,5 +1,6 @@
 pub mod Alone
 pub mod Kept
 pub mod Learning
+pub mod Refusals
 pub mod Shape
 pub mod layouts
