@@ -8,7 +8,7 @@ without the program); of some states `dlm table` is asked too, over the disks of
 states, so that losses come upon losses.
 
     power_loss.py [--steps N] [--hosts N] [--disks N] [--slots N] [--states N] [--tables N] [--seed N] [--program PATH]
-                  [--forget WHAT] [--format] [--migrate]
+                  [--forget WHAT] [--format] [--migrate] [--renew]
 
 In each step so many hosts submit at once (none given: one to four), some of which end in the midst. `--format` begins with losses
 within `dlm format`, `--migrate` with losses within `dlm migrate` over three disks. There a run may also be ended, and another one
@@ -16,9 +16,12 @@ follows, as after a loss; power is lost within that one too. In each state no co
 finishes, or moves the log anew, at the latest once the new images are removed; and once a run has told that it moved the log or
 finished, all images are complete and open.
 
+`--renew` does so within `dlm renew`, onto three disks, and within `dlm fill`. There the old folder has its table in each state. The new one has
+this table, or reads as none. Once a new image was made, other words are refused in each state, so `renewed` names the new set by then.
+
 `--forget body` does not count the syncs after a write of a body, and likewise `closed`, `opened` and `opening`, by what was written
-before, and `folder` those of a folder: so the test is seen to fail, but for `opening`. Over a migration `opened` is seen, `body` and
-`folder`. It needs `cc`, and does nothing without."""
+before, and `folder` those of a folder: so the test is seen to fail, but for `opening`. Over a migration and a renewal `opened` is seen, `body` and
+`folder`, and over a renewal also `renewed`, the syncs of that file, and `old`, those of the folder that has it. It needs `cc`, and does nothing without."""
 
 import argparse
 import collections

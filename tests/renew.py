@@ -1,10 +1,15 @@
 #!/usr/bin/env python3
-"""renew.py [--program PATH] [--kills N]: renews folders with `dlm fill` and `dlm renew`. Random commands are submitted until a log of 16 slots is
+"""renew.py [--program PATH] [--kills N] [--long N]: renews folders with `dlm fill` and `dlm renew`. Random commands are submitted until a log of 16 slots is
 all but full, and `dlm fill` takes the slots that are left. Then the table is carried over onto another number of disks, and `dlm table` of both
 folders has to print the same. Each client's last request, made again in the new folder, gets the reply that it got before. So it is ten times in a
 row. What is refused is refused in the order that docs/REFUSALS.md has. Then it kills as many renewals (none given: none) at random moments
 (`kill -9`): of three one at any, one once a new image is there, one once a gate is open. After each it looks that no state of the new folder reads as
 another table, and that the next run with the same words ends it or is refused, while one with other words is refused.
+
+Each call on a file of a fill, of a renewal and of a run that ends one fails once. Before each call of a renewal it stops, and a second one with the
+same words or with others is made meanwhile; and some start at the same moment. For both, a few lines of C stand before the C library; where
+there is no C compiler this is left out. `--long` renews one cluster so many times in a row (none given: none), onto other numbers of disks and slots. Submissions, fills
+and renewals are killed and begun again, as docs/OPERATIONS.md says. After each the table and each client's last reply are those of a plain table.
 
 It prints each difference, and how many there were; the status is 1 where there was one. The program has to be built: `./dlm` does so.
 """
@@ -532,13 +537,21 @@ class Valued(lock_log.Table):
         return [line if line.startswith("  ") or line not in self.values else f"{line} {self.values[line]}" for line in super().text()]
 
 
-def killed_or_ended(words, moment):
-    """What came of a run that is killed once this much time has passed, unless that is None."""
-    process = subprocess.Popen([PROGRAM, *words.split(" ")], stdin=subprocess.DEVNULL, stdout=subprocess.PIPE, stderr=subprocess.PIPE, text=True)
-    if moment is not None:
-        time.sleep(moment)
-        process.kill()
-    return end_of(process)
+def wait_until(process, is_so):
+    while process.poll() is None and not is_so():
+        pass
+
+
+def is_there(folder):
+    return os.path.exists(f"{folder}/disk0.img")
+
+
+def is_open(folder):
+    try:
+        with open(f"{folder}/disk0.img", "rb") as file:
+            return file.read(1) == b"\xa5"
+    except FileNotFoundError:
+        return False
 
 
 class Row:
@@ -548,16 +561,29 @@ class Row:
         self.model, self.counts = Valued(), collections.Counter()
         # A command that has no reply yet, with its client's host. How long a renewal took.
         self.left, self.took = None, 0.05
+        # A sync takes a little while, or most runs in memory would be over before they are killed.
+        shim = lock_log.built_shim(".")
+        self.env = {**os.environ, **({"LD_PRELOAD": os.path.realpath(shim), "DLM_SLEEP": "200"} if shim else {})}
         self.folder, self.slots, self.cluster = "set100", 24, 100
         make(self.folder, 3, self.slots, self.cluster)
 
-    def moment(self, percent, longest):
-        return random.uniform(0, longest) if random.random() * 100 < percent else None
+    def killed_or_ended(self, words, longest, percent, *moments):
+        """What came of a run that may be killed, so many times in a hundred: at some moment until so many seconds have passed, or once one of these is
+        so."""
+        process = subprocess.Popen([PROGRAM, *words.split(" ")], env=self.env, stdin=subprocess.DEVNULL, stdout=subprocess.PIPE, stderr=subprocess.PIPE, text=True)
+        if random.random() * 100 < percent:
+            moment = random.choice([None, *moments])
+            if moment:
+                wait_until(process, moment)
+            else:
+                time.sleep(random.uniform(0, longest))
+            process.kill()
+        return end_of(process)
 
     def submits(self, host, command):
         """A command, again and again through this host until it has its reply. Tells whether the log is full."""
         while True:
-            status, printed, told = killed_or_ended(f"submit {self.folder} {host} {command}", self.moment(20, 0.01))
+            status, printed, told = self.killed_or_ended(f"submit {self.folder} {host} {command}", 0.03, 20)
             if printed:
                 wants(f"`{command}`", printed.split(" ", 2)[2], self.model.apply(host, command.split(" ")) + "\n")
                 self.counts["commands"] += 1
@@ -579,7 +605,7 @@ class Row:
 
     def is_filled(self):
         while True:
-            status, printed, told = killed_or_ended(f"fill {self.folder} {random.randrange(16)}", self.moment(30, 0.05))
+            status, printed, told = self.killed_or_ended(f"fill {self.folder} {random.randrange(16)}", 0.1, 40)
             if status == 0:
                 return
             wants("a fill", (status, told), (-9, ""))
@@ -593,7 +619,7 @@ class Row:
         os.mkdir(new)
         while True:
             began = time.monotonic()
-            status, printed, told = killed_or_ended(f"{words} {self.cluster + 1}", self.moment(60, self.took))
+            status, printed, told = self.killed_or_ended(f"{words} {self.cluster + 1}", self.took, 60, lambda: is_there(new), lambda: is_open(new))
             if status == -9 and not printed:
                 self.counts["renewals killed"] += 1
                 if os.path.exists(f"{self.folder}/renewed"):
@@ -607,7 +633,7 @@ class Row:
                     os.remove(f"{new}/{name}")
             else:
                 wants(f"`{words}`, {told!r}", printed in (f"finished {disks} disks\n",) or printed.startswith("renewed "), True)
-                self.counts["renewals finished by another run"] += printed.startswith("finished")
+                self.counts["renewals finished by a further run"] += printed.startswith("finished")
                 self.took = 1.2 * (time.monotonic() - began)
                 break
         self.counts["renewals"] += 1
@@ -667,22 +693,6 @@ def goes_on(shown, renewed, counts):
     wants("what is read", looks(shown), True)
 
 
-def wait_until(process, is_so):
-    while process.poll() is None and not is_so():
-        pass
-
-
-def is_there():
-    return os.path.exists("new/disk0.img")
-
-
-def is_open():
-    try:
-        return bytes_of("new/disk0.img")[:1] == b"\xa5"
-    except FileNotFoundError:
-        return False
-
-
 def kill(kills):
     make("old", 3, SLOTS, 7)
     os.mkdir("new")
@@ -705,10 +715,10 @@ def kill(kills):
             if counts["killed"] % 3 == 0:
                 time.sleep(random.uniform(0, long))
             elif counts["killed"] % 3 == 1:
-                wait_until(process, is_there)
+                wait_until(process, lambda: is_there("new"))
                 time.sleep(random.uniform(0, long / 20))
             else:
-                wait_until(process, is_open)
+                wait_until(process, lambda: is_open("new"))
             process.kill()
             process.communicate()
         if process.returncode == 0:
