@@ -503,9 +503,12 @@ class Walk:
         return [disk for disk, data in self.task.new.items() if images.get(disk) == data]
 
     def put_both(self, images):
-        """An old folder and a new one with these images."""
-        new = self.put_anew("new", numbered_from(0, images))
-        return self.put_old("old", images), new
+        """An old folder and a new one with these images, and perhaps with files by which a host was locked."""
+        old, new = self.put_old("old", images), self.put_anew("new", numbered_from(0, images))
+        for lock in (f"{old}/host0.lock", f"{old}/host1.lock", f"{new}/host0.lock"):
+            if self.random.random() < 0.5:
+                open(lock, "w").close()
+        return old, new
 
     def put_old(self, name, images):
         """An old folder with these images, and its file `renewed`."""

@@ -16,6 +16,7 @@ It prints each difference, and how many there were; the status is 1 where there 
 import argparse
 import collections
 import fcntl
+import functools
 import itertools
 import os
 import random
@@ -324,13 +325,18 @@ def images_of(folder):
 
 # CALLS THAT FAIL
 
+BUILT = tempfile.TemporaryDirectory()
+
+
+@functools.cache
 def built_failing():
     """The path of the library by which a call fails, or None where there is no C compiler."""
     if not shutil.which("cc"):
         print("left out: renew.py, calls that fail: no C compiler (cc)")
         return None
-    subprocess.run(["cc", "-shared", "-fPIC", "-o", "failing.so", os.path.join(TOP, "tests/shim/failing.c"), "-ldl"], check=True)
-    return os.path.realpath("failing.so")
+    library = os.path.join(BUILT.name, "failing.so")
+    subprocess.run(["cc", "-shared", "-fPIC", "-o", library, os.path.join(TOP, "tests/shim/failing.c"), "-ldl"], check=True)
+    return library
 
 
 def at_each_call(library, text, folders, **more):
