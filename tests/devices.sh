@@ -1,6 +1,7 @@
 #!/usr/bin/env bash
-# devices.sh [ROUNDS]: images on block devices. Formats three loop devices, one of them longer than its image, and looks at what is refused; then several hosts
-# at once submit over them, killed at random (tests/at_once.py), for so many rounds (none given: 1). It needs root and loop devices, and says so where it cannot.
+# devices.sh [ROUNDS]: images on block devices. Formats three loop devices, one of them longer than its image, looks at what is refused, and renews a
+# log onto them. Then several hosts at once submit over them, killed at random (tests/at_once.py), for so many rounds (none given: 1). It needs root and
+# loop devices, and says so where it cannot.
 set -uo pipefail
 
 source "$(dirname -- "$(readlink -f -- "${BASH_SOURCE[0]}")")/lib.sh"
@@ -71,6 +72,16 @@ zeros "${devices[0]}" "${devices[2]}"
 expect "format over the old layout" 1 "dlm: 29 AlreadyThere" "$program" format "$work/d" 3 16 7
 zeros "${devices[1]}"
 expect "format of all" 0 "formatted 3 disks, 16 slots" "$program" format "$work/d" 3 16 7
+
+# A full log is renewed onto devices, whatever blocks stand there, and not once more.
+zeros "${devices[0]}" "${devices[1]}" "${devices[2]}"
+mkdir -- "$work/old"
+expect "a log of four slots" 0 "formatted 1 disks, 4 slots" "$program" format "$work/old" 1 4 5
+expect "its command" 0 "ack 0 Granted" "$program" submit "$work/old" 0 enqueue 1 1 1 EX db
+expect "filled" 0 "filled 3 slots" "$program" fill "$work/old" 0
+expect "renewed" 0 "renewed 2 commands, 3 disks, 16 slots" "$program" renew "$work/old" 1 "$work/d" 3 16 8
+expect "renewed again" 1 "dlm: 29 AlreadyThere" "$program" renew "$work/old" 1 "$work/d" 3 16 8
+expect "its table" 0 $'recovered 2\ndb\n  granted 1 1 0 EX' "$program" table "$work/d" 1
 
 # One formatted device, or one that is too short, and nothing is made on the others.
 zeros "${devices[0]}" "${devices[1]}"

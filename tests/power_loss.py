@@ -8,7 +8,7 @@ without the program); of some states `dlm table` is asked too, over the disks of
 states, so that losses come upon losses.
 
     power_loss.py [--steps N] [--hosts N] [--disks N] [--slots N] [--states N] [--tables N] [--seed N] [--program PATH]
-                  [--forget WHAT] [--format] [--migrate]
+                  [--forget WHAT] [--format] [--migrate] [--renew]
 
 In each step so many hosts submit at once (none given: one to four), some of which end in the midst. `--format` begins with losses
 within `dlm format`, `--migrate` with losses within `dlm migrate` over three disks. There a run may also be ended, and another one
@@ -16,9 +16,12 @@ follows, as after a loss; power is lost within that one too. In each state no co
 finishes, or moves the log anew, at the latest once the new images are removed; and once a run has told that it moved the log or
 finished, all images are complete and open.
 
+`--renew` does so within `dlm renew`, onto three disks, and within `dlm fill`. There the old folder has its table in each state. The new one has
+this table, or reads as none. Once a new image was made, other words are refused in each state, so `renewed` names the new set by then.
+
 `--forget body` does not count the syncs after a write of a body, and likewise `closed`, `opened` and `opening`, by what was written
-before, and `folder` those of a folder: so the test is seen to fail, but for `opening`. Over a migration `opened` is seen, `body` and
-`folder`. It needs `cc`, and does nothing without."""
+before, and `folder` those of a folder: so the test is seen to fail, but for `opening`. Over a migration and a renewal `opened` is seen, `body` and
+`folder`, and over a renewal also `renewed`, the syncs of that file, and `old`, those of the folder that has it. It needs `cc`, and does nothing without."""
 
 import argparse
 import collections
@@ -39,28 +42,92 @@ import migrate
 # What is told of a folder whose images are not all there or not all open.
 NO_SET = re.compile(r"dlm: (7 NoMajority|2[456] \w+ disk\d)\n")
 
-# The shim adds this to the numbers of the images of the old folder.
+# The shim adds this to the numbers of the images of the old folder. Its file `renewed` has a number, too, and so has what becomes it.
 OLD = 10
+RENEWED = 20
+DRAFT = 21
 
-# The log that is moved, over three disks.
-COMMANDS = migrate.commands_of(4)
-SLOTS = 6
-MOVED = f"migrated {len(COMMANDS)} commands, 3 disks, {SLOTS} slots\n"
-FINISHED = "finished 3 disks\n"
-NEW = {disk: migrate.new_image(disk, 3, SLOTS, COMMANDS) for disk in range(3)}
+ALREADY_THERE = "dlm: 29 AlreadyThere\n"
 
 
-def old_images():
-    """The images of the old folder: each command was acknowledged through a host of its own, over two of the three disks."""
+def old_images(slots, commands):
+    """The images of the first layout: each command was acknowledged through a host of its own, over two of the three disks."""
     images = {}
     for disk in range(3):
-        data = bytearray(migrate.old_image(disk, 3, SLOTS, 7, []))
-        for slot, command in enumerate(COMMANDS):
+        data = bytearray(migrate.old_image(disk, 3, slots, 7, []))
+        for slot, command in enumerate(commands):
             if slot % 3 != disk:
                 at = 2048 + 1024 * slot + 128 * slot
                 data[at:at + 128] = migrate.old_block(command, slot)
         images[OLD + disk] = data
     return images
+
+
+class Migration:
+    """A log of the first layout that is moved, over three disks."""
+
+    kind = "migrate"
+    share = 0.1
+    finished = "finished 3 disks\n"
+
+    def __init__(self):
+        commands, slots = migrate.commands_of(4), 6
+        self.old = old_images(slots, commands)
+        self.new = {disk: migrate.new_image(disk, 3, slots, commands) for disk in range(3)}
+        self.made = f"migrated {len(commands)} commands, 3 disks, {slots} slots\n"
+        self.shown = migrate.table_of(len(commands))
+        self.slots = slots
+
+    def words(self, old, new):
+        return ["migrate", old, new, str(self.slots)]
+
+    def further(self, whole):
+        """The status of a further run and what it prints, with these images complete."""
+        return 0, self.finished if whole else self.made
+
+
+class Renewal:
+    """A full log whose table is carried over, from three disks onto three. Two of its slots have no mark: its recovery writes."""
+
+    kind = "renew"
+    share = 0.03
+    finished = "finished 3 disks\n"
+    slots = 6
+
+    def __init__(self, walk):
+        old, new = walk.put_anew("old", {}), walk.put_anew("new", {})
+        commands = ["enqueue 1 1 1 EX db", "enqueue 2 1 2 PR db", "convert 1 2 1 PW value 00112233445566778899aabbccddeeff", "enqueue 1 3 3 CR a"]
+        walk.run(["format", old, "3", str(self.slots), "7"])
+        for host, command in enumerate(commands):
+            walk.run(["submit", old, str(host), *command.split()])
+        self.not_full = images_of(old, OLD)
+        walk.run(["fill", old, "1"])
+        self.old = images_of(old, OLD)
+        self.shown_before = walk.run(["table", walk.put_anew("apart", numbered_from(OLD, self.old)), "9"]).stdout
+        self.made = walk.run(self.words(old, new)).stdout
+        self.new = images_of(new, 0)
+        self.shown = walk.run(["table", new, "9"]).stdout
+        lines = [shown.split("\n", 1) for shown in (self.shown_before, self.shown)]
+        if lines != [[f"recovered {self.slots}", lines[1][1]], ["recovered 5", lines[1][1]]] or self.made != "renewed 5 commands, 3 disks, 6 slots\n":
+            walk.wrong.append(f"a renewal: {self.made!r} {lines}")
+
+    def words(self, old, new):
+        return ["renew", old, "1", new, "3", str(self.slots), "8"]
+
+    def further(self, whole):
+        if len(whole) == len(self.new):
+            return 1, ALREADY_THERE
+        return 0, self.finished if whole else self.made
+
+
+def images_of(folder, first):
+    """The images of a folder, numbered from this number on."""
+    return {first + disk: bytearray(migrate.bytes_of(f"{folder}/disk{disk}.img")) for disk in range(7) if os.path.exists(f"{folder}/disk{disk}.img")}
+
+
+def numbered_from(first, images):
+    """Those of a folder whose images have numbers from this one on, by the numbers that they have there."""
+    return {image - first: data for image, data in images.items() if first <= image < first + 7}
 
 
 def records(path):
@@ -106,9 +173,17 @@ def written(data, writes):
     """These bytes after these writes, as many as they are then."""
     data = bytearray(data)
     for at, given in writes:
+        put(data, at, given)
+    return data
+
+
+def put(data, at, given):
+    """A write, which may make it longer, or a cut (of None)."""
+    if given is None:
+        del data[at:]
+    else:
         data += bytes(max(0, at + len(given) - len(data)))
         data[at:at + len(given)] = given
-    return data
 
 
 class Storage:
@@ -124,12 +199,17 @@ class Storage:
         kind, image, _, at, given = record
         if kind == "C":
             self.there.add(image)
-        elif kind == "W":
-            self.waiting[image].append((at, given))
-        elif kind == "S" and self.waiting[image] and not forgets(self.waiting[image][-1][1]):
+        elif kind in "WT":
+            self.waiting[image].append((at, given if kind == "W" else None))
+        elif kind == "S" and self.waiting[image] and not forgets(self.waiting[image][-1][1], image):
             self.lasting[image] = written(self.lasting[image], self.waiting.pop(image))
-        elif kind == "N" and not forgets(None):
-            self.named |= self.there
+        elif kind == "R":
+            # It is the same file, by another name.
+            self.lasting[RENEWED], self.waiting[RENEWED] = self.lasting.pop(DRAFT, bytearray()), self.waiting.pop(DRAFT, [])
+            self.there |= {RENEWED}
+            self.there -= {DRAFT}
+        elif kind == "N" and not forgets(None, image):
+            self.named |= {each for each in self.there if (each < OLD) == (image < OLD)}
 
     def now(self):
         """The images as a process finds them."""
@@ -151,6 +231,7 @@ class Walk:
         self.counts = collections.Counter()
         self.wrong = []
         self.number = 0
+        self.task = None
         self.fresh()
 
     def fresh(self):
@@ -255,10 +336,12 @@ class Walk:
         self.put(self.images)
         self.ask(self.images, self.acks)
 
-    def forgets(self, last):
+    def forgets(self, last, image=0):
         """Whether a sync after this write is left out; that of a folder comes after none."""
-        if last is None:
-            name = "folder"
+        if image in (RENEWED, DRAFT):
+            name = "renewed"
+        elif last is None:
+            name = "old" if image == OLD else "folder"
         elif len(last) == 1:
             name = "opened" if last == b"\xa5" else "closed"
         else:
@@ -325,21 +408,27 @@ class Walk:
 
     def states_of(self, storage):
         """What a loss of power may leave of these images: nothing that was not synced, all, and others. An image whose folder was not
-        synced since it was made may be gone."""
+        synced since it was made may be gone, and `renewed` may have its first name."""
         found = []
         for way in ["old", "new"] + [None] * self.given.states:
             likely = {"old": 0.0, "new": 1.0, None: 0.7}[way]
             there = [image for image in sorted(storage.there) if image in storage.named or self.random.random() < likely]
-            found.append({image: self.unfinished(storage.lasting[image], storage.waiting[image], way) for image in there})
+            state = {image: self.unfinished(storage.lasting[image], storage.waiting[image], way) for image in there}
+            if RENEWED in storage.there and RENEWED not in there:
+                state[DRAFT] = self.unfinished(storage.lasting[RENEWED], storage.waiting[RENEWED], way)
+            found.append(state)
         return found
 
     def unfinished(self, lasting, waiting, way):
         """What a loss of power may leave of an image in the making, which may also be shorter."""
         left = bytearray(lasting)
         for at, new in waiting:
-            left += bytes(max(0, at + len(new) - len(left)))
             how = way or self.random.choice(["old", "new", "front", "back", "mixed", "zeros", "ones", "nonsense", "gate"])
-            left[at:at + len(new)] = self.left(how, bytes(left[at:at + len(new)]), new)
+            if new is not None:
+                left += bytes(max(0, at + len(new) - len(left)))
+                put(left, at, self.left(how, bytes(left[at:at + len(new)]), new))
+            elif how != "old":
+                put(left, at, None)
         if len(left) > len(lasting) and way != "new":
             del left[self.random.randrange(len(lasting), len(left) + 1):]
         return left
@@ -364,10 +453,10 @@ class Walk:
         self.counts["of them refused"] += bool(is_refused)
 
     def moves(self, storage, told, further):
-        """A run of `dlm migrate` over these images. Power is lost at each place of it. At some places another run follows, after a loss or
-        after the end of the process alone; there power is lost again."""
+        """A run of `dlm migrate` or `dlm renew` over these images. Power is lost at each place of it. At some places another run follows, after
+        a loss or after the end of the process alone; there power is lost again."""
         found, refused = self.move(storage)
-        if refused:
+        if refused and not self.whole(storage.now()):
             # Somebody removes the new images, and begins anew.
             for disk in [image for image in storage.there if image < OLD]:
                 storage.removed(disk)
@@ -375,13 +464,14 @@ class Walk:
         is_first = further == 2
         ends = set(self.random.sample(range(len(found) + 1), min(len(found) + 1, 3 if is_first else 1)))
         if is_first:
-            # Each place from the first write of a gate on.
+            # Each place from the first write of a gate on, and each one where `renewed` is made.
             ends |= set(range(len(found) - 7, len(found) + 1))
+            ends |= {place + 1 for place, record in enumerate(found) if record[:2] == ("N", OLD) or record[1] in (RENEWED, DRAFT)}
         for place, record in enumerate([*found, None]):
             states = self.states_of(storage)
-            if is_first or len(found) < 40 or self.random.random() < 0.1:
+            if is_first or len(found) < 40 or self.random.random() < self.task.share:
                 for state in states:
-                    self.ask_for_all(state, told)
+                    self.ask_for_all(state, told, any(image < OLD for image in storage.there))
             if further and place in ends:
                 self.moves(copy.deepcopy(storage), told, further - 1)
                 self.moves(Storage(self.random.choice(states)), told, further - 1)
@@ -391,54 +481,127 @@ class Walk:
 
     def move(self, storage):
         """What a run over these images writes down, and whether it was refused since a new image is there."""
+        old, new = self.put_both(storage.now())
+        found, out = self.recorded(old, self.task.words(old, new))
+        self.counts[f"runs of {self.task.kind}"] += 1
+        refused = out.stderr == ALREADY_THERE
+        if not refused and (out.returncode or out.stdout not in (self.task.made, self.task.finished)):
+            self.wrong.append(f"{self.task.kind}: {out.returncode} {out.stdout!r} {out.stderr!r}")
+        return [] if refused else found, refused
+
+    def recorded(self, old, words):
+        """What these words write down, and what came of them."""
         log = os.path.join(self.work, "log")
         if os.path.exists(log):
             os.remove(log)
-        old, new = self.put_both(storage.now())
         env = {**os.environ, "LD_PRELOAD": self.shim, "DLM_LOG": log, "DLM_OLD": old}
-        out = subprocess.run([self.given.program, "migrate", old, new, str(SLOTS)], env=env, capture_output=True, text=True)
-        self.counts["runs of migrate"] += 1
-        refused = out.stderr == "dlm: 29 AlreadyThere\n"
-        if not refused and (out.returncode or out.stdout not in (MOVED, FINISHED)):
-            self.wrong.append(f"migrate: {out.returncode} {out.stdout!r} {out.stderr!r}")
-        return [] if refused else records(log), refused
+        out = subprocess.run([self.given.program, *words], env=env, capture_output=True, text=True)
+        return records(log), out
+
+    def whole(self, images):
+        """The new images that are complete and open."""
+        return [disk for disk, data in self.task.new.items() if images.get(disk) == data]
 
     def put_both(self, images):
-        """An old folder and a new one with these images."""
-        old = self.put_anew("old", {image - OLD: data for image, data in images.items() if image >= OLD})
-        return old, self.put_anew("new", {image: data for image, data in images.items() if image < OLD})
+        """An old folder and a new one with these images, and perhaps with files by which a host was locked."""
+        old, new = self.put_old("old", images), self.put_anew("new", numbered_from(0, images))
+        for lock in (f"{old}/host0.lock", f"{old}/host1.lock", f"{new}/host0.lock"):
+            if self.random.random() < 0.5:
+                open(lock, "w").close()
+        return old, new
 
-    def ask_for_all(self, state, told):
+    def put_old(self, name, images):
+        """An old folder with these images, and its file `renewed`."""
+        old = self.put_anew(name, numbered_from(OLD, images))
+        for image, name in ((RENEWED, "renewed"), (DRAFT, "renewed.new")):
+            if image in images:
+                with open(f"{old}/{name}", "wb") as file:
+                    file.write(images[image])
+        return old
+
+    def ask_for_all(self, state, told, begun):
         """The new folder has the whole log, or reads as none. It has it if that was told, and after a further run. That is refused only while
         no new image is whole; once these are removed the log is moved anew."""
-        self.counts["states of a migration"] += 1
+        task = self.task
+        self.counts[f"states of a run of {task.kind}"] += 1
+        self.is_moved(self.put_anew("apart", numbered_from(0, state)), bool(told), told)
+        if task.kind == "renew":
+            self.ask_the_old(state, begun)
         old, new = self.put_both(state)
-        self.is_moved(self.put_anew("apart", {disk: data for disk, data in state.items() if disk < OLD}), bool(told), told)
-        whole = [disk for disk in NEW if state.get(disk) == NEW[disk]]
-        out = self.run(["migrate", old, new, str(SLOTS)])
-        if out.stderr == "dlm: 29 AlreadyThere\n" and not whole:
+        whole = self.whole(state)
+        out = self.run(task.words(old, new))
+        if out.stderr == ALREADY_THERE and not whole:
             self.counts["of them cleared"] += 1
             self.put_anew("new", {})
-            out = self.run(["migrate", old, new, str(SLOTS)])
-        if out.returncode or out.stdout != (FINISHED if whole else MOVED):
-            self.wrong.append(f"migrate: whole {whole}, {out.returncode} {out.stdout!r} {out.stderr!r}, told {told!r}")
+            out = self.run(task.words(old, new))
+        if (out.returncode, out.stdout or out.stderr) != task.further(whole):
+            self.wrong.append(f"{task.kind}: whole {whole}, {out.returncode} {out.stdout!r} {out.stderr!r}, told {told!r}, renewed: {bytes(state.get(RENEWED, b''))}")
         self.is_moved(new, True, told)
-        if whole and self.random.random() < 0.2:
+        if whole and task.kind == "migrate" and self.random.random() < 0.2:
             # The old folder has its log still.
             fresh = self.put_anew("fresh", {})
-            out = self.run(["migrate", old, fresh, str(SLOTS)])
+            out = self.run(task.words(old, fresh))
             self.is_moved(fresh, True, told)
+
+    def ask_the_old(self, state, begun):
+        """The old folder has its table. Once a new image may be there, other words are refused. Before that they may be carried out; then those
+        that were first are refused."""
+        out = self.run(["table", self.put_old("apart", state), "9"])
+        if out.returncode or out.stdout != self.task.shown_before:
+            self.wrong.append(f"the old table: {out.returncode} {out.stdout!r} {out.stderr!r}")
+        old, new, other = self.put_old("apart", state), self.put_anew("new", {}), self.put_anew("other", {})
+        told = self.run(self.task.words(old, other)).stderr
+        if not told and not begun:
+            self.counts["of them renewed into another folder"] += 1
+            told = self.run(self.task.words(old, new)).stderr
+        if told != "dlm: 41 RenewedElsewhere\n":
+            self.wrong.append(f"other words: {told!r}, renewed: {bytes(state.get(RENEWED, b''))}, new images: {begun}")
 
     def is_moved(self, folder, must, told):
         """The folder has the whole log, its images all there and open. If it need not, it may be no set of images."""
-        paths = [f"{folder}/disk{disk}.img" for disk in NEW]
-        all_open = [os.path.exists(path) and migrate.bytes_of(path) for path in paths] == list(NEW.values())
+        paths = [f"{folder}/disk{disk}.img" for disk in self.task.new]
+        all_open = [os.path.exists(path) and migrate.bytes_of(path) for path in paths] == list(self.task.new.values())
         # This writes to the images, as every recovery does.
         out = self.run(["table", folder, "9"])
-        is_whole = out.returncode == 0 and out.stdout == migrate.table_of(len(COMMANDS))
+        is_whole = out.returncode == 0 and out.stdout == self.task.shown
         is_none = out.returncode == 1 and NO_SET.fullmatch(out.stderr)
         if not (is_whole and (all_open or not must) or is_none and not must):
-            self.wrong.append(f"migrate: {out.returncode} {out.stdout!r} {out.stderr!r}, all open: {all_open}, told {told!r}")
+            self.wrong.append(f"{self.task.kind}: {out.returncode} {out.stdout!r} {out.stderr!r}, all open: {all_open}, told {told!r}")
+
+    def fills(self):
+        """Power is lost within `dlm fill`. The folder has its table then, and a renewal of it is refused, or carries this table over. In the
+        first case a further run fills what is left; then it is renewed."""
+        found, out = self.recorded(*self.words_of_a_fill(self.task.not_full))
+        storage, told = Storage(self.task.not_full), ""
+        for record in [*found, None]:
+            for state in self.states_of(storage):
+                self.counts["states of a fill"] += 1
+                self.ask_for_a_fill(state, told)
+            if record:
+                storage.take(record, self.forgets)
+                told += record[4].decode() if record[0] == "P" else ""
+        if told != "filled 2 slots\n":
+            self.wrong.append(f"fill: {out}")
+
+    def words_of_a_fill(self, images):
+        old = self.put_old("old", images)
+        return old, ["fill", old, "1"]
+
+    def ask_for_a_fill(self, state, told):
+        recovered, shown = self.run(["table", self.put_old("apart", state), "9"]).stdout.split("\n", 1)
+        if shown != self.task.shown_before.split("\n", 1)[1] or told and recovered != "recovered 6":
+            self.wrong.append(f"the table within a fill: {recovered} {shown!r}, told {told!r}")
+        old, new = self.put_both(state)
+        out = self.run(self.task.words(old, new))
+        if out.stderr == "dlm: 38 NotFull\n" and not told:
+            self.counts["of them not full"] += 1
+            out = self.run(["fill", old, "1"])
+            if not re.fullmatch(r"filled [12] slots\n", out.stdout):
+                self.wrong.append(f"a further fill: {out}")
+            out = self.run(self.task.words(old, new))
+        if out.stdout != self.task.made:
+            self.wrong.append(f"a renewal after a fill: {out}, told {told!r}")
+        self.is_moved(new, True, told)
 
     def look(self, state, acks):
         """By every majority of the disks the greatest vote of an acknowledged slot is its command."""
@@ -485,7 +648,8 @@ def main():
     words.add_argument("--seed", type=int, default=random.randrange(1 << 30))
     words.add_argument("--format", action="store_true")
     words.add_argument("--migrate", action="store_true")
-    words.add_argument("--forget", choices=["", "opening", "closed", "body", "opened", "folder"], default="")
+    words.add_argument("--renew", action="store_true")
+    words.add_argument("--forget", choices=["", "opening", "closed", "body", "opened", "folder", "renewed", "old"], default="")
     words.add_argument("--program", default=lock_log.PROGRAM)
     given = words.parse_args()
     lock_log.see_that_it_is_built(given.program)
@@ -500,7 +664,12 @@ def main():
             walk.formats()
             walk.fresh()
         if given.migrate:
-            walk.moves(Storage(old_images()), "", 2)
+            walk.task = Migration()
+            walk.moves(Storage(walk.task.old), "", 2)
+        if given.renew:
+            walk.task = Renewal(walk)
+            walk.moves(Storage(walk.task.old), "", 2)
+            walk.fills()
         steps = 0
         while steps < given.steps and not walk.wrong:
             walk.step()

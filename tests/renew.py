@@ -1,25 +1,37 @@
 #!/usr/bin/env python3
-"""renew.py [--program PATH] [--kills N]: renews folders with `dlm fill` and `dlm renew`. Random commands are submitted until a log of 16 slots is
+"""renew.py [--program PATH] [--kills N] [--long N]: renews folders with `dlm fill` and `dlm renew`. Random commands are submitted until a log of 16 slots is
 all but full, and `dlm fill` takes the slots that are left. Then the table is carried over onto another number of disks, and `dlm table` of both
 folders has to print the same. Each client's last request, made again in the new folder, gets the reply that it got before. So it is ten times in a
 row. What is refused is refused in the order that docs/REFUSALS.md has. Then it kills as many renewals (none given: none) at random moments
 (`kill -9`): of three one at any, one once a new image is there, one once a gate is open. After each it looks that no state of the new folder reads as
 another table, and that the next run with the same words ends it or is refused, while one with other words is refused.
 
+Each call on a file of a fill, of a renewal and of a run that ends one fails once. Before each call of a renewal it stops, and a second one with the
+same words or with others is made meanwhile; and some start at the same moment. For both, a few lines of C stand before the C library; where
+there is no C compiler this is left out. `--long` renews one cluster so many times in a row (none given: none), onto other numbers of disks and slots. Submissions, fills
+and renewals are killed and begun again, as docs/OPERATIONS.md says. After each the table and each client's last reply are those of a plain table.
+
 It prints each difference, and how many there were; the status is 1 where there was one. The program has to be built: `./dlm` does so.
 """
 import argparse
+import collections
 import fcntl
+import functools
+import itertools
 import os
 import random
 import shutil
+import signal
 import subprocess
 import sys
 import tempfile
 import time
 
+import lock_log
+
 TOP = os.path.dirname(os.path.dirname(os.path.realpath(__file__)))
 PROGRAM = os.path.join(TOP, "crates/dlm/out/dlm")
+MEMORY = "/dev/shm" if os.access("/dev/shm", os.W_OK) else None
 SLOTS = 16
 CLIENTS = range(1, 5)
 LOCKS = range(1, 6)
@@ -86,6 +98,17 @@ def table(folder, host=9):
 
 # RANDOM COMMANDS
 
+def some_words():
+    """A client, and the words of a command but for the client and the request number."""
+    lock, name, mode = str(random.choice(LOCKS)), random.choice("ab"), random.choice(MODES)
+    words = random.choice([
+        ["enqueue", lock, mode, name], ["enqueue", lock, mode, name], ["enqueue", lock, mode, name, "noqueue"], ["convert", lock, mode],
+        ["convert", lock, mode, "value", os.urandom(16).hex()], ["release", lock], ["release", lock, "value", os.urandom(16).hex()], ["cancel", lock], ["status", lock],
+        ["purge", str(random.randrange(16))],
+    ])
+    return random.choice(CLIENTS), words
+
+
 class Clients:
     """The last request of each client, and the reply to it."""
 
@@ -101,13 +124,7 @@ class Clients:
         self.last[client] = (request, command, printed.split(" ", 2)[2])
 
     def submits_some(self, folder):
-        lock, name, mode = str(random.choice(LOCKS)), random.choice("ab"), random.choice(MODES)
-        words = random.choice([
-            ["enqueue", lock, mode, name], ["enqueue", lock, mode, name], ["enqueue", lock, mode, name, "noqueue"], ["convert", lock, mode],
-            ["convert", lock, mode, "value", os.urandom(16).hex()], ["release", lock], ["release", lock, "value", os.urandom(16).hex()], ["cancel", lock], ["status", lock],
-            ["purge", str(random.randrange(16))],
-        ])
-        self.submits(folder, random.choice(CLIENTS), words)
+        self.submits(folder, *some_words())
 
     def ask_again(self, folder, slot):
         """Each one's last request is made again, whatever it asks now. The first one comes into this slot."""
@@ -280,17 +297,16 @@ def a_line_without_an_end_names_nobody():
     wants("the new folder", os.listdir("e"), [])
 
 
-# KILLS
+# WHAT IS LEFT OF A RUN THAT WAS ENDED
 
 # Of what a folder tells whose images are not all open, or not all there.
 NOT_READY = ("dlm: 24 ", "dlm: 25 ", "dlm: 26 ", "dlm: 7 ")
-WORDS = "renew old 1 new 5 64 8"
 
 
-def looks(shown):
+def looks(shown, folder="new"):
     """A copy of the new folder reads as the whole table, or as none. Whether it reads is the result."""
     shutil.rmtree("copy", ignore_errors=True)
-    shutil.copytree("new", "copy")
+    shutil.copytree(folder, "copy")
     status, printed, told = run("table copy 9")
     if status == 0:
         wants("the table", printed.split("\n", 1)[1], shown)
@@ -299,9 +315,365 @@ def looks(shown):
     return False
 
 
-def gates():
-    names = [name for name in sorted(os.listdir("new")) if name.startswith("disk")]
-    return [name for name in names if bytes_of(f"new/{name}")[:1] == b"\xa5"]
+def gates(folder="new"):
+    return [name for name, data in images_of(folder).items() if data[:1] == b"\xa5"]
+
+
+def images_of(folder):
+    return {name: bytes_of(f"{folder}/{name}") for name in sorted(os.listdir(folder)) if name.endswith(".img")}
+
+
+# CALLS THAT FAIL
+
+BUILT = tempfile.TemporaryDirectory()
+
+
+@functools.cache
+def built_failing():
+    """The path of the library by which a call fails, or None where there is no C compiler."""
+    if not shutil.which("cc"):
+        print("left out: renew.py, calls that fail: no C compiler (cc)")
+        return None
+    library = os.path.join(BUILT.name, "failing.so")
+    subprocess.run(["cc", "-shared", "-fPIC", "-o", library, os.path.join(TOP, "tests/shim/failing.c"), "-ldl"], check=True)
+    return library
+
+
+def at_each_call(library, text, folders, **more):
+    """Runs these words over these folders again and again, and each time something happens at another call. Gives the call, how often it was
+    made by then, and the process; until no call is left."""
+    times = collections.Counter()
+    for number in itertools.count(1):
+        for folder, files in folders.items():
+            put(folder, files)
+        env = {**os.environ, "LD_PRELOAD": library, "FAIL_AT": str(number), "FAIL_TOLD": "told", **more}
+        with subprocess.Popen([PROGRAM, *text.split(" ")], env=env, stdin=subprocess.DEVNULL, stdout=subprocess.PIPE, stderr=subprocess.PIPE, text=True) as process:
+            os.waitid(os.P_PID, process.pid, os.WEXITED | os.WSTOPPED | os.WNOWAIT)
+            if not os.path.exists("told"):
+                wants(f"calls of `{text}`", number > 30, True)
+                return
+            call = bytes_of("told").decode().strip()
+            os.remove("told")
+            times[call] += 1
+            try:
+                yield call, times[call], process
+            finally:
+                # One that stopped would be waited for.
+                process.kill()
+
+
+def end_of(process):
+    printed, told = process.communicate()
+    return process.returncode, printed, told
+
+
+def put(folder, files):
+    """A folder with these files, and nothing else."""
+    shutil.rmtree(folder, ignore_errors=True)
+    os.mkdir(folder)
+    for name, data in files.items():
+        with open(f"{folder}/{name}", "wb") as file:
+            file.write(data)
+
+
+@test
+def each_call_of_a_fill_fails():
+    library = built_failing()
+    if not library:
+        return
+    make("d", 3, 4, 7)
+    clients = Clients()
+    clients.submits("d", 1, ["enqueue", "1", "EX", "a"])
+    clients.submits("d", 2, ["enqueue", "2", "PR", "a"])
+    shown = table("d")[1]
+    for call, times, process in at_each_call(library, "fill d 3", {"d": images_of("d")}):
+        # One image of three may fail.
+        told = "dlm: 37 NoLock host3\n" if call.endswith(".lock") else ""
+        wants(f"a fill where {call} fails, {times}", end_of(process), (1, "", told) if told else (0, "filled 2 slots\n", ""))
+        fill("d", 2 if told else 0)
+        wants(f"the table after {call}", table("d"), (4, shown))
+
+
+WORDS_OF_CALLS = "renew d 1 e 3 6 8"
+RENEWED = "renewed 4 commands, 3 disks, 6 slots\n"
+
+
+def full_and_renewed():
+    """The table of a full log, its images, each slot of which is marked, and those into which it is renewed."""
+    make("d", 3, 5, 7)
+    clients = Clients()
+    for client, words in ((1, ["enqueue", "1", "EX", "a"]), (2, ["enqueue", "2", "PR", "a"]), (1, ["convert", "1", "PW", "value", "07" * 16])):
+        clients.submits("d", client, words)
+    fill("d", 2)
+    prints("mark d 3", "recovered 5\nmarked 2 slots\n")
+    shown, old = table("d")[1], images_of("d")
+    os.mkdir("e")
+    prints(WORDS_OF_CALLS, RENEWED)
+    return shown, old, images_of("e")
+
+
+@test
+def each_call_fails():
+    library = built_failing()
+    if not library:
+        return
+    shown, old, new = full_and_renewed()
+    # A renewal, and then a run that ends one of which the first gate was opened.
+    left = {name: data if name == "disk0.img" else b"\0" + data[1:] for name, data in new.items()}
+    for wanted, folders in ((of_a_renewal, {"d": old, "e": {}}), (of_a_finish, {"d": {**old, "renewed": b"e 3 6 8\n"}, "e": left})):
+        for call, times, process in at_each_call(library, WORDS_OF_CALLS, folders):
+            wants(f"a run where {call} fails, {times}", end_of(process), wanted(*call.split(" "), times))
+            wants(f"the old images after {call}, {times}", images_of("d"), old)
+            wants(f"gates that are open after {call}, {times}", looks(shown, "e"), len(gates("e")) > 1)
+            again = run(WORDS_OF_CALLS)
+            if again[2] == "dlm: 29 AlreadyThere\n" and not gates("e"):
+                put("e", {})
+                prints(WORDS_OF_CALLS, RENEWED)
+            wants(f"the new images in the end, after {call}, {times}", images_of("e"), new)
+
+
+def of_a_renewal(name, path, times):
+    """What a renewal comes to where this call fails, which it made this often. One old image of three may fail."""
+    if path.startswith("d/disk"):
+        return 0, RENEWED, ""
+    if path.endswith(".lock"):
+        return 1, "", f"dlm: 37 NoLock {path[2:-5]}\n"
+    if path in ("d", "d/renewed", "d/renewed.new"):
+        return 1, "", "dlm: 26 Unreadable\n"
+    # The file of each new image is made, in eight writes and a sync, and then its folder is synced.
+    if path == "e":
+        return 1, "", f"dlm: 26 Unreadable disk{times - 1}\n"
+    if times <= {"open": 1, "pwrite": 8, "fdatasync": 1}[name]:
+        return 1, "", f"dlm: 26 Unreadable {path[2:7]}\n"
+    return 1, "", "dlm: 34 MigrationFailed\n"
+
+
+def of_a_finish(name, path, times):
+    """And a run that opens the last two gates. A new image that cannot be read is passed over, and left to the next run."""
+    if path == "d/renewed":
+        return 1, "", "dlm: 26 Unreadable\n"
+    if path == "e/disk0.img" and (name == "open" or name == "pread" and times <= 2):
+        return 1, "", "dlm: 29 AlreadyThere\n"
+    if path.startswith("e/") and name in ("pwrite", "fdatasync"):
+        return 1, "", "dlm: 34 MigrationFailed\n"
+    return 0, "finished 3 disks\n", ""
+
+
+# TWO AT ONCE
+
+SAME, OTHER = "renew d 2 e 3 6 8", "renew d 2 f 3 6 8"
+OF_TWO = ["renewed 4 commands, 3 disks, 6 slots\n", "finished 3 disks\n", *(f"dlm: {told}\n" for told in (
+    "29 AlreadyThere", "36 HostInUse host0", "36 HostInUse host1", "41 RenewedElsewhere"))]
+
+
+@test
+def two_renew_at_once():
+    """One run stops before each of its calls, and another one is made meanwhile; then some start at the same moment. One of them renews, and what the
+    other one tells follows from its words. There is no second set."""
+    shown, old, new = full_and_renewed()
+    folders = {"d": old, "e": {}, "f": {}}
+    library = built_failing()
+    for second in (SAME, WORDS_OF_CALLS, OTHER) if library else ():
+        for call, times, process in at_each_call(library, WORDS_OF_CALLS, folders, FAIL_STOP="yes"):
+            meanwhile = run(second)
+            process.send_signal(signal.SIGCONT)
+            one_has_renewed(f"`{second}` before {call}, {times}", second, [end_of(process), meanwhile], shown, new)
+    for turn in range(36):
+        for folder, files in folders.items():
+            put(folder, files)
+        second = (SAME, WORDS_OF_CALLS, OTHER)[turn % 3]
+        both = []
+        for words in (WORDS_OF_CALLS, second):
+            both.append(subprocess.Popen([PROGRAM, *words.split(" ")], stdout=subprocess.PIPE, stderr=subprocess.PIPE, text=True))
+            time.sleep(random.choice((0, random.uniform(0, 0.02))))
+        one_has_renewed(f"`{second}` at once", second, [end_of(process) for process in both], shown, new)
+
+
+def one_has_renewed(what, second, ended, shown, new):
+    tells = [printed or told for _, printed, told in ended]
+    wants(f"{what}: how often it was renewed, {tells}", tells.count(OF_TWO[0]), 1)
+    wants(f"{what}: others than what may be told, {tells}", [told for told in tells if told not in OF_TWO], [])
+    words, other, empty = (WORDS_OF_CALLS, second, "f") if tells[0] == OF_TWO[0] else (second, WORDS_OF_CALLS, "e")
+    made = words.split(" ")[3]
+    if second == OTHER:
+        wants(f"{what}: the other folder", images_of(empty), {})
+        refused(other, "dlm: 41 RenewedElsewhere\n")
+    wants(f"{what}: the new images", images_of(made), new)
+    wants(f"{what}: what is named", bytes_of("d/renewed"), f"{made} 3 6 8\n".encode())
+    wants(f"{what}: what is read", looks(shown, made), True)
+    refused(words, "dlm: 29 AlreadyThere\n")
+
+
+# MANY IN A ROW
+
+WRITERS = ("PW", "EX")
+
+
+class Valued(lock_log.Table):
+    """The plain table, with the value of each name that has another one than zeros."""
+
+    def __init__(self):
+        super().__init__()
+        self.values = {}
+
+    def carry_out(self, host, client, words):
+        given = words[-1] if "value" in words else None
+        words = words[:words.index("value")] if given else words
+        before, number = self.locks, int(words[3])
+        lock = None if words[0] == "purge" else self.find(number)
+        reply = super().carry_out(host, client, words)
+        if given and (words[0] == "release" and reply == "Released" and lock[4] in WRITERS or words[0] == "convert" and reply == "Granted" and self.is_downward(lock[4], words[4])):
+            self.values[lock[3]] = given
+        if words[0] == "purge":
+            for name in {each[3] for each in before if each[2] == number and each[4] in WRITERS}:
+                self.values[name] = self.values.get(name, "00" * 16)[:32] + " invalid"
+        self.values = {name: value for name, value in self.values.items() if value != "00" * 16 and any(each[3] == name for each in self.locks)}
+        value = self.values.get(words[5] if words[0] == "enqueue" else lock and lock[3])
+        if value and reply == "Granted":
+            return f"Granted({value})"
+        if value and reply.startswith("State(held=") and "held=-" not in reply:
+            return f"{reply[:-1]}, value={value})"
+        return reply
+
+    @staticmethod
+    def is_downward(held, wanted):
+        return held == "EX" or held == "PW" and wanted != "EX"
+
+    def text(self):
+        return [line if line.startswith("  ") or line not in self.values else f"{line} {self.values[line]}" for line in super().text()]
+
+
+def wait_until(process, is_so):
+    while process.poll() is None and not is_so():
+        pass
+
+
+def is_there(folder):
+    return os.path.exists(f"{folder}/disk0.img")
+
+
+def is_open(folder):
+    try:
+        with open(f"{folder}/disk0.img", "rb") as file:
+            return file.read(1) == b"\xa5"
+    except FileNotFoundError:
+        return False
+
+
+class Row:
+    """A cluster that is renewed again and again, and what a plain table makes of its commands."""
+
+    def __init__(self):
+        self.model, self.counts = Valued(), collections.Counter()
+        # A command that has no reply yet, with its client's host. How long a renewal took.
+        self.left, self.took = None, 0.05
+        # A sync takes a little while, or most runs in memory would be over before they are killed.
+        shim = lock_log.built_shim(".")
+        self.env = {**os.environ, **({"LD_PRELOAD": os.path.realpath(shim), "DLM_SLEEP": "200"} if shim else {})}
+        self.folder, self.slots, self.cluster = "set100", 24, 100
+        make(self.folder, 3, self.slots, self.cluster)
+
+    def killed_or_ended(self, words, longest, percent, *moments):
+        """What came of a run that may be killed, so many times in a hundred: at some moment until so many seconds have passed, or once one of these is
+        so."""
+        process = subprocess.Popen([PROGRAM, *words.split(" ")], env=self.env, stdin=subprocess.DEVNULL, stdout=subprocess.PIPE, stderr=subprocess.PIPE, text=True)
+        if random.random() * 100 < percent:
+            moment = random.choice([None, *moments])
+            if moment:
+                wait_until(process, moment)
+            else:
+                time.sleep(random.uniform(0, longest))
+            process.kill()
+        return end_of(process)
+
+    def submits(self, host, command):
+        """A command, again and again through this host until it has its reply. Tells whether the log is full."""
+        while True:
+            status, printed, told = self.killed_or_ended(f"submit {self.folder} {host} {command}", 0.03, 20)
+            if printed:
+                wants(f"`{command}`", printed.split(" ", 2)[2], self.model.apply(host, command.split(" ")) + "\n")
+                self.counts["commands"] += 1
+                return False
+            if status == -9:
+                self.counts["submissions killed"] += 1
+            else:
+                wants(f"`{command}`", (status, told), (1, "dlm: 9 LogFull\n"))
+                self.left = host, command
+                return True
+
+    def submits_some(self):
+        """Random commands until the log is full, or until there were enough."""
+        for _ in range(random.randrange(5, 2 * self.slots)):
+            client, words = some_words()
+            request = self.model.clients.get(client, (0,))[0] + 1
+            if self.submits(random.randrange(16), f"{words[0]} {client} {request} {' '.join(words[1:])}"):
+                return
+
+    def is_filled(self):
+        while True:
+            status, printed, told = self.killed_or_ended(f"fill {self.folder} {random.randrange(16)}", 0.1, 40)
+            if status == 0:
+                return
+            wants("a fill", (status, told), (-9, ""))
+            self.counts["fills killed"] += 1
+
+    def is_renewed(self):
+        """As docs/OPERATIONS.md says: the same words again, until they tell that it was renewed or finished, or that all is there."""
+        before, new = table(self.folder)[1], f"set{self.cluster + 1}"
+        slots, disks = random.randrange(16, 65), random.randrange(1, 8)
+        words = f"renew {self.folder} {random.randrange(16)} {new} {disks} {slots}"
+        os.mkdir(new)
+        while True:
+            began = time.monotonic()
+            status, printed, told = self.killed_or_ended(f"{words} {self.cluster + 1}", self.took, 60, lambda: is_there(new), lambda: is_open(new))
+            if status == -9 and not printed:
+                self.counts["renewals killed"] += 1
+                if os.path.exists(f"{self.folder}/renewed"):
+                    refused(f"{words} {self.cluster + 2}", "dlm: 41 RenewedElsewhere\n")
+            elif told == "dlm: 29 AlreadyThere\n":
+                if len(gates(new)) == disks:
+                    break
+                wants("open gates of images that are there", gates(new), [])
+                self.counts["renewals begun anew"] += 1
+                for name in images_of(new):
+                    os.remove(f"{new}/{name}")
+            else:
+                wants(f"`{words}`, {told!r}", printed in (f"finished {disks} disks\n",) or printed.startswith("renewed "), True)
+                self.counts["renewals finished by a further run"] += printed.startswith("finished")
+                self.took = 1.2 * (time.monotonic() - began)
+                break
+        self.counts["renewals"] += 1
+        shutil.rmtree(self.folder)
+        self.folder, self.slots, self.cluster = new, slots, self.cluster + 1
+        wants(f"the table of {new}", table(new)[1], before)
+
+    def agrees(self):
+        """A client that met a full log asks again. Then the table, and each client's last reply."""
+        if self.left:
+            host, command = self.left
+            self.left = None
+            wants(f"a full log after `{command}`", self.submits(host, command), False)
+        _, shown = table(self.folder)
+        wants(f"the table of {self.folder}", lock_log.sorted_below(shown.splitlines()), self.model.text())
+        for client, (request, reply) in self.model.clients.items():
+            status, printed, told = run(f"submit {self.folder} {random.randrange(16)} status {client} {request} 1")
+            wants(f"the last reply to client {client}", (status, printed.split(" ", 2)[2:], told), (0, [reply + "\n"], ""))
+
+
+def long(count):
+    began = time.monotonic()
+    row = Row()
+    for _ in range(count):
+        row.submits_some()
+        row.is_filled()
+        row.is_renewed()
+        row.agrees()
+    print(f"renew.py: {', '.join(f'{number} {what}' for what, number in sorted(row.counts.items()))}, {time.monotonic() - began:.0f} seconds")
+
+
+# KILLS
+
+WORDS = "renew old 1 new 5 64 8"
 
 
 def goes_on(shown, renewed, counts):
@@ -327,22 +699,6 @@ def goes_on(shown, renewed, counts):
     wants("what is read", looks(shown), True)
 
 
-def wait_until(process, is_so):
-    while process.poll() is None and not is_so():
-        pass
-
-
-def is_there():
-    return os.path.exists("new/disk0.img")
-
-
-def is_open():
-    try:
-        return bytes_of("new/disk0.img")[:1] == b"\xa5"
-    except FileNotFoundError:
-        return False
-
-
 def kill(kills):
     make("old", 3, SLOTS, 7)
     os.mkdir("new")
@@ -365,10 +721,10 @@ def kill(kills):
             if counts["killed"] % 3 == 0:
                 time.sleep(random.uniform(0, long))
             elif counts["killed"] % 3 == 1:
-                wait_until(process, is_there)
+                wait_until(process, lambda: is_there("new"))
                 time.sleep(random.uniform(0, long / 20))
             else:
-                wait_until(process, is_open)
+                wait_until(process, lambda: is_open("new"))
             process.kill()
             process.communicate()
         if process.returncode == 0:
@@ -386,6 +742,7 @@ def main():
     parser = argparse.ArgumentParser()
     parser.add_argument("--program", default=PROGRAM)
     parser.add_argument("--kills", type=int, default=0)
+    parser.add_argument("--long", type=int, default=0)
     given = parser.parse_args()
     PROGRAM = os.path.realpath(given.program)
     if not os.access(PROGRAM, os.X_OK):
@@ -396,10 +753,12 @@ def main():
     tests = [(function.__name__, function) for function in TESTS]
     if given.kills > 0:
         tests.append(("kill", lambda: kill(given.kills)))
+    if given.long > 0:
+        tests.append(("long", lambda: long(given.long)))
     wrong = 0
     for name, function in tests:
-        # Not in memory: there a renewal is over before it is killed.
-        with tempfile.TemporaryDirectory() as folder:
+        # Kills are not in memory: there a renewal is over before it is killed.
+        with tempfile.TemporaryDirectory(dir=None if name == "kill" else MEMORY) as folder:
             os.chdir(folder)
             try:
                 function()

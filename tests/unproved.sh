@@ -53,7 +53,7 @@ try faults.sh
 try check_images.sh
 try kill.sh 40
 try migrate.py --kills 10
-try renew.py --kills 10
+try renew.py --kills 10 --long 5
 try at_once.py --rounds 1 --seconds 4
 echo "nothing of the program that passed these is proved"
 echo "$passed passed, $failed failed"

@@ -1,10 +1,11 @@
 /* What a process does to disk images, written down, or made slower and coarser. For LD_PRELOAD; tests/power_loss.py and
  * tests/at_once.py build it with `cc -shared -fPIC`.
  *
- * DLM_LOG=FILE   each image that is made, each write, sync and printed line goes into FILE, in the order in which they took
- *                effect: of the processes with the same FILE one makes a call at a time. So does each fsync, which only
- *                folders get. A sync makes no system call then.
- * DLM_OLD=PATH   to the numbers of the images in this folder 10 is added there
+ * DLM_LOG=FILE   each image that is made, each write, cut, sync and printed line goes into FILE, in the order in which they took
+ *                effect: of the processes with the same FILE one makes a call at a time. So does each sync of a folder. A sync
+ *                makes no system call then.
+ * DLM_OLD=PATH   to the numbers of the images in this folder 10 is added there; its file `renewed` counts as image 20, and what
+ *                becomes it as 21; so a record tells when it does
  * DLM_READ=N     a read is made in pieces of N bytes, each at a moment of its own; -N: the last piece first
  * DLM_WRITE=N    a write, likewise
  * DLM_GAP=P,U    between two pieces it sleeps up to U microseconds, P times in 100
@@ -26,6 +27,8 @@
 
 #define MOST_FILES 1024
 #define OLD 10
+#define RENEWED 20
+#define DRAFT 21
 
 static int (*real_open)(const char *, int, ...);
 static ssize_t (*real_pread)(int, void *, size_t, off_t);
@@ -33,9 +36,11 @@ static ssize_t (*real_pwrite)(int, const void *, size_t, off_t);
 static ssize_t (*real_write)(int, const void *, size_t);
 static int (*real_fdatasync)(int);
 static int (*real_fsync)(int);
+static int (*real_ftruncate)(int, off_t);
+static int (*real_rename)(const char *, const char *);
 
-/* By descriptor: the number of the image, with OLD if it is in the old folder, and 1; or 0. */
-static int images[MOST_FILES];
+/* By descriptor: the number of the image, with OLD if it is in the old folder, and 1; or 0. And whether it is the old folder. */
+static int images[MOST_FILES], is_old_folder[MOST_FILES];
 static const char *old_folder;
 static int log_fd = -1, read_piece, write_piece, gap_percent, gap_most, pause_percent, pause_most, stop, sleep_for = -1;
 static uint64_t state;
@@ -74,6 +79,8 @@ __attribute__((constructor)) static void begin(void) {
     real_write = dlsym(RTLD_NEXT, "write");
     real_fdatasync = dlsym(RTLD_NEXT, "fdatasync");
     real_fsync = dlsym(RTLD_NEXT, "fsync");
+    real_ftruncate = dlsym(RTLD_NEXT, "ftruncate");
+    real_rename = dlsym(RTLD_NEXT, "rename");
     struct timespec now;
     clock_gettime(CLOCK_MONOTONIC, &now);
     state = (uint64_t)now.tv_nsec * 2654435761u + (uint64_t)getpid() * 40503u + 88172645463325252u;
@@ -127,6 +134,10 @@ int open(const char *path, int flags, ...) {
     const char *name = slash ? slash + 1 : path;
     int is_image = strlen(name) == 9 && !strncmp(name, "disk", 4) && !strcmp(name + 5, ".img");
     int image = is_image ? name[4] - '0' + 1 + (is_in_old(path) ? OLD : 0) : 0;
+    if (is_in_old(path) && !strcmp(name, "renewed"))
+        image = RENEWED + 1;
+    if (is_in_old(path) && !strcmp(name, "renewed.new"))
+        image = DRAFT + 1;
     int makes = image && flags & O_CREAT && log_fd >= 0;
     if (makes)
         one_at_a_time(1);
@@ -136,8 +147,10 @@ int open(const char *path, int flags, ...) {
             note('C', image - 1, 0, "", 0);
         one_at_a_time(0);
     }
-    if (fd >= 0 && fd < MOST_FILES)
+    if (fd >= 0 && fd < MOST_FILES) {
         images[fd] = image;
+        is_old_folder[fd] = old_folder && !strcmp(path, old_folder);
+    }
     return fd;
 }
 
@@ -207,17 +220,50 @@ int fdatasync(int fd) {
 int fsync(int fd) {
     if (log_fd < 0)
         return real_fsync(fd);
+    int image = image_of(fd);
     one_at_a_time(1);
-    note('N', 0, 0, "", 0);
+    if (image)
+        note('S', image - 1, 0, "", 0);
+    else
+        note('N', fd < MOST_FILES && is_old_folder[fd] ? OLD : 0, 0, "", 0);
     one_at_a_time(0);
     return 0;
 }
 
-ssize_t write(int fd, const void *from, size_t length) {
-    if (fd == 1 && log_fd >= 0) {
+int ftruncate(int fd, off_t length) {
+    int notes = image_of(fd) && log_fd >= 0;
+    if (notes) {
         one_at_a_time(1);
-        note('P', 0, 0, from, (uint32_t)length);
-        one_at_a_time(0);
+        note('T', image_of(fd) - 1, (uint64_t)length, "", 0);
     }
-    return real_write(fd, from, length);
+    int done = real_ftruncate(fd, length);
+    if (notes)
+        one_at_a_time(0);
+    return done;
+}
+
+int rename(const char *from, const char *to) {
+    int notes = is_in_old(to) && log_fd >= 0;
+    if (notes) {
+        one_at_a_time(1);
+        note('R', RENEWED, 0, "", 0);
+    }
+    int done = real_rename(from, to);
+    if (notes)
+        one_at_a_time(0);
+    return done;
+}
+
+ssize_t write(int fd, const void *from, size_t length) {
+    int image = image_of(fd), notes = (fd == 1 || image) && log_fd >= 0;
+    if (notes)
+        one_at_a_time(1);
+    ssize_t done = real_write(fd, from, length);
+    if (notes && fd == 1)
+        note('P', 0, 0, from, (uint32_t)length);
+    else if (notes && done > 0)
+        note('W', image - 1, (uint64_t)(lseek(fd, 0, SEEK_CUR) - done), from, (uint32_t)done);
+    if (notes)
+        one_at_a_time(0);
+    return done;
 }

@@ -147,6 +147,8 @@ where
 {
     refuse_taken(rt, new, config)?;
     let lock = lock_host(rt, new, first_host())?;
+    // A run that had the lock may have made them meanwhile.
+    refuse_taken(rt, new, config)?;
     name_successor(rt, old, line)?;
     let images = make_images(rt, new, config)?;
     Ok((images, lock))

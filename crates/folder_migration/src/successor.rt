@@ -14,6 +14,9 @@ use std::{fs, io};
 /// The file of a folder that names the set into which the folder's log was renewed.
 const NAME: &str = "renewed";
 
+/// The file that becomes it, once all of it is written and synced.
+const DRAFT: &str = "renewed.new";
+
 /// The line by which a folder names its successor.
 pub fn successor_line(
     alloc: Global,
@@ -28,7 +31,7 @@ pub fn successor_line(
 
 /// Refuses a folder that names another successor. Whether it names this one is the result.
 ///
-/// A line that has no end was written by a run that was ended before it made anything, so it names none.
+/// A line that has no end names none: nothing was made of a set before the whole line was there.
 pub fn names_successor<R: Files + AllocGlobal>(
     rt: &R,
     folder: &str,
@@ -36,7 +39,7 @@ pub fn names_successor<R: Files + AllocGlobal>(
 ) -> Result<bool, NewFault>
     ensures fault { IfErr result IsNamingFault }
 {
-    let path = successor_path(rt.alloc(), folder)?;
+    let path = path_in(rt.alloc(), folder, NAME)?;
     match fs::read_to_string(rt, path.as_str()) {
         Ok(named) => of_named(named.as_str(), line),
         Err(error) => match error.kind() {
@@ -69,37 +72,53 @@ where
     R::File: OpenFile + TryLock,
     ensures fault { IfErr result IsNamingFault }
 {
-    let path = successor_path(rt.alloc(), folder)?;
+    if !names_successor(rt, folder, line)? {
+        put_line(rt, folder, line)?;
+    }
+    // A run that was ended may have named it, and not made sure of it.
+    sync_folder(rt, folder).map_err(|_| NewFault::NotNamed)
+}
+
+/// Puts the line there as a whole: a loss of power leaves all of it, or what was there before.
+fn put_line<R: Files + AllocGlobal>(rt: &R, folder: &str, line: &str) -> Result<(), NewFault>
+where
+    R::File: OpenFile + TryLock,
+    ensures fault { IfErr result IsNamingFault }
+{
+    let draft = path_in(rt.alloc(), folder, DRAFT)?;
     let Ok(mut file) = OpenOptions::new()
         .read(true)
         .write(true)
         .create(true)
-        .open(rt, path.as_str())
+        .open(rt, draft.as_str())
     else {
         return Err(NewFault::NotNamed);
     };
-    // Of two runs that name one at once the second finds the first one's line, or is refused here.
+    // Of two runs that name one at once the second is refused here, or finds the first one's line.
     match file.try_lock() {
         Ok(()) => {}
         Err(TryLockError::WouldBlock) => return Err(NewFault::RenewedElsewhere),
         Err(TryLockError::Error(_)) => return Err(NewFault::NotNamed),
     }
-    let named = names_successor(rt, folder, line)?;
-    if write_line(&mut file, named, line).is_err() || sync_folder(rt, folder).is_err() {
+    if names_successor(rt, folder, line)? {
+        return Ok(());
+    }
+    let path = path_in(rt.alloc(), folder, NAME)?;
+    if write_line(&mut file, line).is_err()
+        || fs::rename(rt, draft.as_str(), path.as_str()).is_err()
+    {
         return Err(NewFault::NotNamed);
     }
     Ok(())
 }
 
-/// Writes the line in place of what a run that was ended left of its own, unless it is there.
-fn write_line<F: Write + OpenFile>(file: &mut F, named: bool, line: &str) -> io::Result<()> {
-    if !named {
-        file.set_len(0)?;
-        file.write_all(line.as_bytes())?;
-    }
+/// Writes the line in place of what a run that was ended left of its own.
+fn write_line<F: Write + OpenFile>(file: &mut F, line: &str) -> io::Result<()> {
+    file.set_len(0)?;
+    file.write_all(line.as_bytes())?;
     file.sync_all()
 }
 
-fn successor_path(alloc: Global, folder: &str) -> Result<PathBuf, AllocError> {
-    Path::new(folder).join(alloc, NAME)
+fn path_in(alloc: Global, folder: &str, name: &str) -> Result<PathBuf, AllocError> {
+    Path::new(folder).join(alloc, name)
 }
