@@ -16,7 +16,7 @@ pub struct Command {
 
 impl Command {
     ghost use Rattle.std.specs.Prelude.{◌≡◌};
-    ghost use Rattle.lock_command.specs.Command.{is_carried, is_submittable};
+    ghost use Rattle.lock_command.specs.Command.{is_submittable};
 
     /// Whether a client may ask for it. Quiet purges, and what is carried over, stand only in a log that was written as a whole.
     pub fn is_submittable(&self) -> bool
@@ -25,16 +25,6 @@ impl Command {
         !matches!(
             &self.action,
             Action::QuietPurge(_) | Action::CarryLock { .. } | Action::CarryClient(_)
-        )
-    }
-
-    /// Whether it carries a part of a table over into a new log.
-    pub fn is_carried(&self) -> bool
-        ensures { result ≡ is_carried self.now.action }
-    {
-        matches!(
-            &self.action,
-            Action::CarryLock { .. } | Action::CarryClient(_)
         )
     }
 }

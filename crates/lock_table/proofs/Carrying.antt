@@ -1,5 +1,5 @@
 -- A table that is carried over is the same again.
-use Rattle.std.proofs.Common.{◌≡◌, ◌≤◌, ◌<◌, ◌+◌, ℕ, zero, suc, Bool, true, false, cond, not, nat_le, ◌||◌, List, [], ◌∷◌, ◌++◌, length, Option, Some, None, is_some, map, refl, sym, ap, subst, ◌∙◌, arith, append_assoc, length-append}
+use Rattle.std.proofs.Common.{◌≡◌, ◌≤◌, ◌<◌, ◌+◌, ℕ, zero, suc, Bool, true, false, cond, not, nat_le, ◌||◌, ◌==◌, List, [], ◌∷◌, ◌++◌, length, Option, Some, None, is_some, map, refl, sym, ap, subst, ◌∙◌, arith, append_assoc, length-append}
 use Rattle.std.specs.List.{filter, find, list_any}
 use Rattle.std.specs.List.Sorted.{IsSorted}
 use Rattle.std.specs.Ordering.{is_lt}
@@ -24,10 +24,10 @@ use Rattle.lock_table.specs.Locks.{is_on, option_or, lock_in, put, converts_on, 
 use Rattle.lock_table.specs.Values.{Values, zeros, stored, of_locked, values_after}
 use Rattle.lock_table.specs.Apply.{refused, carried, Plain, is_client, carried_out, unchanged, refusing, applied_after, applied, no_locks, table_after}
 use Rattle.lock_table.specs.Picture.{printed_cmp, client_cmp, Shown, HasSameLocks, HasSameClients, HasZeros, values_beside, IsPictureOf}
-use Rattle.lock_table.specs.Carrying.{carried_lock, carried_client, carried_locks, carried_over, stays_known, without_clients, AreOrdinary, IsLogAfter}
-use Rattle.lock_table.proofs.Parts.{first, find_is_first, length_alike, length_parts}
+use Rattle.lock_table.specs.Carrying.{carried_lock, carried_client, carried_locks, carried_over, stays_known, without_clients, forgetting, table_later, AreOrdinary, IsLogAfter}
+use Rattle.lock_table.proofs.Parts.{first, find_is_first, filter-filter, length_alike, length_parts}
 use Rattle.lock_table.proofs.Numbered.{numbered, numbered-cons, numbered-append, without_absent}
-use Rattle.lock_table.proofs.Alike.{same_back, same-lock_in, same-length, same-admits, same-distinct}
+use Rattle.lock_table.proofs.Alike.{same_back, same_through, same-any, same-lock_in, same-length, same-admits, same-distinct}
 use Rattle.lock_table.proofs.Apart.{name_is}
 use Rattle.lock_table.proofs.Behave.{same-applied, distinct-applied, reachable_distinct}
 use Rattle.lock_table.proofs.Quiet.{IsPeaceful, found_numbered, same_name-sym}
@@ -218,21 +218,44 @@ reachable_whole past shown pictured =
 pub carried_pictured : (past : List Command) (shown : Shown) → IsPictureOf shown (table_after past) → IsPictureOf shown (table_after (carried_over shown))
 carried_pictured past shown pictured = whole_carried shown (table_after past).values (reachable_whole past shown pictured)
 
--- clients may be left out
+-- CLIENTS THAT ARE LEFT OUT
+
+stays_alike : (leave : ℕ → Bool) (a b : List LockRecord) → HasSameLocks a b → stays_known leave a ≡ stays_known leave b
+stays_alike leave a b same = λ i (k : KnownClient). not (leave k.client) || same-any (λ (r : LockRecord). r.client == k.client) a b same i
+
+-- a picture without clients is one of the plain table without them
+forgotten_pictured : (leave : ℕ → Bool) (shown : Shown) (t : Plain) → IsPictureOf shown t → IsPictureOf (without_clients leave shown) (forgetting leave t)
+forgotten_pictured leave shown t pictured =
+    let stays = stays_known leave shown.locks in
+    record {
+      locks = pictured.locks;
+      printed = pictured.printed;
+      values = pictured.values;
+      unlocked = pictured.unlocked;
+      clients = λ client.
+          filter-filter (is_client client) stays shown.clients
+          ∙ ap (filter stays) (pictured.clients client)
+          ∙ filter-filter stays (is_client client) t.clients
+          ∙ ap (λ (p : KnownClient → Bool). filter (is_client client) (filter p t.clients)) (stays_alike leave shown.locks t.locks pictured.locks);
+      by_number = IsSortedBy-filter (λ x y. is_lt (client_cmp x y)) client_order stays shown.clients pictured.by_number;
+    }
+
 pub left_out_pictured : (past : List Command) (shown : Shown) (leave : ℕ → Bool) → IsPictureOf shown (table_after past) → IsPictureOf (without_clients leave shown) (table_after (carried_over (without_clients leave shown)))
 left_out_pictured past shown leave pictured =
     let is = reachable_whole past shown pictured in
-    let stays = stays_known leave shown in
+    let stays = stays_known leave shown.locks in
     whole_carried (without_clients leave shown) (table_after past).values (record {
       distinct = is.distinct;
       few = is.few;
       once = λ client. omega (arith, is.once client, known_less stays client shown.clients);
       few_clients = omega (arith, is.few_clients, length_parts stays shown.clients);
       printed = is.printed;
-      by_number = IsSortedBy-filter (λ x y. is_lt (client_cmp x y)) client_order stays shown.clients is.by_number;
+      by_number = (forgotten_pictured leave shown (table_after past) pictured).by_number;
       values = is.values;
       unlocked = is.unlocked;
     })
+
+-- HOW MANY
 
 carried_locks_few : (locks : List LockRecord) (values : List LockValue) → length (carried_locks locks values) ≤ length locks
 carried_locks_few [] values = omega arith
@@ -243,6 +266,13 @@ pub carried_few : (past : List Command) (shown : Shown) → IsPictureOf shown (t
 carried_few past shown pictured =
     let is = reachable_whole past shown pictured in
     omega (arith, length-append (carried_locks shown.locks shown.values) (map carried_client shown.clients), carried_locks_few shown.locks shown.values, length-map shown.clients carried_client, is.few, is.few_clients)
+
+pub left_out_few : (past : List Command) (shown : Shown) (leave : ℕ → Bool) → IsPictureOf shown (table_after past) → length (carried_over (without_clients leave shown)) ≤ length (carried_over shown)
+left_out_few past shown leave pictured =
+    let stays = stays_known leave shown.locks in
+    let before = carried_locks shown.locks shown.values in
+    let rest = filter stays shown.clients in
+    omega (arith, length-append before (map carried_client shown.clients), length-append before (map carried_client rest), length-map shown.clients carried_client, length-map rest carried_client, length_parts stays shown.clients)
 
 -- AND WHATEVER FOLLOWS
 
@@ -279,6 +309,31 @@ replied_later past later shown c pictured =
     let same = same_later past later shown pictured in
     sym (same-applied (table_after (past ++ later)) (table_after (carried_over shown ++ later)) c same.locks same.values same.clients same.distinct).reply
 
+-- the same where clients were left out, and the table that was left forgets them
+forgotten_from : (past later : List Command) (shown : Shown) (leave : ℕ → Bool) → IsPictureOf shown (table_after past)
+    → IsSameTable (table_from (forgetting leave (table_after past)) later) (table_after (carried_over (without_clients leave shown) ++ later))
+unfolding table_from
+forgotten_from past later shown leave pictured =
+    let before = forgetting leave (table_after past) in
+    let over = carried_over (without_clients leave shown) in
+    let alike = one_picture (without_clients leave shown) before (table_after over) (forgotten_pictured leave shown (table_after past) pictured) (left_out_pictured past shown leave pictured) in
+    let same : IsSameTable before (table_after over) = record { locks = alike.0; values = alike.2; clients = alike.1; distinct = reachable_distinct past } in
+    subst (λ (t : Plain). IsSameTable (table_from before later) t) (sym (after_both over later no_locks)) (same_from later before (table_after over) same)
+
+pub forgotten_later : (past later : List Command) (shown after : Shown) (leave : ℕ → Bool) → IsPictureOf shown (table_after past) → IsPictureOf after (table_later (forgetting leave (table_after past)) later)
+    → IsPictureOf after (table_after (carried_over (without_clients leave shown) ++ later))
+unfolding table_from
+forgotten_later past later shown after leave pictured then =
+    let same = forgotten_from past later shown leave pictured in
+    picture_of_same after (table_later (forgetting leave (table_after past)) later) (table_after (carried_over (without_clients leave shown) ++ later)) then same.locks same.values same.clients
+
+pub forgotten_replied : (past later : List Command) (shown : Shown) (leave : ℕ → Bool) (c : Command) → IsPictureOf shown (table_after past)
+    → (applied (table_after (carried_over (without_clients leave shown) ++ later)) c).reply ≡ (applied (table_later (forgetting leave (table_after past)) later) c).reply
+unfolding table_from
+forgotten_replied past later shown leave c pictured =
+    let same = forgotten_from past later shown leave pictured in
+    sym (same-applied (table_later (forgetting leave (table_after past)) later) (table_after (carried_over (without_clients leave shown) ++ later)) c same.locks same.values same.clients same.distinct).reply
+
 -- HOWEVER OFTEN A LOG WAS RENEWED
 
 peace_alike : (a b : List LockRecord) → HasSameLocks a b → IsPeaceful a → IsPeaceful b
@@ -309,13 +364,16 @@ module _ (P : List LockRecord → Type 0) (first_holds : P no_locks.locks)
   holds_after (suc renewals) log h =
       let past = h.0 in
       let shown = h.1 in
-      let later = h.2 in
-      let pictured : IsPictureOf shown (table_after past) = h.4 in
-      let before : P (table_after past).locks = holds_after renewals past h.3 in
-      let over : P (table_after (carried_over shown)).locks =
-      alike (table_after past).locks (table_after (carried_over shown)).locks (one_picture shown (table_after past) (table_after (carried_over shown)) pictured (carried_pictured past shown pictured)).0 before in
-      subst (λ (l : List Command). P (table_after l).locks) (sym h.6)
-      (subst (λ (t : Plain). P t.locks) (sym (after_both (carried_over shown) later no_locks)) (keeps later (table_after (carried_over shown)) h.5 over))
+      let leave = h.2 in
+      let later = h.3 in
+      let over = carried_over (without_clients leave shown) in
+      let pictured : IsPictureOf shown (table_after past) = h.5 in
+      let before : P (table_after past).locks = holds_after renewals past h.4 in
+      let same : HasSameLocks (table_after past).locks (table_after over).locks =
+      same_through (table_after past).locks shown.locks (table_after over).locks (same_back shown.locks (table_after past).locks pictured.locks) (left_out_pictured past shown leave pictured).locks in
+      let carried : P (table_after over).locks = alike (table_after past).locks (table_after over).locks same before in
+      subst (λ (l : List Command). P (table_after l).locks) (sym h.7)
+      (subst (λ (t : Plain). P t.locks) (sym (after_both over later no_locks)) (keeps later (table_after over) h.6 carried))
 
 pub peace_after : (renewals : ℕ) (log : List Command) → IsLogAfter renewals log → IsPeaceful (table_after log).locks
 unfolding table_from

@@ -1,5 +1,5 @@
 -- The commands that carry a table over into a new log, and which logs there are.
-use Rattle.std.specs.Prelude.{◌≡◌, ◌==◌, ◌≤◌, ℕ, zero, suc, true, not, ◌||◌, List, [], ◌∷◌, ◌++◌, map, filter, find, Some, Bool}
+use Rattle.std.specs.Prelude.{◌≡◌, ◌==◌, ◌≤◌, ℕ, zero, suc, true, not, ◌||◌, List, [], ◌∷◌, ◌++◌, map, fold, filter, find, Some, Bool}
 use Rattle.std.specs.List.{list_all, list_any}
 use Rattle.lock_command.specs.declared.command.Command.{Command}
 use Rattle.lock_command.specs.declared.command.Action.TheVariants.{CarryLock, CarryClient}
@@ -7,7 +7,7 @@ use Rattle.lock_command.specs.declared.reply.LockValue.{LockValue}
 use Rattle.lock_command.specs.Command.{is_carried}
 use Rattle.lock_table.specs.declared.record.LockRecord.{LockRecord}
 use Rattle.lock_table.specs.declared.record.KnownClient.{KnownClient}
-use Rattle.lock_table.specs.Apply.{is_client, table_after}
+use Rattle.lock_table.specs.Apply.{Plain, is_client, applied, table_after}
 use Rattle.lock_table.specs.Picture.{Shown, IsPictureOf}
 
 -- a lock as it stands, and the value of its name
@@ -30,13 +30,29 @@ carried_over shown = carried_locks shown.locks shown.values ++ map carried_clien
 
 -- CLIENTS THAT ARE LEFT OUT
 
+-- the client is one of these
+abbrev pub is_among : List ℕ → ℕ → Bool
+is_among clients client = list_any (λ other. other == client) clients
+
+-- the client has a lock, or waits for one
+abbrev pub has_locks : List LockRecord → ℕ → Bool
+has_locks locks client = list_any (λ (r : LockRecord). r.client == client) locks
+
 -- the client is known from now on: it is not to be left out, or it has a lock
-abbrev pub stays_known : (ℕ → Bool) → Shown → KnownClient → Bool
-stays_known leave shown k = not (leave k.client) || list_any (λ (r : LockRecord). r.client == k.client) shown.locks
+abbrev pub stays_known : (ℕ → Bool) → List LockRecord → KnownClient → Bool
+stays_known leave locks k = not (leave k.client) || has_locks locks k.client
 
 -- the picture without clients that are to be left out and have no lock
 abbrev pub without_clients : (ℕ → Bool) → Shown → Shown
-without_clients leave shown = record { locks = shown.locks; values = shown.values; clients = filter (stays_known leave shown) shown.clients }
+without_clients leave shown = record { locks = shown.locks; values = shown.values; clients = filter (stays_known leave shown.locks) shown.clients }
+
+-- and the plain table without them
+abbrev pub forgetting : (ℕ → Bool) → Plain → Plain
+forgetting leave t = record { locks = t.locks; values = t.values; clients = filter (stays_known leave t.locks) t.clients }
+
+-- the table after more commands
+abbrev pub table_later : Plain → List Command → Plain
+table_later t commands = fold (λ u c. (applied u c).table) t commands
 
 -- the client is known, and its last request has this number or a greater one
 abbrev pub IsKnownFrom : ℕ → ℕ → List KnownClient → Type 0
@@ -48,9 +64,9 @@ IsKnownFrom client request clients = (k : KnownClient) × (find (is_client clien
 abbrev pub AreOrdinary : List Command → Type 0
 AreOrdinary commands = list_all (λ c. not (is_carried c.action)) commands ≡ true
 
--- The log of a cluster that was renewed so often: what carries the table of the log before over, and then what was submitted.
+-- The log of a cluster that was renewed so often: what carries the table of the log before over, with or without some clients, and then what was submitted.
 abbrev pub IsLogAfter : ℕ → List Command → Type 0
 IsLogAfter zero log = AreOrdinary log
 IsLogAfter (suc n) log =
-    (past : List Command) × (shown : Shown) × (later : List Command)
-    × IsLogAfter n past × IsPictureOf shown (table_after past) × AreOrdinary later × (log ≡ carried_over shown ++ later)
+    (past : List Command) × (shown : Shown) × (leave : ℕ → Bool) × (later : List Command)
+    × IsLogAfter n past × IsPictureOf shown (table_after past) × AreOrdinary later × (log ≡ carried_over (without_clients leave shown) ++ later)

@@ -1,6 +1,7 @@
 ghost use Rattle.std.specs.Prelude.{◌≡◌, ◌+◌, ◌<◌, ◌≤◌, ◌==◌, ℕ, [], IfOk, IsTrue, cond, false, nat_lt, length, insert, remove, slice_index_or, vec_len, vec_capacity};
 ghost use Rattle.std.specs.List.{list_any, slice_get, AllWithin};
 ghost use Rattle.lock_table.specs.declared.record.LockRecord.{LockRecord};
+ghost use Rattle.lock_table.specs.Carrying.{has_locks};
 ghost use Rattle.lock_table.specs.State.{holds_against};
 ghost use Rattle.lock_table.specs.Values.{is_writer};
 ghost use Rattle.lock_table.specs.Keys.{lock_key, HasKey};
@@ -11,6 +12,7 @@ use crate::keys::SpelledName;
 use crate::locks::LOCKS;
 use crate::record::LockRecord;
 use crate::state::held_bit;
+use lock_command::ClientNumber;
 use lock_modes::Mode;
 use std::alloc::{AllocError, Global};
 use std::marker::Model;
@@ -132,6 +134,17 @@ impl ByPrintedOrder {
         let mut any = false;
         for at in 0..self.len() {
             any |= self.is_writer(at);
+        }
+        any
+    }
+
+    /// Whether some lock is the client's.
+    pub fn has_locks(&self, client: ClientNumber) -> bool
+        ensures { result ≡ has_locks self.now client }
+    {
+        let mut any = false;
+        for at in 0..self.len() {
+            any |= self.get(at).client == client;
         }
         any
     }

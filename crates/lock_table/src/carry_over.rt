@@ -1,6 +1,6 @@
-ghost use Rattle.std.specs.Prelude.{◌≡◌, ◌+◌, ◌≤◌, ◌++◌, [], length, map, vec_len, vec_capacity};
+ghost use Rattle.std.specs.Prelude.{◌≡◌, ◌+◌, ◌≤◌, ◌++◌, [], filter, length, map, vec_len, vec_capacity};
 ghost use Rattle.lock_command.specs.Command.{spelling};
-ghost use Rattle.lock_table.specs.Carrying.{carried_lock, carried_client};
+ghost use Rattle.lock_table.specs.Carrying.{carried_lock, carried_client, is_among, stays_known};
 ghost use Rattle.lock_table.specs.Stored.{value_in, AreNamed};
 
 use crate::by_printed_order::ByPrintedOrder;
@@ -9,7 +9,7 @@ use crate::locks::LOCKS;
 use crate::record::{KnownClient, LockRecord};
 use crate::values;
 use crate::values::NamedValue;
-use lock_command::{Action, Command, HostNumber, LockValue, RequestNumber, Value};
+use lock_command::{Action, ClientNumber, Command, HostNumber, LockValue, RequestNumber, Value};
 
 /// The command that carries a lock over, with the value of its name.
 fn carry_lock(own: &LockRecord, value: LockValue) -> Command
@@ -75,14 +75,30 @@ pub fn carry_locks(locks: &ByPrintedOrder, entries: &[NamedValue], into: &mut Ve
     }
 }
 
-/// Lists the bytes of a command for each client, after the others.
-pub fn carry_clients(clients: &[KnownClient], into: &mut Vec<Value>)
+/// Whether a client is known from now on: it is not to be left out, or it has a lock.
+fn stays_known(known: &KnownClient, locks: &ByPrintedOrder, leave: &[ClientNumber]) -> bool
+    ensures { result ≡ stays_known (is_among leave.now) locks.now known.now }
+{
+    !leave.contains(&known.client) || locks.has_locks(known.client)
+}
+
+/// Lists the bytes of a command for each client that stays known, after the others.
+pub fn carry_clients(
+    clients: &[KnownClient],
+    locks: &ByPrintedOrder,
+    leave: &[ClientNumber],
+    into: &mut Vec<Value>,
+)
     requires few { vec_len into.old ≤ LOCKS }
     requires clients { length clients.now ≤ CLIENTS }
     requires room { LOCKS + CLIENTS ≤ vec_capacity into.old }
-    ensures commands { into.new.items ≡ into.old.items ++ map (λ k. spelling (carried_client k)) clients.now }
+    ensures commands { into.new.items ≡ into.old.items ++ map (λ k. spelling (carried_client k)) (filter (stays_known (is_among leave.now) locks.now) clients.now) }
+    ensures few { vec_len into.new ≤ LOCKS + CLIENTS }
 {
     for at in 0..clients.len() {
-        let _ = into.push(client_value(&clients[at]));
+        let known = &clients[at];
+        if stays_known(known, locks, leave) {
+            let _ = into.push(client_value(known));
+        }
     }
 }

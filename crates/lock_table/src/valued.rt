@@ -347,6 +347,7 @@ impl ValuedLocks {
         ensures values { value_in self.now.entries ≡ of_locked self.now.locks (value_in self.now.entries) }
         ensures reply { result ≡ reply.now }
     {
+        // Called for its contract only: the locks are in printed order.
         let _ = self.locks.printed();
         *reply
     }

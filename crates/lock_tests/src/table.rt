@@ -340,7 +340,7 @@ fn clients_full(rt: HostRuntime) -> Result<(), Fail> {
 
 /// Applies to a new table what carries this one over.
 fn carry_over(alloc: Global, table: &Table, new: &mut Table) -> Result<(), Fail> {
-    for value in &table.carried_over(alloc)? {
+    for value in &table.carried_over(alloc, &[])? {
         let command = decode(value).ok_or("decode")?;
         let _ = new.apply(&command);
     }
