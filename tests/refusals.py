@@ -64,7 +64,8 @@ class Place:
     def matches(self, tree):
         text = tree.read(self.path)
         at, to = part_of(text, self.begin, self.end)
-        return text, [it for it in self.pattern.finditer(text, at, to) if (it.groupdict().get("number") or "1") != "0"]
+        # 0 is no refusal.
+        return text, [it for it in self.pattern.finditer(text, at, to) if it.groupdict().get("number") != "0"]
 
     def wrong(self, tree, lists):
         text, found = self.matches(tree)
