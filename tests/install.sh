@@ -6,9 +6,9 @@ top=$(dirname -- "$(dirname -- "$(readlink -f -- "${BASH_SOURCE[0]}")")")
 work=$(mktemp -d)
 trap 'rm -r -- "$work"' EXIT
 failed=0
-# With the library for C there are seven more, two of them links.
+# With the library for C there are fourteen more, two of them links.
 files=5
-[[ ! -f $top/capi/out/libmidgegalena.a ]] || files=12
+[[ ! -f $top/capi/out/libmidgegalena.a ]] || files=19
 
 fail() {
     echo "install.sh: $1"

@@ -26,9 +26,9 @@ extern "C" {
 
 /* The library's numbers: an increase of the first breaks programs, an increase of the second adds to what there is. */
 #define MG_VERSION_MAJOR 0
-#define MG_VERSION_MINOR 3
+#define MG_VERSION_MINOR 4
 
-/* "0.3", of the library that is linked. */
+/* "0.4", of the library that is linked. */
 const char *mg_version(void);
 
 /* ---- limits ---- */
@@ -53,6 +53,8 @@ enum mg_outcome {
     MG_BAD_ARGUMENT = -1, /* NULL, or a number or a name out of range. Nothing was done */
     MG_TIMED_OUT = -2,    /* mg_wait: the lock still waits */
     MG_BROKEN = -3,       /* the handle is in no state that it should be in. Close it. No cause is known */
+    MG_ONLY_LOOKS = -4,   /* the handle is of mg_open_to_look, and the call is more than a look. Nothing was done */
+    MG_STOPPED = -5,      /* mg_take: it was told to stop (mg_set_rest) */
 
     /* The host refused the operation. The command is not acknowledged, and may be in the log all the same: ask again with the
      * same request number */
@@ -118,6 +120,11 @@ int mg_format(const char *folder, unsigned disks, unsigned slots, uint64_t clust
 /* Opens a folder's images for the host of this number, 0 to 15, and locks the number. At MG_OK `*out` is a host that has
  * learned nothing, and is to be closed; else it is NULL. */
 int mg_open(const char *folder, unsigned host, struct mg_host **out, int *disk);
+
+/* Opens a folder's images to read alone: for mg_look, mg_wait, and what shows the table. It takes no host number, locks nothing
+ * and writes nothing, so any number of processes may do so at once, beside those that work under the numbers. mg_refresh, mg_mark
+ * and all commands are refused, MG_ONLY_LOOKS, and mg_wait does not recover. mg_host_facts tells host 0, which says nothing here. */
+int mg_open_to_look(const char *folder, struct mg_host **out, int *disk);
 
 /* Lets a host and its number go. NULL is nothing. The host's locks stay: they are in the log. */
 void mg_close(struct mg_host *host);
