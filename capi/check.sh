@@ -118,19 +118,27 @@ sed -e '/^        puts("db is ours");$/ { r '"$work/value.part" -e 'N; d; }' "$w
 sed -n '/^\.Sh EXAMPLES$/,/^\.Ed$/ { /^\./!p }' "$top/man/midgegalena.3" | sed 's/\\e/\\/g' > "$work/manual.c"
 cat > "$work/leaves.c" << 'END'
 #include <midgegalena.h>
-int main(int argc, char **argv) {
+int main(void) {
     struct mg_host *host;
     struct mg_answer answer;
-    unsigned client = argc > 1 ? 240 : 1, lock = argc > 1 ? 1538 : 1;
-    (void)argv;
-    return mg_open("images", 0, &host, NULL) != MG_OK || mg_enqueue(host, client, 1, lock, MG_EX, "db", 0, &answer) != MG_OK;
+    return mg_open("images", 0, &host, NULL) != MG_OK || mg_enqueue(host, 1, 1, 1, MG_EX, "db", 0, &answer) != MG_OK;
 }
 END
+cat > "$work/leaves_session.c" << 'END'
+#include <mg_session.h>
+#include <unistd.h>
+int main(void) {
+    struct mg_session *session;
+    struct mg_held db;
+    _exit(mg_begin("images", 0, 0, &session, NULL) != MG_OK || mg_take(session, "db", MG_EX, 0, &db) != MG_OK);
+}
+END
+tried "leaves_session, built" cc -std=c99 $common "$work/leaves_session.c" $flags -o "$work/leaves_session"
 tried "leaves, built" cc -std=c99 $common "$work/leaves.c" $flags -o "$work/leaves"
 in_folder() { (cd -- "$work" && "$@"); }
 for page in session session_value page page_value manual; do
     leaves=./leaves
-    [[ $page != session* ]] || leaves="./leaves session"
+    [[ $page != session* ]] || leaves=./leaves_session
     tried "$page, built" cc -std=c99 $common "$work/$page.c" $flags -o "$work/$page"
     folder
     in_folder ./format images 64

@@ -33,14 +33,16 @@ struct mg_session;
 /* The locks that a former run left are kept. mg_take then takes such a lock first, where name and mode are the same. */
 #define MG_KEEP 1u
 
-/* The session has the host number only while a call works on the images, so any number of processes share it. Each lock has a
- * sign of life then: a file in the folder, which is locked as long as the session has the lock. Each call releases the locks of
- * this number whose sign nobody has any more. A call learns the whole log anew, so this is for short programs. */
+/* The session has the host number only while a call works on the images, so any number of processes share it. Each of its calls
+ * releases what processes with MG_SHARE left that are gone. A call learns the whole log anew, so this is for short programs. */
 #define MG_SHARE 2u
 
-/* Opens the folder for a host number, learns all, and releases what a former run of this host number left. Without MG_SHARE the
+/* Opens the folder for a host number, learns all, and releases what former runs of this host number left. Without MG_SHARE the
  * number is the session's own until mg_end, and MG_HOST_IN_USE says that another process has it. At MG_OK `*out` is a session,
- * which is to be ended; else it is NULL. `disk` as in mg_open. */
+ * which is to be ended; else it is NULL. `disk` as in mg_open.
+ *
+ * Each lock of a session has a sign of life, the file mg-lock.HOST.LOCK in the folder. The session has it locked (flock) as long as
+ * it has the lock. What former runs left are the locks whose signs are there, and locked by nobody. Do not remove signs. */
 int mg_begin(const char *folder, unsigned host, unsigned flags, struct mg_session **out, int *disk);
 
 /* Ends a session. NULL is nothing. Locks that were not given stay in the log. The next session of this host number releases
@@ -63,7 +65,8 @@ struct mg_held {
  *
  * MG_TIMED_OUT: others have it. MG_NO_SUCH_LOCK: it was purged while it waited. MG_STOPPED: mg_set_rest. MG_LOG_FULL,
  * MG_NO_MAJORITY, MG_TABLE_FULL and others as of mg_enqueue. What a refused command may have left in the log all the same is
- * released by the session's next call, or by the next session of the host number.
+ * released by the session's next call, or by the next session of the host number. If the log gets full while it waits it goes on
+ * waiting, and once that is renewed it waits in the new folder. To give up it may then take a minute longer.
  *
  * `held->slot` is a fencing token: of those that hold MG_EX on a name in turn, each has a greater slot than the one before it. In
  * a renewed folder slots begin anew, and `cluster` tells the two apart. */
@@ -80,17 +83,18 @@ int mg_check(struct mg_session *session, unsigned lock);
 /* ---- of other hosts, and of other processes ---- */
 
 /* Takes away all locks of a host whose processes are gone: only while it has the number of that host, so that nobody works under
- * it, and none of its signs of life is locked. Else MG_HOST_IN_USE, and nothing is done. This knows of processes that the locks
- * of the folder's file system reach, those of one machine. It does not know of a script that took a lock by dlm and goes on.
+ * it, and each lock that a session took has a sign of life that nobody has. Else MG_HOST_IN_USE, and nothing is done. This knows
+ * of processes that the locks of the folder's file system reach, those of one machine. It does not know of a script that took a
+ * lock by dlm and goes on.
  * `*purged`, where it is not NULL, becomes the number of locks. */
 int mg_purge_dead(struct mg_session *session, unsigned victim, unsigned *purged);
 
-/* For mg_recover: the locks without a sign of life, too, and those that sessions without MG_SHARE left. Only where no process of
- * this host number can be alive: when its machine has just started. */
+/* For mg_recover: the locks without a sign of life, too, and those that are kept for a session without MG_SHARE. Only where no
+ * process of this host number can be alive: when its machine has just started. A renewal carries locks over, and no signs. */
 #define MG_ALL 1u
 
-/* Releases the locks of this host number that processes which are gone have left, and marks what has no mark. `*released`, where
- * it is not NULL, becomes their number. */
+/* Releases what processes of this host number that are gone have left, and marks what has no mark. `*released`, where it is not
+ * NULL, becomes the number of locks. */
 int mg_recover(struct mg_session *session, unsigned flags, unsigned *released);
 
 /* ---- waiting ---- */
@@ -107,7 +111,7 @@ int mg_set_rest(struct mg_session *session, int (*rest)(void *with, int millisec
 /* To look (mg_look) and to show the table. Submit nothing by it. It is the session's, and may be another one after each call. */
 int mg_host_of(struct mg_session *session, struct mg_host **host);
 
-/* The descriptor of a lock's sign of life, -1 where there is none. A child that inherits it keeps the lock from being released
+/* The descriptor of a lock's sign of life, -1 where the session has no such lock. A child that inherits it keeps the lock from being released
  * for as long as it lives, if this process is killed. */
 int mg_sign_of(struct mg_session *session, unsigned lock);
 

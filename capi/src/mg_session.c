@@ -2,15 +2,16 @@
  * Sessions, over midgegalena.h alone. No proof covers this file. What keeps it right:
  *
  * - A *talk* is what a session does while it has the host number. Talks of a number do not overlap. Without MG_SHARE a session is one
- *   talk. With it each call opens the folder for a talk, and a wait looks by a handle that has no number.
+ *   talk, but for the moment in which it opens the folder anew after a failure. With it each call opens the folder for a talk, and a
+ *   wait looks by a handle that has no number.
  * - No reply is believed alone. A lock is had where the table shows its number with our client, host, name and mode, and it is gone
  *   where the table does not show it. So it does no harm if a request number was used before, by a command that came into the log
  *   late: then the table does not show what was asked, and the next number is taken.
- * - A lock's number follows from its request's. It is odd with MG_SHARE, even without.
- * - As long as an odd lock is somebody's, its sign of life is locked by flock: the file mg-lock.HOST.LOCK in the folder. Signs are
- *   made and removed within talks. An odd lock whose sign is there, and nobody's, is left over. One without a sign may be somebody's:
- *   a renewal carries locks over, and no signs.
- * - An even lock is left over where a session without MG_SHARE has the number, and the lock is none of its own.
+ * - As long as a lock is somebody's, its sign of life is locked by flock: the file mg-lock.HOST.LOCK in the folder. Signs are made
+ *   before the lock is asked for and removed after it is gone, within talks. A lock whose sign is there, and nobody's, is left over.
+ *   One without a sign may be somebody's: a renewal carries locks over, and no signs.
+ * - A lock's number follows from its request's. It is odd with MG_SHARE, even without. A session with MG_SHARE leaves even ones alone:
+ *   they may be kept for a session that begins again.
  */
 #ifndef _DEFAULT_SOURCE
 #define _DEFAULT_SOURCE
@@ -196,9 +197,11 @@ static int open_to_look(struct mg_session *session, int64_t until, struct mg_hos
 
 /* ---- the table ---- */
 
-static size_t read_table(struct mg_session *session, struct mg_host *host) {
+/* How many locks the table has, which are in session->table then; none where memory was refused. */
+static size_t read_table(struct mg_session *session, struct mg_host *host, int *status) {
     size_t count = 0;
-    if (mg_locks(host, session->table, MG_LOCKS, &count) != MG_OK)
+    *status = mg_locks(host, session->table, MG_LOCKS, &count);
+    if (*status != MG_OK)
         return 0;
     return count < MG_LOCKS ? count : MG_LOCKS;
 }
@@ -209,7 +212,8 @@ static bool is_of(const struct mg_lock_view *view, unsigned number) {
     return view->client == FIRST_CLIENT + number && view->host == number && view->lock >= first && view->lock < first + LOCKS_OF_A_HOST;
 }
 
-static bool has_sign(uint32_t lock) { return lock % 2 == 1; }
+/* Whether it was asked for with MG_SHARE. */
+static bool was_shared(uint32_t lock) { return lock % 2 == 1; }
 
 static struct entry *entry_of(struct mg_session *session, uint32_t lock) {
     for (size_t i = 0; i < MG_LOCKS; i++)
@@ -218,13 +222,24 @@ static struct entry *entry_of(struct mg_session *session, uint32_t lock) {
     return NULL;
 }
 
-/* Whether the table shows the lock as it was asked for, and whether it is granted then. */
-static bool finds(struct mg_session *session, struct mg_host *host, const struct entry *entry, bool *granted) {
+/* Whether the table shows a lock of this host number under the lock number: MG_OK, or MG_NO_SUCH_LOCK. */
+static int find_ours(struct mg_session *session, struct mg_host *host, uint32_t lock, struct mg_lock_view *view) {
+    int status = mg_lock(host, lock, view);
+    return status == MG_OK && !is_of(view, session->number) ? MG_NO_SUCH_LOCK : status;
+}
+
+/* Whether it shows the lock as it was asked for, and whether that is granted then. */
+static int find(struct mg_session *session, struct mg_host *host, const struct entry *entry, bool *granted) {
     struct mg_lock_view view;
-    if (mg_lock(host, entry->lock, &view) != MG_OK || !is_of(&view, session->number) || strcmp(view.name, entry->name) != 0)
-        return false;
-    *granted = view.wanted == MG_NONE;
-    return (*granted ? view.held : view.wanted) == entry->mode;
+    int status = find_ours(session, host, entry->lock, &view);
+    bool is_granted = view.wanted == MG_NONE;
+    *granted = false;
+    if (status != MG_OK)
+        return status;
+    if (strcmp(view.name, entry->name) != 0 || (is_granted ? view.held : view.wanted) != entry->mode)
+        return MG_NO_SUCH_LOCK;
+    *granted = is_granted;
+    return MG_OK;
 }
 
 /* Where the log has learned the command that asked for the lock. Of another log the lock was carried over. */
@@ -261,6 +276,8 @@ static int take_sign(const struct mg_session *session, unsigned number, uint32_t
     int file, low, done;
     path_of_sign(session, number, lock, path, sizeof path);
     file = open(path, O_RDWR | O_CLOEXEC | O_NOCTTY | (makes ? O_CREAT : 0), 0666);
+    if (file < 0 && errno == EACCES)
+        file = open(path, O_RDONLY | O_CLOEXEC | O_NOCTTY);
     if (file >= 0 && file < LEAST_FILE) {
         low = file;
         file = fcntl(low, F_DUPFD_CLOEXEC, LEAST_FILE);
@@ -289,7 +306,8 @@ static void end_sign(const struct mg_session *session, uint32_t lock, int sign) 
     close(sign);
 }
 
-/* Signs that nobody has, of no lock. A command of this client was acknowledged, so what asked for them before comes too late. */
+/* Removes signs that nobody has, of no lock: of commands that never came into the log. One that does all the same leaves a lock without
+ * a sign. So they stay elsewhere: there are no more of them than a host has lock numbers, and each serves the next lock of its number. */
 static void remove_old_signs(struct mg_session *session) {
     DIR *folder = opendir(session->at);
     struct dirent *found;
@@ -322,8 +340,11 @@ static int release(struct mg_session *session, uint32_t lock, const void *value)
             continue;
         if (!is_in_log(status))
             return status;
-        if (mg_lock(session->host, lock, &view) != MG_OK || !is_of(&view, session->number))
-            return status == MG_OK ? MG_OK : MG_NO_SUCH_LOCK;
+        switch (find_ours(session, session->host, lock, &view)) {
+        case MG_OK: break;
+        case MG_NO_SUCH_LOCK: return status == MG_OK ? MG_OK : MG_NO_SUCH_LOCK;
+        default: return MG_NO_MEMORY;
+        }
         if (milliseconds() >= until)
             return MG_STALE;
         request = next_request(session);
@@ -343,34 +364,36 @@ static int release_entry(struct mg_session *session, struct entry *entry, const 
     return status;
 }
 
-/* Whether nobody has a lock of this host number any more. A sign that it has is taken then. */
-static bool is_left_over(struct mg_session *session, uint32_t lock, bool all, int *sign) {
-    *sign = NO_SIGN;
-    if (!has_sign(lock))
-        return all || !is_shared(session);
-    *sign = take_sign(session, session->number, lock, all);
-    return *sign != NO_SIGN;
+/* The sign of a lock of this host number that nobody has any more; NO_SIGN where somebody may have it. */
+static int sign_of_left_over(struct mg_session *session, uint32_t lock, bool all) {
+    if (!all && is_shared(session) && !was_shared(lock))
+        return NO_SIGN;
+    return take_sign(session, session->number, lock, all);
 }
 
 /* Releases in a talk what this session gave up, and what processes that are gone have left. Tells how many these left. */
 static unsigned release_left(struct mg_session *session, bool all) {
     size_t count;
     unsigned released = 0;
+    int status;
     /* What may be in the log, or come into it, is released by a later request: a command that comes after that is stale. */
     for (size_t i = 0; i < MG_LOCKS; i++)
         if (session->entries[i].lock != 0 && session->entries[i].state == UNWANTED)
             (void)release_entry(session, &session->entries[i], NULL);
-    count = read_table(session, session->host);
+    count = read_table(session, session->host, &status);
     for (size_t i = 0; i < count; i++) {
         uint32_t lock = session->table[i].lock;
-        int sign, status;
-        if (!is_of(&session->table[i], session->number) || entry_of(session, lock) || !is_left_over(session, lock, all, &sign))
+        int sign;
+        if (!is_of(&session->table[i], session->number) || entry_of(session, lock))
+            continue;
+        sign = sign_of_left_over(session, lock, all);
+        if (sign == NO_SIGN)
             continue;
         status = release(session, lock, NULL);
         if (status == MG_OK || status == MG_NO_SUCH_LOCK) {
             end_sign(session, lock, sign);
             released++;
-        } else if (sign != NO_SIGN)
+        } else
             close(sign);
     }
     return released;
@@ -378,15 +401,17 @@ static unsigned release_left(struct mg_session *session, bool all) {
 
 /* Whether a lock that nobody has any more holds a mode on the name. */
 static bool holds_nobodys(struct mg_session *session, struct mg_host *looks, const char *name) {
-    size_t count = read_table(session, looks);
+    int status;
+    size_t count = read_table(session, looks, &status);
     for (size_t i = 0; i < count; i++) {
         const struct mg_lock_view *view = &session->table[i];
         int sign;
-        if (view->held == MG_NONE || strcmp(view->name, name) != 0 || !is_of(view, session->number) || entry_of(session, view->lock) ||
-            !is_left_over(session, view->lock, false, &sign))
+        if (view->held == MG_NONE || strcmp(view->name, name) != 0 || !is_of(view, session->number) || entry_of(session, view->lock))
             continue;
-        if (sign != NO_SIGN)
-            close(sign);
+        sign = sign_of_left_over(session, view->lock, false);
+        if (sign == NO_SIGN)
+            continue;
+        close(sign);
         return true;
     }
     return false;
@@ -401,12 +426,41 @@ static int recover(struct mg_session *session, const struct entry *entry, int64_
     status = mark_all(session->host);
     if (status == MG_OK) {
         *released = release_left(session, all);
-        if (!entry)
+        if (all)
             remove_old_signs(session);
-        else if (!finds(session, session->host, entry, &granted))
-            status = MG_NO_SUCH_LOCK;
+        if (entry)
+            status = find(session, session->host, entry, &granted);
     }
     return end_talk(session, status);
+}
+
+/* ---- give ---- */
+
+static bool is_link(const char *path) {
+    struct stat facts;
+    return lstat(path, &facts) == 0 && S_ISLNK(facts.st_mode);
+}
+
+/* Releases a lock of this session. For a minute it waits for a full log to be renewed, and where it waits for disks, for them. */
+static int let_go(struct mg_session *session, struct entry *entry, const void *value, bool waits_for_disks) {
+    int64_t until = milliseconds() + PATIENCE;
+    for (;;) {
+        bool may_pass;
+        int status = begin_talk(session, until, false, NULL);
+        if (status == MG_OK)
+            status = end_talk(session, release_entry(session, entry, value));
+        may_pass = (status == MG_LOG_FULL && is_link(session->folder)) ||
+                   (waits_for_disks && (status == MG_NO_MAJORITY || status == MG_UNREADABLE || status == MG_OUTRUN));
+        if (!may_pass || pause_for(session, LONGEST_PAUSE, until, false) != MG_OK)
+            return status;
+    }
+}
+
+int mg_give(struct mg_session *session, unsigned lock, const void *value) {
+    struct entry *entry = session ? entry_of(session, lock) : NULL;
+    if (!session)
+        return MG_BAD_ARGUMENT;
+    return entry && entry->state == OURS ? let_go(session, entry, value, true) : MG_NO_SUCH_LOCK;
 }
 
 /* ---- take ---- */
@@ -416,7 +470,8 @@ static const struct mg_held NOTHING_HELD = {0, -1, 0, 0, 0, {{0}, 0}};
 /* Whether a lock in this mode would have to wait. */
 static bool is_taken(struct mg_session *session, const char *name, int mode) {
     static const char *const AGAINST[] = {"", "5", "345", "245", "2345", "12345"};
-    size_t count = read_table(session, session->host);
+    int status;
+    size_t count = read_table(session, session->host, &status);
     for (size_t i = 0; i < count; i++) {
         const struct mg_lock_view *view = &session->table[i];
         if (strcmp(view->name, name) == 0 && (view->wanted != MG_NONE || (mode > 0 && strchr(AGAINST[view->held], '0' + mode))))
@@ -425,8 +480,14 @@ static bool is_taken(struct mg_session *session, const char *name, int mode) {
     return false;
 }
 
+/* Lets go of a lock number that did not become ours. Where the table has it a former run's command came into the log, and the sign
+ * stays, and nobody's: so it is left over. */
 static void drop(struct mg_session *session, struct entry *entry) {
-    end_sign(session, entry->lock, entry->sign);
+    struct mg_lock_view view;
+    if (find_ours(session, session->host, entry->lock, &view) == MG_NO_SUCH_LOCK)
+        end_sign(session, entry->lock, entry->sign);
+    else
+        close(entry->sign);
     entry->sign = NO_SIGN;
     entry->lock = 0;
 }
@@ -438,27 +499,37 @@ static int ask(struct mg_session *session, struct entry *entry, int64_t until, u
         uint32_t lock = (uint32_t)(FIRST_LOCK + LOCKS_OF_A_HOST * session->number + 2 * (request % (LOCKS_OF_A_HOST / 2)));
         struct mg_lock_view view;
         struct mg_answer answer;
-        int status;
+        int status, found;
         lock += is_shared(session) ? 1 : 0;
-        if (mg_lock(session->host, lock, &view) == MG_OK || entry_of(session, lock))
+        found = mg_lock(session->host, lock, &view);
+        if (found == MG_OK || entry_of(session, lock))
             continue;
-        if (has_sign(lock)) {
-            entry->sign = take_sign(session, session->number, lock, true);
-            if (entry->sign == NO_SIGN && errno != EWOULDBLOCK)
-                return MG_NO_LOCK;
-            if (entry->sign == NO_SIGN)
-                continue; /* somebody has it whose command is not learned */
-        }
+        if (found != MG_NO_SUCH_LOCK)
+            return found;
+        entry->sign = take_sign(session, session->number, lock, true);
+        if (entry->sign == NO_SIGN && errno != EWOULDBLOCK)
+            return MG_NO_LOCK;
+        if (entry->sign == NO_SIGN)
+            continue; /* somebody has it whose command is not learned */
         entry->lock = lock;
         do
             status = mg_enqueue(session->host, session->client, request, lock, entry->mode, entry->name, flags, &answer);
         while (status == MG_OUTRUN && milliseconds() < until);
-        if (status == MG_OK && finds(session, session->host, entry, granted)) {
-            entry->slot = answer.slot;
-            return MG_OK;
-        }
         /* It may be in the log all the same, and has to be released then. A full log is known to its end. */
-        if (!is_in_log(status) && (status != MG_LOG_FULL || finds(session, session->host, entry, granted)))
+        if (!is_in_log(status) && status != MG_LOG_FULL)
+            return status;
+        found = find(session, session->host, entry, granted);
+        if (status == MG_OK && found != MG_NO_SUCH_LOCK) {
+            entry->slot = answer.slot;
+            return found;
+        }
+        if (status == MG_LOCK_IN_USE && found == MG_OK) {
+            /* A command of a former run has taken it in this moment. It has no slot that is known. */
+            status = release_entry(session, entry, NULL);
+            if (entry->lock == 0)
+                continue;
+        }
+        if (found != MG_NO_SUCH_LOCK)
             return status;
         /* The table refused it, or the answer was that to another command of this number. */
         drop(session, entry);
@@ -478,7 +549,7 @@ static int ask_in_talk(struct mg_session *session, struct entry *entry, int64_t 
         status = mg_look(session->host, NULL);
     held->released += release_left(session, false);
     if (status == MG_OK && entry->lock != 0)
-        status = finds(session, session->host, entry, granted) ? MG_OK : MG_NO_SUCH_LOCK;
+        status = find(session, session->host, entry, granted);
     else if (status == MG_OK) {
         (void)mg_host_facts(session->host, &facts);
         entry->cluster = facts.cluster;
@@ -510,7 +581,7 @@ static int look_for(struct mg_session *session, struct entry *entry, int64_t unt
     struct mg_host *looks;
     uint64_t learned = 0;
     unsigned released = 0;
-    bool is_there = true;
+    int found = MG_OK;
     int status = open_to_look(session, until, &looks);
     if (status == MG_OK)
         status = mg_look(looks, &learned);
@@ -520,13 +591,15 @@ static int look_for(struct mg_session *session, struct entry *entry, int64_t unt
         wait->recovers = time_of_recovery();
     wait->learned = learned;
     if (has_learned(looks, entry))
-        is_there = finds(session, looks, entry, granted);
-    if (is_there && *granted)
+        found = find(session, looks, entry, granted);
+    if (found != MG_OK && found != MG_NO_SUCH_LOCK)
+        return found;
+    if (*granted)
         return mg_value(looks, entry->lock, &held->value);
     /* Once it is renewed the folder leads to where it goes on. */
     if (is_full(looks))
-        return is_there ? follow(session) : MG_NO_SUCH_LOCK;
-    if (is_there && milliseconds() < wait->recovers && !holds_nobodys(session, looks, entry->name))
+        return found == MG_OK ? follow(session) : found;
+    if (found == MG_OK && milliseconds() < wait->recovers && !holds_nobodys(session, looks, entry->name))
         return MG_OK;
     wait->recovers = time_of_recovery();
     status = recover(session, entry, until, true, false, &released);
@@ -594,14 +667,6 @@ static bool has_moved(const struct mg_session *session) {
     return moved;
 }
 
-static void give_up(struct mg_session *session, struct entry *entry) {
-    if (entry->lock == 0)
-        return;
-    entry->state = UNWANTED;
-    if (begin_talk(session, milliseconds() + PATIENCE, false, NULL) == MG_OK)
-        (void)end_talk(session, entry->lock == 0 ? MG_OK : release_entry(session, entry, NULL));
-}
-
 int mg_take(struct mg_session *session, const char *name, int mode, int timeout, struct mg_held *held) {
     int64_t now = milliseconds();
     int64_t until = timeout < 0 ? INT64_MAX : now + timeout;
@@ -621,7 +686,9 @@ int mg_take(struct mg_session *session, const char *name, int mode, int timeout,
     if (status == MG_OK && !granted)
         status = await(session, entry, until, held);
     if (status != MG_OK) {
-        give_up(session, entry);
+        entry->state = UNWANTED;
+        if (entry->lock != 0)
+            (void)let_go(session, entry, NULL, false);
         *held = NOTHING_HELD;
         return status == MG_NOT_QUEUED || status == MG_OUTRUN ? MG_TIMED_OUT : status;
     }
@@ -631,33 +698,7 @@ int mg_take(struct mg_session *session, const char *name, int mode, int timeout,
     return MG_OK;
 }
 
-/* ---- give ---- */
-
-static bool is_link(const char *path) {
-    struct stat facts;
-    return lstat(path, &facts) == 0 && S_ISLNK(facts.st_mode);
-}
-
-/* Whether what refused a release may pass. */
-static bool may_pass(const struct mg_session *session, int status) {
-    return status == MG_NO_MAJORITY || status == MG_UNREADABLE || status == MG_OUTRUN || (status == MG_LOG_FULL && is_link(session->folder));
-}
-
-int mg_give(struct mg_session *session, unsigned lock, const void *value) {
-    int64_t until = milliseconds() + PATIENCE;
-    struct entry *entry = session ? entry_of(session, lock) : NULL;
-    if (!session)
-        return MG_BAD_ARGUMENT;
-    if (!entry || entry->state != OURS)
-        return MG_NO_SUCH_LOCK;
-    for (;;) {
-        int status = begin_talk(session, until, false, NULL);
-        if (status == MG_OK)
-            status = end_talk(session, release_entry(session, entry, value));
-        if (!may_pass(session, status) || pause_for(session, LONGEST_PAUSE, until, false) != MG_OK)
-            return status;
-    }
-}
+/* ---- check ---- */
 
 int mg_check(struct mg_session *session, unsigned lock) {
     int64_t until = milliseconds() + PATIENCE;
@@ -677,30 +718,34 @@ int mg_check(struct mg_session *session, unsigned lock) {
         close_all(session);
     if (status == MG_OK && is_full(looks))
         return follow(session);
-    if (status != MG_OK || !has_learned(looks, entry) || finds(session, looks, entry, &granted))
+    if (status != MG_OK || !has_learned(looks, entry))
+        return status;
+    status = find(session, looks, entry, &granted);
+    if (status != MG_NO_SUCH_LOCK)
         return status;
     return recover(session, entry, until, false, false, &released);
 }
 
 /* ---- of other hosts, and of other processes ---- */
 
-/* Whether a process may live that shares the host number, and has a lock. One without a sign may be somebody's. */
+/* Whether somebody may have a lock that a session of this host number took. */
 static bool has_living(struct mg_session *session, unsigned number) {
-    size_t count = read_table(session, session->host);
+    int status;
+    size_t count = read_table(session, session->host, &status);
     for (size_t i = 0; i < count; i++) {
         int sign;
-        if (!is_of(&session->table[i], number) || !has_sign(session->table[i].lock))
+        if (!is_of(&session->table[i], number))
             continue;
         sign = take_sign(session, number, session->table[i].lock, false);
         if (sign == NO_SIGN)
             return true;
         close(sign);
     }
-    return false;
+    return status != MG_OK;
 }
 
-static bool has_locks(struct mg_session *session, unsigned number) {
-    size_t count = read_table(session, session->host);
+static bool has_locks(struct mg_session *session, unsigned number, int *status) {
+    size_t count = read_table(session, session->host, status);
     for (size_t i = 0; i < count; i++)
         if (session->table[i].host == number)
             return true;
@@ -710,9 +755,10 @@ static bool has_locks(struct mg_session *session, unsigned number) {
 static int purge(struct mg_session *session, unsigned victim, unsigned *purged) {
     int64_t until = milliseconds() + PATIENCE;
     uint64_t request = next_request(session);
-    while (has_locks(session, victim)) {
+    int status;
+    while (has_locks(session, victim, &status)) {
         struct mg_answer answer;
-        int status = mg_purge(session->host, session->client, request, victim, &answer);
+        status = mg_purge(session->host, session->client, request, victim, &answer);
         if (status == MG_OUTRUN && milliseconds() < until)
             continue;
         if (!is_in_log(status))
@@ -720,7 +766,7 @@ static int purge(struct mg_session *session, unsigned victim, unsigned *purged) 
         *purged = answer.purged;
         request = next_request(session);
     }
-    return MG_OK;
+    return status;
 }
 
 int mg_purge_dead(struct mg_session *session, unsigned victim, unsigned *purged) {
@@ -760,24 +806,29 @@ int mg_recover(struct mg_session *session, unsigned flags, unsigned *released) {
 
 /* ---- begin and end ---- */
 
-/* The locks that a former run without MG_SHARE left are entries then. */
-static void keep_left(struct mg_session *session) {
+/* The locks that former runs without MG_SHARE left become entries. */
+static int keep_left(struct mg_session *session) {
     struct mg_host_view facts = {0, 0, 0, 0, 0, 0};
-    size_t count = read_table(session, session->host);
+    int status;
+    size_t count = read_table(session, session->host, &status);
     (void)mg_host_facts(session->host, &facts);
     for (size_t i = 0; i < count; i++) {
         const struct mg_lock_view *view = &session->table[i];
         struct entry *entry = &session->entries[i];
-        if (!is_of(view, session->number) || has_sign(view->lock))
+        int sign = NO_SIGN;
+        if (is_of(view, session->number) && !was_shared(view->lock))
+            sign = take_sign(session, session->number, view->lock, false);
+        if (sign == NO_SIGN)
             continue;
         entry->lock = view->lock;
         entry->slot = -1;
         entry->cluster = facts.cluster;
         entry->mode = view->wanted == MG_NONE ? view->held : view->wanted;
-        entry->sign = NO_SIGN;
+        entry->sign = sign;
         entry->state = KEPT;
         memcpy(entry->name, view->name, sizeof entry->name);
     }
+    return status;
 }
 
 static int begin(struct mg_session *session, int *disk) {
@@ -790,9 +841,10 @@ static int begin(struct mg_session *session, int *disk) {
     if (status != MG_OK)
         return status;
     if (session->flags & MG_KEEP)
-        keep_left(session);
-    (void)release_left(session, false);
-    return MG_OK;
+        status = keep_left(session);
+    if (status == MG_OK)
+        (void)release_left(session, false);
+    return status;
 }
 
 int mg_begin(const char *folder, unsigned host, unsigned flags, struct mg_session **out, int *disk) {

@@ -7,6 +7,7 @@ MG_LOCK and DLM are the programs, WORK an empty folder. ROUNDS: turns of each of
 libmidgegalena.so, half of those that count are in Python. Prints what was wrong, and how many checks there were."""
 import os
 import random
+import shlex
 import shutil
 import signal
 import subprocess
@@ -17,6 +18,7 @@ mg_lock, dlm, work = map(os.path.abspath, sys.argv[1:4])
 rounds = int(sys.argv[4]) if len(sys.argv) > 4 else 4
 library = os.path.abspath(sys.argv[5]) if len(sys.argv) > 5 else None
 images = os.path.join(work, "images")
+current = os.path.join(work, "current")
 checks = failed = 0
 # Where this runs in the background SIGINT may be ignored, and what is ignored stays so.
 signal.signal(signal.SIGINT, signal.default_int_handler)
@@ -71,12 +73,12 @@ def left_nothing(what):
     expect(signs() == [], f"{what}: no sign is left: {signs()}")
 
 
-def holder(host=0, name="db", *options):
+def holder(host=0, name="db", *options, of=images):
     """A process that holds a lock until it is told to end; returns once it holds it."""
     at = os.path.join(work, "held")
     if os.path.exists(at):
         os.unlink(at)
-    process = begin(*options, images, host, name, "--", "sh", "-c", f"echo > {at}; exec sleep 1000")
+    process = begin(*options, of, host, name, "--", "sh", "-c", f"echo > {at}; exec sleep 1000")
     expect(until(lambda: os.path.exists(at)), "the holder holds")
     return process
 
@@ -99,6 +101,23 @@ def statuses():
         expect(run(*words).returncode == 125, f"usage {words}")
     expect(run("--help").returncode == 0 and run("--version").returncode == 0, "help and version")
     left_nothing("statuses")
+
+
+def pages():
+    """The commands of the pages, over this folder, with programs that are there."""
+    folder()
+    docs = os.path.join(os.path.dirname(os.path.abspath(__file__)), "..", "..", "docs")
+    stands_for = {"images": images, "/var/lib/dlm/images": images, "./backup": "true", "/usr/local/bin/backup": "true", "/shared/config": __file__}
+    tried = 0
+    for page in ("LIBRARY.md", "OPERATIONS.md"):
+        with open(os.path.join(docs, page), encoding="utf-8") as file:
+            for line in file:
+                if line.startswith("mg-lock "):
+                    said = run(*(stands_for.get(word, word) for word in shlex.split(line, comments=True)[1:]))
+                    expect(said.returncode == 0, f"{page}: {line}: {said}")
+                    tried += 1
+    expect(tried >= 5, f"the pages have {tried} commands")
+    left_nothing("pages")
 
 
 def environment():
@@ -245,6 +264,64 @@ def ends_of_logs():
     expect(said.returncode == 125 and "9 LogFull" in said.stderr, f"full: {said}")
 
 
+def renew(number, slots):
+    """Fills the log that `current` leads to, carries its table over, and moves the link."""
+    new = os.path.join(work, f"set{number}")
+    os.mkdir(new)
+    for words in (["fill", current, "15"], ["renew", current, "15", new, "3", str(slots), str(number)]):
+        said = subprocess.run([dlm, *words], capture_output=True, text=True)
+        expect(said.returncode == 0, f"{words}: {said}")
+    time.sleep(0.3)
+    os.symlink(new, os.path.join(work, "next"))
+    os.rename(os.path.join(work, "next"), current)
+
+
+def table_of_current():
+    return subprocess.run([dlm, "table", current, "14"], capture_output=True, text=True).stdout
+
+
+def renewed():
+    """Across renewals: one that holds lets go in the new folder, those that wait get it there, and one that gives up leaves nothing."""
+    os.mkdir(os.path.join(work, "set7"))
+    subprocess.run([dlm, "format", os.path.join(work, "set7"), "3", "40", "7"], check=True, stdout=subprocess.DEVNULL)
+    os.symlink("set7", current)
+    first = holder(0, "db", of=current)
+    tokens = os.path.join(work, "tokens")
+    command = ["sh", "-c", f"echo $MG_LOCK_CLUSTER $MG_LOCK_SLOT >> {tokens}"]
+    waiting = []
+    for host in (0, 1):
+        waiting.append(begin(current, host, "db", "--", *command))
+        expect(until(lambda: table_of_current().count("waiting") == host + 1), "it waits")
+    gives_up = begin("-w", 1.5, current, 2, "db", "--", "true")
+    expect(until(lambda: table_of_current().count("waiting") == 3), "the third waits")
+    renew(8, 64)
+    expect(gives_up.wait(30) == 1, "one gives up in the midst of it")
+    waiting.append(begin(current, 2, "db", "--", *command))
+    expect(until(lambda: table_of_current().count("waiting") == 3), "it waits in the new folder")
+    expect(end(first) == 143, "one that held lets go there")
+    for process in waiting:
+        expect(process.wait(30) == 0, "each gets it there")
+    with open(tokens) as file:
+        order = [tuple(map(int, line.split())) for line in file]
+    expect(order == sorted(order) and [it[0] for it in order] == [7, 7, 8], f"tokens grow, cluster first: {order}")
+    expect("granted" not in table_of_current() and "waiting" not in table_of_current(), f"no lock is left:\n{table_of_current()}")
+    # Processes that count, while the log is renewed twice.
+    counter = os.path.join(work, "renewed")
+    with open(counter, "w") as file:
+        file.write("0")
+    count = f"n=$(cat {counter}); echo $((n + 1)) > {counter}.new; mv {counter}.new {counter}"
+    loop = 'n=0; while [ $n -lt 6 ]; do if "$@" 2> /dev/null; then n=$((n + 1)); else [ $? -eq 125 ] || exit 1; sleep 0.05; fi; done'
+    counting = [subprocess.Popen(["sh", "-c", loop, "sh", mg_lock, current, str(host % 2), "counter", "--", "sh", "-c", count]) for host in range(4)]
+    for number in (9, 10):
+        time.sleep(0.3)
+        renew(number, 64)
+    for process in counting:
+        expect(process.wait(60) == 0, "each counts to its end")
+    with open(counter) as file:
+        expect(file.read() == "24\n", "counted across renewals")
+    expect("granted" not in table_of_current() and "waiting" not in table_of_current(), f"no lock is left:\n{table_of_current()}")
+
+
 def lost_disks():
     folder()
     first = holder()
@@ -343,6 +420,8 @@ def counted(hosts, kills=0):
                 run("--recover", images, host)
         for host in range(hosts):
             until(lambda: run("--recover", images, host).stdout == "released 0\n")
+            # Signs of commands that never came into the log.
+            run("--recover", "--all", images, host)
     with open(counter) as file:
         total = int(file.read())
     with open(overlaps) as file:
@@ -355,7 +434,7 @@ def counted(hosts, kills=0):
     print(f"{hosts} hosts: counted {total}, {done} ended well, {commands()} commands", flush=True)
 
 
-for test in (statuses, environment, waits, modes, signals, killed, taken_away, ends_of_logs, lost_disks, unmarked,
+for test in (statuses, pages, environment, waits, modes, signals, killed, taken_away, ends_of_logs, renewed, lost_disks, unmarked,
              lambda: counted(1), lambda: counted(8), lambda: counted(2, kills=4 * rounds)):
     test()
 print(f"mg_lock: {checks} checks, {failed} failed")

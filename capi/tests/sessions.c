@@ -161,7 +161,7 @@ static void taken_and_given(const char *name, unsigned flags) {
     IS(a.value.flags, MG_VALID);
     IS(mg_check(first, a.lock), MG_OK);
     IS(mg_check(second, a.lock), MG_NO_SUCH_LOCK);
-    IS(mg_sign_of(first, a.lock) >= 3, flags == MG_SHARE);
+    IS(mg_sign_of(first, a.lock) >= 3, 1);
     /* What is refused at once takes no slot, and what waited in vain is gone. */
     IS(mg_take(second, "db", MG_PR, 0, &b), MG_TIMED_OUT);
     IS(b.lock, 0);
@@ -432,6 +432,50 @@ static void cut_off(const char *path, int disk, int back) {
     IS(rename(back ? to : from, back ? from : to), 0);
 }
 
+/* Empties an image, so that each call on it fails, whoever has it open; or fills it again. */
+static void empty(const char *path, int disk, int fills) {
+    static char *kept[2];
+    static struct stat facts;
+    char name[300];
+    int file;
+    snprintf(name, sizeof name, "%s/disk%d.img", path, disk);
+    file = open(name, O_RDWR);
+    if (!fills) {
+        IS(fstat(file, &facts), 0);
+        kept[disk] = malloc((size_t)facts.st_size);
+        IS(pread(file, kept[disk], (size_t)facts.st_size, 0), facts.st_size);
+        IS(ftruncate(file, 0), 0);
+    } else {
+        IS(pwrite(file, kept[disk], (size_t)facts.st_size, 0), facts.st_size);
+        free(kept[disk]);
+    }
+    close(file);
+}
+
+/* A session that had to give the number up, since the disks were away, keeps its locks. */
+static void lost_number(void) {
+    const char *path = folder("number", 128, 7);
+    struct mg_session *session = begun(path, 0, 0), *other;
+    struct mg_held a, b;
+    IS(mg_take(session, "db", MG_EX, 0, &a), MG_OK);
+    empty(path, 0, 0);
+    empty(path, 1, 0);
+    IS(mg_take(session, "other", MG_EX, 0, &b), MG_NO_MAJORITY);
+    IS(mg_take(session, "other", MG_EX, 0, &b), MG_NO_MAJORITY);
+    empty(path, 0, 1);
+    empty(path, 1, 1);
+    other = begun(path, 0, 0);
+    IS(locks_of(path), 1);
+    IS(mg_take(other, "db", MG_EX, 0, &b), MG_TIMED_OUT);
+    IS(mg_take(session, "other", MG_EX, 0, &b), MG_HOST_IN_USE);
+    IS(mg_give(session, a.lock, NULL), MG_HOST_IN_USE);
+    mg_end(other);
+    IS(mg_check(session, a.lock), MG_OK);
+    IS(mg_give(session, a.lock, NULL), MG_OK);
+    IS(mg_take(session, "other", MG_EX, 0, &b), MG_OK);
+    mg_end(session);
+}
+
 static void lost_disks(void) {
     const char *path = folder("lost", 128, 7);
     struct mg_session *shares = begun(path, 1, MG_SHARE), *session = NULL;
@@ -493,6 +537,7 @@ int main(int argc, char **argv) {
     purged();
     full();
     lost_disks();
+    lost_number();
     wrong_use();
     if (failures == 0)
         puts("sessions: as they should be");
