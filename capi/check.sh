@@ -102,7 +102,7 @@ done
 # A host dies before it has marked its release: a wait ends all the same.
 if command -v rt > /dev/null; then
     kit=$(dirname -- "$(dirname -- "$(readlink -f -- "$(command -v rt)")")")/c
-    tried "unmarked, built" cc -std=c99 $common "$here/tests/unmarked.c" "$top/crates/dlm_c/out/libdlm_c.a" "$kit/libos_c.a" "$kit/liblibc_c.a" -o "$work/unmarked"
+    tried "unmarked, built" cc -std=c99 $common "$here/tests/unmarked.c" "$here/src/mg_session.c" "$top/crates/dlm_c/out/libdlm_c.a" "$kit/libos_c.a" "$kit/liblibc_c.a" -o "$work/unmarked"
     folder
     tried "unmarked" "$work/unmarked" "$work/images"
 fi
