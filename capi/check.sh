@@ -154,7 +154,7 @@ for page in session session_value page page_value manual; do
     in_folder ./format images 1
     tried "$page, full log" in_folder bash -c "$leaves"' && ! ./"$1"' _ "$page"
     cp -- "$work/out.txt" "$work/said.txt"
-    tried "$page, full log: it says so" grep -qx 'all slots of the log are taken; move to a new folder' "$work/said.txt"
+    tried "$page, full log: it says so" grep -q '^all slots of the log are taken; ' "$work/said.txt"
     tried "$page, full log: no lock" bash -c '! grep -q "db is ours" "$1"' _ "$work/said.txt"
 done
 

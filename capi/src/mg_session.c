@@ -338,7 +338,7 @@ static int release(struct mg_session *session, uint32_t lock, const void *value)
                            : mg_release(session->host, session->client, request, lock, NULL);
         if (status == MG_OUTRUN && milliseconds() < until)
             continue;
-        if (!is_in_log(status))
+        if (!is_in_log(status) || status == MG_CLIENTS_FULL)
             return status;
         switch (find_ours(session, session->host, lock, &view)) {
         case MG_OK: break;
@@ -761,7 +761,7 @@ static int purge(struct mg_session *session, unsigned victim, unsigned *purged) 
         status = mg_purge(session->host, session->client, request, victim, &answer);
         if (status == MG_OUTRUN && milliseconds() < until)
             continue;
-        if (!is_in_log(status))
+        if (!is_in_log(status) || status == MG_CLIENTS_FULL)
             return status;
         *purged = answer.purged;
         request = next_request(session);

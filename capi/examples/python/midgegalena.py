@@ -34,6 +34,12 @@ class LockView(Structure):
     ]
 
 
+class HostView(Structure):
+    _fields_ = [
+        ("cluster", c_uint64), ("learned", c_uint64), ("host", c_uint32), ("disks", c_uint32), ("slots", c_uint32), ("unused", c_uint32),
+    ]
+
+
 Rest = CFUNCTYPE(c_int, c_void_p, c_int)
 
 
@@ -51,6 +57,7 @@ def load(path=None):
     lib.mg_set_rest.argtypes = [c_void_p, Rest, c_void_p]
     lib.mg_host_of.argtypes = [c_void_p, POINTER(c_void_p)]
     lib.mg_look.argtypes = [c_void_p, POINTER(c_uint64)]
+    lib.mg_host_facts.argtypes = [c_void_p, POINTER(HostView)]
     lib.mg_locks.argtypes = [c_void_p, POINTER(LockView), c_size_t, POINTER(c_size_t)]
     return lib
 
@@ -158,12 +165,23 @@ class Session:
             self._check(status)
         return status == OK
 
-    def locks(self):
-        """All locks: name, number, client, mode that is held, and mode that is wanted, -1 for none."""
-        host, views, count = c_void_p(), (LockView * 256)(), c_size_t()
+    def _look(self):
+        """A handle that has just looked."""
+        host = c_void_p()
         self._check(self.lib.mg_host_of(self.handle, byref(host)))
         self._check(self.lib.mg_look(host, None))
-        self._check(self.lib.mg_locks(host, views, 256, byref(count)))
+        return host
+
+    def log(self):
+        """How many slots the log has, and how many of them hold commands."""
+        view = HostView()
+        self._check(self.lib.mg_host_facts(self._look(), byref(view)))
+        return view.slots, view.learned
+
+    def locks(self):
+        """All locks: name, number, client, mode that is held, and mode that is wanted, -1 for none."""
+        views, count = (LockView * 256)(), c_size_t()
+        self._check(self.lib.mg_locks(self._look(), views, 256, byref(count)))
         return [(v.name.decode(), v.lock, v.client, v.held, v.wanted) for v in views[: min(count.value, 256)]]
 
     def purge_dead(self, host):

@@ -33,6 +33,8 @@ with Session(folder, host=0, library=library) as first, Session(folder, host=1, 
                 held.leaves = (int.from_bytes(held.value, "big") + 1).to_bytes(16, "big")
         with second.lock("seats", PR) as held:
             print("sold", int.from_bytes(held.value, "big"), "valid" if held.valid else "perhaps")
+    slots, used = second.log()
+    print("renew the log" if 10 * used >= 9 * slots else f"{slots - used} slots are left")
     try:
         Session(folder, host=1, library=library)
     except Refused as why:
