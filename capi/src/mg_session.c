@@ -37,7 +37,7 @@
 
 enum { FIRST_CLIENT = 240, FIRST_LOCK = 1536, LOCKS_OF_A_HOST = 4000, NO_SIGN = -1, LEAST_FILE = 3 };
 enum { PATIENCE = 60000, LITTLE_PATIENCE = 5000, BEFORE_A_RECOVERY = 2000, FIRST_INTERVAL = 5, LONGEST_PAUSE = 200 }; /* milliseconds */
-enum { MOST_NUMBERS = 64 };
+enum { NUMBERS = LOCKS_OF_A_HOST / 2, MOST_TRIES = 64 };
 
 /* OURS: taken, or being taken. KEPT: a former run left it. UNWANTED: to be released once that can be done. */
 enum state { OURS, KEPT, UNWANTED };
@@ -492,14 +492,14 @@ static void drop(struct mg_session *session, struct entry *entry) {
     entry->lock = 0;
 }
 
-/* Asks for a lock by the next request numbers, until the table shows it, granted or waiting. */
-static int ask(struct mg_session *session, struct entry *entry, int64_t until, unsigned flags, bool *granted) {
-    for (int tries = 0; tries < MOST_NUMBERS; tries++) {
-        uint64_t request = next_request(session);
-        uint32_t lock = (uint32_t)(FIRST_LOCK + LOCKS_OF_A_HOST * session->number + 2 * (request % (LOCKS_OF_A_HOST / 2)));
+/* Finds a request number whose lock number is free, and takes the sign of that. */
+static int choose(struct mg_session *session, struct entry *entry, uint64_t *request) {
+    for (int i = 0; i < NUMBERS; i++) {
         struct mg_lock_view view;
-        struct mg_answer answer;
-        int status, found;
+        uint32_t lock;
+        int found;
+        *request = next_request(session);
+        lock = (uint32_t)(FIRST_LOCK + LOCKS_OF_A_HOST * session->number + 2 * (*request % NUMBERS));
         lock += is_shared(session) ? 1 : 0;
         found = mg_lock(session->host, lock, &view);
         if (found == MG_OK || entry_of(session, lock))
@@ -507,13 +507,27 @@ static int ask(struct mg_session *session, struct entry *entry, int64_t until, u
         if (found != MG_NO_SUCH_LOCK)
             return found;
         entry->sign = take_sign(session, session->number, lock, true);
-        if (entry->sign == NO_SIGN && errno != EWOULDBLOCK)
+        if (entry->sign != NO_SIGN) {
+            entry->lock = lock;
+            return MG_OK;
+        }
+        if (errno != EWOULDBLOCK)
             return MG_NO_LOCK;
-        if (entry->sign == NO_SIGN)
-            continue; /* somebody has it whose command is not learned */
-        entry->lock = lock;
+        /* Somebody has it whose command is not learned. */
+    }
+    return MG_TABLE_FULL;
+}
+
+/* Asks for a lock by the next request numbers, until the table shows it, granted or waiting. */
+static int ask(struct mg_session *session, struct entry *entry, int64_t until, unsigned flags, bool *granted) {
+    for (int tries = 0; tries < MOST_TRIES; tries++) {
+        struct mg_answer answer;
+        uint64_t request;
+        int found, status = choose(session, entry, &request);
+        if (status != MG_OK)
+            return status;
         do
-            status = mg_enqueue(session->host, session->client, request, lock, entry->mode, entry->name, flags, &answer);
+            status = mg_enqueue(session->host, session->client, request, entry->lock, entry->mode, entry->name, flags, &answer);
         while (status == MG_OUTRUN && milliseconds() < until);
         /* It may be in the log all the same, and has to be released then. A full log is known to its end. */
         if (!is_in_log(status) && status != MG_LOG_FULL)

@@ -526,6 +526,30 @@ static void wrong_use(void) {
     mg_close(host);
 }
 
+/* Many lock numbers in a row are taken when they come round again; and a table that is full. */
+static void crowded(void) {
+    const char *path = folder("crowded", 1024, 7);
+    struct mg_session *session = begun(path, 0, 0);
+    struct mg_host *host;
+    struct mg_held held;
+    int status = MG_OK;
+    for (int i = 0; i < 250 && status == MG_OK; i++)
+        status = mg_take(session, "crowd", MG_NL, 0, &held);
+    IS(status, MG_OK);
+    IS(mg_host_of(session, &host), MG_OK);
+    IS(mg_release(host, 240, 2000, 1, NULL), MG_NO_SUCH_LOCK);
+    IS(mg_take(session, "db", MG_EX, 0, &held), MG_OK);
+    IS(held.lock, 1536 + 2 * 251);
+    while (status == MG_OK)
+        status = mg_take(session, "crowd", MG_NL, 0, &held);
+    IS(status, MG_TABLE_FULL);
+    IS(locks_of(path), 256);
+    mg_end(session);
+    session = begun(path, 0, 0);
+    IS(locks_of(path), 0);
+    mg_end(session);
+}
+
 int main(int argc, char **argv) {
     if (argc != 2)
         return 2;
@@ -539,6 +563,7 @@ int main(int argc, char **argv) {
     lost_disks();
     lost_number();
     wrong_use();
+    crowded();
     if (failures == 0)
         puts("sessions: as they should be");
     return failures != 0;
