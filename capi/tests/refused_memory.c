@@ -59,16 +59,24 @@ static int use_session(const char *folder, unsigned flags) {
     return status != MG_OK ? status : given;
 }
 
-/* 0 where each allocation of a session was refused in turn. */
-static int refuse_session(const char *folder, unsigned flags) {
+/* 0 where each allocation of a session was refused in turn. A new folder after each few of them: a log that is short is learned soon. */
+static int refuse_session(const char *work, unsigned flags) {
+    char folder[400];
     for (long allocations = 0;; allocations++) {
         struct mg_host *eye;
         size_t count = 9;
         int status;
+        if (allocations % 8 == 0) {
+            snprintf(folder, sizeof folder, "%s/%u.%ld", work, flags, allocations);
+            if (mkdir(folder, 0777) != 0 || mg_format(folder, 3, 64, 7, NULL) != MG_OK)
+                return 1;
+        }
         until_refused = allocations;
         status = use_session(folder, flags);
-        if (until_refused >= 0)
+        if (until_refused >= 0) {
+            printf("%ld allocations of a session, each refused in turn\n", allocations);
             return status != MG_OK;
+        }
         until_refused = -1;
         if (status != MG_OK && status != MG_NO_MEMORY) {
             printf("session, allocation %ld: %d\n", allocations, status);
@@ -86,7 +94,6 @@ static int refuse_session(const char *folder, unsigned flags) {
 }
 
 int main(int argc, char **argv) {
-    char path[400];
     long allocations = 0;
     int status;
     if (argc != 2 || mg_format(argv[1], 3, 512, 7, NULL) != MG_OK)
@@ -107,8 +114,7 @@ int main(int argc, char **argv) {
     printf("%ld allocations, each refused in turn\n", allocations);
     for (unsigned flags = 0; flags <= MG_SHARE; flags += MG_SHARE) {
         until_refused = -1;
-        snprintf(path, sizeof path, "%s/%u", argv[1], flags);
-        if (mkdir(path, 0777) != 0 || mg_format(path, 3, 4096, 7, NULL) != MG_OK || refuse_session(path, flags) != 0)
+        if (refuse_session(argv[1], flags) != 0)
             return 1;
     }
     return status != MG_OK;
