@@ -238,6 +238,13 @@ tried "names are those of docs/REFUSALS.md" bash -c '! grep -vxFf "$2" "$1"' _ "
 tried "exports" bash -c '! nm -D --defined-only "$1" | grep -v " T mg_"' _ "$PREFIX/lib/libmidgegalena.so"
 tried "manual page" bash -c 'for call in $(nm -D --defined-only "$1" | sed -n "s/.* T //p"); do grep -q "^\.Fn $call\|^\.Fo $call" "$2" "$3" || { echo "$call"; exit 1; }; done' _ "$PREFIX/lib/libmidgegalena.so" "$top/man/midgegalena.3" "$top/man/mg_session.3"
 
+# No formatter has anything to say about the manual pages.
+if command -v groff > /dev/null; then
+    for page in midgegalena.3 mg_session.3 mg-lock.1; do tried "man/$page" bash -c '! groff -ww -mdoc -Tutf8 -z "$1" 2>&1 | grep .' _ "$top/man/$page"; done
+else
+    left_out "manual pages: there is no groff"
+fi
+
 # How much C no proof covers: the lines that are neither blank nor comment.
 lines=$(($(awk -f "$here/tests/lines.awk" "$here/src/midgegalena.c") + $(awk -f "$here/tests/lines.awk" "$here/src/mg_session.c")))
 for page in README.md docs/LIBRARY.md; do tried "lines of C in $page" grep -q "\b$lines lines of C" "$top/$page"; done

@@ -19,6 +19,7 @@ rounds = int(sys.argv[4]) if len(sys.argv) > 4 else 4
 library = os.path.abspath(sys.argv[5]) if len(sys.argv) > 5 else None
 images = os.path.join(work, "images")
 current = os.path.join(work, "current")
+examples = os.path.join(os.path.dirname(os.path.abspath(__file__)), "..", "examples", "python")
 checks = failed = 0
 # Where this runs in the background SIGINT may be ignored, and what is ignored stays so.
 signal.signal(signal.SIGINT, signal.default_int_handler)
@@ -319,6 +320,13 @@ def renewed():
         expect(process.wait(60) == 0, "each counts to its end")
     with open(counter) as file:
         expect(file.read() == "24\n", "counted across renewals")
+    # A session that has its number to itself.
+    if library:
+        process = subprocess.Popen([sys.executable, "-c", ACROSS.format(examples=examples, folder=current, library=library)],
+                                   stdin=subprocess.PIPE, stdout=subprocess.PIPE, text=True)
+        expect(process.stdout.readline() == "10\n", "a session holds")
+        renew(11, 64)
+        expect(process.communicate("\n", timeout=60)[0] == "11\n" and process.returncode == 0, "and goes on in the new folder")
     expect("granted" not in table_of_current() and "waiting" not in table_of_current(), f"no lock is left:\n{table_of_current()}")
 
 
@@ -372,6 +380,19 @@ for i in range({rounds}):
 """
 
 
+ACROSS = """
+import sys
+sys.path.insert(0, {examples!r}); sys.dont_write_bytecode = True
+from midgegalena import Session
+session = Session({folder!r}, 3, library={library!r})
+with session.lock("mine") as held:
+    print(held.cluster, flush=True)
+    sys.stdin.readline()
+with session.lock("mine", timeout=5) as held:
+    print(held.cluster)
+"""
+
+
 def counted(hosts, kills=0):
     """Eight processes count, under so many host numbers. So many of them are killed meanwhile."""
     folder(slots=4096)
@@ -384,8 +405,7 @@ def counted(hosts, kills=0):
         file.write(COUNT)
     # the guard is held while the command lives, so two at once are seen
     command = ["sh", "-c", f"flock -n -E 99 {guard} {sys.executable} -S -E {script} {counter}; [ $? -ne 99 ] || echo overlap >> {overlaps}; echo $MG_LOCK_SLOT >> {slots}"]
-    python = IN_PYTHON.format(examples=os.path.join(os.path.dirname(os.path.abspath(__file__)), "..", "examples", "python"), images=images,
-                              library=library, rounds=rounds, command=command)
+    python = IN_PYTHON.format(examples=examples, images=images, library=library, rounds=rounds, command=command)
     processes = []
     done = 0
     for i in range(8):
