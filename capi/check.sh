@@ -257,6 +257,14 @@ if command -v valgrind > /dev/null; then
         [[ $program != contend ]] || given+=(3 5)
         tried "valgrind $program" valgrind -q --leak-check=full --errors-for-leak-kinds=all --error-exitcode=9 "$work/$program" "${given[@]}"
     done
+    folder
+    in_folder ./format images 64
+    for option in -n "-w 1" --recover; do
+        given=(images 0 db true)
+        [[ $option != --recover ]] || given=(images 0)
+        tried "valgrind mg-lock $option" in_folder valgrind -q --leak-check=full --errors-for-leak-kinds=all --error-exitcode=9 \
+            "$PREFIX/bin/mg-lock" $option "${given[@]}"
+    done
 else
     left_out "valgrind: there is none"
 fi
@@ -270,6 +278,11 @@ if echo 'int main(void) { return 0; }' | cc -x c -fsanitize=address,undefined - 
         [[ $program != contend ]] || given+=(3 5)
         tried "sanitized $program" "$work/sanitized_$program" "${given[@]}"
     done
+    tried "sanitized mg-lock, built" cc -std=c99 $common -fsanitize=address,undefined -fno-sanitize-recover=all "$here/src/"{mg-lock,midgegalena,mg_session}.c \
+        "$top/crates/dlm_c/out/libdlm_c.a" "$kit/libos_c.a" "$kit/liblibc_c.a" -o "$work/sanitized_mg-lock"
+    folder
+    in_folder ./format images 64
+    tried "sanitized mg-lock" in_folder ./sanitized_mg-lock -w 1 images 0 db -- bash -c '! ./sanitized_mg-lock -n images 0 db true && ./sanitized_mg-lock -r images 0'
 else
     left_out "gcc's sanitizers: they are not there"
 fi

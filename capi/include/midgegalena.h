@@ -51,7 +51,7 @@ enum mg_outcome {
 
     /* of this library */
     MG_BAD_ARGUMENT = -1, /* NULL, or a number or a name out of range. Nothing was done */
-    MG_TIMED_OUT = -2,    /* mg_wait: the lock still waits */
+    MG_TIMED_OUT = -2,    /* not granted in time: with mg_wait the lock still waits, with mg_take nothing does */
     MG_BROKEN = -3,       /* the handle is in no state that it should be in. Close it. No cause is known */
     MG_ONLY_LOOKS = -4,   /* the handle is of mg_open_to_look, and the call is more than a look. Nothing was done */
     MG_STOPPED = -5,      /* mg_take: it was told to stop (mg_set_rest) */

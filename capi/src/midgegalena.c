@@ -152,7 +152,7 @@ struct meaning {
 static const struct meaning MEANINGS[] = {
     {MG_OK, "", "done"},
     {MG_BAD_ARGUMENT, "", "an argument is NULL or out of range; nothing was done"},
-    {MG_TIMED_OUT, "", "the lock still waits"},
+    {MG_TIMED_OUT, "", "the lock was not granted in time"},
     {MG_BROKEN, "", "the handle is in no state that it should be in; close it"},
     {MG_ONLY_LOOKS, "", "the handle was opened to look; nothing was done"},
     {MG_STOPPED, "", "it was told to stop; nothing is held"},
@@ -179,7 +179,7 @@ static const struct meaning MEANINGS[] = {
     {MG_ALREADY_THERE, "AlreadyThere", "one of the images that were to be made is there"},
     {MG_OLD_LAYOUT, "OldLayout", "an image has the layout before this one; dlm migrate moves it"},
     {MG_HOST_IN_USE, "HostInUse", "somebody else works under this host number"},
-    {MG_NO_LOCK, "NoLock", "the host number cannot be locked, see errno"},
+    {MG_NO_LOCK, "NoLock", "the host number, or the sign of life of a lock, cannot be locked; see errno"},
 };
 
 static const struct meaning *meaning_of(int status) {
