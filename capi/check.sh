@@ -158,13 +158,6 @@ for page in session session_value page page_value manual; do
     tried "$page, full log: no lock" bash -c '! grep -q "db is ours" "$1"' _ "$work/said.txt"
 done
 
-# A host dies, and the other goes on.
-tried "failover, built" cc -std=c99 $common "$here/examples/c/failover.c" $flags -o "$work/failover"
-folder
-tried "failover" "$work/failover" "$work/images"
-cp -- "$work/out.txt" "$work/said.txt"
-tried "what failover says" diff "$work/said.txt" "$here/examples/c/failover.out"
-
 # The first program of LIBRARY.md by four processes that are killed and started again at random, each under a host number of its own; and
 # with MG_SHARE, all under one. RESTARTED: so many seconds each.
 sed -e 's/^enum { HOST = 0 };$/#include "turn.h"/' -e 's/puts("db is ours");/turn(db.slot);/' "$work/session.c" > "$work/turns.c"
@@ -188,6 +181,13 @@ if command -v python3 > /dev/null && [[ -x $dlm ]]; then
 else
     left_out "mg-lock: there is no Python, or dlm is not built"
 fi
+
+# A host dies, and the other goes on.
+tried "failover, built" cc -std=c99 $common "$here/examples/c/failover.c" $flags -o "$work/failover"
+folder
+tried "failover" "$work/failover" "$work/images"
+cp -- "$work/out.txt" "$work/said.txt"
+tried "what failover says" diff "$work/said.txt" "$here/examples/c/failover.out"
 
 # From Python.
 if command -v python3 > /dev/null; then
@@ -251,40 +251,53 @@ for page in README.md docs/LIBRARY.md; do tried "lines of C in $page" grep -q "\
 
 # Memory.
 if command -v valgrind > /dev/null; then
-    for program in calls values sessions refused_memory images_test failover contend; do
+    for program in calls values refused_memory images_test failover contend; do
         folder
         given=("$work/images")
         [[ $program != contend ]] || given+=(3 5)
         tried "valgrind $program" valgrind -q --leak-check=full --errors-for-leak-kinds=all --error-exitcode=9 "$work/$program" "${given[@]}"
-    done
-    folder
-    in_folder ./format images 64
-    for option in -n "-w 1" --recover; do
-        given=(images 0 db true)
-        [[ $option != --recover ]] || given=(images 0)
-        tried "valgrind mg-lock $option" in_folder valgrind -q --leak-check=full --errors-for-leak-kinds=all --error-exitcode=9 \
-            "$PREFIX/bin/mg-lock" $option "${given[@]}"
     done
 else
     left_out "valgrind: there is none"
 fi
 if echo 'int main(void) { return 0; }' | cc -x c -fsanitize=address,undefined - -o "$work/sanitizer" 2> "$work/out.txt" && command -v rt > /dev/null; then
     kit=$(dirname -- "$(dirname -- "$(readlink -f -- "$(command -v rt)")")")/c
-    for program in calls values sessions images contend; do
+    for program in calls values images contend; do
         tried "sanitized $program, built" cc -std=c99 $common -fsanitize=address,undefined -fno-sanitize-recover=all "$here/tests/$program.c" \
-            "$here/src/midgegalena.c" "$here/src/mg_session.c" "$top/crates/dlm_c/out/libdlm_c.a" "$kit/libos_c.a" "$kit/liblibc_c.a" -o "$work/sanitized_$program"
+            "$here/src/midgegalena.c" "$top/crates/dlm_c/out/libdlm_c.a" "$kit/libos_c.a" "$kit/liblibc_c.a" -o "$work/sanitized_$program"
         folder
         given=("$work/images")
         [[ $program != contend ]] || given+=(3 5)
         tried "sanitized $program" "$work/sanitized_$program" "${given[@]}"
     done
-    tried "sanitized mg-lock, built" cc -std=c99 $common -fsanitize=address,undefined -fno-sanitize-recover=all "$here/src/"{mg-lock,midgegalena,mg_session}.c \
-        "$top/crates/dlm_c/out/libdlm_c.a" "$kit/libos_c.a" "$kit/liblibc_c.a" -o "$work/sanitized_mg-lock"
+else
+    left_out "gcc's sanitizers: they are not there"
+fi
+
+# The same of sessions, and of mg-lock.
+if command -v valgrind > /dev/null; then
+    checks_memory=(valgrind -q --leak-check=full --errors-for-leak-kinds=all --error-exitcode=9)
+    folder
+    tried "valgrind sessions" "${checks_memory[@]}" "$work/sessions" "$work/images"
+    folder
+    in_folder ./format images 64
+    for option in -n "-w 1" --recover; do
+        given=(images 0 db true)
+        [[ $option != --recover ]] || given=(images 0)
+        # shellcheck disable=SC2086
+        tried "valgrind mg-lock $option" in_folder "${checks_memory[@]}" "$PREFIX/bin/mg-lock" $option "${given[@]}"
+    done
+fi
+if [[ -f $work/sanitizer ]] && command -v rt > /dev/null; then
+    sanitized=(-std=c99 $common -fsanitize=address,undefined -fno-sanitize-recover=all "$here/src/"{midgegalena,mg_session}.c)
+    proved=("$top/crates/dlm_c/out/libdlm_c.a" "$kit/libos_c.a" "$kit/liblibc_c.a")
+    tried "sanitized sessions, built" cc "${sanitized[@]}" "$here/tests/sessions.c" "${proved[@]}" -o "$work/sanitized_sessions"
+    folder
+    tried "sanitized sessions" "$work/sanitized_sessions" "$work/images"
+    tried "sanitized mg-lock, built" cc "${sanitized[@]}" "$here/src/mg-lock.c" "${proved[@]}" -o "$work/sanitized_mg-lock"
     folder
     in_folder ./format images 64
     tried "sanitized mg-lock" in_folder ./sanitized_mg-lock -w 1 images 0 db -- bash -c '! ./sanitized_mg-lock -n images 0 db true && ./sanitized_mg-lock -r images 0'
-else
-    left_out "gcc's sanitizers: they are not there"
 fi
 
 # What is put in place is taken out again.
