@@ -30,7 +30,7 @@ left_out() { echo "left out: $1"; }
 folder() { rm -rf -- "$work/images" && mkdir -- "$work/images"; }
 
 # The header alone, in each language that it is for.
-echo '#include <midgegalena.h>' > "$work/alone.c"
+echo '#include <mg_session.h>' > "$work/alone.c"
 for standard in c99 c11 c17; do tried "header as $standard" cc -std=$standard $strict -I "$PREFIX/include" -fsyntax-only "$work/alone.c"; done
 if command -v c++ > /dev/null; then
     cp -- "$work/alone.c" "$work/alone.cpp"
@@ -70,6 +70,11 @@ tried "values, built" cc -std=c99 $common "$here/tests/values.c" $flags -o "$wor
 folder
 tried "values" "$work/values" "$work/images"
 
+# Sessions.
+tried "sessions, built" cc -std=c99 $common "$here/tests/sessions.c" $flags -o "$work/sessions"
+folder
+tried "sessions" "$work/sessions" "$work/images"
+
 # Images that are missing, short, of another folder or layout, or unformatted.
 tried "images, built" cc -std=c99 $common "$here/tests/images.c" $flags -o "$work/images_test"
 folder
@@ -99,13 +104,18 @@ done
 # A host dies before it has marked its release: a wait ends all the same.
 if command -v rt > /dev/null; then
     kit=$(dirname -- "$(dirname -- "$(readlink -f -- "$(command -v rt)")")")/c
-    tried "unmarked, built" cc -std=c99 $common "$here/tests/unmarked.c" "$top/crates/dlm_c/out/libdlm_c.a" "$kit/libos_c.a" "$kit/liblibc_c.a" -o "$work/unmarked"
+    tried "unmarked, built" cc -std=c99 $common "$here/tests/unmarked.c" "$here/src/mg_session.c" "$top/crates/dlm_c/out/libdlm_c.a" "$kit/libos_c.a" "$kit/liblibc_c.a" -o "$work/unmarked"
     folder
     tried "unmarked" "$work/unmarked" "$work/images"
 fi
 
 # The programs of the pages: twice, after a run that left its lock, and with a full log.
-sed -n '/^```c$/,/^```$/ { /^```/!p }' "$top/docs/LIBRARY.md" | awk '/^ *struct mg_value value;$/ { value = 1 } { print > (value ? "'"$work"'/value.part" : "'"$work"'/page.c") }'
+# The first two blocks of LIBRARY.md are of sessions, the next two of the six commands; the second of each stands in the first.
+awk -v to="$work" '/^```c$/ { block++; inside = 1; next } /^```$/ { inside = 0 } inside { print > (to "/block" block ".c") }' "$top/docs/LIBRARY.md"
+cp -- "$work/block1.c" "$work/session.c"
+sed -e '/mg_give(session, db.lock, NULL);$/ { r '"$work/block2.c" -e 'd; }' "$work/session.c" > "$work/session_value.c"
+cp -- "$work/block3.c" "$work/page.c"
+cp -- "$work/block4.c" "$work/value.part"
 sed -e '/^        puts("db is ours");$/ { r '"$work/value.part" -e 'N; d; }' "$work/page.c" > "$work/page_value.c"
 sed -n '/^\.Sh EXAMPLES$/,/^\.Ed$/ { /^\./!p }' "$top/man/midgegalena.3" | sed 's/\\e/\\/g' > "$work/manual.c"
 cat > "$work/leaves.c" << 'END'
@@ -116,9 +126,21 @@ int main(void) {
     return mg_open("images", 0, &host, NULL) != MG_OK || mg_enqueue(host, 1, 1, 1, MG_EX, "db", 0, &answer) != MG_OK;
 }
 END
+cat > "$work/leaves_session.c" << 'END'
+#include <mg_session.h>
+#include <unistd.h>
+int main(void) {
+    struct mg_session *session;
+    struct mg_held db;
+    _exit(mg_begin("images", 0, 0, &session, NULL) != MG_OK || mg_take(session, "db", MG_EX, 0, &db) != MG_OK);
+}
+END
+tried "leaves_session, built" cc -std=c99 $common "$work/leaves_session.c" $flags -o "$work/leaves_session"
 tried "leaves, built" cc -std=c99 $common "$work/leaves.c" $flags -o "$work/leaves"
 in_folder() { (cd -- "$work" && "$@"); }
-for page in page page_value manual; do
+for page in session session_value page page_value manual; do
+    leaves=./leaves
+    [[ $page != session* ]] || leaves=./leaves_session
     tried "$page, built" cc -std=c99 $common "$work/$page.c" $flags -o "$work/$page"
     folder
     in_folder ./format images 64
@@ -129,14 +151,38 @@ for page in page page_value manual; do
     done
     folder
     in_folder ./format images 64
-    tried "$page after one that was killed" in_folder bash -c './leaves && ./"$1"' _ "$page"
+    tried "$page after one that was killed" in_folder bash -c "$leaves"' && ./"$1"' _ "$page"
     folder
     in_folder ./format images 1
-    tried "$page, full log" in_folder bash -c './leaves && ! ./"$1"' _ "$page"
+    tried "$page, full log" in_folder bash -c "$leaves"' && ! ./"$1"' _ "$page"
     cp -- "$work/out.txt" "$work/said.txt"
     tried "$page, full log: it says so" grep -q '^all slots of the log are taken; ' "$work/said.txt"
     tried "$page, full log: no lock" bash -c '! grep -q "db is ours" "$1"' _ "$work/said.txt"
 done
+
+# The first program of LIBRARY.md by four processes that are killed and started again at random, each under a host number of its own; and
+# with MG_SHARE, all under one. RESTARTED: so many seconds each.
+sed -e 's/^enum { HOST = 0 };$/#include "turn.h"/' -e 's/puts("db is ours");/turn(db.slot);/' "$work/session.c" > "$work/turns.c"
+sed 's/HOST, 0, &session/HOST, MG_SHARE, \&session/' "$work/turns.c" > "$work/turns_shared.c"
+tried "restarted, built" cc -std=c99 $common "$here/tests/restarted.c" $flags -o "$work/restarted"
+for given in "turns 4" "turns_shared 1"; do
+    program=${given% *}
+    tried "$program, built" cc -std=c99 $common -I "$here/tests" "$work/$program.c" $flags -o "$work/$program"
+    folder
+    in_folder ./format images 4096
+    tried "$program" in_folder ./restarted "${RESTARTED:-3}" "${given#* }" "./$program"
+    tail -n 1 "$work/out.txt" >> "$work/restarted.txt"
+done
+
+# The program mg-lock. MG_LOCK: turns of each of eight processes.
+if command -v python3 > /dev/null && [[ -x $dlm ]]; then
+    mkdir -- "$work/mg-lock"
+    tried "mg-lock" env PYTHONDONTWRITEBYTECODE=1 python3 "$here/tests/mg_lock.py" "$PREFIX/bin/mg-lock" "$dlm" "$work/mg-lock" "${MG_LOCK:-3}" \
+        "$PREFIX/lib/libmidgegalena.so"
+    tail -n 1 "$work/out.txt" >> "$work/restarted.txt"
+else
+    left_out "mg-lock: there is no Python, or dlm is not built"
+fi
 
 # A host dies, and the other goes on.
 tried "failover, built" cc -std=c99 $common "$here/examples/c/failover.c" $flags -o "$work/failover"
@@ -199,12 +245,19 @@ tried "names, built" cc -std=c99 $common "$work/names.c" $flags -o "$work/names"
 sed -n 's/^| \([0-9]*\) | `\([A-Za-z]*\).*/\1 \2/p' "$top/docs/REFUSALS.md" | sort -nu > "$work/refusals.txt"
 tried "names are those of docs/REFUSALS.md" bash -c '! grep -vxFf "$2" "$1"' _ "$work/names.txt" "$work/refusals.txt"
 
-# Nothing but mg_* is exported, and the manual page names each call.
+# Nothing but mg_* is exported, and a manual page names each call.
 tried "exports" bash -c '! nm -D --defined-only "$1" | grep -v " T mg_"' _ "$PREFIX/lib/libmidgegalena.so"
-tried "manual page" bash -c 'for call in $(nm -D --defined-only "$1" | sed -n "s/.* T //p"); do grep -q "^\.Fn $call\|^\.Fo $call" "$2" || { echo "$call"; exit 1; }; done' _ "$PREFIX/lib/libmidgegalena.so" "$top/man/midgegalena.3"
+tried "manual page" bash -c 'for call in $(nm -D --defined-only "$1" | sed -n "s/.* T //p"); do grep -q "^\.Fn $call\|^\.Fo $call" "$2" "$3" || { echo "$call"; exit 1; }; done' _ "$PREFIX/lib/libmidgegalena.so" "$top/man/midgegalena.3" "$top/man/mg_session.3"
+
+# No formatter has anything to say about the manual pages.
+if command -v groff > /dev/null; then
+    for page in midgegalena.3 mg_session.3 mg-lock.1; do tried "man/$page" bash -c '! groff -ww -mdoc -Tutf8 -z "$1" 2>&1 | grep .' _ "$top/man/$page"; done
+else
+    left_out "manual pages: there is no groff"
+fi
 
 # How much C no proof covers: the lines that are neither blank nor comment.
-lines=$(awk -f "$here/tests/lines.awk" "$here/src/midgegalena.c")
+lines=$(($(awk -f "$here/tests/lines.awk" "$here/src/midgegalena.c") + $(awk -f "$here/tests/lines.awk" "$here/src/mg_session.c")))
 for page in README.md docs/LIBRARY.md; do tried "lines of C in $page" grep -q "\b$lines lines of C" "$top/$page"; done
 
 # Memory.
@@ -237,8 +290,35 @@ else
     left_out "gcc's sanitizers: they are not there"
 fi
 
+# The same of sessions, and of mg-lock.
+if command -v valgrind > /dev/null; then
+    checks_memory=(valgrind -q --leak-check=full --errors-for-leak-kinds=all --error-exitcode=9)
+    folder
+    tried "valgrind sessions" "${checks_memory[@]}" "$work/sessions" "$work/images"
+    folder
+    in_folder ./format images 64
+    for option in -n "-w 1" --recover; do
+        given=(images 0 db true)
+        [[ $option != --recover ]] || given=(images 0)
+        # shellcheck disable=SC2086
+        tried "valgrind mg-lock $option" in_folder "${checks_memory[@]}" "$PREFIX/bin/mg-lock" $option "${given[@]}"
+    done
+fi
+if [[ -f $work/sanitizer ]] && command -v rt > /dev/null; then
+    sanitized=(-std=c99 $common -fsanitize=address,undefined -fno-sanitize-recover=all "$here/src/"{midgegalena,mg_session}.c)
+    proved=("$top/crates/dlm_c/out/libdlm_c.a" "$kit/libos_c.a" "$kit/liblibc_c.a")
+    tried "sanitized sessions, built" cc "${sanitized[@]}" "$here/tests/sessions.c" "${proved[@]}" -o "$work/sanitized_sessions"
+    folder
+    tried "sanitized sessions" "$work/sanitized_sessions" "$work/images"
+    tried "sanitized mg-lock, built" cc "${sanitized[@]}" "$here/src/mg-lock.c" "${proved[@]}" -o "$work/sanitized_mg-lock"
+    folder
+    in_folder ./format images 64
+    tried "sanitized mg-lock" in_folder ./sanitized_mg-lock -w 1 images 0 db -- bash -c '! ./sanitized_mg-lock -n images 0 db true && ./sanitized_mg-lock -r images 0'
+fi
+
 # What is put in place is taken out again.
 tried "uninstall" bash -c '"$1" uninstall && [[ -z $(find "$2" ! -type d) ]]' _ "$here/install.sh" "$PREFIX"
 tail -n 1 "$work/contended.txt"
+cat -- "$work/restarted.txt"
 echo "capi/check.sh: $passed passed, $failed failed"
 [[ $failed = 0 ]]

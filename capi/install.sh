@@ -1,6 +1,6 @@
 #!/usr/bin/env bash
-# Puts header, libraries, midgegalena.pc and the manual page in place, below PREFIX (none given: /usr/local), with DESTDIR in front of it where
-# one is given. `capi/install.sh uninstall` takes them out. Both print the files. The library is built first, if it has to be.
+# Puts headers, libraries, midgegalena.pc, mg-lock, its completions and the manual pages in place, below PREFIX (none given: /usr/local), with
+# DESTDIR in front of it where one is given. `capi/install.sh uninstall` takes them out. Both print the files. What is missing is built first.
 set -euo pipefail
 here=$(cd -- "$(dirname -- "$(readlink -f -- "${BASH_SOURCE[0]}")")" && pwd)
 prefix=${PREFIX:-/usr/local}
@@ -11,18 +11,28 @@ major=${version%%.*}
 # Calls its first word with each file: from, to.
 each() {
     "$1" include/midgegalena.h include/midgegalena.h
+    "$1" include/mg_session.h include/mg_session.h
     "$1" out/libmidgegalena.a lib/libmidgegalena.a
     "$1" "out/libmidgegalena.so.$version" "lib/libmidgegalena.so.$version"
     "$1" "out/libmidgegalena.so.$major" "lib/libmidgegalena.so.$major"
     "$1" out/libmidgegalena.so lib/libmidgegalena.so
     "$1" out/midgegalena.pc lib/pkgconfig/midgegalena.pc
+    "$1" out/mg-lock bin/mg-lock
     "$1" ../man/midgegalena.3 share/man/man3/midgegalena.3
+    "$1" ../man/mg_session.3 share/man/man3/mg_session.3
+    "$1" ../man/mg-lock.1 share/man/man1/mg-lock.1
+    "$1" ../completions/mg-lock.bash share/bash-completion/completions/mg-lock
+    "$1" ../completions/_mg-lock share/zsh/site-functions/_mg-lock
+    "$1" ../completions/mg-lock.fish share/fish/vendor_completions.d/mg-lock.fish
 }
 
 put() {
     mkdir -p -- "$(dirname -- "$root/$2")"
     cp -P -- "$here/$1" "$root/$2"
-    [[ -L $root/$2 ]] || chmod 644 -- "$root/$2"
+    case $2 in
+        bin/*) chmod 755 -- "$root/$2" ;;
+        *) [[ -L $root/$2 ]] || chmod 644 -- "$root/$2" ;;
+    esac
     echo "$root/$2"
 }
 

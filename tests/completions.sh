@@ -1,5 +1,5 @@
 #!/usr/bin/env bash
-# The completions: lines are typed into an interactive bash, which has read completions/dlm.bash, and then the key that puts in all
+# The completions: lines are typed into an interactive bash, which has read completions/dlm.bash and mg-lock.bash, and then the key that puts in all
 # that could stand here (M-*); what the line has come to is compared. Of zsh and fish the files are read, and fish is asked too,
 # where they are installed.
 set -uo pipefail
@@ -10,13 +10,14 @@ mkdir -- "$work/images" "$work/more images"
 # A program that shows its words.
 printf '#!/usr/bin/env bash\nprintf "line:"; printf " <%%s>" "$@"; echo\n' >"$work/dlm"
 chmod +x "$work/dlm"
+cp -- "$work/dlm" "$work/mg-lock"
 cd -- "$work" || exit 1
 tried=0
 
 # The words of the line that bash makes of what is typed.
 completed() {
     {
-        printf 'source "%s"\n' "$top/completions/dlm.bash"
+        printf 'source "%s"\n' "$top/completions/"{dlm,mg-lock}.bash
         printf '%s\e*\n' "$1"
     } | PATH=$work:$PATH INPUTRC=/dev/null PS1='' bash --norc --noprofile -i 2>/dev/null | grep '^line:' | cut -c 7-
 }
@@ -57,11 +58,18 @@ expect 'dlm submit images 0 release 1 2 7 ' '<submit> <images> <0> <release> <1>
 expect 'dlm submit images 0 purge 1 2 ' '<submit> <images> <0> <purge> <1> <2> <0> <1> <2> <3> <4> <5> <6> <7> <8> <9> <10> <11> <12> <13> <14> <15>'
 expect 'dlm submit images 0 release 1 2 7' '<submit> <images> <0> <release> <1> <2> <7>'
 expect './dlm fo' '<format>'
+expect 'mg-lock --no' '<--nonblock>'
+expect 'mg-lock -m P' '<-m> <PR> <PW>'
+expect 'mg-lock ' '<images> <more images>'
+expect 'mg-lock -n -w 3 im' '<-n> <-w> <3> <images>'
+expect 'mg-lock -s images ' '<-s> <images> <0> <1> <2> <3> <4> <5> <6> <7> <8> <9> <10> <11> <12> <13> <14> <15>'
+expect 'mg-lock images 0 ' '<images> <0>'
+expect 'mg-lock images 0 db -- one' '<images> <0> <db> <--> <one.dlm>'
 
 # asked TYPED WORDS: fish offers these words.
 asked() {
     local words
-    words=$(fish --no-config -c "source '$top/completions/dlm.fish'; complete -C '$1'" 2>&1 | cut -f 1 | LC_ALL=C sort | tr '\n' ' ')
+    words=$(fish --no-config -c "source '$top/completions/dlm.fish'; source '$top/completions/mg-lock.fish'; complete -C '$1'" 2>&1 | cut -f 1 | LC_ALL=C sort | tr '\n' ' ')
     tried=$((tried + 1))
     if [[ $words != "$2 " ]]; then
         echo "fish: '$1' offers $words, not $2"
@@ -75,11 +83,15 @@ if command -v fish >/dev/null; then
     asked 'dlm submit images 0 ' 'cancel convert enqueue purge release status'
     asked 'dlm submit images 0 enqueue 1 1 1 ' 'CR CW EX NL PR PW'
     asked 'dlm submit images 0 convert 1 2 1 PW ' 'noqueue value'
+    asked 'mg-lock -s ' 'images/ more images/'
+    asked 'mg-lock -s images ' '0 1 10 11 12 13 14 15 2 3 4 5 6 7 8 9'
     asked 'dlm submit images 0 purge 1 2 ' '0 1 10 11 12 13 14 15 2 3 4 5 6 7 8 9'
 fi
 if command -v zsh >/dev/null; then
-    tried=$((tried + 1))
-    zsh -n "$top/completions/_dlm" || failed=$((failed + 1))
+    for file in _dlm _mg-lock; do
+        tried=$((tried + 1))
+        zsh -n "$top/completions/$file" || failed=$((failed + 1))
+    done
 fi
 
 echo "completions: $tried tried, $failed differ"

@@ -19,6 +19,7 @@ KNOWN = {
     ("docs/OPERATIONS.md", "dlm format images 3 64 7"): "tests/devices.sh, with loop devices",
     ("docs/OPERATIONS.md", "rust: let folder = open_folder"): "crates/host_tests/src/folders.rt makes such calls",
     ("docs/OPERATIONS.md", "rust: let waits = host.submit"): "crates/host_tests/src/folders.rt makes such calls",
+    ("docs/OPERATIONS.md", "mg-lock "): "capi/tests/mg_lock.py, over a folder of its own",
     ("docs/OPERATIONS.md", "ini: [Unit]"): "nothing: systemd-analyze verify, by hand",
 }
 # Of these each line is a command; a block in another language is told once, by its first line.

@@ -51,8 +51,10 @@ enum mg_outcome {
 
     /* of this library */
     MG_BAD_ARGUMENT = -1, /* NULL, or a number or a name out of range. Nothing was done */
-    MG_TIMED_OUT = -2,    /* mg_wait: the lock still waits */
+    MG_TIMED_OUT = -2,    /* not granted in time: with mg_wait the lock still waits, with mg_take nothing does */
     MG_BROKEN = -3,       /* the handle is in no state that it should be in. Close it. No cause is known */
+    MG_ONLY_LOOKS = -4,   /* the handle is of mg_open_to_look, and the call is more than a look. Nothing was done */
+    MG_STOPPED = -5,      /* mg_take: it was told to stop (mg_set_rest) */
 
     /* The host refused the operation. The command is not acknowledged, and may be in the log all the same: ask again with the
      * same request number */
@@ -118,6 +120,11 @@ int mg_format(const char *folder, unsigned disks, unsigned slots, uint64_t clust
 /* Opens a folder's images for the host of this number, 0 to 15, and locks the number. At MG_OK `*out` is a host that has
  * learned nothing, and is to be closed; else it is NULL. */
 int mg_open(const char *folder, unsigned host, struct mg_host **out, int *disk);
+
+/* Opens a folder's images to read alone: for mg_look, mg_wait, and what shows the table. It takes no host number, locks nothing
+ * and writes nothing, so any number of processes may do so at once, beside those that work under the numbers. mg_refresh, mg_mark
+ * and all commands are refused, MG_ONLY_LOOKS, and mg_wait does not recover. mg_host_facts tells host 0, which says nothing here. */
+int mg_open_to_look(const char *folder, struct mg_host **out, int *disk);
 
 /* Lets a host and its number go. NULL is nothing. The host's locks stay: they are in the log. */
 void mg_close(struct mg_host *host);

@@ -152,8 +152,10 @@ struct meaning {
 static const struct meaning MEANINGS[] = {
     {MG_OK, "", "done"},
     {MG_BAD_ARGUMENT, "", "an argument is NULL or out of range; nothing was done"},
-    {MG_TIMED_OUT, "", "the lock still waits"},
+    {MG_TIMED_OUT, "", "the lock was not granted in time"},
     {MG_BROKEN, "", "the handle is in no state that it should be in; close it"},
+    {MG_ONLY_LOOKS, "", "the handle was opened to look; nothing was done"},
+    {MG_STOPPED, "", "it was told to stop; nothing is held"},
     {MG_OUTRUN, "Outrun", "another host's greater ballot was read at the last try; ask again, with the same request number"},
     {MG_NO_MAJORITY, "NoMajority",
      "no majority of the disks answers; bring them back, and ask again, with the same request number"},
@@ -178,7 +180,7 @@ static const struct meaning MEANINGS[] = {
     {MG_ALREADY_THERE, "AlreadyThere", "one of the images that were to be made is there"},
     {MG_OLD_LAYOUT, "OldLayout", "an image has the layout before this one; dlm migrate moves it"},
     {MG_HOST_IN_USE, "HostInUse", "somebody else works under this host number"},
-    {MG_NO_LOCK, "NoLock", "the host number cannot be locked, see errno"},
+    {MG_NO_LOCK, "NoLock", "the host number, or the sign of life of a lock, cannot be locked; see errno"},
 };
 
 static const struct meaning *meaning_of(int status) {
@@ -289,6 +291,7 @@ enum { FIRST_TRIES = 8 };
 struct mg_host {
     struct handle handle;
     unsigned tries;
+    bool only_looks; /* it has no number, so no call of it writes */
     int lock;
     int files[MG_DISKS]; /* NO_FILE: every call fails */
     /* The device call that is due, what it writes, and what was read last. */
@@ -351,13 +354,13 @@ static void let_go(struct mg_host *host) {
     free(host);
 }
 
-/* Opens an image where it can be read and written, and reads its first bytes. False where memory was refused. */
-static bool find_image(const char *folder, unsigned disk, struct image *image, int *file) {
+/* Opens an image where that can be done in this way, and reads its first bytes. False where memory was refused. */
+static bool find_image(const char *folder, unsigned disk, int flags, struct image *image, int *file) {
     struct stat facts;
     char *path = path_of(folder, "disk", disk, ".img");
     if (!path)
         return false;
-    *file = open_file(path, O_RDWR);
+    *file = open_file(path, flags);
     free(path);
     if (*file == NO_FILE)
         return true;
@@ -402,7 +405,7 @@ static int open_host(struct mg_host *host, struct images *images, const char *fo
     int32_t status;
     memset(&told, 0, sizeof told);
     for (unsigned k = 0; k < MG_DISKS; k++)
-        if (!find_image(folder, k, &images->all[k], &host->files[k]))
+        if (!find_image(folder, k, host->only_looks ? O_RDONLY : O_RDWR, &images->all[k], &host->files[k]))
             return MG_NO_MEMORY;
     status = dlm_c_open(images, number, &host->handle, &told, disk);
     if (status != 0)
@@ -412,10 +415,10 @@ static int open_host(struct mg_host *host, struct images *images, const char *fo
             close(host->files[k]);
             host->files[k] = NO_FILE;
         }
-    return lock_number(folder, number, &host->lock);
+    return host->only_looks ? MG_OK : lock_number(folder, number, &host->lock);
 }
 
-int mg_open(const char *folder, unsigned number, struct mg_host **out, int *disk) {
+static int open_folder(const char *folder, unsigned number, bool only_looks, struct mg_host **out, int *disk) {
     int32_t at_fault = -1;
     int status;
     struct mg_host *host;
@@ -431,6 +434,7 @@ int mg_open(const char *folder, unsigned number, struct mg_host **out, int *disk
     if (!host)
         return MG_NO_MEMORY;
     host->tries = FIRST_TRIES;
+    host->only_looks = only_looks;
     host->lock = NO_FILE;
     for (unsigned k = 0; k < MG_DISKS; k++)
         host->files[k] = NO_FILE;
@@ -451,6 +455,13 @@ int mg_open(const char *folder, unsigned number, struct mg_host **out, int *disk
     *out = host;
     return MG_OK;
 }
+
+int mg_open(const char *folder, unsigned number, struct mg_host **out, int *disk) {
+    return open_folder(folder, number, false, out, disk);
+}
+
+/* A look learns what marks say, whoever set them, so it does not matter under which number. */
+int mg_open_to_look(const char *folder, struct mg_host **out, int *disk) { return open_folder(folder, 0, true, out, disk); }
 
 void mg_close(struct mg_host *host) {
     if (host)
@@ -609,6 +620,8 @@ static int submit(struct mg_host *host, const struct request *request, const cha
         *into = NO_ANSWER;
     if (!host || !name)
         return MG_BAD_ARGUMENT;
+    if (host->only_looks)
+        return MG_ONLY_LOOKS;
     status = submit_once(host, request, name, &answer);
     for (unsigned outrun = 0; status == MG_OUTRUN && outrun + 1 < host->tries; outrun++) {
         pause_after(outrun);
@@ -735,6 +748,8 @@ int mg_refresh(struct mg_host *host, uint64_t *learned) {
         *learned = 0;
     if (!host)
         return MG_BAD_ARGUMENT;
+    if (host->only_looks)
+        return MG_ONLY_LOOKS;
     status = refresh(host, &answer);
     if (learned)
         *learned = answer.count;
@@ -758,6 +773,8 @@ int mg_mark(struct mg_host *host, uint64_t *learned) {
         *learned = 0;
     if (!host)
         return MG_BAD_ARGUMENT;
+    if (host->only_looks)
+        return MG_ONLY_LOOKS;
     status = look(host, &answer);
     if (status != MG_OK)
         return status;
@@ -788,7 +805,7 @@ static int look_further(struct mg_host *host, int64_t *recovers) {
     if (status != MG_OK)
         return status;
     if (learned_by(host) == learned) {
-        if (milliseconds() < *recovers)
+        if (host->only_looks || milliseconds() < *recovers)
             return MG_OK;
         status = mg_mark(host, NULL);
     }

@@ -33,6 +33,11 @@ static void bad_arguments(const char *folder) {
     IS(disk, 0);
     IS(mg_open(folder, 0, &host, &disk), MG_UNREADABLE);
     IS(disk, 0);
+    IS(mg_open_to_look(NULL, &host, NULL), MG_BAD_ARGUMENT);
+    IS(host == NULL, 1);
+    IS(mg_open_to_look(folder, NULL, NULL), MG_BAD_ARGUMENT);
+    IS(mg_open_to_look(folder, &host, &disk), MG_UNREADABLE);
+    IS(disk, 0);
     mg_close(NULL);
     IS(mg_set_tries(NULL, 1), MG_BAD_ARGUMENT);
     IS(mg_enqueue(NULL, 1, 1, 1, MG_EX, "a", 0, NULL), MG_BAD_ARGUMENT);
@@ -243,6 +248,35 @@ static void commands(struct mg_host *first, struct mg_host *second) {
     IS_TEXT(text, "empty\n");
 }
 
+/* Without a number, beside those that have theirs: it learns what is marked, and does no more. */
+static void only_looks(const char *folder) {
+    struct mg_host *eye, *other;
+    struct mg_answer answer;
+    struct mg_value value = {{0}, 0};
+    uint64_t learned = 5;
+    IS(mg_open_to_look(folder, &eye, NULL), MG_OK);
+    IS(mg_open_to_look(folder, &other, NULL), MG_OK);
+    IS(mg_look(eye, &learned), MG_OK);
+    IS(learned, 18);
+    IS(mg_look(other, NULL), MG_OK);
+    mg_close(other);
+    IS(mg_wait(eye, 1, 1, 0, NULL), MG_NO_SUCH_LOCK);
+    IS(mg_value(eye, 1, &value), MG_NO_SUCH_LOCK);
+    IS(mg_refresh(eye, &learned), MG_ONLY_LOOKS);
+    IS(learned, 0);
+    IS(mg_mark(eye, NULL), MG_ONLY_LOOKS);
+    IS(mg_enqueue(eye, 1, 99, 1, MG_EX, "db", 0, &answer), MG_ONLY_LOOKS);
+    IS(answer.slot, -1);
+    IS(mg_convert(eye, 1, 99, 1, MG_EX, 0, NULL), MG_ONLY_LOOKS);
+    IS(mg_convert_value(eye, 1, 99, 1, MG_EX, 0, "0123456789abcdef", NULL), MG_ONLY_LOOKS);
+    IS(mg_release(eye, 1, 99, 1, NULL), MG_ONLY_LOOKS);
+    IS(mg_release_value(eye, 1, 99, 1, "0123456789abcdef", NULL), MG_ONLY_LOOKS);
+    IS(mg_cancel(eye, 1, 99, 1, NULL), MG_ONLY_LOOKS);
+    IS(mg_status(eye, 1, 99, 1, NULL), MG_ONLY_LOOKS);
+    IS(mg_purge(eye, 1, 99, 1, NULL), MG_ONLY_LOOKS);
+    mg_close(eye);
+}
+
 int main(int argc, char **argv) {
     struct mg_host *first, *second;
     int status, disk;
@@ -260,6 +294,7 @@ int main(int argc, char **argv) {
     IS(mg_open(argv[1], 1, &second, NULL), MG_OK);
     bad_commands(first);
     commands(first, second);
+    only_looks(argv[1]);
     mg_close(first);
     IS(mg_open(argv[1], 0, &first, NULL), MG_OK);
     mg_close(first);

@@ -1,39 +1,51 @@
-"""A process that holds a lock is killed, and so it stays in the log: the next run of its client begins by releasing it. A request
-that was refused without a majority leaves no lock behind either.
+"""A process that holds a lock is killed, and so it stays in the log: the next session of its host number begins by releasing it. A
+request that was refused without a majority leaves no lock behind either, and Ctrl-C ends a wait.
 
     killed.py LIBRARY FOLDER      an empty folder
 """
 import os
 import signal
 import sys
+import threading
+import time
 
 sys.path.insert(0, os.path.join(os.path.dirname(os.path.dirname(os.path.realpath(__file__))), "examples/python"))
-from midgegalena import EX, NO_MAJORITY, Cluster, Refused, load  # noqa: E402
+from midgegalena import EX, NO_MAJORITY, Refused, Session, load  # noqa: E402
 
 library, folder = sys.argv[1:]
-assert load(library).mg_format(os.fsencode(folder), 3, 64, 7, None) == 0
+# Where this runs in the background it may be ignored.
+signal.signal(signal.SIGINT, signal.default_int_handler)
+assert load(library).mg_format(os.fsencode(folder), 3, 128, 7, None) == 0
 
 
-def hold():
+def hold(share):
     """Holds `db` until it is killed; gives the process once it does."""
     told, tells = os.pipe()
     process = os.fork()
     if process == 0:
-        with Cluster(folder, host=0, client=1, library=library) as cluster, cluster.lock("db", EX):
+        with Session(folder, host=0, share=share, library=library) as session, session.lock("db", EX):
             os.write(tells, b"!")
             signal.pause()
     assert os.read(told, 1) == b"!"
     return process
 
 
-process = hold()
-os.kill(process, signal.SIGKILL)
-os.waitpid(process, 0)
-with Cluster(folder, host=0, client=1, library=library, keep=True) as cluster:
-    assert [it[0] for it in cluster.locks()] == ["db"], cluster.locks()
-with Cluster(folder, host=0, client=1, library=library) as cluster:
-    assert cluster.locks() == [], cluster.locks()
-    with cluster.lock("db", EX, timeout=3):
+def kill(process):
+    os.kill(process, signal.SIGKILL)
+    os.waitpid(process, 0)
+
+
+kill(hold(share=False))
+with Session(folder, host=0, keep=True, library=library) as session:
+    assert [it[0] for it in session.locks()] == ["db"], session.locks()
+    with session.lock("db", EX, timeout=0) as held:
+        assert held.slot == -1
+    assert session.locks() == [], session.locks()
+
+kill(hold(share=False))
+with Session(folder, host=0, library=library) as session:
+    assert session.locks() == [], session.locks()
+    with session.lock("db", EX, timeout=3):
         pass
 
     # Two of three images are cut off, so that their calls fail, and then are whole again.
@@ -44,14 +56,39 @@ with Cluster(folder, host=0, client=1, library=library) as cluster:
             kept.append(file.read())
         os.truncate(image, 0)
     try:
-        with cluster.lock("other", EX):
+        with session.lock("other", EX):
             raise AssertionError("granted without a majority")
     except Refused as why:
         assert why.status == NO_MAJORITY, why
     for image, whole in zip(images, kept):
         with open(image, "r+b") as file:
             file.write(whole)
-    with cluster.lock("other", EX, timeout=3):
-        assert [it[0] for it in cluster.locks()] == ["other"], cluster.locks()
-    assert cluster.locks() == [], cluster.locks()
+    with session.lock("other", EX, timeout=3):
+        assert [it[0] for it in session.locks()] == ["other"], session.locks()
+    assert session.locks() == [], session.locks()
+
+process = hold(share=True)
+with Session(folder, host=1, library=library) as other, Session(folder, host=0, share=True, library=library) as session:
+    # Its process lives, so nothing of it is released or purged.
+    assert session.recover() == 0
+    try:
+        other.purge_dead(0)
+        raise AssertionError("purged a host that lives")
+    except Refused as why:
+        assert why.status == 36, why
+    # Ctrl-C ends a wait, and nothing waits then.
+    threading.Timer(0.2, os.kill, (os.getpid(), signal.SIGINT)).start()
+    begun = time.monotonic()
+    try:
+        with session.lock("db", EX):
+            raise AssertionError("granted while another has it")
+    except KeyboardInterrupt:
+        assert time.monotonic() - begun < 5
+    assert len(session.locks()) == 1, session.locks()
+    kill(process)
+    with session.lock("db", EX, timeout=3) as held:
+        assert session.is_held(held)
+    kill(hold(share=True))
+    assert other.purge_dead(0) == 1
+    assert session.locks() == [], session.locks()
 print("what was killed, and what was refused, left no lock behind")

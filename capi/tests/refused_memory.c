@@ -1,13 +1,15 @@
 /*
- * Each allocation fails in turn: a call then ends as MG_NO_MEMORY, and the host goes on. Prints how many there are.
+ * Each allocation fails in turn: a call then ends as MG_NO_MEMORY, and the host goes on. Of a session, whose calls may also end well
+ * then, no lock is left. Prints how many there are.
  * To be linked with -Wl,--wrap=malloc,--wrap=calloc,--wrap=realloc.
  *
  *   refused_memory FOLDER
  */
-#include <midgegalena.h>
+#include <mg_session.h>
 
 #include <stdio.h>
 #include <stdlib.h>
+#include <sys/stat.h>
 
 void *__real_malloc(size_t size);
 void *__real_calloc(size_t count, size_t size);
@@ -42,6 +44,55 @@ static int use(const char *folder) {
     return status;
 }
 
+static int use_session(const char *folder, unsigned flags) {
+    struct mg_session *session;
+    struct mg_held held;
+    int status = mg_begin(folder, 1, flags, &session, NULL), given = MG_OK;
+    if (status != MG_OK)
+        return status;
+    status = mg_take(session, "db", MG_PR, 1000, &held);
+    if (status == MG_OK)
+        status = mg_check(session, held.lock);
+    if (held.lock != 0)
+        given = mg_give(session, held.lock, NULL);
+    mg_end(session);
+    return status != MG_OK ? status : given;
+}
+
+/* 0 where each allocation of a session was refused in turn. A new folder after each few of them: a log that is short is learned soon. */
+static int refuse_session(const char *work, unsigned flags) {
+    char folder[400];
+    for (long allocations = 0;; allocations++) {
+        struct mg_host *eye;
+        size_t count = 9;
+        int status;
+        if (allocations % 8 == 0) {
+            snprintf(folder, sizeof folder, "%s/%u.%ld", work, flags, allocations);
+            if (mkdir(folder, 0777) != 0 || mg_format(folder, 3, 64, 7, NULL) != MG_OK)
+                return 1;
+        }
+        until_refused = allocations;
+        status = use_session(folder, flags);
+        if (until_refused >= 0) {
+            printf("%ld allocations of a session, each refused in turn\n", allocations);
+            return status != MG_OK;
+        }
+        until_refused = -1;
+        if (status != MG_OK && status != MG_NO_MEMORY) {
+            printf("session, allocation %ld: %d\n", allocations, status);
+            return 1;
+        }
+        /* What it left, as one that was killed does, the next one releases. */
+        if (use_session(folder, flags) != MG_OK || mg_open_to_look(folder, &eye, NULL) != MG_OK)
+            return 1;
+        if (mg_look(eye, NULL) != MG_OK || mg_locks(eye, NULL, 0, &count) != MG_OK || count != 0) {
+            printf("session, allocation %ld: %zu locks left\n", allocations, count);
+            return 1;
+        }
+        mg_close(eye);
+    }
+}
+
 int main(int argc, char **argv) {
     long allocations = 0;
     int status;
@@ -61,5 +112,10 @@ int main(int argc, char **argv) {
             return 1;
     }
     printf("%ld allocations, each refused in turn\n", allocations);
+    for (unsigned flags = 0; flags <= MG_SHARE; flags += MG_SHARE) {
+        until_refused = -1;
+        if (refuse_session(argv[1], flags) != 0)
+            return 1;
+    }
     return status != MG_OK;
 }

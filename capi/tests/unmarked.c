@@ -1,6 +1,7 @@
 /*
  * A host dies between the answer to its release and the mark of it, as a process that is killed there. Whoever waits for the lock
- * gets it all the same: no look finds an unmarked command, so a wait recovers where it hears nothing.
+ * gets it all the same: no look finds an unmarked command, so a wait recovers where it hears nothing. And a session believes no reply
+ * that is that of such a command.
  *
  * The mark cannot be left out by a call of the library, so this has the library's own file in it.
  *
@@ -9,8 +10,45 @@
 #include "../src/midgegalena.c"
 
 #include "expect.h"
+#include "mg_session.h"
+
+/* A process that shares host 0 was killed between its enqueue and the mark. Its request is the next one's, too: as far as a look tells. */
+static void left_without_a_mark(const char *folder) {
+    struct request enqueue = asks(ENQUEUE, 240, 1, 1539);
+    struct mg_session *session;
+    struct mg_host *host;
+    struct answer taken;
+    struct mg_held held;
+    char sign[400];
+    size_t count = 9;
+    enqueue.mode = MG_EX;
+    snprintf(sign, sizeof sign, "%s/mg-lock.0.1539", folder);
+    IS(mkdir(folder, 0777), 0);
+    IS(mg_format(folder, 3, 64, 7, NULL), MG_OK);
+    IS(mg_open(folder, 0, &host, NULL), MG_OK);
+    IS(submit_once(host, &enqueue, "other", &taken), MG_OK);
+    mg_close(host);
+    close(open(sign, O_RDWR | O_CREAT, 0666));
+
+    IS(mg_begin(folder, 0, MG_SHARE, &session, NULL), MG_OK);
+    IS(mg_take(session, "db", MG_EX, 0, &held), MG_OK);
+    IS(held.lock != 1539 && held.slot > 1, 1);
+    IS(mg_give(session, held.lock, NULL), MG_OK);
+    /* Its lock is left over, and not forgotten. */
+    IS(access(sign, F_OK), 0);
+    IS(mg_take(session, "other", MG_EX, 5000, &held), MG_OK);
+    IS(held.released, 1);
+    IS(access(sign, F_OK), -1);
+    IS(mg_give(session, held.lock, NULL), MG_OK);
+    IS(mg_host_of(session, &host), MG_OK);
+    IS(mg_look(host, NULL), MG_OK);
+    IS(mg_locks(host, NULL, 0, &count), MG_OK);
+    IS(count, 0);
+    mg_end(session);
+}
 
 int main(int argc, char **argv) {
+    char other[300];
     struct mg_host *first, *second;
     struct mg_answer answer;
     struct answer released;
@@ -41,5 +79,7 @@ int main(int argc, char **argv) {
     IS(mg_look(first, NULL), MG_OK);
     IS(mg_lock(first, 1, &(struct mg_lock_view){0}), MG_NO_SUCH_LOCK);
     mg_close(first);
+    snprintf(other, sizeof other, "%s/session", argv[1]);
+    left_without_a_mark(other);
     return failures != 0;
 }

@@ -6,14 +6,14 @@ one another.
 import os
 import sys
 
-from midgegalena import EX, NL, PR, Cluster, Refused, load
+from midgegalena import EX, NL, PR, Refused, Session, load
 
 library, folder = sys.argv[1:]
 status = load(library).mg_format(os.fsencode(folder), 3, 64, 7, None)
 assert status == 0, status
 
-with Cluster(folder, host=0, client=1, library=library) as first, Cluster(folder, host=1, client=2, library=library) as second:
-    with first.lock("db", EX):
+with Session(folder, host=0, library=library) as first, Session(folder, host=1, library=library) as second:
+    with first.lock("db"):
         print("first holds", first.locks())
         for seconds in (0, 0.05):
             try:
@@ -29,15 +29,13 @@ with Cluster(folder, host=0, client=1, library=library) as first, Cluster(folder
     # The null lock keeps the name, and with it the value.
     with first.lock("seats", NL):
         for seller in (first, second, first):
-            with seller.lock("seats", EX) as lock:
-                sold, valid = seller.value(lock)
-                seller.leave(lock, (int.from_bytes(sold, "big") + 1).to_bytes(16, "big"))
-        with second.lock("seats", PR) as lock:
-            sold, valid = second.value(lock)
-            print("sold", int.from_bytes(sold, "big"), "valid" if valid else "perhaps")
+            with seller.lock("seats", EX) as held:
+                held.leaves = (int.from_bytes(held.value, "big") + 1).to_bytes(16, "big")
+        with second.lock("seats", PR) as held:
+            print("sold", int.from_bytes(held.value, "big"), "valid" if held.valid else "perhaps")
     slots, used = second.log()
     print("renew the log" if 10 * used >= 9 * slots else f"{slots - used} slots are left")
     try:
-        Cluster(folder, host=1, client=3, library=library)
+        Session(folder, host=1, library=library)
     except Refused as why:
         print(why.status, why)

@@ -1,0 +1,122 @@
+/*
+ * mg_session.h: locks that are held or not, over midgegalena.h. A session chooses request numbers and lock numbers, asks again
+ * where that is needed, waits, gives back what it gave up, and releases what a run that was killed left.
+ *
+ *     struct mg_session *session;
+ *     struct mg_held db;
+ *     if (mg_begin("images", 0, 0, &session, NULL) != MG_OK)
+ *         return 1;
+ *     if (mg_take(session, "db", MG_EX, 5000, &db) == MG_OK) {
+ *         ...                                       only here db is ours
+ *         mg_give(session, db.lock, NULL);
+ *     }
+ *     mg_end(session);
+ *
+ * Sessions of host H are client 240 + H, and use the lock numbers from 1536 + 4000 H on. Whoever counts for himself, by the six
+ * commands or by the program dlm, takes clients and locks below 240 and 1536.
+ *
+ * A session is for one thread at a time. A child of fork may use no session of its parent.
+ */
+#ifndef MG_SESSION_H
+#define MG_SESSION_H
+
+#include <midgegalena.h>
+
+#ifdef __cplusplus
+extern "C" {
+#endif
+
+struct mg_session;
+
+/* ---- begin and end ---- */
+
+/* The locks that a former run left are kept. mg_take then takes such a lock first, where name and mode are the same. */
+#define MG_KEEP 1u
+
+/* The session has the host number only while a call works on the images, so any number of processes share it. Each of its calls
+ * releases what processes with MG_SHARE left that are gone. A call learns the whole log anew, so this is for short programs. */
+#define MG_SHARE 2u
+
+/* Opens the folder for a host number, learns all, and releases what former runs of this host number left. Without MG_SHARE the
+ * number is the session's own until mg_end, and MG_HOST_IN_USE says that another process has it. At MG_OK `*out` is a session,
+ * which is to be ended; else it is NULL. `disk` as in mg_open.
+ *
+ * Each lock of a session has a sign of life, the file mg-lock.HOST.LOCK in the folder. The session has it locked (flock) as long as
+ * it has the lock. What former runs left are the locks whose signs are there, and locked by nobody. Do not remove signs. */
+int mg_begin(const char *folder, unsigned host, unsigned flags, struct mg_session **out, int *disk);
+
+/* Ends a session. NULL is nothing. Locks that were not given stay in the log. The next session of this host number releases
+ * them. */
+void mg_end(struct mg_session *session);
+
+/* ---- take and give ---- */
+
+struct mg_held {
+    uint32_t lock;         /* its number, for mg_give */
+    int32_t slot;          /* where the command that asked for it stands in the log; -1 of a lock that a former run took */
+    uint64_t cluster;      /* of the folder that this slot is of */
+    uint32_t slots_left;   /* in the log, once it was asked for */
+    uint32_t released;     /* locks of processes that are gone, which this call released */
+    struct mg_value value; /* of its name, when it was granted */
+};
+
+/* Takes a lock on a name, and waits `timeout` milliseconds at most: 0 takes it at once or not at all, below 0 waits without an
+ * end. MG_OK: the lock is held. With any other number nothing is held and nothing waits; `held->lock` is 0.
+ *
+ * MG_TIMED_OUT: others have it. MG_NO_SUCH_LOCK: it was purged while it waited. MG_STOPPED: mg_set_rest. MG_LOG_FULL,
+ * MG_NO_MAJORITY, MG_TABLE_FULL and others as of mg_enqueue. What a refused command may have left in the log all the same is
+ * released by the session's next call, or by the next session of the host number. If the log gets full while it waits it goes on
+ * waiting, and once that is renewed it waits in the new folder. To give up it may then take a minute longer.
+ *
+ * `held->slot` is a fencing token: of those that hold MG_EX on a name in turn, each has a greater slot than the one before it. In
+ * a renewed folder slots begin anew, and `cluster` tells the two apart. */
+int mg_take(struct mg_session *session, const char *name, int mode, int timeout, struct mg_held *held);
+
+/* Gives a lock back. Where `value` is not NULL its MG_VALUE_LENGTH bytes are kept with the name, if the lock holds MG_PW or MG_EX.
+ * MG_NO_SUCH_LOCK: the lock had been taken away, by a purge, or is none of this session's. After any other number it is still
+ * the session's: call again. It waits up to a minute for disks, for the number, and for a full log to be renewed. */
+int mg_give(struct mg_session *session, unsigned lock, const void *value);
+
+/* Looks whether a lock that was taken is still there: MG_OK, or MG_NO_SUCH_LOCK after a purge. */
+int mg_check(struct mg_session *session, unsigned lock);
+
+/* ---- of other hosts, and of other processes ---- */
+
+/* Takes away all locks of a host whose processes are gone: only while it has the number of that host, so that nobody works under
+ * it, and each lock that a session took has a sign of life that nobody has. Else MG_HOST_IN_USE, and nothing is done. This knows
+ * of processes that the locks of the folder's file system reach, those of one machine. It does not know of a script that took a
+ * lock by dlm and goes on.
+ * `*purged`, where it is not NULL, becomes the number of locks. */
+int mg_purge_dead(struct mg_session *session, unsigned victim, unsigned *purged);
+
+/* For mg_recover: the locks without a sign of life, too, and those that are kept for a session without MG_SHARE. Only where no
+ * process of this host number can be alive: when its machine has just started. A renewal carries locks over, and no signs. */
+#define MG_ALL 1u
+
+/* Releases what processes of this host number that are gone have left, and marks what has no mark. `*released`, where it is not
+ * NULL, becomes the number of locks. */
+int mg_recover(struct mg_session *session, unsigned flags, unsigned *released);
+
+/* ---- waiting ---- */
+
+/* How long a wait pauses between two looks, at the longest: 1 millisecond at first, then twice as long each time, 5 if this is
+ * not called. Where no look has learned anything for two seconds, or by chance up to four, it recovers, as mg_wait does. */
+int mg_set_interval(struct mg_session *session, int milliseconds);
+
+/* What mg_take calls to pause, in place of a sleep. Where it returns anything but 0, mg_take gives up: MG_STOPPED. NULL: sleep. */
+int mg_set_rest(struct mg_session *session, int (*rest)(void *with, int milliseconds), void *with);
+
+/* ---- what a session stands on ---- */
+
+/* To look (mg_look) and to show the table. Submit nothing by it. It is the session's, and may be another one after each call. */
+int mg_host_of(struct mg_session *session, struct mg_host **host);
+
+/* The descriptor of a lock's sign of life, -1 where the session has no such lock. A child that inherits it keeps the lock from being released
+ * for as long as it lives, if this process is killed. */
+int mg_sign_of(struct mg_session *session, unsigned lock);
+
+#ifdef __cplusplus
+}
+#endif
+
+#endif

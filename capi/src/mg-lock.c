@@ -1,0 +1,397 @@
+/*
+ * mg-lock: takes a lock in a folder of images, runs a command, and lets go. man man/mg-lock.1 says how it is used. All of its locks are
+ * those of a session with MG_SHARE (mg_session.h), and the command inherits the sign of life.
+ *
+ * Signals are blocked throughout, and taken where it pauses. So no talk with the images is cut off in the middle.
+ */
+#ifndef _GNU_SOURCE
+#define _GNU_SOURCE
+#endif
+#include <mg_session.h>
+
+#include <errno.h>
+#include <fcntl.h>
+#include <getopt.h>
+#include <signal.h>
+#include <stdarg.h>
+#include <stdbool.h>
+#include <stdio.h>
+#include <stdlib.h>
+#include <string.h>
+#include <sys/wait.h>
+#include <time.h>
+#include <unistd.h>
+
+enum { FAILED = 125, CANNOT_RUN = 126, NOT_FOUND = 127, LOWEST_SIGN = 100, FEW_OF_SLOTS = 20 };
+
+static const char *const MODES[] = {"NL", "CR", "CW", "PR", "PW", "EX"};
+static const int SIGNALS[] = {SIGHUP, SIGINT, SIGQUIT, SIGTERM, SIGUSR1, SIGUSR2};
+
+/* What is asked for. */
+static struct {
+    const char *folder, *name;
+    char **command;
+    unsigned host;
+    int mode, conflict, interval, check, timeout; /* milliseconds, below 0: none */
+    bool closes, prints, verbose, recovers, all;
+} asked = {.mode = MG_EX, .conflict = 1, .interval = 5, .timeout = -1};
+
+static int64_t begun;    /* when, in milliseconds */
+static sigset_t ends;    /* the signals that end a wait, and that are handed on to a command */
+static int ended;        /* by such a signal; 0: not */
+static struct mg_held db; /* the lock */
+
+/* ---- saying ---- */
+
+__attribute__((format(printf, 1, 2))) static void say(const char *format, ...) {
+    va_list rest;
+    va_start(rest, format);
+    fputs("mg-lock: ", stderr);
+    vfprintf(stderr, format, rest);
+    fputc('\n', stderr);
+    va_end(rest);
+}
+
+/* "36 HostInUse (somebody else works under this host number)" */
+static const char *told(int status) {
+    static char text[256];
+    if (status > 0)
+        snprintf(text, sizeof text, "%d %s (%s)", status, mg_name(status), mg_strerror(status));
+    else
+        snprintf(text, sizeof text, "%s", mg_strerror(status));
+    return text;
+}
+
+static int64_t milliseconds(void) {
+    struct timespec now = {0, 0};
+    clock_gettime(CLOCK_MONOTONIC, &now);
+    return (int64_t)now.tv_sec * 1000 + now.tv_nsec / 1000000;
+}
+
+static double seconds_since_begin(void) { return (double)(milliseconds() - begun) / 1000; }
+
+/* ---- signals ---- */
+
+/* What the session calls to pause: until a signal that ends the wait. */
+static int rest(void *with, int length) {
+    struct timespec time = {length / 1000, (long)(length % 1000) * 1000000};
+    (void)with;
+    if (!ended) {
+        int signal = sigtimedwait(&ends, NULL, &time);
+        ended = signal > 0 ? signal : 0;
+    }
+    return ended;
+}
+
+static bool has_ended(void) { return rest(NULL, 0) != 0; }
+
+/* What was ignored when this began stays so, for the command too. */
+static void block_signals(sigset_t *before) {
+    sigset_t blocked;
+    sigemptyset(&ends);
+    for (size_t i = 0; i < sizeof SIGNALS / sizeof SIGNALS[0]; i++) {
+        struct sigaction now;
+        if (sigaction(SIGNALS[i], NULL, &now) == 0 && now.sa_handler != SIG_IGN)
+            sigaddset(&ends, SIGNALS[i]);
+    }
+    blocked = ends;
+    sigaddset(&blocked, SIGCHLD);
+    sigprocmask(SIG_BLOCK, &blocked, before);
+    signal(SIGCHLD, SIG_DFL);
+}
+
+/* Ends as by the signal, for whoever started this process. */
+static int end_by(int number) {
+    sigset_t one;
+    signal(number, SIG_DFL);
+    sigemptyset(&one);
+    sigaddset(&one, number);
+    raise(number);
+    sigprocmask(SIG_UNBLOCK, &one, NULL);
+    return 128 + number;
+}
+
+/* ---- the command ---- */
+
+__attribute__((format(printf, 2, 3))) static void put(const char *name, const char *format, ...) {
+    char text[4200];
+    va_list rest;
+    va_start(rest, format);
+    vsnprintf(text, sizeof text, format, rest);
+    va_end(rest);
+    setenv(name, text, 1);
+}
+
+static void put_environment(void) {
+    bool is_valid = (db.value.flags & MG_VALID) != 0;
+    char value[2 * MG_VALUE_LENGTH + 1];
+    for (int i = 0; i < MG_VALUE_LENGTH; i++)
+        snprintf(value + 2 * i, 3, "%02x", db.value.bytes[i]);
+    put("MG_LOCK_FOLDER", "%s", asked.folder);
+    put("MG_LOCK_HOST", "%u", asked.host);
+    put("MG_LOCK_NAME", "%s", asked.name);
+    put("MG_LOCK_MODE", "%s", MODES[asked.mode]);
+    put("MG_LOCK_NUMBER", "%u", (unsigned)db.lock);
+    put("MG_LOCK_SLOT", "%d", (int)db.slot);
+    put("MG_LOCK_CLUSTER", "%llu", (unsigned long long)db.cluster);
+    put("MG_LOCK_VALUE", "%s", value);
+    put("MG_LOCK_VALID", "%d", is_valid);
+    if (asked.prints) {
+        printf("%s%s\n", value, is_valid ? "" : " invalid");
+        fflush(stdout);
+    }
+}
+
+/* In the child. The sign gets a number above those that scripts use. */
+static void become_command(int sign, const sigset_t *before) {
+    if (!asked.closes && sign >= 0 && fcntl(sign, F_DUPFD, LOWEST_SIGN) < 0)
+        fcntl(sign, F_SETFD, 0);
+    sigprocmask(SIG_SETMASK, before, NULL);
+    execvp(asked.command[0], asked.command);
+    say("%s: %s", asked.command[0], strerror(errno));
+    _exit(errno == ENOENT ? NOT_FOUND : CANNOT_RUN);
+}
+
+/* Waits for the command, or without one for a signal. Hands signals on, and ends the command once the lock was taken away. */
+static int attend(struct mg_session *session, pid_t child, bool *lost) {
+    const struct timespec pause = {asked.check, 0};
+    sigset_t awaited = ends;
+    sigaddset(&awaited, SIGCHLD);
+    for (;;) {
+        siginfo_t what;
+        int status, signal;
+        if (child > 0 && waitpid(child, &status, WNOHANG) == child)
+            return WIFEXITED(status) ? WEXITSTATUS(status) : 128 + WTERMSIG(status);
+        signal = asked.check > 0 && !*lost ? sigtimedwait(&awaited, &what, &pause) : sigwaitinfo(&awaited, &what);
+        if (signal < 0 && errno == EAGAIN && mg_check(session, db.lock) == MG_NO_SUCH_LOCK) {
+            *lost = true;
+            say("the lock on %s was taken away", asked.name);
+            if (child < 0)
+                return 0;
+            kill(child, SIGTERM);
+        } else if (signal > 0 && signal != SIGCHLD) {
+            if (child < 0)
+                return 0;
+            /* A terminal's signal reaches the command by itself. */
+            if (what.si_code == SI_USER || what.si_code == SI_QUEUE || what.si_code == SI_TKILL)
+                kill(child, signal);
+        }
+    }
+}
+
+static int run(struct mg_session *session, const sigset_t *before, bool *lost) {
+    pid_t child = -1;
+    put_environment();
+    if (asked.command[0]) {
+        child = fork();
+        if (child < 0) {
+            say("no process for the command: %s", strerror(errno));
+            return FAILED;
+        }
+        if (child == 0)
+            become_command(mg_sign_of(session, db.lock), before);
+    }
+    return attend(session, child, lost);
+}
+
+/* ---- what is asked ---- */
+
+static void usage(FILE *where) {
+    fputs("usage: mg-lock [OPTION]... FOLDER HOST NAME [--] [COMMAND [ARGUMENT]...]\n"
+          "       mg-lock --recover [--all] FOLDER HOST\n"
+          "Runs COMMAND while it holds a lock on NAME, through host HOST of the images in FOLDER.\n"
+          "Without a COMMAND it holds the lock until it is interrupted.\n"
+          "\n"
+          "  -x, --exclusive        EX, the mode if none is given\n"
+          "  -s, --shared           PR\n"
+          "  -m, --mode MODE        NL, CR, CW, PR, PW or EX\n"
+          "  -n, --nonblock         do not wait\n"
+          "  -w, --timeout SECONDS  wait no longer, as 2.5\n"
+          "  -E, --conflict-exit-code N  status where it was not granted (1)\n"
+          "  -v, --value            print the value of NAME first\n"
+          "  -o, --close            COMMAND does not keep the lock if mg-lock is killed\n"
+          "  -k, --check SECONDS    look so often whether the lock was taken away, and end COMMAND then\n"
+          "  -i, --interval MS      longest pause between looks (5)\n"
+          "  -r, --recover          release what processes that are gone have left, and no more\n"
+          "  -a, --all              with -r: all locks of this host; only when its machine has just started\n"
+          "      --verbose          say how long it waited\n"
+          "  -h, --help; -V, --version\n"
+          "\n"
+          "Exit status: that of COMMAND, 128 + N if signal N ended it; 1 (-E) not granted; 125 mg-lock failed, or the\n"
+          "lock was lost; 126, 127 COMMAND cannot be run, was not found.\n",
+          where);
+}
+
+static int refuse(const char *what, const char *given) {
+    say("%s%s%s", what, given ? ": " : "", given ? given : "");
+    return FAILED;
+}
+
+static bool number(const char *text, long least, long most, int *into) {
+    char *end;
+    long n;
+    errno = 0;
+    n = strtol(text, &end, 10);
+    *into = (int)n;
+    return errno == 0 && end != text && *end == '\0' && n >= least && n <= most;
+}
+
+static bool seconds(const char *text, int *into) {
+    char *end;
+    double n = strtod(text, &end);
+    if (end == text || *end != '\0' || !(n >= 0 && n <= 2e6))
+        return false;
+    *into = (int)(n * 1000);
+    return true;
+}
+
+static bool mode_of(const char *text, int *into) {
+    for (*into = MG_EX; *into >= 0; --*into)
+        if (strcmp(text, MODES[*into]) == 0)
+            return true;
+    return false;
+}
+
+static const struct option OPTIONS[] = {
+    {"exclusive", 0, NULL, 'x'}, {"shared", 0, NULL, 's'},   {"mode", 1, NULL, 'm'},    {"nonblock", 0, NULL, 'n'}, {"nb", 0, NULL, 'n'},
+    {"timeout", 1, NULL, 'w'},   {"wait", 1, NULL, 'w'},     {"conflict-exit-code", 1, NULL, 'E'},
+    {"value", 0, NULL, 'v'},     {"close", 0, NULL, 'o'},    {"check", 1, NULL, 'k'},   {"interval", 1, NULL, 'i'},
+    {"recover", 0, NULL, 'r'},   {"all", 0, NULL, 'a'},      {"verbose", 0, NULL, 'l'}, {"help", 0, NULL, 'h'},
+    {"version", 0, NULL, 'V'},   {NULL, 0, NULL, 0}};
+
+/* 0, or the status to end with; below 0: end well. */
+static int read_options(int argc, char **argv) {
+    int option;
+    while ((option = getopt_long(argc, argv, "+xsm:nw:E:vok:i:rahV", OPTIONS, NULL)) != -1) {
+        switch (option) {
+        case 'x': asked.mode = MG_EX; break;
+        case 's': asked.mode = MG_PR; break;
+        case 'm':
+            if (!mode_of(optarg, &asked.mode))
+                return refuse("no mode", optarg);
+            break;
+        case 'n': asked.timeout = 0; break;
+        case 'w':
+            if (!seconds(optarg, &asked.timeout))
+                return refuse("no number of seconds", optarg);
+            break;
+        case 'E':
+            if (!number(optarg, 0, 255, &asked.conflict))
+                return refuse("no exit status", optarg);
+            break;
+        case 'v': asked.prints = true; break;
+        case 'o': asked.closes = true; break;
+        case 'k':
+            if (!number(optarg, 1, 86400, &asked.check))
+                return refuse("no number of seconds", optarg);
+            break;
+        case 'i':
+            if (!number(optarg, 1, 60000, &asked.interval))
+                return refuse("no number of milliseconds", optarg);
+            break;
+        case 'r': asked.recovers = true; break;
+        case 'a': asked.all = true; break;
+        case 'l': asked.verbose = true; break;
+        case 'h': usage(stdout); return -1;
+        case 'V': printf("mg-lock of midgegalena %s\n", mg_version()); return -1;
+        default: usage(stderr); return FAILED;
+        }
+    }
+    return 0;
+}
+
+static int read_arguments(int argc, char **argv) {
+    int host, status = read_options(argc, argv);
+    if (status != 0)
+        return status;
+    argc -= optind;
+    argv += optind;
+    if (argc < (asked.recovers ? 2 : 3) || (asked.recovers && argc > 2) || (asked.all && !asked.recovers)) {
+        usage(stderr);
+        return FAILED;
+    }
+    asked.folder = argv[0];
+    if (!number(argv[1], 0, MG_HOSTS - 1, &host))
+        return refuse("no host", argv[1]);
+    asked.host = (unsigned)host;
+    if (asked.recovers)
+        return 0;
+    asked.name = argv[2];
+    asked.command = argv + 3;
+    if (asked.command[0] && strcmp(asked.command[0], "--") == 0)
+        asked.command++;
+    return 0;
+}
+
+static int recover(struct mg_session *session) {
+    unsigned released;
+    int status = mg_recover(session, asked.all ? MG_ALL : 0, &released);
+    if (status != MG_OK)
+        return refuse(told(status), NULL);
+    printf("released %u\n", released);
+    return 0;
+}
+
+/* The status where the lock was not granted. */
+static int decline(int status) {
+    if (ended)
+        return end_by(ended);
+    if (status == MG_BAD_ARGUMENT)
+        return refuse("a name has 1 to 15 bytes from 0x21 to 0x7E", asked.name);
+    if (status == MG_NO_SUCH_LOCK)
+        return refuse("the lock was taken away while it waited", asked.name);
+    if (status != MG_TIMED_OUT)
+        return refuse(told(status), NULL);
+    if (asked.verbose)
+        say("%s was not granted in %.3f s", asked.name, seconds_since_begin());
+    return asked.conflict;
+}
+
+static void warn_of_end(struct mg_session *session) {
+    struct mg_host *host;
+    struct mg_host_view facts;
+    if (mg_host_of(session, &host) == MG_OK && mg_host_facts(host, &facts) == MG_OK && db.slots_left < facts.slots / FEW_OF_SLOTS)
+        say("%u of %u slots of the log of %s are left, and a run takes two", (unsigned)db.slots_left, (unsigned)facts.slots, asked.folder);
+}
+
+static int take_and_run(struct mg_session *session, const sigset_t *before) {
+    bool lost = false;
+    int result, status = mg_take(session, asked.name, asked.mode, asked.timeout, &db);
+    /* Not so long as to run what is not wanted any more. */
+    if (status == MG_OK && has_ended()) {
+        (void)mg_give(session, db.lock, NULL);
+        status = MG_STOPPED;
+    }
+    if (status != MG_OK)
+        return decline(status);
+    if (db.released > 0)
+        say("released %u locks whose processes are gone", (unsigned)db.released);
+    if (asked.verbose)
+        say("%s was granted after %.3f s", asked.name, seconds_since_begin());
+    warn_of_end(session);
+    result = run(session, before, &lost);
+    status = mg_give(session, db.lock, NULL);
+    if (status == MG_NO_SUCH_LOCK && !lost)
+        say("the lock on %s was taken away while the command ran", asked.name);
+    else if (status != MG_OK && status != MG_NO_SUCH_LOCK)
+        say("the lock on %s stays in the table: %s; the next mg-lock under host %u releases it", asked.name, told(status), asked.host);
+    return result == 0 && (lost || status != MG_OK) ? FAILED : result;
+}
+
+int main(int argc, char **argv) {
+    struct mg_session *session;
+    sigset_t before;
+    int status = read_arguments(argc, argv);
+    if (status != 0)
+        return status < 0 ? 0 : status;
+    begun = milliseconds();
+    block_signals(&before);
+    status = mg_begin(asked.folder, asked.host, MG_SHARE, &session, NULL);
+    if (status != MG_OK)
+        return refuse(told(status), NULL);
+    (void)mg_set_interval(session, asked.interval);
+    (void)mg_set_rest(session, rest, NULL);
+    status = asked.recovers ? recover(session) : take_and_run(session, &before);
+    mg_end(session);
+    return status;
+}

@@ -1,0 +1,461 @@
+#!/usr/bin/env python3
+"""Tries mg-lock: statuses, waits, signals, processes that are killed, several at once.
+
+    mg_lock.py MG_LOCK DLM WORK [ROUNDS [LIBRARY]]
+
+MG_LOCK and DLM are the programs, WORK an empty folder. ROUNDS: turns of each of eight processes that count, 4 if left out. With LIBRARY,
+libmidgegalena.so, half of those that count are in Python. Prints what was wrong, and how many checks there were."""
+import os
+import random
+import shlex
+import shutil
+import signal
+import subprocess
+import sys
+import time
+
+mg_lock, dlm, work = map(os.path.abspath, sys.argv[1:4])
+rounds = int(sys.argv[4]) if len(sys.argv) > 4 else 4
+library = os.path.abspath(sys.argv[5]) if len(sys.argv) > 5 else None
+images = os.path.join(work, "images")
+current = os.path.join(work, "current")
+examples = os.path.join(os.path.dirname(os.path.abspath(__file__)), "..", "examples", "python")
+checks = failed = 0
+# Where this runs in the background SIGINT may be ignored, and what is ignored stays so.
+signal.signal(signal.SIGINT, signal.default_int_handler)
+
+
+def expect(well, what):
+    global checks, failed
+    checks += 1
+    if not well:
+        failed += 1
+        print("failed:", what, flush=True)
+
+
+def folder(slots=512, disks=3):
+    shutil.rmtree(images, ignore_errors=True)
+    os.mkdir(images)
+    subprocess.run([dlm, "format", images, str(disks), str(slots), "7"], check=True, stdout=subprocess.DEVNULL)
+
+
+def run(*words, **more):
+    return subprocess.run([mg_lock, *map(str, words)], capture_output=True, text=True, timeout=30, **more)
+
+
+def begin(*words, stderr=subprocess.DEVNULL):
+    return subprocess.Popen([mg_lock, *map(str, words)], start_new_session=True, stderr=stderr)
+
+
+def table(host=15):
+    return subprocess.run([dlm, "table", images, str(host)], capture_output=True, text=True).stdout
+
+
+def commands():
+    return int(table().split()[1])
+
+
+def signs():
+    return [name for name in os.listdir(images) if name.startswith("mg-lock.")]
+
+
+def until(what, seconds=20):
+    """Whether it came true in time."""
+    end = time.monotonic() + seconds
+    while time.monotonic() < end:
+        if what():
+            return True
+        time.sleep(0.01)
+    return False
+
+
+def left_nothing(what):
+    expect("granted" not in table() and "waiting" not in table(), f"{what}: no lock is left:\n{table()}")
+    expect(signs() == [], f"{what}: no sign is left: {signs()}")
+
+
+def holder(host=0, name="db", *options, of=images):
+    """A process that holds a lock until it is told to end; returns once it holds it."""
+    at = os.path.join(work, "held")
+    if os.path.exists(at):
+        os.unlink(at)
+    process = begin(*options, of, host, name, "--", "sh", "-c", f"echo > {at}; exec sleep 1000")
+    expect(until(lambda: os.path.exists(at)), "the holder holds")
+    return process
+
+
+def end(process, how=signal.SIGTERM):
+    process.send_signal(how)
+    return process.wait(30)
+
+
+def statuses():
+    folder()
+    expect(run(images, 0, "db", "--", "true").returncode == 0, "true")
+    expect(run(images, 0, "db", "sh", "-c", "exit 7").returncode == 7, "exit 7")
+    expect(run(images, 0, "db", "--", "sh", "-c", "kill -9 $$").returncode == 137, "killed command")
+    expect(run(images, 0, "db", "--", "no-such-command").returncode == 127, "not found")
+    expect(run(images, 0, "db", "--", images).returncode == 126, "cannot be run")
+    for words in ([], [images], [images, 0], [images, 16, "db", "true"], [images, 0, "", "true"], [images, 0, "sixteen-letters-", "true"],
+                  ["-m", "XX", images, 0, "db", "true"], ["-w", "x", images, 0, "db", "true"], ["--unknown", images, 0, "db", "true"],
+                  ["--all", images, 0, "db", "true"], ["--recover", images, 0, "db"], [work, 0, "db", "true"]):
+        expect(run(*words).returncode == 125, f"usage {words}")
+    expect(run("--help").returncode == 0 and run("--version").returncode == 0, "help and version")
+    left_nothing("statuses")
+
+
+def pages():
+    """The commands of the pages, over this folder, with programs that are there."""
+    folder()
+    docs = os.path.join(os.path.dirname(os.path.abspath(__file__)), "..", "..", "docs")
+    stands_for = {"images": images, "/var/lib/dlm/images": images, "./backup": "true", "/usr/local/bin/backup": "true", "/shared/config": __file__}
+    tried = 0
+    for page in ("LIBRARY.md", "OPERATIONS.md"):
+        with open(os.path.join(docs, page), encoding="utf-8") as file:
+            for line in file:
+                if line.startswith("mg-lock "):
+                    said = run(*(stands_for.get(word, word) for word in shlex.split(line, comments=True)[1:]))
+                    expect(said.returncode == 0, f"{page}: {line}: {said}")
+                    tried += 1
+    expect(tried >= 5, f"the pages have {tried} commands")
+    left_nothing("pages")
+
+
+def environment():
+    folder()
+    said = run("-v", images, 3, "db", "--", "sh", "-c", "set | grep ^MG_LOCK_ | sort").stdout.split("\n")
+    expect(said[0] == "0" * 32, f"-v: {said[0]}")
+    for word in ("MG_LOCK_CLUSTER='7'", "MG_LOCK_HOST='3'", "MG_LOCK_MODE='EX'", "MG_LOCK_NAME='db'", "MG_LOCK_SLOT='0'", "MG_LOCK_VALID='1'",
+                 "MG_LOCK_VALUE='" + "0" * 32 + "'", "MG_LOCK_NUMBER='13539'", f"MG_LOCK_FOLDER='{images}'"):
+        expect(word in said, f"environment: {word} of {said}")
+    # a value that another program left, and that a purge made invalid
+    for host, line in ((1, "enqueue 1 1 1 NL db"), (1, "enqueue 1 2 2 EX db"), (1, "release 1 3 2 value 000102030405060708090a0b0c0d0e0f"), (2, "enqueue 2 1 3 EX db")):
+        subprocess.run([dlm, "submit", images, str(host), *line.split()], check=True, stdout=subprocess.DEVNULL)
+    subprocess.run([dlm, "submit", images, "1", "purge", "1", "4", "2"], check=True, stdout=subprocess.DEVNULL)
+    expect(run("-v", images, 0, "db", "--", "true").stdout == "000102030405060708090a0b0c0d0e0f invalid\n", "-v of an invalid value")
+
+
+def waits():
+    folder()
+    first = holder()
+    before = commands()
+    expect(run("-n", images, 1, "db", "--", "true").returncode == 1, "-n")
+    expect(run("-n", "-E", 75, images, 0, "db", "--", "true").returncode == 75, "-n -E")
+    expect(run("-w", 0, images, 1, "db", "--", "true").returncode == 1, "-w 0")
+    expect(commands() == before, "-n of a lock that is taken takes no slot")
+    begun = time.monotonic()
+    expect(run("-w", 0.4, images, 1, "db", "--", "true").returncode == 1, "-w")
+    expect(0.4 <= time.monotonic() - begun < 2, f"-w 0.4 took {time.monotonic() - begun:.2f} s")
+    expect(run("-n", images, 1, "other", "--", "true").returncode == 0, "another name")
+    waiting = [begin(images, host, "db", "--", "true") for host in (0, 0, 1, 2)]
+    expect(until(lambda: table().count("waiting") == 4), "four wait, two of them under the holder's number")
+    expect(end(first) == 143, "the command's end by a signal is told")
+    for process in waiting:
+        expect(process.wait(30) == 0, "each gets it")
+    left_nothing("waits")
+
+
+def modes():
+    folder()
+    first, second = holder(0, "db", "-s"), holder(0, "db", "-s")
+    expect(table().count("granted") == 2, "two share")
+    expect(run("-n", images, 1, "db", "--", "true").returncode == 1, "EX beside PR")
+    expect(run("-n", "-s", images, 1, "db", "--", "true").returncode == 0, "PR beside PR")
+    expect(run("-n", "-m", "CR", images, 1, "db", "--", "true").returncode == 0, "CR beside PR")
+    expect(run("-n", "-m", "CW", images, 1, "db", "--", "true").returncode == 1, "CW beside PR")
+    end(first), end(second)
+    left_nothing("modes")
+
+
+def signals():
+    folder()
+    first = holder()
+    for how in (signal.SIGTERM, signal.SIGINT, signal.SIGHUP):
+        process = begin(images, 1, "db", "--", "touch", os.path.join(work, "ran"))
+        expect(until(lambda: "waiting" in table()), "it waits")
+        expect(end(process, how) == -how, f"{how.name} ends the wait")
+        expect("waiting" not in table(), f"{how.name}: nothing waits")
+    expect(not os.path.exists(os.path.join(work, "ran")), "the command did not run")
+    end(first)
+    trapped = os.path.join(work, "trapped")
+    process = begin(images, 0, "db", "--", "sh", "-c", f"trap 'sleep 0.3; echo > {trapped}; exit 3' TERM; echo > {work}/held; while :; do sleep 0.05; done")
+    os.unlink(os.path.join(work, "held"))
+    until(lambda: os.path.exists(os.path.join(work, "held")))
+    expect(end(process) == 3 and os.path.exists(trapped), "SIGTERM is handed on, and the command may take its time")
+    process = begin(images, 0, "db")
+    expect(until(lambda: "granted" in table()), "without a command it holds")
+    expect(end(process, signal.SIGINT) == 0, "and ends well by a signal")
+    left_nothing("signals")
+
+
+def killed():
+    folder()
+    # mg-lock alone is killed: its command keeps the lock
+    first = holder()
+    first.kill()
+    first.wait()
+    expect(run("-n", images, 0, "db", "--", "true").returncode == 1, "the command of a killed mg-lock keeps the lock")
+    os.killpg(first.pid, signal.SIGKILL)
+    gone = []
+    expect(until(lambda: gone.append(run("-n", images, 0, "db", "--", "true")) or gone[-1].returncode == 0), "a lock left over is released")
+    expect(gone[-1].stderr == "mg-lock: released 1 locks whose processes are gone\n", f"and that is said: {gone[-1]}")
+    # a waiting process of the same host releases what is left over
+    first = holder()
+    waiting = begin(images, 0, "db", "--", "true")
+    until(lambda: "waiting" in table())
+    os.killpg(first.pid, signal.SIGKILL)
+    first.wait()
+    begun = time.monotonic()
+    expect(waiting.wait(10) == 0, "a waiting process of the same host gets it")
+    expect(time.monotonic() - begun < 2, f"soon: {time.monotonic() - begun:.2f} s")
+    # one of another host waits until somebody recovers
+    first = holder()
+    waiting = begin(images, 1, "db", "--", "true")
+    until(lambda: "waiting" in table())
+    os.killpg(first.pid, signal.SIGKILL)
+    first.wait()
+    time.sleep(0.5)
+    expect(waiting.poll() is None, "a process of another host goes on waiting")
+    recovered = run("--recover", images, 0)
+    expect(recovered.returncode == 0 and recovered.stdout == "released 1\n", f"--recover: {recovered}")
+    expect(waiting.wait(10) == 0, "and gets it then")
+    # killed while it waits
+    first = holder()
+    waiting = begin(images, 0, "db", "--", "true")
+    until(lambda: "waiting" in table())
+    waiting.kill()
+    waiting.wait()
+    expect(run("--recover", images, 0).stdout == "released 1\n", "a waiting lock that is left over")
+    end(first)
+    # locks of others are left alone
+    subprocess.run([dlm, "submit", images, "0", "enqueue", "240", "1000", "1", "EX", "db"], check=True, stdout=subprocess.DEVNULL)
+    subprocess.run([dlm, "submit", images, "0", "enqueue", "5", "1", "2", "EX", "other"], check=True, stdout=subprocess.DEVNULL)
+    expect(run("--recover", images, 0).stdout == "released 0\n", "others' locks")
+    expect(table().count("granted") == 2, "stay")
+
+
+def taken_away():
+    folder()
+    first = holder(0, "db", "-k", "1")
+    subprocess.run([dlm, "submit", images, "1", "purge", "1", "1", "0"], check=True, stdout=subprocess.DEVNULL)
+    begun = time.monotonic()
+    status = first.wait(30)
+    expect(status == 143 and time.monotonic() - begun < 5, f"-k: the command is ended: {status}")
+    process = begin(images, 0, "db", "--", "sh", "-c", "sleep 1", stderr=subprocess.PIPE)
+    until(lambda: "granted" in table())
+    subprocess.run([dlm, "submit", images, "1", "purge", "1", "2", "0"], check=True, stdout=subprocess.DEVNULL)
+    expect(process.wait(30) == 125 and b"taken away" in process.stderr.read(), "a lock that was lost is told at the end")
+    first = holder(0)
+    waiting = begin(images, 1, "db", "--", "true")
+    until(lambda: "waiting" in table())
+    subprocess.run([dlm, "submit", images, "2", "purge", "1", "3", "1"], check=True, stdout=subprocess.DEVNULL)
+    expect(waiting.wait(30) == 125, "taken away while it waits")
+    end(first)
+    left_nothing("taken away")
+
+
+def ends_of_logs():
+    folder(slots=5)
+    expect(run(images, 0, "db", "--", "true").returncode == 0, "two commands")
+    first = holder()
+    expect(run("-n", images, 1, "db", "--", "true").returncode == 1, "no slot")
+    expect(end(first) == 143, "four")
+    expect(run(images, 0, "db", "--", "true").returncode == 125, "the fifth is granted, and cannot be released")
+    said = run(images, 0, "other", "--", "true")
+    expect(said.returncode == 125 and "9 LogFull" in said.stderr, f"full: {said}")
+
+
+def renew(number, slots):
+    """Fills the log that `current` leads to, carries its table over, and moves the link."""
+    new = os.path.join(work, f"set{number}")
+    os.mkdir(new)
+    for words in (["fill", current, "15"], ["renew", current, "15", new, "3", str(slots), str(number)]):
+        said = subprocess.run([dlm, *words], capture_output=True, text=True)
+        expect(said.returncode == 0, f"{words}: {said}")
+    time.sleep(0.3)
+    os.symlink(new, os.path.join(work, "next"))
+    os.rename(os.path.join(work, "next"), current)
+
+
+def table_of_current():
+    return subprocess.run([dlm, "table", current, "14"], capture_output=True, text=True).stdout
+
+
+def renewed():
+    """Across renewals: one that holds lets go in the new folder, those that wait get it there, and one that gives up leaves nothing."""
+    os.mkdir(os.path.join(work, "set7"))
+    subprocess.run([dlm, "format", os.path.join(work, "set7"), "3", "40", "7"], check=True, stdout=subprocess.DEVNULL)
+    os.symlink("set7", current)
+    first = holder(0, "db", of=current)
+    tokens = os.path.join(work, "tokens")
+    command = ["sh", "-c", f"echo $MG_LOCK_CLUSTER $MG_LOCK_SLOT >> {tokens}"]
+    waiting = []
+    for host in (0, 1):
+        waiting.append(begin(current, host, "db", "--", *command))
+        expect(until(lambda: table_of_current().count("waiting") == host + 1), "it waits")
+    gives_up = begin("-w", 1.5, current, 2, "db", "--", "true")
+    expect(until(lambda: table_of_current().count("waiting") == 3), "the third waits")
+    renew(8, 64)
+    expect(gives_up.wait(30) == 1, "one gives up in the midst of it")
+    waiting.append(begin(current, 2, "db", "--", *command))
+    expect(until(lambda: table_of_current().count("waiting") == 3), "it waits in the new folder")
+    expect(end(first) == 143, "one that held lets go there")
+    for process in waiting:
+        expect(process.wait(30) == 0, "each gets it there")
+    with open(tokens) as file:
+        order = [tuple(map(int, line.split())) for line in file]
+    expect(order == sorted(order) and [it[0] for it in order] == [7, 7, 8], f"tokens grow, cluster first: {order}")
+    expect("granted" not in table_of_current() and "waiting" not in table_of_current(), f"no lock is left:\n{table_of_current()}")
+    # Processes that count, while the log is renewed twice.
+    counter = os.path.join(work, "renewed")
+    with open(counter, "w") as file:
+        file.write("0")
+    count = f"n=$(cat {counter}); echo $((n + 1)) > {counter}.new; mv {counter}.new {counter}"
+    loop = 'n=0; while [ $n -lt 6 ]; do if "$@" 2> /dev/null; then n=$((n + 1)); else [ $? -eq 125 ] || exit 1; sleep 0.05; fi; done'
+    counting = [subprocess.Popen(["sh", "-c", loop, "sh", mg_lock, current, str(host % 2), "counter", "--", "sh", "-c", count]) for host in range(4)]
+    for number in (9, 10):
+        time.sleep(0.3)
+        renew(number, 64)
+    for process in counting:
+        expect(process.wait(60) == 0, "each counts to its end")
+    with open(counter) as file:
+        expect(file.read() == "24\n", "counted across renewals")
+    # A session that has its number to itself.
+    if library:
+        process = subprocess.Popen([sys.executable, "-c", ACROSS.format(examples=examples, folder=current, library=library)],
+                                   stdin=subprocess.PIPE, stdout=subprocess.PIPE, text=True)
+        expect(process.stdout.readline() == "10\n", "a session holds")
+        renew(11, 64)
+        expect(process.communicate("\n", timeout=60)[0] == "11\n" and process.returncode == 0, "and goes on in the new folder")
+    expect("granted" not in table_of_current() and "waiting" not in table_of_current(), f"no lock is left:\n{table_of_current()}")
+
+
+def lost_disks():
+    folder()
+    first = holder()
+    os.rename(images + "/disk0.img", work + "/lost0")
+    expect(run("-n", images, 1, "db", "--", "true").returncode == 1, "one of three is lost")
+    expect(end(first) == 143, "and it is given back")
+    os.rename(images + "/disk1.img", work + "/lost1")
+    said = run(images, 0, "db", "--", "true")
+    expect(said.returncode == 125 and "7 NoMajority" in said.stderr, f"two of three: {said}")
+    os.rename(work + "/lost1", images + "/disk1.img")
+    os.rename(work + "/lost0", images + "/disk0.img")
+    expect(run(images, 0, "db", "--", "true").returncode == 0, "back")
+    left_nothing("lost disks")
+
+
+def unmarked():
+    """A command that nobody marked is passed by those that wait."""
+    folder()
+    first = holder()
+    waiting = begin(images, 1, "db", "--", "true")
+    until(lambda: "waiting" in table())
+    # dlm is killed once it has printed its line, and before it has marked, as far as that can be hit
+    for i in range(5):
+        process = subprocess.Popen([dlm, "submit", images, "2", "enqueue", "9", str(i + 1), str(100 + i), "NL", "x"], stdout=subprocess.PIPE)
+        process.stdout.readline()
+        process.kill()
+        process.wait()
+    end(first)
+    expect(waiting.wait(30) == 0, "it gets past slots without a mark")
+
+
+COUNT = """
+import os, sys
+at = sys.argv[1]
+with open(at) as file: counted = int(file.read())
+with open(at + ".new", "w") as file: file.write(str(counted + 1))
+os.rename(at + ".new", at)
+"""
+IN_PYTHON = """
+import os, subprocess, sys
+sys.path.insert(0, {examples!r}); sys.dont_write_bytecode = True
+from midgegalena import Session
+session = Session({images!r}, int(sys.argv[1]), share=True, library={library!r})
+for i in range({rounds}):
+    with session.lock("counter") as held:
+        os.environ["MG_LOCK_SLOT"] = str(held.slot)
+        subprocess.run({command!r}, check=True)
+"""
+
+
+ACROSS = """
+import sys
+sys.path.insert(0, {examples!r}); sys.dont_write_bytecode = True
+from midgegalena import Session
+session = Session({folder!r}, 3, library={library!r})
+with session.lock("mine") as held:
+    print(held.cluster, flush=True)
+    sys.stdin.readline()
+with session.lock("mine", timeout=5) as held:
+    print(held.cluster)
+"""
+
+
+def counted(hosts, kills=0):
+    """Eight processes count, under so many host numbers. So many of them are killed meanwhile."""
+    folder(slots=4096)
+    counter, guard, slots, overlaps = (os.path.join(work, name) for name in ("counter", "guard", "slots", "overlaps"))
+    for path, text in ((counter, "0"), (guard, ""), (slots, ""), (overlaps, "")):
+        with open(path, "w") as file:
+            file.write(text)
+    script = os.path.join(work, "count.py")
+    with open(script, "w") as file:
+        file.write(COUNT)
+    # the guard is held while the command lives, so two at once are seen
+    command = ["sh", "-c", f"flock -n -E 99 {guard} {sys.executable} -S -E {script} {counter}; [ $? -ne 99 ] || echo overlap >> {overlaps}; echo $MG_LOCK_SLOT >> {slots}"]
+    python = IN_PYTHON.format(examples=examples, images=images, library=library, rounds=rounds, command=command)
+    processes = []
+    done = 0
+    for i in range(8):
+        host = str(i % hosts)
+        if library and i % 2 == 1 and not kills:
+            processes.append(subprocess.Popen([sys.executable, "-c", python, host]))
+            done += rounds
+        elif not kills:
+            loop = f'for i in $(seq {rounds}); do "$@" || exit 1; done'
+            processes.append(subprocess.Popen(["sh", "-c", loop, "sh", mg_lock, images, host, "counter", "--", *command]))
+            done += rounds
+    for process in processes:
+        expect(process.wait(600) == 0, f"{hosts} hosts: each process ends well")
+    if kills:
+        living, begun = {}, 0
+        while begun < 8 * rounds or living:
+            while begun < 8 * rounds and len(living) < 8:
+                living[begin(images, str(begun % hosts), "counter", "--", *command)] = time.monotonic()
+                begun += 1
+            if kills and random.random() < 0.3:
+                kills -= 1
+                victim = random.choice(list(living))
+                # half of them with the command, half without
+                os.killpg(victim.pid, signal.SIGKILL) if random.random() < 0.5 else victim.kill()
+            time.sleep(random.uniform(0, 0.05))
+            for process in [p for p in living if p.poll() is not None]:
+                done += process.returncode == 0
+                expect(process.returncode in (0, -9), f"ended by {process.returncode}")
+                del living[process]
+            # whoever waits for a lock of another host needs that host to recover
+            for host in range(hosts):
+                run("--recover", images, host)
+        for host in range(hosts):
+            until(lambda: run("--recover", images, host).stdout == "released 0\n")
+            # Signs of commands that never came into the log.
+            run("--recover", "--all", images, host)
+    with open(counter) as file:
+        total = int(file.read())
+    with open(overlaps) as file:
+        expect(file.read() == "", f"{hosts} hosts: never two at once")
+    expect(total == done or done < 8 * rounds and total > done, f"{hosts} hosts: counted {total}, done {done}")
+    with open(slots) as file:
+        order = [int(line) for line in file.read().split()]
+    expect(order == sorted(set(order)), f"{hosts} hosts: slots grow from holder to holder")
+    left_nothing(f"{hosts} hosts that count")
+    print(f"{hosts} hosts: counted {total}, {done} ended well, {commands()} commands", flush=True)
+
+
+for test in (statuses, pages, environment, waits, modes, signals, killed, taken_away, ends_of_logs, renewed, lost_disks, unmarked,
+             lambda: counted(1), lambda: counted(8), lambda: counted(2, kills=4 * rounds)):
+    test()
+print(f"mg_lock: {checks} checks, {failed} failed")
+sys.exit(failed > 0)
