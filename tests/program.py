@@ -263,12 +263,15 @@ def words_that_are_no_task():
     for text in ("format d 3 16", "format d 0 16 7", "format d 8 16 7", "format d 3 4097 7", "format d 3 16 18446744073709551616",
                  "format d 03 16 7", "table d 16", "table d 0 0", "mark d 16", "check", "check d 0", "submit d 16 release 1 1 1"):
         usage(text)
+    for text in ("renew d 1 e 3 16", "renew d 1 e 3 16 8 256", "renew d 1 e 3 16 8 1 x", "renew d 1 e 3 16 8 01", "renew d 1 e 3 16 8 -1"):
+        usage(text)
     for text in ("submit no/such 0", "submit no/such 0 release 1 1", "submit no/such 0 release 1 1 1 "):
         usage(text, "dlm: bad command\n")
     ended = run(["submit", "no/such", "0", "release", "1", "1 1"], stdout=subprocess.PIPE)
     wants("a word with a space", (ended.returncode, ended.stdout, ended.stderr), (2, "", "dlm: bad command\n"))
     refused("submit no/such 0 release 1 1 1", "dlm: 26 Unreadable disk0\n")
     refused("run no/such/script", "dlm: 26 Unreadable\n")
+    refused("renew no/such 1 e 3 16 8 0 255 0", "dlm: 26 Unreadable disk0\n")
 
 
 def restore():

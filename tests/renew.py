@@ -2,7 +2,7 @@
 """renew.py [--program PATH] [--kills N] [--long N]: renews folders with `dlm fill` and `dlm renew`. Random commands are submitted until a log of 16 slots is
 all but full, and `dlm fill` takes the slots that are left. Then the table is carried over onto another number of disks, and `dlm table` of both
 folders has to print the same. Each client's last request, made again in the new folder, gets the reply that it got before. So it is ten times in a
-row. What is refused is refused in the order that docs/REFUSALS.md has. Then it kills as many renewals (none given: none) at random moments
+row. Clients are left out, and begin anew. What is refused is refused in the order that docs/REFUSALS.md has. Then it kills as many renewals (none given: none) at random moments
 (`kill -9`): of three one at any, one once a new image is there, one once a gate is open. After each it looks that no state of the new folder reads as
 another table, and that the next run with the same words ends it or is refused, while one with other words is refused.
 
@@ -216,7 +216,7 @@ HELD = "db\n  granted 1 1 0 EX\n"
 
 @test
 def refusals():
-    for words in ("renew", "renew d 1 e 3 16", "renew d 16 e 3 16 8", "renew d 1 e 0 16 8", "renew d 1 e 3 4097 8", "renew d 1 e 3 16 x", "renew d 1 e 3 16 8 4", "fill d", "fill d 16", "fill d 1 2"):
+    for words in ("renew", "renew d 1 e 3 16", "renew d 16 e 3 16 8", "renew d 1 e 0 16 8", "renew d 1 e 3 4097 8", "renew d 1 e 3 16 x", "renew d 1 e 3 16 8 256", "renew d 1 e 3 16 8 4 x", "fill d", "fill d 16", "fill d 1 2"):
         usage(words)
     refused("renew d 1 e 3 16 8", "dlm: 26 Unreadable disk0\n")
     refused("fill d 1", "dlm: 26 Unreadable disk0\n")
@@ -267,6 +267,74 @@ def refusals():
         put_byte(f"e/disk{disk}.img", 0, 0)
     refused("table e 1", "dlm: 24 NotFormatted disk0\n")
     refused("renew d 1 e 3 16 8", "dlm: 29 AlreadyThere\n")
+
+
+# CLIENTS THAT ARE LEFT OUT
+
+STALE, CLIENTS_FULL = "18 Stale", "19 ClientsFull"
+
+
+@test
+def clients_are_left_out():
+    make("d", 1, 16, 7)
+    prints("submit d 0 enqueue 1 5 1 EX db", "ack 0 Granted\n")
+    prints("submit d 0 status 2 5 9", "ack 1 12 NoSuchLock\n")
+    prints("submit d 0 status 3 7 9", "ack 2 12 NoSuchLock\n")
+    fill("d", 13)
+    _, shown = table("d")
+    # Client 2 is known and has no lock, and is named twice. Client 200 is not known.
+    os.mkdir("e")
+    prints("renew d 1 e 3 16 8 2 200 2", "renewed 3 commands, 3 disks, 16 slots\n")
+    wants("the table", table("e"), (3, shown))
+    wants("what names the successor", bytes_of("d/renewed"), b"e 3 16 8\n")
+    # What was left out counts from 1 again. The others go on.
+    prints("submit e 0 status 2 1 9", "ack 3 12 NoSuchLock\n")
+    prints("submit e 0 status 3 6 9", f"ack 4 {STALE}\n")
+    prints("submit e 0 status 3 7 1", "ack 5 12 NoSuchLock\n")
+    prints("submit e 0 status 1 4 1", f"ack 6 {STALE}\n")
+    prints("submit e 0 release 1 6 1", "ack 7 Released\n")
+
+
+@test
+def clients_with_locks_are_not_left_out():
+    make("d", 1, 8, 7)
+    prints("submit d 0 enqueue 1 1 1 EX db", "ack 0 Granted\n")
+    prints("submit d 0 enqueue 2 1 2 EX db", "ack 1 Queued\n")
+    prints("submit d 0 status 3 1 9", "ack 2 12 NoSuchLock\n")
+    os.mkdir("e")
+    refused("renew d 1 e 1 8 8 1", "dlm: 38 NotFull\n")
+    fill("d", 5)
+    refused("renew d 1 e 1 8 8 1", "dlm: 42 HasLocks client1\n")
+    # A client that waits has a lock, too. The first word that names one is told.
+    refused("renew d 1 e 1 8 8 3 2 1", "dlm: 42 HasLocks client2\n")
+    refused("renew d 1 e 1 1 8 3 2", "dlm: 42 HasLocks client2\n")
+    refused("renew d 1 e 1 4 8 3", "dlm: 33 TooFewSlots\n")
+    wants("what was made", (os.listdir("e"), os.path.exists("d/renewed")), ([], False))
+    # The slots of what is left out are free.
+    prints("renew d 1 e 1 5 8 3", "renewed 4 commands, 1 disks, 5 slots\n")
+
+
+@test
+def a_new_client_gets_in():
+    make("d", 1, 64, 7)
+    for client in range(32):
+        prints(f"submit d 0 status {client} 1 9", f"ack {client} 12 NoSuchLock\n")
+    prints("submit d 0 status 32 1 9", f"ack 32 {CLIENTS_FULL}\n")
+    fill("d", 31)
+    os.mkdir("e")
+    prints("renew d 1 e 1 64 8 " + " ".join(str(client) for client in range(0, 256, 2)), "renewed 16 commands, 1 disks, 64 slots\n")
+    prints("submit e 0 status 32 1 9", "ack 16 12 NoSuchLock\n")
+    prints("submit e 0 status 1 1 9", "ack 17 12 NoSuchLock\n")
+
+
+@test
+def a_run_that_ends_another_one_leaves_out_what_that_one_did():
+    full("d")
+    os.mkdir("e")
+    prints("renew d 1 e 2 8 8 9", "renewed 2 commands, 2 disks, 8 slots\n")
+    put_byte("e/disk1.img", 0, 0)
+    prints("renew d 1 e 2 8 8 1", "finished 2 disks\n")
+    prints("table e 1", "recovered 2\n" + HELD)
 
 
 @test

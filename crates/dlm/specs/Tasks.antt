@@ -18,5 +18,5 @@ HasPrinted (Mark folder host) before after = WritesMarks TRIES before after
 HasPrinted (Check folder) before after = ⊤
 HasPrinted (Migrate old new slots) before after = WritesMove slots before after
 HasPrinted (Fill folder host) before after = WritesFilling host before after
-HasPrinted (Renew old host new config cluster) before after = WritesRenewal host config cluster before after
+HasPrinted (Renew old host new config cluster leave) before after = WritesRenewal host config cluster leave.items before after
 HasPrinted (Race last) before after = WritesRace (last + 1) before after

@@ -33,7 +33,7 @@ where
     ensures usage { result ≡ 2 → Keeps (O.contents out.old) (O.contents out.new) }
 {
     match task_of(rt.alloc(), words) {
-        Ok(task) => finish(carry_out(rt, &task, out), err),
+        Ok(task) => finish(carry_out(rt, task, out), err),
         Err(fault) => decline(fault, err),
     }
 }
@@ -41,13 +41,13 @@ where
 fn carry_out<
     R: Files + Input + Clock + RandomSource + AllocGlobal + Threads + Wait + Sync,
     O: Write,
->(rt: &R, task: &Subcommand<'_>, out: &mut O) -> Result<(), CommandFailure>
+>(rt: &R, task: Subcommand<'_>, out: &mut O) -> Result<(), CommandFailure>
 where
     R::File: FileExt + OpenFile + TryLock + Drop,
-    requires { MayBeAsked task.now }
-    ensures { OnOk result (HasPrinted task.now (O.contents out.old) (O.contents out.new)) }
+    requires { MayBeAsked task }
+    ensures { OnOk result (HasPrinted task (O.contents out.old) (O.contents out.new)) }
 {
-    match *task {
+    match task {
         Subcommand::Run { script } => run_file(rt, script, out),
         Subcommand::Format {
             folder,
@@ -66,7 +66,8 @@ where
             new,
             config,
             cluster,
-        } => images::renew(rt, old, host, new, config, cluster, out),
+            leave,
+        } => images::renew(rt, old, host, new, config, cluster, &leave, out),
         Subcommand::Race { last } => racing::race_hosts(rt, last, out),
         Subcommand::Sweep { script } => sweep_file(rt, script, out),
     }

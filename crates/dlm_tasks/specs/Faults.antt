@@ -17,7 +17,7 @@ use Rattle.folder_migration.specs.declared.renew_fault.NewFault.TheVariants as n
 use Rattle.folder_migration.specs.declared.renew_fault.RenewFault.{RenewFault}
 use Rattle.folder_migration.specs.declared.renew_fault.RenewFault.TheVariants as renew
 use Rattle.dlm_tasks.specs.declared.fault.Fault.{Fault}
-use Rattle.dlm_tasks.specs.declared.fault.Fault.TheVariants.{Damaged, Operation, Image, NoMemory, BadLine, Unreadable, AlreadyThere, TooFewSlots, MigrationFailed, HostInUse, NoLock, NotFull, SameCluster, NoClient, RenewedElsewhere}
+use Rattle.dlm_tasks.specs.declared.fault.Fault.TheVariants.{Damaged, Operation, Image, NoMemory, BadLine, Unreadable, AlreadyThere, TooFewSlots, MigrationFailed, HostInUse, NoLock, NotFull, SameCluster, NoClient, RenewedElsewhere, HasLocks}
 
 -- an operation of a host was refused
 abbrev pub of_refusal : Refusal → Fault
@@ -73,6 +73,7 @@ of_renewal renew.SameCluster = SameCluster
 of_renewal (renew.Lock fault) = of_lock fault
 of_renewal (renew.Refused refusal) = of_refusal refusal
 of_renewal renew.NotFull = NotFull
+of_renewal (renew.HasLocks client) = HasLocks client
 of_renewal renew.TooFewSlots = TooFewSlots
 of_renewal (renew.New fault) = of_new fault
 of_renewal renew.RenewalFailed = MigrationFailed

@@ -162,10 +162,10 @@ renewed_text slots (renewal.Renewed commands disks) =
     codes "renewed " ++ decimal commands ++ codes " commands, " ++ decimal disks ++ codes " disks, " ++ decimal slots ++ (codes " slots" ++ 10 ∷ [])
 renewed_text slots (renewal.Finished disks) = codes "finished " ++ decimal disks ++ (codes " disks" ++ 10 ∷ [])
 
--- The table after a full log was carried over, and what that came to was written.
-pub record WritesRenewal (host : ℕ) (config : Shape) (cluster : ℕ) (before after : Option (List ℕ)) : Type 0 where
+-- The table after a full log was carried over without these clients, and what that came to was written.
+pub record WritesRenewal (host : ℕ) (config : Shape) (cluster : ℕ) (leave : List ℕ) (before after : Option (List ℕ)) : Type 0 where
   pub renewed : Renewed
-  pub came_to : CameToRenew host config cluster renewed
+  pub came_to : CameToRenew host config cluster leave renewed
   pub written : Appends before after (renewed_text config.slots renewed)
 
 -- SWEEPS

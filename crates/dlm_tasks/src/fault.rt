@@ -67,6 +67,9 @@ pub enum Fault {
     /// The folder that is to be renewed names another successor.
     #[error("41 RenewedElsewhere")]
     RenewedElsewhere,
+    /// The number of a client that a renewal is to leave out, and that has a lock.
+    #[error("42 HasLocks client{0}")]
+    HasLocks(u8),
 }
 
 impl Fault {
@@ -184,6 +187,7 @@ impl From<RenewFault> for Fault {
             RenewFault::Lock(fault) => Fault::from(fault),
             RenewFault::Refused(refusal) => Fault::from(refusal),
             RenewFault::NotFull => Fault::NotFull,
+            RenewFault::HasLocks(client) => Fault::HasLocks(client.get()),
             RenewFault::TooFewSlots => Fault::TooFewSlots,
             RenewFault::New(fault) => Fault::from(fault),
             RenewFault::RenewalFailed => Fault::MigrationFailed,

@@ -18,7 +18,7 @@ use dlm_words::ReplyText;
 use folder_migration::{Moved, Renewed, fill_log, migrate_folder, renew_folder};
 use host::Config;
 use inspect::queues;
-use lock_command::{Command, HostNumber};
+use lock_command::{ClientNumber, Command, HostNumber};
 use lock_table::Table;
 use slot_log::SlotCount;
 use std::alloc::Global;
@@ -154,7 +154,7 @@ where
     fill_through(rt, &mut over, config, out)
 }
 
-/// Carries the table after the full log of a folder over into another folder, and prints what that came to.
+/// Carries the table after the full log of a folder over into another folder, without these clients, and prints what that came to.
 pub fn renew<R: Files + AllocGlobal, O: Write>(
     rt: &R,
     old: &str,
@@ -162,13 +162,14 @@ pub fn renew<R: Files + AllocGlobal, O: Write>(
     new: &str,
     config: Config,
     cluster: u64,
+    leave: &[ClientNumber],
     out: &mut O,
 ) -> Result<(), CommandFailure>
 where
     R::File: FileExt + OpenFile + TryLock + Drop,
-    ensures { OnOk result (WritesRenewal host config cluster (O.contents out.old) (O.contents out.new)) }
+    ensures { OnOk result (WritesRenewal host config cluster leave.now (O.contents out.old) (O.contents out.new)) }
 {
-    let renewed = renew_folder(rt, old, host, new, config, cluster).map_err(Fault::from)?;
+    let renewed = renew_folder(rt, old, host, new, config, cluster, leave).map_err(Fault::from)?;
     print_renewed(renewed, config, out)?;
     out.flush()?;
     Ok(())

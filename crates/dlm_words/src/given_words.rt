@@ -3,7 +3,7 @@ ghost use Rattle.lock_command.specs.Command.{is_submittable};
 
 use crate::words::WordsFault;
 use host::Config;
-use lock_command::{Command, HOSTS, HostNumber};
+use lock_command::{ClientNumber, Command, HOSTS, HostNumber};
 use lock_script::{number_in, read_command};
 use slot_log::SlotCount;
 use std::alloc::Global;
@@ -48,6 +48,23 @@ pub fn last_host_of(word: &str) -> Result<HostNumber, WordsFault> {
         Some(last) => Ok(last),
         None => Err(WordsFault::Usage),
     }
+}
+
+/// These clients, each as often as it is named.
+pub fn clients_of(alloc: Global, words: &[&str]) -> Result<Vec<ClientNumber>, WordsFault> {
+    let mut clients = Vec::with_capacity(alloc, words.len())?;
+    for word in words {
+        let client = client_of(word)?;
+        if clients.push(client).is_err() {
+            return Err(WordsFault::NoMemory);
+        }
+    }
+    Ok(clients)
+}
+
+fn client_of(word: &str) -> Result<ClientNumber, WordsFault> {
+    let client = number(word, 0, u64::from(u8::MAX))?;
+    Ok(ClientNumber::new(client as u8))
 }
 
 /// The number, as a script spells it.

@@ -2,17 +2,19 @@ ghost use Rattle.std.specs.Prelude.{◌≡◌, IfOk};
 ghost use Rattle.dlm_words.specs.Asked.{MayBeAsked};
 ghost use Rattle.dlm_words.specs.declared.words.WordsFault.TheVariants.{NoMemory};
 
-use crate::given_words::{cluster_of, command_of, config_of, host_of, last_host_of, slots_of};
+use crate::given_words::{
+    clients_of, cluster_of, command_of, config_of, host_of, last_host_of, slots_of,
+};
 use clap::error::ErrorKind;
 use clap::{Arg, ArgAction, ArgMatches, Error};
 use host::Config;
-use lock_command::{Command, HostNumber};
+use lock_command::{ClientNumber, Command, HostNumber};
 use slot_log::SlotCount;
 use std::alloc::{AllocError, Global};
 use std::io;
 
 /// What the program is asked to do.
-#[derive(Clone, Copy, Debug)]
+#[derive(Debug, Drop)]
 pub enum Subcommand<'a> {
     /// Run the script at this path.
     Run {
@@ -58,13 +60,14 @@ pub enum Subcommand<'a> {
         folder: &'a str,
         host: HostNumber,
     },
-    /// Carry the table after the full log of a folder, as this host learns it, over into another folder.
+    /// Carry the table after the full log of a folder, as this host learns it, over into another folder, without these clients.
     Renew {
         old: &'a str,
         host: HostNumber,
         new: &'a str,
         config: Config,
         cluster: u64,
+        leave: Vec<ClientNumber>,
     },
     /// Race the hosts up to this one.
     Race {
@@ -124,7 +127,7 @@ pub fn task_of<'a>(alloc: Global, words: &'a [&'a str]) -> Result<Subcommand<'a>
         Some(("check", check)) => check_task(check),
         Some(("migrate", migrate)) => migrate_task(migrate),
         Some(("fill", fill)) => fill_task(fill),
-        Some(("renew", renew)) => renew_task(renew),
+        Some(("renew", renew)) => renew_task(alloc, renew),
         Some(("race", race)) => race_task(race),
         Some(("sweep", sweep)) => sweep_task(sweep),
         _ => Err(WordsFault::Usage),
@@ -234,6 +237,9 @@ fn fill_command<'a>(alloc: Global) -> Result<clap::Command<'a>, AllocError> {
 }
 
 fn renew_command<'a>(alloc: Global) -> Result<clap::Command<'a>, AllocError> {
+    let clients = Arg::new(alloc, "clients")
+        .action(ArgAction::Append)
+        .num_args(0..);
     clap::Command::new(alloc, "renew")
         .disable_help_flag(true)
         .arg(word(alloc, "old"))?
@@ -241,7 +247,8 @@ fn renew_command<'a>(alloc: Global) -> Result<clap::Command<'a>, AllocError> {
         .arg(word(alloc, "new"))?
         .arg(word(alloc, "disks"))?
         .arg(word(alloc, "slots"))?
-        .arg(word(alloc, "cluster"))
+        .arg(word(alloc, "cluster"))?
+        .arg(clients)
 }
 
 fn race_command<'a>(alloc: Global) -> Result<clap::Command<'a>, AllocError> {
@@ -329,7 +336,7 @@ fn fill_task<'a>(fill: &ArgMatches<'a>) -> Result<Subcommand<'a>, WordsFault>
     Ok(Subcommand::Fill { folder, host })
 }
 
-fn renew_task<'a>(renew: &ArgMatches<'a>) -> Result<Subcommand<'a>, WordsFault>
+fn renew_task<'a>(alloc: Global, renew: &ArgMatches<'a>) -> Result<Subcommand<'a>, WordsFault>
     ensures { IfOk result MayBeAsked }
 {
     let old = given(renew, "old")?;
@@ -337,12 +344,14 @@ fn renew_task<'a>(renew: &ArgMatches<'a>) -> Result<Subcommand<'a>, WordsFault>
     let new = given(renew, "new")?;
     let config = config_of(given(renew, "disks")?, given(renew, "slots")?)?;
     let cluster = cluster_of(given(renew, "cluster")?)?;
+    let leave = clients_of(alloc, renew.get_strs("clients").unwrap_or_default())?;
     Ok(Subcommand::Renew {
         old,
         host,
         new,
         config,
         cluster,
+        leave,
     })
 }
 

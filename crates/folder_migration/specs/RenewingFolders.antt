@@ -14,14 +14,14 @@ use Rattle.dlm_images.specs.Sets.{Found}
 use Rattle.dlm_images.specs.declared.fault.FolderFault.TheVariants as folder
 use Rattle.folder_migration.specs.Gates.{AreFinishedFrom, AreStoppedFrom, HaveNothingLeft}
 use Rattle.folder_migration.specs.Migrating.{AreBlank, file_device}
-use Rattle.folder_migration.specs.Renewing.{Carries, HasTooFewSlots}
+use Rattle.folder_migration.specs.Renewing.{Carries, HasLocksOf, HasTooFewSlots}
 use Rattle.folder_migration.specs.declared.old_log.TheConstants.{TRIES}
 use Rattle.folder_migration.specs.declared.renew.Renewed.{Renewed}
 use Rattle.folder_migration.specs.declared.renew.Renewed.TheVariants.{Renewed as WasRenewed, Finished}
 use Rattle.folder_migration.specs.declared.renew_fault.NewFault.{NewFault}
 use Rattle.folder_migration.specs.declared.renew_fault.NewFault.TheVariants as new
 use Rattle.folder_migration.specs.declared.renew_fault.RenewFault.{RenewFault}
-use Rattle.folder_migration.specs.declared.renew_fault.RenewFault.TheVariants.{NoMemory, Old, SameCluster, Lock, Refused, NotFull, TooFewSlots, New, RenewalFailed}
+use Rattle.folder_migration.specs.declared.renew_fault.RenewFault.TheVariants.{NoMemory, Old, SameCluster, Lock, Refused, NotFull, HasLocks, TooFewSlots, New, RenewalFailed}
 
 -- THE OLD FOLDER
 
@@ -64,15 +64,15 @@ pub record AreLeftUnfinished (config : Shape) (cluster : ℕ) : Type 0 where
 
 -- HOW IT ENDS
 
--- A host recovered as many commands as the old log has slots, so the old log was full. What carries over the table after them was written onto images
--- that were made, to the end.
-pub record HasRenewed (host : ℕ) (config : Shape) (cluster commands disks : ℕ) : Type 0 where
+-- A host recovered as many commands as the old log has slots, so the old log was full. What carries over the table after them, but for these clients, was
+-- written onto images that were made, to the end.
+pub record HasRenewed (host : ℕ) (config : Shape) (cluster : ℕ) (leave : List ℕ) (commands disks : ℕ) : Type 0 where
   pub old_config : Shape
   pub old : Standing FileState
   pub left : Standing FileState
   pub recovers : Recovers host cluster old_config old left
   pub full : length left.core.prefix ≡ old_config.slots
-  pub carries : Carries FileGives (AreBlank config) config cluster left.core.prefix commands end.Migrated
+  pub carries : Carries FileGives (AreBlank config) config cluster leave left.core.prefix commands end.Migrated
   pub disks_is : disks ≡ config.disks
 
 -- An earlier renewal onto the new images was finished.
@@ -83,9 +83,9 @@ pub record HasFinishedRenewal (config : Shape) (cluster disks : ℕ) : Type 0 wh
   pub finished : AreLeftFinished config cluster
   pub disks_is : disks ≡ config.disks
 
-abbrev pub CameToRenew : (host : ℕ) → Shape → (cluster : ℕ) → Renewed → Type 0
-CameToRenew host config cluster (WasRenewed commands disks) = HasRenewed host config cluster commands disks
-CameToRenew host config cluster (Finished disks) = HasFinishedRenewal config cluster disks
+abbrev pub CameToRenew : (host : ℕ) → Shape → (cluster : ℕ) → (leave : List ℕ) → Renewed → Type 0
+CameToRenew host config cluster leave (WasRenewed commands disks) = HasRenewed host config cluster leave commands disks
+CameToRenew host config cluster leave (Finished disks) = HasFinishedRenewal config cluster disks
 
 -- WHY IT IS REFUSED
 
@@ -104,25 +104,26 @@ IsNewFault disks (new.Folder fault) = IsFormatFault disks fault
 IsNewFault disks (new.Lock fault) = IsLockFault 0 fault
 
 -- what stops it once a host has recovered a log of so many slots
-abbrev pub EndsOver : (slots : ℕ) → Shape → (cluster : ℕ) → Standing FileState → RenewFault → Type 0
-EndsOver slots config cluster host NoMemory = Unit {0}
-EndsOver slots config cluster host (Refused refusal) = host.core.said ≡ Some (answer.Refused refusal)
-EndsOver slots config cluster host NotFull = (host.core.said ≡ Some (answer.Recovered (length host.core.prefix))) × ¬ (length host.core.prefix ≡ slots)
-EndsOver slots config cluster host TooFewSlots = (length host.core.prefix ≡ slots) × HasTooFewSlots config.slots host.core.prefix
-EndsOver slots config cluster host (New fault) = IsNewFault config.disks fault
-EndsOver slots config cluster host RenewalFailed =
-    (length host.core.prefix ≡ slots) × (commands : ℕ) × Carries FileGives (AreBlank config) config cluster host.core.prefix commands end.MigrationFailed
-EndsOver slots config cluster host (Old fault) = ⊥
-EndsOver slots config cluster host SameCluster = ⊥
-EndsOver slots config cluster host (Lock fault) = ⊥
+abbrev pub EndsOver : (slots : ℕ) → Shape → (cluster : ℕ) → (leave : List ℕ) → Standing FileState → RenewFault → Type 0
+EndsOver slots config cluster leave host NoMemory = Unit {0}
+EndsOver slots config cluster leave host (Refused refusal) = host.core.said ≡ Some (answer.Refused refusal)
+EndsOver slots config cluster leave host NotFull = (host.core.said ≡ Some (answer.Recovered (length host.core.prefix))) × ¬ (length host.core.prefix ≡ slots)
+EndsOver slots config cluster leave host (HasLocks client) = (length host.core.prefix ≡ slots) × HasLocksOf leave host.core.prefix client
+EndsOver slots config cluster leave host TooFewSlots = (length host.core.prefix ≡ slots) × HasTooFewSlots config.slots leave host.core.prefix
+EndsOver slots config cluster leave host (New fault) = IsNewFault config.disks fault
+EndsOver slots config cluster leave host RenewalFailed =
+    (length host.core.prefix ≡ slots) × (commands : ℕ) × Carries FileGives (AreBlank config) config cluster leave host.core.prefix commands end.MigrationFailed
+EndsOver slots config cluster leave host (Old fault) = ⊥
+EndsOver slots config cluster leave host SameCluster = ⊥
+EndsOver slots config cluster leave host (Lock fault) = ⊥
 
 -- once a host had recovered from the old images it was stopped so
-pub record StopsOver (host : ℕ) (config : Shape) (cluster : ℕ) (fault : RenewFault) : Type 0 where
+pub record StopsOver (host : ℕ) (config : Shape) (cluster : ℕ) (leave : List ℕ) (fault : RenewFault) : Type 0 where
   pub old_config : Shape
   pub old : Standing FileState
   pub left : Standing FileState
   pub recovers : Recovers host cluster old_config old left
-  pub ends : EndsOver old_config.slots config cluster left fault
+  pub ends : EndsOver old_config.slots config cluster leave left fault
 
 -- the old images are of the same cluster
 pub record IsSame (cluster : ℕ) : Type 0 where
@@ -131,13 +132,14 @@ pub record IsSame (cluster : ℕ) : Type 0 where
   pub disks : List FileState
   pub opened : IsOpened found config cluster disks
 
-abbrev pub MayNotRenew : (host : ℕ) → Shape → (cluster : ℕ) → RenewFault → Type 0
-MayNotRenew host config cluster NoMemory = Unit {0}
-MayNotRenew host config cluster (Old fault) = MayRefuse fault
-MayNotRenew host config cluster SameCluster = IsSame cluster
-MayNotRenew host config cluster (Lock fault) = IsLockFault host fault
-MayNotRenew host config cluster (New fault) = IsNewFault config.disks fault
-MayNotRenew host config cluster (Refused refusal) = StopsOver host config cluster (Refused refusal)
-MayNotRenew host config cluster NotFull = StopsOver host config cluster NotFull
-MayNotRenew host config cluster TooFewSlots = StopsOver host config cluster TooFewSlots
-MayNotRenew host config cluster RenewalFailed = StopsOver host config cluster RenewalFailed ⊎ AreLeftUnfinished config cluster
+abbrev pub MayNotRenew : (host : ℕ) → Shape → (cluster : ℕ) → (leave : List ℕ) → RenewFault → Type 0
+MayNotRenew host config cluster leave NoMemory = Unit {0}
+MayNotRenew host config cluster leave (Old fault) = MayRefuse fault
+MayNotRenew host config cluster leave SameCluster = IsSame cluster
+MayNotRenew host config cluster leave (Lock fault) = IsLockFault host fault
+MayNotRenew host config cluster leave (New fault) = IsNewFault config.disks fault
+MayNotRenew host config cluster leave (Refused refusal) = StopsOver host config cluster leave (Refused refusal)
+MayNotRenew host config cluster leave NotFull = StopsOver host config cluster leave NotFull
+MayNotRenew host config cluster leave (HasLocks client) = StopsOver host config cluster leave (HasLocks client)
+MayNotRenew host config cluster leave TooFewSlots = StopsOver host config cluster leave TooFewSlots
+MayNotRenew host config cluster leave RenewalFailed = StopsOver host config cluster leave RenewalFailed ⊎ AreLeftUnfinished config cluster

@@ -17,7 +17,7 @@ use crate::successor::{name_successor, names_successor, successor_line};
 use disk::FileDisk;
 use dlm_images::{DiskHost, TryLock, lock_host, open_folder};
 use host::Config;
-use lock_command::HostNumber;
+use lock_command::{ClientNumber, HostNumber};
 use std::fs::OpenFile;
 use std::os::unix::fs::FileExt;
 use std::rt::Files;
@@ -31,7 +31,7 @@ pub enum Renewed {
     Finished { disks: u8 },
 }
 
-/// Carries the table after a full log over into a new folder. It works as this host of the old cluster, beside others.
+/// Carries the table after a full log over into a new folder, without these clients. It works as this host of the old cluster, beside others.
 ///
 /// The old folder names its successor from then on. A second run goes on only with the same words.
 pub fn renew_folder<R: Files + AllocGlobal>(
@@ -41,11 +41,12 @@ pub fn renew_folder<R: Files + AllocGlobal>(
     new: &str,
     config: Config,
     cluster: u64,
+    leave: &[ClientNumber],
 ) -> Result<Renewed, RenewFault>
 where
     R::File: FileExt + OpenFile + TryLock + Drop,
-    ensures came_to { IfOk result (CameToRenew host config cluster) }
-    ensures fault { IfErr result (MayNotRenew host config cluster) }
+    ensures came_to { IfOk result (CameToRenew host config cluster leave.now) }
+    ensures fault { IfErr result (MayNotRenew host config cluster leave.now) }
 {
     let images = open_folder(rt, old)?;
     if images.cluster == cluster {
@@ -72,6 +73,7 @@ where
         new,
         config,
         cluster,
+        leave,
     )?;
     Ok(Renewed::Renewed { commands, disks })
 }
@@ -110,13 +112,14 @@ fn renew_over<R: Files + AllocGlobal>(
     new: &str,
     config: Config,
     cluster: u64,
+    leave: &[ClientNumber],
 ) -> Result<u16, RenewFault>
 where
     R::File: FileExt + OpenFile + TryLock + Drop,
     ensures recovered { HasOperated FileGives Recovering TRIES host.old host.new }
     ensures full { IfOk result (λ commands. length host.new.core.prefix ≡ slots) }
-    ensures renewed { IfOk result (λ commands. Carries FileGives (AreBlank config) config cluster host.new.core.prefix commands Migrated) }
-    ensures stopped { IfErr result (EndsOver slots config cluster host.new) }
+    ensures renewed { IfOk result (λ commands. Carries FileGives (AreBlank config) config cluster leave.now host.new.core.prefix commands Migrated) }
+    ensures stopped { IfErr result (EndsOver slots config cluster leave.now host.new) }
 {
     host.recover(TRIES)?;
     if host.learned() != slots {
@@ -127,6 +130,7 @@ where
         host,
         config,
         cluster,
+        leave,
         || make_successor(rt, old, line, new, config),
     )
 }

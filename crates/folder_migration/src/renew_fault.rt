@@ -5,6 +5,7 @@ ghost use Rattle.folder_migration.specs.declared.renew_fault.RenewFault.TheVaria
 
 use dlm_images::{FolderFault, LockFault};
 use host::Refusal;
+use lock_command::ClientNumber;
 use std::alloc::AllocError;
 use thiserror::Error;
 
@@ -69,6 +70,9 @@ pub enum RenewFault {
     /// The old log has slots left, so its table may still change.
     #[error("the log is not full")]
     NotFull,
+    /// A client that is to be left out has a lock, or waits for one.
+    #[error("a client that is to be left out has locks")]
+    HasLocks(ClientNumber),
     /// The new log would have no slot left behind what is carried over.
     #[error("as few slots as commands that carry the table over")]
     TooFewSlots,

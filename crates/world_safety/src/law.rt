@@ -8,7 +8,7 @@ ghost use Rattle.world_safety.specs.Claims.{BindsGreater, BindsAll, OneProposal,
 ghost use Rattle.world_safety.specs.Claims.{LogGrows, AllBegun, EmptyShows, MissesNothing, NoneShorter};
 ghost use Rattle.world_safety.specs.Claims.{AcknowledgesByMajority, RecoversByMajority};
 ghost use Rattle.world_safety.specs.Claims.{MarksChosen, DecidesChosenBefore};
-ghost use Rattle.world_safety.specs.Renewals.{FullLogsAreFinal, RecoveriesGoOn};
+ghost use Rattle.world_safety.specs.Renewals.{FullLogsAreFinal, RecoveriesGoOn, RecoveriesGoOnWithout};
 
 /// One log, whatever happens, and nothing that was acknowledged is lost: so it is with every run,
 /// however it came about, and with every list of events, at first or after a migration. The log only grows.
@@ -57,8 +57,9 @@ pub fn marks_are_true()
 
 /// A full log is final: whoever has learned all of it has learned the same. So its table may be carried over to another cluster. Each
 /// recovery there shows what the full log left, and then what was submitted to that cluster; and a request that is repeated
-/// gets the reply that it got before.
+/// gets the reply that it got before. Where clients were left out, recoveries show what the table would be that forgot them.
 pub fn renewals_go_on()
     ensures full { (c : Shape) (log : List Filled) → IsRun c log → FullLogsAreFinal c log }
     ensures renewed { (c : Shape) (log : List Filled) → IsRun c log → RecoveriesGoOn c log }
+    ensures left_out { (c : Shape) (log : List Filled) → IsRun c log → RecoveriesGoOnWithout c log }
 {}
