@@ -1,8 +1,8 @@
 #!/usr/bin/env bash
 # wrong_rule.sh: a sweep finds what is wrong. In a copy of the crates a sync makes nothing safe (simulator/wrong/sync_left_out.edit). The copy's
-# dlm, of which nothing is proved, sweeps scripts of scripts/sweep. Crashes then lose what was acknowledged, so that runs have to be wrong: as many
-# as another program counts under that rule, and the same one first (scripts/sweep_wrong.txt: the script, what is printed and told).
-# It takes two minutes or so.
+# dlm, of which nothing is proved, sweeps scripts that have a NAME.sweep. Crashes then lose what was acknowledged, so that runs have to be
+# wrong: as many as another program counts under that rule, and the same one first (scripts/sweep_wrong.txt: the script's name, what is printed
+# and told). It takes two minutes or so.
 set -uo pipefail
 
 source "$(dirname -- "$(readlink -f -- "${BASH_SOURCE[0]}")")/lib.sh"
@@ -36,7 +36,7 @@ printf 'cluster 1 4\nstart 0\nsubmit 0 1 enqueue 1 1 10 EX db\nstep 0 17\nsubmit
 swept=0
 differ=0
 while IFS=: read -r name wanted; do
-    script=$tests/scripts/sweep/$name.dlm
+    script=$(find "$tests/scripts" "$top/examples" -name "$name.dlm")
     [[ $name != two_submissions ]] || script=$work/two_submissions.dlm
     found=$("$work/compiled/made" sweep "$script" 2> "$work/told" < /dev/null) || true
     found=" $found $(<"$work/told")"

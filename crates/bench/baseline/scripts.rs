@@ -1,6 +1,9 @@
 //! `dlm run` in plain Rust, without proofs: what the time and the memory of the proved program are compared with.
 //! It reads the same scripts and prints the same text, and keeps to no more than that asks for.
 
+mod lock_tables;
+
+use lock_tables::{Action, Command, Flat, MODES, Mode, Name, Record, Reply, State, Table, name};
 use std::fmt;
 use std::io::{self, BufWriter, Write};
 
@@ -12,8 +15,6 @@ const ROWS_AT: usize = 8192;
 const OPEN: u8 = 0xA5;
 const VERSION: u8 = 2;
 const LAST: u64 = 1 << 62;
-const LOCKS: usize = 256;
-const CLIENTS: usize = 32;
 
 type Value = [u8; 48];
 
@@ -356,48 +357,8 @@ impl Attempt {
 
 // COMMANDS AND LOCKS
 
-#[derive(Clone, Copy, PartialEq, Eq)]
-#[repr(u8)]
-enum Mode {
-    Nl,
-    Cr,
-    Cw,
-    Pr,
-    Pw,
-    Ex,
-}
-
-const MODES: [(&str, Mode); 6] = [("NL", Mode::Nl), ("CR", Mode::Cr), ("CW", Mode::Cw), ("PR", Mode::Pr), ("PW", Mode::Pw), ("EX", Mode::Ex)];
-
-impl Mode {
-    /// The modes that stand against each, as bits.
-    const AGAINST: [u8; 6] = [0, 0b100000, 0b111000, 0b110100, 0b111100, 0b111110];
-
-    fn admits(self, other: Mode) -> bool {
-        Mode::AGAINST[self as usize] & (1 << other as u8) == 0
-    }
-
-    fn text(self) -> &'static str {
-        MODES[self as usize].0
-    }
-}
-
-#[derive(Clone, Copy)]
-enum Action {
-    Enqueue { lock: u16, name: [u8; 15], mode: Mode, no_queue: bool },
-    Convert { lock: u16, mode: Mode, no_queue: bool },
-    Release(u16),
-    Cancel(u16),
-    Status(u16),
-    Purge(u8),
-}
-
-#[derive(Clone, Copy)]
-struct Command {
-    host: u8,
-    client: u8,
-    request: u64,
-    action: Action,
+fn text(mode: Mode) -> &'static str {
+    ["NL", "CR", "CW", "PR", "PW", "EX"][mode as usize]
 }
 
 impl Command {
@@ -418,8 +379,8 @@ impl Command {
             Action::Enqueue { name, mode, no_queue, .. } => {
                 value[3] = mode as u8;
                 value[4] = u8::from(no_queue);
-                value[5] = name.iter().take_while(|byte| **byte != 0).count() as u8;
-                value[17..32].copy_from_slice(&name);
+                value[5] = name.len;
+                value[17..32].copy_from_slice(&name.bytes);
             }
             Action::Convert { mode, no_queue, .. } => {
                 value[3] = mode as u8;
@@ -434,10 +395,10 @@ impl Command {
     /// Of the values that commands have: a script puts no others into the log.
     fn decode(value: &Value) -> Command {
         let lock = u16::from_be_bytes([value[6], value[7]]);
-        let mode = MODES[value[3] as usize].1;
+        let mode = MODES[value[3] as usize];
         let no_queue = value[4] == 1;
         let action = match value[0] {
-            1 => Action::Enqueue { lock, name: value[17..32].try_into().unwrap(), mode, no_queue },
+            1 => Action::Enqueue { lock, name: name(&value[17..][..value[5] as usize]), mode, no_queue },
             2 => Action::Convert { lock, mode, no_queue },
             3 => Action::Release(lock),
             4 => Action::Cancel(lock),
@@ -448,202 +409,54 @@ impl Command {
     }
 }
 
-#[derive(Clone, Copy)]
-enum Reply {
-    Granted,
-    Queued,
-    Released,
-    Cancelled,
-    Purged(usize),
-    State(Option<Mode>, Option<Mode>),
-    Refused(u8, &'static str),
-}
-
 impl fmt::Display for Reply {
     fn fmt(&self, f: &mut fmt::Formatter) -> fmt::Result {
-        let mode = |mode: &Option<Mode>| mode.map_or("-", Mode::text);
         match self {
-            Reply::Granted => f.write_str("Granted"),
-            Reply::Queued => f.write_str("Queued"),
-            Reply::Released => f.write_str("Released"),
-            Reply::Cancelled => f.write_str("Cancelled"),
             Reply::Purged(count) => write!(f, "Purged({count})"),
-            Reply::State(held, wanted) => write!(f, "State(held={}, wanted={})", mode(held), mode(wanted)),
-            Reply::Refused(number, name) => write!(f, "{number} {name}"),
+            Reply::State(State::Granted(held)) => write!(f, "State(held={}, wanted=-)", text(*held)),
+            Reply::State(State::Waiting(wanted)) => write!(f, "State(held=-, wanted={})", text(*wanted)),
+            Reply::State(State::Converting(held, wanted)) => write!(f, "State(held={}, wanted={})", text(*held), text(*wanted)),
+            Reply::Refused(refusal) => write!(f, "{} {refusal:?}", 11 + *refusal as u8),
+            Reply::Granted | Reply::Queued | Reply::Released | Reply::Cancelled => write!(f, "{self:?}"),
         }
     }
 }
 
-struct Lock {
-    number: u16,
-    client: u8,
-    host: u8,
-    name: [u8; 15],
-    held: Option<Mode>,
-    wanted: Option<Mode>,
-}
-
-/// The locks, those of a queue in its order, and each client's last request with its reply.
-#[derive(Default)]
-struct Table {
-    locks: Vec<Lock>,
-    clients: Vec<(u8, u64, Reply)>,
-}
-
-impl Table {
-    fn apply(&mut self, command: &Command) -> Reply {
-        let known = self.clients.iter().position(|known| known.0 == command.client);
-        match known.map(|at| self.clients[at]) {
-            None if self.clients.len() == CLIENTS => return Reply::Refused(19, "ClientsFull"),
-            Some((_, last, _)) if command.request < last => return Reply::Refused(18, "Stale"),
-            Some((_, last, reply)) if command.request == last => return reply,
-            _ => {}
+/// The locks of each name, those of a queue in its order.
+fn show(table: &Flat, out: &mut impl Write) -> io::Result<()> {
+    if table.records.is_empty() {
+        return writeln!(out, "empty");
+    }
+    let mut names: Vec<&Name> = table.records.iter().map(|record| &record.name).collect();
+    names.sort_unstable();
+    names.dedup();
+    for name in names {
+        out.write_all(&name.bytes[..name.len as usize])?;
+        writeln!(out)?;
+        let of_name = || table.records.iter().filter(|record| record.name == *name);
+        let line = |out: &mut dyn Write, what: &str, record: &Record| write!(out, "  {what} {} {} {}", record.lock, record.client, record.host);
+        let mut granted: Vec<&Record> = of_name().collect();
+        granted.sort_unstable_by_key(|record| record.lock);
+        for record in granted {
+            if let State::Granted(held) = record.state {
+                line(out, "granted", record)?;
+                writeln!(out, " {}", text(held))?;
+            }
         }
-        let reply = self.carry_out(command).unwrap_or_else(|refusal| refusal);
-        let kept = (command.client, command.request, reply);
-        match known {
-            Some(at) => self.clients[at] = kept,
-            None => self.clients.push(kept),
+        for record in of_name() {
+            if let State::Converting(held, wanted) = record.state {
+                line(out, "converting", record)?;
+                writeln!(out, " {} {}", text(held), text(wanted))?;
+            }
         }
-        reply
-    }
-
-    fn place_of(&self, lock: u16) -> Result<usize, Reply> {
-        self.locks.iter().position(|found| found.number == lock).ok_or(Reply::Refused(12, "NoSuchLock"))
-    }
-
-    fn own_place_of(&self, lock: u16, client: u8) -> Result<usize, Reply> {
-        let at = self.place_of(lock)?;
-        if self.locks[at].client == client { Ok(at) } else { Err(Reply::Refused(13, "NotOwner")) }
-    }
-
-    fn admits(&self, name: &[u8; 15], mode: Mode, but: u16) -> bool {
-        let others = self.locks.iter().filter(|lock| lock.name == *name && lock.number != but);
-        others.filter_map(|lock| lock.held).all(|held| mode.admits(held))
-    }
-
-    fn carry_out(&mut self, command: &Command) -> Result<Reply, Reply> {
-        let client = command.client;
-        match command.action {
-            Action::Enqueue { lock, name, mode, no_queue } => {
-                if self.place_of(lock).is_ok() {
-                    return Err(Reply::Refused(11, "LockInUse"));
-                }
-                if self.locks.len() == LOCKS {
-                    return Err(Reply::Refused(17, "TableFull"));
-                }
-                let queued = self.locks.iter().any(|lock| lock.name == name && lock.wanted.is_some());
-                let granted = !queued && self.admits(&name, mode, lock);
-                if !granted && no_queue {
-                    return Err(Reply::Refused(16, "NotQueued"));
-                }
-                let (held, wanted) = if granted { (Some(mode), None) } else { (None, Some(mode)) };
-                self.locks.push(Lock { number: lock, client, host: command.host, name, held, wanted });
-                Ok(if granted { Reply::Granted } else { Reply::Queued })
-            }
-            Action::Convert { lock, mode, no_queue } => {
-                let at = self.own_place_of(lock, client)?;
-                match (self.locks[at].held, self.locks[at].wanted) {
-                    (None, _) => return Err(Reply::Refused(15, "StillWaiting")),
-                    (Some(_), Some(_)) => return Err(Reply::Refused(14, "AlreadyConverting")),
-                    _ => {}
-                }
-                let name = self.locks[at].name;
-                if self.admits(&name, mode, lock) {
-                    self.locks[at].held = Some(mode);
-                    self.settle(&name);
-                    return Ok(Reply::Granted);
-                }
-                if no_queue {
-                    return Err(Reply::Refused(16, "NotQueued"));
-                }
-                let mut record = self.locks.remove(at);
-                record.wanted = Some(mode);
-                self.locks.push(record);
-                Ok(Reply::Queued)
-            }
-            Action::Release(lock) => {
-                let at = self.own_place_of(lock, client)?;
-                let name = self.locks.remove(at).name;
-                self.settle(&name);
-                Ok(Reply::Released)
-            }
-            Action::Cancel(lock) => {
-                let at = self.own_place_of(lock, client)?;
-                if self.locks[at].wanted.is_none() {
-                    return Err(Reply::Refused(20, "NothingToCancel"));
-                }
-                let name = self.locks[at].name;
-                if self.locks[at].held.is_some() {
-                    self.locks[at].wanted = None;
-                } else {
-                    self.locks.remove(at);
-                }
-                self.settle(&name);
-                Ok(Reply::Cancelled)
-            }
-            Action::Status(lock) => {
-                let found = &self.locks[self.place_of(lock)?];
-                Ok(Reply::State(found.held, found.wanted))
-            }
-            Action::Purge(host) => {
-                let mut names: Vec<[u8; 15]> = self.locks.iter().filter(|lock| lock.host == host).map(|lock| lock.name).collect();
-                let count = names.len();
-                self.locks.retain(|lock| lock.host != host);
-                names.sort_unstable();
-                names.dedup();
-                names.iter().for_each(|name| self.settle(name));
-                Ok(Reply::Purged(count))
+        for record in of_name() {
+            if let State::Waiting(wanted) = record.state {
+                line(out, "waiting", record)?;
+                writeln!(out, " {}", text(wanted))?;
             }
         }
     }
-
-    fn settle(&mut self, name: &[u8; 15]) {
-        loop {
-            let queued = |lock: &&Lock| lock.name == *name && lock.wanted.is_some();
-            let converting = self.locks.iter().find(|lock| queued(lock) && lock.held.is_some());
-            let Some(head) = converting.or_else(|| self.locks.iter().find(queued)) else {
-                return;
-            };
-            let (number, mode) = (head.number, head.wanted.unwrap());
-            if !self.admits(name, mode, number) {
-                return;
-            }
-            let head = self.locks.iter_mut().find(|lock| lock.number == number).unwrap();
-            (head.held, head.wanted) = (Some(mode), None);
-        }
-    }
-
-    fn show(&self, out: &mut impl Write) -> io::Result<()> {
-        if self.locks.is_empty() {
-            return writeln!(out, "empty");
-        }
-        let mut names: Vec<&[u8; 15]> = self.locks.iter().map(|lock| &lock.name).collect();
-        names.sort_unstable();
-        names.dedup();
-        for name in names {
-            let end = name.iter().position(|byte| *byte == 0).unwrap_or(15);
-            out.write_all(&name[..end])?;
-            writeln!(out)?;
-            let of_name = || self.locks.iter().filter(|lock| lock.name == *name);
-            let mut granted: Vec<&Lock> = of_name().filter(|lock| lock.wanted.is_none()).collect();
-            granted.sort_unstable_by_key(|lock| lock.number);
-            let line = |out: &mut dyn Write, what: &str, lock: &Lock| write!(out, "  {what} {} {} {}", lock.number, lock.client, lock.host);
-            for lock in granted {
-                line(out, "granted", lock)?;
-                writeln!(out, " {}", lock.held.unwrap().text())?;
-            }
-            for lock in of_name().filter(|lock| lock.held.is_some() && lock.wanted.is_some()) {
-                line(out, "converting", lock)?;
-                writeln!(out, " {} {}", lock.held.unwrap().text(), lock.wanted.unwrap().text())?;
-            }
-            for lock in of_name().filter(|lock| lock.held.is_none()) {
-                line(out, "waiting", lock)?;
-                writeln!(out, " {}", lock.wanted.unwrap().text())?;
-            }
-        }
-        Ok(())
-    }
+    Ok(())
 }
 
 // A HOST
@@ -657,7 +470,7 @@ struct Operation {
 #[derive(Default)]
 struct Host {
     learned: usize,
-    table: Table,
+    table: Flat,
     floor: u64,
     doing: Option<Operation>,
 }
@@ -759,12 +572,10 @@ fn command_in(host: usize, words: &[&str]) -> Option<Command> {
         _ => return None,
     };
     let lock = |word: &str| Some(number_in(word, 1, 65535)? as u16);
-    let mode = |word: &str| MODES.iter().find(|mode| mode.0 == word).map(|mode| mode.1);
+    let mode = |word: &str| MODES.into_iter().find(|mode| text(*mode) == word);
     let name = |word: &str| {
-        let mut name = [0; 15];
         let fits = (1..=15).contains(&word.len()) && word.bytes().all(|byte| (0x21..=0x7e).contains(&byte));
-        fits.then(|| name[..word.len()].copy_from_slice(word.as_bytes()))?;
-        Some(name)
+        fits.then(|| name(word.as_bytes()))
     };
     let action = match (kind, rest) {
         ("enqueue", [l, m, n]) => Action::Enqueue { lock: lock(l)?, name: name(n)?, mode: mode(m)?, no_queue: false },
@@ -933,7 +744,7 @@ impl<W: Write> Cluster<W> {
             Event::Crash(..) => {}
             Event::Gone(disk) => self.disks[*disk].gone = true,
             Event::Show(host) => match &self.hosts[*host] {
-                Some(found) => found.table.show(&mut self.out)?,
+                Some(found) => show(&found.table, &mut self.out)?,
                 None => writeln!(self.out, "host {host} is stopped")?,
             },
         }

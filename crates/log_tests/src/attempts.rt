@@ -23,6 +23,9 @@ const SPENT: [u8; HEAD_LENGTH] = [
     0, 0, 0, 0,
 ];
 
+/// An open gate, and behind it what no host says.
+const DAMAGED: [u8; HEAD_LENGTH] = [0xA5; HEAD_LENGTH];
+
 /// Host 0 promised its second ballot and had voted at ballot 1.
 const HOST_0_VOTED: [u8; HEAD_LENGTH] = [
     0xA5,
@@ -154,23 +157,39 @@ fn latest_vote_is_adopted(rt: HostRuntime) -> Result<(), Fail> {
     Ok(())
 }
 
+// A disk with a spent block is left out where a write to it is due, one with a damaged row where it is read.
 #[test]
-fn spent_blocks_are_not_written(rt: HostRuntime) -> Result<(), Fail> {
+fn disks_that_are_left_out(rt: HostRuntime) -> Result<(), Fail> {
+    let committed = End::Committed(value(b'V'));
     let rows = [
-        (&[1].as_slice(), 37, End::Committed(value(b'V'))),
-        (&[0, 1].as_slice(), 9, End::NoMajority),
-        (&[1, 2].as_slice(), 16, End::NoMajority),
+        (SPENT, &[1].as_slice(), 37, STEP + 1, committed),
+        (SPENT, &[0, 1].as_slice(), 9, STEP + 1, End::NoMajority),
+        (SPENT, &[1, 2].as_slice(), 16, STEP + 1, End::NoMajority),
+        (DAMAGED, &[0].as_slice(), 37, 1, committed),
+        (DAMAGED, &[0, 1].as_slice(), 6, 0, End::NoMajority),
     ];
-    for (spent, calls, end) in rows {
+    for (head, harmed, calls, ballot, end) in rows {
         let mut disks = blank_disks(rt.alloc(), 3, image_length::<ClusterLayout>(1))?;
-        for disk in spent.iter() {
-            put(disks.get_mut(*disk), 0, &copy_of(&SPENT, 0))?;
+        for disk in harmed.iter() {
+            put(disks.get_mut(*disk), 0, &copy_of(&head, 0))?;
         }
         let mut attempt = Attempt::<ClusterLayout>::new(0, 0, 3, 0, Some(value(b'V')));
         assert_eq!(rt; drive(&mut attempt, &mut disks, ENOUGH), calls);
         assert_eq!(rt; attempt.end(), Some(end));
-        assert_eq!(rt; attempt.ballot(), STEP + 1);
+        assert_eq!(rt; attempt.ballot(), ballot);
     }
+    Ok(())
+}
+
+// The own block does not outrun, whatever ballot stands in it. As a host has one process, it finds there what it wrote.
+#[test]
+fn own_block_does_not_outrun(rt: HostRuntime) -> Result<(), Fail> {
+    let mut disks = blank_disks(rt.alloc(), 1, image_length::<ClusterLayout>(1))?;
+    let mut attempt = Attempt::<ClusterLayout>::new(0, 0, 1, 0, Some(value(b'V')));
+    assert_eq!(rt; drive(&mut attempt, &mut disks, 9), 9);
+    put(disks.get_mut(0), 0, &copy_of(&HOST_0_VOTED, b'V'))?;
+    assert_eq!(rt; drive(&mut attempt, &mut disks, ENOUGH), 8);
+    assert_eq!(rt; attempt.end(), Some(End::Committed(value(b'V'))));
     Ok(())
 }
 
@@ -178,14 +197,14 @@ fn spent_blocks_are_not_written(rt: HostRuntime) -> Result<(), Fail> {
 fn ballots_come_to_an_end(rt: HostRuntime) -> Result<(), Fail> {
     let committed = End::Committed(value(b'V'));
     let rows = [
-        (0, LAST_BALLOT - STEP, LAST_BALLOT - STEP + 1, committed),
-        (0, LAST_BALLOT - STEP + 1, 0, End::BallotsSpent),
-        (15, LAST_BALLOT - 1, LAST_BALLOT, committed),
+        (0, LAST_BALLOT - STEP, 17, LAST_BALLOT - STEP + 1, committed),
+        (0, LAST_BALLOT - STEP + 1, 3, 0, End::BallotsSpent),
+        (15, LAST_BALLOT - 1, 17, LAST_BALLOT, committed),
     ];
-    for (host, floor, ballot, end) in rows {
+    for (host, floor, calls, ballot, end) in rows {
         let mut disks = blank_disks(rt.alloc(), 1, image_length::<ClusterLayout>(1))?;
         let mut attempt = Attempt::<ClusterLayout>::new(host, 0, 1, floor, Some(value(b'V')));
-        drive(&mut attempt, &mut disks, ENOUGH);
+        assert_eq!(rt; drive(&mut attempt, &mut disks, ENOUGH), calls);
         assert_eq!(rt; attempt.ballot(), ballot);
         assert_eq!(rt; attempt.end(), Some(end));
     }

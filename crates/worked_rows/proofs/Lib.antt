@@ -1,5 +1,0 @@
-mod Beside
-mod Blocks
-mod Kept
-mod Pieces
-mod Played
