@@ -138,13 +138,15 @@ PLACES = (
     C_ENUM,
     C_TEXTS,
     Place("tests/lock_log.py", TEXT, ["table"], repeats=True),
-    Place("crates/bench/baseline/scripts.rs", r'Refused\((?P<number>\d+), "(?P<name>\w+)"\)', ["table"], ["operation"], repeats=True),
+    Place("crates/bench/baseline/scripts.rs", r'Refused\((?P<number>\d+), "(?P<name>\w+)"\)', [], ["operation"], repeats=True),
     Place("crates/bench/baseline/lock_tables.rs", r"^    (?P<name>\w+),$", ["table"], begin="pub enum Refusal {", end="}"),
     Place("crates/dlm/src/racing.rt", TEXT, ["threads"]),
     Place("crates/dlm_c/src/fault.rt", r"Fault::(?P<name>NoMemory) => (?P<number>\d+)", ["no memory"]),
 )
 PYTHON = "capi/examples/python/midgegalena.py"
-SYMBOLS = ("man/midgegalena.3", "docs/LIBRARY.md")
+# Pages about C, and what the names on them are taken from: headers, and the variables of mg-lock.
+SYMBOLS = ("man/midgegalena.3", "man/mg_session.3", "man/mg-lock.1", "docs/LIBRARY.md")
+NAMED = (HEADER, "capi/include/mg_session.h", "capi/src/mg-lock.c")
 
 
 def header_and_texts(tree):
@@ -167,9 +169,10 @@ def python_names(tree, lists):
 
 
 def symbols_known(tree):
-    """The pages about C name nothing that the header does not have."""
-    known = set(re.findall(r"\bMG_[A-Z_]+", tree.read(HEADER)))
-    return [f"{path}: {it} is not in {HEADER}" for path in SYMBOLS for it in sorted(set(re.findall(r"\bMG_[A-Z_]+", tree.read(path))) - known)]
+    """The pages about C name nothing that C does not have."""
+    named = lambda path: set(re.findall(r"\bMG_[A-Z_]+", re.sub(r"^\.Dt .*", "", tree.read(path), flags=re.M)))
+    known = set().union(*map(named, NAMED))
+    return [f"{path}: {it} is in none of {' '.join(NAMED)}" for path in SYMBOLS for it in sorted(named(path) - known)]
 
 
 def files():
