@@ -232,7 +232,7 @@ def unnoticed():
     for path, pattern in [(it, r"^\w+_number (?P<name>\w+) = (?P<number>\d+)$") for it in SPECS.values()] + [
         (PROGRAM, r'#\[error\("(?P<number>\d+) (?P<name>\w+)'),
         (THREADS, r'^host_fault_text \w+\.\w+ = codes "(?P<number>\d+) (?P<name>\w+)"$'),
-        (PYTHON, r"(?P<name>OUTRUN.*) = 0, (?P<number>\d+)"),
+        (PYTHON, r"(?P<name>NO_SUCH_LOCK) = .*, (?P<number>\d+)$"),
         ("tests/program.py", r"dlm: (?P<number>36) (?P<name>HostInUse)"),
         ("docs/OPERATIONS.md", r"`(?P<number>36) (?P<name>HostInUse)"),
     ]:
