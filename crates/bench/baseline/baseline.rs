@@ -332,6 +332,11 @@ fn standing_table<T: Table>() -> T {
     table
 }
 
+/// A table to which another was copied.
+fn renewed_table() -> Flat {
+    standing_table::<Flat>().clone()
+}
+
 fn apply(table: &mut impl Table, count: u32) -> bool {
     (0..count).all(|place| !matches!(table.apply(&command_at(place)), Reply::Refused(_)))
 }
@@ -656,8 +661,10 @@ fn main() {
     timed("block_write", 200_000, || Disk::new(2048), |disk, count| block_write(disk, count).is_ok());
     timed("decode_row", 200_000, || written_row().unwrap(), decode_whole_rows);
     timed("decode_row_untested", 200_000, || written_row().unwrap(), decode_rows);
-    timed("apply", 1_000_000, standing_table::<Flat>, apply);
+    let those = timed("apply", 1_000_000, standing_table::<Flat>, apply);
     timed("apply_maps", 1_000_000, standing_table::<Maps>, apply);
+    let these = timed("apply_renewed", 1_000_000, renewed_table, apply);
+    println!("apply_renewed/apply {:.2}", these as f64 / those as f64);
     timed("blocking", 1_000, waiting_table, blocking);
     let host = || Host {
         disk: Disk::new(ROWS_AT + ROW * 4096),

@@ -92,7 +92,7 @@ pub trait Table: Default {
 
 // FLAT: one list of records, in which to join a queue is to move to the list's end
 
-#[derive(Default)]
+#[derive(Clone, Default)]
 pub struct Flat {
     pub records: Vec<Record>,
     clients: Vec<(u8, u64, Reply)>,

@@ -1,7 +1,7 @@
 use crate::bench_failure::BenchFailure;
 use crate::benchmark::Benchmark;
 use lock_command::{
-    Action, ClientNumber, Command, HostNumber, LockName, LockNumber, RequestNumber,
+    Action, ClientNumber, Command, HostNumber, LockName, LockNumber, RequestNumber, decode,
 };
 use lock_modes::Mode;
 use lock_table::{Answer, Table};
@@ -14,16 +14,21 @@ const CLIENTS: u32 = 8;
 const STANDING: u16 = 248;
 
 /// Commands of eight clients to a lock table of 256 locks: each enqueues a lock, then each converts it, then each
-/// releases it.
+/// releases it. The table has grown by its commands, or was carried over from such a table, as by a renewal.
 #[derive(Drop)]
-pub struct Apply {
+pub struct Apply<const RENEWED: bool> {
     table: Table,
 }
 
-impl Benchmark for Apply {
+impl<const RENEWED: bool> Benchmark for Apply<RENEWED> {
     fn new(alloc: Global) -> Result<Self, BenchFailure> {
-        let mut table = Table::new(alloc)?;
-        stand_all(&mut table)?;
+        let mut grown = Table::new(alloc)?;
+        stand_all(&mut grown)?;
+        let table = if RENEWED {
+            renewed(alloc, &grown)?
+        } else {
+            grown
+        };
         Ok(Apply { table })
     }
 
@@ -51,6 +56,20 @@ fn stand_all(table: &mut Table) -> Result<(), BenchFailure> {
         }
     }
     Ok(())
+}
+
+/// A new table, to which this one is carried over.
+fn renewed(alloc: Global, table: &Table) -> Result<Table, BenchFailure> {
+    let mut new = Table::new(alloc)?;
+    for value in &table.carried_over(alloc)? {
+        let Some(command) = decode(value) else {
+            return Err(BenchFailure::Wrong);
+        };
+        if let Answer::Refused(_) = new.apply(&command).answer {
+            return Err(BenchFailure::Wrong);
+        }
+    }
+    Ok(new)
 }
 
 /// The enqueue of a lock that stands all the while.

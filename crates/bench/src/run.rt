@@ -34,8 +34,10 @@ pub fn run_all<R: Print + Wait + Clock + AllocGlobal>(
     run_one::<R, BlockWrite>(rt, task, "block_write", 200_000)?;
     run_one::<R, DecodeRow>(rt, task, "decode_row", 200_000)?;
     run_one::<R, DecodeRow>(rt, task, "decode_row_untested", 200_000)?;
-    run_one::<R, Apply>(rt, task, "apply", 1_000_000)?;
-    run_one::<R, Apply>(rt, task, "apply_maps", 1_000_000)?;
+    let grown = run_one::<R, Apply<false>>(rt, task, "apply", 1_000_000)?;
+    run_one::<R, Apply<false>>(rt, task, "apply_maps", 1_000_000)?;
+    let renewed = run_one::<R, Apply<true>>(rt, task, "apply_renewed", 1_000_000)?;
+    print_ratio(rt, "apply_renewed/apply", renewed, grown)?;
     run_one::<R, Waits>(rt, task, "blocking", 1_000)?;
     let locked = run_first_path(rt, task)?;
     let direct = run_one::<R, Direct>(rt, task, "direct", 4096)?;
