@@ -61,7 +61,7 @@ fn stand_all(table: &mut Table) -> Result<(), BenchFailure> {
 /// A new table, to which this one is carried over.
 fn renewed(alloc: Global, table: &Table) -> Result<Table, BenchFailure> {
     let mut new = Table::new(alloc)?;
-    for value in &table.carried_over(alloc)? {
+    for value in &table.carried_over(alloc, &[])? {
         let Some(command) = decode(value) else {
             return Err(BenchFailure::Wrong);
         };
