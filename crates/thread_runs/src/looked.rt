@@ -63,12 +63,6 @@ fn looks_and_marks<N: ClusterName>(
     })
 }
 
-#[derive(Drop)]
-struct Looked {
-    looks: Looks,
-    same: bool,
-}
-
 // The same of hosts 0 and 1, and their seats.
 fn seats_that_look<N: ClusterName>(
     rt: &impl Wait,
@@ -81,19 +75,15 @@ fn seats_that_look<N: ClusterName>(
     Some((looks, seats_of(alloc, one, other)?))
 }
 
-// The same, and whether the cluster comes out the same.
+// The same, where the cluster can be taken apart.
 fn looked_in<N: ClusterName>(
     rt: &impl Wait,
     alloc: Global,
-    config: Config,
     cluster: Cluster<'_, N, SimDisk>,
-) -> Option<Looked> {
+) -> Option<Looks> {
     let (looks, seats) = seats_that_look(rt, alloc, &cluster)?;
-    let left = left_by(alloc, config, cluster, seats)?;
-    Some(Looked {
-        looks: looks?,
-        same: left.same,
-    })
+    let _entries = left_by(cluster, seats)?;
+    looks
 }
 
 // A host looks for what another marks.
@@ -101,13 +91,12 @@ fn looks_for_marks<N: ClusterName, R: Wait>(
     rt: &R,
     alloc: Global,
     opening: Opening,
-) -> Option<Looked>
+) -> Option<Looks>
     requires { IsNamed opening N.shape N.table N.name N.parts N.all }
 {
-    let config = opening.config();
     let (ties, foundation) = opening.named::<N>(alloc).ok()?;
     let cluster = Cluster::simulated(alloc, &ties, foundation).ok()?;
-    looked_in(rt, alloc, config, cluster)
+    looked_in(rt, alloc, cluster)
 }
 
 // What is acknowledged and not marked a look does not find. A slot that is not learned can't be marked.
@@ -115,14 +104,10 @@ fn looks_for_marks<N: ClusterName, R: Wait>(
 fn looks_find_marks(rt: HostRuntime) -> Result<(), Fail> {
     let config = Config::new(3, 4).ok_or("a size")?;
     let opening = Opening::new(rt.alloc(), config)?;
-    let looked = looks_for_marks::<Brand, HostRuntime>(&rt, rt.alloc(), opening).ok_or("a record")?;
-    assert_eq!(rt; looked.looks.before, 0);
-    assert_eq!(rt;
-        looked.looks.early,
-        Some(HostFault::Refused(Refusal::NotLearned))
-    );
-    assert_eq!(rt; looked.looks.marked, Some(3));
-    assert_eq!(rt; looked.looks.after, 1);
-    assert!(rt; looked.same);
+    let looks = looks_for_marks::<Brand, HostRuntime>(&rt, rt.alloc(), opening).ok_or("a record")?;
+    assert_eq!(rt; looks.before, 0);
+    assert_eq!(rt; looks.early, Some(HostFault::Refused(Refusal::NotLearned)));
+    assert_eq!(rt; looks.marked, Some(3));
+    assert_eq!(rt; looks.after, 1);
     Ok(())
 }

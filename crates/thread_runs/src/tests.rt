@@ -4,7 +4,6 @@ ghost use Rattle.cluster.specs.Opening.{IsNamed};
 
 use crate::looked::mark_once;
 use crate::pair_disk::{Flags, PairDisk, is_set, pair};
-use crate::replay::audit;
 use cluster::{
     Cluster, ClusterName, Config, Entry, Gate, HostFault, HostSeat, OpenGate, Opening, Receipt,
     Refusal,
@@ -61,26 +60,13 @@ pub(crate) fn seats_of<N: ClusterName>(
     vec![in alloc; one, other].ok()
 }
 
-// What hosts have left, and whether it comes out the same when it is run again.
-#[derive(Drop)]
-pub(crate) struct Left {
-    pub entries: Vec<Entry>,
-    pub same: bool,
-}
-
-// What a cluster leaves whose seats are given back. Whoever calls this holds neither afterwards.
+// The entries of a cluster whose seats are given back. Whoever calls this holds neither afterwards.
 pub(crate) fn left_by<N: ClusterName, D: Disk + Drop>(
-    alloc: Global,
-    config: Config,
     cluster: Cluster<'_, N, D>,
     seats: Vec<HostSeat<N>>,
-) -> Option<Left> {
+) -> Option<Vec<Entry>> {
     let record = cluster.finish(seats).ok()?;
-    let same = audit(alloc, config, &record, &[0]).ok()?;
-    Some(Left {
-        entries: record.entries,
-        same,
-    })
+    Some(record.entries)
 }
 
 // Submits an enqueue of a lock, where the host is idle.
@@ -219,24 +205,21 @@ struct Held {
     second: Option<Receipt>,
     late: bool,
     entries: usize,
-    same: bool,
 }
 
-// The same, how many entries there are, and whether the cluster comes out the same.
+// The same, and how many entries there are.
 fn held_in<N: ClusterName + Send + Sync, R: Threads + Wait + Clock + Sync>(
     rt: &R,
     alloc: Global,
-    config: Config,
     cluster: Cluster<'_, N, SimDisk>,
 ) -> Option<Held> {
     let (passed, seats) = seats_that_pass(rt, alloc, &cluster)?;
-    let left = left_by(alloc, config, cluster, seats)?;
+    let entries = left_by(cluster, seats)?;
     Some(Held {
         first: passed.first,
         second: passed.second,
         late: passed.late,
-        entries: left.entries.len(),
-        same: left.same,
+        entries: entries.len(),
     })
 }
 
@@ -247,10 +230,9 @@ fn one_host_held<N: ClusterName + Send + Sync, R: Threads + Wait + Clock + Sync>
 ) -> Option<Held>
     requires { IsNamed opening N.shape N.table N.name N.parts N.all }
 {
-    let config = opening.config();
     let (ties, foundation) = opening.named::<N>(alloc).ok()?;
     let cluster = Cluster::simulated(alloc, &ties, foundation).ok()?;
-    held_in(rt, alloc, config, cluster)
+    held_in(rt, alloc, cluster)
 }
 
 #[test]
@@ -264,7 +246,6 @@ fn gate_one_host(rt: HostRuntime) -> Result<(), Fail> {
     assert_eq!(rt; (second.slot, second.reply.answer), (0, Answer::Granted));
     assert_eq!(rt; (first.slot, first.reply.answer), (1, Answer::Queued));
     assert_eq!(rt; held.entries, 180);
-    assert!(rt; held.same);
     Ok(())
 }
 
@@ -322,17 +303,16 @@ fn seats_that_meet<N: ClusterName + Send + Sync, R: Threads + Wait + Clock + Syn
     Some((acks, seats_of(alloc, one.seat, other.seat)?))
 }
 
-// The same, and whether the cluster comes out the same.
+// How many were acknowledged, where the cluster can be taken apart.
 fn met_in<N: ClusterName + Send + Sync, R: Threads + Wait + Clock + Sync>(
     rt: &R,
     alloc: Global,
-    config: Config,
     cluster: Cluster<'_, N, PairDisk<'_, R>>,
     begun: &AtomicBool,
-) -> Option<(usize, bool)> {
+) -> Option<usize> {
     let (acks, seats) = seats_that_meet(rt, alloc, &cluster, begun)?;
-    let left = left_by(alloc, config, cluster, seats)?;
-    Some((acks, left.same))
+    let _entries = left_by(cluster, seats)?;
+    Some(acks)
 }
 
 #[derive(Drop)]
@@ -340,7 +320,6 @@ struct Met {
     acks: usize,
     begun: bool,
     late: bool,
-    same: bool,
 }
 
 // One host's call of disk 1 goes on until the other has called disk 0.
@@ -357,12 +336,11 @@ fn two_hosts_met<N: ClusterName + Send + Sync, R: Threads + Wait + Clock + Sync>
     let (ties, foundation) = opening.named::<N>(alloc).ok()?;
     let disks = pair(rt, alloc, config, &flags).ok()?;
     let cluster = Cluster::new(alloc, disks, &ties, foundation).ok()?;
-    let (acks, same) = met_in(rt, alloc, config, cluster, &flags.begun)?;
+    let acks = met_in(rt, alloc, cluster, &flags.begun)?;
     Some(Met {
         acks,
         begun: flags.begun.load(Ordering::SeqCst),
         late: flags.late.load(Ordering::SeqCst),
-        same,
     })
 }
 
@@ -374,7 +352,6 @@ fn two_disks_at_once(rt: HostRuntime) -> Result<(), Fail> {
     assert!(rt; met.begun);
     assert!(rt; !met.late);
     assert_eq!(rt; met.acks, 2);
-    assert!(rt; met.same);
     Ok(())
 }
 
@@ -476,7 +453,6 @@ struct Harmed {
     refused: Option<HostFault>,
     entries: usize,
     shown: [bool; 3],
-    same: bool,
 }
 
 // Whether the journal shows the crash and the two losses at their places.
@@ -492,18 +468,16 @@ fn faults_shown(entries: &[Entry]) -> [bool; 3] {
 fn harmed_in<N: ClusterName, R: Wait>(
     rt: &R,
     alloc: Global,
-    config: Config,
     cluster: Cluster<'_, N, SimDisk>,
 ) -> Option<Harmed> {
     let (harm, seats) = seat_in_harm(rt, alloc, &cluster)?;
-    let left = left_by(alloc, config, cluster, seats)?;
+    let entries = left_by(cluster, seats)?;
     Some(Harmed {
         receipt: harm.receipt,
         fault: harm.fault,
         refused: harm.refused,
-        entries: left.entries.len(),
-        shown: faults_shown(&left.entries),
-        same: left.same,
+        entries: entries.len(),
+        shown: faults_shown(&entries),
     })
 }
 
@@ -514,10 +488,9 @@ fn harm_read_back<N: ClusterName, R: Wait>(
 ) -> Option<Harmed>
     requires { IsNamed opening N.shape N.table N.name N.parts N.all }
 {
-    let config = opening.config();
     let (ties, foundation) = opening.named::<N>(alloc).ok()?;
     let cluster = Cluster::simulated(alloc, &ties, foundation).ok()?;
-    harmed_in(rt, alloc, config, cluster)
+    harmed_in(rt, alloc, cluster)
 }
 
 #[test]
@@ -537,161 +510,12 @@ fn faults_read_back(rt: HostRuntime) -> Result<(), Fail> {
     );
     assert_eq!(rt; harmed.entries, 51);
     assert_eq!(rt; harmed.shown, [true; 3]);
-    assert!(rt; harmed.same);
-    Ok(())
-}
-
-// A seat that is taken, and lost again.
-fn lose_seat<N: ClusterName>(
-    rt: &impl Wait,
-    alloc: Global,
-    cluster: &Cluster<'_, N, SimDisk>,
-    host: u8,
-) -> Option<HostNumber> {
-    let seat = seat_of(rt, alloc, cluster, host)?;
-    Some(seat.host())
-}
-
-// How another seat of a host is refused.
-fn seat_refused<N: ClusterName>(
-    rt: &impl Wait,
-    alloc: Global,
-    cluster: &Cluster<'_, N, SimDisk>,
-    host: HostNumber,
-) -> Option<HostFault> {
-    cluster.seat(rt, alloc, host).err()
-}
-
-// How it is refused that this seat alone is given back.
-fn finish_refused<N: ClusterName>(
-    alloc: Global,
-    cluster: Cluster<'_, N, SimDisk>,
-    seat: HostSeat<N>,
-) -> Option<HostFault> {
-    let seats = vec![in alloc; seat].ok()?;
-    cluster.finish(seats).err()
-}
-
-// A host is handed out once, and each that was is to be given back.
-fn miscounted<N: ClusterName, R: Wait>(
-    rt: &R,
-    alloc: Global,
-    cluster: Cluster<'_, N, SimDisk>,
-) -> Option<(HostFault, HostFault)> {
-    let lost = lose_seat(rt, alloc, &cluster, 1)?;
-    let taken = seat_refused(rt, alloc, &cluster, lost)?;
-    let seat = seat_of(rt, alloc, &cluster, 0)?;
-    let missing = finish_refused(alloc, cluster, seat)?;
-    Some((taken, missing))
-}
-
-fn seats_counted<N: ClusterName, R: Wait>(
-    rt: &R,
-    alloc: Global,
-    opening: Opening,
-) -> Option<(HostFault, HostFault)>
-    requires { IsNamed opening N.shape N.table N.name N.parts N.all }
-{
-    let (ties, foundation) = opening.named::<N>(alloc).ok()?;
-    let cluster = Cluster::simulated(alloc, &ties, foundation).ok()?;
-    miscounted(rt, alloc, cluster)
-}
-
-#[test]
-fn seats_are_counted(rt: HostRuntime) -> Result<(), Fail> {
-    let config = Config::new(1, 2).ok_or("a size")?;
-    let opening = Opening::new(rt.alloc(), config)?;
-    let told = seats_counted::<Brand, HostRuntime>(&rt, rt.alloc(), opening).ok_or("refusals")?;
-    assert_eq!(rt; told, (HostFault::SeatTaken, HostFault::SeatsMissing));
-    Ok(())
-}
-
-#[derive(Drop)]
-struct Beaten {
-    suggested: Vec<u8>,
-    same: bool,
-}
-
-// Beats, where the host is idle.
-fn beat_once<N: ClusterName, D: Disk + Drop>(
-    rt: &impl Wait,
-    cluster: &Cluster<'_, N, D>,
-    seat: &mut HostSeat<N>,
-) -> Option<u8> {
-    if !seat.idle() {
-        return None;
-    }
-    cluster.beat(rt, seat, &mut OpenGate).ok()
-}
-
-// What two hosts are suggested that beat in turn, twice each.
-fn suggested_in_turn<N: ClusterName>(
-    rt: &impl Wait,
-    alloc: Global,
-    cluster: &Cluster<'_, N, SimDisk>,
-    first: &mut HostSeat<N>,
-    second: &mut HostSeat<N>,
-) -> Option<Vec<u8>> {
-    let mut suggested = Vec::new(alloc);
-    for _ in 0..2 {
-        suggested.push(beat_once(rt, cluster, first)?).ok()?;
-        suggested.push(beat_once(rt, cluster, second)?).ok()?;
-    }
-    Some(suggested)
-}
-
-// The same of hosts 5 and 3, and their seats.
-fn seats_that_beat<N: ClusterName>(
-    rt: &impl Wait,
-    alloc: Global,
-    cluster: &Cluster<'_, N, SimDisk>,
-) -> Option<(Option<Vec<u8>>, Vec<HostSeat<N>>)> {
-    let mut one = seat_of(rt, alloc, cluster, 3)?;
-    let mut other = seat_of(rt, alloc, cluster, 5)?;
-    let suggested = suggested_in_turn(rt, alloc, cluster, &mut other, &mut one);
-    Some((suggested, seats_of(alloc, one, other)?))
-}
-
-// The same, and whether the cluster comes out the same.
-fn beaten_in<N: ClusterName>(
-    rt: &impl Wait,
-    alloc: Global,
-    config: Config,
-    cluster: Cluster<'_, N, SimDisk>,
-) -> Option<Beaten> {
-    let (suggested, seats) = seats_that_beat(rt, alloc, &cluster)?;
-    let left = left_by(alloc, config, cluster, seats)?;
-    Some(Beaten {
-        suggested: suggested?,
-        same: left.same,
-    })
-}
-
-// Two hosts beat in turn, twice each.
-fn beats_in_turn<N: ClusterName, R: Wait>(rt: &R, alloc: Global, opening: Opening) -> Option<Beaten>
-    requires { IsNamed opening N.shape N.table N.name N.parts N.all }
-{
-    let config = opening.config();
-    let (ties, foundation) = opening.named::<N>(alloc).ok()?;
-    let cluster = Cluster::simulated(alloc, &ties, foundation).ok()?;
-    beaten_in(rt, alloc, config, cluster)
-}
-
-// A first beat suggests its own host, a later one the least that has beaten since.
-#[test]
-fn two_hosts_beat(rt: HostRuntime) -> Result<(), Fail> {
-    let config = Config::new(3, 4).ok_or("a size")?;
-    let opening = Opening::new(rt.alloc(), config)?;
-    let beaten = beats_in_turn::<Brand, HostRuntime>(&rt, rt.alloc(), opening).ok_or("a record")?;
-    assert_eq!(rt; beaten.suggested.as_slice(), [5u8, 3, 3, 3].as_slice());
-    assert!(rt; beaten.same);
     Ok(())
 }
 
 #[derive(Drop)]
 struct Crowd {
     acks: usize,
-    same: bool,
     harm: usize,
 }
 
@@ -932,18 +756,16 @@ fn harm_in(entries: &[Entry]) -> usize {
 fn crowd_in<N: ClusterName + Send + Sync, R: Threads + Wait + Clock + Sync>(
     rt: &R,
     alloc: Global,
-    config: Config,
     cluster: Cluster<'_, N, SimDisk>,
     rounds: u16,
 ) -> Option<Crowd> {
     let left = seats_that_work(rt, alloc, &cluster, rounds)?;
     let seats = seats_among(alloc, left)?;
     let acks = acks_of(&seats);
-    let left = left_by(alloc, config, cluster, seats)?;
+    let entries = left_by(cluster, seats)?;
     Some(Crowd {
         acks,
-        same: left.same,
-        harm: harm_in(&left.entries),
+        harm: harm_in(&entries),
     })
 }
 
@@ -956,10 +778,9 @@ fn crowded<N: ClusterName + Send + Sync, R: Threads + Wait + Clock + Sync>(
 ) -> Option<Crowd>
     requires { IsNamed opening N.shape N.table N.name N.parts N.all }
 {
-    let config = opening.config();
     let (ties, foundation) = opening.named::<N>(alloc).ok()?;
     let cluster = Cluster::simulated(alloc, &ties, foundation).ok()?;
-    crowd_in(rt, alloc, config, cluster, rounds)
+    crowd_in(rt, alloc, cluster, rounds)
 }
 
 #[test]
@@ -967,7 +788,6 @@ fn eight_hosts(rt: HostRuntime) -> Result<(), Fail> {
     let config = Config::new(5, 2048).ok_or("a size")?;
     let opening = Opening::new(rt.alloc(), config)?;
     let crowd = crowded::<Brand, HostRuntime>(&rt, rt.alloc(), opening, 125).ok_or("a record")?;
-    assert!(rt; crowd.same);
     assert!(rt; crowd.acks > 100);
     assert!(rt; crowd.harm > 2);
     Ok(())
