@@ -37,7 +37,7 @@ const char *mg_version(void);
 #define MG_DISKS 7
 #define MG_SLOTS 4096      /* commands in the life of a folder */
 #define MG_LOCKS 256       /* at once */
-#define MG_CLIENTS 32      /* for ever */
+#define MG_CLIENTS 32      /* in the life of a folder; a renewal may leave some out */
 #define MG_NAME_LENGTH 15  /* bytes from 0x21 to 0x7E */
 #define MG_VALUE_LENGTH 16 /* bytes that are kept with a name */
 #define MG_TEXT_SIZE 16384 /* a table's text is never longer */
