@@ -137,7 +137,7 @@ int mg_set_tries(struct mg_host *host, unsigned tries);
  *
  * `client` is 0 to 255, and owns its locks. `request` is 1 to 2^62, and rises from one command of a client to its next: the
  * same number again is answered as it was, and is not carried out twice; a lower one is MG_STALE. `lock` is 1 to 65,535, and
- * is free for mg_enqueue. `answer` may be NULL.
+ * is free for mg_enqueue. Clients from 240 on and locks from 1,536 on are for mg_session.h and mg-lock. `answer` may be NULL.
  *
  * A command that is acknowledged is marked then, so that others learn it by mg_look. A mark that fails is not told.
  *
@@ -266,7 +266,7 @@ int mg_value(struct mg_host *host, unsigned lock, struct mg_value *into);
  * `into` may be NULL where `room` is 0. */
 int mg_locks(struct mg_host *host, struct mg_lock_view *into, size_t room, size_t *count);
 
-/* All clients that were ever heard, by number. */
+/* All clients that the table knows, by number: those that were ever heard, but for those that a renewal left out. */
 int mg_clients(struct mg_host *host, struct mg_client_view *into, size_t room, size_t *count);
 
 /* The text of `dlm table`, after its first line. Puts up to `size` - 1 bytes and a zero into `into`; `*length` is how long
