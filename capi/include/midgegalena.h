@@ -37,7 +37,7 @@ const char *mg_version(void);
 #define MG_DISKS 7
 #define MG_SLOTS 4096      /* commands in the life of a folder */
 #define MG_LOCKS 256       /* at once */
-#define MG_CLIENTS 32      /* for ever */
+#define MG_CLIENTS 32      /* in the life of a folder; a renewal may leave some out */
 #define MG_NAME_LENGTH 15  /* bytes from 0x21 to 0x7E */
 #define MG_VALUE_LENGTH 16 /* bytes that are kept with a name */
 #define MG_TEXT_SIZE 16384 /* a table's text is never longer */
@@ -137,7 +137,7 @@ int mg_set_tries(struct mg_host *host, unsigned tries);
  *
  * `client` is 0 to 255, and owns its locks. `request` is 1 to 2^62, and rises from one command of a client to its next: the
  * same number again is answered as it was, and is not carried out twice; a lower one is MG_STALE. `lock` is 1 to 65,535, and
- * is free for mg_enqueue. `answer` may be NULL.
+ * is free for mg_enqueue. Clients from 240 on and locks from 1,536 on are for mg_session.h and mg-lock. `answer` may be NULL.
  *
  * A command that is acknowledged is marked then, so that others learn it by mg_look. A mark that fails is not told.
  *
@@ -266,7 +266,7 @@ int mg_value(struct mg_host *host, unsigned lock, struct mg_value *into);
  * `into` may be NULL where `room` is 0. */
 int mg_locks(struct mg_host *host, struct mg_lock_view *into, size_t room, size_t *count);
 
-/* All clients that were ever heard, by number. */
+/* All clients that the table knows, by number: those that were ever heard, but for those that a renewal left out. */
 int mg_clients(struct mg_host *host, struct mg_client_view *into, size_t room, size_t *count);
 
 /* The text of `dlm table`, after its first line. Puts up to `size` - 1 bytes and a zero into `into`; `*length` is how long

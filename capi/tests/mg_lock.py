@@ -108,7 +108,7 @@ def pages():
     """The commands of the pages, over this folder, with programs that are there."""
     folder()
     docs = os.path.join(os.path.dirname(os.path.abspath(__file__)), "..", "..", "docs")
-    stands_for = {"images": images, "/var/lib/dlm/images": images, "./backup": "true", "/usr/local/bin/backup": "true", "/shared/config": __file__}
+    stands_for = {"images": images, "/var/lib/dlm/current": images, "./backup": "true", "/usr/local/bin/backup": "true", "/shared/config": __file__}
     tried = 0
     for page in ("LIBRARY.md", "OPERATIONS.md"):
         with open(os.path.join(docs, page), encoding="utf-8") as file:
