@@ -45,7 +45,7 @@ fn carry_out<
 where
     R::File: FileExt + OpenFile + TryLock + Drop,
     requires { MayBeAsked task }
-    ensures { OnOk result (HasPrinted task (O.contents out.old) (O.contents out.new)) }
+    ensures { OnOk result (HasPrinted task.entry (O.contents out.old) (O.contents out.new)) }
 {
     match task {
         Subcommand::Run { script } => run_file(rt, script, out),
