@@ -162,7 +162,7 @@ static int begin_talk(struct mg_session *session, int64_t until, bool stops, int
     }
     if (status != MG_OK)
         return status;
-    /* A command that is acknowledged has learned all before it. So for a short talk what is marked is enough. */
+    /* For a release what is marked is enough, since nobody else releases the same lock. Who asks for one learns all before. */
     status = is_shared(session) ? mg_look(session->host, NULL) : mark_all(session->host);
     if (status != MG_OK) {
         mg_close(session->host);
@@ -492,13 +492,17 @@ static void drop(struct mg_session *session, struct entry *entry) {
     entry->lock = 0;
 }
 
-/* Finds a request number whose lock number is free, and takes the sign of that. */
-static int choose(struct mg_session *session, struct entry *entry, uint64_t *request) {
+/* Finds a request number whose lock number is free, and takes the sign of that. The number is odd for a command that does not queue.
+ * So a former run's command of this number, name and mode is the very same, which is acknowledged where it stands: the slot is that
+ * of the lock. */
+static int choose(struct mg_session *session, struct entry *entry, unsigned flags, uint64_t *request) {
     for (int i = 0; i < NUMBERS; i++) {
         struct mg_lock_view view;
         uint32_t lock;
         int found;
-        *request = next_request(session);
+        do
+            *request = next_request(session);
+        while (*request % 2 != flags);
         lock = (uint32_t)(FIRST_LOCK + LOCKS_OF_A_HOST * session->number + 2 * (*request % NUMBERS));
         lock += is_shared(session) ? 1 : 0;
         found = mg_lock(session->host, lock, &view);
@@ -523,7 +527,7 @@ static int ask(struct mg_session *session, struct entry *entry, int64_t until, u
     for (int tries = 0; tries < MOST_TRIES; tries++) {
         struct mg_answer answer;
         uint64_t request;
-        int found, status = choose(session, entry, &request);
+        int found, status = choose(session, entry, flags, &request);
         if (status != MG_OK)
             return status;
         do
@@ -537,7 +541,7 @@ static int ask(struct mg_session *session, struct entry *entry, int64_t until, u
             entry->slot = answer.slot;
             return found;
         }
-        if (status == MG_LOCK_IN_USE && found == MG_OK) {
+        if (found == MG_OK) {
             /* A command of a former run has taken it in this moment. It has no slot that is known. */
             status = release_entry(session, entry, NULL);
             if (entry->lock == 0)
@@ -559,7 +563,11 @@ static int ask_in_talk(struct mg_session *session, struct entry *entry, int64_t 
     int status = begin_talk(session, until, true, NULL);
     if (status != MG_OK)
         return status;
-    if (no_queue && !is_shared(session))
+    /* A number that was used already is not asked by again. The very same command would be acknowledged where it stands, far back, though
+     * its lock was given back since. */
+    if (is_shared(session))
+        status = mark_all(session->host);
+    else if (no_queue)
         status = mg_look(session->host, NULL);
     held->released += release_left(session, false);
     if (status == MG_OK && entry->lock != 0)
@@ -567,8 +575,8 @@ static int ask_in_talk(struct mg_session *session, struct entry *entry, int64_t 
     else if (status == MG_OK) {
         (void)mg_host_facts(session->host, &facts);
         entry->cluster = facts.cluster;
-        /* What is refused would take a slot all the same. Only what is marked was learned so far. */
-        if (no_queue && is_taken(session, entry->name, entry->mode)) {
+        /* What is refused would take a slot all the same. */
+        if (no_queue && !is_shared(session) && is_taken(session, entry->name, entry->mode)) {
             status = mark_all(session->host);
             held->released += release_left(session, false);
         }
