@@ -54,7 +54,7 @@ struct entry {
 };
 
 struct mg_session {
-    char *folder;         /* as it was given; it may be a link */
+    char *folder;         /* as it was given, but from the root; it may be a link */
     char *at;             /* where it led to */
     struct mg_host *host; /* of a talk */
     struct mg_host *eye;  /* with MG_SHARE, to look */
@@ -181,9 +181,18 @@ static int end_talk(struct mg_session *session, int status) {
     return status;
 }
 
-/* What a wait looks by: open, and not necessarily a talk. */
+static bool is_full(struct mg_host *host) {
+    struct mg_host_view facts;
+    return mg_host_facts(host, &facts) == MG_OK && facts.learned >= facts.slots;
+}
+
+/* What a wait looks by: open, and not necessarily a talk. A full log may be renewed, so its folder is followed. */
 static int open_to_look(struct mg_session *session, int64_t until, struct mg_host **looks) {
-    int status = MG_OK;
+    struct mg_host *open = is_shared(session) ? session->eye : session->host;
+    int status = open && is_full(open) ? follow(session) : MG_OK;
+    *looks = NULL;
+    if (status != MG_OK)
+        return status;
     if (!is_shared(session))
         status = begin_talk(session, until, true, NULL);
     else if (!session->eye) {
@@ -246,11 +255,6 @@ static int find(struct mg_session *session, struct mg_host *host, const struct e
 static bool has_learned(struct mg_host *host, const struct entry *entry) {
     struct mg_host_view facts;
     return mg_host_facts(host, &facts) == MG_OK && (facts.cluster != entry->cluster || (int64_t)facts.learned > entry->slot);
-}
-
-static bool is_full(struct mg_host *host) {
-    struct mg_host_view facts;
-    return mg_host_facts(host, &facts) == MG_OK && facts.learned >= facts.slots;
 }
 
 /* One above the last of the client, and of this session. */
@@ -618,9 +622,9 @@ static int look_for(struct mg_session *session, struct entry *entry, int64_t unt
         return found;
     if (*granted)
         return mg_value(looks, entry->lock, &held->value);
-    /* Once it is renewed the folder leads to where it goes on. */
+    /* Nothing is left to recover. Once it is renewed the next look is in the folder where it goes on. */
     if (is_full(looks))
-        return found == MG_OK ? follow(session) : found;
+        return found;
     if (found == MG_OK && milliseconds() < wait->recovers && !holds_nobodys(session, looks, entry->name))
         return MG_OK;
     wait->recovers = time_of_recovery();
@@ -733,13 +737,13 @@ int mg_check(struct mg_session *session, unsigned lock) {
         return MG_BAD_ARGUMENT;
     if (!entry || entry->state != OURS)
         return MG_NO_SUCH_LOCK;
-    status = open_to_look(session, until, &looks);
-    if (status == MG_OK)
-        status = mg_look(looks, NULL);
+    do {
+        status = open_to_look(session, until, &looks);
+        if (status == MG_OK)
+            status = mg_look(looks, NULL);
+    } while (status == MG_OK && is_full(looks) && has_moved(session));
     if (status == MG_NO_MAJORITY)
         close_all(session);
-    if (status == MG_OK && is_full(looks))
-        return follow(session);
     if (status != MG_OK || !has_learned(looks, entry))
         return status;
     status = find(session, looks, entry, &granted);
@@ -853,6 +857,17 @@ static int keep_left(struct mg_session *session) {
     return status;
 }
 
+/* The path from the root, to be freed, or NULL: the program may go to another folder meanwhile. */
+static char *from_root(const char *folder) {
+    char *here = folder[0] == '/' || folder[0] == '\0' ? NULL : getcwd(NULL, 0);
+    size_t size = (here ? strlen(here) : 0) + strlen(folder) + 2;
+    char *path = malloc(size);
+    if (path)
+        (void)snprintf(path, size, "%s%s%s", here ? here : "", here ? "/" : "", folder);
+    free(here);
+    return path;
+}
+
 static int begin(struct mg_session *session, int *disk) {
     int status;
     if (is_shared(session)) {
@@ -876,7 +891,7 @@ int mg_begin(const char *folder, unsigned host, unsigned flags, struct mg_sessio
         *disk = -1;
     if (out)
         *out = NULL;
-    if (!folder || !out || host >= MG_HOSTS || (flags & ~(MG_KEEP | MG_SHARE)) != 0)
+    if (!folder || !out || host >= MG_HOSTS || flags > MG_SHARE)
         return MG_BAD_ARGUMENT;
     session = calloc(1, sizeof *session);
     if (!session)
@@ -885,7 +900,7 @@ int mg_begin(const char *folder, unsigned host, unsigned flags, struct mg_sessio
     session->client = FIRST_CLIENT + host;
     session->flags = flags;
     session->interval = FIRST_INTERVAL;
-    session->folder = strdup(folder);
+    session->folder = from_root(folder);
     status = session->folder ? begin(session, disk) : MG_NO_MEMORY;
     if (status != MG_OK) {
         mg_end(session);
