@@ -237,20 +237,6 @@ static int find_ours(struct mg_session *session, struct mg_host *host, uint32_t 
     return status == MG_OK && !is_of(view, session->number) ? MG_NO_SUCH_LOCK : status;
 }
 
-/* Whether it shows the lock as it was asked for, and whether that is granted then. */
-static int find(struct mg_session *session, struct mg_host *host, const struct entry *entry, bool *granted) {
-    struct mg_lock_view view;
-    int status = find_ours(session, host, entry->lock, &view);
-    bool is_granted = view.wanted == MG_NONE;
-    *granted = false;
-    if (status != MG_OK)
-        return status;
-    if (strcmp(view.name, entry->name) != 0 || (is_granted ? view.held : view.wanted) != entry->mode)
-        return MG_NO_SUCH_LOCK;
-    *granted = is_granted;
-    return MG_OK;
-}
-
 /* Where the log has learned the command that asked for the lock. Of another log the lock was carried over. */
 static bool has_learned(struct mg_host *host, const struct entry *entry) {
     struct mg_host_view facts;
@@ -299,6 +285,32 @@ static int take_sign(const struct mg_session *session, unsigned number, uint32_t
         return NO_SIGN;
     }
     return file;
+}
+
+/* Whether somebody else has the lock's number by now. In a renewed folder our sign does not keep it, once the lock was purged there. */
+static bool is_anothers(const struct mg_session *session, struct mg_host *host, const struct entry *entry) {
+    struct mg_host_view facts;
+    int sign;
+    if (mg_host_facts(host, &facts) != MG_OK || facts.cluster == entry->cluster)
+        return false;
+    sign = take_sign(session, session->number, entry->lock, false);
+    if (sign != NO_SIGN)
+        close(sign);
+    return sign == NO_SIGN && errno == EWOULDBLOCK;
+}
+
+/* Whether it shows the lock as it was asked for, and whether that is granted then. */
+static int find(struct mg_session *session, struct mg_host *host, const struct entry *entry, bool *granted) {
+    struct mg_lock_view view;
+    int status = find_ours(session, host, entry->lock, &view);
+    bool is_granted = view.wanted == MG_NONE;
+    *granted = false;
+    if (status != MG_OK)
+        return status;
+    if (is_anothers(session, host, entry) || strcmp(view.name, entry->name) != 0 || (is_granted ? view.held : view.wanted) != entry->mode)
+        return MG_NO_SUCH_LOCK;
+    *granted = is_granted;
+    return MG_OK;
 }
 
 static void end_sign(const struct mg_session *session, uint32_t lock, int sign) {
@@ -357,7 +369,13 @@ static int release(struct mg_session *session, uint32_t lock, const void *value)
 
 /* The same for a lock of this session, which is then none of it any more. */
 static int release_entry(struct mg_session *session, struct entry *entry, const void *value) {
-    int status = release(session, entry->lock, value);
+    int status;
+    if (is_anothers(session, session->host, entry)) {
+        close(entry->sign);
+        entry->lock = 0;
+        return MG_NO_SUCH_LOCK;
+    }
+    status = release(session, entry->lock, value);
     if (status == MG_OK || status == MG_NO_SUCH_LOCK) {
         if (entry->in_doubt)
             status = MG_OK;

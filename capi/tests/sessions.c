@@ -457,6 +457,34 @@ static void purged_in_full(const char *name, unsigned flags) {
     mg_end(session);
 }
 
+/* The link comes to lead to a folder that knows nothing of our lock, and another process has its number, name and mode there. */
+static void anothers_number(void) {
+    char link[300], next[300], sign[300];
+    struct mg_session *session, *other;
+    struct mg_held a, b;
+    (void)folder("number_1", 64, 7);
+    (void)folder("number_2", 64, 8);
+    snprintf(link, sizeof link, "%s/number", work);
+    snprintf(next, sizeof next, "%s/number_next", work);
+    IS(symlink("number_1", link), 0);
+    session = begun(link, 0, MG_SHARE);
+    IS(mg_take(session, "db", MG_EX, 0, &a), MG_OK);
+    IS(symlink("number_2", next), 0);
+    IS(rename(next, link), 0);
+    other = begun(link, 0, MG_SHARE);
+    IS(mg_take(other, "db", MG_EX, 0, &b), MG_OK);
+    IS(b.lock, a.lock);
+    snprintf(sign, sizeof sign, "%s/mg-lock.0.%u", link, (unsigned)b.lock);
+    IS(mg_give(session, a.lock, NULL), MG_NO_SUCH_LOCK);
+    IS(mg_give(session, a.lock, NULL), MG_NO_SUCH_LOCK);
+    IS(access(sign, F_OK), 0);
+    IS(mg_check(other, b.lock), MG_OK);
+    IS(mg_give(other, b.lock, NULL), MG_OK);
+    IS(access(sign, F_OK), -1);
+    mg_end(other);
+    mg_end(session);
+}
+
 /* A folder's name that does not begin at the root is of the program's folder as the session begins. */
 static void elsewhere(void) {
     const char *path = folder("elsewhere", 64, 7);
@@ -634,6 +662,7 @@ int main(int argc, char **argv) {
     full();
     purged_in_full("purged_full", 0);
     purged_in_full("purged_full_shared", MG_SHARE);
+    anothers_number();
     elsewhere();
     last_number();
     lost_disks();
