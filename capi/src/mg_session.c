@@ -6,7 +6,8 @@
  *   wait looks by a handle that has no number.
  * - No reply is believed alone. A lock is had where the table shows its number with our client, host, name and mode, and it is gone
  *   where the table does not show it. So it does no harm if a request number was used before, by a command that came into the log
- *   late: then the table does not show what was asked, and the next number is taken.
+ *   late: then the table does not show what was asked, and the next number is taken. All that was acknowledged is learned before a
+ *   lock is asked for: the table would be an old one, if the very same command stood far back in the log.
  * - As long as a lock is somebody's, its sign of life is locked by flock: the file mg-lock.HOST.LOCK in the folder. Signs are made
  *   before the lock is asked for and removed after it is gone, within talks. A lock whose sign is there, and nobody's, is left over.
  *   One without a sign may be somebody's: a renewal carries locks over, and no signs.
