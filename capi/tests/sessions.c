@@ -459,7 +459,7 @@ static void purged_in_full(const char *name, unsigned flags) {
 
 /* The link comes to lead to a folder that knows nothing of our lock, and another process has its number, name and mode there. */
 static void anothers_number(void) {
-    char link[300], next[300], sign[300];
+    char link[300], next[300], sign[400];
     struct mg_session *session, *other;
     struct mg_held a, b;
     (void)folder("number_1", 64, 7);
