@@ -68,7 +68,7 @@ with Session(folder, host=0, library=library) as session:
     assert session.locks() == [], session.locks()
 
     # A value that is none is refused where it is set, and the lock is given back all the same.
-    for wrong in (b"short", "sixteen letters.", bytes(17)):
+    for wrong in (b"short", "sixteen letters.", bytes(17), 16):
         try:
             with session.lock("db", EX, timeout=3) as held:
                 held.leaves = wrong

@@ -90,9 +90,10 @@ class Held:
 
     @leaves.setter
     def leaves(self, value):
-        if value is not None and len(bytes(value)) != 16:
+        kept = None if value is None else memoryview(value).tobytes()
+        if kept is not None and len(kept) != 16:
             raise ValueError("a value has 16 bytes")
-        self._leaves = None if value is None else bytes(value)
+        self._leaves = kept
 
 
 class Session:
