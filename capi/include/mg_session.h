@@ -77,7 +77,8 @@ int mg_take(struct mg_session *session, const char *name, int mode, int timeout,
  * the session's: call again. It waits up to a minute for disks, for a full log to be renewed, and with MG_SHARE for the number. */
 int mg_give(struct mg_session *session, unsigned lock, const void *value);
 
-/* Looks whether a lock that was taken is still there: MG_OK, or MG_NO_SUCH_LOCK after a purge. */
+/* Looks whether a lock that was taken is still there: MG_OK, or MG_NO_SUCH_LOCK after a purge. As each look it sees nothing behind a
+ * command that has no mark, until somebody recovers: call mg_recover before it to be sure. */
 int mg_check(struct mg_session *session, unsigned lock);
 
 /* ---- of other hosts, and of other processes ---- */

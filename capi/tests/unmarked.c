@@ -113,6 +113,28 @@ static void hidden_by_another(const char *folder) {
     mg_end(second);
 }
 
+/* A purge behind a command without a mark: no check sees it, until somebody recovers. To give the lock back tells. */
+static void purged_behind_it(const char *folder, unsigned flags) {
+    struct request enqueue = asks(ENQUEUE, 9, 1, 9), purge = asks(PURGE, 8, 1, 0);
+    struct mg_session *session;
+    struct mg_host *host;
+    struct answer told;
+    struct mg_held held;
+    IS(mkdir(folder, 0777), 0);
+    IS(mg_format(folder, 3, 64, 7, NULL), MG_OK);
+    IS(mg_begin(folder, 0, flags, &session, NULL), MG_OK);
+    IS(mg_take(session, "db", MG_EX, 0, &held), MG_OK);
+    IS(mg_open(folder, 2, &host, NULL), MG_OK);
+    IS(submit_once(host, &enqueue, "another", &told), MG_OK);
+    IS(submit_once(host, &purge, "", &told), MG_OK);
+    mg_close(host);
+    IS(mg_check(session, held.lock), MG_OK);
+    IS(mg_recover(session, 0, NULL), MG_OK);
+    IS(mg_check(session, held.lock), MG_NO_SUCH_LOCK);
+    IS(mg_give(session, held.lock, NULL), MG_NO_SUCH_LOCK);
+    mg_end(session);
+}
+
 int main(int argc, char **argv) {
     char other[300];
     struct mg_host *first, *second;
@@ -153,5 +175,9 @@ int main(int argc, char **argv) {
     }
     snprintf(other, sizeof other, "%s/hidden", argv[1]);
     hidden_by_another(other);
+    for (unsigned flags = 0; flags <= MG_SHARE; flags += MG_SHARE) {
+        snprintf(other, sizeof other, "%s/purged%u", argv[1], flags);
+        purged_behind_it(other, flags);
+    }
     return failures != 0;
 }
