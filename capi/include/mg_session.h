@@ -30,7 +30,7 @@ struct mg_session;
 
 /* ---- begin and end ---- */
 
-/* The locks that a former run left are kept. mg_take then takes such a lock first, where name and mode are the same. */
+/* The locks that a former run left are kept. mg_take then takes such a lock first, where name and mode are the same. Not with MG_SHARE. */
 #define MG_KEEP 1u
 
 /* The session has the host number only while a call works on the images, so any number of processes share it. Each of its calls
@@ -74,10 +74,11 @@ int mg_take(struct mg_session *session, const char *name, int mode, int timeout,
 
 /* Gives a lock back. Where `value` is not NULL its MG_VALUE_LENGTH bytes are kept with the name, if the lock holds MG_PW or MG_EX.
  * MG_NO_SUCH_LOCK: the lock had been taken away, by a purge, or is none of this session's. After any other number it is still
- * the session's: call again. It waits up to a minute for disks, for the number, and for a full log to be renewed. */
+ * the session's: call again. It waits up to a minute for disks, for a full log to be renewed, and with MG_SHARE for the number. */
 int mg_give(struct mg_session *session, unsigned lock, const void *value);
 
-/* Looks whether a lock that was taken is still there: MG_OK, or MG_NO_SUCH_LOCK after a purge. */
+/* Looks whether a lock that was taken is still there: MG_OK, or MG_NO_SUCH_LOCK after a purge. As each look it sees nothing behind a
+ * command that has no mark, until somebody recovers: call mg_recover before it to be sure. */
 int mg_check(struct mg_session *session, unsigned lock);
 
 /* ---- of other hosts, and of other processes ---- */

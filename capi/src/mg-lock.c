@@ -144,12 +144,14 @@ static void put_environment(void) {
 
 /* In the child. The sign gets a number above those that scripts use. */
 static void become_command(int sign, const sigset_t *before) {
+    int cause;
     if (!asked.closes && sign >= 0 && fcntl(sign, F_DUPFD, LOWEST_SIGN) < 0)
         fcntl(sign, F_SETFD, 0);
     sigprocmask(SIG_SETMASK, before, NULL);
     execvp(asked.command[0], asked.command);
-    say("%s: %s", asked.command[0], strerror(errno));
-    _exit(errno == ENOENT ? NOT_FOUND : CANNOT_RUN);
+    cause = errno;
+    say("%s: %s", asked.command[0], strerror(cause));
+    _exit(cause == ENOENT ? NOT_FOUND : CANNOT_RUN);
 }
 
 /* Waits for the command, or without one for a signal. Hands signals on, and ends the command once the lock was taken away. */

@@ -6,7 +6,8 @@
  *   wait looks by a handle that has no number.
  * - No reply is believed alone. A lock is had where the table shows its number with our client, host, name and mode, and it is gone
  *   where the table does not show it. So it does no harm if a request number was used before, by a command that came into the log
- *   late: then the table does not show what was asked, and the next number is taken.
+ *   late: then the table does not show what was asked, and the next number is taken. All that was acknowledged is learned before a
+ *   lock is asked for: the table would be an old one, if the very same command stood far back in the log.
  * - As long as a lock is somebody's, its sign of life is locked by flock: the file mg-lock.HOST.LOCK in the folder. Signs are made
  *   before the lock is asked for and removed after it is gone, within talks. A lock whose sign is there, and nobody's, is left over.
  *   One without a sign may be somebody's: a renewal carries locks over, and no signs.
@@ -54,7 +55,7 @@ struct entry {
 };
 
 struct mg_session {
-    char *folder;         /* as it was given; it may be a link */
+    char *folder;         /* as it was given, but from the root; it may be a link */
     char *at;             /* where it led to */
     struct mg_host *host; /* of a talk */
     struct mg_host *eye;  /* with MG_SHARE, to look */
@@ -162,7 +163,7 @@ static int begin_talk(struct mg_session *session, int64_t until, bool stops, int
     }
     if (status != MG_OK)
         return status;
-    /* A command that is acknowledged has learned all before it. So for a short talk what is marked is enough. */
+    /* For a release what is marked is enough, since nobody else releases the same lock. Who asks for one learns all before. */
     status = is_shared(session) ? mg_look(session->host, NULL) : mark_all(session->host);
     if (status != MG_OK) {
         mg_close(session->host);
@@ -181,9 +182,18 @@ static int end_talk(struct mg_session *session, int status) {
     return status;
 }
 
-/* What a wait looks by: open, and not necessarily a talk. */
+static bool is_full(struct mg_host *host) {
+    struct mg_host_view facts;
+    return mg_host_facts(host, &facts) == MG_OK && facts.learned >= facts.slots;
+}
+
+/* What a wait looks by: open, and not necessarily a talk. A full log may be renewed, so its folder is followed. */
 static int open_to_look(struct mg_session *session, int64_t until, struct mg_host **looks) {
-    int status = MG_OK;
+    struct mg_host *open = is_shared(session) ? session->eye : session->host;
+    int status = open && is_full(open) ? follow(session) : MG_OK;
+    *looks = NULL;
+    if (status != MG_OK)
+        return status;
     if (!is_shared(session))
         status = begin_talk(session, until, true, NULL);
     else if (!session->eye) {
@@ -228,29 +238,10 @@ static int find_ours(struct mg_session *session, struct mg_host *host, uint32_t 
     return status == MG_OK && !is_of(view, session->number) ? MG_NO_SUCH_LOCK : status;
 }
 
-/* Whether it shows the lock as it was asked for, and whether that is granted then. */
-static int find(struct mg_session *session, struct mg_host *host, const struct entry *entry, bool *granted) {
-    struct mg_lock_view view;
-    int status = find_ours(session, host, entry->lock, &view);
-    bool is_granted = view.wanted == MG_NONE;
-    *granted = false;
-    if (status != MG_OK)
-        return status;
-    if (strcmp(view.name, entry->name) != 0 || (is_granted ? view.held : view.wanted) != entry->mode)
-        return MG_NO_SUCH_LOCK;
-    *granted = is_granted;
-    return MG_OK;
-}
-
 /* Where the log has learned the command that asked for the lock. Of another log the lock was carried over. */
 static bool has_learned(struct mg_host *host, const struct entry *entry) {
     struct mg_host_view facts;
     return mg_host_facts(host, &facts) == MG_OK && (facts.cluster != entry->cluster || (int64_t)facts.learned > entry->slot);
-}
-
-static bool is_full(struct mg_host *host) {
-    struct mg_host_view facts;
-    return mg_host_facts(host, &facts) == MG_OK && facts.learned >= facts.slots;
 }
 
 /* One above the last of the client, and of this session. */
@@ -295,6 +286,32 @@ static int take_sign(const struct mg_session *session, unsigned number, uint32_t
         return NO_SIGN;
     }
     return file;
+}
+
+/* Whether somebody else has the lock's number by now. In a renewed folder our sign does not keep it, once the lock was purged there. */
+static bool is_anothers(const struct mg_session *session, struct mg_host *host, const struct entry *entry) {
+    struct mg_host_view facts;
+    int sign;
+    if (mg_host_facts(host, &facts) != MG_OK || facts.cluster == entry->cluster)
+        return false;
+    sign = take_sign(session, session->number, entry->lock, false);
+    if (sign != NO_SIGN)
+        close(sign);
+    return sign == NO_SIGN && errno == EWOULDBLOCK;
+}
+
+/* Whether it shows the lock as it was asked for, and whether that is granted then. */
+static int find(struct mg_session *session, struct mg_host *host, const struct entry *entry, bool *granted) {
+    struct mg_lock_view view;
+    int status = find_ours(session, host, entry->lock, &view);
+    bool is_granted = view.wanted == MG_NONE;
+    *granted = false;
+    if (status != MG_OK)
+        return status;
+    if (is_anothers(session, host, entry) || strcmp(view.name, entry->name) != 0 || (is_granted ? view.held : view.wanted) != entry->mode)
+        return MG_NO_SUCH_LOCK;
+    *granted = is_granted;
+    return MG_OK;
 }
 
 static void end_sign(const struct mg_session *session, uint32_t lock, int sign) {
@@ -353,7 +370,13 @@ static int release(struct mg_session *session, uint32_t lock, const void *value)
 
 /* The same for a lock of this session, which is then none of it any more. */
 static int release_entry(struct mg_session *session, struct entry *entry, const void *value) {
-    int status = release(session, entry->lock, value);
+    int status;
+    if (is_anothers(session, session->host, entry)) {
+        close(entry->sign);
+        entry->lock = 0;
+        return MG_NO_SUCH_LOCK;
+    }
+    status = release(session, entry->lock, value);
     if (status == MG_OK || status == MG_NO_SUCH_LOCK) {
         if (entry->in_doubt)
             status = MG_OK;
@@ -492,13 +515,17 @@ static void drop(struct mg_session *session, struct entry *entry) {
     entry->lock = 0;
 }
 
-/* Finds a request number whose lock number is free, and takes the sign of that. */
-static int choose(struct mg_session *session, struct entry *entry, uint64_t *request) {
+/* Finds a request number whose lock number is free, and takes the sign of that. The number is odd for a command that does not queue.
+ * So a former run's command of this number, name and mode is the very same, which is acknowledged where it stands: the slot is that
+ * of the lock. */
+static int choose(struct mg_session *session, struct entry *entry, unsigned flags, uint64_t *request) {
     for (int i = 0; i < NUMBERS; i++) {
         struct mg_lock_view view;
         uint32_t lock;
         int found;
-        *request = next_request(session);
+        do
+            *request = next_request(session);
+        while (*request % 2 != flags);
         lock = (uint32_t)(FIRST_LOCK + LOCKS_OF_A_HOST * session->number + 2 * (*request % NUMBERS));
         lock += is_shared(session) ? 1 : 0;
         found = mg_lock(session->host, lock, &view);
@@ -523,7 +550,7 @@ static int ask(struct mg_session *session, struct entry *entry, int64_t until, u
     for (int tries = 0; tries < MOST_TRIES; tries++) {
         struct mg_answer answer;
         uint64_t request;
-        int found, status = choose(session, entry, &request);
+        int found, status = choose(session, entry, flags, &request);
         if (status != MG_OK)
             return status;
         do
@@ -537,7 +564,7 @@ static int ask(struct mg_session *session, struct entry *entry, int64_t until, u
             entry->slot = answer.slot;
             return found;
         }
-        if (status == MG_LOCK_IN_USE && found == MG_OK) {
+        if (found == MG_OK) {
             /* A command of a former run has taken it in this moment. It has no slot that is known. */
             status = release_entry(session, entry, NULL);
             if (entry->lock == 0)
@@ -559,7 +586,11 @@ static int ask_in_talk(struct mg_session *session, struct entry *entry, int64_t 
     int status = begin_talk(session, until, true, NULL);
     if (status != MG_OK)
         return status;
-    if (no_queue && !is_shared(session))
+    /* A number that was used already is not asked by again. The very same command would be acknowledged where it stands, far back, though
+     * its lock was given back since. */
+    if (is_shared(session))
+        status = mark_all(session->host);
+    else if (no_queue)
         status = mg_look(session->host, NULL);
     held->released += release_left(session, false);
     if (status == MG_OK && entry->lock != 0)
@@ -567,8 +598,8 @@ static int ask_in_talk(struct mg_session *session, struct entry *entry, int64_t 
     else if (status == MG_OK) {
         (void)mg_host_facts(session->host, &facts);
         entry->cluster = facts.cluster;
-        /* What is refused would take a slot all the same. Only what is marked was learned so far. */
-        if (no_queue && is_taken(session, entry->name, entry->mode)) {
+        /* What is refused would take a slot all the same. */
+        if (no_queue && !is_shared(session) && is_taken(session, entry->name, entry->mode)) {
             status = mark_all(session->host);
             held->released += release_left(session, false);
         }
@@ -610,9 +641,9 @@ static int look_for(struct mg_session *session, struct entry *entry, int64_t unt
         return found;
     if (*granted)
         return mg_value(looks, entry->lock, &held->value);
-    /* Once it is renewed the folder leads to where it goes on. */
+    /* Nothing is left to recover. Once it is renewed the next look is in the folder where it goes on. */
     if (is_full(looks))
-        return found == MG_OK ? follow(session) : found;
+        return found;
     if (found == MG_OK && milliseconds() < wait->recovers && !holds_nobodys(session, looks, entry->name))
         return MG_OK;
     wait->recovers = time_of_recovery();
@@ -725,13 +756,13 @@ int mg_check(struct mg_session *session, unsigned lock) {
         return MG_BAD_ARGUMENT;
     if (!entry || entry->state != OURS)
         return MG_NO_SUCH_LOCK;
-    status = open_to_look(session, until, &looks);
-    if (status == MG_OK)
-        status = mg_look(looks, NULL);
+    do {
+        status = open_to_look(session, until, &looks);
+        if (status == MG_OK)
+            status = mg_look(looks, NULL);
+    } while (status == MG_OK && is_full(looks) && has_moved(session));
     if (status == MG_NO_MAJORITY)
         close_all(session);
-    if (status == MG_OK && is_full(looks))
-        return follow(session);
     if (status != MG_OK || !has_learned(looks, entry))
         return status;
     status = find(session, looks, entry, &granted);
@@ -845,6 +876,17 @@ static int keep_left(struct mg_session *session) {
     return status;
 }
 
+/* The path from the root, to be freed, or NULL: the program may go to another folder meanwhile. */
+static char *from_root(const char *folder) {
+    char *here = folder[0] == '/' || folder[0] == '\0' ? NULL : getcwd(NULL, 0);
+    size_t size = (here ? strlen(here) : 0) + strlen(folder) + 2;
+    char *path = malloc(size);
+    if (path)
+        (void)snprintf(path, size, "%s%s%s", here ? here : "", here ? "/" : "", folder);
+    free(here);
+    return path;
+}
+
 static int begin(struct mg_session *session, int *disk) {
     int status;
     if (is_shared(session)) {
@@ -868,7 +910,7 @@ int mg_begin(const char *folder, unsigned host, unsigned flags, struct mg_sessio
         *disk = -1;
     if (out)
         *out = NULL;
-    if (!folder || !out || host >= MG_HOSTS || (flags & ~(MG_KEEP | MG_SHARE)) != 0)
+    if (!folder || !out || host >= MG_HOSTS || flags > MG_SHARE)
         return MG_BAD_ARGUMENT;
     session = calloc(1, sizeof *session);
     if (!session)
@@ -877,7 +919,7 @@ int mg_begin(const char *folder, unsigned host, unsigned flags, struct mg_sessio
     session->client = FIRST_CLIENT + host;
     session->flags = flags;
     session->interval = FIRST_INTERVAL;
-    session->folder = strdup(folder);
+    session->folder = from_root(folder);
     status = session->folder ? begin(session, disk) : MG_NO_MEMORY;
     if (status != MG_OK) {
         mg_end(session);

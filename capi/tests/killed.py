@@ -67,6 +67,32 @@ with Session(folder, host=0, library=library) as session:
         assert [it[0] for it in session.locks()] == ["other"], session.locks()
     assert session.locks() == [], session.locks()
 
+    # A value that is none is refused where it is set, and the lock is given back all the same.
+    for wrong in (b"short", "sixteen letters.", bytes(17), 16):
+        try:
+            with session.lock("db", EX, timeout=3) as held:
+                held.leaves = wrong
+            raise AssertionError("a value that is none")
+        except (TypeError, ValueError):
+            pass
+        assert session.locks() == [], session.locks()
+    # Ctrl-C that comes when the lock was just granted: nothing is held then.
+    take = session.lib.mg_take
+
+    def granted_then_stopped(*words):
+        status = take(*words)
+        assert status == 0
+        raise KeyboardInterrupt
+
+    session.lib.mg_take = granted_then_stopped
+    try:
+        with session.lock("db", EX, timeout=3):
+            raise AssertionError("held after Ctrl-C")
+    except KeyboardInterrupt:
+        pass
+    session.lib.mg_take = take
+    assert session.locks() == [], session.locks()
+
 process = hold(share=True)
 with Session(folder, host=1, library=library) as other, Session(folder, host=0, share=True, library=library) as session:
     # Its process lives, so nothing of it is released or purged.

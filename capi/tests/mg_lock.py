@@ -95,6 +95,8 @@ def statuses():
     expect(run(images, 0, "db", "sh", "-c", "exit 7").returncode == 7, "exit 7")
     expect(run(images, 0, "db", "--", "sh", "-c", "kill -9 $$").returncode == 137, "killed command")
     expect(run(images, 0, "db", "--", "no-such-command").returncode == 127, "not found")
+    closed = subprocess.run(["sh", "-c", 'exec "$0" "$@" 2>&-', mg_lock, images, "0", "db", "--", "no-such-command"], check=False)
+    expect(closed.returncode == 127, "not found, and nowhere to say so")
     expect(run(images, 0, "db", "--", images).returncode == 126, "cannot be run")
     for words in ([], [images], [images, 0], [images, 16, "db", "true"], [images, 0, "", "true"], [images, 0, "sixteen-letters-", "true"],
                   ["-m", "XX", images, 0, "db", "true"], ["-w", "x", images, 0, "db", "true"], ["--unknown", images, 0, "db", "true"],
@@ -126,7 +128,7 @@ def environment():
     said = run("-v", images, 3, "db", "--", "sh", "-c", "set | grep ^MG_LOCK_ | sort").stdout.split("\n")
     expect(said[0] == "0" * 32, f"-v: {said[0]}")
     for word in ("MG_LOCK_CLUSTER='7'", "MG_LOCK_HOST='3'", "MG_LOCK_MODE='EX'", "MG_LOCK_NAME='db'", "MG_LOCK_SLOT='0'", "MG_LOCK_VALID='1'",
-                 "MG_LOCK_VALUE='" + "0" * 32 + "'", "MG_LOCK_NUMBER='13539'", f"MG_LOCK_FOLDER='{images}'"):
+                 "MG_LOCK_VALUE='" + "0" * 32 + "'", "MG_LOCK_NUMBER='13541'", f"MG_LOCK_FOLDER='{images}'"):
         expect(word in said, f"environment: {word} of {said}")
     # a value that another program left, and that a purge made invalid
     for host, line in ((1, "enqueue 1 1 1 NL db"), (1, "enqueue 1 2 2 EX db"), (1, "release 1 3 2 value 000102030405060708090a0b0c0d0e0f"), (2, "enqueue 2 1 3 EX db")):

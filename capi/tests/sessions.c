@@ -102,6 +102,8 @@ static void bad_arguments(void) {
     IS(mg_begin(path, 0, 0, NULL, NULL), MG_BAD_ARGUMENT);
     IS(mg_begin(path, 16, 0, &other, NULL), MG_BAD_ARGUMENT);
     IS(mg_begin(path, 1, 4, &other, NULL), MG_BAD_ARGUMENT);
+    IS(mg_begin(path, 1, MG_KEEP | MG_SHARE, &other, NULL), MG_BAD_ARGUMENT);
+    IS(mg_begin("", 1, 0, &other, NULL), MG_UNREADABLE);
     IS(mg_begin(path, 0, 0, &other, &disk), MG_HOST_IN_USE);
     IS(other == NULL && disk == -1, 1);
     IS(mg_begin(work, 0, 0, &other, &disk), MG_UNREADABLE);
@@ -424,6 +426,104 @@ static void full(void) {
     mg_end(shares);
 }
 
+/* The last slot of a log is a purge, and then that is renewed. (No renewal here: the other folder is an empty one.) */
+static void purged_in_full(const char *name, unsigned flags) {
+    const char *path = folder(name, 2, 8);
+    char link[300], next[300];
+    struct mg_session *session;
+    struct mg_host *host, *looks;
+    struct mg_host_view facts;
+    struct mg_held a;
+    snprintf(link, sizeof link, "%s/%s_current", work, name);
+    snprintf(next, sizeof next, "%s/%s_next", work, name);
+    IS(symlink(name, link), 0);
+    session = begun(link, 0, flags);
+    IS(mg_take(session, "db", MG_EX, 0, &a), MG_OK);
+    IS(mg_check(session, a.lock), MG_OK);
+    IS(mg_open(path, 1, &host, NULL), MG_OK);
+    IS(mg_purge(host, 9, 1, 0, NULL), MG_OK);
+    mg_close(host);
+    IS(mg_check(session, a.lock), MG_NO_SUCH_LOCK);
+    /* Who only looks comes to the next folder, too. */
+    snprintf(next, sizeof next, "%s_on", name);
+    (void)folder(next, 64, 9);
+    snprintf(link, sizeof link, "%s/%s_link", work, name);
+    IS(symlink(next, link), 0);
+    snprintf(next, sizeof next, "%s/%s_current", work, name);
+    IS(rename(link, next), 0);
+    IS(mg_host_of(session, &looks), MG_OK);
+    IS(mg_host_facts(looks, &facts), MG_OK);
+    IS((long)facts.cluster, 9);
+    mg_end(session);
+}
+
+/* The link comes to lead to a folder that knows nothing of our lock, and another process has its number, name and mode there. */
+static void anothers_number(void) {
+    char link[300], next[300], sign[400];
+    struct mg_session *session, *other;
+    struct mg_held a, b;
+    (void)folder("renumbered_1", 64, 7);
+    (void)folder("renumbered_2", 64, 8);
+    snprintf(link, sizeof link, "%s/renumbered", work);
+    snprintf(next, sizeof next, "%s/renumbered_next", work);
+    IS(symlink("renumbered_1", link), 0);
+    session = begun(link, 0, MG_SHARE);
+    IS(mg_take(session, "db", MG_EX, 0, &a), MG_OK);
+    IS(symlink("renumbered_2", next), 0);
+    IS(rename(next, link), 0);
+    other = begun(link, 0, MG_SHARE);
+    IS(mg_take(other, "db", MG_EX, 0, &b), MG_OK);
+    IS(b.lock, a.lock);
+    snprintf(sign, sizeof sign, "%s/mg-lock.0.%u", link, (unsigned)b.lock);
+    IS(mg_give(session, a.lock, NULL), MG_NO_SUCH_LOCK);
+    IS(mg_give(session, a.lock, NULL), MG_NO_SUCH_LOCK);
+    IS(access(sign, F_OK), 0);
+    IS(mg_check(other, b.lock), MG_OK);
+    IS(mg_give(other, b.lock, NULL), MG_OK);
+    IS(access(sign, F_OK), -1);
+    mg_end(other);
+    mg_end(session);
+}
+
+/* A folder's name that does not begin at the root is of the program's folder as the session begins. */
+static void elsewhere(void) {
+    const char *path = folder("elsewhere", 64, 7);
+    char *back = getcwd(NULL, 0);
+    struct mg_session *session;
+    struct mg_held a;
+    IS(chdir(work), 0);
+    session = begun("elsewhere", 0, MG_SHARE);
+    IS(mg_take(session, "db", MG_EX, 0, &a), MG_OK);
+    IS(chdir("/"), 0);
+    IS(mg_check(session, a.lock), MG_OK);
+    IS(mg_give(session, a.lock, NULL), MG_OK);
+    mg_end(session);
+    IS(chdir(back), 0);
+    free(back);
+    IS(locks_of(path), 0);
+}
+
+/* The last lock number that there is, of the last host and the last client. */
+static void last_number(void) {
+    const char *path = folder("last", 64, 7);
+    struct mg_session *session;
+    struct mg_host *host;
+    struct mg_held a;
+    unsigned count;
+    IS(mg_open(path, 15, &host, NULL), MG_OK);
+    IS(mg_enqueue(host, 255, 1998, 5, MG_NL, "x", 0, NULL), MG_OK);
+    mg_close(host);
+    session = begun(path, 15, MG_SHARE);
+    IS(mg_take(session, "db", MG_EX, 0, &a), MG_OK);
+    IS(a.lock, 65535);
+    IS(mg_check(session, a.lock), MG_OK);
+    mg_end(session);
+    session = begun(path, 15, MG_SHARE);
+    IS(mg_recover(session, 0, &count), MG_OK);
+    IS(count, 1);
+    mg_end(session);
+}
+
 /* Cuts two of three images off, so that their calls fail, and puts them back. */
 static void cut_off(const char *path, int disk, int back) {
     char from[300], to[300];
@@ -539,7 +639,7 @@ static void crowded(void) {
     IS(mg_host_of(session, &host), MG_OK);
     IS(mg_release(host, 240, 2000, 1, NULL), MG_NO_SUCH_LOCK);
     IS(mg_take(session, "db", MG_EX, 0, &held), MG_OK);
-    IS(held.lock, 1536 + 2 * 251);
+    IS(held.lock, 1536 + 2 * 501); /* requests that do not wait are odd */
     while (status == MG_OK)
         status = mg_take(session, "crowd", MG_NL, 0, &held);
     IS(status, MG_TABLE_FULL);
@@ -560,6 +660,11 @@ int main(int argc, char **argv) {
     left_over();
     purged();
     full();
+    purged_in_full("purged_full", 0);
+    purged_in_full("purged_full_shared", MG_SHARE);
+    anothers_number();
+    elsewhere();
+    last_number();
     lost_disks();
     lost_number();
     wrong_use();

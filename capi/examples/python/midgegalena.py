@@ -14,7 +14,7 @@ from contextlib import contextmanager
 from ctypes import CFUNCTYPE, POINTER, Structure, byref, c_char_p, c_int, c_int32, c_size_t, c_uint, c_uint8, c_uint32, c_uint64, c_void_p
 
 NL, CR, CW, PR, PW, EX = range(6)
-OK, TIMED_OUT, STOPPED, NO_MAJORITY, NO_SUCH_LOCK = 0, -2, -5, 7, 12
+OK, TIMED_OUT, NO_MAJORITY, NO_SUCH_LOCK = 0, -2, 7, 12
 KEEP, SHARE, ALL = 1, 2, 1
 VALID = 1
 
@@ -81,8 +81,19 @@ class Held:
     def __init__(self, view):
         self.lock, self.slot, self.cluster = view.lock, view.slot, view.cluster
         self.value, self.valid = bytes(view.value.bytes), bool(view.value.flags & VALID)
-        self.leaves = None
+        self._leaves = None
+
+    @property
+    def leaves(self):
         """16 bytes to keep with the name at the end, for PW and EX."""
+        return self._leaves
+
+    @leaves.setter
+    def leaves(self, value):
+        kept = None if value is None else memoryview(value).tobytes()
+        if kept is not None and len(kept) != 16:
+            raise ValueError("a value has 16 bytes")
+        self._leaves = kept
 
 
 class Session:
@@ -143,20 +154,21 @@ class Session:
     def lock(self, name, mode=EX, timeout=None):
         """Holds a lock on a name, and gives a Held. With a timeout, in seconds, it raises TimeoutError where it was not granted by
         then; a timeout of 0 does not wait at all. If the lock was taken away meanwhile it raises Lost at the end."""
-        view = HeldView()
-        with self._caught():
-            status = self.lib.mg_take(self.handle, name.encode(), mode, -1 if timeout is None else int(timeout * 1000), byref(view))
-        if status == TIMED_OUT:
-            raise TimeoutError(f"{name} is taken")
-        if status == STOPPED:
-            raise self.why
-        self._check(status)
-        held = Held(view)
+        view, held = HeldView(), None
         try:
+            with self._caught():
+                status = self.lib.mg_take(self.handle, name.encode(), mode, -1 if timeout is None else int(timeout * 1000), byref(view))
+            if self.why is not None:
+                raise self.why
+            if status == TIMED_OUT:
+                raise TimeoutError(f"{name} is taken")
+            self._check(status)
+            held = Held(view)
             yield held
         finally:
-            assert held.leaves is None or len(held.leaves) == 16
-            self._check(self.lib.mg_give(self.handle, held.lock, held.leaves))
+            # Ctrl-C may come as soon as it is taken.
+            if view.lock:
+                self._check(self.lib.mg_give(self.handle, view.lock, held.leaves if held else None))
 
     def is_held(self, held):
         """Whether nobody has taken the lock away, as far as a look tells."""
