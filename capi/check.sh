@@ -212,11 +212,65 @@ else
     left_out "Python: there is none"
 fi
 
-# From Rust.
+# From Rust: run twice, left early, killed, refused, purged, and with a full log.
+says() { echo "# $1"; }
+shows() { # COMMAND..: prints the command, what it prints, and its status unless that is 0
+    echo "\$ $*"
+    "$@" || echo "status $?"
+}
+formats() { folder && ./format images "$1"; }
+holds() { # guard has db, as $holder, until descriptor 3 is closed
+    rm -f in held.txt
+    mkfifo in
+    echo '$ ./guard images 0 &'
+    ./guard images 0 < in > held.txt 2>&1 &
+    holder=$!
+    exec 3> in
+    for _ in {1..500}; do
+        [[ ! -s held.txt ]] || break
+        sleep 0.02
+    done
+    cat held.txt
+}
+guards() {
+    says "twice"
+    formats 64
+    for _ in 1 2; do shows ./guard images 0 < /dev/null; done
+    says "its input is a folder, so it returns early"
+    shows ./guard images 0 < .
+    shows ./guard images 1 < /dev/null
+    says "while it has db, and killed then"
+    holds
+    for host in 0 1; do shows ./guard images $host < /dev/null; done
+    kill -KILL "$holder"
+    wait "$holder" 2> /dev/null
+    exec 3>&-
+    says "killed"
+    for host in 1 0 1; do shows ./guard images $host < /dev/null; done
+    says "purged while it has db"
+    holds
+    shows ./purges
+    exec 3>&-
+    wait "$holder" || echo "status $?"
+    tail -n +2 held.txt
+    says "the log is full once it has db, and from the beginning"
+    formats 1
+    for _ in 1 2; do shows ./guard images 0 < /dev/null; done
+    says "the log is full when it returns early"
+    formats 1
+    shows ./guard images 0 < .
+}
 if command -v rustc > /dev/null && rustc --version > /dev/null 2>&1; then
-    tried "rust, built" rustc --edition 2021 -L "$PREFIX/lib" -l midgegalena "$here/examples/rust/guard.rs" -o "$work/guard"
-    folder
-    tried "rust" "$work/guard" "$work/images"
+    tried "rust, built" rustc --edition 2021 -D warnings -L "$PREFIX/lib" "$here/examples/rust/guard.rs" -o "$work/guard"
+    tried "purges, built" cc -std=c99 $common -x c - $flags -o "$work/purges" << 'END'
+#include <midgegalena.h>
+int main(void) {
+    struct mg_host *host;
+    struct mg_answer answer;
+    return mg_open("images", 1, &host, NULL) != MG_OK || mg_purge(host, 1, 1, 0, &answer) != MG_OK || answer.purged != 1;
+}
+END
+    tried "rust" in_folder guards
     cp -- "$work/out.txt" "$work/said.txt"
     tried "what rust says" diff "$work/said.txt" "$here/examples/rust/guard.out"
 else

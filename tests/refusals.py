@@ -141,6 +141,7 @@ PLACES = (
     Place("crates/bench/baseline/scripts.rs", r'Refused\((?P<number>\d+), "(?P<name>\w+)"\)', [], ["operation"], repeats=True),
     Place("crates/bench/baseline/lock_tables.rs", r"^    (?P<name>\w+),$", ["table"], begin="pub enum Refusal {", end="}"),
     Place("crates/dlm/src/racing.rt", TEXT, ["threads"]),
+    Place("capi/examples/rust/guard.rs", r"^const (?P<symbol>[A-Z_]+): c_int = (?P<number>\d+);", [], ["table"], repeats=True),
     Place("crates/dlm_c/src/fault.rt", r"Fault::(?P<name>NoMemory) => (?P<number>\d+)", ["no memory"]),
 )
 PYTHON = "capi/examples/python/midgegalena.py"

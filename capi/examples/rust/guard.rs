@@ -1,108 +1,221 @@
-//! A lock as a guard, which gives it up where it goes out of scope.
+//! A lock as a guard, which is given back where it goes out of scope. Over the sessions of libmidgegalena (mg_session.h).
 //!
-//!     guard FOLDER      an empty folder
-use std::ffi::CString;
+//!     rustc --edition 2021 -L PREFIX/lib guard.rs
+//!     guard FOLDER HOST      takes db, waits for a line or the end of standard input, and gives db back
+//!
+//! The images are made once before, as by `dlm format FOLDER`.
+use std::cell::RefCell;
+use std::env;
+use std::ffi::{CStr, CString, NulError};
+use std::fmt;
+use std::io::{self, Write};
+use std::mem::ManuallyDrop;
 use std::os::raw::{c_char, c_int, c_uint, c_void};
+use std::os::unix::ffi::OsStrExt;
+use std::path::{Path, PathBuf};
+use std::process::ExitCode;
 use std::ptr;
+use std::time::Duration;
 
 #[repr(C)]
 #[derive(Default)]
-struct Answer {
-    slot: i32,
-    reply: i32,
-    purged: u32,
-    held: i32,
-    wanted: i32,
+struct Value {
+    bytes: [u8; 16],
+    flags: u32,
 }
 
-extern "C" {
-    fn mg_format(folder: *const c_char, disks: c_uint, slots: c_uint, cluster: u64, disk: *mut c_int) -> c_int;
-    fn mg_open(folder: *const c_char, host: c_uint, out: *mut *mut c_void, disk: *mut c_int) -> c_int;
-    fn mg_close(host: *mut c_void);
-    fn mg_enqueue(
-        host: *mut c_void, client: c_uint, request: u64, lock: c_uint, mode: c_int, name: *const c_char, flags: c_uint,
-        answer: *mut Answer,
-    ) -> c_int;
-    fn mg_release(host: *mut c_void, client: c_uint, request: u64, lock: c_uint, answer: *mut Answer) -> c_int;
-    fn mg_wait(host: *mut c_void, lock: c_uint, interval: c_int, timeout: c_int, granted: *mut c_int) -> c_int;
-}
-
-const EX: c_int = 5;
-const GRANTED: i32 = 1;
-
-/// A host, and the client of its number. For one thread: a raw pointer is not `Send`.
-struct Host {
-    handle: *mut c_void,
-    client: u32,
-    request: u64,
-}
-
-impl Host {
-    fn open(folder: &CString, number: u32) -> Result<Host, c_int> {
-        let mut handle = ptr::null_mut();
-        match unsafe { mg_open(folder.as_ptr(), number, &mut handle, ptr::null_mut()) } {
-            0 => Ok(Host { handle, client: number, request: 0 }),
-            status => Err(status),
-        }
-    }
-
-    fn next_request(&mut self) -> u64 {
-        self.request += 1;
-        self.request
-    }
-
-    /// Holds an exclusive lock, once it is granted.
-    fn lock(&mut self, lock: u32, name: &str) -> Result<Guard<'_>, c_int> {
-        let (request, name) = (self.next_request(), CString::new(name).expect("a name has no zeros"));
-        let mut answer = Answer::default();
-        let status = unsafe { mg_enqueue(self.handle, self.client, request, lock, EX, name.as_ptr(), 0, &mut answer) };
-        if status != 0 {
-            return Err(status);
-        }
-        let guard = Guard { host: self, lock };
-        if answer.reply != GRANTED {
-            let status = unsafe { mg_wait(guard.host.handle, lock, 20, 1000, ptr::null_mut()) };
-            if status != 0 {
-                return Err(status);
-            }
-        }
-        Ok(guard)
-    }
-}
-
-impl Drop for Host {
-    fn drop(&mut self) {
-        unsafe { mg_close(self.handle) }
-    }
-}
-
-struct Guard<'a> {
-    host: &'a mut Host,
+/// What the library tells of a lock that is held: `struct mg_held`.
+#[repr(C)]
+#[derive(Default)]
+struct View {
     lock: u32,
+    slot: i32,
+    cluster: u64,
+    slots_left: u32,
+    released: u32,
+    value: Value,
 }
 
-impl Drop for Guard<'_> {
+#[link(name = "midgegalena")]
+unsafe extern "C" {
+    fn mg_begin(folder: *const c_char, host: c_uint, flags: c_uint, out: *mut *mut c_void, disk: *mut c_int) -> c_int;
+    fn mg_end(session: *mut c_void);
+    fn mg_take(session: *mut c_void, name: *const c_char, mode: c_int, timeout: c_int, held: *mut View) -> c_int;
+    fn mg_give(session: *mut c_void, lock: c_uint, value: *const c_void) -> c_int;
+    fn mg_strerror(status: c_int) -> *const c_char;
+}
+
+const BAD_ARGUMENT: c_int = -1;
+const TIMED_OUT: c_int = -2;
+const NO_SUCH_LOCK: c_int = 12;
+
+/// As the library counts them. This program has use for one of them.
+#[allow(dead_code)]
+#[derive(Clone, Copy)]
+enum Mode {
+    Null,
+    ConcurrentRead,
+    ConcurrentWrite,
+    ProtectedRead,
+    ProtectedWrite,
+    Exclusive,
+}
+
+/// Why a call was refused, with the library's sentence as text.
+#[derive(Debug)]
+enum Error {
+    /// Others have the lock.
+    TimedOut,
+    /// The lock was taken away, while it was waited for or held.
+    Lost,
+    /// Any other number of the library's.
+    Refused(c_int),
+}
+
+impl Error {
+    fn check(status: c_int) -> Result<(), Error> {
+        match status {
+            0 => Ok(()),
+            TIMED_OUT => Err(Error::TimedOut),
+            NO_SUCH_LOCK => Err(Error::Lost),
+            status => Err(Error::Refused(status)),
+        }
+    }
+
+    fn status(&self) -> c_int {
+        match self {
+            Error::TimedOut => TIMED_OUT,
+            Error::Lost => NO_SUCH_LOCK,
+            Error::Refused(status) => *status,
+        }
+    }
+}
+
+impl fmt::Display for Error {
+    fn fmt(&self, f: &mut fmt::Formatter) -> fmt::Result {
+        // SAFETY: for each number it is a text that is never freed.
+        let text = unsafe { CStr::from_ptr(mg_strerror(self.status())) };
+        f.write_str(&text.to_string_lossy())
+    }
+}
+
+impl std::error::Error for Error {}
+
+/// A text with a zero in it is no folder and no name.
+impl From<NulError> for Error {
+    fn from(_: NulError) -> Error {
+        Error::Refused(BAD_ARGUMENT)
+    }
+}
+
+/// A session of a host number, which no other process has meanwhile. It is for one thread: a raw pointer is neither `Send` nor `Sync`.
+struct Session {
+    handle: *mut c_void,
+    /// Locks that could not be given back.
+    left: RefCell<Vec<u32>>,
+}
+
+impl Session {
+    /// Releases what former sessions of the host number left, as where a process was killed.
+    fn begin(folder: &Path, host: u32) -> Result<Session, Error> {
+        let folder = CString::new(folder.as_os_str().as_bytes())?;
+        let mut handle = ptr::null_mut();
+        // SAFETY: the text ends with a zero, and `handle` is written at once.
+        Error::check(unsafe { mg_begin(folder.as_ptr(), host, 0, &mut handle, ptr::null_mut()) })?;
+        Ok(Session { handle, left: RefCell::default() })
+    }
+
+    /// Takes a lock on a name. With `None` it waits without an end, and with a timeout of zero it does not wait. What could not be given
+    /// back is given back first, which may wait a minute once more.
+    fn take(&self, name: &str, mode: Mode, timeout: Option<Duration>) -> Result<Held<'_>, Error> {
+        for lock in self.left.take() {
+            let _ = self.give(lock); // where this fails the lock is left again
+        }
+        let name = CString::new(name)?;
+        let timeout = timeout.map_or(-1, |it| c_int::try_from(it.as_millis()).unwrap_or(c_int::MAX));
+        let mut view = View::default();
+        // SAFETY: the session is not ended, the text ends with a zero, and `View` is laid out as `struct mg_held`.
+        Error::check(unsafe { mg_take(self.handle, name.as_ptr(), mode as c_int, timeout, &mut view) })?;
+        Ok(Held { session: self, view })
+    }
+
+    fn give(&self, lock: u32) -> Result<(), Error> {
+        // SAFETY: the session is not ended, and no value is left with the name.
+        let given = Error::check(unsafe { mg_give(self.handle, lock, ptr::null()) });
+        if !matches!(given, Ok(()) | Err(Error::Lost)) {
+            self.left.borrow_mut().push(lock);
+        }
+        given
+    }
+}
+
+impl Drop for Session {
     fn drop(&mut self) {
-        let request = self.host.next_request();
-        let status = unsafe { mg_release(self.host.handle, self.host.client, request, self.lock, ptr::null_mut()) };
-        println!("host {} releases: {status}", self.host.client);
+        // SAFETY: each `Held` borrows the session, so none is left.
+        unsafe { mg_end(self.handle) }
     }
 }
 
-fn main() -> Result<(), c_int> {
-    let folder = std::env::args().nth(1).expect("guard FOLDER");
-    let folder = CString::new(folder).expect("a path has no zeros");
-    let status = unsafe { mg_format(folder.as_ptr(), 3, 64, 7, ptr::null_mut()) };
-    assert_eq!(status, 0);
-    let (mut first, mut second) = (Host::open(&folder, 0)?, Host::open(&folder, 1)?);
-    {
-        let guard = first.lock(1, "db")?;
-        println!("host {} holds lock {}", guard.host.client, guard.lock);
+/// A lock that is held. Its slot is a fencing token: each holder of `Exclusive` has a greater one than the holder before it, as long as
+/// the cluster is the same.
+///
+/// A drop gives the lock back, and may wait a minute for disks. If that fails it can only print why; `give` tells its caller.
+#[must_use = "a lock that is not kept is given back at once"]
+struct Held<'a> {
+    session: &'a Session,
+    view: View,
+}
+
+impl Held<'_> {
+    /// Gives the lock back. `Lost`: it was taken away before, so others may have had it meanwhile. After any other error it is still
+    /// the session's, whose next `take` tries again. If the session ends before, the next one of the host number does so.
+    fn give(self) -> Result<(), Error> {
+        let held = ManuallyDrop::new(self);
+        held.session.give(held.view.lock)
     }
-    let guard = second.lock(2, "db")?;
-    println!("host {} holds lock {}", guard.host.client, guard.lock);
-    if let Err(status) = Host::open(&folder, 0) {
-        println!("host 0 again: {status}");
+}
+
+impl Drop for Held<'_> {
+    fn drop(&mut self) {
+        if let Err(why) = self.session.give(self.view.lock) {
+            // `eprintln!` would panic where that cannot be written.
+            let _ = writeln!(io::stderr(), "lock {} was not given back: {why}", self.view.lock);
+        }
     }
+}
+
+/// The work under the lock.
+fn work(db: &Held) -> io::Result<()> {
+    let View { slot, cluster, slots_left, .. } = db.view;
+    writeln!(io::stdout(), "db is ours: slot {slot} of cluster {cluster}, {slots_left} slots are left")?;
+    io::stdin().read_line(&mut String::new())?;
     Ok(())
+}
+
+fn run(folder: &Path, host: u32) -> Result<(), Box<dyn std::error::Error>> {
+    let session = Session::begin(folder, host)?;
+    let db = session.take("db", Mode::Exclusive, Some(Duration::from_secs(1)))?;
+    work(&db)?; // where this fails, or panics, the drop gives db back
+    db.give()?;
+    Ok(())
+}
+
+fn arguments() -> Option<(PathBuf, u32)> {
+    let mut words = env::args_os().skip(1);
+    let (folder, host) = (words.next()?, words.next()?.to_str()?.parse().ok()?);
+    words.next().is_none().then(|| (folder.into(), host))
+}
+
+fn main() -> ExitCode {
+    let Some((folder, host)) = arguments() else {
+        eprintln!("guard FOLDER HOST");
+        return ExitCode::from(2);
+    };
+    match run(&folder, host) {
+        Ok(()) => ExitCode::SUCCESS,
+        Err(why) => {
+            eprintln!("guard: {why}");
+            ExitCode::FAILURE
+        }
+    }
 }
