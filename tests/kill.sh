@@ -57,9 +57,9 @@ round() {
         lock=$((lock + 1))
         host=$((RANDOM % 16))
         pause=$((500 + (RANDOM * 32768 + RANDOM) % longest))
-        # The shell tells of each that it was killed: that goes nowhere.
+        # The shell tells of each that it was killed: that goes nowhere. In the foreground `timeout` waits until the process is gone, and its lock with it.
         {
-            timeout -s KILL "$(printf '0.%06d' "$pause")" \
+            timeout --foreground -s KILL "$(printf '0.%06d' "$pause")" \
                 "$program" submit "$folder" "$host" enqueue $((lock % 32)) "$lock" "$lock" NL a >"$work/out" 2>"$work/told"
             ended=$?
         } 2>/dev/null

@@ -36,7 +36,7 @@ printf 'cluster 1 4\nstart 0\nsubmit 0 1 enqueue 1 1 10 EX db\nstep 0 17\nsubmit
 swept=0
 differ=0
 while IFS=: read -r name wanted; do
-    script=$(find "$tests/scripts" "$top/examples" -name "$name.dlm")
+    script=$(find "$tests/scripts" "$tests/../examples" -name "$name.dlm")
     [[ $name != two_submissions ]] || script=$work/two_submissions.dlm
     found=$("$work/compiled/made" sweep "$script" 2> "$work/told" < /dev/null) || true
     found=" $found $(<"$work/told")"
