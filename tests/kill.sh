@@ -77,7 +77,8 @@ round() {
             elif [[ -n ${found[$lock]:-} ]]; then
                 late=$((late + 1))
             fi
-        elif [[ $ended -eq 0 ]]; then
+        elif [[ $ended -eq 0 || ($ended -eq 124 && ! -s $work/told) ]]; then
+            # 124: it came to its end in the very moment.
             finished=$((finished + 1))
             longest=$((longest - longest / 50))
         else
