@@ -304,10 +304,10 @@ static bool is_anothers(const struct mg_session *session, struct mg_host *host, 
 static int find(struct mg_session *session, struct mg_host *host, const struct entry *entry, bool *granted) {
     struct mg_lock_view view;
     int status = find_ours(session, host, entry->lock, &view);
-    bool is_granted = view.wanted == MG_NONE;
     *granted = false;
     if (status != MG_OK)
         return status;
+    bool is_granted = view.wanted == MG_NONE;
     if (is_anothers(session, host, entry) || strcmp(view.name, entry->name) != 0 || (is_granted ? view.held : view.wanted) != entry->mode)
         return MG_NO_SUCH_LOCK;
     *granted = is_granted;
