@@ -1,0 +1,131 @@
+ghost use Rattle.std.specs.Prelude.{◌≡◌};
+ghost use Rattle.cluster.specs.Opening.{IsNamed};
+
+use crate::commands::Commands;
+use crate::digest::Digest;
+use crate::failure::Failure;
+use crate::numbers::Numbers;
+use crate::words::Size;
+use cluster::{Cluster, ClusterName, Config, HostSeat, OpenGate, Opening};
+use disk::SimDisk;
+use lock_command::HostNumber;
+use std::alloc::{AllocGlobal, Global};
+use std::marker::Brand;
+use std::sync::Wait;
+
+/// How many clusters there are.
+const CLUSTERS: u32 = 24;
+
+/// The slots of a log.
+const SLOTS: u16 = 1024;
+
+/// How many commands a host submits before it is another host's turn.
+const TURN: u16 = 32;
+
+/// Four hosts of a cluster of three disks submit in turn, each step through the locks of `cluster`, until the log is full.
+pub fn submit_in_seats<R: Wait + AllocGlobal>(
+    rt: &R,
+    size: Size,
+    seed: u32,
+) -> Result<Digest, Failure> {
+    let mut digest = Digest::new();
+    for number in 0..size.rounds(CLUSTERS) {
+        let commands = Commands::new(Numbers::new(seed, number), 64);
+        fill_cluster(rt, size.length(SLOTS), commands, &mut digest)?;
+    }
+    Ok(digest)
+}
+
+fn fill_cluster<R: Wait + AllocGlobal>(
+    rt: &R,
+    slots: u16,
+    commands: Commands,
+    digest: &mut Digest,
+) -> Result<(), Failure> {
+    let Some(config) = Config::new(3, slots) else {
+        return Err(Failure::Wrong);
+    };
+    let opening = Opening::new(rt.alloc(), config)?;
+    fill_named::<Brand, R>(rt, opening, commands, digest)
+}
+
+fn fill_named<N: ClusterName, R: Wait + AllocGlobal>(
+    rt: &R,
+    opening: Opening,
+    commands: Commands,
+    digest: &mut Digest,
+) -> Result<(), Failure>
+    requires { IsNamed opening N.shape N.table N.name N.parts N.all }
+{
+    let alloc = rt.alloc();
+    let slots = opening.config().slots();
+    let (ties, foundation) = opening.named::<N>(alloc)?;
+    let cluster = Cluster::simulated(alloc, &ties, foundation)?;
+    let seats = work(rt, alloc, &cluster, slots, commands, digest)?;
+    let record = cluster.finish(seats)?;
+    digest.add(record.entries.len() as u64);
+    Ok(())
+}
+
+/// Lets the hosts work, and gives their seats.
+fn work<N: ClusterName, R: Wait>(
+    rt: &R,
+    alloc: Global,
+    cluster: &Cluster<'_, N, SimDisk>,
+    slots: u16,
+    mut commands: Commands,
+    digest: &mut Digest,
+) -> Result<Vec<HostSeat<N>>, Failure> {
+    let mut seats = Vec::new(alloc);
+    for number in 0..4 {
+        let Some(host) = HostNumber::new(number) else {
+            return Err(Failure::Wrong);
+        };
+        let seat = cluster.seat(rt, alloc, host)?;
+        if seats.push(seat).is_err() {
+            return Err(Failure::NoMemory);
+        }
+    }
+    for turn in 0..slots / TURN {
+        let at = usize::from(turn % 4);
+        if at >= seats.len() {
+            return Err(Failure::Wrong);
+        }
+        take_turn(rt, cluster, &mut seats[at], &mut commands, digest)?;
+    }
+    Ok(seats)
+}
+
+fn take_turn<N: ClusterName>(
+    rt: &impl Wait,
+    cluster: &Cluster<'_, N, SimDisk>,
+    seat: &mut HostSeat<N>,
+    commands: &mut Commands,
+    digest: &mut Digest,
+) -> Result<(), Failure> {
+    for _ in 0..TURN {
+        submit(rt, cluster, seat, commands, digest)?;
+    }
+    Ok(())
+}
+
+/// Submits the next command.
+fn submit<N: ClusterName>(
+    rt: &impl Wait,
+    cluster: &Cluster<'_, N, SimDisk>,
+    seat: &mut HostSeat<N>,
+    commands: &mut Commands,
+    digest: &mut Digest,
+) -> Result<(), Failure> {
+    let Some(command) = commands.next(seat.host()) else {
+        return Err(Failure::Wrong);
+    };
+    if !seat.idle() {
+        return Err(Failure::Wrong);
+    }
+    let receipt = cluster.submit(rt, seat, &mut OpenGate, command, 8)?;
+    commands.hear(&command, &receipt.reply);
+    digest.add(u64::from(receipt.slot));
+    digest.add_reply(&receipt.reply);
+    Ok(())
+}
