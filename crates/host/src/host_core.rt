@@ -14,7 +14,7 @@ ghost use Rattle.slot_log.specs.Shape.{Shape};
 ghost use Rattle.host.specs.Alone.{IsAnsweredAlone, IsWithinNine, IsMarkedWithinNine};
 ghost use Rattle.beats.specs.Calls.{device_answer};
 ghost use Rattle.host.specs.Host.{Memory, Submitting, Recovering, Looking, fresh, goes_on, hears, hears_from, starts_beat, starts_marking, suggested, is_idle_in, next_in, reply_after};
-ghost use Rattle.host.specs.Kept.{Kept, LeadsTo, AcknowledgesNone, is_idle, due_call, option_list};
+ghost use Rattle.host.specs.Kept.{Kept, LeadsTo, AcknowledgesNone, answer_of, is_idle, due_call, option_list};
 
 use crate::answer::HostAnswer;
 use beats::{Beat, End, Readings};
@@ -269,7 +269,7 @@ impl HostCore {
     {
         self.learner.hear(heard);
         let Some(value) = self.learner.offered() else {
-            self.said = HostAnswer::of(self.learner.said(), None);
+            tell(&mut self.said, self.learner.said());
             return;
         };
         let reply = judge(&mut self.learner, &mut self.prefix, &mut self.table, &value);
@@ -356,6 +356,18 @@ impl HostCore {
 
     /// Stops the host. What it knew is gone.
     pub fn stop(self) {}
+}
+
+// What the host says once its learner has come to this, with no command learned. Most answers end nothing: then no more than that is written, since an
+// answer that was written whole is slow to read again.
+#[inline(always)]
+fn tell(said: &mut Option<HostAnswer>, outcome: Option<LogOutcome>)
+    ensures { said.new ≡ answer_of outcome None }
+{
+    match outcome {
+        None => *said = None,
+        Some(_) => *said = HostAnswer::of(outcome, None),
+    }
 }
 
 // A value that the learner offers is learned if it is a command, and then carried out. Gives the reply to it.

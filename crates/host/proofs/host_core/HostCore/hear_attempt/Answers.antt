@@ -16,7 +16,7 @@ use Rattle.host.proofs.host_core.HostCore.hear_attempt.Goals as goal
 pub returns-in_default-clause-leads : goal.returns-in_default-clause-leads
 returns-in_default-clause-leads c c' h m leads =
     let s = c.self.inside in
-    let new : Kept = record { learner = c.hear.new.self; prefix = s.prefix.items; said = c.of-self-inside.result; beat = s.beat; readings = s.readings; marking = s.marking } in
+    let new : Kept = record { learner = c.hear.new.self; prefix = s.prefix.items; said = c.tell.new.said; beat = s.beat; readings = s.readings; marking = s.marking } in
     let answer = heard_of c.args.heard.now in
     let x : Answered = record { disk = s.learner.attempt.disk; heard = answer } in
     let known = attempt_known c' h m c.self.inside _ c.self.view_is c.requires.resting c.requires.unmarking c.requires.busy leads in
@@ -30,13 +30,13 @@ returns-in_default-clause-leads c c' h m leads =
     attempt_due c' h m c.self.inside _ c.self.view_is c.requires.resting c.requires.unmarking c.requires.busy leads (λ d. LeadsTo c' h (hears c' h m m.doing (record { disk = d; heard = answer })) new)
     (follows c' h (hears c' h m m.doing x) l new None leads' after.0
     (known.prefix ∙ sym after.1)
-    (c.of-self-inside.ensures ∙ ap (λ (o : Option LogOutcome). answer_of o None) c.said.ensures.said)
+    (c.tell.ensures ∙ ap (λ (o : Option LogOutcome). answer_of o None) c.said.ensures.said)
     after.2 kept.0 kept.1 stays)
 
 pub returns-clause-leads : goal.returns-clause-leads
 returns-clause-leads c c' h m leads =
     let s = c.self.inside in
-    let new : Kept = record { learner = c.judge-reply.new.learner; prefix = c.judge-reply.new.prefix.items; said = c.of-self-inside-2.result; beat = s.beat; readings = s.readings; marking = s.marking } in
+    let new : Kept = record { learner = c.judge-reply.new.learner; prefix = c.judge-reply.new.prefix.items; said = c.of-self-inside.result; beat = s.beat; readings = s.readings; marking = s.marking } in
     let answer = heard_of c.args.heard.now in
     let x : Answered = record { disk = s.learner.attempt.disk; heard = answer } in
     let value = c.in-Some.value in
@@ -54,7 +54,7 @@ returns-clause-leads c c' h m leads =
     attempt_due c' h m c.self.inside _ c.self.view_is c.requires.resting c.requires.unmarking c.requires.busy leads (λ d. LeadsTo c' h (hears c' h m m.doing (record { disk = d; heard = answer })) new)
     (follows c' h (hears c' h m m.doing x) _ new c.judge-reply.result (c.judge-reply.ensures.leads c' h l leads') after.0
     (c.judge-reply.ensures.prefix ∙ ap (λ (before : List Command). before ++ option_list (decoded value)) known.prefix ∙ sym after.1)
-    (c.of-self-inside-2.ensures ∙ ap (λ (o : Option LogOutcome). answer_of o c.judge-reply.result) c.said-2.ensures.said)
+    (c.of-self-inside.ensures ∙ ap (λ (o : Option LogOutcome). answer_of o c.judge-reply.result) c.said-2.ensures.said)
     (subst IsCarried (sym reply) after.2) kept.0 kept.1 stays)
 
 pub returns-in_default-clause-alone : goal.returns-in_default-clause-alone
