@@ -100,6 +100,8 @@ impl<N: ClusterName> HostSeat<N> {
     }
 
     // The device call that is due.
+    // Inlined: else the call would be written to memory and read back at each step.
+    #[inline(always)]
     pub(crate) fn call(&self) -> Need<'_>
         requires { idles (host_in N.shape self.now) ≡ false }
         ensures next { next_of N.shape self.now.number (host_in N.shape self.now) ≡ Some (call_of_need result) }

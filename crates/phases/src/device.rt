@@ -9,6 +9,8 @@ use disk::{Disk, DiskFault};
 use torn_block::ROW_LENGTH;
 
 /// Makes a call on its disk, in the cluster's layout, and tells what the disk answered. A row that is read is in `row`.
+// Inlined: else the call and the answer would each be written to memory and read back.
+#[inline(always)]
 pub fn answer_of<'a, D: Disk>(
     disk: &mut D,
     call: &DeviceCall<'_>,
