@@ -224,7 +224,7 @@ module _ (v : Version) (row : List ℕ) where
         | inr f ↦ (f, ap (λ (o : Option (List DecodedBlock)). unwrap_or o []) (sym is ∙ said_if_none f))
       ]
 
-  seen_at-row_seen : (host : ℕ) → host < (hosts_in v) → seen_at (row_seen v row) host ≡ seen_in v (block_of v host row)
+  pub seen_at-row_seen : (host : ℕ) → host < (hosts_in v) → seen_at (row_seen v row) host ≡ seen_in v (block_of v host row)
   seen_at-row_seen host below = get_or-map-range_with_len (λ h. seen_in v (block_of v h row)) 0 (hosts_in v) host host blank_seen below (omega arith)
 
   -- a row that says anything says what each of its blocks says

@@ -175,7 +175,7 @@ greatest_rest f n (suc m) few rest =
           rw (here, before) (omega arith))
     ]
 
-later_blank : (best : Said) → later_of best blank ≡ best
+pub later_blank : (best : Said) → later_of best blank ≡ best
 later_blank best =
     let never : nat_lt best.bal 0 ≡ false = grind (arith, nat_tests) in
     ap (λ (b : Bool). if b then blank else best) never
@@ -192,7 +192,7 @@ latest_rest host row best n (suc m) few rest =
       | inr le ↦ latest_same host row best m (m == host) (rest m le (omega arith)) ∙ latest_rest host row best n m le (λ g from below. rest g from (omega arith))
     ]
 
-or_none : (o : Option (List ℕ)) → option_or o None ≡ o
+pub or_none : (o : Option (List ℕ)) → option_or o None ≡ o
 or_none None = refl
 or_none (Some value) = refl
 

@@ -1,4 +1,5 @@
 pub mod Ballot
+pub mod Gist
 pub mod Headers
 pub mod Places
 pub mod Row

@@ -127,7 +127,7 @@ pub fn read_row<L: Layout>(row: &mut Row<L::Value>, bytes: &[u8]) -> Result<(), 
 
 // The bytes of a host's block.
 #[inline(always)]
-fn block_of<L: Layout>(row: &[u8], host: usize) -> &[u8]
+pub(crate) fn block_of<L: Layout>(row: &[u8], host: usize) -> &[u8]
     requires row { length row.now ≡ row_length L.version }
     requires host { host < hosts_in L.version }
     ensures block { result.now ≡ Damage.block_of L.version host row.now }

@@ -11,6 +11,8 @@ use Rattle.paxos_block.specs.layouts.Saying.{Said}
 use Rattle.paxos_block.specs.declared.cell.Cell.{Cell}
 use Rattle.paxos_block.specs.layouts.Row.{DecodedBlock, seen_at, decoded_row, IsSeenAs, AreSeenAs}
 use Rattle.paxos_block.specs.declared.row.Row.{Row}
+use Rattle.paxos_block.specs.declared.gist.Gist.{Gist}
+use Rattle.paxos_block.specs.layouts.Gist.{IsGist}
 use Rattle.std.specs.Option.{IsSomeAnd}
 use Rattle.paxos_block.specs.layouts.Saying.{body_saying}
 use Rattle.attempt.specs.Calls.{Phase, Opening, One, Two, start, goal}
@@ -32,7 +34,7 @@ use Rattle.torn_block.specs.Layout.{Version}
 use Rattle.phases.specs.Notes.{Notes, no_visit, visit_at}
 use Rattle.phases.specs.Steps.{made, answered, Suits, FitsStage, write_then, stage_then}
 use Rattle.phases.specs.Kept.{Remembers, KeepsRows, IsVisiting, IsWriting, Writes, Stands, Follows}
-use Rattle.phases.specs.Moves.{IsInOrder, IsPassed, ArePassed, ReadsAs, Takes}
+use Rattle.phases.specs.Moves.{IsInOrder, IsPassed, ArePassed, ReadsAs, ReadsGist, Takes}
 use Rattle.phases.proofs.Visiting.{no_answers}
 use Rattle.phases.proofs.Hearing.{IsDue, Stays, Ending, Dropped, Read, left_now, same_not_outrun, same_rows_kept, follows, opened_stays, remembers_more, due_there, remembers_now, boot_stays, stays_there, passes}
 
@@ -43,6 +45,13 @@ reads_by v spelled bytes row (Some seen) is so = record { seen = seen; said = is
 
 pub reads_as : {V : Type 0} (v : Version) (spelled : V → List ℕ) (bytes : List ℕ) (row : Row V) → IsSomeAnd (decoded_row v bytes) (λ seen. AreSeenAs v spelled seen row) → ReadsAs v spelled bytes row
 reads_as v spelled bytes row so = reads_by v spelled bytes row (decoded_row v bytes) refl so
+
+gist_by : {V : Type 0} (v : Version) (spelled : V → List ℕ) (host : ℕ) (best : Said) (bytes : List ℕ) (row : Gist V) (o : Option (List DecodedBlock)) → decoded_row v bytes ≡ o → IsSomeAnd o (λ seen. IsGist v spelled host best seen row) → ReadsGist v spelled host best bytes row
+gist_by v spelled host best bytes row None is some = absurd some
+gist_by v spelled host best bytes row (Some seen) is so = record { seen = seen; said = is; so = so }
+
+pub reads_gist : {V : Type 0} (v : Version) (spelled : V → List ℕ) (host : ℕ) (best : Said) (bytes : List ℕ) (row : Gist V) → IsSomeAnd (decoded_row v bytes) (λ seen. IsGist v spelled host best seen row) → ReadsGist v spelled host best bytes row
+reads_gist v spelled host best bytes row so = gist_by v spelled host best bytes row (decoded_row v bytes) refl so
 
 -- what is known where a call is due, of an attempt that goes on
 pub visiting : (f : Answers) (n : Notes) → n.end ≡ None → Follows f n → IsVisiting n.phase f n

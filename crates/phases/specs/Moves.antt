@@ -3,6 +3,8 @@
 use Rattle.std.specs.Prelude.{◌≡◌, ◌<◌, ◌≤◌, ◌*◌, ◌&&◌, ℕ, Bool, true, false, max, List, length, nat_lt, nat_le, slice_get, Option, Some, None, if◌then◌else◌}
 use Rattle.paxos_block.specs.layouts.Saying.{Said}
 use Rattle.paxos_block.specs.declared.row.Row.{Row}
+use Rattle.paxos_block.specs.declared.gist.Gist.{Gist}
+use Rattle.paxos_block.specs.layouts.Gist.{IsGist}
 use Rattle.paxos_block.specs.layouts.Row.{DecodedBlock, AreSeenAs, decoded_row}
 use Rattle.paxos_block.specs.layouts.Votes.{says_in, highest_mbal, highest_mbal_of_others, later_of, latest_in, marked_in}
 use Rattle.attempt.specs.Calls.{Phase, Opening, One, Two, start, goal}
@@ -48,6 +50,12 @@ pub record ReadsAs {V : Type 0} (v : Version) (spelled : V → List ℕ) (bytes 
   pub seen : List DecodedBlock
   pub said : decoded_row v bytes ≡ Some seen
   pub so : AreSeenAs v spelled seen row
+
+-- the same where only the row's gist is made, by a host that has found this vote
+pub record ReadsGist {V : Type 0} (v : Version) (spelled : V → List ℕ) (host : ℕ) (best : Said) (bytes : List ℕ) (row : Gist V) : Type 0 where
+  pub seen : List DecodedBlock
+  pub said : decoded_row v bytes ≡ Some seen
+  pub so : IsGist v spelled host best seen row
 
 -- from phase 1 on another host's greater ballot ends the attempt
 abbrev pub above : ℕ → ℕ → Option ℕ

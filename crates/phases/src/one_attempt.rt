@@ -13,7 +13,7 @@ ghost use Rattle.attempt.specs.Setup as attempt;
 ghost use Rattle.attempt.specs.Status.{status, taken};
 ghost use Rattle.phases.specs.layouts.Calls.{call_of_need, device_call_of, heard_of, end_as, end_in, IsWithin};
 ghost use Rattle.phases.specs.Kept.{answer_of, IsSameAttempt, LeadsTo, Follows, call_due, end_of_status};
-ghost use Rattle.phases.specs.Moves.{Takes, ReadsAs, IsPassed, IsBegun, IsOver, outruns, noted, phases_left, keeps_majority};
+ghost use Rattle.phases.specs.Moves.{Takes, ReadsGist, IsPassed, IsBegun, IsOver, outruns, noted, phases_left, keeps_majority};
 ghost use Rattle.phases.specs.Notes.{visit_at};
 ghost use Rattle.phases.specs.Room.{RowFits};
 ghost use Rattle.phases.specs.Steps.{FitsStage, write_due};
@@ -25,7 +25,7 @@ use crate::phase::{Phase, Stage};
 use crate::setup::Setup;
 use crate::visit::{UNSEEN, Visit};
 use disk::Boot;
-use paxos_block::{PBlock, Row, ballot_above, block_place, encode, read_row, row_place};
+use paxos_block::{Gist, PBlock, ballot_above, block_place, encode, read_gist, row_place};
 use std::marker::Model;
 use torn_block::{BlockNeed, DISKS, Layout, WriteSteps};
 
@@ -206,7 +206,7 @@ impl<L: Layout> Attempt<L> {
         self.stage.succeed();
     }
 
-    // The bytes of a row were read. The row is a local variable here, and not in `hear`: a function sets up its locals at each
+    // The bytes of a row were read. Its gist is a local variable here, and not in `hear`: a function sets up its locals at each
     // call, and most answers bring no row.
     #[inline(never)]
     fn hear_row(&mut self, bytes: &[u8])
@@ -217,9 +217,8 @@ impl<L: Layout> Attempt<L> {
         ensures of { self.new.of ≡ self.old.of }
         ensures follows { Takes (answers.Told (decoded_row L.version bytes.now)) self.old self.new }
     {
-        let mut row = Row::blank();
-        match read_row::<L>(&mut row, bytes) {
-            Ok(()) => self.take_row(&row),
+        match read_gist::<L>(bytes, self.of.host, &self.best) {
+            Ok(row) => self.take_row(&row),
             Err(_) => self.drop_disk(),
         }
     }
@@ -236,12 +235,12 @@ impl<L: Layout> Attempt<L> {
     }
 
     // The row of the phase was read.
-    fn take_row(&mut self, row: &Row<L::Value>)
+    fn take_row(&mut self, row: &Gist<L::Value>)
         requires going { self.old.end ≡ None }
         requires stage { self.old.stage ≡ Stage.Reading }
-        requires row { (bytes : List ℕ) × ReadsAs L.version L.spelled bytes row.now }
+        requires row { (bytes : List ℕ) × ReadsGist L.version L.spelled self.old.of.host self.old.best bytes row.now }
         ensures of { self.new.of ≡ self.old.of }
-        ensures follows { (bytes : List ℕ) → ReadsAs L.version L.spelled bytes row.now →
+        ensures follows { (bytes : List ℕ) → ReadsGist L.version L.spelled self.old.of.host self.old.best bytes row.now →
             Takes (answers.Told (decoded_row L.version bytes)) self.old self.new }
     {
         if let Some(mbal) = self.faster(row) {
@@ -249,19 +248,19 @@ impl<L: Layout> Attempt<L> {
             return;
         }
         self.note(row);
-        self.visits[usize::from(self.disk)].block = row.cell(self.of.host).block;
+        self.visits[usize::from(self.disk)].block = row.own.block;
         let next = self.disk + 1;
         self.go_on(next);
     }
 
     // Another host's ballot in the row, if it is greater than the one that was taken.
-    fn faster(&self, row: &Row<L::Value>) -> Option<u64>
-        ensures { (bytes : List ℕ) (reads : ReadsAs L.version L.spelled bytes row.now) → result ≡ outruns self.now.phase self.now reads.seen }
+    fn faster(&self, row: &Gist<L::Value>) -> Option<u64>
+        ensures { (bytes : List ℕ) (reads : ReadsGist L.version L.spelled self.now.of.host self.now.best bytes row.now) → result ≡ outruns self.now.phase self.now reads.seen }
     {
         if self.phase == Phase::Opening {
             return None;
         }
-        let others = row.others_mbal(self.of.host);
+        let others = row.others;
         if self.says.mbal < others {
             Some(others)
         } else {
@@ -270,18 +269,17 @@ impl<L: Layout> Attempt<L> {
     }
 
     // What the row says of ballots and votes.
-    fn note(&mut self, row: &Row<L::Value>)
-        requires { (bytes : List ℕ) × ReadsAs L.version L.spelled bytes row.now }
-        ensures { (bytes : List ℕ) (reads : ReadsAs L.version L.spelled bytes row.now) → self.new ≡ noted self.old.phase self.old reads.seen }
+    fn note(&mut self, row: &Gist<L::Value>)
+        requires { (bytes : List ℕ) × ReadsGist L.version L.spelled self.old.of.host self.old.best bytes row.now }
+        ensures { (bytes : List ℕ) (reads : ReadsGist L.version L.spelled self.old.of.host self.old.best bytes row.now) → self.new ≡ noted self.old.phase self.old reads.seen }
     {
-        let host = self.of.host;
         match self.phase {
             Phase::Opening => {
-                self.highest = self.highest.max(row.greatest_mbal());
-                self.best = self.best.or_later(&row.cell(host).says);
-                self.decided = self.decided.or(row.marked());
+                self.highest = self.highest.max(row.greatest);
+                self.best = self.best.or_later(&row.own.says);
+                self.decided = self.decided.or(row.marked);
             }
-            Phase::One => self.best = row.latest_vote(host, self.best),
+            Phase::One => self.best = row.latest,
             Phase::Two => {}
         }
     }

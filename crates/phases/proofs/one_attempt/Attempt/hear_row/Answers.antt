@@ -1,23 +1,29 @@
-use Rattle.std.proofs.Common.{List, Option, refl, ap}
+use Rattle.std.proofs.Common.{List, Option, refl, subst, ap}
 use Rattle.paxos_block.specs.layouts.Row.{DecodedBlock, decoded_row}
+use Rattle.paxos_block.specs.layouts.Saying.{said_as}
 use Rattle.attempt.specs.Answers.{Told, is_bad}
-use Rattle.phases.proofs.Answering.{reads_as}
+use Rattle.phases.specs.Moves.{ReadsGist}
+use Rattle.phases.specs.Notes.{Notes}
+use Rattle.phases.proofs.Answering.{reads_gist}
 use Rattle.phases.proofs.one_attempt.Attempt.hear_row.Goals as goal
 
 pub returns-in-Ok-clause-follows : goal.returns-in-Ok-clause-follows
-returns-in-Ok-clause-follows g c = c.take_row.ensures.follows c.args.bytes.now (reads_as g.L.Layout.version g.L.Layout.spelled c.args.bytes.now c.read_row.new.row c.in-Ok.ensures.said)
-
-pub blank-row-requires : goal.blank-row-requires
-blank-row-requires g c = c.requires.room
-
-pub read_row-requires : goal.read_row-requires
-read_row-requires g c = (c.requires.room, c.requires.long)
+returns-in-Ok-clause-follows g c =
+    let v = g.L.Layout.version in
+    let spelled = g.L.Layout.spelled in
+    let host = c.self.inside.of.host in
+    let best = said_as spelled c.self.inside.best in
+    c.take_row.ensures.follows c.args.bytes.now
+    (subst (λ (n : Notes). ReadsGist v spelled n.of.host n.best c.args.bytes.now c.in-Ok.row) c.self.view_is (reads_gist v spelled host best c.args.bytes.now c.in-Ok.row c.in-Ok.ensures.said))
 
 pub take_row-requires : goal.take_row-requires
-take_row-requires g c = (
-  c.requires.room,
-  (c.requires.going, (c.requires.stage, (c.args.bytes.now, reads_as g.L.Layout.version g.L.Layout.spelled c.args.bytes.now c.read_row.new.row c.in-Ok.ensures.said))),
-)
+take_row-requires g c =
+    let v = g.L.Layout.version in
+    let spelled = g.L.Layout.spelled in
+    let host = c.self.inside.of.host in
+    let best = said_as spelled c.self.inside.best in
+    let reads = subst (λ (n : Notes). ReadsGist v spelled n.of.host n.best c.args.bytes.now c.in-Ok.row) c.self.view_is (reads_gist v spelled host best c.args.bytes.now c.in-Ok.row c.in-Ok.ensures.said) in
+    record { going = c.requires.going; stage = c.requires.stage; row = (c.args.bytes.now, reads) }
 
 pub returns-in-Err-clause-follows : goal.returns-in-Err-clause-follows
 returns-in-Err-clause-follows g c =
