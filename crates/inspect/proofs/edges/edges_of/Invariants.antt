@@ -1,4 +1,4 @@
-use Rattle.std.proofs.Common.{◌<◌, ◌≤◌, ◌-◌, ℕ, length}
+use Rattle.std.proofs.Common.{◌<◌, ◌≤◌, ◌-◌, ℕ, length, slice_index_or}
 use Rattle.inspect.specs.Blocked.{IsBlockedBy}
 use Rattle.inspect.specs.Marks.{Marked, MarksPlace}
 use Rattle.inspect.proofs.edges.edges_of.Given as goal
@@ -8,6 +8,7 @@ invariant-loop-start l = record {
   fits : l.start ≤ length l.locks;
   sound : (a b : ℕ) → Marked l.edges a b → IsBlockedBy l.locks a b;
   complete : (k : ℕ) → k < length l.locks → MarksPlace l.locks k l.start l.edges;
+  seen : (a : ℕ) → slice_index_or l.seen a 0 ≤ l.start;
 }
 
 abbrev pub decreases-loop-start : goal.decreases-loop-start
