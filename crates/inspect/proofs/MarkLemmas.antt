@@ -1,13 +1,14 @@
 -- Marks of pairs, as one is set.
-use Rattle.std.proofs.Common.{◌≡◌, ◌≢◌, ◌<◌, ◌≤◌, ◌==◌, ◌&&◌, ◌||◌, nat_lt, ◌+◌, ◌-◌, ◌*◌, ℕ, Bool, true, false, not, List, length, slice_index_or, slice_set, slice_get, Some, refl, sym, ap, ◌∙◌, subst, arith, rules, nat_eq, inl, inr, ◌⊎◌, [], ◌∷◌, zero, suc, replicate, true≢false}
-use Rattle.std.proofs.lemmas.List.{get_or-set_same, get_or-set_other}
+use Rattle.std.proofs.Common.{◌≡◌, ◌≢◌, ◌<◌, ◌≤◌, ◌==◌, ◌&&◌, ◌||◌, nat_lt, ◌+◌, ◌-◌, ◌*◌, ℕ, Bool, true, false, not, List, length, slice_index_or, slice_set, slice_get, Some, refl, sym, ap, ◌∙◌, subst, arith, rules, nat_eq, inl, inr, ◌⊎◌, [], ◌∷◌, ◌++◌, zero, suc, replicate, true≢false}
+use Rattle.std.proofs.lemmas.List.{get_or-set_same, get_or-set_other, get_or_append_left, length-append}
+use Rattle.std.proofs.Math.Seq.{get_or-append_seam}
 use Rattle.std.proofs.lemmas.Option.{get_or_from_slice_get, slice_get_read}
 use Rattle.std.proofs.lemmas.Bool.{eqb-true, eqb-false}
 use Rattle.lock_table.specs.declared.record.LockRecord.{LockRecord}
 use Rattle.lock_command.specs.Name.{same_name}
 use Rattle.lock_table.proofs.Apart.{and_first, name_is, same_name-itself}
 use Rattle.inspect.specs.Blocked.{IsBlockedBy, is_blocked_by, is_held_against, in_one_queue, is_in_the_way}
-use Rattle.inspect.specs.Marks.{HasNameOf, IsQueue, IsRun, IsSeen, Marked, MarksPair, MarksPlace, MarksRun}
+use Rattle.inspect.specs.Marks.{ArePlaces, HasNameOf, IsListed, ListsWanting, IsQueue, IsRun, IsSeen, Marked, MarksPair, MarksPlace, MarksRun}
 use Rattle.lock_table.specs.State.{is_waiting, is_converting}
 use Rattle.lock_command.specs.declared.state.LockState.{LockState}
 use Rattle.lock_command.specs.declared.state.LockState.TheVariants.{Granted, Converting, Waiting}
@@ -49,8 +50,8 @@ marks_more locks i start j old new kept before pair k from lt = elim (same_or_no
   | inr other ↦ λ x y at_x at_y blocked. kept x.client y.client (before k from (search rules) x y at_x at_y blocked)
 ]
 
-pub runs_more : (locks : List LockRecord) (i start end : ℕ) (old new : List Bool) → ((a b : ℕ) → Marked old a b → Marked new a b) → ((k : ℕ) → k < i → MarksRun locks k start end old) → MarksRun locks i start end new → (k : ℕ) → k < i + 1 → MarksRun locks k start end new
-runs_more locks i start end old new kept before run = below_next (λ k. MarksRun locks k start end new) i (λ k lt j from ltj x y at_x at_y blocked. kept x.client y.client (before k lt j from ltj x y at_x at_y blocked)) run
+pub runs_more : (locks : List LockRecord) (wanting : List ℕ) (at start end : ℕ) (old new : List Bool) → ((a b : ℕ) → Marked old a b → Marked new a b) → ((k : ℕ) → k < at → MarksRun locks (slice_index_or wanting k 0) start end old) → MarksRun locks (slice_index_or wanting at 0) start end new → (k : ℕ) → k < at + 1 → MarksRun locks (slice_index_or wanting k 0) start end new
+runs_more locks wanting at start end old new kept before run = below_next (λ k. MarksRun locks (slice_index_or wanting k 0) start end new) at (λ k lt j from ltj x y at_x at_y blocked. kept x.client y.client (before k lt j from ltj x y at_x at_y blocked)) run
 
 -- the places before a run, and those of the run
 pub places_more : (locks : List LockRecord) (i start end : ℕ) (old new : List Bool) → ((a b : ℕ) → Marked old a b → Marked new a b) → MarksPlace locks i start old → MarksRun locks i start end new → MarksPlace locks i end new
@@ -269,3 +270,63 @@ seen_more locks i queue end from to old new seen own is_own i_fits fits waiting 
         kept a y.client (s.marked a j y le (omega (arith, e, lt)) at_y)
   ];
 }
+
+-- LISTS
+
+-- a lock that wants nothing is blocked by none
+way_of_none : (p q : Bool) (s t : LockState) → (is_converting s || is_waiting s) ≡ false → ((p && is_held_against s t) || (q && in_one_queue s t) || (is_waiting s && is_converting t)) ≡ false
+way_of_none p q (Converting h w) t wants = absurd (true≢false wants)
+way_of_none p q (Waiting m) t wants = absurd (true≢false wants)
+way_of_none true true (Granted m) t _ = refl
+way_of_none true false (Granted m) t _ = refl
+way_of_none false true (Granted m) t _ = refl
+way_of_none false false (Granted m) t _ = refl
+
+wants_none : (i : ℕ) (x : LockRecord) (j : ℕ) (y : LockRecord) → (is_converting x.state || is_waiting x.state) ≡ false → is_in_the_way i x j y ≡ false
+wants_none i x j y other = way_of_none (not (x.lock == y.lock)) (nat_lt j i) x.state y.state other
+
+true_or_false : (b : Bool) → (b ≡ true) ⊎ (b ≡ false)
+true_or_false true = inl refl
+true_or_false false = inr refl
+
+-- once those that are listed are marked, all are
+pub all_listed : (locks : List LockRecord) (wanting : List ℕ) (from to n : ℕ) (old new : List Bool) → ListsWanting locks from to wanting → ((a b : ℕ) → Marked old a b → Marked new a b)
+    → ((k : ℕ) → k < from → MarksPlace locks k n old) → ((k : ℕ) → k < length wanting → MarksPlace locks (slice_index_or wanting k 0) n new) → (k : ℕ) → k < to → MarksPlace locks k n new
+all_listed locks wanting from to n old new lists kept before marks k lt j ltj x y at_x at_y blocked = elim (before_or_from k from) [
+  | inl below ↦ kept x.client y.client (before k below j ltj x y at_x at_y blocked)
+  | inr on ↦
+      elim (true_or_false (is_converting x.state || is_waiting x.state)) [
+        | inl wants ↦
+            let l : IsListed wanting k = lists k x on lt at_x wants in
+            marks l.k l.within j ltj x y (subst (λ n. slice_get locks n ≡ Some x) (sym l.is) at_x) at_y (subst (λ n. is_blocked_by n x j y ≡ true) (sym l.is) blocked)
+        | inr other ↦ absurd (true≢false (sym (in_its_way k x j y blocked) ∙ wants_none k x j y other))
+      ]
+]
+
+-- one place more
+pub places_with : (locks : List LockRecord) (wanting : List ℕ) (to : ℕ) → to < length locks → ArePlaces locks wanting → ArePlaces locks (wanting ++ to ∷ [])
+places_with locks wanting to fits before k lt = elim (before_or_from k (length wanting)) [
+  | inl below ↦ let e : slice_index_or (wanting ++ to ∷ []) k 0 ≡ slice_index_or wanting k 0 = get_or_append_left wanting (to ∷ []) 0 k below in let le = before k below in omega (arith, e, le)
+  | inr on ↦
+      let is : k ≡ length wanting = omega (arith, on, lt, length-append wanting (to ∷ [])) in
+      let e : slice_index_or (wanting ++ to ∷ []) k 0 ≡ to = ap (λ n. slice_index_or (wanting ++ to ∷ []) n 0) is ∙ get_or-append_seam wanting to [] 0 in omega (arith, e, fits)
+]
+
+pub listed_with : (locks : List LockRecord) (wanting : List ℕ) (from to : ℕ) → ListsWanting locks from to wanting → ListsWanting locks from (to + 1) (wanting ++ to ∷ [])
+listed_with locks wanting from to before i x on lt at_x wants =
+    let long : length (wanting ++ to ∷ []) ≡ length wanting + 1 = length-append wanting (to ∷ []) in elim (same_or_not i to) [
+      | inl is ↦ record { k = length wanting; within = omega (arith, long); is = get_or-append_seam wanting to [] 0 ∙ sym is }
+      | inr other ↦
+          let l : IsListed wanting i = before i x on (search rules) at_x wants in
+          let within : l.k < length wanting = l.within in
+          record { k = l.k; within = omega (arith, long, within); is = get_or_append_left wanting (to ∷ []) 0 l.k within ∙ l.is }
+    ]
+
+-- or none, where the lock wants nothing
+pub listed_without : (locks : List LockRecord) (wanting : List ℕ) (from to : ℕ) (own : LockRecord) → own ≡ slice_index_or locks to own → (is_converting own.state || is_waiting own.state) ≡ false → ListsWanting locks from to wanting → ListsWanting locks from (to + 1) wanting
+listed_without locks wanting from to own is_own none before i x on lt at_x wants = elim (same_or_not i to) [
+  | inl is ↦
+      let x_is : own ≡ x = is_own ∙ get_or_from_slice_get locks to x own (subst (λ n. slice_get locks n ≡ Some x) is at_x) in
+      absurd (true≢false (sym wants ∙ subst (λ (r : LockRecord). (is_converting r.state || is_waiting r.state) ≡ false) x_is none))
+  | inr other ↦ before i x on (search rules) at_x wants
+]

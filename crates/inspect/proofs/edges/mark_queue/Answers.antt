@@ -1,4 +1,4 @@
-use Rattle.std.proofs.Common.{◌≡◌, ◌<◌, ◌≤◌, ◌∙◌, ℕ, Some, List, arith, refl, length, slice_get, slice_index_or, slice_set, sym, ap, subst}
+use Rattle.std.proofs.Common.{◌≡◌, ◌<◌, ◌≤◌, ◌∙◌, ℕ, arith, refl, length, slice_index_or, slice_set, sym, ap, subst}
 use Rattle.std.proofs.lemmas.Option.{slice_get_read}
 use Rattle.lock_table.specs.declared.record.LockRecord.{LockRecord}
 use Rattle.inspect.specs.Marks.{IsSeen}
