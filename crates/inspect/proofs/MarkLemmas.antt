@@ -1,13 +1,17 @@
 -- Marks of pairs, as one is set.
-use Rattle.std.proofs.Common.{◌≡◌, ◌≢◌, ◌<◌, ◌≤◌, ◌&&◌, ◌+◌, ◌*◌, ℕ, Bool, true, false, not, List, length, slice_index_or, slice_set, slice_get, Some, refl, sym, ap, ◌∙◌, subst, arith, rules, nat_eq, inl, inr, ◌⊎◌, [], ◌∷◌, zero, suc, replicate, true≢false}
-use Rattle.std.proofs.lemmas.List.{get_or-set_other}
+use Rattle.std.proofs.Common.{◌≡◌, ◌≢◌, ◌<◌, ◌≤◌, ◌==◌, ◌&&◌, ◌||◌, nat_lt, ◌+◌, ◌-◌, ◌*◌, ℕ, Bool, true, false, not, List, length, slice_index_or, slice_set, slice_get, Some, refl, sym, ap, ◌∙◌, subst, arith, rules, nat_eq, inl, inr, ◌⊎◌, [], ◌∷◌, ◌++◌, zero, suc, replicate, true≢false}
+use Rattle.std.proofs.lemmas.List.{get_or-set_same, get_or-set_other, get_or_append_left, length-append}
+use Rattle.std.proofs.Math.Seq.{get_or-append_seam}
 use Rattle.std.proofs.lemmas.Option.{get_or_from_slice_get, slice_get_read}
 use Rattle.std.proofs.lemmas.Bool.{eqb-true, eqb-false}
 use Rattle.lock_table.specs.declared.record.LockRecord.{LockRecord}
 use Rattle.lock_command.specs.Name.{same_name}
 use Rattle.lock_table.proofs.Apart.{and_first, name_is, same_name-itself}
-use Rattle.inspect.specs.Blocked.{IsBlockedBy, is_blocked_by, is_in_the_way}
-use Rattle.inspect.specs.Marks.{Marked, MarksPair, MarksPlace, MarksRun, IsRun}
+use Rattle.inspect.specs.Blocked.{IsBlockedBy, is_blocked_by, is_held_against, in_one_queue, is_in_the_way}
+use Rattle.inspect.specs.Marks.{ArePlaces, HasNameOf, IsListed, ListsWanting, IsQueue, IsRun, IsSeen, Marked, MarksPair, MarksPlace, MarksRun}
+use Rattle.lock_table.specs.State.{is_waiting, is_converting}
+use Rattle.lock_command.specs.declared.state.LockState.{LockState}
+use Rattle.lock_command.specs.declared.state.LockState.TheVariants.{Granted, Converting, Waiting}
 
 -- a number is this one, or it is not
 pub same_or_not : (i j : ℕ) → (i ≡ j) ⊎ (i ≢ j)
@@ -46,8 +50,8 @@ marks_more locks i start j old new kept before pair k from lt = elim (same_or_no
   | inr other ↦ λ x y at_x at_y blocked. kept x.client y.client (before k from (search rules) x y at_x at_y blocked)
 ]
 
-pub runs_more : (locks : List LockRecord) (i start end : ℕ) (old new : List Bool) → ((a b : ℕ) → Marked old a b → Marked new a b) → ((k : ℕ) → k < i → MarksRun locks k start end old) → MarksRun locks i start end new → (k : ℕ) → k < i + 1 → MarksRun locks k start end new
-runs_more locks i start end old new kept before run = below_next (λ k. MarksRun locks k start end new) i (λ k lt j from ltj x y at_x at_y blocked. kept x.client y.client (before k lt j from ltj x y at_x at_y blocked)) run
+pub runs_more : (locks : List LockRecord) (wanting : List ℕ) (at start end : ℕ) (old new : List Bool) → ((a b : ℕ) → Marked old a b → Marked new a b) → ((k : ℕ) → k < at → MarksRun locks (slice_index_or wanting k 0) start end old) → MarksRun locks (slice_index_or wanting at 0) start end new → (k : ℕ) → k < at + 1 → MarksRun locks (slice_index_or wanting k 0) start end new
+runs_more locks wanting at start end old new kept before run = below_next (λ k. MarksRun locks (slice_index_or wanting k 0) start end new) at (λ k lt j from ltj x y at_x at_y blocked. kept x.client y.client (before k lt j from ltj x y at_x at_y blocked)) run
 
 -- the places before a run, and those of the run
 pub places_more : (locks : List LockRecord) (i start end : ℕ) (old new : List Bool) → ((a b : ℕ) → Marked old a b → Marked new a b) → MarksPlace locks i start old → MarksRun locks i start end new → MarksPlace locks i end new
@@ -136,3 +140,193 @@ none_marked n a b m = true≢false (sym m.set ∙ get_or-replicate n (256 * a + 
     get_or-replicate zero k x = refl
     get_or-replicate (suc n) zero x = refl
     get_or-replicate (suc n) (suc k) x = get_or-replicate n k x
+
+-- QUEUES
+
+-- for no client anything is seen at first
+pub zero_seen : (n a : ℕ) → slice_index_or (replicate n 0) a 0 ≤ 0
+zero_seen zero a = omega arith
+zero_seen (suc n) zero = omega arith
+zero_seen (suc n) (suc a) = zero_seen n a
+
+-- one lock before the queue waits too
+pub queue_more : (locks : List LockRecord) (queue end : ℕ) (first : LockRecord) → 0 < queue → first ≡ slice_index_or locks (queue - 1) first → is_waiting first.state ≡ true → IsQueue locks queue end → IsQueue locks (queue - 1) end
+queue_more locks queue end first some is_first waits behind j y from lt at_y = elim (same_or_not j (queue - 1)) [
+  | inl is ↦
+      let is_y : first ≡ y = is_first ∙ get_or_from_slice_get locks (queue - 1) y first (subst (λ n. slice_get locks n ≡ Some y) is at_y) in
+      subst (λ (r : LockRecord). is_waiting r.state ≡ true) is_y waits
+  | inr other ↦ behind j y (search rules) lt at_y
+]
+
+-- what is seen before a run says nothing of its queue
+pub none_seen : (locks : List LockRecord) (start queue end : ℕ) (edges : List Bool) (seen : List ℕ) → start ≤ queue → queue ≤ end → ((a : ℕ) → slice_index_or seen a 0 ≤ start) → IsSeen locks queue end edges seen
+none_seen locks start queue end edges seen from to before = record {
+  within = λ a. let le = before a in omega (arith, le, from, to);
+  marked = λ a j y le lt at_y. let few = before a in absurd (omega (arith, few, from, le, lt));
+}
+
+pub seen_kept : (locks : List LockRecord) (queue end : ℕ) (old new : List Bool) (seen : List ℕ) → ((a b : ℕ) → Marked old a b → Marked new a b) → IsSeen locks queue end old seen → IsSeen locks queue end new seen
+seen_kept locks queue end old new seen kept before = record {
+  within = before.within;
+  marked = λ a j y le lt at_y. kept a y.client (before.marked a j y le lt at_y);
+}
+
+-- marked from a place on, and seen before it
+pub marks_both : (locks : List LockRecord) (i start queue end : ℕ) (old new : List Bool) → ((a b : ℕ) → Marked old a b → Marked new a b) → MarksRun locks i start queue old → MarksRun locks i queue end new → MarksRun locks i start end new
+marks_both locks i start queue end old new kept before behind j from lt = elim (before_or_from j queue) [
+  | inl below ↦ λ x y at_x at_y blocked. kept x.client y.client (before j from below x y at_x at_y blocked)
+  | inr le ↦ behind j le lt
+]
+
+-- a lock that waits is blocked by each that waits before it in its run
+way_before : (p q : Bool) (s t : LockState) → is_waiting s ≡ true → is_waiting t ≡ true → q ≡ true → ((p && is_held_against s t) || (q && in_one_queue s t) || (is_waiting s && is_converting t)) ≡ true
+way_before p q (Granted m) t other _ _ = absurd (true≢false (sym other))
+way_before p q (Converting h w) t other _ _ = absurd (true≢false (sym other))
+way_before p q (Waiting m) (Granted n) _ other _ = absurd (true≢false (sym other))
+way_before p q (Waiting m) (Converting h w) _ other _ = absurd (true≢false (sym other))
+way_before p false (Waiting m) (Waiting n) _ _ other = absurd (true≢false (sym other))
+way_before true true (Waiting m) (Waiting n) _ _ _ = refl
+way_before false true (Waiting m) (Waiting n) _ _ _ = refl
+
+waits_before : (i : ℕ) (x : LockRecord) (j : ℕ) (y : LockRecord) → is_waiting x.state ≡ true → is_waiting y.state ≡ true → j < i → is_in_the_way i x j y ≡ true
+waits_before i x j y x_waits y_waits lt = way_before (not (x.lock == y.lock)) (nat_lt j i) x.state y.state x_waits y_waits (search (arith, rules, lt))
+
+-- and by none that waits behind it
+way_behind : (p q : Bool) (s t : LockState) → is_waiting t ≡ true → q ≡ false → ((p && is_held_against s t) || (q && in_one_queue s t) || (is_waiting s && is_converting t)) ≡ false
+way_behind p q s (Granted m) other _ = absurd (true≢false (sym other))
+way_behind p q s (Converting h w) other _ = absurd (true≢false (sym other))
+way_behind p true s (Waiting n) _ other = absurd (true≢false other)
+way_behind true false (Granted m) (Waiting n) _ _ = refl
+way_behind false false (Granted m) (Waiting n) _ _ = refl
+way_behind true false (Converting h w) (Waiting n) _ _ = refl
+way_behind false false (Converting h w) (Waiting n) _ _ = refl
+way_behind true false (Waiting m) (Waiting n) _ _ = refl
+way_behind false false (Waiting m) (Waiting n) _ _ = refl
+
+waits_behind : (i : ℕ) (x : LockRecord) (j : ℕ) (y : LockRecord) → is_waiting y.state ≡ true → i ≤ j → is_in_the_way i x j y ≡ false
+waits_behind i x j y y_waits le = way_behind (not (x.lock == y.lock)) (nat_lt j i) x.state y.state y_waits (search (arith, rules, le))
+
+-- a lock that does not wait is blocked by none that does
+way_after : (p q : Bool) (s t : LockState) → is_waiting s ≡ false → is_waiting t ≡ true → ((p && is_held_against s t) || (q && in_one_queue s t) || (is_waiting s && is_converting t)) ≡ false
+way_after p q s (Granted m) _ other = absurd (true≢false (sym other))
+way_after p q s (Converting h w) _ other = absurd (true≢false (sym other))
+way_after p q (Waiting m) (Waiting n) other _ = absurd (true≢false other)
+way_after true true (Granted m) (Waiting n) _ _ = refl
+way_after true false (Granted m) (Waiting n) _ _ = refl
+way_after false true (Granted m) (Waiting n) _ _ = refl
+way_after false false (Granted m) (Waiting n) _ _ = refl
+way_after true true (Converting h w) (Waiting n) _ _ = refl
+way_after true false (Converting h w) (Waiting n) _ _ = refl
+way_after false true (Converting h w) (Waiting n) _ _ = refl
+way_after false false (Converting h w) (Waiting n) _ _ = refl
+
+waits_after : (i : ℕ) (x : LockRecord) (j : ℕ) (y : LockRecord) → is_waiting x.state ≡ false → is_waiting y.state ≡ true → is_in_the_way i x j y ≡ false
+waits_after i x j y other y_waits = way_after (not (x.lock == y.lock)) (nat_lt j i) x.state y.state other y_waits
+
+-- so the queue marks nothing for it
+pub none_of_queue : (locks : List LockRecord) (i queue end : ℕ) (own : LockRecord) (edges : List Bool) → own ≡ slice_index_or locks i own → is_waiting own.state ≡ false → IsQueue locks queue end → MarksRun locks i queue end edges
+none_of_queue locks i queue end own edges is_own other waiting j from lt x y at_x at_y blocked =
+    let x_is : own ≡ x = is_own ∙ get_or_from_slice_get locks i x own at_x in
+    let x_other : is_waiting x.state ≡ false = subst (λ (r : LockRecord). is_waiting r.state ≡ false) x_is other in
+    absurd (true≢false (sym (in_its_way i x j y blocked) ∙ waits_after i x j y x_other (waiting j y from lt at_y)))
+
+-- those of the queue before a place were seen for the client or are marked now, and those behind do not block
+pub queue_marked : (locks : List LockRecord) (i queue end from to : ℕ) (old new : List Bool) (seen : List ℕ) (own : LockRecord) → own ≡ slice_index_or locks i own → IsQueue locks queue end
+    → ((a b : ℕ) → Marked old a b → Marked new a b) → IsSeen locks queue end old seen → ((j : ℕ) → queue ≤ j → j < from → j < slice_index_or seen own.client 0) → ((j : ℕ) → to ≤ j → j < end → i ≤ j) → MarksRun locks i from to new → MarksRun locks i queue end new
+queue_marked locks i queue end from to old new seen own is_own waiting kept s below behind marks j le lt x y at_x at_y blocked =
+    let x_is : own ≡ x = is_own ∙ get_or_from_slice_get locks i x own at_x in
+    elim (before_or_from j from) [
+      | inl before ↦ subst (λ (r : LockRecord). Marked new r.client y.client) x_is (kept own.client y.client (s.marked own.client j y le (below j le before) at_y))
+      | inr on ↦
+          elim (before_or_from j to) [
+            | inl inside ↦ marks j on inside x y at_x at_y blocked
+            | inr past ↦ absurd (true≢false (sym (in_its_way i x j y blocked) ∙ waits_behind i x j y (waiting j y le lt at_y) (behind j past lt)))
+          ]
+    ]
+
+-- and all of them up to the place are seen for its client then
+pub seen_more : (locks : List LockRecord) (i queue end from to : ℕ) (old new : List Bool) (seen : List ℕ) (own : LockRecord) → own ≡ slice_index_or locks i own → i < length locks → own.client < length seen → IsQueue locks queue end → HasNameOf locks i queue end → is_waiting own.state ≡ true
+    → ((a b : ℕ) → Marked old a b → Marked new a b) → IsSeen locks queue end old seen → ((j : ℕ) → queue ≤ j → j < from → j < slice_index_or seen own.client 0) → to ≤ i → to ≤ end → MarksRun locks i from to new → IsSeen locks queue end new (slice_set seen own.client to)
+seen_more locks i queue end from to old new seen own is_own i_fits fits waiting named own_waits kept s below to_i to_end marks = record {
+  within = λ a. elim (same_or_not a own.client) [
+    | inl is ↦ let e : slice_index_or (slice_set seen own.client to) a 0 ≡ to = ap (λ n. slice_index_or (slice_set seen own.client to) n 0) is ∙ get_or-set_same seen own.client to 0 fits in omega (arith, e, to_end)
+    | inr other ↦ let e : slice_index_or (slice_set seen own.client to) a 0 ≡ slice_index_or seen a 0 = get_or-set_other seen own.client a to 0 other in let le = s.within a in omega (arith, e, le)
+  ];
+  marked = λ a j y le lt at_y. elim (same_or_not a own.client) [
+    | inl is ↦
+        let e : slice_index_or (slice_set seen own.client to) a 0 ≡ to = ap (λ n. slice_index_or (slice_set seen own.client to) n 0) is ∙ get_or-set_same seen own.client to 0 fits in
+        let j_to : j < to = omega (arith, e, lt) in
+        let j_i : j < i = omega (arith, j_to, to_i) in
+        let j_end : j < end = omega (arith, j_to, to_end) in
+        let at_own : slice_get locks i ≡ Some own = slice_get_read locks (length locks) i own refl i_fits is_own in
+        let here : Marked new own.client y.client =
+        elim (before_or_from j from) [
+          | inl before ↦ kept own.client y.client (s.marked own.client j y le (below j le before) at_y)
+          | inr on ↦ marks j on j_to own y at_own at_y (blocks i own j y (waits_before i own j y own_waits (waiting j y le j_end at_y) j_i) (named j own y le j_end at_own at_y))
+        ] in
+        subst (λ n. Marked new n y.client) (sym is) here
+    | inr other ↦
+        let e : slice_index_or (slice_set seen own.client to) a 0 ≡ slice_index_or seen a 0 = get_or-set_other seen own.client a to 0 other in
+        kept a y.client (s.marked a j y le (omega (arith, e, lt)) at_y)
+  ];
+}
+
+-- LISTS
+
+-- a lock that wants nothing is blocked by none
+way_of_none : (p q : Bool) (s t : LockState) → (is_converting s || is_waiting s) ≡ false → ((p && is_held_against s t) || (q && in_one_queue s t) || (is_waiting s && is_converting t)) ≡ false
+way_of_none p q (Converting h w) t wants = absurd (true≢false wants)
+way_of_none p q (Waiting m) t wants = absurd (true≢false wants)
+way_of_none true true (Granted m) t _ = refl
+way_of_none true false (Granted m) t _ = refl
+way_of_none false true (Granted m) t _ = refl
+way_of_none false false (Granted m) t _ = refl
+
+wants_none : (i : ℕ) (x : LockRecord) (j : ℕ) (y : LockRecord) → (is_converting x.state || is_waiting x.state) ≡ false → is_in_the_way i x j y ≡ false
+wants_none i x j y other = way_of_none (not (x.lock == y.lock)) (nat_lt j i) x.state y.state other
+
+true_or_false : (b : Bool) → (b ≡ true) ⊎ (b ≡ false)
+true_or_false true = inl refl
+true_or_false false = inr refl
+
+-- once those that are listed are marked, all are
+pub all_listed : (locks : List LockRecord) (wanting : List ℕ) (from to n : ℕ) (old new : List Bool) → ListsWanting locks from to wanting → ((a b : ℕ) → Marked old a b → Marked new a b)
+    → ((k : ℕ) → k < from → MarksPlace locks k n old) → ((k : ℕ) → k < length wanting → MarksPlace locks (slice_index_or wanting k 0) n new) → (k : ℕ) → k < to → MarksPlace locks k n new
+all_listed locks wanting from to n old new lists kept before marks k lt j ltj x y at_x at_y blocked = elim (before_or_from k from) [
+  | inl below ↦ kept x.client y.client (before k below j ltj x y at_x at_y blocked)
+  | inr on ↦
+      elim (true_or_false (is_converting x.state || is_waiting x.state)) [
+        | inl wants ↦
+            let l : IsListed wanting k = lists k x on lt at_x wants in
+            marks l.k l.within j ltj x y (subst (λ n. slice_get locks n ≡ Some x) (sym l.is) at_x) at_y (subst (λ n. is_blocked_by n x j y ≡ true) (sym l.is) blocked)
+        | inr other ↦ absurd (true≢false (sym (in_its_way k x j y blocked) ∙ wants_none k x j y other))
+      ]
+]
+
+-- one place more
+pub places_with : (locks : List LockRecord) (wanting : List ℕ) (to : ℕ) → to < length locks → ArePlaces locks wanting → ArePlaces locks (wanting ++ to ∷ [])
+places_with locks wanting to fits before k lt = elim (before_or_from k (length wanting)) [
+  | inl below ↦ let e : slice_index_or (wanting ++ to ∷ []) k 0 ≡ slice_index_or wanting k 0 = get_or_append_left wanting (to ∷ []) 0 k below in let le = before k below in omega (arith, e, le)
+  | inr on ↦
+      let is : k ≡ length wanting = omega (arith, on, lt, length-append wanting (to ∷ [])) in
+      let e : slice_index_or (wanting ++ to ∷ []) k 0 ≡ to = ap (λ n. slice_index_or (wanting ++ to ∷ []) n 0) is ∙ get_or-append_seam wanting to [] 0 in omega (arith, e, fits)
+]
+
+pub listed_with : (locks : List LockRecord) (wanting : List ℕ) (from to : ℕ) → ListsWanting locks from to wanting → ListsWanting locks from (to + 1) (wanting ++ to ∷ [])
+listed_with locks wanting from to before i x on lt at_x wants =
+    let long : length (wanting ++ to ∷ []) ≡ length wanting + 1 = length-append wanting (to ∷ []) in elim (same_or_not i to) [
+      | inl is ↦ record { k = length wanting; within = omega (arith, long); is = get_or-append_seam wanting to [] 0 ∙ sym is }
+      | inr other ↦
+          let l : IsListed wanting i = before i x on (search rules) at_x wants in
+          let within : l.k < length wanting = l.within in
+          record { k = l.k; within = omega (arith, long, within); is = get_or_append_left wanting (to ∷ []) 0 l.k within ∙ l.is }
+    ]
+
+-- or none, where the lock wants nothing
+pub listed_without : (locks : List LockRecord) (wanting : List ℕ) (from to : ℕ) (own : LockRecord) → own ≡ slice_index_or locks to own → (is_converting own.state || is_waiting own.state) ≡ false → ListsWanting locks from to wanting → ListsWanting locks from (to + 1) wanting
+listed_without locks wanting from to own is_own none before i x on lt at_x wants = elim (same_or_not i to) [
+  | inl is ↦
+      let x_is : own ≡ x = is_own ∙ get_or_from_slice_get locks to x own (subst (λ n. slice_get locks n ≡ Some x) is at_x) in
+      absurd (true≢false (sym wants ∙ subst (λ (r : LockRecord). (is_converting r.state || is_waiting r.state) ≡ false) x_is none))
+  | inr other ↦ before i x on (search rules) at_x wants
+]

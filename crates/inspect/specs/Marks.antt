@@ -1,6 +1,7 @@
 -- A table of edges between clients, a flag for each pair of them.
-use Rattle.std.specs.Prelude.{◌≡◌, ◌<◌, ◌≤◌, ◌+◌, ◌*◌, ℕ, Bool, true, false, List, slice_index_or, slice_get, Some}
+use Rattle.std.specs.Prelude.{◌≡◌, ◌<◌, ◌≤◌, ◌+◌, ◌*◌, ℕ, Bool, true, false, List, slice_index_or, slice_get, Some, length, ◌||◌}
 use Rattle.lock_table.specs.declared.record.LockRecord.{LockRecord}
+use Rattle.lock_table.specs.State.{is_converting, is_waiting}
 use Rattle.inspect.specs.Blocked.{is_blocked_by}
 
 -- the flag of a pair
@@ -30,3 +31,32 @@ MarksRun locks i start end edges = (j : ℕ) → start ≤ j → j < end → Mar
 -- or all locks before place n
 abbrev pub MarksPlace : List LockRecord → ℕ → ℕ → List Bool → Type 0
 MarksPlace locks i n edges = (j : ℕ) → j < n → MarksPair locks i j edges
+
+-- those between these places have the name of that at place i
+abbrev pub HasNameOf : List LockRecord → ℕ → ℕ → ℕ → Type 0
+HasNameOf locks i from to =
+    (j : ℕ) (x y : LockRecord) → from ≤ j → j < to → slice_get locks i ≡ Some x → slice_get locks j ≡ Some y → x.name ≡ y.name
+
+-- those between these places wait
+abbrev pub IsQueue : List LockRecord → ℕ → ℕ → Type 0
+IsQueue locks queue end = (j : ℕ) (y : LockRecord) → queue ≤ j → j < end → slice_get locks j ≡ Some y → is_waiting y.state ≡ true
+
+-- for each client those that stand in the queue before the place beside it are marked
+pub record IsSeen (locks : List LockRecord) (queue end : ℕ) (edges : List Bool) (seen : List ℕ) : Type 0 where
+  pub within : (a : ℕ) → slice_index_or seen a 0 ≤ end
+  pub marked : (a j : ℕ) (y : LockRecord) → queue ≤ j → j < slice_index_or seen a 0 → slice_get locks j ≡ Some y → Marked edges a y.client
+
+-- the place stands in the list
+pub record IsListed (wanting : List ℕ) (i : ℕ) : Type 0 where
+  pub k : ℕ
+  pub within : k < length wanting
+  pub is : slice_index_or wanting k 0 ≡ i
+
+-- these are places of locks
+abbrev pub ArePlaces : List LockRecord → List ℕ → Type 0
+ArePlaces locks wanting = (k : ℕ) → k < length wanting → slice_index_or wanting k 0 < length locks
+
+-- the locks between these places that want something are listed
+abbrev pub ListsWanting : List LockRecord → ℕ → ℕ → List ℕ → Type 0
+ListsWanting locks from to wanting =
+    (i : ℕ) (x : LockRecord) → from ≤ i → i < to → slice_get locks i ≡ Some x → (is_converting x.state || is_waiting x.state) ≡ true → IsListed wanting i

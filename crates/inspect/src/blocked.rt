@@ -46,3 +46,10 @@ pub fn wants(x: &LockRecord) -> bool
 {
     !matches!(x.state, LockState::Granted(_))
 }
+
+/// Whether the lock waits.
+pub fn is_waiting(x: &LockRecord) -> bool
+    ensures { result ≡ is_waiting x.now.state }
+{
+    matches!(x.state, LockState::Waiting(_))
+}

@@ -1,20 +1,23 @@
-use Rattle.std.proofs.Common.{inl, inr, arith}
-use Rattle.inspect.proofs.MarkLemmas.{places_more, all_marked, none_marked}
+use Rattle.std.proofs.Common.{◌<◌, ℕ, List, length, slice_index_or, subst, inl, inr, arith}
+use Rattle.inspect.specs.Marks.{MarksPlace}
+use Rattle.inspect.proofs.MarkLemmas.{all_marked, none_marked, all_listed}
 use Rattle.inspect.proofs.edges.edges_of.Goals as goal
 
-pub loop-start-init : goal.loop-start-init
-loop-start-init c = record {
+pub loop-from-init : goal.loop-from-init
+loop-from-init c = record {
   fits = omega arith;
   sound = λ a b m. absurd (none_marked 65536 a b m);
-  complete = λ k lt j none. absurd (omega (arith, none));
+  complete = λ k none. absurd (omega (arith, none));
 }
 
-pub loop-start-preserved : goal.loop-start-preserved
-loop-start-preserved c = record {
-  fits = c.end_of_run-end.ensures.fits;
-  sound = λ a b m. elim (c.mark_blocked.ensures.sound a b m) [ inl before ↦ c.loop-start.invariant.sound a b before | inr is ↦ is ];
-  complete = λ k lt. places_more c.args.locks.now k c.loop-start.start _ c.loop-start.edges c.mark_blocked.new.edges c.mark_blocked.ensures.kept (c.loop-start.invariant.complete k lt) (c.mark_blocked.ensures.complete k lt);
+pub loop-from-preserved : goal.loop-from-preserved
+loop-from-preserved c = record {
+  fits = c.list_wanting-from.ensures.fits;
+  sound = λ a b m. elim (c.mark_runs.ensures.sound a b m) [ inl before ↦ c.loop-from.invariant.sound a b before | inr is ↦ is ];
+  complete =
+      all_listed c.args.locks.now c.list_wanting-from.new.wanting.items c.loop-from.from c.list_wanting-from.result (length c.args.locks.now) c.loop-from.edges c.mark_runs.new.edges c.list_wanting-from.ensures.listed c.mark_runs.ensures.kept c.loop-from.invariant.complete
+      (subst (λ (w : List ℕ). (k : ℕ) → k < length w → MarksPlace c.args.locks.now (slice_index_or w k 0) (length c.args.locks.now) c.mark_runs.new.edges) c.deref.ensures.0 c.mark_runs.ensures.complete);
 }
 
 pub returns-clause-complete : goal.returns-clause-complete
-returns-clause-complete c = all_marked c.args.locks.now c.loop-start.edges (λ k lt j ltj. c.loop-start.invariant.complete k lt j (let le = c.loop-start-test.false in omega (arith, le, ltj)))
+returns-clause-complete c = all_marked c.args.locks.now c.loop-from.edges (λ k lt. c.loop-from.invariant.complete k (let le = c.loop-from-test.false in omega (arith, le, lt)))

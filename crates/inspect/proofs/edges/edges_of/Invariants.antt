@@ -3,12 +3,12 @@ use Rattle.inspect.specs.Blocked.{IsBlockedBy}
 use Rattle.inspect.specs.Marks.{Marked, MarksPlace}
 use Rattle.inspect.proofs.edges.edges_of.Given as goal
 
-abbrev pub invariant-loop-start : goal.invariant-loop-start
-invariant-loop-start l = record {
-  fits : l.start ≤ length l.locks;
+abbrev pub invariant-loop-from : goal.invariant-loop-from
+invariant-loop-from l = record {
+  fits : l.from ≤ length l.locks;
   sound : (a b : ℕ) → Marked l.edges a b → IsBlockedBy l.locks a b;
-  complete : (k : ℕ) → k < length l.locks → MarksPlace l.locks k l.start l.edges;
+  complete : (k : ℕ) → k < l.from → MarksPlace l.locks k (length l.locks) l.edges;
 }
 
-abbrev pub decreases-loop-start : goal.decreases-loop-start
-decreases-loop-start l = length l.locks - l.start
+abbrev pub decreases-loop-from : goal.decreases-loop-from
+decreases-loop-from l = length l.locks - l.from

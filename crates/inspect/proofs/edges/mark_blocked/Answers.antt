@@ -2,9 +2,10 @@ use Rattle.std.proofs.Common.{inl, inr}
 use Rattle.inspect.proofs.MarkLemmas.{runs_more}
 use Rattle.inspect.proofs.edges.mark_blocked.Goals as goal
 
-pub loop-i-preserved : goal.loop-i-preserved
-loop-i-preserved c = record {
-  kept = λ a b m. c.mark_blockers.ensures.kept a b (c.loop-i.invariant.kept a b m);
-  complete = runs_more c.args.locks.now c.loop-i.i c.args.start c.args.end c.loop-i.edges c.mark_blockers.new.edges c.mark_blockers.ensures.kept c.loop-i.invariant.complete c.mark_blockers.ensures.complete;
-  sound = λ a b m. elim (c.mark_blockers.ensures.sound a b m) [ inl before ↦ c.loop-i.invariant.sound a b before | inr is ↦ inr is ];
+pub listed-preserved : goal.listed-preserved
+listed-preserved c = record {
+  kept = λ a b m. c.mark_blockers.ensures.kept a b (c.listed.invariant.kept a b m);
+  complete = runs_more c.args.locks.now c.args.wanting.now c.listed.place-index c.args.start c.args.end c.listed.edges c.mark_blockers.new.edges c.mark_blockers.ensures.kept c.listed.invariant.complete c.mark_blockers.ensures.complete;
+  sound = λ a b m. elim (c.mark_blockers.ensures.sound a b m) [ inl before ↦ c.listed.invariant.sound a b before | inr is ↦ inr is ];
+  seen = c.mark_blockers.ensures.seen;
 }
