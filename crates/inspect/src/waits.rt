@@ -1,6 +1,6 @@
 ghost use Rattle.inspect.specs.Verdicts.{IsVerdict};
 
-use crate::edges::edges_of;
+use crate::edges::{clients_that_want, edges_of};
 use crate::peeling::Peeling;
 use crate::trail::cycle_from;
 use crate::verdict::Blocking;
@@ -10,8 +10,9 @@ use lock_table::Picture;
 pub fn blocking(picture: &Picture) -> Blocking
     ensures { IsVerdict picture.now.locks result }
 {
-    let edges = edges_of(picture.locks());
-    let peeling = Peeling::of(&edges);
+    let locks = picture.locks();
+    let edges = edges_of(locks);
+    let peeling = Peeling::of(&edges, &clients_that_want(locks));
     match peeling.first_left() {
         None => Blocking::Ranked(peeling.ranks),
         Some(first) => Blocking::Cycle(cycle_from(&edges, &peeling.left, first)),
