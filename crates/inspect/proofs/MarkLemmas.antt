@@ -8,7 +8,7 @@ use Rattle.lock_table.specs.declared.record.LockRecord.{LockRecord}
 use Rattle.lock_command.specs.Name.{same_name}
 use Rattle.lock_table.proofs.Apart.{and_first, name_is, same_name-itself}
 use Rattle.inspect.specs.Blocked.{IsBlockedBy, is_blocked_by, is_held_against, in_one_queue, is_in_the_way}
-use Rattle.inspect.specs.Marks.{ArePlaces, HasNameOf, IsListed, ListsWanting, IsQueue, IsRun, IsSeen, Marked, MarksPair, MarksPlace, MarksRun}
+use Rattle.inspect.specs.Marks.{ArePlaces, HasNameOf, HasWanting, IsListed, ListsWanting, IsQueue, IsRun, IsSeen, Marked, MarksPair, MarksPlace, MarksRun}
 use Rattle.lock_table.specs.State.{is_waiting, is_converting}
 use Rattle.lock_command.specs.declared.state.LockState.{LockState}
 use Rattle.lock_command.specs.declared.state.LockState.TheVariants.{Granted, Converting, Waiting}
@@ -329,4 +329,33 @@ listed_without locks wanting from to own is_own none before i x on lt at_x wants
       let x_is : own ≡ x = is_own ∙ get_or_from_slice_get locks to x own (subst (λ n. slice_get locks n ≡ Some x) is at_x) in
       absurd (true≢false (sym wants ∙ subst (λ (r : LockRecord). (is_converting r.state || is_waiting r.state) ≡ false) x_is none))
   | inr other ↦ before i x on (search rules) at_x wants
+]
+
+-- FLAGS OF CLIENTS
+
+-- one lock more, whose client has a flag then
+pub has_with : (locks : List LockRecord) (clients : List Bool) (n : ℕ) (own : LockRecord) → own ≡ slice_index_or locks n own → own.client < length clients → HasWanting locks n clients → HasWanting locks (n + 1) (slice_set clients own.client true)
+has_with locks clients n own is_own fits before i x lt at_x wants = elim (same_or_not x.client own.client) [
+  | inl is ↦ ap (λ k. slice_index_or (slice_set clients own.client true) k false) is ∙ get_or-set_same clients own.client true false fits
+  | inr other ↦
+      elim (same_or_not i n) [
+        | inl here ↦ absurd (other (ap (λ (r : LockRecord). r.client) (sym (is_own ∙ get_or_from_slice_get locks n x own (subst (λ k. slice_get locks k ≡ Some x) here at_x)))))
+        | inr there ↦ get_or-set_other clients own.client x.client true false other ∙ before i x (search rules) at_x wants
+      ]
+]
+
+-- or that wants nothing
+pub has_without : (locks : List LockRecord) (clients : List Bool) (n : ℕ) (own : LockRecord) → own ≡ slice_index_or locks n own → (is_converting own.state || is_waiting own.state) ≡ false → HasWanting locks n clients → HasWanting locks (n + 1) clients
+has_without locks clients n own is_own none before i x lt at_x wants = elim (same_or_not i n) [
+  | inl is ↦
+      let x_is : own ≡ x = is_own ∙ get_or_from_slice_get locks n x own (subst (λ k. slice_get locks k ≡ Some x) is at_x) in
+      absurd (true≢false (sym wants ∙ subst (λ (r : LockRecord). (is_converting r.state || is_waiting r.state) ≡ false) x_is none))
+  | inr other ↦ before i x (search rules) at_x wants
+]
+
+-- whoever is blocked has a lock that wants something
+pub has_blocked : (locks : List LockRecord) (clients : List Bool) → HasWanting locks (length locks) clients → (a b : ℕ) → IsBlockedBy locks a b → slice_index_or clients a false ≡ true
+has_blocked locks clients has a b e = elim (true_or_false (is_converting e.x.state || is_waiting e.x.state)) [
+  | inl wants ↦ subst (λ k. slice_index_or clients k false ≡ true) e.by_client (has e.i e.x (is_below locks e.i e.x e.is_x) e.is_x wants)
+  | inr other ↦ absurd (true≢false (sym (in_its_way e.i e.x e.j e.y e.blocked) ∙ wants_none e.i e.x e.j e.y other))
 ]

@@ -60,3 +60,8 @@ ArePlaces locks wanting = (k : ℕ) → k < length wanting → slice_index_or wa
 abbrev pub ListsWanting : List LockRecord → ℕ → ℕ → List ℕ → Type 0
 ListsWanting locks from to wanting =
     (i : ℕ) (x : LockRecord) → from ≤ i → i < to → slice_get locks i ≡ Some x → (is_converting x.state || is_waiting x.state) ≡ true → IsListed wanting i
+
+-- the clients of locks before a place that want something have a flag
+abbrev pub HasWanting : List LockRecord → ℕ → List Bool → Type 0
+HasWanting locks n clients =
+    (i : ℕ) (x : LockRecord) → i < n → slice_get locks i ≡ Some x → (is_converting x.state || is_waiting x.state) ≡ true → slice_index_or clients x.client false ≡ true

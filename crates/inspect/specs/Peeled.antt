@@ -17,6 +17,10 @@ pub record IsHeldUp (edges left : List Bool) (a : ℕ) : Type 0 where
   pub marked : Marked edges a by
   pub is_left : is_left left by ≡ true
 
+-- each client that is blocked has a flag
+abbrev pub HasBlocked : List Bool → List Bool → Type 0
+HasBlocked edges flags = (a b : ℕ) → Marked edges a b → slice_index_or flags a false ≡ true
+
 -- those that were taken have ranks, and those whom they wait for were taken before
 pub record IsPeeled (edges left : List Bool) (ranks taken : List ℕ) : Type 0 where
   pub as_many : length left ≡ 256

@@ -30,6 +30,19 @@ pub fn edges_of(locks: &[LockRecord]) -> [bool; PAIRS]
     edges
 }
 
+/// Which clients have a lock that wants something. No other is blocked.
+pub fn clients_that_want(locks: &[LockRecord]) -> [bool; CLIENT_NUMBERS]
+    ensures { (a b : ℕ) → IsBlockedBy locks.now a b → slice_index_or result a false ≡ true }
+{
+    let mut clients = [false; CLIENT_NUMBERS];
+    'locks: for lock in locks {
+        if wants(lock) {
+            clients[usize::from(lock.client.get())] = true;
+        }
+    }
+    clients
+}
+
 /// Lists the places of locks that want something, from a place on. Gives the place up to which it came, which is behind the
 /// last lock, but for a longer list than a picture of a table takes.
 fn list_wanting(locks: &[LockRecord], from: usize, wanting: &mut ArrayVec<usize, AT_ONCE>) -> usize

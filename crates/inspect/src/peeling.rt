@@ -1,6 +1,6 @@
-ghost use Rattle.std.specs.Prelude.{◌≡◌, ◌<◌, true, false, ℕ, IfNone, IfSome, length};
+ghost use Rattle.std.specs.Prelude.{◌≡◌, ◌<◌, true, false, ℕ, IfNone, IfSome, length, slice_index_or};
 ghost use Rattle.inspect.specs.declared.verdict.TheConstants.{CLIENT_NUMBERS};
-ghost use Rattle.inspect.specs.Peeled.{IsPeeled, AreHeldUp, IsHeldUp, is_left};
+ghost use Rattle.inspect.specs.Peeled.{HasBlocked, IsPeeled, AreHeldUp, IsHeldUp, is_left};
 
 use crate::edges::PAIRS;
 use crate::verdict::CLIENT_NUMBERS;
@@ -15,8 +15,9 @@ pub struct Peeling {
 }
 
 impl Peeling {
-    /// Takes away all that can be, until none can be.
-    pub fn of(edges: &[bool; PAIRS]) -> Peeling
+    /// Takes away all that can be, until none can be. No client without a flag in `wanting` is blocked.
+    pub fn of(edges: &[bool; PAIRS], wanting: &[bool; CLIENT_NUMBERS]) -> Peeling
+        requires { HasBlocked edges.now wanting.now }
         ensures peeled { IsPeeled edges.now result.left result.ranks result.taken.items }
         ensures held_up { AreHeldUp edges.now result.left }
     {
@@ -25,20 +26,21 @@ impl Peeling {
             ranks: [0; CLIENT_NUMBERS],
             taken: ArrayVec::new(),
         };
-        while peeling.pass(edges) {}
+        while peeling.pass(edges, wanting) {}
         peeling
     }
 
     /// Takes away each client that none that is left keeps waiting, by rising number. Tells whether there was one.
-    fn pass(&mut self, edges: &[bool; PAIRS]) -> bool
-        requires { IsPeeled edges.now self.old.left self.old.ranks self.old.taken.items }
+    fn pass(&mut self, edges: &[bool; PAIRS], wanting: &[bool; CLIENT_NUMBERS]) -> bool
+        requires peeled { IsPeeled edges.now self.old.left self.old.ranks self.old.taken.items }
+        requires blocked { HasBlocked edges.now wanting.now }
         ensures peeled { IsPeeled edges.now self.new.left self.new.ranks self.new.taken.items }
         ensures more { result ≡ true → length self.old.taken.items < length self.new.taken.items }
         ensures held_up { result ≡ false → AreHeldUp edges.now self.new.left }
     {
         let before = self.taken.len();
         for a in 0..CLIENT_NUMBERS {
-            if self.left[a] && !is_held_up(edges, &self.left, a) {
+            if self.left[a] && !is_held_up(edges, wanting, &self.left, a) {
                 self.take(edges, a);
             }
         }
@@ -74,15 +76,47 @@ impl Peeling {
 }
 
 /// Whether one that is left keeps `a` waiting.
-pub fn is_held_up(edges: &[bool; PAIRS], left: &[bool; CLIENT_NUMBERS], a: usize) -> bool
-    requires { a < CLIENT_NUMBERS }
+pub fn is_held_up(
+    edges: &[bool; PAIRS],
+    wanting: &[bool; CLIENT_NUMBERS],
+    left: &[bool; CLIENT_NUMBERS],
+    a: usize,
+) -> bool
+    requires fits { a < CLIENT_NUMBERS }
+    requires blocked { HasBlocked edges.now wanting.now }
     ensures yes { result ≡ true → IsHeldUp edges.now left.now a }
     ensures no { result ≡ false → IsHeldUp edges.now left.now a → ⊥ }
 {
+    if !wanting[a] {
+        return false;
+    }
     let row = CLIENT_NUMBERS * a;
     let mut held_up = false;
     for b in 0..CLIENT_NUMBERS {
         held_up |= edges[row + b] & left[b];
     }
     held_up
+}
+
+/// Whether a client has a flag.
+pub fn is_anyone(clients: &[bool; CLIENT_NUMBERS]) -> bool
+    ensures { result ≡ false → (a : ℕ) → slice_index_or clients.now a false ≡ false }
+{
+    for a in 0..CLIENT_NUMBERS {
+        if clients[a] {
+            return true;
+        }
+    }
+    false
+}
+
+/// The ranks of clients of whom none is blocked: as all are taken away by rising number, each has its own number.
+pub fn ranks_of_the_free() -> [u8; CLIENT_NUMBERS]
+    ensures { (a : ℕ) → a < CLIENT_NUMBERS → slice_index_or result a 0 ≡ a }
+{
+    let mut ranks = [0; CLIENT_NUMBERS];
+    for a in 0..CLIENT_NUMBERS {
+        ranks[a] = a as u8;
+    }
+    ranks
 }
