@@ -32,10 +32,16 @@ pub fn fill_marked(bytes: &mut Vec<u8>, words: &Vec<Word>, epoch: u64, given: &[
     ensures { bytes.new.items ≡ filled given.now 0 (marks epoch words.now.items (length bytes.old.items)) bytes.old.items }
 {
     let mut next = 0;
-    for i in 0..bytes.len() {
-        if words[i / 64].is_marked(epoch, i % 64) {
-            bytes[i] = given[next % given.len()];
-            next += 1;
+    for index in 0..bytes.len().div_ceil(64) {
+        let word = words[index];
+        if word.counted(epoch) != 0 {
+            let first = 64 * index;
+            for i in first..bytes.len().min(first + 64) {
+                if word.is_marked(epoch, i - first) {
+                    bytes[i] = given[next % given.len()];
+                    next += 1;
+                }
+            }
         }
     }
 }
