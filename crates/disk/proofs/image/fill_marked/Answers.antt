@@ -96,8 +96,8 @@ loop-index-preserved c =
           })
     ]
 
-pub returns : goal.returns
-returns c =
+pub returns-clause-bytes : goal.returns-clause-bytes
+returns-clause-bytes c =
     let size = length c.args.bytes.now.items in
     let flags = marks c.args.epoch c.args.words.now.items size in
     let bytes = c.loop-index.bytes.items in
