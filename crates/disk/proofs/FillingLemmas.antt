@@ -1,5 +1,5 @@
 -- How a loop fills a range, or the marked positions, one at a time.
-use Rattle.std.proofs.Common.{◌≡◌, ℕ, ◌+◌, ◌<◌, zero, suc, Bool, true, false, List, [], ◌∷◌, ◌++◌, length, get_or, set, take, drop, refl, sym, ◌∙◌, ap, arith, append_assoc, length-append}
+use Rattle.std.proofs.Common.{◌≡◌, ℕ, ◌+◌, ◌<◌, ◌≤◌, zero, suc, Bool, true, false, List, [], ◌∷◌, ◌++◌, length, get_or, set, take, drop, refl, sym, ◌∙◌, ap, arith, append_assoc, length-append}
 use Rattle.std.proofs.lemmas.List.{drop_more, drop-set-lt, take_more_set, take_more, set_at, length-take-le}
 use Rattle.disk.specs.Disk.{put_at, KeepsSynced}
 use Rattle.disk.specs.Filling.{nth_given, spread, filled}
@@ -54,13 +54,24 @@ module _ (given : List ℕ) (next : ℕ) (flags : List Bool) (bytes : List ℕ) 
       ∙ sym (append_assoc (take i bytes) (get_or bytes i 0 ∷ []) rest)
       ∙ ap (λ (l : List ℕ). l ++ rest) (sym (take_more bytes i 0 within))
 
+-- positions that are not marked are passed at once
+pub filled_unmarked : (given : List ℕ) (next : ℕ) (flags : List Bool) (bytes : List ℕ) (i n : ℕ) → i + n ≤ length bytes → length flags ≡ length bytes → ((k : ℕ) → i ≤ k → k < i + n → get_or flags k false ≡ false) → take i bytes ++ filled given next (drop i flags) (drop i bytes) ≡ take (i + n) bytes ++ filled given next (drop (i + n) flags) (drop (i + n) bytes)
+filled_unmarked given next flags bytes i zero fits same clear =
+    let e : i ≡ i + 0 = omega arith in
+    ap (λ (k : ℕ). take k bytes ++ filled given next (drop k flags) (drop k bytes)) e
+filled_unmarked given next flags bytes i (suc n) fits same clear =
+    let e : (i + 1) + n ≡ i + suc n = omega arith in
+    filled_false given next flags bytes i (omega arith) same (clear i (omega arith) (omega arith))
+    ∙ filled_unmarked given next flags bytes (i + 1) n (omega arith) same (λ k from under. clear k (omega arith) (omega arith))
+    ∙ ap (λ (k : ℕ). take k bytes ++ filled given next (drop k flags) (drop k bytes)) e
+
 pub length-filled : (given : List ℕ) (next : ℕ) (flags : List Bool) (bytes : List ℕ) → length flags ≡ length bytes → length (filled given next flags bytes) ≡ length bytes
 length-filled given next [] bytes same = refl
 length-filled given next (flag ∷ flags) [] same = absurd (omega arith)
 length-filled given next (true ∷ flags) (b ∷ bytes) same = ap suc (length-filled given (next + 1) flags bytes (omega arith))
 length-filled given next (false ∷ flags) (b ∷ bytes) same = ap suc (length-filled given next flags bytes (omega arith))
 
-unmarked_stays : (given : List ℕ) (next : ℕ) (flags : List Bool) (bytes : List ℕ) (k : ℕ) → get_or flags k false ≡ false → get_or (filled given next flags bytes) k 0 ≡ get_or bytes k 0
+pub unmarked_stays : (given : List ℕ) (next : ℕ) (flags : List Bool) (bytes : List ℕ) (k : ℕ) → get_or flags k false ≡ false → get_or (filled given next flags bytes) k 0 ≡ get_or bytes k 0
 unmarked_stays given next [] bytes k synced = refl
 unmarked_stays given next (flag ∷ flags) [] k synced = refl
 unmarked_stays given next (true ∷ flags) (b ∷ bytes) zero synced = cc

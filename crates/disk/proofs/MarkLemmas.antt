@@ -128,13 +128,3 @@ marks_blank n size =
     marks_later 1 (replicate n blank) size (omega arith) (λ j within.
     let e : (get_or (replicate n blank) j blank).stamp ≡ 0 = ap (λ (w : Word). w.stamp) (get_or-replicate n j blank blank (omega (arith, length-replicate n blank))) in
     omega arith)
-
--- A WRITE
-
--- as a list of flags, as long as the bytes are once some were put into them
-pub marks_written : (epoch at n : ℕ) (old new : List Word) (bytes left : List ℕ) → length left ≡ n → at + n ≤ length bytes → ((size : ℕ) → at + n ≤ size → marks epoch new size ≡ put_at (marks epoch old size) at (replicate ((at + n) - at) true)) → marks epoch new (length (put_at bytes at left)) ≡ put_at (marks epoch old (length bytes)) at (replicate (length left) true)
-marks_written epoch at n old new bytes left long within marked =
-    let run : (at + n) - at ≡ length left = omega arith in
-    ap (marks epoch new) (length-put bytes at left (omega arith) 0)
-    ∙ marked (length bytes) within
-    ∙ ap (λ (k : ℕ). put_at (marks epoch old (length bytes)) at (replicate k true)) run

@@ -1,7 +1,7 @@
 // Which positions of a simulated disk are unsynced, a bit for each. The bits of a word count only while its stamp is the
 // present epoch. So a write changes only the words of its own range. A sync only raises the epoch, however large the disk
 // is and however much was written.
-ghost use Rattle.std.specs.Prelude.{◌≡◌, ◌-◌, ◌*◌, ◌≤◌, ℕ, true, false, length, replicate, All};
+ghost use Rattle.std.specs.Prelude.{◌≡◌, ◌-◌, ◌*◌, ◌≤◌, ℕ, true, false, length, replicate, All, vec_capacity};
 ghost use Rattle.disk.specs.Disk.{put_at};
 ghost use Rattle.disk.specs.Marks.{marks};
 
@@ -15,6 +15,7 @@ pub fn mark(words: &mut Vec<Word>, at: usize, end: usize, epoch: u64)
         marks epoch words.new.items size ≡ put_at (marks epoch words.old.items size) at (replicate (end - at) true) }
     ensures no_later { All (λ w. w.stamp ≤ epoch) words.old.items → All (λ w. w.stamp ≤ epoch) words.new.items }
     ensures as_many { length words.new.items ≡ length words.old.items }
+    ensures room { vec_capacity words.new ≡ vec_capacity words.old }
 {
     for index in at / 64..end.div_ceil(64) {
         let first = 64 * index;
@@ -31,6 +32,7 @@ pub fn next_epoch(words: &mut Vec<Word>, epoch: u64) -> u64
     ensures none { (size : ℕ) → marks result words.new.items size ≡ replicate size false }
     ensures no_later { All (λ w. w.stamp ≤ result) words.new.items }
     ensures as_many { length words.new.items ≡ length words.old.items }
+    ensures room { vec_capacity words.new ≡ vec_capacity words.old }
 {
     if epoch == u64::MAX {
         words.fill(Word { stamp: 0, bits: 0 });

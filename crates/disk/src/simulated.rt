@@ -1,9 +1,10 @@
-ghost use Rattle.std.specs.Prelude.{◌≡◌, ◌↔◌, ◌+◌, ◌≤◌, ◌<◌, ◌^◌, true, false, Some, None, length, IfOk};
-ghost use Rattle.disk.specs.Disk.{Torn, Crashes, written, lost};
+ghost use Rattle.std.specs.Prelude.{◌≡◌, ◌↔◌, ◌+◌, ◌≤◌, ◌<◌, ◌^◌, true, false, Some, None, length, slice_range, IfOk};
+ghost use Rattle.disk.specs.Disk.{Torn, Crashes, written, synced, lost};
 ghost use Rattle.disk.specs.Simulated.{fresh_disk, filling, crashed, items_of, refusal_under, TakesFailure};
 
-use crate::image::{fill_marked, put, put_given};
+use crate::image::{extend, fill_marked, get, get_page, put, put_given};
 use crate::marks::{mark, next_epoch};
+use crate::pages::{Extent, PAGE, extent_of, widen};
 use crate::word::Word;
 use crate::{Boot, Disk, DiskFault, NoMemory};
 use std::alloc::Global;
@@ -13,13 +14,18 @@ use std::marker::Model;
 const LAST_BOOT: u64 = 1 << 62;
 
 /// A disk in memory, which fails, tears, crashes and is lost when a test or a script says so. No call after `new` takes
-/// memory. Only `crash` does work that grows with the disk.
+/// memory. Only `crash`, and a write or tear that is the first to reach so far, do work that grows with the disk.
 ///
 /// Where a list of bytes fills positions, the i-th of them in rising order, from 0, takes byte `i mod len` of the list.
 #[derive(Drop)]
 pub struct SimDisk {
+    /// The bytes up to some place. All behind it are zeros, and none of them is unsynced.
     bytes: Vec<u8>,
+    /// A word for each 64 of these bytes.
     words: Vec<Word>,
+    /// For each page where it was ever written.
+    pages: Vec<Extent>,
+    size: usize,
     epoch: u64,
     boot: u64,
     gone: bool,
@@ -28,16 +34,18 @@ pub struct SimDisk {
 }
 
 impl Model for SimDisk {
-    ghost use Rattle.std.specs.Prelude.{◌*◌, ◌≤◌, length, All};
+    ghost use Rattle.std.specs.Prelude.{◌*◌, ◌≤◌, length, All, vec_capacity};
+    ghost use Rattle.disk.specs.Image.{padded, WordsFit};
     ghost use Rattle.disk.specs.Marks.{marks};
+    ghost use Rattle.disk.specs.Pages.{BlankOutside};
     ghost use Rattle.disk.specs.Simulated.{SimState, IsGiven, items_of};
 
     ghost Value = { SimState };
 
     ghost view = { λ d. record {
       disk = record {
-        bytes = d.bytes.items;
-        unsynced = marks d.epoch d.words.items (length d.bytes.items);
+        bytes = padded d.size d.bytes.items;
+        unsynced = marks d.epoch d.words.items d.size;
         boot = d.boot;
         gone = d.gone;
       };
@@ -46,7 +54,11 @@ impl Model for SimDisk {
     } };
 
     ghost invariant = { λ d. record {
-      enough : length d.bytes.items ≤ 64 * length d.words.items;
+      fit : WordsFit d.size (length d.bytes.items) (length d.words.items);
+      room : d.size ≤ vec_capacity d.bytes;
+      word_room : d.size ≤ 64 * vec_capacity d.words;
+      page_room : d.size ≤ 4096 * vec_capacity d.pages;
+      blank : BlankOutside d.pages.items (padded d.size d.bytes.items) (marks d.epoch d.words.items d.size);
       no_later : All (λ w. w.stamp ≤ d.epoch) d.words.items;
       given : IsGiven (items_of d.failing);
     } };
@@ -60,8 +72,10 @@ impl SimDisk {
         ensures boot { IfOk result (λ d. d.disk.boot ≡ 1) }
     {
         Ok(SimDisk {
-            bytes: vec![in alloc; 0; size as usize]?,
-            words: vec![in alloc; Word { stamp: 0, bits: 0 }; size.div_ceil(64) as usize]?,
+            bytes: Vec::with_capacity(alloc, size as usize)?,
+            words: Vec::with_capacity(alloc, size.div_ceil(64) as usize)?,
+            pages: Vec::with_capacity(alloc, (size as usize).div_ceil(PAGE))?,
+            size: size as usize,
             epoch: 1,
             boot: 1,
             gone: false,
@@ -107,6 +121,12 @@ impl SimDisk {
         ensures torn { Torn at len self.old.disk self.new.disk }
         ensures size { length self.new.disk.bytes ≡ length self.old.disk.bytes }
     {
+        extend(
+            &mut self.bytes,
+            &mut self.words,
+            (at + len) as usize,
+            self.size,
+        );
         put_given(&mut self.bytes, at as usize, len as usize, given);
         mark(
             &mut self.words,
@@ -114,6 +134,7 @@ impl SimDisk {
             (at + len) as usize,
             self.epoch,
         );
+        widen(&mut self.pages, at as usize, (at + len) as usize);
     }
 
     /// The disk loses power and comes up again: its unsynced positions take the given bytes.
@@ -156,8 +177,29 @@ impl SimDisk {
         requires { at + length from.now ≤ length self.old.disk.bytes }
         ensures { self.new ≡ record self.old { disk = written self.old.disk at from.now } }
     {
+        extend(&mut self.bytes, &mut self.words, at + from.len(), self.size);
         put(&mut self.bytes, at, from);
         mark(&mut self.words, at, at + from.len(), self.epoch);
+        widen(&mut self.pages, at, at + from.len());
+    }
+
+    // Reads the bytes from `at` on.
+    fn fetch(&self, at: usize, into: &mut [u8])
+        requires { at + length into.old ≤ length self.now.disk.bytes }
+        ensures { into.new ≡ slice_range self.now.disk.bytes at (at + length into.old) }
+    {
+        if at % PAGE == 0 && into.len() == PAGE {
+            get_page(&self.bytes, at, extent_of(&self.pages, at / PAGE), into);
+        } else {
+            get(&self.bytes, at, into);
+        }
+    }
+
+    // Nothing is unsynced.
+    fn settle(&mut self)
+        ensures { self.new ≡ record self.old { disk = synced self.old.disk } }
+    {
+        self.epoch = next_epoch(&mut self.words, self.epoch);
     }
 
     // Takes the failure that was asked for, and counts it.
@@ -189,7 +231,7 @@ impl Disk for SimDisk {
     ghost told = { λ d tells. refl };
 
     fn size(&self) -> u64 {
-        self.bytes.len() as u64
+        self.size as u64
     }
 
     fn attach(&mut self) -> Result<Boot, DiskFault> {
@@ -208,8 +250,7 @@ impl Disk for SimDisk {
         }
         match self.take_failure() {
             None => {
-                let at = at as usize;
-                into.copy_from_slice(&self.bytes[at..at + into.len()]);
+                self.fetch(at as usize, into);
                 Ok(())
             }
             Some(_) => Err(DiskFault::Failed),
@@ -238,7 +279,7 @@ impl Disk for SimDisk {
         }
         match self.take_failure() {
             None => {
-                self.epoch = next_epoch(&mut self.words, self.epoch);
+                self.settle();
                 Ok(())
             }
             Some(_) => Err(DiskFault::Failed),
