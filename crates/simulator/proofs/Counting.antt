@@ -16,8 +16,7 @@ use Rattle.simulator.specs.declared.tally.Sweep.{Sweep}
 use Rattle.simulator.specs.Events.{event_of, events_of}
 use Rattle.simulator.specs.Kept.{Kept, LeadsTo, Brings}
 use Rattle.simulator.specs.Sweeping.{changes, changes_before, changes_at, changed, recovered_behind, variants_below}
-use Rattle.simulator.specs.Past.{Past}
-use Rattle.simulator.specs.Replayed.{GoesOn}
+use Rattle.simulator.specs.Replayed.{Played, IsOf, GoesOn}
 use Rattle.simulator.proofs.OneMore.{past_leads, take_on}
 use Rattle.simulator.proofs.Replaying.{goes_further}
 
@@ -105,12 +104,10 @@ changed_is events i change =
     ∙ ap (λ (l : List Event). l ++ event_of change ∷ events_of (drop i events)) (sym (take-map event_of i events))
     ∙ ap (λ (l : List Event). take i (events_of events) ++ event_of change ∷ l) (sym (drop-map event_of i events))
 
-pub variant_goes : (o : Opening) (events : List code.Event) (i : ℕ) (change : code.Event) (fresh early put late : Past) → fresh ≡ record { opening = o; events = [] }
+pub variant_goes : (o : Opening) (events : List code.Event) (i : ℕ) (change : code.Event) (fresh early put late : Played) → IsOf (record { opening = o; events = [] }) fresh
     → GoesOn fresh early (events_of (take i events)) → GoesOn early put (event_of change ∷ []) → GoesOn put late (events_of (drop i events))
-    → recovered_behind late.opening late.events ≡ recovered_behind o (changed (events_of events) i (event_of change))
+    → IsOf (record { opening = o; events = changed (events_of events) i (event_of change) }) late
 variant_goes o events i change fresh early put late is before here after =
     let begun = goes_further fresh early put (events_of (take i events)) (event_of change ∷ []) before here in
     let all = goes_further fresh put late (events_of (take i events) ++ event_of change ∷ []) (events_of (drop i events)) begun after in
-    ap (λ (p : Past). recovered_behind p.opening p.events) all
-    ∙ ap (λ (p : Past). recovered_behind p.opening (p.events ++ ((events_of (take i events) ++ event_of change ∷ []) ++ events_of (drop i events)))) is
-    ∙ ap (recovered_behind o) (changed_is events i change)
+    subst (λ (l : List Event). IsOf (record { opening = o; events = l }) late) (changed_is events i change) (all (record { opening = o; events = [] }) is)

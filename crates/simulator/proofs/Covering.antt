@@ -11,7 +11,6 @@ use Rattle.lock_command.specs.declared.command.Command.{Command}
 use Rattle.host.specs.declared.answer.HostAnswer.{HostAnswer}
 use Rattle.host.specs.declared.answer.HostAnswer.TheVariants.{Ack, Recovered, Looked, Beaten, Marked, Refused}
 use Rattle.host.specs.Host.{is_stopped, idles, learned_of}
-use Rattle.host.specs.Kept as hosts
 use Rattle.world.specs.Happens.{Event, Start, Stop, Recover, Step, Line}
 use Rattle.world.specs.World.{IsRun}
 use Rattle.world.specs.Opening.{Opening, CanBegin, run_of, world_after, answers_to}
@@ -24,11 +23,11 @@ use Rattle.simulator.specs.Answers.{line_of, IsPicturedIn}
 use Rattle.simulator.specs.Judging.{AllGoBy}
 use Rattle.simulator.specs.OneLog.{IsOneLog}
 use Rattle.simulator.specs.Past.{Past, world_of, answers_of}
-use Rattle.simulator.specs.Replayed.{GoesOn, Says, HasLearned, HasKept, IsListed, Lists}
+use Rattle.simulator.specs.Replayed.{Says, HasLearned, HasKept, IsListed, Lists}
 use Rattle.simulator.specs.Sweeping.{recovery, stops}
 use Rattle.simulator.proofs.Judged.{IsWithin, all_go}
 use Rattle.simulator.proofs.Opened.{run_is_run}
-use Rattle.simulator.proofs.Recovering.{EndsRecovery, IsToldBy, begun, is_fresh, Whole, whole, stays_behind, stopped_behind}
+use Rattle.simulator.proofs.Recovering.{Follows, EndsRecovery, IsToldBy, begun, is_fresh, Whole, whole, stays_behind, stopped_behind}
 use Rattle.simulator.proofs.Replaying.{more_answered}
 use Rattle.simulator.proofs.Telling.{told_at, misses_nothing, holds_learned, counted, tells}
 
@@ -116,7 +115,7 @@ module _ (p : Past) (can : CanBegin p.opening) (h : ℕ) (items : List Command) 
       (All-weaker (Contains (answers_of p)) (λ (y : Line). IsWithin (length items) y.said) early (answers_of p) (All-contains_itself (answers_of p)))
       (All-weaker (IsToldBy started h w.learned) (λ (y : Line). IsWithin (length items) y.said) (λ y told. own_within (length items) w.learned same y.said told.2) w.lines w.told))
 
-pub recovery_covers : (p now : Past) → CanBegin p.opening → (h : ℕ) (items : List Command) → h < HOSTS → is_stopped ((world_of p).host h) ≡ true → GoesOn p now (recovery p.opening.shape h)
+pub recovery_covers : (p now : Past) → CanBegin p.opening → (h : ℕ) (items : List Command) → h < HOSTS → is_stopped ((world_of p).host h) ≡ true → Follows p now (recovery p.opening.shape h)
     → HasLearned p now items → Covers now (length items)
 recovery_covers p now can h items within stopped on =
     subst (λ (q : Past). HasLearned p q items → Covers q (length items)) (sym on) (covers p can h items within stopped)
@@ -143,14 +142,14 @@ module _ (start old : Past) (events : List Event) (items : List Command) (has : 
             ∙ ap (λ (l : List Event). learned_of ((world_after old.opening l).host x.host)) (sym (take-append-le (x.place + 1) old.events events (omega (arith, there))));
       }
 
-pub learned_still : (start old new : Past) (events : List Event) (items : List Command) → GoesOn old new events → HasLearned start old items → HasLearned start new items
+pub learned_still : (start old new : Past) (events : List Event) (items : List Command) → Follows old new events → HasLearned start old items → HasLearned start new items
 learned_still start old new events items on has = subst (λ (q : Past). HasLearned start q items) (sym on) (lasts start old events items has)
 
-later_still : (start old new : Past) (events : List Event) → GoesOn old new events → length start.events ≤ length old.events → length start.events ≤ length new.events
+later_still : (start old new : Past) (events : List Event) → Follows old new events → length start.events ≤ length old.events → length start.events ≤ length new.events
 later_still start old new events on later =
     subst (λ (q : Past). length start.events ≤ length q.events) (sym on) (omega (arith, later, length-append old.events events))
 
-pub kept_still : (start old new : Past) (events : List Event) (learned : Option (List Command)) → GoesOn old new events → HasKept start old learned → HasKept start new learned
+pub kept_still : (start old new : Past) (events : List Event) (learned : Option (List Command)) → Follows old new events → HasKept start old learned → HasKept start new learned
 kept_still start old new events None on kept = record { later = later_still start old new events on kept.later; has = tt }
 kept_still start old new events (Some items) on kept = record { later = later_still start old new events on kept.later; has = learned_still start old new events items on kept.has }
 
@@ -158,7 +157,7 @@ pub nothing_kept : (p : Past) → HasKept p p None
 nothing_kept p = record { later = omega arith; has = tt }
 
 -- what a host that answers has learned then
-pub kept_now : (start old new : Past) → CanBegin new.opening → (event : Event) (said : Said) (n : ℕ) (items : List Command) (before : Option (List Command)) → GoesOn old new (event ∷ []) → Says old new (Some said)
+pub kept_now : (start old new : Past) → CanBegin new.opening → (event : Event) (said : Said) (n : ℕ) (items : List Command) (before : Option (List Command)) → Follows old new (event ∷ []) → Says old new (Some said)
     → said.answer ≡ Recovered n → items ≡ learned_of ((world_of new).host said.host) → HasKept start old before → HasKept start new (Some items)
 kept_now start old new can event said n items before on says is are kept =
     let x : Line = record { place = length old.events; host = said.host; said = said.answer } in
@@ -204,7 +203,7 @@ all_by p can report items n lists covered many begins =
 
 -- Behind the stops the first host has recovered, and then the last: the longer of what they learned bears out all that was answered.
 pub ended_right : (q0 q1 q2 q3 : Past) → CanBegin q1.opening → (first last longest : List Command) (report : List Answer)
-    → GoesOn q0 q1 stops → GoesOn q1 q2 (recovery q1.opening.shape 0) → GoesOn q2 q3 (recovery q2.opening.shape (HOSTS - 1)) → HasLearned q1 q2 first → HasLearned q2 q3 last → Lists q3 report
+    → Follows q0 q1 stops → Follows q1 q2 (recovery q1.opening.shape 0) → Follows q2 q3 (recovery q2.opening.shape (HOSTS - 1)) → HasLearned q1 q2 first → HasLearned q2 q3 last → Lists q3 report
     → ((longest ≡ first) × (length last ≤ length first)) ⊎ (longest ≡ last) → AllGoBy longest report
 ended_right q0 q1 q2 q3 can first last longest report stopped one two has_first has_last lists is_longest =
     let rests : is_stopped ((world_of q2).host (HOSTS - 1)) ≡ true =

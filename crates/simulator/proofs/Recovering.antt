@@ -25,8 +25,12 @@ use Rattle.world.specs.Opening.{begun as beginning, run_of, answers_to}
 use Rattle.world.proofs.Projections.{host_here, host_there}
 use Rattle.simulator.proofs.Entries.{happen_on, one_answer_more}
 use Rattle.simulator.specs.Past.{Past, world_of, answers_of}
-use Rattle.simulator.specs.Replayed.{GoesOn}
+use Rattle.simulator.specs.Replayed.{later}
 use Rattle.simulator.specs.Sweeping.{recovery, stops}
+
+-- these events follow
+abbrev pub Follows : Past → Past → List Event → Type 0
+Follows old new events = new ≡ later old events
 
 -- WHAT A RECOVERY SAYS
 
@@ -204,7 +208,7 @@ stops_one c log (h ∷ hs) g zero found =
 stops_one c log (h ∷ hs) g (suc k) found = stops_one c (happens c log (Stop h)) hs g k found
 
 -- behind the stops the host of this number is stopped
-pub stopped_behind : (p now : Past) (g k : ℕ) → GoesOn p now stops → slice_get (range_with_len 0 HOSTS) k ≡ Some g → is_stopped ((world_of now).host g) ≡ true
+pub stopped_behind : (p now : Past) (g k : ℕ) → Follows p now stops → slice_get (range_with_len 0 HOSTS) k ≡ Some g → is_stopped ((world_of now).host g) ≡ true
 stopped_behind p now g k on found =
     subst (λ (q : Past). is_stopped ((world_of q).host g) ≡ true) (sym on)
     (ap (λ (l : List Filled). is_stopped ((world p.opening.shape l).host g)) (happen_on p.opening.shape (beginning p.opening) p.events stops)
@@ -220,7 +224,7 @@ recovery_leaves c log h g other =
     ∙ leaves_recover c (happens c log (Start h)) h g other ∙ leaves_start c log h g other
 
 -- a recovery leaves the other hosts
-pub stays_behind : (p now : Past) (h g : ℕ) → GoesOn p now (recovery p.opening.shape h) → (h ≡ g → ⊥) → (world_of now).host g ≡ (world_of p).host g
+pub stays_behind : (p now : Past) (h g : ℕ) → Follows p now (recovery p.opening.shape h) → (h ≡ g → ⊥) → (world_of now).host g ≡ (world_of p).host g
 stays_behind p now h g on other =
     ap (λ (q : Past). (world_of q).host g) on
     ∙ ap (λ (l : List Filled). (world p.opening.shape l).host g) (happen_on p.opening.shape (beginning p.opening) p.events (recovery p.opening.shape h))

@@ -1,19 +1,19 @@
-ghost use Rattle.std.specs.Prelude.{◌≡◌, ◌<◌, ◌≤◌, ◌∷◌, [], true, false, length, replicate, is_some, IfOk, IfSome, OnOk};
+ghost use Rattle.std.specs.Prelude.{◌≡◌, ◌<◌, ◌≤◌, ◌∷◌, [], None, length, slice_index_or, replicate, is_some, IsSome, IfOk, IfSome, OnOk, true};
 ghost use Rattle.torn_block.specs.declared.layout.TheConstants.{HOSTS};
 ghost use Rattle.std.specs.Option.{option_map};
-ghost use Rattle.host.specs.Host.{is_stopped, learned_of};
+ghost use Rattle.host.specs.Host.{learned_of};
 ghost use Rattle.world.specs.Happens as happens;
 ghost use Rattle.world.specs.Opening.{CanBegin};
 ghost use Rattle.simulator.specs.Events.{event_of, events_of};
-ghost use Rattle.simulator.specs.Past.{Past, world_of};
-ghost use Rattle.simulator.specs.Replayed.{GoesOn, Says, Heard, HasLearned, HasKept};
-ghost use Rattle.simulator.specs.Sweeping.{recovery, recovers, recovered_behind, stops};
+ghost use Rattle.simulator.specs.Past.{Past, world_of, answers_of};
+ghost use Rattle.simulator.specs.Replayed.{later, IsOf, IsPlayed, GoesOn, Says, Heard, HasKept, HasLearned};
+ghost use Rattle.simulator.specs.Sweeping.{TellsNext, recovery, recovers, recovered_behind, stops};
 
 use crate::answer::Answer;
 use crate::judging::judge;
 use crate::report::Report;
-use crate::sim::Sim;
-use crate::simulated_cluster::Said;
+use crate::room::Room;
+use crate::simulated_cluster::{Said, SimulatedCluster};
 use disk::NoMemory;
 use host::HostAnswer;
 use lock_command::{Command, HOSTS, HostNumber};
@@ -25,50 +25,61 @@ use std::marker::Model;
 /// How often a recovery at the end may be outrun.
 const TRIES: u8 = 255;
 
-/// A simulated cluster, and all that its hosts have answered.
+/// A simulated cluster, how many events have happened to it, and all that its hosts have answered.
 #[derive(Drop)]
 pub struct Replay {
     config: Config,
-    sim: Sim,
+    cluster: SimulatedCluster,
+    room: Room,
+    place: usize,
     answers: Vec<Answer>,
 }
 
 impl Model for Replay {
     ghost use Rattle.std.specs.Prelude.{◌≡◌};
-    ghost use Rattle.world.specs.Opening.{CanBegin};
-    ghost use Rattle.simulator.specs.Past.{Past};
-    ghost use Rattle.simulator.specs.Replayed.{Lists};
+    ghost use Rattle.simulator.specs.Replayed.{Played, IsPlayed};
 
-    ghost Value = { Past };
+    ghost Value = { Played };
 
-    ghost view = { λ r. r.sim };
+    ghost view = { λ r. record { cluster = r.cluster; place = r.place; report = r.answers.items } };
 
-    ghost invariant = { λ r. (r.config ≡ r.sim.opening.shape) × CanBegin r.sim.opening × Lists r.sim r.answers.items };
+    ghost invariant = { λ r. (r.config ≡ r.cluster.shape) × IsPlayed (record { cluster = r.cluster; place = r.place; report = r.answers.items }) };
 }
 
 impl Replay {
     /// The disks begin as a complete migration of these commands left them, and nothing has happened yet.
     pub fn new(alloc: Global, config: Config, log: &[Command]) -> Result<Replay, NoMemory>
         requires { length log.now ≤ config.slots }
-        ensures { IfOk result (λ replay. replay ≡ record { opening = record { shape = config; moved = log.now }; events = [] }) }
+        ensures { IfOk result (IsOf (record { opening = record { shape = config; moved = log.now }; events = [] })) }
     {
+        let cluster = SimulatedCluster::migrated(alloc, config, log)?;
+        let answers = Vec::new(alloc);
         Ok(Replay {
             config,
-            sim: Sim::migrated(alloc, config, log)?,
-            answers: Vec::new(alloc),
+            cluster,
+            room: Room::new(),
+            place: 0,
+            answers,
         })
     }
 
     /// Lets an event happen, and tells what was said with it.
     pub fn happen(&mut self, alloc: Global, event: &Event) -> Result<Option<Said>, NoMemory>
         ensures happened { OnOk result (GoesOn self.old self.new (event_of event.now ∷ [])) }
-        ensures said { IfOk result (Says self.old self.new) }
+        ensures said { IfOk result (λ said. (p : Past) → IsOf p self.old → Says p (later p (event_of event.now ∷ [])) said) }
+        ensures runs { IfOk result (λ said. IfSome said (λ s. IsSome (slice_index_or self.new.cluster.hosts s.host None))) }
     {
-        if self.answers.reserve(1).is_err() {
+        let Some(next) = self.place.checked_add(1) else {
             return Err(NoMemory);
-        }
-        match self.sim.event(alloc, event)? {
-            Some(answer) => {
+        };
+        self.room.prepare(alloc, event)?;
+        self.answers.reserve(1)?;
+        let said = self.cluster.event(alloc, event)?;
+        let place = self.place;
+        self.place = next;
+        match said {
+            Some(said) => {
+                let answer = self.room.listed(&self.cluster, place, said);
                 let said = Said {
                     host: answer.host,
                     answer: answer.said,
@@ -94,9 +105,11 @@ impl Replay {
     /// go by the longer of what they learned, where both answered.
     pub fn end(mut self, alloc: Global) -> Result<(usize, bool), NoMemory>
         ensures few { IfOk result (λ end. end.0 ≤ 2) }
-        ensures recovered { IfOk result (λ end. end.0 ≡ recovered_behind self.opening self.events) }
+        ensures recovered { IfOk result (λ end. (p : Past) → IsOf p self → end.0 ≡ recovered_behind p.opening p.events) }
         ensures right { IfOk result (λ end. end.1 ≡ true) }
     {
+        // Called for its contract only: the replay is of something that has happened.
+        let _was = self.place();
         self.stop_all(alloc)?;
         let first = self.recover(alloc, 0)?;
         let last = self.recover(alloc, HOSTS as u8 - 1)?;
@@ -110,9 +123,17 @@ impl Replay {
                 };
                 Ok((2, judge(alloc, &report, &longer)?))
             }
+            (Some(_), None) => Ok((1, true)),
+            (None, Some(_)) => Ok((1, true)),
             (None, None) => Ok((0, true)),
-            _ => Ok((1, true)),
         }
+    }
+
+    /// How many events have happened.
+    fn place(&self) -> usize
+        ensures { IsPlayed self.now }
+    {
+        self.place
     }
 
     fn stop_all(&mut self, alloc: Global) -> Result<(), NoMemory>
@@ -130,9 +151,10 @@ impl Replay {
     /// A stopped host starts, recovers and stops. Gives what it has learned, if it answers.
     fn recover(&mut self, alloc: Global, number: u8) -> Result<Option<Vec<Command>>, NoMemory>
         requires { number < HOSTS }
-        ensures happened { OnOk result (GoesOn self.old self.new (recovery self.old.opening.shape number)) }
-        ensures learned { IfOk result (λ learned. is_some learned ≡ recovers self.old.opening self.old.events number) }
-        ensures kept { IfOk result (λ learned. IfSome (option_map (λ commands. commands.items) learned) (HasLearned self.old self.new)) }
+        ensures happened { OnOk result ((p : Past) → IsOf p self.old → IsOf (later p (recovery p.opening.shape number)) self.new) }
+        ensures learned { IfOk result (λ learned. (p : Past) → IsOf p self.old → is_some learned ≡ recovers p.opening p.events number) }
+        ensures kept { IfOk result (λ learned. (p : Past) → IsOf p self.old →
+            IfSome (option_map (λ commands. commands.items) learned) (HasLearned p (later p (recovery p.opening.shape number)))) }
     {
         let Some(host) = HostNumber::new(number) else {
             unreachable!()
@@ -147,7 +169,7 @@ impl Replay {
         Ok(learned)
     }
 
-    /// Lets a host make so many calls.
+    /// Lets a host make so many calls. Once it has none to make, the rest are counted only.
     fn step(
         &mut self,
         alloc: Global,
@@ -156,13 +178,31 @@ impl Replay {
         learned: &mut Option<Vec<Command>>,
     ) -> Result<(), NoMemory>
         ensures happened { OnOk result (GoesOn self.old self.new (replicate steps (happens.Step host))) }
-        ensures heard { OnOk result ((start : Past) → Heard start self.old (is_some learned.old) → Heard start self.new (is_some learned.new)) }
-        ensures kept { OnOk result ((start : Past) → HasKept start self.old (option_map (λ commands. commands.items) learned.old) →
-            HasKept start self.new (option_map (λ commands. commands.items) learned.new)) }
+        ensures heard { OnOk result ((start p : Past) → IsOf p self.old → Heard start p (is_some learned.old) →
+            Heard start (later p (replicate steps (happens.Step host))) (is_some learned.new)) }
+        ensures kept { OnOk result ((start p : Past) → IsOf p self.old → HasKept start p (option_map (λ commands. commands.items) learned.old) →
+            HasKept start (later p (replicate steps (happens.Step host))) (option_map (λ commands. commands.items) learned.new)) }
     {
         for done in 0..steps {
+            if self.cluster.is_idle(host) {
+                self.pass(host, steps - done)?;
+                return Ok(());
+            }
             self.listen(alloc, &Event::Step(host), learned)?;
         }
+        Ok(())
+    }
+
+    /// Lets so many calls of a host that makes none happen: nothing changes, and nothing is said.
+    fn pass(&mut self, host: HostNumber, steps: usize) -> Result<(), NoMemory>
+        requires { TellsNext host None self.old.cluster }
+        ensures happened { OnOk result (GoesOn self.old self.new (replicate steps (happens.Step host))) }
+        ensures quiet { (p : Past) → IsOf p self.old → answers_of (later p (replicate steps (happens.Step host))) ≡ answers_of p }
+    {
+        let Some(place) = self.place.checked_add(steps) else {
+            return Err(NoMemory);
+        };
+        self.place = place;
         Ok(())
     }
 
@@ -174,9 +214,10 @@ impl Replay {
         learned: &mut Option<Vec<Command>>,
     ) -> Result<(), NoMemory>
         ensures happened { OnOk result (GoesOn self.old self.new (event_of event.now ∷ [])) }
-        ensures heard { OnOk result ((start : Past) → Heard start self.old (is_some learned.old) → Heard start self.new (is_some learned.new)) }
-        ensures kept { OnOk result ((start : Past) → HasKept start self.old (option_map (λ commands. commands.items) learned.old) →
-            HasKept start self.new (option_map (λ commands. commands.items) learned.new)) }
+        ensures heard { OnOk result ((start p : Past) → IsOf p self.old → Heard start p (is_some learned.old) →
+            Heard start (later p (event_of event.now ∷ [])) (is_some learned.new)) }
+        ensures kept { OnOk result ((start p : Past) → IsOf p self.old → HasKept start p (option_map (λ commands. commands.items) learned.old) →
+            HasKept start (later p (event_of event.now ∷ [])) (option_map (λ commands. commands.items) learned.new)) }
     {
         if let Some(said) = self.happen(alloc, event)? {
             if let HostAnswer::Recovered { .. } = said.answer {
@@ -188,11 +229,10 @@ impl Replay {
 
     /// What a running host has learned.
     fn learned_by(&self, alloc: Global, host: HostNumber) -> Result<Vec<Command>, NoMemory>
-        requires { is_stopped ((world_of self.now).host host) ≡ false }
-        ensures learned { IfOk result (λ learned. learned.items ≡ learned_of ((world_of self.now).host host)) }
-        ensures can { CanBegin self.now.opening }
+        requires { IsSome (slice_index_or self.now.cluster.hosts host None) }
+        ensures { IfOk result (λ learned. (p : Past) → IsOf p self.now → learned.items ≡ learned_of ((world_of p).host host)) }
     {
-        let Some(core) = self.sim.host(host.get()) else {
+        let Some(core) = self.cluster.host(host.get()) else {
             unreachable!()
         };
         let mut learned = Vec::new(alloc);

@@ -1,4 +1,4 @@
-ghost use Rattle.std.specs.Prelude.{◌≡◌, ℕ, List, [], Some, None, slice_index_or, length, replicate, ◌<◌, ◌≤◌, ◌&&◌, is_none, IfOk, OnErr};
+ghost use Rattle.std.specs.Prelude.{◌≡◌, ℕ, List, [], true, Some, None, slice_index_or, length, replicate, ◌<◌, ◌≤◌, ◌&&◌, is_none, IfOk, OnErr};
 ghost use Rattle.disk.specs.Simulated.{fresh_disk};
 ghost use Rattle.paxos_block.specs.Places.{image_length};
 ghost use Rattle.std.specs.Option.{option_map};
@@ -114,6 +114,13 @@ impl SimulatedCluster {
         let refusal = refusal_of(disk, &need.call);
         let tears = may_tear(is_write(&need.call), refusal);
         Some((need.disk, tears))
+    }
+
+    /// Whether a host has no device call to make.
+    pub(crate) fn is_idle(&self, host: HostNumber) -> bool
+        ensures { result ≡ true → TellsNext host None self.now }
+    {
+        !is_busy(&self.hosts[usize::from(host.get())])
     }
 
     /// Lets an event happen, and tells what its host then says.

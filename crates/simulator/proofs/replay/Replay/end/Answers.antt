@@ -1,33 +1,71 @@
-use Rattle.std.proofs.Common.{◌≡◌, ◌≤◌, ◌⊎◌, inl, inr, List, length, sym, ap, subst, arith}
+use Rattle.std.specs.Prelude.{is_some}
+use Rattle.std.proofs.Common.{◌≡◌, ◌≤◌, ◌⊎◌, ◌-◌, inl, inr, true, false, List, length, refl, sym, ap, ◌∙◌, subst, arith}
+use Rattle.torn_block.specs.declared.layout.TheConstants.{HOSTS}
 use Rattle.lock_command.specs.declared.command.Command.{Command}
 use Rattle.simulator.specs.declared.answer.Answer.{Answer}
 use Rattle.simulator.specs.Judging.{AllGoBy}
-use Rattle.world.specs.Opening.{CanBegin}
 use Rattle.simulator.specs.Past.{Past}
-use Rattle.simulator.specs.Replayed.{Lists}
+use Rattle.simulator.specs.Replayed.{later, Lists, Played}
+use Rattle.simulator.specs.Sweeping.{recovery, stops}
 use Rattle.simulator.proofs.Covering.{ended_right, has_some}
+use Rattle.simulator.proofs.Replaying.{both_recovered}
 use Rattle.simulator.proofs.replay.Replay.end.Goals as goal
 use Rattle.simulator.proofs.replay.Replay.end.Goals.{then-len, else-len}
+
+pub returns-in-Some-Some-clause-recovered : goal.returns-in-Some-Some-clause-recovered
+returns-in-Some-Some-clause-recovered c =
+    λ p is.
+    let on = c.in_ok-stop_all.ensures p is in
+    both_recovered p true true
+    (sym (ap is_some c.in-Some-Some.is-0) ∙ c.in_ok-first.ensures.learned (later p stops) on)
+    (sym (ap is_some c.in-Some-Some.is-1) ∙ c.in_ok-last.ensures.learned (later (later p stops) (recovery p.opening.shape 0)) (c.in_ok-first.ensures.happened (later p stops) on))
+
+pub returns-in-Some-None-clause-recovered : goal.returns-in-Some-None-clause-recovered
+returns-in-Some-None-clause-recovered c =
+    λ p is.
+    let on = c.in_ok-stop_all.ensures p is in
+    both_recovered p true false
+    (sym (ap is_some c.in-Some-None.is-0) ∙ c.in_ok-first.ensures.learned (later p stops) on)
+    (sym (ap is_some c.in-Some-None.is-1) ∙ c.in_ok-last.ensures.learned (later (later p stops) (recovery p.opening.shape 0)) (c.in_ok-first.ensures.happened (later p stops) on))
+
+pub returns-in-None-Some-clause-recovered : goal.returns-in-None-Some-clause-recovered
+returns-in-None-Some-clause-recovered c =
+    λ p is.
+    let on = c.in_ok-stop_all.ensures p is in
+    both_recovered p false true
+    (sym (ap is_some c.in-None-Some.is-0) ∙ c.in_ok-first.ensures.learned (later p stops) on)
+    (sym (ap is_some c.in-None-Some.is-1) ∙ c.in_ok-last.ensures.learned (later (later p stops) (recovery p.opening.shape 0)) (c.in_ok-first.ensures.happened (later p stops) on))
+
+pub returns-clause-recovered : goal.returns-clause-recovered
+returns-clause-recovered c =
+    λ p is.
+    let on = c.in_ok-stop_all.ensures p is in
+    both_recovered p false false
+    (sym (ap is_some c.in-None-None.is-0) ∙ c.in_ok-first.ensures.learned (later p stops) on)
+    (sym (ap is_some c.in-None-None.is-1) ∙ c.in_ok-last.ensures.learned (later (later p stops) (recovery p.opening.shape 0)) (c.in_ok-first.ensures.happened (later p stops) on))
 
 pub returns-in-Some-Some-clause-right : goal.returns-in-Some-Some-clause-right
 returns-in-Some-Some-clause-right c =
     let first = c.in-Some-Some.first in
     let last = c.in-Some-Some.last in
-    let q1 = c.stop_all.new.self in
-    let q2 = c.recover.new.self in
-    let q3 = c.recover-2.new.self in
+    let was = c.place-was.ensures in
+    let p1 : Past = later was.past stops in
+    let p2 : Past = later p1 (recovery p1.opening.shape 0) in
+    let p3 : Past = later p2 (recovery p2.opening.shape (HOSTS - 1)) in
+    let is1 = c.in_ok-stop_all.ensures was.past was.is in
+    let is2 = c.in_ok-first.ensures.happened p1 is1 in
+    let is3 = c.in_ok-last.ensures.happened p2 is2 in
     let report = c.self-3.inside.answers.items in
-    let lists : Lists q3 report = subst (λ (p : Past). Lists p report) c.self-3.view_is c.self-3.invariant.2 in
-    let has_first = has_some c.in_ok-first.first first c.in-Some-Some.is-0 (λ v. v.items) q1 q2 c.in_ok-first.ensures.kept in
-    let has_last = has_some c.in_ok-last.last last c.in-Some-Some.is-1 (λ v. v.items) q2 q3 c.in_ok-last.ensures.kept in
+    let lists : Lists p3 report = subst (λ (r : Played). Lists p3 r.report) (sym c.self-3.view_is) is3.lists in
+    let has_first = has_some c.in_ok-first.first first c.in-Some-Some.is-0 (λ v. v.items) p1 p2 (c.in_ok-first.ensures.kept p1 is1) in
+    let has_last = has_some c.in_ok-last.last last c.in-Some-Some.is-1 (λ v. v.items) p2 p3 (c.in_ok-last.ensures.kept p2 is2) in
     let longest : ((c.if-len.longer.items ≡ first.items) × (length last.items ≤ length first.items)) ⊎ (c.if-len.longer.items ≡ last.items) =
     elim c.if-len.branch [
       | then-len w ↦ inr (ap (λ v. v.items) w.longer-is)
       | else-len w ↦ inl (ap (λ v. v.items) w.longer-is, omega (arith, w.if-len.false, c.len.ensures, c.len-in-Some-Some.ensures, first.ok.0, last.ok.0))
     ] in
     let all : AllGoBy c.if-len.longer.items report =
-    ended_right c.args.self q1 q2 q3 (subst (λ (p : Past). CanBegin p.opening) c.self.view_is c.self.invariant.1) first.items last.items c.if-len.longer.items report
-    c.in_ok-stop_all.ensures c.in_ok-first.ensures.happened c.in_ok-last.ensures.happened has_first has_last lists longest in
+    ended_right was.past p1 p2 p3 is1.can first.items last.items c.if-len.longer.items report refl refl refl has_first has_last lists longest in
     c.in_ok-judge-in-Some-Some.ensures.1
     (subst (λ (l : List Command). AllGoBy l c.of-report.result) (sym c.deref.ensures.value)
     (subst (λ (r : List Answer). AllGoBy c.if-len.longer.items r) (sym c.of-report.ensures) all))

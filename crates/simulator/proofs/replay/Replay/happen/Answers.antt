@@ -1,43 +1,116 @@
-use Rattle.std.specs.Prelude.{IfSome}
-use Rattle.std.proofs.Common.{List, [], ◌∷◌, ◌++◌, Option, Some, sym, ap, ◌∙◌, subst}
+use Rattle.std.specs.Prelude.{IsSome, slice_index_or}
+use Rattle.std.proofs.Common.{ℕ, ◌+◌, ◌≡◌, List, [], ◌∷◌, ◌++◌, Some, None, sym, ap, ◌∙◌, subst}
+use Rattle.world.specs.Entry.{Filled}
+use Rattle.world.specs.Happens.{Line}
+use Rattle.world.specs.Opening.{run_of}
 use Rattle.simulator.specs.declared.answer.Answer.{Answer}
-use Rattle.simulator.specs.Answers.{lines_in, IsPictured}
 use Rattle.simulator.specs.Events.{event_of}
-use Rattle.world.specs.Opening.{CanBegin}
-use Rattle.simulator.specs.Past.{Past, world_of, answers_of}
-use Rattle.simulator.specs.Replayed.{Says, Lists}
-use Rattle.simulator.proofs.Replaying.{says_it, lists_one, lists_nothing}
+use Rattle.simulator.specs.Kept.{LeadsTo, Brings}
+use Rattle.simulator.specs.Past.{Past}
+use Rattle.simulator.specs.Replayed.{later, Says, Played, IsOf}
+use Rattle.simulator.proofs.Lines.{speaker_runs}
+use Rattle.simulator.proofs.Learning.{only_learning}
+use Rattle.simulator.proofs.Replaying.{plays_says, plays_nothing, plays_one}
 use Rattle.simulator.proofs.replay.Replay.happen.Goals as goal
 
-pub returns-in-Some-clause-said : goal.returns-in-Some-clause-said
-returns-in-Some-clause-said c =
-    let said = c.in_ok-answer.ensures.answer ∙ ap (λ (o : Option Answer). answers_of c.self.inside.sim ++ lines_in o) c.in-Some.is in
-    subst (λ (p : Past). Says p c.event.new.self (Some (record { host = c.in-Some.answer.host; answer = c.in-Some.answer.said }))) c.self.view_is
-    (says_it c.self.inside.sim c.event.new.self (event_of c.args.event.now) c.in-Some.answer c.in_ok-answer.ensures.happened said)
+pub listed-answer-requires-clause-room : goal.listed-answer-requires-clause-room
+listed-answer-requires-clause-room c =
+    let s = c.self.inside in
+    let event = event_of c.args.event.now in
+    let was = c.self.invariant.1 in
+    let log = run_of was.past.opening was.past.events in
+    let brings : Brings log event s.cluster c.event.new.self (Some c.in-Some-said.said) =
+    subst (Brings log event s.cluster c.event.new.self) c.in-Some-said.is (c.in_ok-said.ensures.brings log was.is.leads) in
+    λ tells. c.in_ok-prepare.ensures (only_learning log event s.cluster c.event.new.self c.in-Some-said.said brings tells)
 
-pub invariant_of-self-in-Some : goal.invariant_of-self-in-Some
-invariant_of-self-in-Some c =
-    let old = c.self.inside.sim in
-    let on = c.in_ok-answer.ensures.happened in
-    let one = sym (ap answers_of on) ∙ c.in_ok-answer.ensures.answer ∙ ap (λ (o : Option Answer). answers_of old ++ lines_in o) c.in-Some.is in
-    let pictured : IsPictured (world_of c.event.new.self) c.in-Some.answer = subst (λ (o : Option Answer). IfSome o (IsPictured (world_of c.event.new.self))) c.in-Some.is c.in_ok-answer.ensures.picture in
-    let pictured_more = subst (λ (p : Past). IsPictured (world_of p) c.in-Some.answer) on pictured in
-    let items = c.push_reserved.ensures.items ∙ ap (λ (l : List Answer). l ++ c.in-Some.answer ∷ []) c.reserve.ensures.items in (
-      c.self.invariant.0 ∙ ap (λ (p : Past). p.opening.shape) (sym on),
-      subst (λ (p : Past). CanBegin p.opening) (sym on) c.self.invariant.1,
-      subst (λ (p : Past). Lists p c.push_reserved.new.self.items) (sym on)
-          (subst (Lists (record old { events = old.events ++ event_of c.args.event.now ∷ [] })) (sym items)
-          (lists_one old (event_of c.args.event.now) c.self.inside.answers.items c.self.invariant.2 c.in-Some.answer one pictured_more)),
-    )
+pub listed-answer-requires-clause-runs : goal.listed-answer-requires-clause-runs
+listed-answer-requires-clause-runs c =
+    let s = c.self.inside in
+    let event = event_of c.args.event.now in
+    let was = c.self.invariant.1 in
+    let log = run_of was.past.opening was.past.events in
+    let brings : Brings log event s.cluster c.event.new.self (Some c.in-Some-said.said) =
+    subst (Brings log event s.cluster c.event.new.self) c.in-Some-said.is (c.in_ok-said.ensures.brings log was.is.leads) in
+    speaker_runs log event s.cluster c.event.new.self c.in-Some-said.said brings
+
+-- what is then, where something is said
+then_said : (c : goal.After-push_reserved) (p : Past) → IsOf p (record { cluster = c.self.inside.cluster; place = c.self.inside.place; report = c.self.inside.answers.items })
+    → IsOf (later p (event_of c.args.event.now ∷ [])) (record { cluster = c.event.new.self; place = c.in-Some.next; report = c.push_reserved.new.self.items })
+then_said c p is =
+    let s = c.self.inside in
+    let event = event_of c.args.event.now in
+    let new = c.event.new.self in
+    let now : Past = later p (event ∷ []) in
+    let old : Played = record { cluster = s.cluster; place = s.place; report = s.answers.items } in
+    let brings : (log : List Filled) → LeadsTo log s.cluster → Brings log event s.cluster new (Some c.in-Some-said.said) =
+    λ log leads. subst (Brings log event s.cluster new) c.in-Some-said.is (c.in_ok-said.ensures.brings log leads) in
+    let items : c.push_reserved.new.self.items ≡ s.answers.items ++ c.listed-answer.result ∷ [] =
+    c.push_reserved.ensures.items ∙ ap (λ (l : List Answer). l ++ c.listed-answer.result ∷ []) c.reserve.ensures.items in
+    subst (λ (n : ℕ). IsOf now (record { cluster = new; place = n; report = c.push_reserved.new.self.items })) (sym c.in-Some.ensures.1)
+    (subst (λ (l : List Answer). IsOf now (record { cluster = new; place = s.place + 1; report = l })) (sym items)
+    (plays_one p event old new is c.in-Some-said.said c.listed-answer.result brings c.listed-answer.ensures.line c.listed-answer.ensures.picture))
+
+-- and where nothing is
+then_nothing : (c : goal.In-None) (p : Past) → IsOf p (record { cluster = c.self.inside.cluster; place = c.self.inside.place; report = c.self.inside.answers.items })
+    → IsOf (later p (event_of c.args.event.now ∷ [])) (record { cluster = c.event.new.self; place = c.in-Some.next; report = c.reserve.new.self.items })
+then_nothing c p is =
+    let s = c.self.inside in
+    let event = event_of c.args.event.now in
+    let new = c.event.new.self in
+    let now : Past = later p (event ∷ []) in
+    let old : Played = record { cluster = s.cluster; place = s.place; report = s.answers.items } in
+    let brings : (log : List Filled) → LeadsTo log s.cluster → Brings log event s.cluster new None =
+    λ log leads. subst (Brings log event s.cluster new) c.in-None.is (c.in_ok-said.ensures.brings log leads) in
+    subst (λ (n : ℕ). IsOf now (record { cluster = new; place = n; report = c.reserve.new.self.items })) (sym c.in-Some.ensures.1)
+    (subst (λ (l : List Answer). IsOf now (record { cluster = new; place = s.place + 1; report = l })) (sym c.reserve.ensures.items) (plays_nothing p event old new is brings))
+
+pub invariant_of-self-in-Some-said : goal.invariant_of-self-in-Some-said
+invariant_of-self-in-Some-said c =
+    let was = c.self.invariant.1 in
+    let on = then_said c was.past was.is in
+    (c.self.invariant.0 ∙ was.is.own ∙ sym on.own, record { past = later was.past (event_of c.args.event.now ∷ []); is = on })
 
 pub invariant_of-self-in-None : goal.invariant_of-self-in-None
 invariant_of-self-in-None c =
-    let old = c.self.inside.sim in
-    let on = c.in_ok-answer.ensures.happened in
-    let none = sym (ap answers_of on) ∙ c.in_ok-answer.ensures.answer ∙ ap (λ (o : Option Answer). answers_of old ++ lines_in o) c.in-None.is in (
-      c.self.invariant.0 ∙ ap (λ (p : Past). p.opening.shape) (sym on),
-      subst (λ (p : Past). CanBegin p.opening) (sym on) c.self.invariant.1,
-      subst (λ (p : Past). Lists p c.reserve.new.self.items) (sym on)
-          (subst (Lists (record old { events = old.events ++ event_of c.args.event.now ∷ [] })) (sym c.reserve.ensures.items)
-          (lists_nothing old (event_of c.args.event.now) c.self.inside.answers.items c.self.invariant.2 none)),
-    )
+    let was = c.self.invariant.1 in
+    let on = then_nothing c was.past was.is in
+    (c.self.invariant.0 ∙ was.is.own ∙ sym on.own, record { past = later was.past (event_of c.args.event.now ∷ []); is = on })
+
+pub returns-in-Some-said-clause-happened : goal.returns-in-Some-said-clause-happened
+returns-in-Some-said-clause-happened c = λ p is. then_said c p (subst (IsOf p) (sym c.self.view_is) is)
+
+pub returns-in-Some-said-clause-said : goal.returns-in-Some-said-clause-said
+returns-in-Some-said-clause-said c =
+    let s = c.self.inside in
+    let event = event_of c.args.event.now in
+    let new = c.event.new.self in
+    let old : Played = record { cluster = s.cluster; place = s.place; report = s.answers.items } in
+    let brings : (log : List Filled) → LeadsTo log s.cluster → Brings log event s.cluster new (Some c.in-Some-said.said) =
+    λ log leads. subst (Brings log event s.cluster new) c.in-Some-said.is (c.in_ok-said.ensures.brings log leads) in
+    λ p is.
+    subst (λ (x : Line). Says p (later p (event ∷ [])) (Some (record { host = x.host; answer = x.said }))) (sym c.listed-answer.ensures.line)
+    (plays_says p event old new (subst (IsOf p) (sym c.self.view_is) is) (Some c.in-Some-said.said) brings)
+
+pub returns-in-Some-said-clause-runs : goal.returns-in-Some-said-clause-runs
+returns-in-Some-said-clause-runs c =
+    let s = c.self.inside in
+    let event = event_of c.args.event.now in
+    let was = c.self.invariant.1 in
+    let log = run_of was.past.opening was.past.events in
+    let brings : Brings log event s.cluster c.event.new.self (Some c.in-Some-said.said) =
+    subst (Brings log event s.cluster c.event.new.self) c.in-Some-said.is (c.in_ok-said.ensures.brings log was.is.leads) in
+    subst (λ (x : Line). IsSome (slice_index_or c.event.new.self.hosts x.host None)) (sym c.listed-answer.ensures.line)
+    (speaker_runs log event s.cluster c.event.new.self c.in-Some-said.said brings)
+
+pub returns-in-None-clause-happened : goal.returns-in-None-clause-happened
+returns-in-None-clause-happened c = λ p is. then_nothing c p (subst (IsOf p) (sym c.self.view_is) is)
+
+pub returns-in-None-clause-said : goal.returns-in-None-clause-said
+returns-in-None-clause-said c =
+    let s = c.self.inside in
+    let event = event_of c.args.event.now in
+    let new = c.event.new.self in
+    let old : Played = record { cluster = s.cluster; place = s.place; report = s.answers.items } in
+    let brings : (log : List Filled) → LeadsTo log s.cluster → Brings log event s.cluster new None =
+    λ log leads. subst (Brings log event s.cluster new) c.in-None.is (c.in_ok-said.ensures.brings log leads) in
+    λ p is. plays_says p event old new (subst (IsOf p) (sym c.self.view_is) is) None brings

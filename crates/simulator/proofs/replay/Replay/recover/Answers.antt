@@ -1,24 +1,38 @@
-use Rattle.std.specs.Prelude.{is_some}
-use Rattle.simulator.specs.Replayed.{GoesOn, Heard}
+use Rattle.std.specs.Prelude.{is_some, ◌*◌}
+use Rattle.std.proofs.Common.{ℕ, ◌+◌, ◌≡◌, ap, ◌∙◌}
+use Rattle.slot_log.specs.Shape.{Shape}
+use Rattle.simulator.specs.Replayed.{Heard, HasKept, Played}
 use Rattle.simulator.specs.Sweeping.{recovery}
 use Rattle.simulator.proofs.Covering.{nothing_kept}
-use Rattle.simulator.proofs.Replaying.{recovery_goes, heard_nothing, all_heard}
+use Rattle.simulator.proofs.Replaying.{recovery_on, recovery_keeps, heard_nothing, all_heard}
 use Rattle.simulator.proofs.replay.Replay.recover.Goals as goal
+
+pub returns-clause-happened : goal.returns-clause-happened
+returns-clause-happened c =
+    λ p is.
+    let shape : c.self.inside.config ≡ p.opening.shape = c.self.invariant.0 ∙ ap (λ (r : Played). r.cluster.shape) c.self.view_is ∙ is.own in
+    recovery_on p p.opening.shape c.in-Some.host c.args.number _ c.args.self.now c.listen.new.self c.listen-2.new.self c.step.new.self is
+    c.in_ok-listen.ensures.happened c.in_ok-listen-2.ensures.happened c.in_ok-step.ensures.happened c.listen-3.new.self c.in_ok-listen-3.ensures.happened c.in-Some.ensures.host.1
+    (ap (λ (d : ℕ). 17 * d * (c.from-2.result + 1)) (c.from.ensures ∙ c.disks.ensures.value ∙ ap (λ (s : Shape). s.disks) shape)
+    ∙ ap (λ (n : ℕ). 17 * p.opening.shape.disks * (n + 1)) (c.from-2.ensures ∙ c.slots.ensures.value ∙ ap (λ (s : Shape). s.slots) shape))
 
 pub returns-clause-learned : goal.returns-clause-learned
 returns-clause-learned c =
-    let start = c.args.self.now in
-    let heard : Heard start c.listen-3.new.self (is_some c.listen-3.new.learned) =
-    c.in_ok-listen-3.ensures.heard start (c.in_ok-step.ensures.heard start (c.in_ok-listen-2.ensures.heard start (c.in_ok-listen.ensures.heard start (heard_nothing start)))) in
-    let on : GoesOn start c.listen-3.new.self (recovery start.opening.shape c.args.number) =
-    recovery_goes start c.listen.new.self c.listen-2.new.self c.step.new.self c.listen-3.new.self c.in-Some.host c.args.number _
-    c.in_ok-listen.ensures.happened c.in_ok-listen-2.ensures.happened c.in_ok-step.ensures.happened c.in_ok-listen-3.ensures.happened c.in-Some.ensures.host.1
-    (let disks = c.disks.ensures.value in let slots = c.slots.ensures.value in let from = c.from.ensures in let from_2 = c.from-2.ensures in
-    let own = c.self.invariant.0 in let view = c.self.view_is in cc) in
-    all_heard start c.listen-3.new.self (is_some c.listen-3.new.learned) (recovery start.opening.shape c.args.number) on heard
+    λ p is.
+    let shape : c.self.inside.config ≡ p.opening.shape = c.self.invariant.0 ∙ ap (λ (r : Played). r.cluster.shape) c.self.view_is ∙ is.own in
+    all_heard p (is_some c.listen-3.new.learned) (recovery p.opening.shape c.args.number)
+    (recovery_keeps p p.opening.shape c.in-Some.host c.args.number _ c.args.self.now c.listen.new.self c.listen-2.new.self c.step.new.self is
+    c.in_ok-listen.ensures.happened c.in_ok-listen-2.ensures.happened c.in_ok-step.ensures.happened
+    Heard _ _ _ _ _ c.in_ok-listen.ensures.heard c.in_ok-listen-2.ensures.heard c.in_ok-step.ensures.heard c.in_ok-listen-3.ensures.heard (heard_nothing p) c.in-Some.ensures.host.1
+    (ap (λ (d : ℕ). 17 * d * (c.from-2.result + 1)) (c.from.ensures ∙ c.disks.ensures.value ∙ ap (λ (s : Shape). s.disks) shape)
+    ∙ ap (λ (n : ℕ). 17 * p.opening.shape.disks * (n + 1)) (c.from-2.ensures ∙ c.slots.ensures.value ∙ ap (λ (s : Shape). s.slots) shape)))
 
 pub returns-clause-kept : goal.returns-clause-kept
 returns-clause-kept c =
-    let start = c.args.self.now in
-    let kept = c.in_ok-listen-3.ensures.kept start (c.in_ok-step.ensures.kept start (c.in_ok-listen-2.ensures.kept start (c.in_ok-listen.ensures.kept start (nothing_kept start)))) in
-    kept.has
+    λ p is.
+    let shape : c.self.inside.config ≡ p.opening.shape = c.self.invariant.0 ∙ ap (λ (r : Played). r.cluster.shape) c.self.view_is ∙ is.own in
+    (recovery_keeps p p.opening.shape c.in-Some.host c.args.number _ c.args.self.now c.listen.new.self c.listen-2.new.self c.step.new.self is
+    c.in_ok-listen.ensures.happened c.in_ok-listen-2.ensures.happened c.in_ok-step.ensures.happened
+    HasKept _ _ _ _ _ c.in_ok-listen.ensures.kept c.in_ok-listen-2.ensures.kept c.in_ok-step.ensures.kept c.in_ok-listen-3.ensures.kept (nothing_kept p) c.in-Some.ensures.host.1
+    (ap (λ (d : ℕ). 17 * d * (c.from-2.result + 1)) (c.from.ensures ∙ c.disks.ensures.value ∙ ap (λ (s : Shape). s.disks) shape)
+    ∙ ap (λ (n : ℕ). 17 * p.opening.shape.disks * (n + 1)) (c.from-2.ensures ∙ c.slots.ensures.value ∙ ap (λ (s : Shape). s.slots) shape))).has

@@ -1,8 +1,9 @@
 use Rattle.std.specs.Prelude.{map}
 use Rattle.std.specs.List.{range_with_len}
-use Rattle.std.proofs.Common.{ℕ, ◌≡◌, ◌+◌, List, [], ◌∷◌, ◌++◌, sym, ap, ◌∙◌, arith}
+use Rattle.std.proofs.Common.{ℕ, ◌≡◌, ◌+◌, [], ◌∷◌, ◌++◌, sym, ap, ◌∙◌, subst, arith}
 use Rattle.std.proofs.lemmas.List.FromFn.{map-range_with_len_more}
-use Rattle.world.specs.Happens.{Event, Stop}
+use Rattle.world.specs.Happens.{Stop}
+use Rattle.simulator.specs.Replayed.{GoesOn}
 use Rattle.simulator.proofs.Replaying.{goes_further}
 use Rattle.simulator.proofs.replay.Replay.stop_all.Goals as goal
 
@@ -12,5 +13,5 @@ loop-number-preserved c =
     let start = c.args.self.now in
     let one_more : map Stop (range_with_len 0 at.number) ++ Stop c.in-Some.host ∷ [] ≡ map Stop (range_with_len 0 (at.number + 1)) =
     ap (λ (h : ℕ). map Stop (range_with_len 0 at.number) ++ Stop h ∷ []) c.in-Some.ensures.host.1 ∙ sym (map-range_with_len_more Stop 0 at.number at.number (omega arith)) in
-    goes_further start at.self c.happen.new.self (map Stop (range_with_len 0 at.number)) (Stop c.in-Some.host ∷ []) at.invariant c.in_ok-happen.ensures.happened
-    ∙ ap (λ (l : List Event). record start { events = start.events ++ l }) one_more
+    subst (GoesOn start c.happen.new.self) one_more
+    (goes_further start at.self c.happen.new.self (map Stop (range_with_len 0 at.number)) (Stop c.in-Some.host ∷ []) at.invariant c.in_ok-happen.ensures.happened)

@@ -1,0 +1,60 @@
+use Rattle.std.specs.Prelude.{replicate, is_some}
+use Rattle.std.proofs.Common.{◌+◌, ◌-◌, ◌≡◌, List, Option, refl, subst, arith}
+use Rattle.lock_command.specs.declared.command.Command.{Command}
+use Rattle.world.specs.Happens.{Step}
+use Rattle.simulator.specs.Past.{Past}
+use Rattle.simulator.specs.Replayed.{later, IsOf, Heard, HasKept}
+use Rattle.simulator.proofs.Covering.{kept_still}
+use Rattle.simulator.proofs.Replaying.{later_steps, heard_still}
+use Rattle.simulator.proofs.replay.Replay.step.Goals as goal
+
+kept_there : {a b : Past} {learned : Option (List Command)} (start : Past) → a ≡ b → HasKept start a learned → HasKept start b learned
+kept_there {a} {b} {learned} start same kept = subst (λ (q : Past). HasKept start q learned) same kept
+
+pub returns-then-is_idle-clause-happened : goal.returns-then-is_idle-clause-happened
+returns-then-is_idle-clause-happened c =
+    let h = c.args.host in
+    let k = c.loop-done.done in
+    let rest = c.args.steps - k in
+    let all : k + rest ≡ c.args.steps = omega (arith, c.loop-done-test.true) in
+    λ p is.
+    subst (λ (q : Past). IsOf q c.pass.new.self) (later_steps p h k rest c.args.steps all)
+    (c.in_ok-pass.ensures.happened (later p (replicate k (Step h))) (c.loop-done.invariant.0 p is))
+
+pub returns-then-is_idle-clause-heard : goal.returns-then-is_idle-clause-heard
+returns-then-is_idle-clause-heard c =
+    let h = c.args.host in
+    let k = c.loop-done.done in
+    let rest = c.args.steps - k in
+    let all : k + rest ≡ c.args.steps = omega (arith, c.loop-done-test.true) in
+    λ start p is heard.
+    let here : Past = later p (replicate k (Step h)) in
+    subst (λ (q : Past). Heard start q (is_some c.loop-done.learned)) (later_steps p h k rest c.args.steps all)
+    (heard_still start here (later here (replicate rest (Step h))) (is_some c.loop-done.learned)
+    (c.in_ok-pass.ensures.quiet here (c.loop-done.invariant.0 p is)) (c.loop-done.invariant.1 start p is heard))
+
+pub returns-then-is_idle-clause-kept : goal.returns-then-is_idle-clause-kept
+returns-then-is_idle-clause-kept c =
+    let h = c.args.host in
+    let k = c.loop-done.done in
+    let rest = c.args.steps - k in
+    let all : k + rest ≡ c.args.steps = omega (arith, c.loop-done-test.true) in
+    λ start p is kept.
+    let here : Past = later p (replicate k (Step h)) in
+    kept_there start (later_steps p h k rest c.args.steps all)
+    (kept_still start here (later here (replicate rest (Step h))) (replicate rest (Step h)) _ refl (c.loop-done.invariant.2 start p is kept))
+
+pub loop-done-preserved : goal.loop-done-preserved
+loop-done-preserved c =
+    let h = c.args.host in
+    let k = c.loop-done.done in
+    let here : Past → Past = λ p. later p (replicate k (Step h)) in
+    let one : (p : Past) → later (here p) (replicate 1 (Step h)) ≡ later p (replicate (k + 1) (Step h)) = λ p. later_steps p h k 1 (k + 1) refl in (
+      (λ p is. subst (λ (q : Past). IsOf q c.listen.new.self) (one p) (c.in_ok-listen.ensures.happened (here p) (c.loop-done.invariant.0 p is))),
+      (λ start p is heard.
+          subst (λ (q : Past). Heard start q (is_some c.listen.new.learned)) (one p)
+          (c.in_ok-listen.ensures.heard start (here p) (c.loop-done.invariant.0 p is) (c.loop-done.invariant.1 start p is heard))),
+      (λ start p is kept.
+          kept_there start (one p)
+          (c.in_ok-listen.ensures.kept start (here p) (c.loop-done.invariant.0 p is) (c.loop-done.invariant.2 start p is kept))),
+    )
