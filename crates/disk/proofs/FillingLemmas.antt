@@ -71,7 +71,7 @@ length-filled given next (flag ∷ flags) [] same = absurd (omega arith)
 length-filled given next (true ∷ flags) (b ∷ bytes) same = ap suc (length-filled given (next + 1) flags bytes (omega arith))
 length-filled given next (false ∷ flags) (b ∷ bytes) same = ap suc (length-filled given next flags bytes (omega arith))
 
-unmarked_stays : (given : List ℕ) (next : ℕ) (flags : List Bool) (bytes : List ℕ) (k : ℕ) → get_or flags k false ≡ false → get_or (filled given next flags bytes) k 0 ≡ get_or bytes k 0
+pub unmarked_stays : (given : List ℕ) (next : ℕ) (flags : List Bool) (bytes : List ℕ) (k : ℕ) → get_or flags k false ≡ false → get_or (filled given next flags bytes) k 0 ≡ get_or bytes k 0
 unmarked_stays given next [] bytes k synced = refl
 unmarked_stays given next (flag ∷ flags) [] k synced = refl
 unmarked_stays given next (true ∷ flags) (b ∷ bytes) zero synced = cc

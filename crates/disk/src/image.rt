@@ -1,16 +1,14 @@
 // The bytes of a simulated disk, up to some place that only rises. All bytes behind it are zeros.
-ghost use Rattle.std.specs.Prelude.{◌≡◌, ◌+◌, ◌-◌, ◌*◌, ◌≤◌, ◌<◌, ℕ, ◌++◌, length, replicate, slice_range, All, vec_capacity};
+ghost use Rattle.std.specs.Prelude.{◌≡◌, ◌+◌, ◌-◌, ◌*◌, ◌≤◌, ◌<◌, ◌^◌, ℕ, ◌++◌, length, replicate, slice_index_or, slice_range, All, vec_capacity};
 ghost use Rattle.disk.specs.Disk.{put_at};
 ghost use Rattle.disk.specs.Filling.{spread, filled};
 ghost use Rattle.disk.specs.Image.{padded, WordsFit};
 ghost use Rattle.disk.specs.Marks.{marks};
 
+use crate::pages::{Extent, PAGE};
 use crate::word::Word;
 
-/// The bytes are kept up to a multiple of this length, or all of them.
-const PAGE: usize = 4096;
-
-/// The bytes up to `end` are kept, and their words. Nothing else changes: new bytes are zeros, and new words are blank. It
+/// The bytes up to `end` are kept, or more of them, and their words. Nothing else changes: new bytes are zeros, and new words are blank. It
 /// takes no memory.
 pub fn extend(bytes: &mut Vec<u8>, words: &mut Vec<Word>, end: usize, size: usize)
     requires within { end ≤ size }
@@ -54,6 +52,29 @@ pub fn get(bytes: &[u8], at: usize, into: &mut [u8])
     let kept = into.len().min(bytes.len() - from);
     into[..kept].copy_from_slice(&bytes[from..from + kept]);
     into[kept..].fill(0);
+}
+
+/// Reads the bytes from `at` on, of which all outside the range `extent` are zeros.
+pub fn get_page(bytes: &[u8], at: usize, extent: Extent, into: &mut [u8])
+    requires { at + length into.old < 2 ^ 64 }
+    ensures { (size : ℕ) → length bytes.now ≤ size → at + length into.old ≤ size →
+        ((k : ℕ) → k < extent.from → k < length into.old → slice_index_or (padded size bytes.now) (at + k) 0 ≡ 0) →
+        ((k : ℕ) → extent.to ≤ k → k < length into.old → slice_index_or (padded size bytes.now) (at + k) 0 ≡ 0) →
+        into.new ≡ slice_range (padded size bytes.now) at (at + length into.old) }
+{
+    let to = into.len().min(extent.to as usize);
+    let from = to.min(extent.from as usize);
+    into[..from].fill(0);
+    get_front(bytes, at + from, to - from, &mut into[from..]);
+}
+
+// Reads so many bytes from `at` on, and then zeros.
+fn get_front(bytes: &[u8], at: usize, len: usize, into: &mut [u8])
+    requires { len ≤ length into.old }
+    ensures { (size : ℕ) → length bytes.now ≤ size → at + len ≤ size → into.new ≡ slice_range (padded size bytes.now) at (at + len) ++ replicate (length into.old - len) 0 }
+{
+    get(bytes, at, &mut into[..len]);
+    into[len..].fill(0);
 }
 
 /// The range from `at` on holds these bytes.

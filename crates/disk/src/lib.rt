@@ -8,6 +8,7 @@ mod file;
 mod image;
 mod law;
 mod marks;
+mod pages;
 mod simulated;
 mod word;
 

@@ -2,8 +2,9 @@ ghost use Rattle.std.specs.Prelude.{◌≡◌, ◌↔◌, ◌+◌, ◌≤◌, �
 ghost use Rattle.disk.specs.Disk.{Torn, Crashes, written, synced, lost};
 ghost use Rattle.disk.specs.Simulated.{fresh_disk, filling, crashed, items_of, refusal_under, TakesFailure};
 
-use crate::image::{extend, fill_marked, get, put, put_given};
+use crate::image::{extend, fill_marked, get, get_page, put, put_given};
 use crate::marks::{mark, next_epoch};
+use crate::pages::{Extent, PAGE, extent_of, widen};
 use crate::word::Word;
 use crate::{Boot, Disk, DiskFault, NoMemory};
 use std::alloc::Global;
@@ -22,6 +23,8 @@ pub struct SimDisk {
     bytes: Vec<u8>,
     /// A word for each 64 of these bytes.
     words: Vec<Word>,
+    /// For each page where it was ever written.
+    pages: Vec<Extent>,
     size: usize,
     epoch: u64,
     boot: u64,
@@ -34,6 +37,7 @@ impl Model for SimDisk {
     ghost use Rattle.std.specs.Prelude.{◌*◌, ◌≤◌, length, All, vec_capacity};
     ghost use Rattle.disk.specs.Image.{padded, WordsFit};
     ghost use Rattle.disk.specs.Marks.{marks};
+    ghost use Rattle.disk.specs.Pages.{BlankOutside};
     ghost use Rattle.disk.specs.Simulated.{SimState, IsGiven, items_of};
 
     ghost Value = { SimState };
@@ -53,6 +57,8 @@ impl Model for SimDisk {
       fit : WordsFit d.size (length d.bytes.items) (length d.words.items);
       room : d.size ≤ vec_capacity d.bytes;
       word_room : d.size ≤ 64 * vec_capacity d.words;
+      page_room : d.size ≤ 4096 * vec_capacity d.pages;
+      blank : BlankOutside d.pages.items (padded d.size d.bytes.items) (marks d.epoch d.words.items d.size);
       no_later : All (λ w. w.stamp ≤ d.epoch) d.words.items;
       given : IsGiven (items_of d.failing);
     } };
@@ -68,6 +74,7 @@ impl SimDisk {
         Ok(SimDisk {
             bytes: Vec::with_capacity(alloc, size as usize)?,
             words: Vec::with_capacity(alloc, size.div_ceil(64) as usize)?,
+            pages: Vec::with_capacity(alloc, (size as usize).div_ceil(PAGE))?,
             size: size as usize,
             epoch: 1,
             boot: 1,
@@ -117,7 +124,7 @@ impl SimDisk {
         extend(
             &mut self.bytes,
             &mut self.words,
-            (at + len) as usize,
+            at as usize + len as usize,
             self.size,
         );
         put_given(&mut self.bytes, at as usize, len as usize, given);
@@ -127,6 +134,7 @@ impl SimDisk {
             (at + len) as usize,
             self.epoch,
         );
+        widen(&mut self.pages, at as usize, (at + len) as usize);
     }
 
     /// The disk loses power and comes up again: its unsynced positions take the given bytes.
@@ -172,6 +180,7 @@ impl SimDisk {
         extend(&mut self.bytes, &mut self.words, at + from.len(), self.size);
         put(&mut self.bytes, at, from);
         mark(&mut self.words, at, at + from.len(), self.epoch);
+        widen(&mut self.pages, at, at + from.len());
     }
 
     // Reads the bytes from `at` on.
@@ -179,7 +188,11 @@ impl SimDisk {
         requires { at + length into.old ≤ length self.now.disk.bytes }
         ensures { into.new ≡ slice_range self.now.disk.bytes at (at + length into.old) }
     {
-        get(&self.bytes, at, into);
+        if at % PAGE == 0 && into.len() == PAGE {
+            get_page(&self.bytes, at, extent_of(&self.pages, at / PAGE), into);
+        } else {
+            get(&self.bytes, at, into);
+        }
     }
 
     // Nothing is unsynced.

@@ -4,12 +4,16 @@ use Rattle.disk.specs.Marks.{marks}
 use Rattle.disk.specs.Simulated.{SimState}
 use Rattle.disk.proofs.FillingLemmas.{filled_keeps}
 use Rattle.disk.proofs.MarkLemmas.{length-marks}
+use Rattle.disk.proofs.PageLemmas.{blank_filled}
 use Rattle.disk.proofs.PaddedLemmas.{length-padded, length-filled_marks, padded_filled, same_fit}
 use Rattle.disk.proofs.simulated.SimDisk.crash.Goals as goal
 
 pub invariant_of-self : goal.invariant_of-self
 invariant_of-self c =
     let inside = c.self.inside in
+    let bytes =
+    ap (padded inside.size) c.fill_marked.ensures.bytes
+    ∙ padded_filled inside.epoch inside.words.items inside.size c.args.given.now inside.bytes.items c.self.invariant.fit in
     record {
       fit =
           same_fit inside.size (length inside.bytes.items) (length inside.words.items) _ _
@@ -18,6 +22,10 @@ invariant_of-self c =
           c.self.invariant.fit;
       room = omega arith;
       word_room = omega arith;
+      page_room = omega arith;
+      blank =
+          rw (bytes, c.next_epoch-self-inside.ensures.none inside.size)
+          (blank_filled inside.pages.items c.args.given.now (padded inside.size inside.bytes.items) (marks inside.epoch inside.words.items inside.size) inside.size c.self.invariant.blank);
       no_later = c.next_epoch-self-inside.ensures.no_later;
       given = c.self.invariant.given;
     }
