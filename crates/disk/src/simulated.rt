@@ -124,7 +124,7 @@ impl SimDisk {
         extend(
             &mut self.bytes,
             &mut self.words,
-            (at + len) as usize,
+            at as usize + len as usize,
             self.size,
         );
         put_given(&mut self.bytes, at as usize, len as usize, given);
