@@ -6,6 +6,7 @@ ghost use Rattle.lock_table.specs.Indexed.{number_cmp};
 ghost use Rattle.lock_table.specs.Locks.{is_lock, lock_in, without, put, IsDistinct};
 
 use crate::by_printed_order::take_place;
+use crate::halving::passed;
 use crate::locks::LOCKS;
 use crate::record::LockRecord;
 use lock_command::{HostNumber, LockNumber};
@@ -115,9 +116,7 @@ fn lower_numbers(numbers: &ByLockNumber, lock: LockNumber) -> usize
     let mut size = numbers.len();
     while size > 0 {
         let half = size - size / 2;
-        if is_lower(numbers.get(from + half - 1), lock) {
-            from += half;
-        }
+        from += passed(half, is_lower(numbers.get(from + half - 1), lock));
         size /= 2;
     }
     from

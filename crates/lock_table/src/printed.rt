@@ -1,4 +1,4 @@
-ghost use Rattle.std.specs.Prelude.{◌≡◌, ◌<◌, ◌≤◌, cond, length, filter, insert, remove, not, nat_lt, true, false};
+ghost use Rattle.std.specs.Prelude.{◌≡◌, ◌<◌, ◌≤◌, length, filter, insert, remove, not, nat_lt, true, false};
 ghost use Rattle.std.specs.List.{AllWithin, list_any};
 ghost use Rattle.std.specs.List.Sorted.{IsSorted, IsPartitionPoint};
 ghost use Rattle.lock_table.specs.Locks.{is_through};
@@ -9,20 +9,12 @@ ghost use Rattle.lock_table.specs.Picture.{printed_cmp};
 ghost use Rattle.lock_table.specs.Placed.{placed};
 
 use crate::by_printed_order::ByPrintedOrder;
+use crate::halving::passed;
 use crate::keys::SpelledName;
 use crate::locks::LOCKS;
 use crate::record::LockRecord;
 use lock_command::{HostNumber, LockName, LockNumber};
 use lock_modes::Mode;
-
-/// Returns `many` if the test passes, else 0. It does so without a branch, because the processor would mispredict one about
-/// half of the time.
-fn passed(many: usize, passes: bool) -> usize
-    ensures passed { result ≡ cond passes many 0 }
-    ensures few { result ≤ many }
-{
-    many * usize::from(passes)
-}
 
 /// How many locks have a lower key.
 fn locks_below(printed: &ByPrintedOrder, key: u128) -> usize

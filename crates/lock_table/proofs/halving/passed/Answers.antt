@@ -1,6 +1,6 @@
 use Rattle.std.proofs.Common.{◌≡◌, ◌≤◌, ◌*◌, ℕ, Bool, true, false, cond, ap, ◌∙◌, arith}
 use Rattle.std.specs.Int.{from_bool}
-use Rattle.lock_table.proofs.printed.passed.Goals as goal
+use Rattle.lock_table.proofs.halving.passed.Goals as goal
 
 scaled : (b : Bool) (n : ℕ) → n * from_bool b ≡ cond b n 0
 scaled true n = omega arith
