@@ -1,5 +1,5 @@
 -- Ascending lists that are cut in two.
-use Rattle.std.proofs.Common.{◌≡◌, ◌≤◌, ◌<◌, ◌+◌, ◌-◌, ◌/◌, ℕ, suc, Bool, true, false, cond, not, ◌&&◌, List, [], ◌∷◌, ◌++◌, length, get_or, take, drop, insert, Some, None, refl, sym, ap, subst, ◌∙◌, inl, inr, arith}
+use Rattle.std.proofs.Common.{◌≡◌, ◌≤◌, ◌<◌, ◌+◌, ◌-◌, ◌*◌, ◌/◌, ℕ, suc, Bool, true, false, cond, not, ◌&&◌, List, [], ◌∷◌, ◌++◌, length, get_or, take, drop, insert, Some, None, refl, sym, ap, subst, ◌∙◌, inl, inr, arith}
 use Rattle.std.specs.List.{find, slice_get, AllWithin}
 use Rattle.std.specs.List.Sorted.{IsSorted, IsPartitionedBy, IsPartitionPoint}
 use Rattle.std.specs.Ordering.{is_lt}
@@ -61,12 +61,13 @@ module _ {X : Type 0} (p : X → Bool) (xs : List X) (cut : IsPartitionedBy p xs
       }
 
   -- whichever of the two it does
-  pub halved_next : (b : Bool) (step : ℕ) → b ≡ p x → step ≡ cond b (size - size / 2) 0 → next ≡ from + step → IsHalved p xs next (size / 2)
-  halved_next b step tells is on =
-      elim b as (λ t. t ≡ p x → step ≡ cond t (size - size / 2) 0 → IsHalved p xs next (size / 2)) [
-        | true ↦ λ e s. halved_passed (sym e) (omega (arith, on, s))
-        | false ↦ λ e s. halved_failed (sym e) (omega (arith, on, s))
-      ] tells is
+  pub halved_next : (passes step : ℕ) → passes ≡ cond (p x) 1 0 → step ≡ (size - size / 2) * passes → next ≡ from + step → IsHalved p xs next (size / 2)
+  halved_next passes step tells is on =
+      let half = size - size / 2 in
+      elim (p x) as (λ t. p x ≡ t → passes ≡ cond t 1 0 → IsHalved p xs next (size / 2)) [
+        | true ↦ λ e h. halved_passed e (omega (arith, on, is ∙ ap {B = ℕ} (λ k. half * k) h))
+        | false ↦ λ e h. halved_failed e (omega (arith, on, is ∙ ap {B = ℕ} (λ k. half * k) h))
+      ] refl tells
 
 module _ {X : Type 0} (cmp : X → X → Ordering) where
   abbrev lt : X → X → Bool

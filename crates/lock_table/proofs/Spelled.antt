@@ -1,5 +1,5 @@
 -- Names as numbers that rise as the names do.
-use Rattle.std.proofs.Common.{◌≡◌, ◌≤◌, ◌<◌, ◌+◌, ◌*◌, ℕ, zero, suc, true, cond, ◌==◌, ◌&&◌, nat_le, nat_lt, List, [], ◌∷◌, length, get_or, refl, sym, ap, ◌∙◌, inl, inr, arith}
+use Rattle.std.proofs.Common.{◌≡◌, ◌≤◌, ◌<◌, ◌+◌, ◌*◌, ◌^◌, ℕ, zero, suc, true, cond, ◌==◌, ◌&&◌, nat_le, nat_lt, List, [], ◌∷◌, length, get_or, refl, sym, ap, ◌∙◌, inl, inr, arith}
 use Rattle.std.specs.List.{list_all}
 use Rattle.std.specs.Ordering.{is_lt, nat_cmp, ordering_then}
 use Rattle.std.specs.Cmp.Lexicographic.{slice_cmp}
@@ -154,6 +154,11 @@ number_small : (s : LockState) (n : ℕ) → n < 65536 → number_among s n < 65
 number_small (Granted mode) n few = few
 number_small (Converting held wanted) n few = omega arith
 number_small (Waiting wanted) n few = omega arith
+
+pub key_small : (r : LockRecord) → HasKey r → lock_key r < 2 ^ 126
+key_small r own =
+    let digits = spelled_small 15 r.name (name_parts r.name own.named).1 in
+    omega (arith, digits, rank_small r.state, number_small r.state r.lock own.number)
 
 -- locks are printed as their keys rise
 pub printed_by_key : (a b : LockRecord) → HasKey a → HasKey b → nat_cmp (lock_key a) (lock_key b) ≡ printed_cmp a b

@@ -6,7 +6,7 @@ ghost use Rattle.lock_table.specs.Indexed.{number_cmp};
 ghost use Rattle.lock_table.specs.Locks.{is_lock, lock_in, without, put, IsDistinct};
 
 use crate::by_printed_order::take_place;
-use crate::halving::passed;
+use crate::halving::{lower, passed};
 use crate::locks::LOCKS;
 use crate::record::LockRecord;
 use lock_command::{HostNumber, LockNumber};
@@ -116,16 +116,11 @@ fn lower_numbers(numbers: &ByLockNumber, lock: LockNumber) -> usize
     let mut size = numbers.len();
     while size > 0 {
         let half = size - size / 2;
-        from += passed(half, is_lower(numbers.get(from + half - 1), lock));
+        let other = numbers.get(from + half - 1).lock;
+        from += passed(half, lower(other.get(), lock.get()));
         size /= 2;
     }
     from
-}
-
-fn is_lower(other: &LockRecord, lock: LockNumber) -> bool
-    ensures { result ≡ nat_lt other.now.lock lock }
-{
-    other.lock.get() < lock.get()
 }
 
 /// The record of a lock number.

@@ -1,4 +1,4 @@
-ghost use Rattle.std.specs.Prelude.{◌≡◌, ◌+◌, ◌<◌, ◌≤◌, ◌==◌, ℕ, [], IfOk, IsTrue, cond, false, nat_lt, length, insert, remove, slice_index_or, vec_len, vec_capacity};
+ghost use Rattle.std.specs.Prelude.{◌≡◌, ◌+◌, ◌<◌, ◌≤◌, ◌==◌, ◌^◌, ℕ, [], IfOk, IsTrue, cond, false, nat_lt, length, insert, remove, slice_index_or, vec_len, vec_capacity};
 ghost use Rattle.std.specs.List.{list_any, slice_get, AllWithin};
 ghost use Rattle.lock_table.specs.declared.record.LockRecord.{LockRecord};
 ghost use Rattle.lock_table.specs.Carrying.{has_locks};
@@ -16,6 +16,9 @@ use lock_command::ClientNumber;
 use lock_modes::Mode;
 use std::alloc::{AllocError, Global};
 use std::marker::Model;
+
+/// A number that no sort key reaches.
+const BEHIND: u128 = 0x4000_0000_0000_0000_0000_0000_0000_0000;
 
 /// Locks in printed order. Each record keeps its place in memory while others come and go; only the order is shifted.
 #[derive(Drop)]
@@ -89,12 +92,15 @@ impl ByPrintedOrder {
         }
     }
 
-    /// Whether a lock has a lower key.
-    pub fn is_below(&self, at: usize, key: u128) -> bool
-        requires { at < length self.now }
-        ensures { (d : LockRecord) → result ≡ nat_lt (lock_key (slice_index_or self.now at d)) key }
+    /// Returns 1 if a lock has a lower key, else 0. The difference of the keys tells it, without a branch.
+    pub fn below(&self, at: usize, key: u128) -> usize
+        requires inside { at < length self.now }
+        requires small { key ≤ 2 ^ 126 }
+        ensures below { (d : LockRecord) → result ≡ cond (nat_lt (lock_key (slice_index_or self.now at d)) key) 1 0 }
+        ensures few { result ≤ 1 }
     {
-        self.keys[usize::from(self.order[at])] < key
+        let other = self.keys[usize::from(self.order[at])];
+        ((key + (BEHIND - 1) - other) / BEHIND) as usize
     }
 
     /// Whether a lock holds a mode that conflicts with the wanted one.

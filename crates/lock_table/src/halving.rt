@@ -1,10 +1,19 @@
-ghost use Rattle.std.specs.Prelude.{◌≡◌, ◌≤◌, cond};
+ghost use Rattle.std.specs.Prelude.{◌≡◌, ◌≤◌, ◌*◌, cond, nat_lt};
 
-/// The step of a binary search: returns `many` if the test passes, else 0. It does so without a branch, because the processor
-/// would mispredict one about half of the time.
-pub fn passed(many: usize, passes: bool) -> usize
-    ensures passed { result ≡ cond passes many 0 }
+/// Returns 1 if a number is lower than another, else 0. The difference tells it, because of a comparison the compiler makes a
+/// branch, which the processor mispredicts about half of the time in a binary search.
+pub fn lower(a: u16, b: u16) -> usize
+    ensures lower { result ≡ cond (nat_lt a b) 1 0 }
+    ensures few { result ≤ 1 }
+{
+    (usize::from(b) + 65535 - usize::from(a)) / 65536
+}
+
+/// The step of a binary search: returns `many` if `passes` is 1, else 0.
+pub fn passed(many: usize, passes: usize) -> usize
+    requires { passes ≤ 1 }
+    ensures passed { result ≡ many * passes }
     ensures few { result ≤ many }
 {
-    many * usize::from(passes)
+    many * passes
 }

@@ -1,4 +1,4 @@
-ghost use Rattle.std.specs.Prelude.{◌≡◌, ◌<◌, ◌≤◌, length, filter, insert, remove, not, nat_lt, true, false};
+ghost use Rattle.std.specs.Prelude.{◌≡◌, ◌<◌, ◌≤◌, ◌^◌, length, filter, insert, remove, not, nat_lt, true, false};
 ghost use Rattle.std.specs.List.{AllWithin, list_any};
 ghost use Rattle.std.specs.List.Sorted.{IsSorted, IsPartitionPoint};
 ghost use Rattle.lock_table.specs.Locks.{is_through};
@@ -18,7 +18,8 @@ use lock_modes::Mode;
 
 /// How many locks have a lower key.
 fn locks_below(printed: &ByPrintedOrder, key: u128) -> usize
-    requires { IsSorted printed_cmp printed.now }
+    requires sorted { IsSorted printed_cmp printed.now }
+    requires small { key ≤ 2 ^ 126 }
     ensures bound { result ≤ length printed.now }
     ensures point { IsPartitionPoint (λ r. nat_lt (lock_key r) key ≡ true) (λ r. nat_lt (lock_key r) key ≡ false) printed.now result }
     ensures fit { AllWithin HasKey printed.now 0 (length printed.now) }
@@ -27,7 +28,7 @@ fn locks_below(printed: &ByPrintedOrder, key: u128) -> usize
     let mut size = printed.len();
     while size > 0 {
         let half = size - size / 2;
-        from += passed(half, printed.is_below(from + half - 1, key));
+        from += passed(half, printed.below(from + half - 1, key));
         size /= 2;
     }
     from

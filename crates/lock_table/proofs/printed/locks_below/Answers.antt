@@ -15,5 +15,5 @@ loop-size-preserved c =
     let r = get_or xs mid no_lock in
     let inside : mid < length xs = omega (arith, c.loop-size-test.true, c.loop-size.invariant.inside) in
     let is : r ≡ get_or xs mid r = get_or_default xs mid no_lock r inside in
-    halved_next (λ r. nat_lt (lock_key r) c.args.key) xs (below_partitioned xs c.len-size.ensures.fit c.args.key c.requires) from size c.loop-size.invariant c.loop-size-test.true r is
-    (from + c.passed-from.result) c.is_below.result c.passed-from.result (c.is_below.ensures no_lock) c.passed-from.ensures.passed refl
+    halved_next (λ r. nat_lt (lock_key r) c.args.key) xs (below_partitioned xs c.len-size.ensures.fit c.args.key c.requires.sorted) from size c.loop-size.invariant c.loop-size-test.true r is
+    (from + c.passed-from.result) c.below.result c.passed-from.result (c.below.ensures.below no_lock) c.passed-from.ensures.passed refl
