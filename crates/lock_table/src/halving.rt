@@ -1,7 +1,6 @@
 ghost use Rattle.std.specs.Prelude.{◌≡◌, ◌≤◌, ◌*◌, cond, nat_lt};
 
-/// Returns 1 if a number is lower than another, else 0. The difference tells it, because of a comparison the compiler makes a
-/// branch, which the processor mispredicts about half of the time in a binary search.
+/// Returns 1 if a number is lower than another, else 0. The difference tells it.
 pub fn lower(a: u16, b: u16) -> usize
     ensures lower { result ≡ cond (nat_lt a b) 1 0 }
     ensures few { result ≤ 1 }
