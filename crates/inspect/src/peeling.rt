@@ -1,4 +1,4 @@
-ghost use Rattle.std.specs.Prelude.{◌≡◌, ◌<◌, true, false, ℕ, IfNone, IfSome, length, slice_index_or};
+ghost use Rattle.std.specs.Prelude.{◌≡◌, ◌<◌, true, false, ℕ, IfNone, IfSome, length};
 ghost use Rattle.inspect.specs.declared.verdict.TheConstants.{CLIENT_NUMBERS};
 ghost use Rattle.inspect.specs.Peeled.{HasBlocked, IsPeeled, AreHeldUp, IsHeldUp, is_left};
 
@@ -96,27 +96,4 @@ pub fn is_held_up(
         held_up |= edges[row + b] & left[b];
     }
     held_up
-}
-
-/// Whether a client has a flag.
-pub fn is_anyone(clients: &[bool; CLIENT_NUMBERS]) -> bool
-    ensures { result ≡ false → (a : ℕ) → slice_index_or clients.now a false ≡ false }
-{
-    for a in 0..CLIENT_NUMBERS {
-        if clients[a] {
-            return true;
-        }
-    }
-    false
-}
-
-/// The ranks of clients of whom none is blocked: as all are taken away by rising number, each has its own number.
-pub fn ranks_of_the_free() -> [u8; CLIENT_NUMBERS]
-    ensures { (a : ℕ) → a < CLIENT_NUMBERS → slice_index_or result a 0 ≡ a }
-{
-    let mut ranks = [0; CLIENT_NUMBERS];
-    for a in 0..CLIENT_NUMBERS {
-        ranks[a] = a as u8;
-    }
-    ranks
 }

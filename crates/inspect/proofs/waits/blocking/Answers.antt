@@ -1,4 +1,4 @@
-use Rattle.std.proofs.Common.{List, ◌∙◌, true≢false, subst, sym}
+use Rattle.std.proofs.Common.{List, subst, sym}
 use Rattle.lock_table.specs.declared.record.LockRecord.{LockRecord}
 use Rattle.inspect.specs.Blocked.{IsBlockedBy}
 use Rattle.inspect.specs.Marks.{Marked}
@@ -15,8 +15,3 @@ returns-in-None c = λ a b blocked.
     let marked : Marked c.edges_of-edges.result a b =
     c.edges_of-edges.ensures.complete a b (subst (λ (locks : List LockRecord). IsBlockedBy locks a b) (sym c.locks-locks.ensures.locks) blocked) in
     c.of-peeling.ensures.peeled.falls a b marked (c.in-None.ensures.none a)
-
-pub returns-then-not-is_anyone : goal.returns-then-not-is_anyone
-returns-then-not-is_anyone c = λ a b blocked.
-    let flagged = c.clients_that_want-wanting.ensures a b (subst (λ (locks : List LockRecord). IsBlockedBy locks a b) (sym c.locks-locks.ensures.locks) blocked) in
-    absurd (true≢false (sym flagged ∙ c.is_anyone.ensures c.if-not-is_anyone.true a))
