@@ -36,8 +36,7 @@ impl Digest {
         }
         if let Some(value) = reply.value {
             self.add(u64::from(value.valid));
-            self.add(u64::from(value.bytes[0]));
-            self.add(u64::from(value.bytes[15]));
+            self.add_bytes(&value.bytes);
         }
     }
 
@@ -45,12 +44,16 @@ impl Digest {
         self.add(0x40_000 + u64::from(refusal.number()));
     }
 
-    /// All commands, by their host, their client and their request.
+    /// All commands, by the bytes that spell them.
     pub fn add_commands(&mut self, commands: &[Command]) {
         for command in commands {
-            self.add(u64::from(command.client.get()));
-            self.add(command.request.get());
-            self.add(u64::from(command.host.get()));
+            let mut word = 0;
+            for (at, &byte) in command.encode().iter().enumerate() {
+                word = (word << 8) | u64::from(byte);
+                if at % 8 == 7 {
+                    self.add(word);
+                }
+            }
         }
     }
 }

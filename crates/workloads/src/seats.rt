@@ -62,9 +62,17 @@ fn fill_named<N: ClusterName, R: Wait + AllocGlobal>(
     let (ties, foundation) = opening.named::<N>(alloc)?;
     let cluster = Cluster::simulated(alloc, &ties, foundation)?;
     let seats = work(rt, alloc, &cluster, slots, commands, digest)?;
+    add_seats(&seats, digest);
     let record = cluster.finish(seats)?;
     digest.add(record.entries.len() as u64);
     Ok(())
+}
+
+/// What the hosts have learned.
+fn add_seats<N: ClusterName>(seats: &Vec<HostSeat<N>>, digest: &mut Digest) {
+    for seat in seats {
+        digest.add_commands(seat.prefix());
+    }
 }
 
 /// Lets the hosts work, and gives their seats.

@@ -36,5 +36,6 @@ fn sweep_script(
     digest.add(swept.runs as u64);
     digest.add(swept.recovered as u64);
     digest.add(swept.wrong as u64);
+    digest.add(swept.first.map_or(0, |first| first as u64 + 1));
     Ok(())
 }

@@ -38,7 +38,8 @@ fn fill_table(
     digest: &mut Digest,
 ) -> Result<(), Failure> {
     let mut table = Table::new(alloc)?;
-    for place in 0..size.length(LENGTH) {
+    let length = size.length(LENGTH);
+    for place in 0..length {
         let Some(host) = HostNumber::new((place / 7 % 16) as u8) else {
             return Err(Failure::Wrong);
         };
@@ -48,11 +49,11 @@ fn fill_table(
         let reply = table.apply(&command);
         commands.hear(&command, &reply);
         digest.add_reply(&reply);
-        if place % BETWEEN == BETWEEN - 1 {
+        if place % BETWEEN == BETWEEN - 1 || place + 1 == length {
             look_at(&table.picture(alloc)?, text, digest)?;
         }
     }
-    look_at(&table.picture(alloc)?, text, digest)
+    Ok(())
 }
 
 fn look_at(picture: &Picture, text: &mut Vec<u8>, digest: &mut Digest) -> Result<(), Failure> {
@@ -60,7 +61,7 @@ fn look_at(picture: &Picture, text: &mut Vec<u8>, digest: &mut Digest) -> Result
     queues(picture, text)?;
     digest.add_bytes(text);
     match blocking(picture) {
-        Blocking::Ranked(_) => digest.add(0),
+        Blocking::Ranked(ranks) => digest.add_bytes(&ranks),
         Blocking::Cycle(clients) => {
             for client in clients.as_slice() {
                 digest.add(u64::from(*client));
