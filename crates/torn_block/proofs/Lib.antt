@@ -6,4 +6,3 @@ pub mod PlanLaws
 pub mod RegisterLaws
 pub mod StageLaws
 pub mod Writing
-pub mod ZeroLaws

@@ -186,7 +186,7 @@ impl Layout for Layout1 {
     }
 
     fn is_blank(bytes: &[u8]) -> bool {
-        Self::value_in(bytes) == [0; 32]
+        are_zeros::<32>(bytes)
     }
 
     fn is_padding(_bytes: &[u8]) -> bool {
@@ -254,7 +254,7 @@ impl Layout for Layout2 {
     }
 
     fn is_blank(bytes: &[u8]) -> bool {
-        Self::value_in(bytes) == [0; 48]
+        are_zeros::<48>(bytes)
     }
 
     // In this layout there are as many zeros after an input as an input has bytes.
@@ -275,4 +275,20 @@ impl Layout for Layout2 {
     ghost value_is = { refl };
 
     ghost area_is = { refl };
+}
+
+// Whether these N bytes are zeros. All are looked at, without a branch and without a copy: as their number is known, a few instructions do it.
+#[inline(always)]
+fn are_zeros<const N: usize>(bytes: &[u8]) -> bool
+    requires { length bytes.now ≡ N }
+    ensures { result ≡ list_all (λ b. b == 0) bytes.now }
+{
+    let Ok(array) = <&[u8; N]>::try_from(bytes) else {
+        unreachable!()
+    };
+    let mut zeros = true;
+    for at in 0..N {
+        zeros &= array[at] == 0;
+    }
+    zeros
 }
