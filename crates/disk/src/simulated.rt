@@ -84,6 +84,20 @@ impl SimDisk {
         })
     }
 
+    /// Makes the disk one of zeros again, as `new` gave it. It takes no memory, and writes no zeros: the room of the disk is used anew.
+    pub fn renew(&mut self)
+        ensures fresh { self.new ≡ record { disk = fresh_disk (length self.old.disk.bytes); failing = None; failures = 0 } }
+    {
+        self.bytes.clear();
+        self.words.clear();
+        self.pages.clear();
+        self.epoch = 1;
+        self.boot = 1;
+        self.gone = false;
+        self.failing = None;
+        self.failures = 0;
+    }
+
     /// The present boot number.
     pub fn boot(&self) -> u64
         ensures { result ≡ self.now.disk.boot }
