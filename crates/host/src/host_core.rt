@@ -1,4 +1,4 @@
-ghost use Rattle.std.specs.Prelude.{◌≡◌, ◌≤◌, ◌<◌, ◌++◌, ◌∷◌, [], ℕ, true, false, IfOk, Option, Some, None, is_some, take, vec_len, vec_capacity};
+ghost use Rattle.std.specs.Prelude.{◌≡◌, ◌≤◌, ◌<◌, ◌++◌, ◌∷◌, [], ℕ, true, false, is_none, IfOk, Option, Some, None, is_some, take, vec_len, vec_capacity};
 ghost use Rattle.std.specs.Option.{option_map};
 ghost use Rattle.paxos_block.specs.Places.{image_length};
 ghost use Rattle.attempt.specs.History.{Fits};
@@ -139,6 +139,14 @@ impl HostCore {
         ensures said { result ≡ self.now.said }
     {
         self.said
+    }
+
+    /// Whether the last entry made the host say nothing, as most do. An answer that is not there need not be copied to find that out.
+    #[inline(always)]
+    pub fn is_silent(&self) -> bool
+        ensures { result ≡ is_none self.now.said }
+    {
+        self.said.is_none()
     }
 
     /// Begins to put a command into the log. Up to `tries` attempts may be outrun, the last of which ends the operation.
