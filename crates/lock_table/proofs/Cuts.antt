@@ -1,12 +1,12 @@
 -- Ascending lists that are cut in two.
-use Rattle.std.proofs.Common.{◌≡◌, ◌≤◌, ◌<◌, ◌+◌, ◌-◌, ◌*◌, ◌/◌, ℕ, suc, Bool, true, false, cond, not, ◌&&◌, List, [], ◌∷◌, ◌++◌, length, get_or, take, drop, insert, Some, None, refl, sym, ap, subst, ◌∙◌, inl, inr, arith}
+use Rattle.std.proofs.Common.{◌≡◌, ◌<◌, ◌+◌, ℕ, suc, Bool, true, false, cond, not, ◌&&◌, List, [], ◌∷◌, ◌++◌, length, get_or, take, drop, insert, Some, None, refl, sym, ap, subst, ◌∙◌, inl, inr, arith}
 use Rattle.std.specs.List.{find, slice_get, AllWithin}
 use Rattle.std.specs.List.Sorted.{IsSorted, IsPartitionedBy, IsPartitionPoint}
 use Rattle.std.specs.Ordering.{is_lt}
 use Rattle.std.specs.Cmp.{IsStrictWeakOrder}
 use Rattle.std.specs.declared.cmp.Ordering.{Ordering}
 use Rattle.std.proofs.lemmas.Bool.{not-true, not-false, and_parts}
-use Rattle.std.proofs.lemmas.List.{length-take, length-drop, get_or-take, get_or-drop, take-append-drop, drop_more, drop_all, get_or_read}
+use Rattle.std.proofs.lemmas.List.{length-take, length-drop, get_or-take, get_or-drop, take-append-drop, drop_more, drop_all}
 use Rattle.std.proofs.lemmas.List.Sorted.{sorted_far}
 use Rattle.std.proofs.lemmas.Option.{slice_get_cases}
 use Rattle.lock_table.specs.Placed.{placed, in_order}
@@ -21,53 +21,6 @@ slice_get_is_first xs i =
       | inl h ↦ h.2 ∙ sym (ap first (drop_more xs i h.0 h.1) ∙ ap Some h.3)
       | inr h ↦ h.1 ∙ sym (ap first (drop_all i xs h.0))
     ]
-
--- what is known of a list where all in front of a place pass, and all behind so many more fail
-pub record IsHalved {X : Type 0} (p : X → Bool) (xs : List X) (from size : ℕ) : Type 0 where
-  pub front : AllWithin (λ x. p x ≡ true) xs 0 from
-  pub behind : AllWithin (λ x. p x ≡ false) xs (from + size) (length xs)
-  pub inside : from + size ≤ length xs
-
-pub halved_done : {X : Type 0} (p : X → Bool) (xs : List X) (from size : ℕ) → size ≡ 0 → IsHalved p xs from size → IsPartitionPoint (λ x. p x ≡ true) (λ x. p x ≡ false) xs from
-halved_done p xs from size none halved = (halved.front, λ k d low high. halved.behind k d (omega (arith, low, none)) high)
-
-module _ {X : Type 0} (p : X → Bool) (xs : List X) (cut : IsPartitionedBy p xs) (from size : ℕ) (halved : IsHalved p xs from size) (some : 0 < size)
-    (x : X) (is : x ≡ get_or xs (from + (size - size / 2) - 1) x) (next : ℕ) where
-  pub halved_passed : p x ≡ true → next ≡ from + (size - size / 2) → IsHalved p xs next (size / 2)
-  halved_passed passes on =
-      let inside = halved.inside in
-      let mid = from + (size - size / 2) - 1 in
-      record {
-        front = λ k d low high. cut k mid d (omega (arith, on, some, high)) (omega (arith, some, inside)) (ap p (sym (get_or_read xs mid x (omega (arith, some, inside)) is d)) ∙ passes);
-        behind = λ k d low high. halved.behind k d (omega (arith, on, low)) high;
-        inside = omega (arith, on, inside);
-      }
-
-  pub halved_failed : p x ≡ false → next ≡ from → IsHalved p xs next (size / 2)
-  halved_failed fails on =
-      let inside = halved.inside in
-      let mid = from + (size - size / 2) - 1 in
-      record {
-        front = λ k d low high. halved.front k d low (omega (arith, on, high));
-        behind = λ k d low high.
-            elim (p (get_or xs k d)) as (λ t. p (get_or xs k d) ≡ t → t ≡ false) [
-              | false ↦ λ e. refl
-              | true ↦ λ e.
-                  let above : mid ≤ k = omega (arith, on, low, some) in
-                  let clash : true ≡ false = sym (cut mid k d above high e) ∙ ap p (sym (get_or_read xs mid x (omega (arith, above, high)) is d)) ∙ fails in
-                  let impossible : ⊥ = cc in absurd impossible
-            ] refl;
-        inside = omega (arith, on, inside);
-      }
-
-  -- whichever of the two it does
-  pub halved_next : (passes step : ℕ) → passes ≡ cond (p x) 1 0 → step ≡ (size - size / 2) * passes → next ≡ from + step → IsHalved p xs next (size / 2)
-  halved_next passes step tells is on =
-      let half = size - size / 2 in
-      elim (p x) as (λ t. p x ≡ t → passes ≡ cond t 1 0 → IsHalved p xs next (size / 2)) [
-        | true ↦ λ e h. halved_passed e (omega (arith, on, is ∙ ap {B = ℕ} (λ k. half * k) h))
-        | false ↦ λ e h. halved_failed e (omega (arith, on, is ∙ ap {B = ℕ} (λ k. half * k) h))
-      ] refl tells
 
 module _ {X : Type 0} (cmp : X → X → Ordering) where
   abbrev lt : X → X → Bool

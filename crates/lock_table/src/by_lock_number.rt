@@ -1,16 +1,18 @@
-ghost use Rattle.std.specs.Prelude.{◌≡◌, ◌+◌, ◌<◌, ◌≤◌, ℕ, IfOk, IsSome, [], length, filter, insert, remove, set, slice_index_or, nat_lt, not, true, false};
+ghost use Rattle.std.specs.Prelude.{◌≡◌, ◌+◌, ◌<◌, ◌≤◌, ℕ, IfOk, IsSome, IsTrue, [], length, filter, insert, remove, set, slice_index_or, cond, nat_lt, not, true, false};
 ghost use Rattle.std.specs.List.{slice_get};
 ghost use Rattle.std.specs.List.Sorted.{IsSorted, IsPartitionPoint};
+ghost use Rattle.lock_table.specs.declared.record.LockRecord.{LockRecord};
 ghost use Rattle.lock_table.specs.Locks.{is_through};
 ghost use Rattle.lock_table.specs.Indexed.{number_cmp};
 ghost use Rattle.lock_table.specs.Locks.{is_lock, lock_in, without, put, IsDistinct};
 
 use crate::by_printed_order::take_place;
-use crate::halving::{lower, passed};
+use crate::halving::{lower, passed_of_three};
 use crate::locks::LOCKS;
 use crate::record::LockRecord;
 use lock_command::{HostNumber, LockNumber};
 use std::alloc::{AllocError, Global};
+use std::cell::Cell;
 use std::marker::Model;
 
 /// Records in the order of their lock numbers. Each keeps its place in memory while others come and go; only the order is
@@ -106,6 +108,15 @@ impl ByLockNumber {
     }
 }
 
+/// Returns 1 if a record has a lower lock number, else 0.
+fn number_below(numbers: &ByLockNumber, at: usize, lock: LockNumber) -> usize
+    requires { at < length numbers.now }
+    ensures below { (d : LockRecord) → result ≡ cond (nat_lt (slice_index_or numbers.now at d).lock lock) 1 0 }
+    ensures few { result ≤ 1 }
+{
+    lower(numbers.get(at).lock.get(), lock.get())
+}
+
 /// How many records have a lower lock number.
 fn lower_numbers(numbers: &ByLockNumber, lock: LockNumber) -> usize
     requires { IsSorted number_cmp numbers.now }
@@ -114,56 +125,96 @@ fn lower_numbers(numbers: &ByLockNumber, lock: LockNumber) -> usize
 {
     let mut from = 0;
     let mut size = numbers.len();
-    while size > 0 {
-        let half = size - size / 2;
-        let other = numbers.get(from + half - 1).lock;
-        from += passed(half, lower(other.get(), lock.get()));
-        size /= 2;
+    while size > 4 {
+        let quarter = (size + 1) / 4;
+        let first = number_below(numbers, from + quarter - 1, lock);
+        let second = number_below(numbers, from + 2 * quarter - 1, lock);
+        let third = number_below(numbers, from + 3 * quarter - 1, lock);
+        from += passed_of_three(quarter, first + second + third);
+        size -= 3 * quarter;
     }
-    from
+    let mut place = from;
+    for at in from..from + size {
+        place += number_below(numbers, at, lock);
+    }
+    place
 }
 
-/// The record of a lock number.
-pub fn numbered(numbers: &ByLockNumber, lock: LockNumber) -> Option<LockRecord>
+/// Whether a place is where the records of lower lock numbers end.
+fn ends_lower(numbers: &ByLockNumber, place: usize, lock: LockNumber) -> bool
+    requires { IsSorted number_cmp numbers.now }
+    ensures bound { IsTrue result → place ≤ length numbers.now }
+    ensures point { IsTrue result → IsPartitionPoint (λ r. nat_lt r.lock lock ≡ true) (λ r. nat_lt r.lock lock ≡ false) numbers.now place }
+{
+    let all = numbers.len();
+    if place > all {
+        return false;
+    }
+    if place > 0 && number_below(numbers, place - 1, lock) == 0 {
+        return false;
+    }
+    if place < all && number_below(numbers, place, lock) == 1 {
+        return false;
+    }
+    true
+}
+
+/// How many records have a lower lock number: as many as stand in front of `near` where it is the right place, else a search finds it.
+fn lower_numbers_near(numbers: &ByLockNumber, lock: LockNumber, near: usize) -> usize
+    requires { IsSorted number_cmp numbers.now }
+    ensures bound { result ≤ length numbers.now }
+    ensures point { IsPartitionPoint (λ r. nat_lt r.lock lock ≡ true) (λ r. nat_lt r.lock lock ≡ false) numbers.now result }
+{
+    if ends_lower(numbers, near, lock) {
+        near
+    } else {
+        lower_numbers(numbers, lock)
+    }
+}
+
+/// The record of a lock number. Where it stands, or would stand, is kept in `near`.
+pub fn numbered(numbers: &ByLockNumber, lock: LockNumber, near: &Cell<usize>) -> Option<LockRecord>
     requires { IsSorted number_cmp numbers.now }
     ensures { result ≡ lock_in numbers.now lock }
 {
-    let found = numbers.record_at(lower_numbers(numbers, lock))?;
+    let place = lower_numbers(numbers, lock);
+    near.set(place);
+    let found = numbers.record_at(place)?;
     (found.lock == lock).then_some(found)
 }
 
 /// Puts in the record of a lock that has none.
-pub fn put_new(numbers: &mut ByLockNumber, new: LockRecord)
+pub fn put_new(numbers: &mut ByLockNumber, new: LockRecord, near: usize)
     requires rising { IsSorted number_cmp numbers.old }
     requires absent { lock_in numbers.old new.lock ≡ None }
     requires room { length numbers.old < LOCKS }
     ensures rising { IsSorted number_cmp numbers.new }
     ensures alike { (lock : ℕ) → filter (is_lock lock) numbers.new ≡ filter (is_lock lock) (put numbers.old new) }
 {
-    let place = lower_numbers(numbers, new.lock);
+    let place = lower_numbers_near(numbers, new.lock, near);
     numbers.insert(place, new);
 }
 
 /// Replaces the record of the lock that has this number.
-pub fn replace(numbers: &mut ByLockNumber, new: LockRecord)
+pub fn replace(numbers: &mut ByLockNumber, new: LockRecord, near: usize)
     requires rising { IsSorted number_cmp numbers.old }
     requires distinct { IsDistinct numbers.old }
     requires there { IsSome (lock_in numbers.old new.lock) }
     ensures rising { IsSorted number_cmp numbers.new }
     ensures alike { (lock : ℕ) → filter (is_lock lock) numbers.new ≡ filter (is_lock lock) (put numbers.old new) }
 {
-    let place = lower_numbers(numbers, new.lock);
+    let place = lower_numbers_near(numbers, new.lock, near);
     numbers.set(place, new);
 }
 
 /// Takes away the record of a lock.
-pub fn take_away(numbers: &mut ByLockNumber, lock: LockNumber)
+pub fn take_away(numbers: &mut ByLockNumber, lock: LockNumber, near: usize)
     requires rising { IsSorted number_cmp numbers.old }
     requires distinct { IsDistinct numbers.old }
     requires there { IsSome (lock_in numbers.old lock) }
     ensures items { numbers.new ≡ without numbers.old lock }
 {
-    let place = lower_numbers(numbers, lock);
+    let place = lower_numbers_near(numbers, lock, near);
     numbers.remove(place);
 }
 

@@ -15,6 +15,7 @@ use crate::{by_lock_number, printed};
 use lock_command::{HostNumber, LockName, LockNumber, LockState};
 use lock_modes::Mode;
 use std::alloc::{AllocError, Global};
+use std::cell::Cell;
 use std::marker::Model;
 
 /// The locks twice: in printed order, where the locks of a name are side by side and its queues are in their order, and by
@@ -63,14 +64,26 @@ impl Index {
         self.printed.len() >= LOCKS
     }
 
-    /// The record of a lock number.
-    pub fn lock_in(&self, lock: LockNumber) -> Option<LockRecord>
+    /// The record of a lock number. Where it stands by number, or would stand, is kept in `near`.
+    pub fn lock_in(&self, lock: LockNumber, near: &Cell<usize>) -> Option<LockRecord>
         ensures found { result ≡ lock_in self.now lock }
         ensures there { IfSome result (λ r. lock_in self.now r.lock ≡ Some r) }
         ensures printed { in_order printed_cmp self.now ≡ self.now }
         ensures distinct { IsDistinct self.now }
     {
-        by_lock_number::numbered(&self.numbers, lock)
+        by_lock_number::numbered(&self.numbers, lock, near)
+    }
+
+    /// The record that was found of a lock number. This is called for its contract.
+    pub fn as_found(&self, found: Option<LockRecord>, lock: LockNumber) -> Option<LockRecord>
+        requires { found ≡ lock_in self.now lock }
+        ensures found { result ≡ lock_in self.now lock }
+        ensures there { IfSome result (λ r. lock_in self.now r.lock ≡ Some r) }
+        ensures printed { in_order printed_cmp self.now ≡ self.now }
+        ensures distinct { IsDistinct self.now }
+    {
+        let _ = self.printed();
+        found
     }
 
     /// The lock whose turn it is on a name.
@@ -105,7 +118,7 @@ impl Index {
         requires room { length self.old < LOCKS }
         ensures { self.new ≡ in_order printed_cmp (put self.old new) }
     {
-        by_lock_number::put_new(&mut self.numbers, new);
+        by_lock_number::put_new(&mut self.numbers, new, name.near_by_number());
         printed::put_in(&mut self.printed, &new, name);
     }
 
@@ -116,7 +129,7 @@ impl Index {
         ensures { self.new ≡ in_order printed_cmp (put self.old (in_state own state)) }
     {
         let new = own.with_state(state);
-        by_lock_number::replace(&mut self.numbers, new);
+        by_lock_number::replace(&mut self.numbers, new, name.near_by_number());
         printed::take_out(&mut self.printed, &own, name);
         printed::put_in(&mut self.printed, &new, name);
     }
@@ -127,7 +140,7 @@ impl Index {
         requires there { lock_in self.old own.lock ≡ Some own }
         ensures { self.new ≡ without self.old own.lock }
     {
-        by_lock_number::take_away(&mut self.numbers, own.lock);
+        by_lock_number::take_away(&mut self.numbers, own.lock, name.near_by_number());
         printed::take_out(&mut self.printed, &own, name);
     }
 

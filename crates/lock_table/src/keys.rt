@@ -3,6 +3,7 @@ ghost use Rattle.lock_command.specs.Name.{IsName};
 ghost use Rattle.lock_table.specs.Keys.{spelled, key_of};
 
 use lock_command::LockName;
+use std::cell::Cell;
 use std::marker::Model;
 
 /// A name, and its bytes as one number, which sort keys begin with. A command computes it once.
@@ -10,6 +11,10 @@ use std::marker::Model;
 pub struct SpelledName {
     name: LockName,
     number: u128,
+    /// Where the last search for the name ended. No contract speaks of it: a search only begins there.
+    near: Cell<usize>,
+    /// Where a search by lock number ended. No contract speaks of it either.
+    near_by_number: usize,
 }
 
 impl Model for SpelledName {
@@ -28,9 +33,18 @@ impl SpelledName {
     pub fn new(name: LockName) -> Self
         ensures { result ≡ name }
     {
+        SpelledName::beside(name, usize::MAX)
+    }
+
+    /// The name of a lock for whose number a search ended at this place.
+    pub fn beside(name: LockName, near_by_number: usize) -> Self
+        ensures { result ≡ name }
+    {
         SpelledName {
             name,
             number: spelled(name.as_bytes()),
+            near: Cell::new(usize::MAX),
+            near_by_number,
         }
     }
 
@@ -38,6 +52,21 @@ impl SpelledName {
         ensures { result ≡ self.now }
     {
         self.name
+    }
+
+    /// A place near to the locks of the name, or behind all locks while nothing was searched for.
+    pub fn near(&self) -> usize {
+        self.near.get()
+    }
+
+    /// A place near to the lock that a command is about, among the records by number, or behind all of them.
+    pub fn near_by_number(&self) -> usize {
+        self.near_by_number
+    }
+
+    /// Keeps where a search ended.
+    pub fn keep_near(&self, place: usize) {
+        self.near.set(place);
     }
 
     /// A sort key: it orders by the bytes of the name first, then by the rank, then by the number.

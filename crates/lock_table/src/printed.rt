@@ -3,35 +3,125 @@ ghost use Rattle.std.specs.List.{AllWithin, list_any};
 ghost use Rattle.std.specs.List.Sorted.{IsSorted, IsPartitionPoint};
 ghost use Rattle.lock_table.specs.Locks.{is_through};
 ghost use Rattle.lock_table.specs.Indexed.{stands_before_rank};
+ghost use Rattle.lock_table.specs.Halved.{IsHalved};
 ghost use Rattle.lock_table.specs.Keys.{lock_key, HasKey};
 ghost use Rattle.lock_table.specs.Locks.{is_on, lock_in, without, head_of, admits, IsDistinct};
 ghost use Rattle.lock_table.specs.Picture.{printed_cmp};
 ghost use Rattle.lock_table.specs.Placed.{placed};
 
 use crate::by_printed_order::ByPrintedOrder;
-use crate::halving::passed;
+use crate::halving::passed_of_three;
 use crate::keys::SpelledName;
 use crate::locks::LOCKS;
 use crate::record::LockRecord;
 use lock_command::{HostNumber, LockName, LockNumber};
 use lock_modes::Mode;
 
-/// How many locks have a lower key.
-fn locks_below(printed: &ByPrintedOrder, key: u128) -> usize
+/// The stretch in which the locks of lower keys end, where all in front of `from` have such keys. Each step is twice the last, so
+/// that a near end takes few tests, and a far one at most twice as many as all locks would.
+fn stretch_behind(
+    printed: &ByPrintedOrder,
+    all: usize,
+    mut from: usize,
+    key: u128,
+) -> (usize, usize)
+    requires sorted { IsSorted printed_cmp printed.now }
+    requires small { key ≤ 2 ^ 126 }
+    requires all { all ≡ length printed.now }
+    requires few { length printed.now ≤ LOCKS }
+    requires fit { AllWithin HasKey printed.now 0 (length printed.now) }
+    requires bound { from ≤ length printed.now }
+    requires front { AllWithin (λ r. nat_lt (lock_key r) key ≡ true) printed.now 0 from }
+    ensures { IsHalved (λ r. nat_lt (lock_key r) key) printed.now result.0 result.1 }
+{
+    let mut step = 1;
+    while step <= all - from {
+        if printed.below(from + step - 1, key) == 0 {
+            return (from, step - 1);
+        }
+        from += step;
+        step *= 2;
+    }
+    (from, all - from)
+}
+
+/// The stretch in which the locks of lower keys end, where none of them stands from `to` on.
+fn stretch_before(printed: &ByPrintedOrder, mut to: usize, key: u128) -> (usize, usize)
+    requires sorted { IsSorted printed_cmp printed.now }
+    requires small { key ≤ 2 ^ 126 }
+    requires few { length printed.now ≤ LOCKS }
+    requires fit { AllWithin HasKey printed.now 0 (length printed.now) }
+    requires bound { to ≤ length printed.now }
+    requires behind { AllWithin (λ r. nat_lt (lock_key r) key ≡ false) printed.now to (length printed.now) }
+    ensures { IsHalved (λ r. nat_lt (lock_key r) key) printed.now result.0 result.1 }
+{
+    let mut step = 1;
+    while step <= to {
+        if printed.below(to - step, key) == 1 {
+            return (to - step + 1, step - 1);
+        }
+        to -= step;
+        step *= 2;
+    }
+    (0, to)
+}
+
+/// The stretch in which the locks of lower keys end: a short one if that is near to a place.
+fn stretch_near(printed: &ByPrintedOrder, all: usize, near: usize, key: u128) -> (usize, usize)
+    requires sorted { IsSorted printed_cmp printed.now }
+    requires small { key ≤ 2 ^ 126 }
+    requires all { all ≡ length printed.now }
+    requires few { length printed.now ≤ LOCKS }
+    requires fit { AllWithin HasKey printed.now 0 (length printed.now) }
+    ensures { IsHalved (λ r. nat_lt (lock_key r) key) printed.now result.0 result.1 }
+{
+    if near > all {
+        return (0, all);
+    }
+    if near < all && printed.below(near, key) == 1 {
+        return stretch_behind(printed, all, near + 1, key);
+    }
+    stretch_before(printed, near, key)
+}
+
+/// Where the locks of lower keys end within a stretch.
+fn end_within(printed: &ByPrintedOrder, mut from: usize, mut size: usize, key: u128) -> usize
+    requires sorted { IsSorted printed_cmp printed.now }
+    requires small { key ≤ 2 ^ 126 }
+    requires few { length printed.now ≤ LOCKS }
+    requires fit { AllWithin HasKey printed.now 0 (length printed.now) }
+    requires halved { IsHalved (λ r. nat_lt (lock_key r) key) printed.now from size }
+    ensures bound { result ≤ length printed.now }
+    ensures point { IsPartitionPoint (λ r. nat_lt (lock_key r) key ≡ true) (λ r. nat_lt (lock_key r) key ≡ false) printed.now result }
+{
+    while size > 4 {
+        let quarter = (size + 1) / 4;
+        let first = printed.below(from + quarter - 1, key);
+        let second = printed.below(from + 2 * quarter - 1, key);
+        let third = printed.below(from + 3 * quarter - 1, key);
+        from += passed_of_three(quarter, first + second + third);
+        size -= 3 * quarter;
+    }
+    let mut place = from;
+    for at in from..from + size {
+        place += printed.below(at, key);
+    }
+    place
+}
+
+/// How many locks have a lower key. The search begins where the last one for the name ended.
+fn locks_below(printed: &ByPrintedOrder, name: &SpelledName, key: u128) -> usize
     requires sorted { IsSorted printed_cmp printed.now }
     requires small { key ≤ 2 ^ 126 }
     ensures bound { result ≤ length printed.now }
     ensures point { IsPartitionPoint (λ r. nat_lt (lock_key r) key ≡ true) (λ r. nat_lt (lock_key r) key ≡ false) printed.now result }
     ensures fit { AllWithin HasKey printed.now 0 (length printed.now) }
 {
-    let mut from = 0;
-    let mut size = printed.len();
-    while size > 0 {
-        let half = size - size / 2;
-        from += passed(half, printed.below(from + half - 1, key));
-        size /= 2;
-    }
-    from
+    let all = printed.len();
+    let (from, size) = stretch_near(printed, all, name.near(), key);
+    let place = end_within(printed, from, size, key);
+    name.keep_near(place);
+    place
 }
 
 /// The index at which a new record is inserted: after all records whose key is not above its own.
@@ -41,7 +131,7 @@ fn joining_place(printed: &ByPrintedOrder, new: &LockRecord, name: &SpelledName)
     ensures bound { result ≤ length printed.now }
     ensures place { insert printed.now result new.now ≡ placed printed_cmp new.now printed.now }
 {
-    locks_below(printed, new.key(name) + 1)
+    locks_below(printed, name, new.key(name) + 1)
 }
 
 /// The index of a lock's record. Records in one queue have one key, so the queue is searched from its head.
@@ -53,7 +143,7 @@ fn place_of(printed: &ByPrintedOrder, own: &LockRecord, name: &SpelledName) -> u
     ensures bound { result < length printed.now }
     ensures place { remove printed.now result ≡ without printed.now own.now.lock }
 {
-    let mut at = locks_below(printed, own.key(name));
+    let mut at = locks_below(printed, name, own.key(name));
     while printed.get(at).lock != own.lock {
         at += 1;
     }
@@ -67,7 +157,7 @@ fn locks_before_rank(printed: &ByPrintedOrder, name: &SpelledName, rank: u8) -> 
     ensures bound { result ≤ length printed.now }
     ensures point { IsPartitionPoint (λ r. stands_before_rank name.now rank r ≡ true) (λ r. stands_before_rank name.now rank r ≡ false) printed.now result }
 {
-    locks_below(printed, name.key(rank, 0))
+    locks_below(printed, name, name.key(rank, 0))
 }
 
 /// The lock whose turn it is on a name: the first that converts, else the first that waits.

@@ -1,5 +1,6 @@
 use Rattle.std.proofs.Common.{nat_lt}
-use Rattle.lock_table.proofs.Cuts.{IsHalved}
+use Rattle.lock_table.specs.Halved.{IsHalved}
+use Rattle.lock_table.proofs.Quarters.{IsCounted}
 use Rattle.lock_table.proofs.by_lock_number.lower_numbers.Given as goal
 
 abbrev pub invariant-loop-size : goal.invariant-loop-size
@@ -7,3 +8,6 @@ invariant-loop-size l = IsHalved (λ r. nat_lt r.lock l.lock) l.numbers l.from l
 
 abbrev pub decreases-loop-size : goal.decreases-loop-size
 decreases-loop-size l = l.size
+
+abbrev pub invariant-loop-at : goal.invariant-loop-at
+invariant-loop-at l = IsCounted (λ r. nat_lt r.lock l.lock) l.numbers l.place l.at

@@ -10,17 +10,17 @@ use Rattle.lock_table.proofs.by_lock_number.numbered.Goals as goal
 pub returns-in_err-found : goal.returns-in_err-found
 returns-in_err-found c =
     let xs = c.args.numbers.now in
-    let i = c.lower_numbers.result in
+    let i = c.lower_numbers-place.result in
     let stands : None ≡ first (drop i xs) = sym c.in_err-found.was ∙ c.record_at.ensures ∙ slice_get_is_first xs i in
-    c.from_residual.ensures ∙ ap (first_if (is_lock c.args.lock)) stands ∙ sym (find_at_cut lock_of c.args.lock xs i c.requires c.lower_numbers.ensures.point)
+    c.from_residual.ensures ∙ ap (first_if (is_lock c.args.lock)) stands ∙ sym (find_at_cut lock_of c.args.lock xs i c.requires c.lower_numbers-place.ensures.point)
 
 pub returns : goal.returns
 returns c =
     let xs = c.args.numbers.now in
-    let i = c.lower_numbers.result in
+    let i = c.lower_numbers-place.result in
     let stands : Some c.in_ok-found.found ≡ first (drop i xs) = sym c.in_ok-found.was ∙ c.record_at.ensures ∙ slice_get_is_first xs i in
     c.then_some.ensures
     ∙ ap (λ b. then_some b c.in_ok-found.found) c.eq.ensures
     ∙ then_some_if (is_lock c.args.lock) c.in_ok-found.found
     ∙ ap (first_if (is_lock c.args.lock)) stands
-    ∙ sym (find_at_cut lock_of c.args.lock xs i c.requires c.lower_numbers.ensures.point)
+    ∙ sym (find_at_cut lock_of c.args.lock xs i c.requires c.lower_numbers-place.ensures.point)

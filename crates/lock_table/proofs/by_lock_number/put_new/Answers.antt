@@ -11,8 +11,8 @@ use Rattle.lock_table.proofs.by_lock_number.put_new.Goals as goal
 pub returns-clause-rising : goal.returns-clause-rising
 returns-clause-rising c =
     subst (λ (l : List LockRecord). IsSorted number_cmp l) (sym c.insert.ensures)
-    (rising_insert lock_of c.args.new c.args.numbers.now c.lower_numbers-place.result c.requires.rising c.lower_numbers-place.ensures.point)
+    (rising_insert lock_of c.args.new c.args.numbers.now c.lower_numbers_near-place.result c.requires.rising c.lower_numbers_near-place.ensures.point)
 
 pub returns-clause-alike : goal.returns-clause-alike
 returns-clause-alike c = λ lock.
-    ap (filter (is_lock lock)) c.insert.ensures ∙ insert_at_cut lock_of c.args.new c.args.numbers.now c.lower_numbers-place.result c.requires.absent lock
+    ap (filter (is_lock lock)) c.insert.ensures ∙ insert_at_cut lock_of c.args.new c.args.numbers.now c.lower_numbers_near-place.result c.requires.absent lock

@@ -16,14 +16,14 @@ next new xs i rising distinct point there =
     set_at_cut lock_of new xs i found.0 rising point found.1 (distinct new.lock)
 
 pub set-requires : goal.set-requires
-set-requires c = (next c.args.new c.args.numbers.now c.lower_numbers-place.result c.requires.rising c.requires.distinct c.lower_numbers-place.ensures.point c.requires.there).0
+set-requires c = (next c.args.new c.args.numbers.now c.lower_numbers_near-place.result c.requires.rising c.requires.distinct c.lower_numbers_near-place.ensures.point c.requires.there).0
 
 pub returns-clause-rising : goal.returns-clause-rising
 returns-clause-rising c =
     subst (λ (l : List LockRecord). IsSorted number_cmp l) (sym c.set.ensures)
-    (next c.args.new c.args.numbers.now c.lower_numbers-place.result c.requires.rising c.requires.distinct c.lower_numbers-place.ensures.point c.requires.there).1
+    (next c.args.new c.args.numbers.now c.lower_numbers_near-place.result c.requires.rising c.requires.distinct c.lower_numbers_near-place.ensures.point c.requires.there).1
 
 pub returns-clause-alike : goal.returns-clause-alike
 returns-clause-alike c = λ lock.
     ap (filter (is_lock lock)) c.set.ensures
-    ∙ (next c.args.new c.args.numbers.now c.lower_numbers-place.result c.requires.rising c.requires.distinct c.lower_numbers-place.ensures.point c.requires.there).2 lock
+    ∙ (next c.args.new c.args.numbers.now c.lower_numbers_near-place.result c.requires.rising c.requires.distinct c.lower_numbers_near-place.ensures.point c.requires.there).2 lock

@@ -14,10 +14,10 @@ next n xs i rising distinct point there =
     remove_at_cut lock_of n xs i found.0 rising point found.1 (distinct n)
 
 pub remove-requires : goal.remove-requires
-remove-requires c = (next c.args.lock c.args.numbers.now c.lower_numbers-place.result c.requires.rising c.requires.distinct c.lower_numbers-place.ensures.point c.requires.there).0
+remove-requires c = (next c.args.lock c.args.numbers.now c.lower_numbers_near-place.result c.requires.rising c.requires.distinct c.lower_numbers_near-place.ensures.point c.requires.there).0
 
 pub returns : goal.returns
 returns c = record {
   items = c.remove.ensures
-      ∙ (next c.args.lock c.args.numbers.now c.lower_numbers-place.result c.requires.rising c.requires.distinct c.lower_numbers-place.ensures.point c.requires.there).1;
+      ∙ (next c.args.lock c.args.numbers.now c.lower_numbers_near-place.result c.requires.rising c.requires.distinct c.lower_numbers_near-place.ensures.point c.requires.there).1;
 }

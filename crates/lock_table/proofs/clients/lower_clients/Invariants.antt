@@ -1,5 +1,6 @@
 use Rattle.std.proofs.Common.{nat_lt}
-use Rattle.lock_table.proofs.Cuts.{IsHalved}
+use Rattle.lock_table.specs.Halved.{IsHalved}
+use Rattle.lock_table.proofs.Quarters.{IsCounted}
 use Rattle.lock_table.proofs.clients.lower_clients.Given as goal
 
 abbrev pub invariant-loop-size : goal.invariant-loop-size
@@ -7,3 +8,6 @@ invariant-loop-size l = IsHalved (λ k. nat_lt k.client l.client) l.known l.from
 
 abbrev pub decreases-loop-size : goal.decreases-loop-size
 decreases-loop-size l = l.size
+
+abbrev pub invariant-loop-at : goal.invariant-loop-at
+invariant-loop-at l = IsCounted (λ k. nat_lt k.client l.client) l.known l.place l.at

@@ -7,11 +7,11 @@ use Rattle.lock_table.specs.Placed.{in_order}
 use Rattle.lock_table.specs.declared.record.LockRecord.{LockRecord}
 use Rattle.lock_table.specs.Locks.{IsDistinct}
 use Rattle.lock_table.specs.Stored.{Valued, value_in, is_locked, put_if, IsValued, entry_by, asked_lock, asked_value_by, may_lose}
-use Rattle.lock_table.specs.Values.{of_locked, changed, values_after, asked_value, returned}
+use Rattle.lock_table.specs.Values.{of_locked, changed, values_after, asked_value, returned, zeros}
 use Rattle.lock_table.proofs.Behave.{same-of_locked, distinct-done, told_asked}
 use Rattle.lock_table.proofs.Keeping.{still_locked}
 use Rattle.lock_table.proofs.Pictures.{same_in_order}
-use Rattle.lock_table.proofs.Stored.{room_for, valued_none, nothing_after, entry_has, valued_stored, valued_again, locked_values, stores_changed, asked_same, of_locked_zeros}
+use Rattle.lock_table.proofs.Stored.{room_for, valued_none, nothing_after, entry_has, valued_stored, valued_again, locked_values, stores_changed, asked_same, of_locked_zeros, asked_zeros}
 use Rattle.lock_table.proofs.valued.ValuedLocks.serve.Goals as goal
 
 -- WHERE NOTHING IS STORED, AND NOTHING IS GIVEN
@@ -31,6 +31,17 @@ returns-then-leaves_zeros-clause-values c =
     ap value_in empty
     ∙ nothing_after old.locks outcome.locks action outcome.answer (c.leaves_zeros.ensures.nothing c.if-leaves_zeros.true)
     ∙ ap (λ e. values_after (value_in e) old.locks outcome.locks action outcome.answer) (sym before)
+
+pub returns-then-leaves_zeros-clause-reply : goal.returns-then-leaves_zeros-clause-reply
+returns-then-leaves_zeros-clause-reply c =
+    let old = c.args.self.now in
+    let action = c.args.action.now in
+    let empty : c.self.inside.values ≡ [] = ap (λ (v : Valued). v.entries) c.self.view_is ∙ c.leaves_zeros.ensures.empty c.if-leaves_zeros.true in
+    let answered : c.act-answer.result ≡ (done old.locks c.args.host c.args.client action).answer =
+    c.act-answer.ensures.answer ∙ ap (λ (t : Valued). (done t.locks c.args.host c.args.client action).answer) c.self.view_is in
+    let asked : zeros ≡ asked_value (value_in c.self.inside.values) old.locks action = asked_zeros old.locks action ∙ ap (λ e. asked_value (value_in e) old.locks action) (sym empty) in
+    ap (λ w. record { answer = c.act-answer.result; value = w }) c.returned.ensures ∙ (λ i. record { answer = answered i; value = returned (answered i) (asked i) })
+    ∙ sym (told_asked action _ c.requires.asked)
 
 -- ELSE
 
@@ -110,7 +121,9 @@ returns-clause-reply c =
     let v = value_in c.keep_locked.new.values in
     let answered : c.act-answer-2.result ≡ (done old.locks c.args.host c.args.client action).answer =
     c.act-answer-2.ensures.answer ∙ ap (λ (t : Valued). (done t.locks c.args.host c.args.client action).answer) c.self.view_is in
-    let asked : c.asked_value-value.result ≡ asked_value v old.locks action =
-    c.asked_value-value.ensures.value ∙ ap (λ f. asked_value_by v f action) c.asked_lock-found.ensures.found ∙ asked_same v old.locks action in
-    ap (λ w. record { answer = c.act-answer-2.result; value = w }) c.returned-2.ensures ∙ (λ i. record { answer = answered i; value = returned (answered i) (asked i) })
+    let told : c.told_value-value.result ≡ returned c.act-answer-2.result (asked_value v old.locks action) =
+    c.told_value-value.ensures ∙ ap (λ f. returned c.act-answer-2.result (asked_value_by v f action)) c.asked_lock-found.ensures.found
+    ∙ ap (returned c.act-answer-2.result) (asked_same v old.locks action) in
+    ap (λ w. record { answer = c.act-answer-2.result; value = w }) told
+    ∙ (λ i. record { answer = answered i; value = returned (answered i) (asked_value v old.locks action) })
     ∙ sym (told_asked action _ c.requires.asked)
