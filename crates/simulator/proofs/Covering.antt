@@ -20,10 +20,11 @@ use Rattle.world_safety.specs.Tracks.{Counts}
 use Rattle.simulator.specs.declared.answer.Answer.{Answer}
 use Rattle.simulator.specs.declared.simulated_cluster.Said.{Said}
 use Rattle.simulator.specs.Answers.{line_of, IsPicturedIn}
+use Rattle.simulator.specs.Events.{lines_of}
 use Rattle.simulator.specs.Judging.{AllGoBy}
 use Rattle.simulator.specs.OneLog.{IsOneLog}
 use Rattle.simulator.specs.Past.{Past, world_of, answers_of}
-use Rattle.simulator.specs.Replayed.{Says, HasLearned, HasKept, IsListed, Lists}
+use Rattle.simulator.specs.Replayed.{Says, SaysLast, HasLearned, HasKept, IsListed, Lists}
 use Rattle.simulator.specs.Sweeping.{recovery, stops}
 use Rattle.simulator.proofs.Judged.{IsWithin, all_go}
 use Rattle.simulator.proofs.Opened.{run_is_run}
@@ -156,28 +157,41 @@ kept_still start old new events (Some items) on kept = record { later = later_st
 pub nothing_kept : (p : Past) → HasKept p p None
 nothing_kept p = record { later = omega arith; has = tt }
 
--- what a host that answers has learned then
-pub kept_now : (start old new : Past) → CanBegin new.opening → (event : Event) (said : Said) (n : ℕ) (items : List Command) (before : Option (List Command)) → Follows old new (event ∷ []) → Says old new (Some said)
-    → said.answer ≡ Recovered n → items ≡ learned_of ((world_of new).host said.host) → HasKept start old before → HasKept start new (Some items)
-kept_now start old new can event said n items before on says is are kept =
-    let x : Line = record { place = length old.events; host = said.host; said = said.answer } in
-    let in_x : Contains (answers_of new) x = subst (λ (l : List Line). Contains l x) (sym says.answered) (Contains-push (answers_of old) x) in
-    let long : length new.events ≡ length old.events + 1 = ap (λ (q : Past). length q.events) on ∙ length-append old.events (event ∷ []) in
-    let all : take (length old.events + 1) new.events ≡ new.events = ap (λ (k : ℕ). take k new.events) (sym long) ∙ take-length new.events in
-    let then_all : items ≡ prefix_before new.opening new.events (length old.events + 1) said.host =
+-- what a host has learned that answers with the event of this number, the last
+kept_at : (start old new : Past) → CanBegin new.opening → (place : ℕ) (said : Said) (n : ℕ) (items : List Command) → place + 1 ≡ length new.events → length start.events ≤ place
+    → answers_of new ≡ answers_of old ++ lines_of place (Some said) → said.answer ≡ Recovered n → items ≡ learned_of ((world_of new).host said.host) → HasKept start new (Some items)
+kept_at start old new can place said n items last late answered is are =
+    let x : Line = record { place = place; host = said.host; said = said.answer } in
+    let in_x : Contains (answers_of new) x = subst (λ (l : List Line). Contains l x) (sym answered) (Contains-push (answers_of old) x) in
+    let all : take (place + 1) new.events ≡ new.events = ap (λ (k : ℕ). take k new.events) last ∙ take-length new.events in
+    let then_all : items ≡ prefix_before new.opening new.events (place + 1) said.host =
     are ∙ ap (λ (l : List Event). learned_of ((world_after new.opening l).host said.host)) (sym all) in
-    let many : n ≡ length (prefix_before new.opening new.events (length old.events + 1) said.host) =
-    subst (λ (s : HostAnswer). Counts (Some s) (length (prefix_before new.opening new.events (length old.events + 1) said.host))) is (counted new.opening new.events (run_is_run new.opening new.events can) x in_x) in
+    let many : n ≡ length (prefix_before new.opening new.events (place + 1) said.host) =
+    subst (λ (s : HostAnswer). Counts (Some s) (length (prefix_before new.opening new.events (place + 1) said.host))) is (counted new.opening new.events (run_is_run new.opening new.events can) x in_x) in
     record {
-      later = omega (arith, long, kept.later);
+      later = omega (arith, last, late);
       has = record {
         line = x;
         among = in_x;
-        since = kept.later;
+        since = late;
         says = is ∙ ap Recovered (many ∙ sym (ap length then_all));
         are = then_all;
       };
     }
+
+-- what a host that answers has learned then
+pub kept_now : (start old new : Past) → CanBegin new.opening → (event : Event) (said : Said) (n : ℕ) (items : List Command) (before : Option (List Command)) → Follows old new (event ∷ []) → Says old new (Some said)
+    → said.answer ≡ Recovered n → items ≡ learned_of ((world_of new).host said.host) → HasKept start old before → HasKept start new (Some items)
+kept_now start old new can event said n items before on says is are kept =
+    let long : length new.events ≡ length old.events + 1 = ap (λ (q : Past). length q.events) on ∙ length-append old.events (event ∷ []) in
+    kept_at start old new can (length old.events) said n items (sym long) kept.later says.answered is are
+
+-- and one that answers with the last of several events
+pub kept_last : (start old new : Past) → CanBegin new.opening → (events : List Event) (said : Said) (n : ℕ) (items : List Command) (before : Option (List Command)) → 1 ≤ length events
+    → Follows old new events → SaysLast old new (Some said) → said.answer ≡ Recovered n → items ≡ learned_of ((world_of new).host said.host) → HasKept start old before → HasKept start new (Some items)
+kept_last start old new can events said n items before some on says is are kept =
+    let long : length new.events ≡ length old.events + length events = ap (λ (q : Past). length q.events) on ∙ length-append old.events events in
+    kept_at start old new can (length new.events - 1) said n items (omega (arith, long, some)) (omega (arith, long, some, kept.later)) says.answered is are
 
 -- ALL GOES BY IT
 

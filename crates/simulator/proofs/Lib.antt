@@ -17,6 +17,7 @@ pub mod Owed
 pub mod Recovering
 pub mod Replaying
 pub mod Safety
+pub mod Several
 pub mod Shown
 pub mod Submitting
 pub mod Telling

@@ -40,7 +40,7 @@ behind c log place (Some f) j x is = by_host_of c log place f (host_of f) j x re
 
 -- WHO SAYS SOMETHING RUNS
 
-runs_by : (c : Shape) (h : ℕ) (x : Host) (o : Option hosts.Kept) (said : HostAnswer) → said_of x ≡ Some said → IsHost c h x o → IsSome o
+pub runs_by : (c : Shape) (h : ℕ) (x : Host) (o : Option hosts.Kept) (said : HostAnswer) → said_of x ≡ Some said → IsHost c h x o → IsSome o
 runs_by c h Stopped o said says is = absurd (cc)
 runs_by c h (Running m) None said says is = absurd is
 runs_by c h (Running m) (Some k) said says is = refl

@@ -1,9 +1,9 @@
 -- What the code of a simulated cluster owes, in its own terms.
-use Rattle.std.specs.Prelude.{replicate, is_some}
+use Rattle.std.specs.Prelude.{replicate, not, is_some, is_none, IsSome}
 use Rattle.std.specs.Option.{option_map}
 use Rattle.std.proofs.Common.{arith, ℕ, ◌<◌, ◌≡◌, Bool, true, false, Option, Some, None, List, [], length, get_or, refl, sym, ap, ◌∙◌, subst, zero, suc}
 use Rattle.std.proofs.Math.ListN.{set}
-use Rattle.std.proofs.lemmas.List.{get_or_read, set-get_or, length-replicate, get_or-replicate}
+use Rattle.std.proofs.lemmas.List.{get_or_read, get_or-set_same, set-get_or, length-replicate, get_or-replicate}
 use Rattle.disk.specs.declared.fault.DiskFault.{DiskFault}
 use Rattle.disk.specs.declared.fault.DiskFault.TheVariants.{Failed}
 use Rattle.disk.specs.Disk.{Call, Answer, Fault}
@@ -17,6 +17,7 @@ use Rattle.lock_command.specs.Command.{is_submittable, Fits as FitsCommand}
 use Rattle.phases.specs.declared.need.Need.{Need}
 use Rattle.phases.specs.declared.need.DeviceCall as code_call
 use Rattle.phases.specs.Calls.{call_of_need, device_call_of, IsWithin}
+use Rattle.host.specs.declared.answer.HostAnswer.{HostAnswer}
 use Rattle.host.specs.Host.{Stopped, Memory, Submitting, Recovering, Looking, fresh, goes_on, hears_from, next_in, starts_beat, starts_marking}
 use Rattle.host.specs.Kept as hosts
 use Rattle.world.specs.Entry.{Filled, called_by}
@@ -25,7 +26,7 @@ use Rattle.world.specs.Happens.{Event, Start, Stop, Submit, Recover, Look, Beat,
 use Rattle.simulator.specs.declared.simulated_cluster.Said.{Said}
 use Rattle.simulator.specs.declared.simulated_cluster.SimulatedCluster.TheInside.{Inside}
 use Rattle.simulator.specs.Calls.{is_write, may_crash, crashed_if, lost_if}
-use Rattle.simulator.specs.Kept.{Kept, calm, is_busy, is_free, IsHost, LeadsTo, IsReached, Brings}
+use Rattle.simulator.specs.Kept.{Kept, calm, is_busy, is_free, said_by, said_now, IsHost, LeadsTo, IsReached, Brings}
 use Rattle.simulator.proofs.Shown.{named}
 use Rattle.simulator.proofs.Events as events
 use Rattle.simulator.proofs.Events.{running_at}
@@ -213,6 +214,18 @@ module _ (old : Kept) (is : IsReached old) (h i : ℕ) (same : i ≡ h) (within 
       → (x : SimState) → x ≡ get_or old.disks j x → Due old h
   due_of next due x is_x = record { i = i; same = same; within = here; core = core; found = found; need = need; next = next; due = due; j = j; on = on; inside = inside; x = x; value = is_x }
 
+-- what a host says, in the words of the contracts
+abbrev said_as : ℕ → Option HostAnswer → Option Said
+said_as h o = option_map (λ answer. record { host = h; answer = answer }) o
+
+some_said : (h : ℕ) (o : Option HostAnswer) → not (is_none o) ≡ true → IsSome (said_as h o)
+some_said h None is = absurd (cc)
+some_said h (Some answer) is = refl
+
+none_said : (h : ℕ) (o : Option HostAnswer) → not (is_none o) ≡ false → None ≡ said_as h o
+none_said h None is = refl
+none_said h (Some answer) is = absurd (cc)
+
 module _ (old : Kept) (h : ℕ) (d : Due old h) where
   abbrev call : Call
   call = device_call_of d.need.call
@@ -250,6 +263,19 @@ module _ (old : Kept) (h : ℕ) (d : Due old h) where
   steps new there heard said left as_long alike hears_then is_said log leads =
       named Step log old (after there (Some new)) d.i h new.said said d.same is_said
       (calls.steps log old leads d.i d.core d.j call d.x d.within d.found next_at d.inside (sym d.value) there new left as_long (hears_at heard _ new alike hears_then))
+
+  -- what it says then
+  pub says_now : IsReached old → (there : SimState) (new : hosts.Kept) → said_now h (after there (Some new)) ≡ said_as h new.said
+  says_now is there new =
+      let inside : d.i < length old.hosts = omega (arith, d.within, is.leads.shows.host_count) in
+      ap (said_by h) (ap (λ (j : ℕ). get_or (set old.hosts d.i (Some new)) j None) (sym d.same) ∙ get_or-set_same old.hosts d.i (Some new) None inside)
+
+  pub speaks_now : IsReached old → (there : SimState) (new : hosts.Kept) (silent : Bool) → silent ≡ is_none new.said → not silent ≡ true → IsSome (said_now h (after there (Some new)))
+  speaks_now is there new silent test speaks =
+      subst (λ (o : Option Said). IsSome o) (sym (says_now is there new)) (some_said h new.said (ap not (sym test) ∙ speaks))
+
+  pub silent_now : (new : hosts.Kept) (silent : Bool) → silent ≡ is_none new.said → not silent ≡ false → None ≡ said_as h new.said
+  silent_now new silent test speaks = none_said h new.said (ap not (sym test) ∙ speaks)
 
   pub fails : (given : List ℕ) (new : hosts.Kept) (there : SimState) (said : Option Said) → 0 < length given
       → refusal_of d.x.disk call ≡ None

@@ -94,35 +94,55 @@ module _ (p : Past) (c : Shape) (h host n : ℕ) (start a b d : Played) (is : Is
 pub heard_nothing : (p : Past) → Heard p p false
 heard_nothing p = record { lines = []; answered = sym (append-nil (answers_of p)); among = refl }
 
-pub heard_more : (start old new : Past) (has then : Bool) (said : Option Said) → Says old new said
-    → then ≡ (has || list_any is_recovery (lines_of (length old.events) said)) → Heard start old has → Heard start new then
-heard_more start old new has then said says is before =
-    let more = lines_of (length old.events) said in
+pub heard_at : (start old new : Past) (has then : Bool) (place : ℕ) (said : Option Said) → answers_of new ≡ answers_of old ++ lines_of place said
+    → then ≡ (has || list_any is_recovery (lines_of place said)) → Heard start old has → Heard start new then
+heard_at start old new has then place said answered is before =
+    let more = lines_of place said in
     record {
       lines = before.lines ++ more;
-      answered = says.answered ∙ ap (λ (l : List Line). l ++ more) before.answered ∙ append_assoc (answers_of start) before.lines more;
+      answered = answered ∙ ap (λ (l : List Line). l ++ more) before.answered ∙ append_assoc (answers_of start) before.lines more;
       among = is ∙ ap (λ (b : Bool). b || list_any is_recovery more) before.among ∙ sym (list_any-append is_recovery before.lines more);
     }
+
+pub heard_more : (start old new : Past) (has then : Bool) (said : Option Said) → Says old new said
+    → then ≡ (has || list_any is_recovery (lines_of (length old.events) said)) → Heard start old has → Heard start new then
+heard_more start old new has then said says is before = heard_at start old new has then (length old.events) said says.answered is before
 
 or_false : (b : Bool) → b ≡ (b || false)
 or_false true = refl
 or_false false = refl
 
+or_true : (b c : Bool) → c ≡ true → true ≡ (b || c)
+or_true true c is = refl
+or_true false c is = sym is
+
 -- something else than that it has recovered
 abbrev pub IsOther : HostAnswer → Type 0
 IsOther answer = (n : ℕ) → answer ≡ Recovered n → ⊥
 
-not_found : (old : Past) (host : ℕ) (answer : HostAnswer) → IsOther answer → list_any is_recovery (lines_of (length old.events) (Some (record { host = host; answer = answer }))) ≡ false
-not_found old host (Ack slot reply) other = refl
-not_found old host (Recovered n) other = absurd (other n refl)
-not_found old host (Looked n) other = refl
-not_found old host (Beaten moved) other = refl
-not_found old host (Marked count) other = refl
-not_found old host (Refused refusal) other = refl
+not_found : (place host : ℕ) (answer : HostAnswer) → IsOther answer → list_any is_recovery (lines_of place (Some (record { host = host; answer = answer }))) ≡ false
+not_found place host (Ack slot reply) other = refl
+not_found place host (Recovered n) other = absurd (other n refl)
+not_found place host (Looked n) other = refl
+not_found place host (Beaten moved) other = refl
+not_found place host (Marked count) other = refl
+not_found place host (Refused refusal) other = refl
+
+pub hears_other_at : (start old new : Past) (has : Bool) (place : ℕ) (said : Said) → IsOther said.answer → answers_of new ≡ answers_of old ++ lines_of place (Some said)
+    → Heard start old has → Heard start new has
+hears_other_at start old new has place said other answered before =
+    heard_at start old new has has place (Some said) answered (or_false has ∙ ap (λ (b : Bool). has || b) (sym (not_found place said.host said.answer other))) before
 
 pub hears_other : (start old new : Past) (has : Bool) (said : Said) → IsOther said.answer → Says old new (Some said) → Heard start old has → Heard start new has
-hears_other start old new has said other says before =
-    heard_more start old new has has (Some said) says (or_false has ∙ ap (λ (b : Bool). has || b) (sym (not_found old said.host said.answer other))) before
+hears_other start old new has said other says before = hears_other_at start old new has (length old.events) said other says.answered before
+
+-- that it has recovered
+pub hears_recovery : (start old new : Past) (has : Bool) (place : ℕ) (said : Said) (n : ℕ) → said.answer ≡ Recovered n → answers_of new ≡ answers_of old ++ lines_of place (Some said)
+    → Heard start old has → Heard start new true
+hears_recovery start old new has place said n is answered before =
+    let found : list_any is_recovery (lines_of place (Some said)) ≡ true =
+    ap (λ (a : HostAnswer). list_any is_recovery (lines_of place (Some (record { host = said.host; answer = a })))) is in
+    heard_at start old new has true place (Some said) answered (or_true has (list_any is_recovery (lines_of place (Some said))) found) before
 
 -- WHAT WAS ANSWERED BY THEN
 
@@ -256,16 +276,16 @@ module _ (p : Past) (event : Event) (old : Played) (new : Kept) (is : IsOf p old
 -- CALLS OF A HOST THAT MAKES NONE
 
 module _ (c : Shape) (log : List Filled) (h : ℕ) (none : entry_of c (world c log) (Step h) ≡ None) where
-  idle_run : (n : ℕ) → happen c log (replicate n (Step h)) ≡ log
+  pub idle_run : (n : ℕ) → happen c log (replicate n (Step h)) ≡ log
   idle_run zero = refl
   idle_run (suc n) = ap (λ (o : Option Filled). happen c (with_entry log o) (replicate n (Step h))) none ∙ idle_run n
 
-  idle_answers : (n place : ℕ) → answers_from c log place (replicate n (Step h)) ≡ []
+  pub idle_answers : (n place : ℕ) → answers_from c log place (replicate n (Step h)) ≡ []
   idle_answers zero place = refl
   idle_answers (suc n) place =
       ap (λ (o : Option Filled). lines_at c log place o ++ answers_from c (with_entry log o) (place + 1) (replicate n (Step h))) none ∙ idle_answers n (place + 1)
 
-none_told : (w : World) (h : ℕ) (o : Option (ℕ × Call)) → None ≡ told_call w o → option_map (stepped w h) o ≡ None
+pub none_told : (w : World) (h : ℕ) (o : Option (ℕ × Call)) → None ≡ told_call w o → option_map (stepped w h) o ≡ None
 none_told w h None is = refl
 none_told w h (Some next) is = absurd (cc)
 

@@ -1,5 +1,6 @@
 -- What a simulated cluster keeps, and which lists of entries lead to that.
-use Rattle.std.specs.Prelude.{◌≡◌, ◌<◌, ℕ, Bool, false, not, List, length, slice_index_or, Option, Some, None}
+use Rattle.std.specs.Prelude.{◌≡◌, ◌<◌, ◌+◌, ◌-◌, ℕ, Bool, false, not, List, length, slice_index_or, Option, Some, None}
+use Rattle.std.specs.Option.{option_map}
 use Rattle.disk.specs.Disk.{DiskState}
 use Rattle.disk.specs.Simulated.{SimState}
 use Rattle.paxos_block.specs.Places.{image_length}
@@ -9,7 +10,7 @@ use Rattle.host.specs.Host.{Host, Stopped, Running}
 use Rattle.host.specs.Kept as hosts
 use Rattle.world.specs.Entry.{Filled}
 use Rattle.world.specs.World.{World, world, IsRun}
-use Rattle.world.specs.Happens.{Event, entry_of, happens, lines_at}
+use Rattle.world.specs.Happens.{Event, entry_of, happens, happen, lines_at, answers_from}
 use Rattle.simulator.specs.declared.simulated_cluster.Said.{Said}
 use Rattle.simulator.specs.Events.{lines_of}
 
@@ -39,6 +40,15 @@ abbrev pub is_free : Option hosts.Kept → Bool
 is_free None = false
 is_free (Some k) = hosts.is_idle k
 
+-- what is kept of a host says
+abbrev pub said_by : ℕ → Option hosts.Kept → Option Said
+said_by h None = None
+said_by h (Some k) = option_map (λ answer. record { host = h; answer = answer }) k.said
+
+-- and what a host of the cluster says
+abbrev pub said_now : ℕ → Kept → Option Said
+said_now h k = said_by h (slice_index_or k.hosts h None)
+
 -- The world is what is kept.
 pub record Shows (w : World) (k : Kept) : Type 0 where
   pub disk_count : length k.disks ≡ k.shape.disks
@@ -66,3 +76,9 @@ pub record Brings (log : List Filled) (event : Event) (old new : Kept) (said : O
   pub shape : new.shape ≡ old.shape
   pub leads : LeadsTo (happens old.shape log event) new
   pub says : (place : ℕ) → lines_of place said ≡ lines_at old.shape log place (entry_of old.shape (world old.shape log) event)
+
+-- Events happen one after the other, and this is said with the last of them: the list has grown by their entries, and nothing is said with those before the last.
+pub record BringsAll (log : List Filled) (events : List Event) (old new : Kept) (said : Option Said) : Type 0 where
+  pub shape : new.shape ≡ old.shape
+  pub leads : LeadsTo (happen old.shape log events) new
+  pub says : (place : ℕ) → lines_of (place + length events - 1) said ≡ answers_from old.shape log place events

@@ -1,5 +1,5 @@
 -- How a replay goes on: the events that happen, what is said with each, and whether a host has said that it has recovered.
-use Rattle.std.specs.Prelude.{◌≡◌, ◌<◌, ◌≤◌, ◌+◌, ◌++◌, ℕ, Bool, List, length, map, All, Contains, Option, Some, IfSome}
+use Rattle.std.specs.Prelude.{◌≡◌, ◌<◌, ◌≤◌, ◌+◌, ◌-◌, ◌++◌, ℕ, Bool, List, length, map, All, Contains, Option, Some, IfSome}
 use Rattle.std.specs.List.{list_any}
 use Rattle.lock_command.specs.declared.command.Command.{Command}
 use Rattle.host.specs.declared.answer.HostAnswer.TheVariants.{Recovered}
@@ -22,6 +22,11 @@ later p events = record p { events = p.events ++ events }
 -- with the last event this was said, by a host that runs
 pub record Says (old new : Past) (said : Option Said) : Type 0 where
   pub answered : answers_of new ≡ answers_of old ++ lines_of (length old.events) said
+  pub runs : IfSome said (λ s. said_of ((world_of new).host s.host) ≡ Some s.answer)
+
+-- of all the events since, with the last alone this was said, by a host that runs
+pub record SaysLast (old new : Past) (said : Option Said) : Type 0 where
+  pub answered : answers_of new ≡ answers_of old ++ lines_of (length new.events - 1) said
   pub runs : IfSome said (λ s. said_of ((world_of new).host s.host) ≡ Some s.answer)
 
 -- these are the answers since the start, and this is whether a recovery is among them

@@ -17,7 +17,14 @@ use std::alloc::Global;
 pub fn judge(alloc: Global, report: &Report, log: &[Command]) -> Result<bool, NoMemory>
     ensures { IfOk result (λ right. IsTrue right ↔ AllGoBy log.now report.now) }
 {
-    for answer in report.answers() {
+    judge_answers(alloc, report.answers(), log)
+}
+
+/// The same of answers that are in no report.
+pub fn judge_answers(alloc: Global, answers: &[Answer], log: &[Command]) -> Result<bool, NoMemory>
+    ensures { IfOk result (λ right. IsTrue right ↔ AllGoBy log.now answers.now) }
+{
+    for answer in answers {
         if !goes_by(alloc, answer, log)? {
             return Ok(false);
         }

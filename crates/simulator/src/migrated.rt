@@ -1,7 +1,7 @@
 // Simulated disks as a migration left them.
-ghost use Rattle.std.specs.Prelude.{◌≡◌, ◌+◌, ◌*◌, ◌≤◌, ◌<◌, ℕ, false, None, Some, IfOk, length, map, replicate, slice_get};
+ghost use Rattle.std.specs.Prelude.{◌≡◌, ◌+◌, ◌*◌, ◌≤◌, ◌<◌, ℕ, false, None, Some, IfOk, OnOk, OnErr, length, map, replicate, slice_get, slice_index_or};
 ghost use Rattle.disk.specs.Disk.{written, synced};
-ghost use Rattle.disk.specs.Simulated.{fresh_disk};
+ghost use Rattle.disk.specs.Simulated.{SimState, fresh_disk};
 ghost use Rattle.paxos_block.specs.Places.{image_length, row_place};
 ghost use Rattle.migration.specs.Image.{rows_for};
 ghost use Rattle.lock_command.specs.declared.command.Command.{Command};
@@ -38,6 +38,31 @@ pub fn migrated_disks(
     Ok(disks)
 }
 
+/// Makes of the disks of a cluster, whatever they hold, those on each of which a complete migration left these commands. No disk is
+/// made. If memory is refused, nothing has changed.
+pub fn migrate_again(
+    alloc: Global,
+    config: Config,
+    disks: &mut [SimDisk],
+    log: &[Command],
+) -> Result<(), NoMemory>
+    requires fits { length log.now ≤ config.slots }
+    requires many { length disks.old ≡ config.disks }
+    requires sized { (d : ℕ) (other : SimState) → d < config.disks → length (slice_index_or disks.old d other).disk.bytes ≡ image_length config.slots }
+    ensures disks { OnOk result (disks.new ≡ replicate config.disks (calm (migrated_to (fresh_disk (image_length config.slots)) log.now))) }
+    ensures can { OnOk result (CanBegin (record { shape = config; moved = log.now })) }
+    ensures unchanged { OnErr result (disks.new ≡ disks.old) }
+{
+    let spelled = spellings(alloc, log)?;
+    let many = usize::from(config.disks());
+    for at in 0..many {
+        let disk = &mut disks[at];
+        disk.renew();
+        lay(config, disk, &spelled);
+    }
+    Ok(())
+}
+
 /// The spellings of these commands.
 fn spellings(alloc: Global, log: &[Command]) -> Result<Vec<Value>, NoMemory>
     ensures values { IfOk result (λ values. values.items ≡ map spelling log.now) }
@@ -56,17 +81,26 @@ fn migrated_disk(alloc: Global, config: Config, values: &[Value]) -> Result<SimD
     ensures { IfOk result (λ disk. disk ≡ calm (synced (written (fresh_disk (image_length config.slots)) (row_place 0) (rows_for values.now)))) }
 {
     let mut disk = SimDisk::new(alloc, config.image_length())?;
+    lay(config, &mut disk, values);
+    Ok(disk)
+}
+
+/// Writes on a disk of zeros a row for each of these values from the first slot on, and syncs it.
+fn lay(config: Config, disk: &mut SimDisk, values: &[Value])
+    requires fits { length values.now ≤ config.slots }
+    requires fresh { disk.old ≡ calm (fresh_disk (image_length config.slots)) }
+    ensures { disk.new ≡ calm (synced (written (fresh_disk (image_length config.slots)) (row_place 0) (rows_for values.now))) }
+{
     let boot = Boot { number: 1 };
     for (slot, value) in values.iter().enumerate() {
         write(
-            &mut disk,
+            disk,
             boot,
             row_place::<ClusterLayout>(slot as u32),
             &row_for(value),
         );
     }
-    sync(&mut disk, boot);
-    Ok(disk)
+    sync(disk, boot);
 }
 
 /// A write on a disk that is there, and that no failure was asked of. So it succeeds.

@@ -1,17 +1,17 @@
-ghost use Rattle.std.specs.Prelude.{◌≡◌, ◌<◌, ◌≤◌, ◌∷◌, [], None, length, slice_index_or, replicate, is_some, IsSome, IfOk, IfSome, OnOk, true};
+ghost use Rattle.std.specs.Prelude.{◌≡◌, ◌≢◌, ◌<◌, ◌≤◌, ◌∷◌, [], Some, None, length, slice_get, slice_index_or, take, replicate, is_some, IsSome, IfOk, IfSome, OnOk, true, false, IsTrue, ◌↔◌};
 ghost use Rattle.torn_block.specs.declared.layout.TheConstants.{HOSTS};
 ghost use Rattle.std.specs.Option.{option_map};
 ghost use Rattle.host.specs.Host.{learned_of};
 ghost use Rattle.world.specs.Happens as happens;
 ghost use Rattle.world.specs.Opening.{CanBegin};
 ghost use Rattle.simulator.specs.Events.{event_of, events_of};
+ghost use Rattle.simulator.specs.Judging.{AllGoBy};
 ghost use Rattle.simulator.specs.Past.{Past, world_of, answers_of};
-ghost use Rattle.simulator.specs.Replayed.{later, IsOf, IsPlayed, GoesOn, Says, Heard, HasKept, HasLearned};
-ghost use Rattle.simulator.specs.Sweeping.{TellsNext, recovery, recovers, recovered_behind, stops};
+ghost use Rattle.simulator.specs.Replayed.{later, IsOf, IsPlayed, GoesOn, Says, SaysLast, Heard, HasKept, HasLearned};
+ghost use Rattle.simulator.specs.Sweeping.{TellsNext, recovery, recovers, recovered_behind, stops, one_if};
 
 use crate::answer::Answer;
-use crate::judging::judge;
-use crate::report::Report;
+use crate::judging::judge_answers;
 use crate::room::Room;
 use crate::simulated_cluster::{Said, SimulatedCluster};
 use disk::NoMemory;
@@ -63,6 +63,18 @@ impl Replay {
         })
     }
 
+    /// Begins anew over the same cluster: the disks are as a complete migration of these commands left them, the hosts are stopped,
+    /// and nothing has happened yet.
+    pub fn restart(&mut self, alloc: Global, log: &[Command]) -> Result<(), NoMemory>
+        requires { length log.now ≤ self.old.cluster.shape.slots }
+        ensures { OnOk result (IsOf (record { opening = record { shape = self.old.cluster.shape; moved = log.now }; events = [] }) self.new) }
+    {
+        self.cluster.restart(alloc, log)?;
+        self.place = 0;
+        self.answers.clear();
+        Ok(())
+    }
+
     /// Lets an event happen, and tells what was said with it.
     pub fn happen(&mut self, alloc: Global, event: &Event) -> Result<Option<Said>, NoMemory>
         ensures happened { OnOk result (GoesOn self.old self.new (event_of event.now ∷ [])) }
@@ -95,38 +107,100 @@ impl Replay {
     pub fn follow(&mut self, alloc: Global, events: &[Event]) -> Result<(), NoMemory>
         ensures { OnOk result (GoesOn self.old self.new (events_of events.now)) }
     {
-        for event in events {
-            self.happen(alloc, event)?;
+        let mut from = 0;
+        while from < events.len() {
+            from += self.follow_first(alloc, &events[from..])?;
         }
         Ok(())
     }
 
+    /// Lets the first of some events happen. If it is a step of a host, so do the steps of that host right behind it, until
+    /// something is said. Gives how many events happened.
+    fn follow_first(&mut self, alloc: Global, events: &[Event]) -> Result<usize, NoMemory>
+        requires { 1 ≤ length events.now }
+        ensures many { IfOk result (λ many. (1 ≤ many) × (many ≤ length events.now)) }
+        ensures happened { IfOk result (λ many. GoesOn self.old self.new (events_of (take many events.now))) }
+    {
+        let event = &events[0];
+        match event {
+            Event::Step(host) => {
+                let (made, _) = self.happen_steps(alloc, *host, steps_of(*host, events))?;
+                Ok(made)
+            }
+            _ => {
+                self.happen(alloc, event)?;
+                Ok(1)
+            }
+        }
+    }
+
+    /// Lets a host make so many steps at most, until something is said. Gives how many it made, and what was said with the
+    /// last. Memory is asked for before the first of them, as `happen` does: until something is said, no further step needs more.
+    fn happen_steps(
+        &mut self,
+        alloc: Global,
+        host: HostNumber,
+        most: usize,
+    ) -> Result<(usize, Option<Said>), NoMemory>
+        requires { 1 ≤ most }
+        ensures made { IfOk result (λ steps. (1 ≤ steps.0) × (steps.0 ≤ most)) }
+        ensures happened { IfOk result (λ steps. GoesOn self.old self.new (replicate steps.0 (happens.Step host))) }
+        ensures said { IfOk result (λ steps. (p : Past) → IsOf p self.old → SaysLast p (later p (replicate steps.0 (happens.Step host))) steps.1) }
+        ensures runs { IfOk result (λ steps. IfSome steps.1 (λ s. IsSome (slice_index_or self.new.cluster.hosts s.host None))) }
+    {
+        // No more than can be counted.
+        let left = usize::MAX - self.place;
+        if left == 0 {
+            return Err(NoMemory);
+        }
+        self.room.prepare(alloc, &Event::Step(host))?;
+        self.answers.reserve(1)?;
+        let (made, said) = self.cluster.steps(host, most.min(left));
+        self.place += made;
+        match said {
+            Some(said) => {
+                let answer = self.room.listed(&self.cluster, self.place - 1, said);
+                let said = Said {
+                    host: answer.host,
+                    answer: answer.said,
+                };
+                self.answers.push_reserved(answer);
+                Ok((made, Some(said)))
+            }
+            None => Ok((made, None)),
+        }
+    }
+
     /// Stops all hosts, lets the first recover and then the last, and gives how often these answered, and whether all answers
     /// go by the longer of what they learned, where both answered.
-    pub fn end(mut self, alloc: Global) -> Result<(usize, bool), NoMemory>
+    pub fn end(&mut self, alloc: Global) -> Result<(usize, bool), NoMemory>
         ensures few { IfOk result (λ end. end.0 ≤ 2) }
-        ensures recovered { IfOk result (λ end. (p : Past) → IsOf p self → end.0 ≡ recovered_behind p.opening p.events) }
+        ensures recovered { IfOk result (λ end. (p : Past) → IsOf p self.old → end.0 ≡ recovered_behind p.opening p.events) }
         ensures right { IfOk result (λ end. end.1 ≡ true) }
+        ensures shape { OnOk result (self.new.cluster.shape ≡ self.old.cluster.shape) }
     {
         // Called for its contract only: the replay is of something that has happened.
         let _was = self.place();
         self.stop_all(alloc)?;
         let first = self.recover(alloc, 0)?;
         let last = self.recover(alloc, HOSTS as u8 - 1)?;
-        let report = Report::of(self.answers);
-        match (first, last) {
-            (Some(first), Some(last)) => {
-                let longer = if first.len() < last.len() {
-                    last
-                } else {
-                    first
-                };
-                Ok((2, judge(alloc, &report, &longer)?))
-            }
-            (Some(_), None) => Ok((1, true)),
-            (None, Some(_)) => Ok((1, true)),
-            (None, None) => Ok((0, true)),
+        let answered = one_if(first.is_some()) + one_if(last.is_some());
+        if let (Some(first), Some(last)) = (first, last) {
+            let longer = if first.len() < last.len() {
+                last
+            } else {
+                first
+            };
+            return Ok((answered, self.agrees(alloc, &longer)?));
         }
+        Ok((answered, true))
+    }
+
+    /// Whether all answers go by these commands.
+    fn agrees(&self, alloc: Global, log: &[Command]) -> Result<bool, NoMemory>
+        ensures { IfOk result (λ right. IsTrue right ↔ AllGoBy log.now self.now.report) }
+    {
+        judge_answers(alloc, &self.answers, log)
     }
 
     /// How many events have happened.
@@ -183,14 +257,41 @@ impl Replay {
         ensures kept { OnOk result ((start p : Past) → IsOf p self.old → HasKept start p (option_map (λ commands. commands.items) learned.old) →
             HasKept start (later p (replicate steps (happens.Step host))) (option_map (λ commands. commands.items) learned.new)) }
     {
-        for done in 0..steps {
+        let mut done = 0;
+        while done < steps {
             if self.cluster.is_idle(host) {
                 self.pass(host, steps - done)?;
                 return Ok(());
             }
-            self.listen(alloc, &Event::Step(host), learned)?;
+            done += self.listen_steps(alloc, host, steps - done, learned)?;
         }
         Ok(())
+    }
+
+    /// Lets a host make so many calls at most, until something is said, and keeps what it has learned, where it answers that it
+    /// has recovered. Gives how many calls it made.
+    fn listen_steps(
+        &mut self,
+        alloc: Global,
+        host: HostNumber,
+        most: usize,
+        learned: &mut Option<Vec<Command>>,
+    ) -> Result<usize, NoMemory>
+        requires { 1 ≤ most }
+        ensures made { IfOk result (λ made. (1 ≤ made) × (made ≤ most)) }
+        ensures happened { IfOk result (λ made. GoesOn self.old self.new (replicate made (happens.Step host))) }
+        ensures heard { IfOk result (λ made. (start p : Past) → IsOf p self.old → Heard start p (is_some learned.old) →
+            Heard start (later p (replicate made (happens.Step host))) (is_some learned.new)) }
+        ensures kept { IfOk result (λ made. (start p : Past) → IsOf p self.old → HasKept start p (option_map (λ commands. commands.items) learned.old) →
+            HasKept start (later p (replicate made (happens.Step host))) (option_map (λ commands. commands.items) learned.new)) }
+    {
+        let (made, said) = self.happen_steps(alloc, host, most)?;
+        if let Some(said) = said {
+            if let HostAnswer::Recovered { .. } = said.answer {
+                *learned = Some(self.learned_by(alloc, said.host)?);
+            }
+        }
+        Ok(made)
     }
 
     /// Lets so many calls of a host that makes none happen: nothing changes, and nothing is said.
@@ -241,4 +342,37 @@ impl Replay {
             Err(_) => Err(NoMemory),
         }
     }
+}
+
+/// How many of the first events are steps of a host.
+fn steps_of(host: HostNumber, events: &[Event]) -> usize
+    ensures within { result ≤ length events.now }
+    ensures some { slice_get (events_of events.now) 0 ≡ Some (happens.Step host) → 1 ≤ result }
+    ensures steps { events_of (take result events.now) ≡ replicate result (happens.Step host) }
+{
+    for (many, event) in events.iter().enumerate() {
+        if !is_step(host, event) {
+            return many;
+        }
+    }
+    events.len()
+}
+
+/// Whether an event is a step of a host.
+fn is_step(host: HostNumber, event: &Event) -> bool
+    ensures step { result ≡ true → event_of event.now ≡ happens.Step host }
+    ensures other { result ≡ false → event_of event.now ≢ happens.Step host }
+{
+    match event {
+        Event::Step(other) => *other == host,
+        _ => false,
+    }
+}
+
+/// One, if a recovery answers.
+fn one_if(answers: bool) -> usize
+    ensures counted { result ≡ one_if answers }
+    ensures few { result ≤ 1 }
+{
+    if answers { 1 } else { 0 }
 }

@@ -1,4 +1,4 @@
-ghost use Rattle.std.specs.Prelude.{◌≡◌, ℕ, List, [], true, Some, None, slice_index_or, length, replicate, ◌<◌, ◌≤◌, ◌&&◌, is_none, IfOk, OnErr};
+ghost use Rattle.std.specs.Prelude.{◌≡◌, ℕ, List, [], true, false, Some, None, slice_index_or, length, replicate, ◌<◌, ◌≤◌, ◌&&◌, is_none, IsSome, IfOk, OnErr, OnOk};
 ghost use Rattle.disk.specs.Simulated.{fresh_disk};
 ghost use Rattle.paxos_block.specs.Places.{image_length};
 ghost use Rattle.std.specs.Option.{option_map};
@@ -8,10 +8,10 @@ ghost use Rattle.world.specs.Opening.{CanBegin, begun};
 ghost use Rattle.world.specs.Happens.{Start, Stop, Submit, Recover, Look, Beat, Mark, Step, Tear, FailCall, DiskCrash, DiskGone};
 ghost use Rattle.simulator.specs.Events.{event_of};
 ghost use Rattle.simulator.specs.Sweeping.{TellsNext};
-ghost use Rattle.simulator.specs.Kept.{Kept, LeadsTo, Brings, calm, is_busy, is_free};
+ghost use Rattle.simulator.specs.Kept.{Kept, LeadsTo, Brings, BringsAll, said_now, calm, is_busy, is_free};
 
 use crate::device_call::{crash_disk, is_write, lose_disk, make, refusal_of, spoil};
-use crate::migrated::migrated_disks;
+use crate::migrated::{migrate_again, migrated_disks};
 use disk::{DiskFault, NoMemory, SimDisk};
 use host::{HostAnswer, HostCore};
 use lock_command::{Command, HOSTS, HostNumber};
@@ -83,6 +83,19 @@ impl SimulatedCluster {
             hosts,
             row: [0; ROW_LENGTH],
         })
+    }
+
+    /// Makes of the cluster, whatever has happened to it, one that `migrated` gives for its size. No disk is made.
+    pub(crate) fn restart(&mut self, alloc: Global, log: &[Command]) -> Result<(), NoMemory>
+        requires { length log.now ≤ self.old.shape.slots }
+        ensures shape { self.new.shape ≡ self.old.shape }
+        ensures leads { OnOk result (LeadsTo (begun (record { shape = self.old.shape; moved = log.now })) self.new) }
+        ensures can { OnOk result (CanBegin (record { shape = self.old.shape; moved = log.now })) }
+        ensures unchanged { OnErr result (self.new ≡ self.old) }
+    {
+        migrate_again(alloc, self.config, &mut self.disks, log)?;
+        stop_all(&mut self.hosts);
+        Ok(())
     }
 
     /// A running host.
@@ -264,12 +277,56 @@ impl SimulatedCluster {
         answer_of(host, core)
     }
 
+    /// Lets a host make device calls until it says something, so many at most. Gives how many it made, and what it then said. Once it has none to make, the rest are counted only.
+    pub fn steps(&mut self, host: HostNumber, most: usize) -> (usize, Option<Said>)
+        ensures brings { (log : List Filled) → LeadsTo log self.old → BringsAll log (replicate result.0 (Step host)) self.old self.new result.1 }
+        ensures within { result.0 ≤ most }
+        ensures some { 1 ≤ most → 1 ≤ result.0 }
+        ensures all { result.1 ≡ None → result.0 ≡ most }
+    {
+        for made in 0..most {
+            if self.is_idle(host) {
+                return (most, None);
+            }
+            if self.advance(host) {
+                return (made + 1, self.said_by(host));
+            }
+        }
+        (most, None)
+    }
+
     fn step(&mut self, host: HostNumber) -> Option<Said>
         ensures { (log : List Filled) → LeadsTo log self.old → Brings log (Step host) self.old self.new result }
     {
+        if self.advance(host) {
+            self.said_by(host)
+        } else {
+            None
+        }
+    }
+
+    /// What a host says now. Out of line, since after most steps a host says nothing and is not asked.
+    #[inline(never)]
+    fn said_by(&self, host: HostNumber) -> Option<Said>
+        ensures { result ≡ said_now host self.now }
+    {
+        match &self.hosts[usize::from(host.get())] {
+            None => None,
+            Some(core) => answer_of(host, core),
+        }
+    }
+
+    /// Lets a host make a device call, and tells whether it then says something. Out of line, so that the call is written into
+    /// one place.
+    #[inline(never)]
+    fn advance(&mut self, host: HostNumber) -> bool
+        ensures speaks { result ≡ true → IsSome (said_now host self.new) }
+        ensures spoken { result ≡ true → (log : List Filled) → LeadsTo log self.old → Brings log (Step host) self.old self.new (said_now host self.new) }
+        ensures silent { result ≡ false → (log : List Filled) → LeadsTo log self.old → Brings log (Step host) self.old self.new None }
+    {
         let at = usize::from(host.get());
         if !is_busy(&self.hosts[at]) {
-            return None;
+            return false;
         }
         let Some(core) = &mut self.hosts[at] else {
             unreachable!()
@@ -278,7 +335,7 @@ impl SimulatedCluster {
         let disk = &mut self.disks[usize::from(need.disk)];
         let heard = make(disk, &need.call, &mut self.row);
         core.hear(&heard);
-        answer_of(host, core)
+        !core.is_silent()
     }
 
     fn tear(&mut self, host: HostNumber, given: &[u8])
@@ -391,6 +448,15 @@ fn fresh_disks(alloc: Global, config: Config) -> Result<Vec<SimDisk>, NoMemory>
         disks.push_reserved(SimDisk::new(alloc, config.image_length())?);
     }
     Ok(disks)
+}
+
+/// Stops hosts that run.
+fn stop_all(hosts: &mut [Option<HostCore>])
+    ensures { hosts.new ≡ replicate (length hosts.old) None }
+{
+    for host in hosts.iter_mut() {
+        *host = None;
+    }
 }
 
 fn stopped_hosts(alloc: Global) -> Result<Vec<Option<HostCore>>, NoMemory>

@@ -1,5 +1,6 @@
-ghost use Rattle.std.specs.Prelude.{◌≡◌, ◌+◌, ◌*◌, ◌≤◌, true, None, length, sum_by, IfOk, OnOk};
+ghost use Rattle.std.specs.Prelude.{◌≡◌, ◌+◌, ◌*◌, ◌≤◌, [], true, None, length, sum_by, IfOk, IfSome, IsSome, OnOk};
 ghost use Rattle.simulator.specs.Events.{event_of, events_of, opening_of};
+ghost use Rattle.simulator.specs.Replayed.{IsOf};
 ghost use Rattle.simulator.specs.Sweeping.{changed, recovered_behind, variants};
 
 use crate::interrupting::changes;
@@ -27,6 +28,7 @@ pub fn sweep(alloc: Global, script: &Script) -> Result<Sweep, NoMemory>
     let events = script.events.to_vec(alloc)?;
     let mut cluster = SimulatedCluster::migrated(alloc, script.config, &script.log)?;
     let mut sweep = Sweep::none();
+    let mut kept = None;
     for place in 0..events.len() {
         let event = &events[place];
         let changes = changes(alloc, &mut cluster, event)?;
@@ -34,6 +36,7 @@ pub fn sweep(alloc: Global, script: &Script) -> Result<Sweep, NoMemory>
             alloc,
             script.config,
             &script.log,
+            &mut kept,
             &events,
             place,
             &changes,
@@ -49,12 +52,14 @@ fn sweep_place(
     alloc: Global,
     config: Config,
     log: &[Command],
+    kept: &mut Option<Replay>,
     events: &[Event],
     place: usize,
     changes: &[Event],
     sweep: &mut Sweep,
 ) -> Result<(), NoMemory>
     requires log { length log.now ≤ config.slots }
+    requires kept { IfSome kept.old (λ replay. replay.cluster.shape ≡ config) }
     requires place { place ≤ length events.now }
     requires few { (length changes.now ≤ 6) × (sweep.old.runs ≤ 6000000) }
     requires counted { (sweep.old.recovered ≤ 2 * sweep.old.runs) × (sweep.old.wrong ≤ sweep.old.runs) }
@@ -62,10 +67,11 @@ fn sweep_place(
     ensures recovered { OnOk result (sweep.new.recovered ≡ sweep.old.recovered
         + sum_by (λ change. recovered_behind (record { shape = config; moved = log.now }) (changed (events_of events.now) place (event_of change))) changes.now) }
     ensures counted { (sweep.new.recovered ≤ 2 * sweep.new.runs) × (sweep.new.wrong ≤ sweep.new.runs) }
+    ensures kept { OnOk result (IfSome kept.new (λ replay. replay.cluster.shape ≡ config)) }
     ensures right { OnOk result ((sweep.new.wrong ≡ sweep.old.wrong) × (sweep.new.first ≡ sweep.old.first)) }
 {
     for change in changes {
-        let (recovered, right) = run_variant(alloc, config, log, events, place, change)?;
+        let (recovered, right) = run_variant(alloc, config, log, kept, events, place, change)?;
         sweep.count(recovered, right);
     }
     Ok(())
@@ -77,19 +83,44 @@ fn run_variant(
     alloc: Global,
     config: Config,
     log: &[Command],
+    kept: &mut Option<Replay>,
     events: &[Event],
     place: usize,
     change: &Event,
 ) -> Result<(usize, bool), NoMemory>
     requires log { length log.now ≤ config.slots }
+    requires kept { IfSome kept.old (λ replay. replay.cluster.shape ≡ config) }
     requires place { place ≤ length events.now }
+    ensures kept { OnOk result (IfSome kept.new (λ replay. replay.cluster.shape ≡ config)) }
     ensures few { IfOk result (λ end. end.0 ≤ 2) }
     ensures right { IfOk result (λ end. end.1 ≡ true) }
     ensures recovered { IfOk result (λ end. end.0 ≡ recovered_behind (record { shape = config; moved = log.now }) (changed (events_of events.now) place (event_of change.now))) }
 {
-    let mut replay = Replay::new(alloc, config, log)?;
+    begin(alloc, config, log, kept)?;
+    let Some(replay) = kept else { unreachable!() };
     replay.follow(alloc, &events[..place])?;
     replay.happen(alloc, change)?;
     replay.follow(alloc, &events[place..])?;
     replay.end(alloc)
+}
+
+/// Makes a replay to which nothing has happened yet: of the one that is kept, so that its disks are used anew, or a new one.
+fn begin(
+    alloc: Global,
+    config: Config,
+    log: &[Command],
+    kept: &mut Option<Replay>,
+) -> Result<(), NoMemory>
+    requires log { length log.now ≤ config.slots }
+    requires kept { IfSome kept.old (λ replay. replay.cluster.shape ≡ config) }
+    ensures there { OnOk result (IsSome kept.new) }
+    ensures fresh { OnOk result (IfSome kept.new (IsOf (record { opening = record { shape = config; moved = log.now }; events = [] }))) }
+{
+    match kept {
+        Some(replay) => replay.restart(alloc, log),
+        None => {
+            *kept = Some(Replay::new(alloc, config, log)?);
+            Ok(())
+        }
+    }
 }

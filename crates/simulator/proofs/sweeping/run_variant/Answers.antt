@@ -1,20 +1,32 @@
-use Rattle.std.specs.Prelude.{take, drop}
-use Rattle.std.proofs.Common.{◌≡◌, ◌-◌, List, length, length-drop, subst, arith}
+use Rattle.std.specs.Prelude.{take, drop, IfSome, Option}
+use Rattle.std.proofs.Common.{◌≡◌, ◌-◌, [], List, length, length-drop, ◌∙◌, subst, arith}
 use Rattle.std.proofs.lemmas.List.{take_all}
-use Rattle.std.proofs.lemmas.Result.{IfOk-weaker}
+use Rattle.std.proofs.lemmas.Result.{IfOk-weaker, on_ok_weaker}
 use Rattle.lock_script.specs.declared.event.Event as code
-use Rattle.simulator.specs.Events.{events_of}
-use Rattle.simulator.specs.Replayed.{GoesOn}
+use Rattle.simulator.specs.Events.{event_of, events_of}
+use Rattle.simulator.specs.Past.{Past}
+use Rattle.simulator.specs.Replayed.{GoesOn, IsOf, Played}
+use Rattle.simulator.specs.Sweeping.{changed}
 use Rattle.simulator.proofs.Counting.{variant_goes}
 use Rattle.simulator.proofs.sweeping.run_variant.Goals as goal
 
-pub returns-clause-recovered : goal.returns-clause-recovered
-returns-clause-recovered c =
+-- the replay is of the variant
+goes : (c : goal.After-end)
+    → IsOf (record { opening = record { shape = c.args.config; moved = c.args.log.now }; events = changed (events_of c.args.events.now) c.args.place (event_of c.args.change.now) }) c.follow-2.new.self
+goes c =
     let events : List code.Event = c.args.events.now in
     let put = c.happen.new.self in
+    let p : Past = record { opening = record { shape = c.args.config; moved = c.args.log.now }; events = [] } in
+    let fresh : IsOf p c.in-Some.replay = subst (λ (o : Option Played). IfSome o (IsOf p)) c.in-Some.is c.in_ok-begin.ensures.fresh in
     let rest : take (length events - c.args.place) (drop c.args.place events) ≡ drop c.args.place events =
     take_all (length events - c.args.place) (drop c.args.place events) (omega (arith, length-drop c.args.place events)) in
-    let is = variant_goes (record { shape = c.args.config; moved = c.args.log.now }) events c.args.place c.args.change.now c.in_ok-replay.replay c.follow.new.self put c.follow-2.new.self
-    c.in_ok-replay.ensures c.in_ok-follow.ensures c.in_ok-happen.ensures.happened
-    (subst (λ (l : List code.Event). GoesOn put c.follow-2.new.self (events_of l)) rest c.in_ok-follow-2.ensures) in
-    IfOk-weaker c.end.result _ _ (λ end recovered. recovered _ is) c.end.ensures.recovered
+    variant_goes p.opening events c.args.place c.args.change.now c.in-Some.replay c.follow.new.self put c.follow-2.new.self fresh c.in_ok-follow.ensures c.in_ok-happen.ensures.happened
+    (subst (λ (l : List code.Event). GoesOn put c.follow-2.new.self (events_of l)) rest c.in_ok-follow-2.ensures)
+
+pub returns-clause-recovered : goal.returns-clause-recovered
+returns-clause-recovered c =
+    IfOk-weaker c.end.result _ _ (λ end recovered. recovered _ (goes c)) c.end.ensures.recovered
+
+pub returns-clause-kept : goal.returns-clause-kept
+returns-clause-kept c =
+    on_ok_weaker c.end.result (λ same. same ∙ (goes c).own) c.end.ensures.shape

@@ -1,4 +1,4 @@
-use Rattle.std.specs.Prelude.{sum_by, take}
+use Rattle.std.specs.Prelude.{sum_by, take, IfSome}
 use Rattle.std.proofs.Common.{◌≡◌, ◌+◌, ◌*◌, ◌≤◌}
 use Rattle.simulator.specs.Events.{event_of, events_of}
 use Rattle.simulator.specs.Sweeping.{changed, recovered_behind}
@@ -10,3 +10,4 @@ invariant-loop-change l =
     × (l.sweep.recovered ≡ l.initial.sweep.recovered
     + sum_by (λ change. recovered_behind (record { shape = l.fn.config; moved = l.fn.log }) (changed (events_of l.fn.events) l.fn.place (event_of change))) (take l.change-index l.fn.changes))
     × (l.sweep.wrong ≡ l.initial.sweep.wrong) × (l.sweep.first ≡ l.initial.sweep.first)
+    × IfSome l.kept (λ replay. replay.cluster.shape ≡ l.fn.config)

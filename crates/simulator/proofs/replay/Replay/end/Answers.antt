@@ -1,11 +1,9 @@
-use Rattle.std.specs.Prelude.{is_some}
-use Rattle.std.proofs.Common.{◌≡◌, ◌≤◌, ◌⊎◌, ◌-◌, inl, inr, true, false, List, length, refl, sym, ap, ◌∙◌, subst, arith}
+use Rattle.std.proofs.Common.{ℕ, ◌+◌, ap₂, ◌≡◌, ◌≤◌, ◌⊎◌, ◌-◌, inl, inr, List, length, refl, sym, ap, ◌∙◌, subst, arith}
 use Rattle.torn_block.specs.declared.layout.TheConstants.{HOSTS}
 use Rattle.lock_command.specs.declared.command.Command.{Command}
-use Rattle.simulator.specs.declared.answer.Answer.{Answer}
 use Rattle.simulator.specs.Judging.{AllGoBy}
 use Rattle.simulator.specs.Past.{Past}
-use Rattle.simulator.specs.Replayed.{later, Lists, Played}
+use Rattle.simulator.specs.Replayed.{later, Lists}
 use Rattle.simulator.specs.Sweeping.{recovery, stops}
 use Rattle.simulator.proofs.Covering.{ended_right, has_some}
 use Rattle.simulator.proofs.Replaying.{both_recovered}
@@ -15,34 +13,36 @@ use Rattle.simulator.proofs.replay.Replay.end.Goals.{then-len, else-len}
 pub returns-in-Some-Some-clause-recovered : goal.returns-in-Some-Some-clause-recovered
 returns-in-Some-Some-clause-recovered c =
     λ p is.
+    let p1 : Past = later p stops in
     let on = c.in_ok-stop_all.ensures p is in
-    both_recovered p true true
-    (sym (ap is_some c.in-Some-Some.is-0) ∙ c.in_ok-first.ensures.learned (later p stops) on)
-    (sym (ap is_some c.in-Some-Some.is-1) ∙ c.in_ok-last.ensures.learned (later (later p stops) (recovery p.opening.shape 0)) (c.in_ok-first.ensures.happened (later p stops) on))
+    ap₂ (λ (m n : ℕ). m + n) c.one_if.ensures.counted c.one_if-2.ensures.counted
+    ∙ both_recovered p c.is_some.result c.is_some-2.result (c.is_some.ensures ∙ c.in_ok-first.ensures.learned p1 on)
+    (c.is_some-2.ensures ∙ c.in_ok-last.ensures.learned (later p1 (recovery p.opening.shape 0)) (c.in_ok-first.ensures.happened p1 on))
 
-pub returns-in-Some-None-clause-recovered : goal.returns-in-Some-None-clause-recovered
-returns-in-Some-None-clause-recovered c =
-    λ p is.
-    let on = c.in_ok-stop_all.ensures p is in
-    both_recovered p true false
-    (sym (ap is_some c.in-Some-None.is-0) ∙ c.in_ok-first.ensures.learned (later p stops) on)
-    (sym (ap is_some c.in-Some-None.is-1) ∙ c.in_ok-last.ensures.learned (later (later p stops) (recovery p.opening.shape 0)) (c.in_ok-first.ensures.happened (later p stops) on))
-
-pub returns-in-None-Some-clause-recovered : goal.returns-in-None-Some-clause-recovered
-returns-in-None-Some-clause-recovered c =
-    λ p is.
-    let on = c.in_ok-stop_all.ensures p is in
-    both_recovered p false true
-    (sym (ap is_some c.in-None-Some.is-0) ∙ c.in_ok-first.ensures.learned (later p stops) on)
-    (sym (ap is_some c.in-None-Some.is-1) ∙ c.in_ok-last.ensures.learned (later (later p stops) (recovery p.opening.shape 0)) (c.in_ok-first.ensures.happened (later p stops) on))
+pub returns-in-Some-Some-clause-shape : goal.returns-in-Some-Some-clause-shape
+returns-in-Some-Some-clause-shape c =
+    let was = c.place-was.ensures in
+    let p1 : Past = later was.past stops in
+    let p2 : Past = later p1 (recovery p1.opening.shape 0) in
+    let now = c.in_ok-last.ensures.happened p2 (c.in_ok-first.ensures.happened p1 (c.in_ok-stop_all.ensures was.past was.is)) in
+    now.own ∙ sym was.is.own
 
 pub returns-clause-recovered : goal.returns-clause-recovered
 returns-clause-recovered c =
     λ p is.
+    let p1 : Past = later p stops in
     let on = c.in_ok-stop_all.ensures p is in
-    both_recovered p false false
-    (sym (ap is_some c.in-None-None.is-0) ∙ c.in_ok-first.ensures.learned (later p stops) on)
-    (sym (ap is_some c.in-None-None.is-1) ∙ c.in_ok-last.ensures.learned (later (later p stops) (recovery p.opening.shape 0)) (c.in_ok-first.ensures.happened (later p stops) on))
+    ap₂ (λ (m n : ℕ). m + n) c.one_if.ensures.counted c.one_if-2.ensures.counted
+    ∙ both_recovered p c.is_some.result c.is_some-2.result (c.is_some.ensures ∙ c.in_ok-first.ensures.learned p1 on)
+    (c.is_some-2.ensures ∙ c.in_ok-last.ensures.learned (later p1 (recovery p.opening.shape 0)) (c.in_ok-first.ensures.happened p1 on))
+
+pub returns-clause-shape : goal.returns-clause-shape
+returns-clause-shape c =
+    let was = c.place-was.ensures in
+    let p1 : Past = later was.past stops in
+    let p2 : Past = later p1 (recovery p1.opening.shape 0) in
+    let now = c.in_ok-last.ensures.happened p2 (c.in_ok-first.ensures.happened p1 (c.in_ok-stop_all.ensures was.past was.is)) in
+    now.own ∙ sym was.is.own
 
 pub returns-in-Some-Some-clause-right : goal.returns-in-Some-Some-clause-right
 returns-in-Some-Some-clause-right c =
@@ -55,8 +55,8 @@ returns-in-Some-Some-clause-right c =
     let is1 = c.in_ok-stop_all.ensures was.past was.is in
     let is2 = c.in_ok-first.ensures.happened p1 is1 in
     let is3 = c.in_ok-last.ensures.happened p2 is2 in
-    let report = c.self-3.inside.answers.items in
-    let lists : Lists p3 report = subst (λ (r : Played). Lists p3 r.report) (sym c.self-3.view_is) is3.lists in
+    let report = c.recover-2.new.self.report in
+    let lists : Lists p3 report = is3.lists in
     let has_first = has_some c.in_ok-first.first first c.in-Some-Some.is-0 (λ v. v.items) p1 p2 (c.in_ok-first.ensures.kept p1 is1) in
     let has_last = has_some c.in_ok-last.last last c.in-Some-Some.is-1 (λ v. v.items) p2 p3 (c.in_ok-last.ensures.kept p2 is2) in
     let longest : ((c.if-len.longer.items ≡ first.items) × (length last.items ≤ length first.items)) ⊎ (c.if-len.longer.items ≡ last.items) =
@@ -66,6 +66,4 @@ returns-in-Some-Some-clause-right c =
     ] in
     let all : AllGoBy c.if-len.longer.items report =
     ended_right was.past p1 p2 p3 is1.can first.items last.items c.if-len.longer.items report refl refl refl has_first has_last lists longest in
-    c.in_ok-judge-in-Some-Some.ensures.1
-    (subst (λ (l : List Command). AllGoBy l c.of-report.result) (sym c.deref.ensures.value)
-    (subst (λ (r : List Answer). AllGoBy c.if-len.longer.items r) (sym c.of-report.ensures) all))
+    c.in_ok-agrees.ensures.1 (subst (λ (l : List Command). AllGoBy l report) (sym c.deref.ensures.value) all)

@@ -1,16 +1,29 @@
-use Rattle.std.specs.Prelude.{take}
-use Rattle.std.proofs.Common.{sym, ap, ◌∙◌, subst}
+use Rattle.std.specs.Prelude.{take, drop}
+use Rattle.std.proofs.Common.{◌-◌, ◌≡◌, List, length, ap, subst, arith}
+use Rattle.std.proofs.lemmas.List.{take_all, length-drop}
+use Rattle.lock_script.specs.declared.event.Event.{Event}
 use Rattle.simulator.specs.Events.{events_of}
 use Rattle.simulator.specs.Replayed.{GoesOn}
-use Rattle.simulator.proofs.OneMore.{events_on, take_on}
 use Rattle.simulator.proofs.Replaying.{goes_further}
+use Rattle.simulator.proofs.Several.{events_further}
 use Rattle.simulator.proofs.replay.Replay.follow.Goals as goal
 
-pub loop-event-preserved : goal.loop-event-preserved
-loop-event-preserved c =
-    let at = c.loop-event in
+pub loop-from-preserved : goal.loop-from-preserved
+loop-from-preserved c =
+    let at = c.loop-from in
+    let k = at.from in
+    let m = c.in_ok-from.field-0 in
     let start = c.args.self.now in
     let events = c.args.events.now in
-    subst (GoesOn start c.happen.new.self)
-    (sym (ap events_of (take_on events at.event-index _ c.loop-event-test.true c.event-item.is) ∙ events_on (take at.event-index events) _))
-    (goes_further start at.self c.happen.new.self (events_of (take at.event-index events)) _ at.invariant c.in_ok-happen.ensures.happened)
+    let rest : take (length events - k) (drop k events) ≡ drop k events = take_all (length events - k) (drop k events) (omega (arith, length-drop k events)) in
+    let more = subst (λ (l : List Event). GoesOn at.self c.follow_first.new.self (events_of (take m l))) rest c.in_ok-from.ensures.happened in (
+      omega (arith, c.in_ok-from.ensures.many.1),
+      subst (GoesOn start c.follow_first.new.self) (events_further k m events)
+          (goes_further start at.self c.follow_first.new.self (events_of (take k events)) (events_of (take m (drop k events))) at.invariant.1 more),
+    )
+
+pub returns : goal.returns
+returns c =
+    let events = c.args.events.now in
+    let all = take_all c.loop-from.from events (omega (arith, c.loop-from-test.false)) in
+    subst (GoesOn c.args.self.now c.loop-from.self) (ap events_of all) c.loop-from.invariant.1

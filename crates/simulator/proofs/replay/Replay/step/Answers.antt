@@ -1,5 +1,5 @@
 use Rattle.std.specs.Prelude.{replicate, is_some}
-use Rattle.std.proofs.Common.{◌+◌, ◌-◌, ◌≡◌, List, Option, refl, subst, arith}
+use Rattle.std.proofs.Common.{ℕ, ◌+◌, ◌-◌, ◌≡◌, List, Option, refl, subst, arith}
 use Rattle.lock_command.specs.declared.command.Command.{Command}
 use Rattle.world.specs.Happens.{Step}
 use Rattle.simulator.specs.Past.{Past}
@@ -19,7 +19,7 @@ returns-then-is_idle-clause-happened c =
     let all : k + rest ≡ c.args.steps = omega (arith, c.loop-done-test.true) in
     λ p is.
     subst (λ (q : Past). IsOf q c.pass.new.self) (later_steps p h k rest c.args.steps all)
-    (c.in_ok-pass.ensures.happened (later p (replicate k (Step h))) (c.loop-done.invariant.0 p is))
+    (c.in_ok-pass.ensures.happened (later p (replicate k (Step h))) (c.loop-done.invariant.happened p is))
 
 pub returns-then-is_idle-clause-heard : goal.returns-then-is_idle-clause-heard
 returns-then-is_idle-clause-heard c =
@@ -31,7 +31,7 @@ returns-then-is_idle-clause-heard c =
     let here : Past = later p (replicate k (Step h)) in
     subst (λ (q : Past). Heard start q (is_some c.loop-done.learned)) (later_steps p h k rest c.args.steps all)
     (heard_still start here (later here (replicate rest (Step h))) (is_some c.loop-done.learned)
-    (c.in_ok-pass.ensures.quiet here (c.loop-done.invariant.0 p is)) (c.loop-done.invariant.1 start p is heard))
+    (c.in_ok-pass.ensures.quiet here (c.loop-done.invariant.happened p is)) (c.loop-done.invariant.heard start p is heard))
 
 pub returns-then-is_idle-clause-kept : goal.returns-then-is_idle-clause-kept
 returns-then-is_idle-clause-kept c =
@@ -42,19 +42,25 @@ returns-then-is_idle-clause-kept c =
     λ start p is kept.
     let here : Past = later p (replicate k (Step h)) in
     kept_there start (later_steps p h k rest c.args.steps all)
-    (kept_still start here (later here (replicate rest (Step h))) (replicate rest (Step h)) _ refl (c.loop-done.invariant.2 start p is kept))
+    (kept_still start here (later here (replicate rest (Step h))) (replicate rest (Step h)) _ refl (c.loop-done.invariant.kept start p is kept))
+
+-- the steps so far, and those that it makes now
+one : (p : Past) (h k m : ℕ) → later (later p (replicate k (Step h))) (replicate m (Step h)) ≡ later p (replicate (k + m) (Step h))
+one p h k m = later_steps p h k m (k + m) refl
 
 pub loop-done-preserved : goal.loop-done-preserved
 loop-done-preserved c =
     let h = c.args.host in
     let k = c.loop-done.done in
+    let m = c.in_ok-done.field-0 in
     let here : Past → Past = λ p. later p (replicate k (Step h)) in
-    let one : (p : Past) → later (here p) (replicate 1 (Step h)) ≡ later p (replicate (k + 1) (Step h)) = λ p. later_steps p h k 1 (k + 1) refl in (
-      (λ p is. subst (λ (q : Past). IsOf q c.listen.new.self) (one p) (c.in_ok-listen.ensures.happened (here p) (c.loop-done.invariant.0 p is))),
-      (λ start p is heard.
-          subst (λ (q : Past). Heard start q (is_some c.listen.new.learned)) (one p)
-          (c.in_ok-listen.ensures.heard start (here p) (c.loop-done.invariant.0 p is) (c.loop-done.invariant.1 start p is heard))),
-      (λ start p is kept.
-          kept_there start (one p)
-          (c.in_ok-listen.ensures.kept start (here p) (c.loop-done.invariant.0 p is) (c.loop-done.invariant.2 start p is kept))),
-    )
+    record {
+      within = omega (arith, c.in_ok-done.ensures.made.1, c.loop-done-test.true);
+      happened = λ p is. subst (λ (q : Past). IsOf q c.listen_steps.new.self) (one p h k m) (c.in_ok-done.ensures.happened (here p) (c.loop-done.invariant.happened p is));
+      heard = λ start p is heard.
+          subst (λ (q : Past). Heard start q (is_some c.listen_steps.new.learned)) (one p h k m)
+          (c.in_ok-done.ensures.heard start (here p) (c.loop-done.invariant.happened p is) (c.loop-done.invariant.heard start p is heard));
+      kept = λ start p is kept.
+          kept_there start (one p h k m)
+          (c.in_ok-done.ensures.kept start (here p) (c.loop-done.invariant.happened p is) (c.loop-done.invariant.kept start p is kept));
+    }

@@ -1,50 +1,11 @@
-use Rattle.std.proofs.Common.{◌<◌, None, length, sym, ◌∙◌, arith}
-use Rattle.torn_block.specs.declared.layout.TheConstants.{HOSTS}
+use Rattle.std.proofs.Common.{List, Option, sym, subst}
+use Rattle.world.specs.Entry.{Filled}
 use Rattle.world.specs.Happens.{Step}
-use Rattle.simulator.proofs.Changes.{reached, seen, unseen}
-use Rattle.simulator.proofs.Owed as owed
-use Rattle.simulator.proofs.Owed.{kept_in, read_at, Due}
+use Rattle.simulator.specs.declared.simulated_cluster.Said.{Said}
+use Rattle.simulator.specs.Kept.{LeadsTo, Brings}
 use Rattle.simulator.proofs.simulated_cluster.SimulatedCluster.step.Goals as goal
-use Rattle.simulator.proofs.simulated_cluster.SimulatedCluster.step.Goals.{After-index_mut-disk}
 
-pub returns-then-not-is_busy : goal.returns-then-not-is_busy
-returns-then-not-is_busy c =
-    let old = kept_in c.self.inside in
-    let i = c.from-at.result in
-    let event = Step c.args.host in
-    let same = c.from-at.ensures ∙ c.get.ensures.value in
-    let within : i < HOSTS = omega (arith, c.from-at.ensures, c.get.ensures.range) in
-    let here : i < length old.hosts = omega (arith, c.from-at.ensures, c.get.ensures.range, c.self.invariant.leads.shows.host_count) in
-    let stood = read_at old i c.index.result.now here c.index.ensures in
-    unseen event old c.args.self.now None c.self.view_is
-    (owed.steps_idle old c.args.host i same within c.index.result.now stood (sym c.is_busy.ensures ∙ c.if-not-is_busy.true))
-
-pub index_mut-disk-requires : goal.index_mut-disk-requires
-index_mut-disk-requires c =
-    let there = owed.is_there (kept_in c.self.inside) c.self.invariant c.args.host c.from-at.result (c.from-at.ensures ∙ c.get.ensures.value) (omega (arith, c.get.ensures.value, c.get.ensures.range))
-    c.index_mut.result.now c.index_mut.ensures.value c.in-Some.core c.in-Some.is c.call-need.result c.call-need.ensures.disk c.from.result c.from.ensures in
-    omega (arith, there)
-
--- the call
-abbrev due : (c : After-index_mut-disk) → Due (kept_in c.self.inside) c.args.host
-due c = owed.due_of (kept_in c.self.inside) c.self.invariant c.args.host c.from-at.result (c.from-at.ensures ∙ c.get.ensures.value) (omega (arith, c.get.ensures.value, c.get.ensures.range))
-    c.index_mut.result.now c.index_mut.ensures.value c.in-Some.core c.in-Some.is c.call-need.result c.call-need.ensures.disk c.from.result c.from.ensures
-    c.call-need.ensures.next c.call-need.ensures.due c.index_mut-disk.result.now c.index_mut-disk.ensures.value
-
-pub make-heard-requires-clause-calm : goal.make-heard-requires-clause-calm
-make-heard-requires-clause-calm c = owed.is_calm _ _ (due (goal.at.make-heard-requires-clause-calm c).After-index_mut-disk) c.self.invariant
-
-pub make-heard-requires-clause-range : goal.make-heard-requires-clause-range
-make-heard-requires-clause-range c = owed.is_within _ _ (due (goal.at.make-heard-requires-clause-range c).After-index_mut-disk) c.self.invariant c.call-need.ensures.range
-
-pub invariant_of-self : goal.invariant_of-self
-invariant_of-self c =
-    reached (Step c.args.host) (kept_in c.self.inside) _ c.answer_of.result c.self.invariant
-    (owed.steps _ _ (due (goal.at.invariant_of-self c).After-index_mut-disk) c.hear.new.self c.make-heard.new.disk _ c.answer_of.result c.make-heard.ensures.disk c.make-heard.ensures.size
-    c.make-heard.ensures.answer c.hear.ensures.leads c.answer_of.ensures)
-
-pub returns : goal.returns
-returns c =
-    seen (Step c.args.host) (kept_in c.self.inside) c.args.self.now _ c.answer_of.result c.self.view_is
-    (owed.steps _ _ (due (goal.at.returns c).After-index_mut-disk) c.hear.new.self c.make-heard.new.disk _ c.answer_of.result c.make-heard.ensures.disk c.make-heard.ensures.size
-    c.make-heard.ensures.answer c.hear.ensures.leads c.answer_of.ensures)
+pub returns-then-advance : goal.returns-then-advance
+returns-then-advance c =
+    subst (λ (said : Option Said). (log : List Filled) → LeadsTo log c.args.self.now → Brings log (Step c.args.host) c.args.self.now c.advance.new.self said)
+    (sym c.said_by.ensures) (c.advance.ensures.spoken c.if-advance.true)

@@ -7,26 +7,26 @@ use Rattle.paxos_block.specs.Places.{image_length, row_place}
 use Rattle.migration.specs.Image.{rows_for}
 use Rattle.simulator.specs.Kept.{calm}
 use Rattle.simulator.proofs.Moved.{HasRows, no_rows, one_row_more, takes_row}
-use Rattle.simulator.proofs.migrated.migrated_disk.Goals as goal
+use Rattle.simulator.proofs.migrated.lay.Goals as goal
 
 pub loop-slot-init : goal.loop-slot-init
 loop-slot-init c =
     let slots = c.args.config.slots in
-    subst (HasRows slots []) (sym (c.in_ok-disk.ensures.fresh ∙ ap (λ (n : ℕ). calm (fresh_disk n)) c.image_length.ensures)) (no_rows slots)
+    subst (HasRows slots []) (sym c.requires.fresh) (no_rows slots)
 
 pub write-requires-clause-calm : goal.write-requires-clause-calm
 write-requires-clause-calm c =
     let at = c.loop-slot in
     let values = c.args.values.now in
     let many = length-take-le at.slot values (omega (arith, at.auto.slot-end)) in
-    (takes_row c.args.config.slots (take at.slot values) at.disk (omega (arith, many, c.loop-slot-test.true, c.requires)) at.invariant).calm
+    (takes_row c.args.config.slots (take at.slot values) at.disk (omega (arith, many, c.loop-slot-test.true, c.requires.fits)) at.invariant).calm
 
 pub write-requires-clause-there : goal.write-requires-clause-there
 write-requires-clause-there c =
     let at = c.loop-slot in
     let values = c.args.values.now in
     let many = length-take-le at.slot values (omega (arith, at.auto.slot-end)) in
-    let takes = takes_row c.args.config.slots (take at.slot values) at.disk (omega (arith, many, c.loop-slot-test.true, c.requires)) at.invariant in
+    let takes = takes_row c.args.config.slots (take at.slot values) at.disk (omega (arith, many, c.loop-slot-test.true, c.requires.fits)) at.invariant in
     (takes.there.0, sym takes.there.1)
 
 pub write-requires-clause-range : goal.write-requires-clause-range
@@ -34,10 +34,10 @@ write-requires-clause-range c =
     let at = c.loop-slot in
     let values = c.args.values.now in
     let many = length-take-le at.slot values (omega (arith, at.auto.slot-end)) in
-    let takes = takes_row c.args.config.slots (take at.slot values) at.disk (omega (arith, many, c.loop-slot-test.true, c.requires)) at.invariant in
+    let takes = takes_row c.args.config.slots (take at.slot values) at.disk (omega (arith, many, c.loop-slot-test.true, c.requires.fits)) at.invariant in
     let room = takes.room in
     let long : length c.row_for.result ≡ ROW_LENGTH = omega arith in
-    omega (arith, room, long, c.row_place.ensures, c.loop-slot-test.true, c.requires)
+    omega (arith, room, long, c.row_place.ensures, c.loop-slot-test.true, c.requires.fits)
 
 pub loop-slot-preserved : goal.loop-slot-preserved
 loop-slot-preserved c =
@@ -52,21 +52,21 @@ loop-slot-preserved c =
     ∙ ap (λ (n : ℕ). record at.disk { disk = written at.disk.disk n c.row_for.result }) place
     ∙ ap (λ (l : List ℕ). record at.disk { disk = written at.disk.disk (row_place (length (take at.slot values))) l }) c.row_for.ensures in
     subst (λ (l : List (List ℕ)). HasRows slots l c.write.new.disk) (sym (take_more values at.slot [] c.loop-slot-test.true))
-    (one_row_more slots (take at.slot values) value at.disk c.write.new.disk (omega (arith, many, c.loop-slot-test.true, c.requires)) (ap length (sym c.row_for.ensures) ∙ long) at.invariant wrote)
+    (one_row_more slots (take at.slot values) value at.disk c.write.new.disk (omega (arith, many, c.loop-slot-test.true, c.requires.fits)) (ap length (sym c.row_for.ensures) ∙ long) at.invariant wrote)
 
 pub sync-requires-clause-calm : goal.sync-requires-clause-calm
 sync-requires-clause-calm c =
     let at = c.loop-slot in
     let values = c.args.values.now in
     let many = length-take-le at.slot values (omega (arith, at.auto.slot-end)) in
-    (takes_row c.args.config.slots (take at.slot values) at.disk (omega (arith, many, at.auto.slot-end, c.requires)) at.invariant).calm
+    (takes_row c.args.config.slots (take at.slot values) at.disk (omega (arith, many, at.auto.slot-end, c.requires.fits)) at.invariant).calm
 
 pub sync-requires-clause-there : goal.sync-requires-clause-there
 sync-requires-clause-there c =
     let at = c.loop-slot in
     let values = c.args.values.now in
     let many = length-take-le at.slot values (omega (arith, at.auto.slot-end)) in
-    let takes = takes_row c.args.config.slots (take at.slot values) at.disk (omega (arith, many, at.auto.slot-end, c.requires)) at.invariant in
+    let takes = takes_row c.args.config.slots (take at.slot values) at.disk (omega (arith, many, at.auto.slot-end, c.requires.fits)) at.invariant in
     (takes.there.0, sym takes.there.1)
 
 pub returns : goal.returns
