@@ -4,6 +4,7 @@ use Rattle.std.specs.Io.KnownBytes.{Appends}
 use Rattle.disk.specs.FileStates.{FileState, FileGives}
 use Rattle.world.specs.Entry.{Filled}
 use Rattle.world.specs.World.{world}
+use Rattle.world.specs.Happens as happens
 use Rattle.world.specs.Happens.{Line, entry_of, happens, lines_at}
 use Rattle.lock_command.specs.declared.command.Command.{Command}
 use Rattle.lock_table.specs.Apply.{table_after}
@@ -54,6 +55,12 @@ pub record WritesAnswer (log : List Filled) (event : Event) (place : ℕ) (old n
   pub shape : new.shape ≡ old.shape
   pub leads : LeadsTo (happens old.shape log (event_of event)) new
   pub written : Appends before after (lines_text (lines_at old.shape log place (entry_of old.shape (world old.shape log) (event_of event))))
+
+-- Events happened one after the other, and what was answered with them was written.
+pub record WritesAnswers (log : List Filled) (events : List happens.Event) (place : ℕ) (old new : Kept) (before after : Option (List ℕ)) : Type 0 where
+  pub shape : new.shape ≡ old.shape
+  pub leads : LeadsTo (happens.happen old.shape log events) new
+  pub written : Appends before after (lines_text (happens.answers_from old.shape log place events))
 
 -- TABLES
 

@@ -1,15 +1,18 @@
-ghost use Rattle.std.specs.Prelude.{◌≤◌, ◌+◌, ℕ, List, None, OnOk, length, slice_index_or};
+ghost use Rattle.std.specs.Prelude.{◌≤◌, ◌+◌, ℕ, List, Some, None, IfOk, OnOk, length, replicate, slice_index_or};
 ghost use Rattle.std.specs.Io.KnownBytes.{Appends};
 ghost use Rattle.world.specs.Entry.{Filled};
+ghost use Rattle.world.specs.Happens.{Step};
+ghost use Rattle.simulator.specs.Events.{lines_of};
 ghost use Rattle.simulator.specs.Kept.{LeadsTo};
-ghost use Rattle.dlm_tasks.specs.Printed.{WritesAnswer, IsShowOf, IsViewOf, blocking_text, stopped_line};
+ghost use Rattle.dlm_tasks.specs.Printed.{WritesAnswer, WritesAnswers, lines_text, IsShowOf, IsViewOf, blocking_text, stopped_line};
 
 use crate::command_failure::CommandFailure;
 use crate::fault::Fault;
 use dlm_words::AnswerText;
 use inspect::{Blocking, blocking, queues};
+use lock_command::HostNumber;
 use lock_table::Picture;
-use simulator::{Event, MOST_EVENTS, Run, Script, Show, SimulatedCluster, View};
+use simulator::{Event, MOST_EVENTS, Run, Said, Script, Show, SimulatedCluster, View};
 use std::alloc::Global;
 use std::io;
 use std::io::Write;
@@ -56,10 +59,56 @@ fn repeat<O: Write>(
 ) -> Result<(), CommandFailure>
     requires { first + run.now.times ≤ MOST_EVENTS }
 {
-    for place in first..first + run.times {
-        happen(alloc, cluster, place, &run.event, out)?;
+    match &run.event {
+        Event::Step(host) => repeat_steps(cluster, first, *host, run.times, out),
+        event => {
+            for place in first..first + run.times {
+                happen(alloc, cluster, place, event, out)?;
+            }
+            Ok(())
+        }
+    }
+}
+
+/// Lets a host make so many steps, the first of which has this number, and prints what it says with them.
+fn repeat_steps<O: Write>(
+    cluster: &mut SimulatedCluster,
+    first: usize,
+    host: HostNumber,
+    times: usize,
+    out: &mut O,
+) -> Result<(), CommandFailure>
+    requires { first + times ≤ MOST_EVENTS }
+    ensures { OnOk result ((log : List Filled) → LeadsTo log cluster.old →
+        WritesAnswers log (replicate times (Step host)) first cluster.old cluster.new (O.contents out.old) (O.contents out.new)) }
+{
+    let mut made = 0;
+    while made < times {
+        made += happen_steps(cluster, first + made, host, times - made, out)?;
     }
     Ok(())
+}
+
+/// Lets a host make so many steps at most, the first of which has this number, until it says something, and prints that. Gives how
+/// many it made.
+fn happen_steps<O: Write>(
+    cluster: &mut SimulatedCluster,
+    first: usize,
+    host: HostNumber,
+    most: usize,
+    out: &mut O,
+) -> Result<usize, CommandFailure>
+    requires room { first + most ≤ MOST_EVENTS }
+    requires some { 1 ≤ most }
+    ensures made { IfOk result (λ made. (1 ≤ made) × (made ≤ most)) }
+    ensures written { IfOk result (λ made. (log : List Filled) → LeadsTo log cluster.old →
+        WritesAnswers log (replicate made (Step host)) first cluster.old cluster.new (O.contents out.old) (O.contents out.new)) }
+{
+    let (made, said) = cluster.steps(host, most);
+    if let Some(said) = said {
+        tell(first + made - 1, &said, out)?;
+    }
+    Ok(made)
 }
 
 /// Lets an event happen, and prints what its host then says.
@@ -74,11 +123,18 @@ fn happen<O: Write>(
         WritesAnswer log event.now place cluster.old cluster.new (O.contents out.old) (O.contents out.new)) }
 {
     if let Some(said) = cluster.event(alloc, event).map_err(Fault::from)? {
-        let host = said.host.get();
-        let answer = AnswerText(said.answer);
-        writeln!(out, "{place} h{host} {answer}")?;
+        tell(place, &said, out)?;
     }
     Ok(())
+}
+
+/// Prints what a host said with the event of this number.
+fn tell<O: Write>(place: usize, said: &Said, out: &mut O) -> io::Result<()>
+    ensures { OnOk result (Appends (O.contents out.old) (O.contents out.new) (lines_text (lines_of place (Some said.now)))) }
+{
+    let host = said.host.get();
+    let answer = AnswerText(said.answer);
+    writeln!(out, "{place} h{host} {answer}")
 }
 
 /// Shows what is to be shown after so many events, and gives what is left.
