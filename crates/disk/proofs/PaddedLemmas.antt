@@ -177,6 +177,15 @@ padded_range size bytes at n from here fits within is_from is_here =
           ])
     ]
 
+-- a range of what is kept
+pub kept_range : (size : ℕ) (bytes : List ℕ) (at n : ℕ) → at + n ≤ length bytes → take ((at + n) - at) (drop at (padded size bytes)) ≡ take ((at + n) - at) (drop at bytes)
+unfolding padded
+kept_range size bytes at n within =
+    let zeros : List ℕ = replicate (size - length bytes) 0 in
+    let long : (at + n) - at ≡ n = omega arith in
+    ap (λ (l : List ℕ). take ((at + n) - at) l) (drop-append-le at bytes zeros (omega arith))
+    ∙ take-append-le ((at + n) - at) (drop at bytes) zeros (omega (arith, long, length-drop at bytes))
+
 -- what a read into two parts leaves, where the second is filled with zeros
 pub read_in_two : (bytes into one two : List ℕ) (from kept : ℕ) → kept ≤ length into → from + kept ≤ length bytes → one ≡ take ((from + kept) - from) (drop from bytes) → two ≡ replicate (length (take (length (one ++ drop kept into) - kept) (drop kept (one ++ drop kept into)))) 0 → take kept (one ++ drop kept into) ++ (two ++ drop (length (one ++ drop kept into) - kept) (drop kept (one ++ drop kept into))) ≡ take kept (drop from bytes) ++ replicate (length into - kept) 0
 read_in_two bytes into one two from kept fits within is_one is_two =

@@ -13,6 +13,7 @@ const ZEROS: [u8; PAGE] = [0; PAGE];
 
 /// The bytes up to `end` are kept, or more of them, and their words. Nothing else changes: new bytes are zeros, and new words are blank. It
 /// takes no memory.
+#[inline(always)]
 pub fn extend(bytes: &mut Vec<u8>, words: &mut Vec<Word>, end: usize, size: usize)
     requires within { end ≤ size }
     requires fit { WordsFit size (length bytes.old.items) (length words.old.items) }
@@ -27,10 +28,28 @@ pub fn extend(bytes: &mut Vec<u8>, words: &mut Vec<Word>, end: usize, size: usiz
     ensures word_room { size ≤ 64 * vec_capacity words.new }
 {
     if bytes.len() < end {
-        let to = size.min(end.div_ceil(PAGE) * PAGE);
-        add_zeros(bytes, to);
-        let _ = words.resize(to.div_ceil(64), Word { stamp: 0, bits: 0 });
+        grow(bytes, words, end, size);
     }
+}
+
+// What `extend` does where the bytes up to `end` are not kept yet.
+fn grow(bytes: &mut Vec<u8>, words: &mut Vec<Word>, end: usize, size: usize)
+    requires more { length bytes.old.items < end }
+    requires within { end ≤ size }
+    requires fit { WordsFit size (length bytes.old.items) (length words.old.items) }
+    requires room { size ≤ vec_capacity bytes.old }
+    requires word_room { size ≤ 64 * vec_capacity words.old }
+    ensures bytes { padded size bytes.new.items ≡ padded size bytes.old.items }
+    ensures marks { (epoch : ℕ) → marks epoch words.new.items size ≡ marks epoch words.old.items size }
+    ensures no_later { (epoch : ℕ) → All (λ w. w.stamp ≤ epoch) words.old.items → All (λ w. w.stamp ≤ epoch) words.new.items }
+    ensures reaches { end ≤ length bytes.new.items }
+    ensures fit { WordsFit size (length bytes.new.items) (length words.new.items) }
+    ensures room { size ≤ vec_capacity bytes.new }
+    ensures word_room { size ≤ 64 * vec_capacity words.new }
+{
+    let to = size.min(end.div_ceil(PAGE) * PAGE);
+    add_zeros(bytes, to);
+    let _ = words.resize(to.div_ceil(64), Word { stamp: 0, bits: 0 });
 }
 
 // Adds zeros up to this length, by pages: a copy of a page is faster than a loop over its bytes.
@@ -47,7 +66,21 @@ fn add_zeros(bytes: &mut Vec<u8>, to: usize)
 }
 
 /// Reads the bytes from `at` on.
+#[inline(always)]
 pub fn get(bytes: &[u8], at: usize, into: &mut [u8])
+    ensures { (size : ℕ) → length bytes.now ≤ size → at + length into.old ≤ size → into.new ≡ slice_range (padded size bytes.now) at (at + length into.old) }
+{
+    // Where all of them are kept, the length that the caller knows is the one that is copied: the compiler sees it.
+    if at <= bytes.len() && into.len() <= bytes.len() - at {
+        into.copy_from_slice(&bytes[at..at + into.len()]);
+    } else {
+        get_and_fill(bytes, at, into);
+    }
+}
+
+// What `get` does where some of the bytes are behind those that are kept.
+#[inline(never)]
+fn get_and_fill(bytes: &[u8], at: usize, into: &mut [u8])
     ensures { (size : ℕ) → length bytes.now ≤ size → at + length into.old ≤ size → into.new ≡ slice_range (padded size bytes.now) at (at + length into.old) }
 {
     let from = at.min(bytes.len());
@@ -80,6 +113,7 @@ fn get_front(bytes: &[u8], at: usize, len: usize, into: &mut [u8])
 }
 
 /// The range from `at` on holds these bytes.
+#[inline(always)]
 pub fn put(bytes: &mut Vec<u8>, at: usize, from: &[u8])
     requires { at + length from.now ≤ length bytes.old.items }
     ensures bytes { bytes.new.items ≡ put_at bytes.old.items at from.now }

@@ -1,5 +1,5 @@
 // Where a simulated disk was ever written.
-ghost use Rattle.std.specs.Prelude.{◌≡◌, ◌*◌, ◌<◌, ◌≤◌, ℕ, length, slice_index_or, vec_capacity};
+ghost use Rattle.std.specs.Prelude.{◌≡◌, ◌*◌, ◌<◌, ◌≤◌, ℕ, IsTrue, length, slice_index_or, vec_capacity};
 ghost use Rattle.disk.specs.Pages.{nothing, Covers};
 
 /// How many bytes a page has.
@@ -24,7 +24,33 @@ pub fn extent_of(pages: &Vec<Extent>, index: usize) -> Extent
 }
 
 /// The positions from `at` up to `end`, that one left out, are in the ranges, too. It takes no memory.
+#[inline(always)]
 pub fn widen(pages: &mut Vec<Extent>, at: usize, end: usize)
+    requires order { at ≤ end }
+    requires room { end ≤ 4096 * vec_capacity pages.old }
+    ensures keeps { (k : ℕ) → Covers pages.old.items k → Covers pages.new.items k }
+    ensures range { (k : ℕ) → at ≤ k → k < end → Covers pages.new.items k }
+    ensures room { vec_capacity pages.old ≤ vec_capacity pages.new }
+{
+    // Most writes are where something was written before.
+    if !are_covered(pages, at, end) {
+        widen_each(pages, at, end);
+    }
+}
+
+// Whether the positions are in the range of one page.
+fn are_covered(pages: &Vec<Extent>, at: usize, end: usize) -> bool
+    requires { at ≤ end }
+    ensures { IsTrue result → (k : ℕ) → at ≤ k → k < end → Covers pages.now.items k }
+{
+    let index = at / PAGE;
+    let first = PAGE * index;
+    let range = extent_of(pages, index);
+    usize::from(range.from) <= at - first && end - first <= PAGE.min(usize::from(range.to))
+}
+
+// Widens the range of each page.
+fn widen_each(pages: &mut Vec<Extent>, at: usize, end: usize)
     requires order { at ≤ end }
     requires room { end ≤ 4096 * vec_capacity pages.old }
     ensures keeps { (k : ℕ) → Covers pages.old.items k → Covers pages.new.items k }

@@ -187,6 +187,7 @@ impl SimDisk {
     }
 
     // The range holds these bytes, unsynced.
+    #[inline(always)]
     fn overwrite(&mut self, at: usize, from: &[u8])
         requires { at + length from.now ≤ length self.old.disk.bytes }
         ensures { self.new ≡ record self.old { disk = written self.old.disk at from.now } }
@@ -198,6 +199,7 @@ impl SimDisk {
     }
 
     // Reads the bytes from `at` on.
+    #[inline(always)]
     fn fetch(&self, at: usize, into: &mut [u8])
         requires { at + length into.old ≤ length self.now.disk.bytes }
         ensures { into.new ≡ slice_range self.now.disk.bytes at (at + length into.old) }

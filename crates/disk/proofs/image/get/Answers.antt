@@ -1,13 +1,7 @@
 use Rattle.std.proofs.Common.{length, sym, ◌∙◌, arith}
-use Rattle.disk.proofs.PaddedLemmas.{padded_range, read_in_two}
+use Rattle.disk.proofs.PaddedLemmas.{kept_range}
 use Rattle.disk.proofs.image.get.Goals as goal
 
-pub returns : goal.returns
-returns c =
-    let kept = c.min-kept.result in
-    let from = c.min-from.result in
-    let into = c.args.into.now in
-    let bytes = c.args.bytes.now in
-    λ size fits within.
-    read_in_two bytes into c.copy_from_slice.new.self c.fill.new.self from kept (omega arith) (omega arith) c.copy_from_slice.ensures.after (c.fill.ensures.after (λ y e. e))
-    ∙ sym (padded_range size bytes c.args.at (length into) from kept fits within (omega arith) (omega arith))
+pub returns-then-into-bytes : goal.returns-then-into-bytes
+returns-then-into-bytes c =
+    λ size fits within. c.copy_from_slice.ensures.after ∙ sym (kept_range size c.args.bytes.now c.args.at (length c.args.into.now) (omega arith))

@@ -4,7 +4,7 @@ use Rattle.std.proofs.lemmas.List.{get_or_read}
 use Rattle.disk.specs.declared.pages.Extent.{Extent}
 use Rattle.disk.specs.Pages.{nothing}
 use Rattle.disk.proofs.PageLemmas.{covers_here, covers_set}
-use Rattle.disk.proofs.pages.widen.Goals as goal
+use Rattle.disk.proofs.pages.widen_each.Goals as goal
 
 pub loop-index-preserved : goal.loop-index-preserved
 loop-index-preserved c =

@@ -5,17 +5,17 @@ use Rattle.disk.specs.declared.word.Word.{Word}
 use Rattle.disk.specs.Image.{padded}
 use Rattle.disk.specs.Marks.{blank, marks}
 use Rattle.disk.proofs.PaddedLemmas.{padded_more, marks_more_words}
-use Rattle.disk.proofs.image.extend.Goals as goal
+use Rattle.disk.proofs.image.grow.Goals as goal
 
-pub returns-then-len-end-clause-bytes : goal.returns-then-len-end-clause-bytes
-returns-then-len-end-clause-bytes c =
+pub returns-clause-bytes : goal.returns-clause-bytes
+returns-clause-bytes c =
     let bytes = c.args.bytes.now.items in
     ap (padded c.args.size) c.add_zeros.ensures.bytes ∙ padded_more c.args.size bytes (c.min-to.result - length bytes) (omega arith)
 
-pub returns-then-len-end-clause-marks : goal.returns-then-len-end-clause-marks
-returns-then-len-end-clause-marks c =
+pub returns-clause-marks : goal.returns-clause-marks
+returns-clause-marks c =
     let words = c.args.words.now.items in
-    let to = c.div_ceil-then-len-end.result in
+    let to = c.div_ceil-2.result in
     let n = to - vec_len c.args.words.now in
     let grown : c.resize.new.self.items ≡ take to words ++ replicate n blank =
     c.resize.ensures.items

@@ -1,7 +1,7 @@
 use Rattle.std.proofs.Common.{◌≡◌, ◌/◌, ◌<◌, ◌≤◌, ℕ, length}
 use Rattle.std.specs.Prelude.{vec_capacity}
 use Rattle.disk.specs.Pages.{Covers}
-use Rattle.disk.proofs.pages.widen.Given as goal
+use Rattle.disk.proofs.pages.widen_each.Given as goal
 
 abbrev pub invariant-loop-index : goal.invariant-loop-index
 invariant-loop-index l = record {
