@@ -184,8 +184,10 @@ def signals():
     os.unlink(os.path.join(work, "held"))
     until(lambda: os.path.exists(os.path.join(work, "held")))
     expect(end(process) == 3 and os.path.exists(trapped), "SIGTERM is handed on, and the command may take its time")
-    process = begin(images, 0, "db")
+    process = begin("--verbose", images, 0, "db", stderr=subprocess.PIPE)
     expect(until(lambda: "granted" in table()), "without a command it holds")
+    # The table has the lock a moment before mg-lock knows that it is granted. A signal in between ends the wait, so mg-lock has to say so first.
+    expect(b"db was granted" in process.stderr.readline(), "it says so")
     expect(end(process, signal.SIGINT) == 0, "and ends well by a signal")
     left_nothing("signals")
 
