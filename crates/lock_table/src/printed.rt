@@ -109,7 +109,7 @@ fn end_within(printed: &ByPrintedOrder, mut from: usize, mut size: usize, key: u
     place
 }
 
-/// How many locks have a lower key. The search begins where the last one for the name ended.
+/// How many locks have a lower key. The search begins where an earlier one for the name ended.
 fn locks_below(printed: &ByPrintedOrder, name: &SpelledName, key: u128) -> usize
     requires sorted { IsSorted printed_cmp printed.now }
     requires small { key ≤ 2 ^ 126 }
@@ -187,8 +187,10 @@ pub fn admits(printed: &ByPrintedOrder, lock: LockNumber, name: &SpelledName, mo
     requires { IsSorted printed_cmp printed.now }
     ensures { result ≡ admits printed.now lock name.now mode }
 {
-    let from = locks_before_rank(printed, name, 0);
     let to = locks_before_rank(printed, name, 2);
+    let from = locks_before_rank(printed, name, 0);
+    // Most locks join at this end, so the next search begins there.
+    name.keep_near(to);
     if printed.none_against(from, to, mode) {
         return true;
     }
