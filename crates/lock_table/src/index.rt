@@ -130,8 +130,7 @@ impl Index {
     {
         let new = own.with_state(state);
         by_lock_number::replace(&mut self.numbers, new, name.near_by_number());
-        printed::take_out(&mut self.printed, &own, name);
-        printed::put_in(&mut self.printed, &new, name);
+        printed::restate(&mut self.printed, &own, &new, name);
     }
 
     /// Takes a lock away.
