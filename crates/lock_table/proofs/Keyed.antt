@@ -89,6 +89,12 @@ inside_where_found {X} P xs i x found =
       | inr far ↦ let none : None ≡ Some x = ap (find P) (sym (drop_all i xs far)) ∙ found in let impossible : ⊥ = cc in absurd impossible
     ]
 
+pub stands_where_found : {X : Type 0} (P : X → Bool) (xs : List X) (i : ℕ) (x d : X) → find P (drop i xs) ≡ Some x → P (get_or xs i d) ≡ true → get_or xs i d ≡ x
+stands_where_found P xs i x d found own =
+    let first : find P (drop i xs) ≡ Some (get_or xs i d) =
+    ap (find P) (drop_more xs i d (inside_where_found P xs i x found)) ∙ ap (λ t. cond t (Some (get_or xs i d)) (find P (drop (i + 1) xs))) own in
+    let both : Some (get_or xs i d) ≡ Some x = sym first ∙ found in cc
+
 pub remove_where_stands : {X : Type 0} (P : X → Bool) (xs : List X) (i : ℕ) (d : X) → i < length xs → P (get_or xs i d) ≡ true → length (filter P xs) ≤ 1 → remove xs i ≡ filter (λ y. not (P y)) xs
 remove_where_stands {X} P xs i d inside own few =
     let more : suc i ≡ i + 1 = omega arith in

@@ -3,7 +3,7 @@ use Rattle.std.proofs.Common.{◌≡◌, ◌≤◌, ◌<◌, ◌+◌, ℕ, true,
 use Rattle.std.proofs.lemmas.Bool.{eqb-true, eqb-false}
 use Rattle.std.proofs.lemmas.List.{get_or-map, get_or-set_same, get_or-set_other}
 use Rattle.lock_table.specs.declared.record.LockRecord.{LockRecord}
-use Rattle.lock_table.specs.Shelved.{at_place, at_places, times, idle, IsShelved}
+use Rattle.lock_table.specs.Shelved.{no_lock, at_place, at_places, times, idle, IsShelved}
 use Rattle.lock_table.specs.Keys.{lock_key, HasKey, IsKeyed}
 use Rattle.lock_table.proofs.Places.{times-insert, times-remove, listed_place}
 
@@ -39,8 +39,29 @@ module _ (records : List LockRecord) (order free keys : List ℕ) (sound : IsShe
         ] refl;
   }
 
+  -- a record in place of another that has its key
+  pub keyed_set : (q : ℕ) (new : LockRecord) → q < length records → lock_key new ≡ lock_key (at_place records q) → HasKey new → IsKeyed (set records q new) order keys
+  keyed_set q new inside alike fits = record {
+    found = λ p listed.
+        elim (q == p) as (λ b. (q == p) ≡ b → get_or keys p 0 ≡ lock_key (at_place (set records q new) p)) [
+          | true ↦ λ e.
+              let same : q ≡ p = eqb-true q p e in
+              keyed.found p listed
+              ∙ ap (λ n. lock_key (at_place records n)) (sym same)
+              ∙ sym alike
+              ∙ ap lock_key (sym (get_or-set_same records q new no_lock inside))
+              ∙ ap (λ n. lock_key (at_place (set records q new) n)) same
+          | false ↦ λ e. keyed.found p listed ∙ ap lock_key (sym (get_or-set_other records q p new no_lock (λ (same : p ≡ q). eqb-false q p e (sym same))))
+        ] refl;
+    fits = λ p listed.
+        elim (q == p) as (λ b. (q == p) ≡ b → HasKey (at_place (set records q new) p)) [
+          | true ↦ λ e. subst (λ (r : LockRecord). HasKey r) (sym (get_or-set_same records q new no_lock inside) ∙ ap (at_place (set records q new)) (eqb-true q p e)) fits
+          | false ↦ λ e. subst (λ (r : LockRecord). HasKey r) (sym (get_or-set_other records q p new no_lock (λ (same : p ≡ q). eqb-false q p e (sym same)))) (keyed.fits p listed)
+        ] refl;
+  }
+
   -- what is read of the lock at a place of the order
-  shown_there : (shown : List LockRecord) (i d : ℕ) (e : LockRecord) → at_places records order ≡ shown → i < length order → at_place records (get_or order i d) ≡ get_or shown i e
+  pub shown_there : (shown : List LockRecord) (i d : ℕ) (e : LockRecord) → at_places records order ≡ shown → i < length order → at_place records (get_or order i d) ≡ get_or shown i e
   shown_there shown i d e is inside = sym (get_or-map (at_place records) order i d e inside) ∙ ap (λ l. get_or l i e) is
 
   pub key_in_order : (shown : List LockRecord) (i p d : ℕ) → at_places records order ≡ shown → i < length order → p ≡ get_or order i d → (e : LockRecord) → get_or keys p 0 ≡ lock_key (get_or shown i e)

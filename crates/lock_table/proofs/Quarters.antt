@@ -1,9 +1,9 @@
 -- Where an ascending list is cut in two, found by parts of it.
-use Rattle.std.proofs.Common.{◌≡◌, ◌≤◌, ◌<◌, ◌+◌, ◌-◌, ◌*◌, ℕ, Bool, true, false, cond, List, length, get_or, refl, sym, ap, ◌∙◌, inl, inr, arith}
+use Rattle.std.proofs.Common.{◌≡◌, ◌≤◌, ◌<◌, ◌+◌, ◌-◌, ◌*◌, ◌/◌, ℕ, Bool, true, false, cond, List, length, get_or, refl, sym, ap, ◌∙◌, inl, inr, arith}
 use Rattle.std.specs.List.{AllWithin}
 use Rattle.std.specs.List.Sorted.{IsPartitionedBy, IsPartitionPoint}
 use Rattle.std.proofs.lemmas.Bool.{cases_lt}
-use Rattle.std.proofs.lemmas.List.{get_or_read}
+use Rattle.std.proofs.lemmas.List.{get_or_read, get_or_default}
 use Rattle.lock_table.specs.Halved.{IsHalved}
 
 -- what is known where all in front of a place pass, and it is the cut if it is in front of another
@@ -48,7 +48,7 @@ module _ {X : Type 0} (p : X → Bool) (xs : List X) (cut : IsPartitionedBy p xs
       ] refl
 
   -- one more is tested
-  pub counted_next : (place at : ℕ) → IsCounted p xs place at → at < length xs → (x : X) → x ≡ get_or xs at x → (n : ℕ) → n ≡ cond (p x) 1 0 → (next : ℕ) → next ≡ place + n
+  counted_next : (place at : ℕ) → IsCounted p xs place at → at < length xs → (x : X) → x ≡ get_or xs at x → (n : ℕ) → n ≡ cond (p x) 1 0 → (next : ℕ) → next ≡ place + n
       → IsCounted p xs next (at + 1)
   counted_next place at counted inside x is n tells next on =
       elim (p x) as (λ t. p x ≡ t → n ≡ cond t 1 0 → IsCounted p xs next (at + 1)) [
@@ -109,7 +109,7 @@ module _ {X : Type 0} (p : X → Bool) (xs : List X) (cut : IsPartitionedBy p xs
         (omega (arith, on))
 
     -- three are tested, a quarter apart, and as many quarters are passed as pass
-    pub quartered_next : (a b c passes step : ℕ) → a ≡ cond (p x) 1 0 → b ≡ cond (p y) 1 0 → c ≡ cond (p z) 1 0 → passes ≡ a + b + c → step ≡ quarter * passes → next ≡ from + step
+    quartered_next : (a b c passes step : ℕ) → a ≡ cond (p x) 1 0 → b ≡ cond (p y) 1 0 → c ≡ cond (p z) 1 0 → passes ≡ a + b + c → step ≡ quarter * passes → next ≡ from + step
         → IsHalved p xs next (size - 3 * quarter)
     quartered_next a b c passes step a_is b_is c_is sum is on =
         let before_j : i ≤ j = omega (arith, i_is, j_is) in
@@ -141,3 +141,28 @@ module _ {X : Type 0} (p : X → Bool) (xs : List X) (cut : IsPartitionedBy p xs
                     ] refl a_is
               ] refl b_is
         ] refl c_is
+
+  -- a search that has halved a list so far goes on by three tests
+  pub halved_on : (d : X) (from size : ℕ) → IsHalved p xs from size → 4 < size → (a b c step : ℕ) → a ≡ cond (p (get_or xs (from + (size + 1) / 4 - 1) d)) 1 0
+      → b ≡ cond (p (get_or xs (from + 2 * ((size + 1) / 4) - 1) d)) 1 0 → c ≡ cond (p (get_or xs (from + 3 * ((size + 1) / 4) - 1) d)) 1 0 → step ≡ (size + 1) / 4 * (a + b + c)
+      → IsHalved p xs (from + step) (size - 3 * ((size + 1) / 4))
+  halved_on d from size halved more a b c step a_is b_is c_is is =
+      let quarter = (size + 1) / 4 in
+      let i = from + quarter - 1 in
+      let j = from + 2 * quarter - 1 in
+      let k = from + 3 * quarter - 1 in
+      let x = get_or xs i d in
+      let y = get_or xs j d in
+      let z = get_or xs k d in
+      let inside_z : k < length xs = omega (arith, more, halved.inside) in
+      let inside_y : j < length xs = omega (arith, inside_z, more) in
+      let inside_x : i < length xs = omega (arith, inside_z, more) in
+      quartered_next from size halved quarter (omega (arith, more)) (omega arith) i j k refl refl refl x y z (get_or_default xs i d x inside_x) (get_or_default xs j d y inside_y) (get_or_default xs k d z inside_z)
+      (from + step) a b c (a + b + c) step a_is b_is c_is refl is refl
+
+  -- and in the end by one after the other
+  pub counted_on : (d : X) (from size : ℕ) → IsHalved p xs from size → (place at : ℕ) → IsCounted p xs place at → at < from + size → (n : ℕ) → n ≡ cond (p (get_or xs at d)) 1 0 → IsCounted p xs (place + n) (at + 1)
+  counted_on d from size halved place at counted less n is =
+      let x = get_or xs at d in
+      let inside : at < length xs = omega (arith, less, halved.inside) in
+      counted_next place at counted inside x (get_or_default xs at d x inside) n is (place + n) refl

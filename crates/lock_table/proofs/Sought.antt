@@ -60,18 +60,18 @@ higher a b not_less differ =
 
 -- WHERE ONE STANDS, OR NONE
 
-module _ (P : NamedValue → Bool) where
-  find_none : (xs : List NamedValue) → ((k : ℕ) (d : NamedValue) → k < length xs → P (get_or xs k d) ≡ false) → find P xs ≡ None
+module _ {X : Type 0} (P : X → Bool) where
+  find_none : (xs : List X) → ((k : ℕ) (d : X) → k < length xs → P (get_or xs k d) ≡ false) → find P xs ≡ None
   find_none [] none = refl
   find_none (x ∷ xs) none = ap (λ t. cond t (Some x) (find P xs)) (none 0 x (omega arith)) ∙ find_none xs (λ k d inside. none (suc k) d (omega (arith, inside)))
 
-  all_kept : (xs : List NamedValue) → ((k : ℕ) (d : NamedValue) → k < length xs → P (get_or xs k d) ≡ false) → xs ≡ filter (λ e. not (P e)) xs
+  all_kept : (xs : List X) → ((k : ℕ) (d : X) → k < length xs → P (get_or xs k d) ≡ false) → xs ≡ filter (λ e. not (P e)) xs
   all_kept [] none = refl
   all_kept (x ∷ xs) none =
       ap (λ l. x ∷ l) (all_kept xs (λ k d inside. none (suc k) d (omega (arith, inside))))
       ∙ ap (λ t. cond (not t) (x ∷ filter (λ e. not (P e)) xs) (filter (λ e. not (P e)) xs)) (sym (none 0 x (omega arith)))
 
-  counted_at : (xs : List NamedValue) (i : ℕ) (d : NamedValue) → i < length xs → P (get_or xs i d) ≡ true → 1 ≤ length (filter P xs)
+  counted_at : (xs : List X) (i : ℕ) (d : X) → i < length xs → P (get_or xs i d) ≡ true → 1 ≤ length (filter P xs)
   counted_at [] i d inside own = absurd (omega (arith, inside))
   counted_at (x ∷ xs) zero d inside own = omega (arith, ap (λ t. length (cond t (x ∷ filter P xs) (filter P xs))) own)
   counted_at (x ∷ xs) (suc i) d inside own = elim (P x) as (λ t. 1 ≤ length (cond t (x ∷ filter P xs) (filter P xs))) [
@@ -79,7 +79,7 @@ module _ (P : NamedValue → Bool) where
     | false ↦ counted_at xs i d (omega (arith, inside)) own
   ]
 
-  find_at : (xs : List NamedValue) (i : ℕ) (d : NamedValue) → i < length xs → P (get_or xs i d) ≡ true → length (filter P xs) ≤ 1 → find P xs ≡ Some (get_or xs i d)
+  find_at : (xs : List X) (i : ℕ) (d : X) → i < length xs → P (get_or xs i d) ≡ true → length (filter P xs) ≤ 1 → find P xs ≡ Some (get_or xs i d)
   find_at [] i d inside own few = absurd (omega (arith, inside))
   find_at (x ∷ xs) zero d inside own few = ap (λ t. cond t (Some x) (find P xs)) own
   find_at (x ∷ xs) (suc i) d inside own few =
@@ -89,7 +89,7 @@ module _ (P : NamedValue → Bool) where
       ] few
 
   -- where one alone passes, none behind it does
-  none_later : (xs : List NamedValue) (i k : ℕ) (d : NamedValue) → i < k → k < length xs → P (get_or xs i d) ≡ true → length (filter P xs) ≤ 1 → P (get_or xs k d) ≡ false
+  pub none_later : (xs : List X) (i k : ℕ) (d : X) → i < k → k < length xs → P (get_or xs i d) ≡ true → length (filter P xs) ≤ 1 → P (get_or xs k d) ≡ false
   none_later [] i k d behind inside own few = absurd (omega (arith, inside))
   none_later (x ∷ xs) i zero d behind inside own few = absurd (omega (arith, behind))
   none_later (x ∷ xs) zero (suc k) d behind inside own few =

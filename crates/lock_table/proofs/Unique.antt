@@ -141,7 +141,7 @@ names_equal a b h =
     ap (λ n. same_name b n) same ∙ same_name-itself b
 
 -- locks that tie stand in one queue, or are granted under one number
-printed_equal : (x z : LockRecord) → printed_cmp x z ≡ Equal → (is_on x.name z ≡ true) × (rank_of x.state ≡ rank_of z.state) × ((number_among z.state z.lock == number_among x.state x.lock) ≡ true)
+pub printed_equal : (x z : LockRecord) → printed_cmp x z ≡ Equal → (is_on x.name z ≡ true) × (rank_of x.state ≡ rank_of z.state) × ((number_among z.state z.lock == number_among x.state x.lock) ≡ true)
 printed_equal x z h =
     let rest = then_equal (slice_cmp nat_cmp x.name z.name) _ h in (
       names_equal x.name z.name (first_equal (slice_cmp nat_cmp x.name z.name) _ h),
@@ -149,7 +149,7 @@ printed_equal x z h =
       numbers_equal (number_among x.state x.lock) (number_among z.state z.lock) (then_equal (nat_cmp (rank_of x.state) (rank_of z.state)) _ rest),
     )
 
-granted_number : (s : LockState) (lock other : ℕ) → 0 ≡ rank_of s → (number_among s lock == other) ≡ true → (lock == other) ≡ true
+pub granted_number : (s : LockState) (lock other : ℕ) → 0 ≡ rank_of s → (number_among s lock == other) ≡ true → (lock == other) ≡ true
 granted_number (Granted m) lock other rank h = h
 granted_number (Converting m w) lock other rank h = absurd (omega (arith, rank))
 granted_number (Waiting w) lock other rank h = absurd (omega (arith, rank))

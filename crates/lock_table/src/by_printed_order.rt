@@ -1,4 +1,4 @@
-ghost use Rattle.std.specs.Prelude.{◌≡◌, ◌+◌, ◌<◌, ◌≤◌, ◌==◌, ◌^◌, ℕ, [], IfOk, IsTrue, cond, false, nat_lt, length, insert, remove, slice_index_or, vec_len, vec_capacity};
+ghost use Rattle.std.specs.Prelude.{◌≡◌, ◌+◌, ◌<◌, ◌≤◌, ◌==◌, ◌^◌, ℕ, [], IfOk, IsTrue, cond, false, nat_lt, length, insert, remove, set, slice_index_or, vec_len, vec_capacity};
 ghost use Rattle.std.specs.List.{list_any, slice_get, AllWithin};
 ghost use Rattle.lock_table.specs.declared.record.LockRecord.{LockRecord};
 ghost use Rattle.lock_table.specs.Carrying.{has_locks};
@@ -179,6 +179,18 @@ impl ByPrintedOrder {
         self.keys[usize::from(place)] = key;
         let _ = self.order.insert(at, place);
         let _ = self.held.insert(at, held_bit(&new.state));
+    }
+
+    /// Replaces the lock at this index. The sort key that is kept for it stays.
+    pub fn set(&mut self, at: usize, new: LockRecord)
+        requires inside { at < length self.old }
+        requires fits { HasKey new }
+        requires key { (d : LockRecord) → lock_key new ≡ lock_key (slice_index_or self.old at d) }
+        ensures { self.new ≡ set self.old at new }
+    {
+        let place = usize::from(self.order[at]);
+        self.records[place] = new;
+        self.held[at] = held_bit(&new.state);
     }
 
     /// Takes a lock out.

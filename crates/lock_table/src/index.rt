@@ -74,16 +74,14 @@ impl Index {
         by_lock_number::numbered(&self.numbers, lock, near)
     }
 
-    /// The record that was found of a lock number. This is called for its contract.
-    pub fn as_found(&self, found: Option<LockRecord>, lock: LockNumber) -> Option<LockRecord>
-        requires { found ≡ lock_in self.now lock }
-        ensures found { result ≡ lock_in self.now lock }
-        ensures there { IfSome result (λ r. lock_in self.now r.lock ≡ Some r) }
+    /// What was found of a lock number is a record of the table. This is called for its contract.
+    pub fn as_found(&self, found: &Option<LockRecord>, lock: LockNumber)
+        requires { found.now ≡ lock_in self.now lock }
+        ensures there { IfSome found.now (λ r. lock_in self.now r.lock ≡ Some r) }
         ensures printed { in_order printed_cmp self.now ≡ self.now }
         ensures distinct { IsDistinct self.now }
     {
         let _ = self.printed();
-        found
     }
 
     /// The lock whose turn it is on a name.
@@ -130,8 +128,7 @@ impl Index {
     {
         let new = own.with_state(state);
         by_lock_number::replace(&mut self.numbers, new, name.near_by_number());
-        printed::take_out(&mut self.printed, &own, name);
-        printed::put_in(&mut self.printed, &new, name);
+        printed::restate(&mut self.printed, &own, &new, name);
     }
 
     /// Takes a lock away.

@@ -11,7 +11,7 @@ use std::marker::Model;
 pub struct SpelledName {
     name: LockName,
     number: u128,
-    /// Where the last search for the name ended. No contract speaks of it: a search only begins there.
+    /// Where a search for the name ended. No contract speaks of it: the next one only begins there.
     near: Cell<usize>,
     /// Where a search by lock number ended. No contract speaks of it either.
     near_by_number: usize,

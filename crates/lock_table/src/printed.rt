@@ -1,19 +1,21 @@
-ghost use Rattle.std.specs.Prelude.{◌≡◌, ◌<◌, ◌≤◌, ◌^◌, length, filter, insert, remove, not, nat_lt, true, false};
+ghost use Rattle.std.specs.Prelude.{◌≡◌, ◌<◌, ◌≤◌, ◌^◌, length, filter, insert, remove, slice_index_or, not, nat_lt, true, false};
 ghost use Rattle.std.specs.List.{AllWithin, list_any};
 ghost use Rattle.std.specs.List.Sorted.{IsSorted, IsPartitionPoint};
 ghost use Rattle.lock_table.specs.Locks.{is_through};
 ghost use Rattle.lock_table.specs.Indexed.{stands_before_rank};
 ghost use Rattle.lock_table.specs.Halved.{IsHalved};
 ghost use Rattle.lock_table.specs.Keys.{lock_key, HasKey};
-ghost use Rattle.lock_table.specs.Locks.{is_on, lock_in, without, head_of, admits, IsDistinct};
+ghost use Rattle.lock_table.specs.Locks.{is_on, lock_in, without, head_of, admits, in_state, IsDistinct};
 ghost use Rattle.lock_table.specs.Picture.{printed_cmp};
 ghost use Rattle.lock_table.specs.Placed.{placed};
+ghost use Rattle.lock_table.specs.declared.record.LockRecord.{LockRecord};
 
 use crate::by_printed_order::ByPrintedOrder;
 use crate::halving::passed_of_three;
 use crate::keys::SpelledName;
 use crate::locks::LOCKS;
 use crate::record::LockRecord;
+use crate::state::is_granted;
 use lock_command::{HostNumber, LockName, LockNumber};
 use lock_modes::Mode;
 
@@ -109,7 +111,7 @@ fn end_within(printed: &ByPrintedOrder, mut from: usize, mut size: usize, key: u
     place
 }
 
-/// How many locks have a lower key. The search begins where the last one for the name ended.
+/// How many locks have a lower key. The search begins where an earlier one for the name ended.
 fn locks_below(printed: &ByPrintedOrder, name: &SpelledName, key: u128) -> usize
     requires sorted { IsSorted printed_cmp printed.now }
     requires small { key ≤ 2 ^ 126 }
@@ -141,6 +143,8 @@ fn place_of(printed: &ByPrintedOrder, own: &LockRecord, name: &SpelledName) -> u
     requires distinct { IsDistinct printed.now }
     requires there { lock_in printed.now own.now.lock ≡ Some own.now }
     ensures bound { result < length printed.now }
+    ensures lock { (d : LockRecord) → slice_index_or printed.now result d ≡ own.now }
+    ensures fits { HasKey own.now }
     ensures place { remove printed.now result ≡ without printed.now own.now.lock }
 {
     let mut at = locks_below(printed, name, own.key(name));
@@ -187,8 +191,10 @@ pub fn admits(printed: &ByPrintedOrder, lock: LockNumber, name: &SpelledName, mo
     requires { IsSorted printed_cmp printed.now }
     ensures { result ≡ admits printed.now lock name.now mode }
 {
-    let from = locks_before_rank(printed, name, 0);
     let to = locks_before_rank(printed, name, 2);
+    let from = locks_before_rank(printed, name, 0);
+    // Most locks join at this end, so the next search begins there.
+    name.keep_near(to);
     if printed.none_against(from, to, mode) {
         return true;
     }
@@ -220,6 +226,24 @@ pub fn take_out(printed: &mut ByPrintedOrder, own: &LockRecord, name: &SpelledNa
     ensures room { length printed.new < LOCKS }
 {
     printed.remove(place_of(printed, own, name));
+}
+
+/// Replaces the record of a lock by that of the lock in another state. A granted lock that stays granted has the sort key that it
+/// had, and so its place: nothing is shifted.
+pub fn restate(printed: &mut ByPrintedOrder, own: &LockRecord, new: &LockRecord, name: &SpelledName)
+    requires sorted { IsSorted printed_cmp printed.old }
+    requires named { name.now ≡ own.now.name }
+    requires distinct { IsDistinct printed.old }
+    requires there { lock_in printed.old own.now.lock ≡ Some own.now }
+    requires restated { new.now ≡ in_state own.now new.now.state }
+    ensures items { printed.new ≡ placed printed_cmp new.now (without printed.old own.now.lock) }
+{
+    if is_granted(&own.state) && is_granted(&new.state) {
+        printed.set(place_of(printed, own, name), *new);
+        return;
+    }
+    take_out(printed, own, name);
+    put_in(printed, new, name);
 }
 
 /// Takes out the locks that were enqueued through a host.

@@ -1,7 +1,7 @@
-ghost use Rattle.std.specs.Prelude.{◌≡◌};
+ghost use Rattle.std.specs.Prelude.{◌≡◌, not};
 ghost use Rattle.lock_table.specs.Bits.{held_bit};
 ghost use Rattle.lock_table.specs.Picture.{rank_of, number_among};
-ghost use Rattle.lock_table.specs.State.{goal_of};
+ghost use Rattle.lock_table.specs.State.{goal_of, is_queued};
 
 use crate::bits::bit_of;
 use lock_command::LockState;
@@ -15,6 +15,13 @@ pub fn held_bit(state: &LockState) -> u8
         LockState::Granted(mode) | LockState::Converting { held: mode, .. } => bit_of(*mode),
         LockState::Waiting(_) => 0,
     }
+}
+
+/// Whether the lock wants nothing more than it holds.
+pub fn is_granted(state: &LockState) -> bool
+    ensures { result ≡ not (is_queued state.now) }
+{
+    matches!(state, LockState::Granted(_))
 }
 
 /// The rank of locks in this state: 0 granted, 1 converting, 2 waiting. The locks of a name are printed by rank.

@@ -1,0 +1,41 @@
+use Rattle.std.proofs.Common.{set, List, not, subst, sym, ap, ◌∙◌}
+use Rattle.std.specs.List.Sorted.{IsSorted}
+use Rattle.std.specs.Ordering.{is_lt}
+use Rattle.std.proofs.lemmas.Bool.{not-true}
+use Rattle.std.proofs.lemmas.List.Kept.{IsSortedBy-filter}
+use Rattle.lock_table.specs.declared.record.LockRecord.{LockRecord}
+use Rattle.lock_table.specs.State.{is_queued}
+use Rattle.lock_table.specs.Keys.{lock_key, HasKey}
+use Rattle.lock_table.specs.Locks.{is_lock, without}
+use Rattle.lock_table.specs.Picture.{printed_cmp}
+use Rattle.lock_table.specs.Placed.{placed}
+use Rattle.lock_table.proofs.Pictures.{printed_order}
+use Rattle.lock_table.proofs.Regranted.{same_key, fits_still, set_is_placed}
+use Rattle.lock_table.proofs.printed.restate.Goals as goal
+
+pub set-requires-clause-fits : goal.set-requires-clause-fits
+set-requires-clause-fits c = subst (λ (r : LockRecord). HasKey r) (sym c.requires.restated) (fits_still c.args.own.now c.args.new.now.state c.place_of.ensures.fits)
+
+pub set-requires-clause-key : goal.set-requires-clause-key
+set-requires-clause-key c = λ d.
+    let granted = not-true (is_queued c.args.own.now.state) (sym c.if-is_granted.ensures) in
+    let stays = not-true (is_queued c.args.new.now.state) (sym c.if-is_granted-2.ensures) in
+    ap lock_key c.requires.restated ∙ same_key c.args.own.now granted c.args.new.now.state stays ∙ ap lock_key (sym (c.place_of.ensures.lock d))
+
+pub returns-then-is_granted-2 : goal.returns-then-is_granted-2
+returns-then-is_granted-2 c =
+    let xs = c.args.printed.now in
+    let own = c.args.own.now in
+    let granted = not-true (is_queued c.args.own.now.state) (sym c.if-is_granted.ensures) in
+    let stays = not-true (is_queued c.args.new.now.state) (sym c.if-is_granted-2.ensures) in
+    record {
+      items = c.set.ensures
+          ∙ ap (set xs c.place_of.result) c.requires.restated
+          ∙ set_is_placed own granted c.args.new.now.state stays xs c.place_of.result c.requires.sorted c.requires.distinct c.place_of.ensures.bound c.place_of.ensures.lock c.place_of.ensures.place
+          ∙ ap (λ r. placed printed_cmp r (without xs own.lock)) (sym c.requires.restated);
+    }
+
+pub put_in-requires-clause-sorted : goal.put_in-requires-clause-sorted
+put_in-requires-clause-sorted c =
+    subst (λ (l : List LockRecord). IsSorted printed_cmp l) (sym c.take_out.ensures.items)
+    (IsSortedBy-filter (λ x y. is_lt (printed_cmp x y)) printed_order (λ o. not (is_lock c.args.own.now.lock o)) c.args.printed.now c.requires.sorted)
