@@ -1,4 +1,4 @@
--- Where a simulated disk was ever written: for each page of 4,096 bytes a range, outside which it was not.
+-- Where a simulated disk was written since it was new: for each page of 4,096 bytes a range, outside which it was not.
 use Rattle.std.specs.Prelude.{◌≡◌, ◌<◌, ◌≤◌, ◌/◌, ◌%◌, ℕ, Bool, false, List, slice_index_or}
 use Rattle.disk.specs.declared.pages.Extent.{Extent}
 

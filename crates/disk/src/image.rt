@@ -1,4 +1,4 @@
-// The bytes of a simulated disk, up to some place that only rises. All bytes behind it are zeros.
+// The bytes of a simulated disk, up to some place that rises until the disk is renewed. All bytes behind it are zeros.
 ghost use Rattle.std.specs.Prelude.{◌≡◌, ◌+◌, ◌-◌, ◌*◌, ◌≤◌, ◌<◌, ◌^◌, ℕ, ◌++◌, length, replicate, slice_index_or, slice_range, All, vec_capacity};
 ghost use Rattle.disk.specs.Disk.{put_at};
 ghost use Rattle.disk.specs.Filling.{spread, filled};

@@ -1,4 +1,4 @@
-// Where a simulated disk was ever written.
+// Where a simulated disk was written since it was new.
 ghost use Rattle.std.specs.Prelude.{◌≡◌, ◌*◌, ◌<◌, ◌≤◌, ℕ, IsTrue, length, slice_index_or, vec_capacity};
 ghost use Rattle.disk.specs.Pages.{nothing, Covers};
 

@@ -23,7 +23,7 @@ pub struct SimDisk {
     bytes: Vec<u8>,
     /// A word for each 64 of these bytes.
     words: Vec<Word>,
-    /// For each page where it was ever written.
+    /// For each page the range that was written since the disk was new.
     pages: Vec<Extent>,
     size: usize,
     epoch: u64,
