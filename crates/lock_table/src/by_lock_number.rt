@@ -7,8 +7,8 @@ ghost use Rattle.lock_table.specs.Indexed.{number_cmp};
 ghost use Rattle.lock_table.specs.Locks.{is_lock, lock_in, without, put, IsDistinct};
 
 use crate::by_printed_order::take_place;
-use crate::halving::{lower, passed_of_three};
 use crate::locks::LOCKS;
+use crate::narrowing::{lower, passed_of_three};
 use crate::record::LockRecord;
 use lock_command::{HostNumber, LockNumber};
 use std::alloc::{AllocError, Global};

@@ -19,7 +19,7 @@ use std::cell::Cell;
 use std::marker::Model;
 
 /// The locks twice: in printed order, where the locks of a name are side by side and its queues are in their order, and by
-/// lock number. So a binary search finds a lock, a name, and the head of a name's queues.
+/// lock number. So a search finds a lock, a name, and the head of a name's queues in a few steps.
 #[derive(Drop)]
 pub struct Index {
     printed: ByPrintedOrder,

@@ -3,7 +3,7 @@ ghost use Rattle.std.specs.List.{AllWithin, list_any};
 ghost use Rattle.std.specs.List.Sorted.{IsSorted, IsPartitionPoint};
 ghost use Rattle.lock_table.specs.Locks.{is_through};
 ghost use Rattle.lock_table.specs.Indexed.{stands_before_rank};
-ghost use Rattle.lock_table.specs.Halved.{IsHalved};
+ghost use Rattle.lock_table.specs.Narrowed.{IsNarrowed};
 ghost use Rattle.lock_table.specs.Keys.{lock_key, HasKey};
 ghost use Rattle.lock_table.specs.Locks.{is_on, lock_in, without, head_of, admits, in_state, IsDistinct};
 ghost use Rattle.lock_table.specs.Picture.{printed_cmp};
@@ -11,16 +11,16 @@ ghost use Rattle.lock_table.specs.Placed.{placed};
 ghost use Rattle.lock_table.specs.declared.record.LockRecord.{LockRecord};
 
 use crate::by_printed_order::ByPrintedOrder;
-use crate::halving::passed_of_three;
 use crate::keys::SpelledName;
 use crate::locks::LOCKS;
+use crate::narrowing::passed_of_three;
 use crate::record::LockRecord;
 use crate::state::is_granted;
 use lock_command::{HostNumber, LockName, LockNumber};
 use lock_modes::Mode;
 
 /// The stretch in which the locks of lower keys end, where all in front of `from` have such keys. Each step is twice the last, so
-/// that a near end takes few tests, and a far one at most twice as many as all locks would.
+/// that a near end takes few tests, and a far one at most twice as many as a search of all locks.
 fn stretch_behind(
     printed: &ByPrintedOrder,
     all: usize,
@@ -34,7 +34,7 @@ fn stretch_behind(
     requires fit { AllWithin HasKey printed.now 0 (length printed.now) }
     requires bound { from ≤ length printed.now }
     requires front { AllWithin (λ r. nat_lt (lock_key r) key ≡ true) printed.now 0 from }
-    ensures { IsHalved (λ r. nat_lt (lock_key r) key) printed.now result.0 result.1 }
+    ensures { IsNarrowed (λ r. nat_lt (lock_key r) key) printed.now result.0 result.1 }
 {
     let mut step = 1;
     while step <= all - from {
@@ -55,7 +55,7 @@ fn stretch_before(printed: &ByPrintedOrder, mut to: usize, key: u128) -> (usize,
     requires fit { AllWithin HasKey printed.now 0 (length printed.now) }
     requires bound { to ≤ length printed.now }
     requires behind { AllWithin (λ r. nat_lt (lock_key r) key ≡ false) printed.now to (length printed.now) }
-    ensures { IsHalved (λ r. nat_lt (lock_key r) key) printed.now result.0 result.1 }
+    ensures { IsNarrowed (λ r. nat_lt (lock_key r) key) printed.now result.0 result.1 }
 {
     let mut step = 1;
     while step <= to {
@@ -75,7 +75,7 @@ fn stretch_near(printed: &ByPrintedOrder, all: usize, near: usize, key: u128) ->
     requires all { all ≡ length printed.now }
     requires few { length printed.now ≤ LOCKS }
     requires fit { AllWithin HasKey printed.now 0 (length printed.now) }
-    ensures { IsHalved (λ r. nat_lt (lock_key r) key) printed.now result.0 result.1 }
+    ensures { IsNarrowed (λ r. nat_lt (lock_key r) key) printed.now result.0 result.1 }
 {
     if near > all {
         return (0, all);
@@ -92,7 +92,7 @@ fn end_within(printed: &ByPrintedOrder, mut from: usize, mut size: usize, key: u
     requires small { key ≤ 2 ^ 126 }
     requires few { length printed.now ≤ LOCKS }
     requires fit { AllWithin HasKey printed.now 0 (length printed.now) }
-    requires halved { IsHalved (λ r. nat_lt (lock_key r) key) printed.now from size }
+    requires narrowed { IsNarrowed (λ r. nat_lt (lock_key r) key) printed.now from size }
     ensures bound { result ≤ length printed.now }
     ensures point { IsPartitionPoint (λ r. nat_lt (lock_key r) key ≡ true) (λ r. nat_lt (lock_key r) key ≡ false) printed.now result }
 {

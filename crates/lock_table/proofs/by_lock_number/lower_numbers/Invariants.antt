@@ -1,10 +1,10 @@
 use Rattle.std.proofs.Common.{nat_lt}
-use Rattle.lock_table.specs.Halved.{IsHalved}
+use Rattle.lock_table.specs.Narrowed.{IsNarrowed}
 use Rattle.lock_table.proofs.Quarters.{IsCounted}
 use Rattle.lock_table.proofs.by_lock_number.lower_numbers.Given as goal
 
 abbrev pub invariant-loop-size : goal.invariant-loop-size
-invariant-loop-size l = IsHalved (λ r. nat_lt r.lock l.lock) l.numbers l.from l.size
+invariant-loop-size l = IsNarrowed (λ r. nat_lt r.lock l.lock) l.numbers l.from l.size
 
 abbrev pub decreases-loop-size : goal.decreases-loop-size
 decreases-loop-size l = l.size

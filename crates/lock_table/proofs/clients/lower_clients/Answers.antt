@@ -3,7 +3,7 @@ use Rattle.lock_command.specs.declared.reply.Answer.TheVariants as answer
 use Rattle.lock_table.specs.declared.record.KnownClient.{KnownClient}
 use Rattle.lock_table.proofs.Shown.{client_of}
 use Rattle.lock_table.proofs.Keyed.{key_partitioned}
-use Rattle.lock_table.proofs.Quarters.{halved_on, counted_on}
+use Rattle.lock_table.proofs.Quarters.{narrowed_on, counted_on}
 use Rattle.lock_table.proofs.clients.lower_clients.Goals as goal
 
 abbrev nobody : KnownClient
@@ -11,7 +11,7 @@ nobody = record { client = 0; request = 0; reply = record { answer = answer.Gran
 
 pub loop-size-preserved : goal.loop-size-preserved
 loop-size-preserved c =
-    halved_on (λ k. nat_lt k.client c.args.client) c.args.known.now (key_partitioned client_of c.args.client c.args.known.now c.requires) nobody c.loop-size.from c.loop-size.size c.loop-size.invariant c.loop-size-test.true
+    narrowed_on (λ k. nat_lt k.client c.args.client) c.args.known.now (key_partitioned client_of c.args.client c.args.known.now c.requires) nobody c.loop-size.from c.loop-size.size c.loop-size.invariant c.loop-size-test.true
     c.client_below-first.result c.client_below-second.result c.client_below-third.result c.passed_of_three-from.result
     (c.client_below-first.ensures.below nobody) (c.client_below-second.ensures.below nobody) (c.client_below-third.ensures.below nobody) c.passed_of_three-from.ensures.passed
 

@@ -1,10 +1,10 @@
 use Rattle.std.proofs.Common.{nat_lt}
-use Rattle.lock_table.specs.Halved.{IsHalved}
+use Rattle.lock_table.specs.Narrowed.{IsNarrowed}
 use Rattle.lock_table.proofs.Quarters.{IsCounted}
 use Rattle.lock_table.proofs.clients.lower_clients.Given as goal
 
 abbrev pub invariant-loop-size : goal.invariant-loop-size
-invariant-loop-size l = IsHalved (λ k. nat_lt k.client l.client) l.known l.from l.size
+invariant-loop-size l = IsNarrowed (λ k. nat_lt k.client l.client) l.known l.from l.size
 
 abbrev pub decreases-loop-size : goal.decreases-loop-size
 decreases-loop-size l = l.size

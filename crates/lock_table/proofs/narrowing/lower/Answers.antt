@@ -1,6 +1,6 @@
 use Rattle.std.proofs.Common.{◌≡◌, ◌<◌, ◌+◌, ◌-◌, ◌/◌, ℕ, cond, nat_lt, sym, ap, ◌∙◌, inl, inr, arith}
 use Rattle.std.proofs.lemmas.Bool.{cases_lt, lt-ltb, le-ltb}
-use Rattle.lock_table.proofs.halving.lower.Goals as goal
+use Rattle.lock_table.proofs.narrowing.lower.Goals as goal
 
 told : (a b : ℕ) → a < 65536 → b < 65536 → (b + 65535 - a) / 65536 ≡ cond (nat_lt a b) 1 0
 told a b one two = elim (cases_lt a b) as (λ w. (b + 65535 - a) / 65536 ≡ cond (nat_lt a b) 1 0) [
