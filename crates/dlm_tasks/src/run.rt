@@ -2,7 +2,7 @@ ghost use Rattle.std.specs.Prelude.{◌≤◌, ◌+◌, ℕ, List, Some, None, I
 ghost use Rattle.std.specs.Io.KnownBytes.{Appends};
 ghost use Rattle.world.specs.Entry.{Filled};
 ghost use Rattle.world.specs.Happens.{Step};
-ghost use Rattle.simulator.specs.Events.{lines_of};
+ghost use Rattle.simulator.specs.Events.{event_of, lines_of};
 ghost use Rattle.simulator.specs.Kept.{LeadsTo};
 ghost use Rattle.dlm_tasks.specs.Printed.{WritesAnswer, WritesAnswers, lines_text, IsShowOf, IsViewOf, blocking_text, stopped_line};
 
@@ -49,7 +49,7 @@ fn happen_all<O: Write>(
     show_all(alloc, cluster, shows, out)
 }
 
-/// Lets a run of events happen, the first of which has this number.
+/// Lets a run of events happen, the first of which has this number, and prints what is answered with them.
 fn repeat<O: Write>(
     alloc: Global,
     cluster: &mut SimulatedCluster,
@@ -58,16 +58,32 @@ fn repeat<O: Write>(
     out: &mut O,
 ) -> Result<(), CommandFailure>
     requires { first + run.now.times ≤ MOST_EVENTS }
+    ensures { OnOk result ((log : List Filled) → LeadsTo log cluster.old →
+        WritesAnswers log (replicate run.now.times (event_of run.now.event)) first cluster.old cluster.new (O.contents out.old) (O.contents out.new)) }
 {
     match &run.event {
         Event::Step(host) => repeat_steps(cluster, first, *host, run.times, out),
-        event => {
-            for place in first..first + run.times {
-                happen(alloc, cluster, place, event, out)?;
-            }
-            Ok(())
-        }
+        event => repeat_event(alloc, cluster, first, event, run.times, out),
     }
+}
+
+/// Lets an event happen so many times, the first of which has this number, and prints what is answered with it.
+fn repeat_event<O: Write>(
+    alloc: Global,
+    cluster: &mut SimulatedCluster,
+    first: usize,
+    event: &Event,
+    times: usize,
+    out: &mut O,
+) -> Result<(), CommandFailure>
+    requires { first + times ≤ MOST_EVENTS }
+    ensures { OnOk result ((log : List Filled) → LeadsTo log cluster.old →
+        WritesAnswers log (replicate times (event_of event.now)) first cluster.old cluster.new (O.contents out.old) (O.contents out.new)) }
+{
+    for place in first..first + times {
+        happen(alloc, cluster, place, event, out)?;
+    }
+    Ok(())
 }
 
 /// Lets a host make so many steps, the first of which has this number, and prints what it says with them.
