@@ -7,6 +7,7 @@ MG_LOCK and DLM are the programs, WORK an empty folder. ROUNDS: turns of each of
 libmidgegalena.so, half of those that count are in Python. Prints what was wrong, and how many checks there were."""
 import os
 import random
+import select
 import shlex
 import shutil
 import signal
@@ -184,11 +185,16 @@ def signals():
     os.unlink(os.path.join(work, "held"))
     until(lambda: os.path.exists(os.path.join(work, "held")))
     expect(end(process) == 3 and os.path.exists(trapped), "SIGTERM is handed on, and the command may take its time")
-    process = begin("--verbose", images, 0, "db", stderr=subprocess.PIPE)
+    process = begin(images, 0, "db")
     expect(until(lambda: "granted" in table()), "without a command it holds")
-    # The table has the lock a moment before mg-lock knows that it is granted. A signal in between ends the wait, so mg-lock has to say so first.
-    expect(b"db was granted" in process.stderr.readline(), "it says so")
+    # The table has the lock a moment before mg-lock knows that it is granted. A signal in between ends the wait.
+    time.sleep(0.5)
     expect(end(process, signal.SIGINT) == 0, "and ends well by a signal")
+    # With --verbose it says when it knows.
+    process = begin("--verbose", images, 0, "db", stderr=subprocess.PIPE)
+    said = select.select([process.stderr], [], [], 20)[0]
+    expect(said and b"db was granted" in process.stderr.readline(), "it says that it holds")
+    expect(end(process, signal.SIGINT) == 0, "and ends well by a signal then")
     left_nothing("signals")
 
 
