@@ -117,7 +117,7 @@ module _ {X : Type 0} (key : X → ℕ) where
   pub key_order : IsStrictWeakOrder (λ a b. is_lt (by_key a b))
   key_order = ranks_by nat_cmp_total key
 
-  not_lower : (a b : X) → is_lt (by_key a b) ≡ false → key b ≤ key a
+  pub not_lower : (a b : X) → is_lt (by_key a b) ≡ false → key b ≤ key a
   not_lower a b h = ltb-false (key a) (key b) (sym (is_lt_nat (key a) (key b)) ∙ h)
 
   no_lower : (a b : X) → key b ≤ key a → is_lt (by_key a b) ≡ false

@@ -1,5 +1,5 @@
 -- Lists of places, and the locks that stand there.
-use Rattle.std.proofs.Common.{◌≡◌, ◌≢◌, nat_lt, ◌≤◌, ◌<◌, ◌+◌, ℕ, zero, suc, true, false, cond, ◌==◌, nat_le, List, [], ◌∷◌, ◌++◌, length, get_or, take, drop, insert, remove, set, map, refl, sym, ap, subst, ◌∙◌, arith, length-append}
+use Rattle.std.proofs.Common.{◌≡◌, ◌≢◌, nat_lt, ◌≤◌, ◌<◌, ◌+◌, ℕ, zero, suc, Bool, true, false, cond, ◌==◌, nat_le, List, [], ◌∷◌, ◌++◌, length, get_or, take, drop, insert, remove, set, map, refl, sym, ap, subst, ◌∙◌, arith, length-append}
 use Rattle.std.specs.List.{filter}
 use Rattle.std.proofs.lemmas.Bool.{eq-eqb, le-leb, ltb-true, ltb-false}
 use Rattle.std.proofs.lemmas.List.{take-append-drop, drop_more, get_or-map, length-map, length-set, get_or-set_same, get_or-set_other, get_or_read}
@@ -82,6 +82,16 @@ set_once records q d new (p ∷ order) (suc i) inside once low is =
     let head : at_place (set records q new) p ≡ at_place records p = get_or-set_other records q p new no_lock other in
     let tail = set_once records q d new order i inside (omega (arith, rest, once)) behind is in
     λ j. head j ∷ tail j
+
+one_at_most : (b : Bool) → 0 + (0 + cond b 1 0) ≤ 1
+one_at_most true = omega arith
+one_at_most false = omega arith
+
+-- where there is no place
+pub shelved_none : (records : List LockRecord) (order free : List ℕ) → records ≡ [] → order ≡ [] → free ≡ [] → IsShelved records order free
+shelved_none records order free no_records no_order no_free =
+    let none : IsShelved [] [] [] = record { apart = λ p. one_at_most (nat_le 0 p); all = omega arith } in
+    subst (λ (r : List LockRecord). IsShelved r order free) (sym no_records) (subst (λ (o : List ℕ). IsShelved [] o free) (sym no_order) (subst (λ (f : List ℕ). IsShelved [] [] f) (sym no_free) none))
 
 module _ (records : List LockRecord) (order free : List ℕ) (sound : IsShelved records order free) where
   pub listed_place : (i d : ℕ) → i < length order → 1 ≤ times (get_or order i d) order

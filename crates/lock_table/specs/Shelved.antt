@@ -1,5 +1,5 @@
--- Locks at places that they keep, and the order in which they stand.
-use Rattle.std.specs.Prelude.{◌≡◌, ℕ, ◌+◌, ◌≤◌, ◌==◌, nat_le, cond, List, [], map, filter, length, slice_index_or}
+-- Locks at places that they keep, the order in which they stand, and their numbers by place.
+use Rattle.std.specs.Prelude.{◌≡◌, ℕ, ◌+◌, ◌≤◌, ◌==◌, nat_le, cond, List, [], map, filter, length, slice_index, slice_index_or}
 use Rattle.lock_modes.specs.declared.mode.Mode.TheVariants.{Null}
 use Rattle.lock_table.specs.declared.record.LockRecord.{LockRecord}
 use Rattle.lock_command.specs.declared.state.LockState.TheVariants.{Waiting}
@@ -28,3 +28,8 @@ idle records free place = times place free + cond (nat_le (length records) place
 pub record IsShelved (records : List LockRecord) (order free : List ℕ) : Type 0 where
   pub apart : (place : ℕ) → times place order + idle records free place ≤ 1
   pub all : length order + length free ≡ length records
+
+-- beside each place of the order stands the number of its lock, and 0 beside each other place
+pub record IsNumbered (records : List LockRecord) (order numbers : List ℕ) : Type 0 where
+  pub there : (place : ℕ) → 1 ≤ times place order → slice_index numbers place ≡ (at_place records place).lock
+  pub elsewhere : (place : ℕ) → times place order ≡ 0 → slice_index numbers place ≡ 0

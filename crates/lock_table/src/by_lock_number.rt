@@ -1,4 +1,4 @@
-ghost use Rattle.std.specs.Prelude.{◌≡◌, ◌+◌, ◌<◌, ◌≤◌, ℕ, IfOk, IsSome, IsTrue, [], length, filter, insert, remove, set, slice_index_or, cond, nat_lt, not, true, false};
+ghost use Rattle.std.specs.Prelude.{◌≡◌, ◌+◌, ◌<◌, ◌≤◌, ℕ, IfOk, IfSome, IsSome, IsTrue, [], length, filter, insert, remove, set, slice_index, slice_index_or, cond, nat_lt, not, true, false};
 ghost use Rattle.std.specs.List.{slice_get};
 ghost use Rattle.std.specs.List.Sorted.{IsSorted, IsPartitionPoint};
 ghost use Rattle.lock_table.specs.declared.record.LockRecord.{LockRecord};
@@ -25,19 +25,24 @@ pub struct ByLockNumber {
     order: Vec<u8>,
     /// The places that were given up.
     free: Vec<u8>,
+    /// The lock numbers, by place, and 0 at each place without a lock.
+    lock_numbers: Vec<u16>,
+    /// For the low byte of a lock number the place of the last lock with that byte that was put in. No contract speaks of it:
+    /// the number at the place tells whether it is right.
+    hints: [u8; 256],
 }
 
 impl Model for ByLockNumber {
-    ghost use Rattle.std.specs.Prelude.{List, ◌≤◌, vec_len, vec_capacity};
+    ghost use Rattle.std.specs.Prelude.{List, ◌≡◌, ◌≤◌, vec_len, vec_capacity};
     ghost use Rattle.lock_table.specs.declared.locks.TheConstants.{LOCKS};
     ghost use Rattle.lock_table.specs.declared.record.LockRecord.{LockRecord};
-    ghost use Rattle.lock_table.specs.Shelved.{IsShelved, at_places};
+    ghost use Rattle.lock_table.specs.Shelved.{IsShelved, IsNumbered, at_places};
 
     ghost Value = { List LockRecord };
 
     ghost view = { λ numbers. at_places numbers.records.items numbers.order.items };
 
-    ghost invariant = { λ numbers. IsShelved numbers.records.items numbers.order.items numbers.free.items × (vec_len numbers.records ≤ LOCKS) × (LOCKS ≤ vec_capacity numbers.records) × (LOCKS ≤ vec_capacity numbers.order) × (LOCKS ≤ vec_capacity numbers.free) };
+    ghost invariant = { λ numbers. IsShelved numbers.records.items numbers.order.items numbers.free.items × (vec_len numbers.records ≤ LOCKS) × (LOCKS ≤ vec_capacity numbers.records) × (LOCKS ≤ vec_capacity numbers.order) × (LOCKS ≤ vec_capacity numbers.free) × (vec_len numbers.lock_numbers ≡ LOCKS) × IsNumbered numbers.records.items numbers.order.items numbers.lock_numbers.items };
 }
 
 impl ByLockNumber {
@@ -49,6 +54,8 @@ impl ByLockNumber {
             records: Vec::with_capacity(alloc, LOCKS)?,
             order: Vec::with_capacity(alloc, LOCKS)?,
             free: Vec::with_capacity(alloc, LOCKS)?,
+            lock_numbers: Vec::from_elem(alloc, 0, LOCKS)?,
+            hints: [0; 256],
         })
     }
 
@@ -68,6 +75,14 @@ impl ByLockNumber {
         &self.records[usize::from(self.order[at])]
     }
 
+    /// The lock number of the record at this index.
+    fn number(&self, at: usize) -> u16
+        requires { at < length self.now }
+        ensures { (d : LockRecord) → result ≡ (slice_index_or self.now at d).lock }
+    {
+        self.lock_numbers[usize::from(self.order[at])]
+    }
+
     /// The record at this index, or `None` past the last.
     fn record_at(&self, at: usize) -> Option<LockRecord>
         ensures { result ≡ slice_get self.now at }
@@ -85,7 +100,10 @@ impl ByLockNumber {
         requires room { length self.old < LOCKS }
         ensures { self.new ≡ insert self.old at new }
     {
+        let lock = new.lock;
         let place = take_place(&mut self.records, &mut self.free, new);
+        self.lock_numbers[usize::from(place)] = lock.get();
+        self.hints[low_byte(lock)] = place;
         let _ = self.order.insert(at, place);
     }
 
@@ -94,8 +112,30 @@ impl ByLockNumber {
         requires { at < length self.old }
         ensures { self.new ≡ set self.old at new }
     {
+        let lock = new.lock;
         let place = usize::from(self.order[at]);
         self.records[place] = new;
+        self.lock_numbers[place] = lock.get();
+    }
+
+    /// The record of a lock, if the hint for its number is right.
+    fn hinted(&self, lock: LockNumber) -> Option<LockRecord>
+        ensures { IfSome result (λ r. (at : ℕ) × (at < length self.now) × (slice_index_or self.now at r ≡ r) × (r.lock ≡ lock)) }
+    {
+        let place = hinted_place(&self.hints, &self.lock_numbers, lock)?;
+        Some(self.records[place])
+    }
+
+    /// Replaces the record of a lock, if the hint for its number is right, and tells whether it is.
+    fn set_hinted(&mut self, new: &LockRecord) -> bool
+        ensures done { IsTrue result → (at : ℕ) × (at < length self.old) × ((slice_index_or self.old at new.now).lock ≡ new.now.lock) × (self.new ≡ set self.old at new.now) }
+        ensures left { result ≡ false → self.new ≡ self.old }
+    {
+        let Some(place) = hinted_place(&self.hints, &self.lock_numbers, new.lock) else {
+            return false;
+        };
+        self.records[place] = *new;
+        true
     }
 
     /// Takes a record out.
@@ -104,8 +144,27 @@ impl ByLockNumber {
         ensures { self.new ≡ remove self.old at }
     {
         let place = self.order.remove(at);
+        self.lock_numbers[usize::from(place)] = 0;
         let _ = self.free.push(place);
     }
+}
+
+/// The low byte of a lock number.
+fn low_byte(lock: LockNumber) -> usize
+    ensures { result < 256 }
+{
+    usize::from(lock.get() % 256)
+}
+
+/// The place that is hinted for a lock number, if the number stands there. No lock number is 0, so it stands at no place without a
+/// lock.
+fn hinted_place(hints: &[u8; 256], lock_numbers: &[u16], lock: LockNumber) -> Option<usize>
+    requires { length lock_numbers.now ≡ LOCKS }
+    ensures there { IfSome result (λ place. (place < LOCKS) × (slice_index lock_numbers.now place ≡ lock)) }
+    ensures some { 1 ≤ lock }
+{
+    let place = usize::from(hints[low_byte(lock)]);
+    (lock_numbers[place] == lock.get()).then_some(place)
 }
 
 /// Returns 1 if a record has a lower lock number, else 0.
@@ -114,7 +173,7 @@ fn number_below(numbers: &ByLockNumber, at: usize, lock: LockNumber) -> usize
     ensures below { (d : LockRecord) → result ≡ cond (nat_lt (slice_index_or numbers.now at d).lock lock) 1 0 }
     ensures few { result ≤ 1 }
 {
-    lower(numbers.get(at).lock.get(), lock.get())
+    lower(numbers.number(at), lock.get())
 }
 
 /// How many records have a lower lock number.
@@ -172,11 +231,15 @@ fn lower_numbers_near(numbers: &ByLockNumber, lock: LockNumber, near: usize) -> 
     }
 }
 
-/// The record of a lock number. Where it stands, or would stand, is kept in `near`.
+/// The record of a lock number. Where it stands, or would stand, is kept in `near`, if that had to be searched for.
 pub fn numbered(numbers: &ByLockNumber, lock: LockNumber, near: &Cell<usize>) -> Option<LockRecord>
-    requires { IsSorted number_cmp numbers.now }
+    requires rising { IsSorted number_cmp numbers.now }
+    requires distinct { IsDistinct numbers.now }
     ensures { result ≡ lock_in numbers.now lock }
 {
+    if let Some(found) = numbers.hinted(lock) {
+        return Some(found);
+    }
     let place = lower_numbers(numbers, lock);
     near.set(place);
     let found = numbers.record_at(place)?;
@@ -203,6 +266,9 @@ pub fn replace(numbers: &mut ByLockNumber, new: LockRecord, near: usize)
     ensures rising { IsSorted number_cmp numbers.new }
     ensures alike { (lock : ℕ) → filter (is_lock lock) numbers.new ≡ filter (is_lock lock) (put numbers.old new) }
 {
+    if numbers.set_hinted(&new) {
+        return;
+    }
     let place = lower_numbers_near(numbers, new.lock, near);
     numbers.set(place, new);
 }

@@ -64,7 +64,7 @@ impl Index {
         self.printed.len() >= LOCKS
     }
 
-    /// The record of a lock number. Where it stands by number, or would stand, is kept in `near`.
+    /// The record of a lock number. Where it stands by number, or would stand, is kept in `near`, if that was searched for.
     pub fn lock_in(&self, lock: LockNumber, near: &Cell<usize>) -> Option<LockRecord>
         ensures found { result ≡ lock_in self.now lock }
         ensures there { IfSome result (λ r. lock_in self.now r.lock ≡ Some r) }

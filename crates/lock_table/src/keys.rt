@@ -13,7 +13,7 @@ pub struct SpelledName {
     number: u128,
     /// Where a search for the name ended. No contract speaks of it: the next one only begins there.
     near: Cell<usize>,
-    /// Where a search by lock number ended. No contract speaks of it either.
+    /// Where a search by lock number ended, if there was one. No contract speaks of it either.
     near_by_number: usize,
 }
 
@@ -36,7 +36,7 @@ impl SpelledName {
         SpelledName::beside(name, usize::MAX)
     }
 
-    /// The name of a lock for whose number a search ended at this place.
+    /// The name of a lock. A search for its number ended at this place, or there was none.
     pub fn beside(name: LockName, near_by_number: usize) -> Self
         ensures { result ≡ name }
     {

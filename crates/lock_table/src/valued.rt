@@ -254,7 +254,7 @@ impl ValuedLocks {
         self.values.entries()
     }
 
-    /// The lock that a command is about, unless it is to be a new one. Where the search for its number ended is kept in `near`.
+    /// The lock that a command is about, unless it is to be a new one. Where a search for its number ended is kept in `near`.
     fn asked_lock(&self, action: &Action, near: &Cell<usize>) -> Option<LockRecord>
         ensures found { result ≡ asked_lock self.now.locks action.now }
     {

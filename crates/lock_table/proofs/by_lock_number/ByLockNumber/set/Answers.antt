@@ -1,5 +1,7 @@
-use Rattle.std.proofs.Common.{set, ap, ◌∙◌, arith}
-use Rattle.lock_table.proofs.Places.{inside_order, place_inside, shelved_set, shown_set}
+use Rattle.std.proofs.Common.{◌≤◌, ◌<◌, ℕ, length, set, ap, ◌∙◌, arith}
+use Rattle.lock_table.specs.Shelved.{times}
+use Rattle.lock_table.proofs.NumberedPlaces.{numbered_set}
+use Rattle.lock_table.proofs.Places.{inside_order, listed_place, place_inside, shelved_set, shown_set}
 use Rattle.lock_table.proofs.by_lock_number.ByLockNumber.set.Goals as goal
 
 pub index_mut-requires : goal.index_mut-requires
@@ -9,13 +11,23 @@ index_mut-requires c =
     omega (arith, there, c.from-place.ensures ∙ c.index.ensures)
 
 pub invariant_of-self : goal.invariant_of-self
-invariant_of-self c = (
-  shelved_set c.self.inside.records.items c.self.inside.order.items c.self.inside.free.items c.self.invariant.0 c.from-place.result c.args.new,
-  omega (arith, c.self.invariant.1),
-  omega (arith, c.self.invariant.2),
-  omega (arith, c.self.invariant.3),
-  omega (arith, c.self.invariant.4),
-)
+invariant_of-self c =
+    let records = c.self.inside.records.items in
+    let order = c.self.inside.order.items in
+    let free = c.self.inside.free.items in
+    let place = c.from-place.ensures ∙ c.index.ensures in
+    let inside = inside_order records order free c.self.invariant.0 c.args.self.now c.args.at c.self.view_is c.requires in
+    let there : c.from-place.result < length records = omega (arith, place_inside records order free c.self.invariant.0 c.args.at c.index.result.now inside, place) in
+    let own : 1 ≤ times c.from-place.result order = omega (arith, ap {B = ℕ} (λ n. times n order) place, listed_place records order free c.self.invariant.0 c.args.at c.index.result.now inside) in (
+      shelved_set c.self.inside.records.items c.self.inside.order.items c.self.inside.free.items c.self.invariant.0 c.from-place.result c.args.new,
+      omega (arith, c.self.invariant.1),
+      omega (arith, c.self.invariant.2),
+      omega (arith, c.self.invariant.3),
+      omega (arith, c.self.invariant.4),
+      omega (arith, c.self.invariant.5),
+      numbered_set records order free c.self.inside.lock_numbers.items c.self.invariant.0 c.self.invariant.6 c.from-place.result c.get.result c.args.new there
+          (omega (arith, there, c.self.invariant.1, c.self.invariant.5)) own c.get.ensures.value,
+    )
 
 pub returns : goal.returns
 returns c =
