@@ -8,7 +8,7 @@ use Rattle.lock_table.specs.Indexed.{AreKnown, IsPlaceOf}
 use Rattle.lock_table.specs.Picture.{client_cmp}
 use Rattle.lock_table.specs.Placed.{in_order}
 use Rattle.lock_table.proofs.Shown.{known_insert, known_set}
-use Rattle.lock_table.proofs.clients.Clients.keep.Goals as goal
+use Rattle.lock_table.proofs.clients.Clients.put.Goals as goal
 
 found_if : (o : Option (Bor KnownClient)) (f : Option KnownClient) → option_copied o ≡ f → true ≡ is_some o → (own : KnownClient) × (f ≡ Some own)
 found_if None f same is = let impossible : ⊥ = cc in absurd impossible
