@@ -1,6 +1,5 @@
-ghost use Rattle.std.specs.Prelude.{◌≡◌, ◌<◌, ℕ, List, length, max, None, IfOk, IsErr, option_map, if◌then◌else◌};
+ghost use Rattle.std.specs.Prelude.{◌≡◌, ◌<◌, ℕ, List, length, max, None, IfOk, IsErr, option_map, if◌then◌else◌, ◌↔◌};
 ghost use Rattle.std.specs.Option.{IsSomeAnd, option_or};
-ghost use Rattle.std.specs.Prelude.{◌↔◌};
 ghost use Rattle.torn_block.specs.Layout.{hosts_in, row_length};
 ghost use Rattle.paxos_block.specs.layouts.Gist.{IsGist};
 ghost use Rattle.paxos_block.specs.layouts.Row.{decoded_row, blank_cell};

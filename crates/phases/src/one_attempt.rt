@@ -218,7 +218,7 @@ impl<L: Layout> Attempt<L> {
         ensures follows { Takes (answers.Told (decoded_row L.version bytes.now)) self.old self.new }
     {
         match read_gist::<L>(bytes, self.of.host, &self.best) {
-            Ok(row) => self.take_row(&row),
+            Ok(gist) => self.take_row(&gist),
             Err(_) => self.drop_disk(),
         }
     }
@@ -235,32 +235,32 @@ impl<L: Layout> Attempt<L> {
     }
 
     // The row of the phase was read.
-    fn take_row(&mut self, row: &Gist<L::Value>)
+    fn take_row(&mut self, gist: &Gist<L::Value>)
         requires going { self.old.end ≡ None }
         requires stage { self.old.stage ≡ Stage.Reading }
-        requires row { (bytes : List ℕ) × ReadsGist L.version L.spelled self.old.of.host self.old.best bytes row.now }
+        requires gist { (bytes : List ℕ) × ReadsGist L.version L.spelled self.old.of.host self.old.best bytes gist.now }
         ensures of { self.new.of ≡ self.old.of }
-        ensures follows { (bytes : List ℕ) → ReadsGist L.version L.spelled self.old.of.host self.old.best bytes row.now →
+        ensures follows { (bytes : List ℕ) → ReadsGist L.version L.spelled self.old.of.host self.old.best bytes gist.now →
             Takes (answers.Told (decoded_row L.version bytes)) self.old self.new }
     {
-        if let Some(mbal) = self.faster(row) {
+        if let Some(mbal) = self.faster(gist) {
             self.end = Some(End::Outrun(mbal));
             return;
         }
-        self.note(row);
-        self.visits[usize::from(self.disk)].block = row.own.block;
+        self.note(gist);
+        self.visits[usize::from(self.disk)].block = gist.own.block;
         let next = self.disk + 1;
         self.go_on(next);
     }
 
     // Another host's ballot in the row, if it is greater than the one that was taken.
-    fn faster(&self, row: &Gist<L::Value>) -> Option<u64>
-        ensures { (bytes : List ℕ) (reads : ReadsGist L.version L.spelled self.now.of.host self.now.best bytes row.now) → result ≡ outruns self.now.phase self.now reads.seen }
+    fn faster(&self, gist: &Gist<L::Value>) -> Option<u64>
+        ensures { (bytes : List ℕ) (reads : ReadsGist L.version L.spelled self.now.of.host self.now.best bytes gist.now) → result ≡ outruns self.now.phase self.now reads.seen }
     {
         if self.phase == Phase::Opening {
             return None;
         }
-        let others = row.others;
+        let others = gist.others;
         if self.says.mbal < others {
             Some(others)
         } else {
@@ -269,17 +269,17 @@ impl<L: Layout> Attempt<L> {
     }
 
     // What the row says of ballots and votes.
-    fn note(&mut self, row: &Gist<L::Value>)
-        requires { (bytes : List ℕ) × ReadsGist L.version L.spelled self.old.of.host self.old.best bytes row.now }
-        ensures { (bytes : List ℕ) (reads : ReadsGist L.version L.spelled self.old.of.host self.old.best bytes row.now) → self.new ≡ noted self.old.phase self.old reads.seen }
+    fn note(&mut self, gist: &Gist<L::Value>)
+        requires { (bytes : List ℕ) × ReadsGist L.version L.spelled self.old.of.host self.old.best bytes gist.now }
+        ensures { (bytes : List ℕ) (reads : ReadsGist L.version L.spelled self.old.of.host self.old.best bytes gist.now) → self.new ≡ noted self.old.phase self.old reads.seen }
     {
         match self.phase {
             Phase::Opening => {
-                self.highest = self.highest.max(row.greatest);
-                self.best = self.best.or_later(&row.own.says);
-                self.decided = self.decided.or(row.marked);
+                self.highest = self.highest.max(gist.greatest);
+                self.best = self.best.or_later(&gist.own.says);
+                self.decided = self.decided.or(gist.marked);
             }
-            Phase::One => self.best = row.latest,
+            Phase::One => self.best = gist.latest,
             Phase::Two => {}
         }
     }

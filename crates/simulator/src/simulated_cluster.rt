@@ -277,7 +277,8 @@ impl SimulatedCluster {
         answer_of(host, core)
     }
 
-    /// Lets a host make device calls until it says something, so many at most. Gives how many it made, and what it then said. Once it has none to make, the rest are counted only.
+    /// Lets a host make device calls until it says something, so many at most. Gives how many it made, and what it then said.
+    /// Once it has none to make, the rest are counted only.
     pub fn steps(&mut self, host: HostNumber, most: usize) -> (usize, Option<Said>)
         ensures brings { (log : List Filled) → LeadsTo log self.old → BringsAll log (replicate result.0 (Step host)) self.old self.new result.1 }
         ensures within { result.0 ≤ most }

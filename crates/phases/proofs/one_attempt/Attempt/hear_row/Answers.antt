@@ -14,7 +14,7 @@ returns-in-Ok-clause-follows g c =
     let host = c.self.inside.of.host in
     let best = said_as spelled c.self.inside.best in
     c.take_row.ensures.follows c.args.bytes.now
-    (subst (λ (n : Notes). ReadsGist v spelled n.of.host n.best c.args.bytes.now c.in-Ok.row) c.self.view_is (reads_gist v spelled host best c.args.bytes.now c.in-Ok.row c.in-Ok.ensures.said))
+    (subst (λ (n : Notes). ReadsGist v spelled n.of.host n.best c.args.bytes.now c.in-Ok.gist) c.self.view_is (reads_gist v spelled host best c.args.bytes.now c.in-Ok.gist c.in-Ok.ensures.said))
 
 pub take_row-requires : goal.take_row-requires
 take_row-requires g c =
@@ -22,8 +22,8 @@ take_row-requires g c =
     let spelled = g.L.Layout.spelled in
     let host = c.self.inside.of.host in
     let best = said_as spelled c.self.inside.best in
-    let reads = subst (λ (n : Notes). ReadsGist v spelled n.of.host n.best c.args.bytes.now c.in-Ok.row) c.self.view_is (reads_gist v spelled host best c.args.bytes.now c.in-Ok.row c.in-Ok.ensures.said) in
-    record { going = c.requires.going; stage = c.requires.stage; row = (c.args.bytes.now, reads) }
+    let reads = subst (λ (n : Notes). ReadsGist v spelled n.of.host n.best c.args.bytes.now c.in-Ok.gist) c.self.view_is (reads_gist v spelled host best c.args.bytes.now c.in-Ok.gist c.in-Ok.ensures.said) in
+    record { going = c.requires.going; stage = c.requires.stage; gist = (c.args.bytes.now, reads) }
 
 pub returns-in-Err-clause-follows : goal.returns-in-Err-clause-follows
 returns-in-Err-clause-follows g c =

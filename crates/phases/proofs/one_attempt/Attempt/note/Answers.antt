@@ -16,8 +16,8 @@ invariant_of-self g c =
     let n = notes_in v spelled c.self.inside in
     let reads = c.requires.1 in
     let top = reads.so.greatest in
-    let most : c.max-self-inside.result ≡ max n.highest c.args.row.now.greatest = omega arith in
-    opening_sound c.requires.0 reads.seen n c.max-self-inside.result (said_as spelled c.or_later-self-inside.result) (said_as spelled c.args.row.now.own.says) (option_map spelled c.or-self-inside.result) c.self.invariant c.in-Opening.is reads.said (most ∙ ap (max n.highest) top) (c.or_later-self-inside.ensures spelled)
+    let most : c.max-self-inside.result ≡ max n.highest c.args.gist.now.greatest = omega arith in
+    opening_sound c.requires.0 reads.seen n c.max-self-inside.result (said_as spelled c.or_later-self-inside.result) (said_as spelled c.args.gist.now.own.says) (option_map spelled c.or-self-inside.result) c.self.invariant c.in-Opening.is reads.said (most ∙ ap (max n.highest) top) (c.or_later-self-inside.ensures spelled)
     (reads.so.own.says ∙ ap (λ (m : Notes). says_in reads.seen m.of.host) (sym c.self.view_is))
 
 pub returns-in-Opening : goal.returns-in-Opening
@@ -26,8 +26,8 @@ returns-in-Opening g c bytes reads =
     let spelled = g.L.Layout.spelled in
     let n = notes_in v spelled c.self.inside in
     let top = reads.so.greatest in
-    let most : c.max-self-inside.result ≡ max n.highest c.args.row.now.greatest = omega arith in
+    let most : c.max-self-inside.result ≡ max n.highest c.args.gist.now.greatest = omega arith in
     opens n reads.seen c.max-self-inside.result (said_as spelled c.or_later-self-inside.result) (option_map spelled c.or-self-inside.result) c.in-Opening.is (most ∙ ap (max n.highest) top)
     (c.or_later-self-inside.ensures spelled ∙ ap (later_of n.best) (reads.so.own.says ∙ ap (λ (m : Notes). says_in reads.seen m.of.host) (sym c.self.view_is)))
-    (ap (option_map spelled) c.or-self-inside.ensures ∙ or_mapped spelled c.self.inside.decided c.args.row.now.marked ∙ ap (option_or (option_map spelled c.self.inside.decided)) reads.so.marked)
+    (ap (option_map spelled) c.or-self-inside.ensures ∙ or_mapped spelled c.self.inside.decided c.args.gist.now.marked ∙ ap (option_or (option_map spelled c.self.inside.decided)) reads.so.marked)
     ∙ ap (λ (m : Notes). noted m.phase m reads.seen) c.self.view_is

@@ -22,7 +22,7 @@ returns-clause-follows g c bytes reads f order is =
     let n = c.args.self.now in
     let m = notes_in g.L.Layout.version g.L.Layout.spelled c.self-2.inside in
     let same : m ≡ noted n.phase n reads.seen = c.self-2.view_is ∙ c.note.ensures bytes reads in
-    let cell = c.args.row.now.own in
+    let cell = c.args.gist.now.own in
     let shows = subst (λ (x : Notes). IsSeenAs x.of.version g.L.Layout.spelled (seen_at reads.seen x.of.host) cell) same (subst (λ (k : ℕ). IsSeenAs g.L.Layout.version g.L.Layout.spelled (seen_at reads.seen k) cell) (ap (λ (x : Notes). x.of.host) (sym same)) reads.so.own) in
     let inside : m.disk < length m.visits = omega arith in
     let room = subst (λ (x : Notes). x.disk < length x.visits) same inside in
@@ -36,7 +36,7 @@ returns-clause-follows g c bytes reads f order is =
     (row_passes n.phase f n (visiting f n c.requires.going is) order c.requires.stage reads.seen room g.row.L-Value.Denot g.L.Layout.spelled cell shows none))))
 
 pub go_on-requires-clause-going : goal.go_on-requires-clause-going
-go_on-requires-clause-going g c = ap (λ (m : Notes). m.end) (c.self-2.view_is ∙ c.note.ensures c.requires.row.0 c.requires.row.1) ∙ c.requires.going
+go_on-requires-clause-going g c = ap (λ (m : Notes). m.end) (c.self-2.view_is ∙ c.note.ensures c.requires.gist.0 c.requires.gist.1) ∙ c.requires.going
 
 pub returns-clause-of : goal.returns-clause-of
-returns-clause-of g c = c.go_on.ensures.of ∙ ap (λ (m : Notes). m.of) (c.self-2.view_is ∙ c.note.ensures c.requires.row.0 c.requires.row.1)
+returns-clause-of g c = c.go_on.ensures.of ∙ ap (λ (m : Notes). m.of) (c.self-2.view_is ∙ c.note.ensures c.requires.gist.0 c.requires.gist.1)
