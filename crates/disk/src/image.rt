@@ -8,9 +8,6 @@ ghost use Rattle.disk.specs.Marks.{marks};
 use crate::pages::{Extent, PAGE};
 use crate::word::Word;
 
-/// A page of zeros.
-const ZEROS: [u8; PAGE] = [0; PAGE];
-
 /// The bytes up to `end` are kept, or more of them, and their words. Nothing else changes: new bytes are zeros, and new words are blank. It
 /// takes no memory.
 #[inline(always)]
@@ -59,9 +56,10 @@ fn add_zeros(bytes: &mut Vec<u8>, to: usize)
     ensures bytes { bytes.new.items ≡ bytes.old.items ++ replicate (to - length bytes.old.items) 0 }
     ensures room { vec_capacity bytes.old ≤ vec_capacity bytes.new }
 {
+    let zeros = [0; PAGE];
     while bytes.len() < to {
         let more = PAGE.min(to - bytes.len());
-        let _ = bytes.extend_from_slice(&ZEROS[..more]);
+        let _ = bytes.extend_from_slice(&zeros[..more]);
     }
 }
 

@@ -2,8 +2,8 @@ use Rattle.std.proofs.Common.{◌≡◌, ◌-◌, ◌≤◌, ◌++◌, length, r
 use Rattle.std.specs.Prelude.{vec_capacity}
 use Rattle.disk.proofs.image.add_zeros.Given as goal
 
-abbrev pub invariant-loop-bytes : goal.invariant-loop-bytes
-invariant-loop-bytes l = record {
+abbrev pub invariant-loop-zeros : goal.invariant-loop-zeros
+invariant-loop-zeros l = record {
   longer : length l.fn.bytes.items ≤ length l.bytes.items;
   within : length l.bytes.items ≤ l.to;
   room : l.to ≤ vec_capacity l.bytes;
@@ -11,5 +11,5 @@ invariant-loop-bytes l = record {
   so_far : l.bytes.items ≡ l.fn.bytes.items ++ replicate (length l.bytes.items - length l.fn.bytes.items) 0;
 }
 
-abbrev pub decreases-loop-bytes : goal.decreases-loop-bytes
-decreases-loop-bytes l = l.to - length l.bytes.items
+abbrev pub decreases-loop-zeros : goal.decreases-loop-zeros
+decreases-loop-zeros l = l.to - length l.bytes.items
