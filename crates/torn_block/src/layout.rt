@@ -109,7 +109,7 @@ pub trait Layout {
         requires { length bytes.old ≡ value_length version }
         ensures { bytes.new ≡ spelled value.now };
 
-    /// Whether these bytes of an input are zeros. As one array they are compared in one go: a row may have many such.
+    /// Whether these bytes of an input are zeros. A row may have many such.
     fn is_blank(bytes: &[u8]) -> bool
         requires { length bytes.now ≡ value_length version }
         ensures { result ≡ list_all (λ b. b == 0) bytes.now };
