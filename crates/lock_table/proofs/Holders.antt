@@ -96,7 +96,7 @@ clear_admits name lock mode xs from to before later clear =
     ])))
 
 -- what stands neither before the name nor behind its holders is of the name
-between : (name : List ℕ) (r : LockRecord) → stands_before_rank name 0 r ≡ false → stands_before_rank name 2 r ≡ true → is_on name r ≡ true
+pub between : (name : List ℕ) (r : LockRecord) → stands_before_rank name 0 r ≡ false → stands_before_rank name 2 r ≡ true → is_on name r ≡ true
 between name r from to =
     elim (slice_cmp nat_cmp r.name name) as (λ o. slice_cmp nat_cmp r.name name ≡ o → is_on name r ≡ true) [
       | Less ↦ λ e.

@@ -19,6 +19,11 @@ number_cmp a b = nat_cmp a.lock b.lock
 abbrev pub stands_before_rank : List ℕ → ℕ → LockRecord → Bool
 stands_before_rank name rank r = is_lt (ordering_then (slice_cmp nat_cmp r.name name) (nat_cmp (rank_of r.state) rank))
 
+-- the granted locks of a name, and all that are printed before them, end at this place
+pub record IsGrantedEnd (name : List ℕ) (locks : List LockRecord) (place : ℕ) : Type 0 where
+  pub bound : place ≤ length locks
+  pub point : IsPartitionPoint (λ r. stands_before_rank name 1 r ≡ true) (λ r. stands_before_rank name 1 r ≡ false) locks place
+
 -- the locks stand in printed order, each once, and beside them stand the same records by rising number
 pub record IsIndexed (printed numbers : List LockRecord) : Type 0 where
   pub sorted : IsSorted printed_cmp printed

@@ -1,7 +1,9 @@
-ghost use Rattle.std.specs.Prelude.{◌≡◌, ◌+◌, ◌<◌, ◌≤◌, ◌↔◌, [], IfOk, IfSome, IsTrue, filter, length, not};
+ghost use Rattle.std.specs.Prelude.{◌≡◌, ◌+◌, ◌<◌, ◌≤◌, ◌↔◌, [], IfOk, IfSome, IsTrue, None, false, filter, length, not};
 ghost use Rattle.std.specs.List.Sorted.{IsSorted};
 ghost use Rattle.lock_table.specs.Locks.{is_through};
 ghost use Rattle.lock_table.specs.Locks.{lock_in, without, put, has_queue, head_of, admits, in_state, settled, settled_all, IsDistinct};
+ghost use Rattle.lock_table.specs.Indexed.{IsGrantedEnd};
+ghost use Rattle.lock_command.specs.declared.state.LockState.TheVariants.{Granted};
 ghost use Rattle.lock_table.specs.Picture.{printed_cmp};
 ghost use Rattle.lock_table.specs.Placed.{in_order};
 
@@ -84,22 +86,31 @@ impl Index {
         let _ = self.printed();
     }
 
-    /// The lock whose turn it is on a name.
-    fn head(&self, name: &SpelledName) -> Option<LockRecord>
+    /// Where the granted locks of a name end.
+    pub fn granted_end(&self, name: &SpelledName) -> usize
+        ensures { IsGrantedEnd name.now self.now result }
+    {
+        printed::granted_end(&self.printed, name)
+    }
+
+    /// The lock whose turn it is on a name, whose granted locks end at a place.
+    fn head(&self, name: &SpelledName, end: usize) -> Option<LockRecord>
+        requires end { IsGrantedEnd name.now self.now end }
         ensures head { result ≡ head_of self.now name.now }
         ensures named { IfSome result (λ r. r.name ≡ name.now) }
         ensures there { IfSome result (λ r. lock_in self.now r.lock ≡ Some r) }
         ensures printed { in_order printed_cmp self.now ≡ self.now }
         ensures distinct { IsDistinct self.now }
     {
-        printed::head(&self.printed, name)
+        printed::head(&self.printed, name, end)
     }
 
     /// Whether a lock of the name stands in a queue.
-    pub fn has_queue(&self, name: &SpelledName) -> bool
+    pub fn has_queue(&self, name: &SpelledName, end: usize) -> bool
+        requires end { IsGrantedEnd name.now self.now end }
         ensures { result ≡ has_queue self.now name.now }
     {
-        self.head(name).is_some()
+        self.head(name, end).is_some()
     }
 
     /// Whether no other lock of the name holds a mode that conflicts with this one.
@@ -107,6 +118,26 @@ impl Index {
         ensures { result ≡ admits self.now lock name.now mode }
     {
         printed::admits(&self.printed, lock, name, mode)
+    }
+
+    /// Puts in a lock that is new and granted, if no other lock of the name holds a mode that conflicts with its own, and tells whether
+    /// it did. Where locks queue, it may answer either.
+    pub fn grant_new(&mut self, new: LockRecord, mode: Mode, name: &SpelledName, end: usize) -> bool
+        requires named { name.now ≡ new.name }
+        requires granted { new.state ≡ Granted mode }
+        requires absent { lock_in self.old new.lock ≡ None }
+        requires room { length self.old < LOCKS }
+        requires end { IsGrantedEnd name.now self.old end }
+        ensures granted { IsTrue result → self.new ≡ in_order printed_cmp (put self.old new) }
+        ensures left { result ≡ false → self.new ≡ self.old }
+        ensures admitted { has_queue self.old name.now ≡ false → result ≡ admits self.old new.lock name.now mode }
+    {
+        let Some(place) = printed::admitted_place(&self.printed, &new, mode, name, end) else {
+            return false;
+        };
+        by_lock_number::put_new(&mut self.numbers, new, name.near_by_number());
+        self.printed.insert(place, new, name);
+        true
     }
 
     /// Puts in a lock that is new.
@@ -131,14 +162,15 @@ impl Index {
         printed::restate(&mut self.printed, &own, &new, name);
     }
 
-    /// Takes a lock away.
-    pub fn take_away(&mut self, own: LockRecord, name: &SpelledName)
+    /// Takes a lock away, and tells where the granted locks of its name end then.
+    pub fn take_away(&mut self, own: LockRecord, name: &SpelledName) -> usize
         requires named { name.now ≡ own.name }
         requires there { lock_in self.old own.lock ≡ Some own }
-        ensures { self.new ≡ without self.old own.lock }
+        ensures left { self.new ≡ without self.old own.lock }
+        ensures end { IsGrantedEnd name.now self.new result }
     {
         by_lock_number::take_away(&mut self.numbers, own.lock, name.near_by_number());
-        printed::take_out(&mut self.printed, &own, name);
+        printed::take_out(&mut self.printed, &own, name)
     }
 
     /// Takes away the locks that were enqueued through a host.
@@ -154,12 +186,22 @@ impl Index {
     pub fn settle(&mut self, name: &SpelledName)
         ensures { self.new ≡ in_order printed_cmp (settled self.old name.now) }
     {
-        while let Some(first) = self.head(name) {
+        let end = self.granted_end(name);
+        self.settle_behind(name, end);
+    }
+
+    /// Grants locks of the name, whose granted locks end at a place, in their turn, until one cannot be granted.
+    pub fn settle_behind(&mut self, name: &SpelledName, mut end: usize)
+        requires end { IsGrantedEnd name.now self.old end }
+        ensures { self.new ≡ in_order printed_cmp (settled self.old name.now) }
+    {
+        while let Some(first) = self.head(name, end) {
             let wanted = goal(&first.state);
             if !self.admits(first.lock, name, wanted) {
                 return;
             }
             self.restate(first, LockState::Granted(wanted), name);
+            end = self.granted_end(name);
         }
     }
 

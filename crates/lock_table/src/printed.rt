@@ -1,11 +1,12 @@
-ghost use Rattle.std.specs.Prelude.{◌≡◌, ◌<◌, ◌≤◌, ◌^◌, length, filter, insert, remove, slice_index_or, not, nat_lt, true, false};
+ghost use Rattle.std.specs.Prelude.{◌≡◌, ◌+◌, ◌-◌, ◌*◌, ◌/◌, ◌<◌, ◌≤◌, ◌^◌, IfSome, Some, None, is_some, length, filter, find, drop, insert, remove, slice_index_or, not, nat_lt, true, false};
 ghost use Rattle.std.specs.List.{AllWithin, list_any};
 ghost use Rattle.std.specs.List.Sorted.{IsSorted, IsPartitionPoint};
 ghost use Rattle.lock_table.specs.Locks.{is_through};
-ghost use Rattle.lock_table.specs.Indexed.{stands_before_rank};
+ghost use Rattle.lock_table.specs.Indexed.{stands_before_rank, IsGrantedEnd};
+ghost use Rattle.lock_command.specs.declared.state.LockState.TheVariants.{Granted};
 ghost use Rattle.lock_table.specs.Narrowed.{IsNarrowed};
 ghost use Rattle.lock_table.specs.Keys.{lock_key, HasKey};
-ghost use Rattle.lock_table.specs.Locks.{is_on, lock_in, without, head_of, admits, in_state, IsDistinct};
+ghost use Rattle.lock_table.specs.Locks.{is_lock, is_on, lock_in, without, head_of, has_queue, admits, in_state, IsDistinct};
 ghost use Rattle.lock_table.specs.Picture.{printed_cmp};
 ghost use Rattle.lock_table.specs.Placed.{placed};
 ghost use Rattle.lock_table.specs.declared.record.LockRecord.{LockRecord};
@@ -86,6 +87,24 @@ fn stretch_near(printed: &ByPrintedOrder, all: usize, near: usize, key: u128) ->
     stretch_before(printed, near, key)
 }
 
+/// Where a stretch of more than four begins after three tests, which leave a quarter of it. None of the tests waits for another.
+#[inline(always)]
+fn narrowed(printed: &ByPrintedOrder, from: usize, size: usize, key: u128) -> usize
+    requires sorted { IsSorted printed_cmp printed.now }
+    requires small { key ≤ 2 ^ 126 }
+    requires few { length printed.now ≤ LOCKS }
+    requires fit { AllWithin HasKey printed.now 0 (length printed.now) }
+    requires narrowed { IsNarrowed (λ r. nat_lt (lock_key r) key) printed.now from size }
+    requires more { 4 < size }
+    ensures { IsNarrowed (λ r. nat_lt (lock_key r) key) printed.now result (size - 3 * ((size + 1) / 4)) }
+{
+    let quarter = (size + 1) / 4;
+    let first = printed.below(from + quarter - 1, key);
+    let second = printed.below(from + 2 * quarter - 1, key);
+    let third = printed.below(from + 3 * quarter - 1, key);
+    from + passed_of_three(quarter, first + second + third)
+}
+
 /// Where the locks of lower keys end within a stretch.
 fn end_within(printed: &ByPrintedOrder, mut from: usize, mut size: usize, key: u128) -> usize
     requires sorted { IsSorted printed_cmp printed.now }
@@ -97,18 +116,41 @@ fn end_within(printed: &ByPrintedOrder, mut from: usize, mut size: usize, key: u
     ensures point { IsPartitionPoint (λ r. nat_lt (lock_key r) key ≡ true) (λ r. nat_lt (lock_key r) key ≡ false) printed.now result }
 {
     while size > 4 {
-        let quarter = (size + 1) / 4;
-        let first = printed.below(from + quarter - 1, key);
-        let second = printed.below(from + 2 * quarter - 1, key);
-        let third = printed.below(from + 3 * quarter - 1, key);
-        from += passed_of_three(quarter, first + second + third);
-        size -= 3 * quarter;
+        from = narrowed(printed, from, size, key);
+        size -= 3 * ((size + 1) / 4);
     }
     let mut place = from;
     for at in from..from + size {
         place += printed.below(at, key);
     }
     place
+}
+
+/// How many locks have a lower key than each of two. No test for one key waits for a test for the other.
+fn both_below(printed: &ByPrintedOrder, one: u128, other: u128) -> (usize, usize)
+    requires sorted { IsSorted printed_cmp printed.now }
+    requires small { one ≤ 2 ^ 126 }
+    requires small_too { other ≤ 2 ^ 126 }
+    ensures bound { result.0 ≤ length printed.now }
+    ensures bound_too { result.1 ≤ length printed.now }
+    ensures point { IsPartitionPoint (λ r. nat_lt (lock_key r) one ≡ true) (λ r. nat_lt (lock_key r) one ≡ false) printed.now result.0 }
+    ensures point_too { IsPartitionPoint (λ r. nat_lt (lock_key r) other ≡ true) (λ r. nat_lt (lock_key r) other ≡ false) printed.now result.1 }
+    ensures fit { AllWithin HasKey printed.now 0 (length printed.now) }
+{
+    let mut first = 0;
+    let mut second = 0;
+    let mut left = printed.len();
+    while left > 4 {
+        first = narrowed(printed, first, left, one);
+        second = narrowed(printed, second, left, other);
+        left -= 3 * ((left + 1) / 4);
+    }
+    let (mut place, mut place_too) = (first, second);
+    for at in 0..left {
+        place += printed.below(first + at, one);
+        place_too += printed.below(second + at, other);
+    }
+    (place, place_too)
 }
 
 /// How many locks have a lower key. The search begins where an earlier one for the name ended.
@@ -118,6 +160,7 @@ fn locks_below(printed: &ByPrintedOrder, name: &SpelledName, key: u128) -> usize
     ensures bound { result ≤ length printed.now }
     ensures point { IsPartitionPoint (λ r. nat_lt (lock_key r) key ≡ true) (λ r. nat_lt (lock_key r) key ≡ false) printed.now result }
     ensures fit { AllWithin HasKey printed.now 0 (length printed.now) }
+    ensures few { length printed.now ≤ LOCKS }
 {
     let all = printed.len();
     let (from, size) = stretch_near(printed, all, name.near(), key);
@@ -136,7 +179,22 @@ fn joining_place(printed: &ByPrintedOrder, new: &LockRecord, name: &SpelledName)
     locks_below(printed, name, new.key(name) + 1)
 }
 
-/// The index of a lock's record. Records in one queue have one key, so the queue is searched from its head.
+/// The index of a lock's record, which stands at a place or behind it. Records in one queue have one key, so the queue is searched from its
+/// head.
+fn own_from(printed: &ByPrintedOrder, own: &LockRecord, mut at: usize) -> usize
+    requires distinct { IsDistinct printed.now }
+    requires there { find (is_lock own.now.lock) (drop at printed.now) ≡ Some own.now }
+    ensures bound { result < length printed.now }
+    ensures lock { (d : LockRecord) → slice_index_or printed.now result d ≡ own.now }
+    ensures place { remove printed.now result ≡ without printed.now own.now.lock }
+{
+    while printed.get(at).lock != own.lock {
+        at += 1;
+    }
+    at
+}
+
+/// The index of a lock's record.
 fn place_of(printed: &ByPrintedOrder, own: &LockRecord, name: &SpelledName) -> usize
     requires sorted { IsSorted printed_cmp printed.now }
     requires named { name.now ≡ own.now.name }
@@ -147,11 +205,7 @@ fn place_of(printed: &ByPrintedOrder, own: &LockRecord, name: &SpelledName) -> u
     ensures fits { HasKey own.now }
     ensures place { remove printed.now result ≡ without printed.now own.now.lock }
 {
-    let mut at = locks_below(printed, name, own.key(name));
-    while printed.get(at).lock != own.lock {
-        at += 1;
-    }
-    at
+    own_from(printed, own, locks_below(printed, name, own.key(name)))
 }
 
 /// How many locks are printed before the locks of a name that have this rank: 0 granted, 1 converting, 2 waiting.
@@ -160,16 +214,27 @@ fn locks_before_rank(printed: &ByPrintedOrder, name: &SpelledName, rank: u8) -> 
     requires rank { rank ≤ 2 }
     ensures bound { result ≤ length printed.now }
     ensures point { IsPartitionPoint (λ r. stands_before_rank name.now rank r ≡ true) (λ r. stands_before_rank name.now rank r ≡ false) printed.now result }
+    ensures fit { AllWithin HasKey printed.now 0 (length printed.now) }
+    ensures few { length printed.now ≤ LOCKS }
 {
     locks_below(printed, name, name.key(rank, 0))
 }
 
-/// The lock whose turn it is on a name: the first that converts, else the first that waits.
-pub fn head(printed: &ByPrintedOrder, name: &SpelledName) -> Option<LockRecord>
+/// Where the granted locks of a name end.
+pub fn granted_end(printed: &ByPrintedOrder, name: &SpelledName) -> usize
     requires { IsSorted printed_cmp printed.now }
+    ensures { IsGrantedEnd name.now printed.now result }
+{
+    locks_before_rank(printed, name, 1)
+}
+
+/// The lock whose turn it is on a name, whose granted locks end at a place: the first that converts, else the first that waits.
+pub fn head(printed: &ByPrintedOrder, name: &SpelledName, end: usize) -> Option<LockRecord>
+    requires sorted { IsSorted printed_cmp printed.now }
+    requires end { IsGrantedEnd name.now printed.now end }
     ensures { result ≡ head_of printed.now name.now }
 {
-    let first = printed.lock_at(locks_before_rank(printed, name, 1))?;
+    let first = printed.lock_at(end)?;
     (first.name == name.name()).then_some(first)
 }
 
@@ -206,6 +271,33 @@ pub fn admits(printed: &ByPrintedOrder, lock: LockNumber, name: &SpelledName, mo
     true
 }
 
+/// The place of a new lock that is granted, if no lock of its name, whose granted locks end at a place, holds a mode that conflicts with
+/// its own.
+pub fn admitted_place(
+    printed: &ByPrintedOrder,
+    new: &LockRecord,
+    mode: Mode,
+    name: &SpelledName,
+    end: usize,
+) -> Option<usize>
+    requires sorted { IsSorted printed_cmp printed.now }
+    requires named { name.now ≡ new.now.name }
+    requires granted { new.now.state ≡ Granted mode }
+    requires absent { lock_in printed.now new.now.lock ≡ None }
+    requires end { IsGrantedEnd name.now printed.now end }
+    ensures bound { IfSome result (λ place. place ≤ length printed.now) }
+    ensures place { IfSome result (λ place. insert printed.now place new.now ≡ placed printed_cmp new.now printed.now) }
+    ensures admitted { has_queue printed.now name.now ≡ false → is_some result ≡ admits printed.now new.now.lock name.now mode }
+{
+    let from = locks_before_rank(printed, name, 0);
+    // A lock that has to wait joins behind this end.
+    name.keep_near(end);
+    if !printed.none_against(from, end, mode) {
+        return None;
+    }
+    Some(end_within(printed, from, end - from, new.key(name) + 1))
+}
+
 /// Puts a record in its place.
 pub fn put_in(printed: &mut ByPrintedOrder, new: &LockRecord, name: &SpelledName)
     requires sorted { IsSorted printed_cmp printed.old }
@@ -216,16 +308,22 @@ pub fn put_in(printed: &mut ByPrintedOrder, new: &LockRecord, name: &SpelledName
     printed.insert(joining_place(printed, new, name), *new, name);
 }
 
-/// Takes the record of a lock out.
-pub fn take_out(printed: &mut ByPrintedOrder, own: &LockRecord, name: &SpelledName)
+/// Takes the record of a lock out, and tells where the granted locks of its name end then.
+pub fn take_out(printed: &mut ByPrintedOrder, own: &LockRecord, name: &SpelledName) -> usize
     requires sorted { IsSorted printed_cmp printed.old }
     requires named { name.now ≡ own.now.name }
     requires distinct { IsDistinct printed.old }
     requires there { lock_in printed.old own.now.lock ≡ Some own.now }
     ensures items { printed.new ≡ without printed.old own.now.lock }
     ensures room { length printed.new < LOCKS }
+    ensures end { IsGrantedEnd name.now printed.new result }
 {
-    printed.remove(place_of(printed, own, name));
+    let (head, end) = both_below(printed, own.key(name), name.key(1, 0));
+    let place = own_from(printed, own, head);
+    printed.remove(place);
+    let end = if place < end { end - 1 } else { end };
+    name.keep_near(end);
+    end
 }
 
 /// Replaces the record of a lock by that of the lock in another state. A granted lock that stays granted has the sort key that it
@@ -242,7 +340,7 @@ pub fn restate(printed: &mut ByPrintedOrder, own: &LockRecord, new: &LockRecord,
         printed.set(place_of(printed, own, name), *new);
         return;
     }
-    take_out(printed, own, name);
+    let _ = take_out(printed, own, name);
     put_in(printed, new, name);
 }
 

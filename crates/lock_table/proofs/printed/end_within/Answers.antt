@@ -2,14 +2,8 @@ use Rattle.std.proofs.Common.{nat_lt}
 use Rattle.lock_table.specs.Keys.{lock_key}
 use Rattle.lock_table.specs.Shelved.{no_lock}
 use Rattle.lock_table.proofs.Below.{below_partitioned}
-use Rattle.lock_table.proofs.Quarters.{narrowed_on, counted_on}
+use Rattle.lock_table.proofs.Quarters.{counted_on}
 use Rattle.lock_table.proofs.printed.end_within.Goals as goal
-
-pub loop-size-preserved : goal.loop-size-preserved
-loop-size-preserved c =
-    narrowed_on (λ r. nat_lt (lock_key r) c.args.key) c.args.printed.now (below_partitioned c.args.printed.now c.requires.fit c.args.key c.requires.sorted) no_lock c.loop-size.from c.loop-size.size c.loop-size.invariant c.loop-size-test.true
-    c.below-first.result c.below-second.result c.below-third.result c.passed_of_three-from.result
-    (c.below-first.ensures.below no_lock) (c.below-second.ensures.below no_lock) (c.below-third.ensures.below no_lock) c.passed_of_three-from.ensures.passed
 
 pub loop-at-preserved : goal.loop-at-preserved
 loop-at-preserved c =

@@ -11,18 +11,18 @@ use Rattle.lock_table.proofs.printed.head.Goals as goal
 pub returns-in_err-first : goal.returns-in_err-first
 returns-in_err-first c =
     let xs = c.args.printed.now in
-    let i = c.locks_before_rank.result in
+    let i = c.args.end in
     let stands : None ≡ first (drop i xs) = sym c.in_err-first.was ∙ c.lock_at.ensures ∙ slice_get_is_first xs i in
-    c.from_residual.ensures ∙ ap (first_if (is_on c.args.name.now)) stands ∙ sym (head_at_cut c.args.name.now xs i c.requires c.locks_before_rank.ensures.point)
+    c.from_residual.ensures ∙ ap (first_if (is_on c.args.name.now)) stands ∙ sym (head_at_cut c.args.name.now xs i c.requires.sorted c.requires.end.point)
 
 pub returns : goal.returns
 returns c =
     let xs = c.args.printed.now in
-    let i = c.locks_before_rank.result in
+    let i = c.args.end in
     let stands : Some c.in_ok-first.first ≡ first (drop i xs) = sym c.in_ok-first.was ∙ c.lock_at.ensures ∙ slice_get_is_first xs i in
     c.then_some.ensures
     ∙ ap (λ b. then_some b c.in_ok-first.first) c.eq.ensures
     ∙ ap (λ n. then_some (same_name c.in_ok-first.first.name n) c.in_ok-first.first) c.name.ensures
     ∙ then_some_if (is_on c.args.name.now) c.in_ok-first.first
     ∙ ap (first_if (is_on c.args.name.now)) stands
-    ∙ sym (head_at_cut c.args.name.now xs i c.requires c.locks_before_rank.ensures.point)
+    ∙ sym (head_at_cut c.args.name.now xs i c.requires.sorted c.requires.end.point)

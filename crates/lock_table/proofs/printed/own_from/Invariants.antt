@@ -1,7 +1,7 @@
 use Rattle.std.proofs.Common.{◌≡◌, ◌-◌, length, drop, Some}
 use Rattle.std.specs.List.{find}
 use Rattle.lock_table.specs.Locks.{is_lock}
-use Rattle.lock_table.proofs.printed.place_of.Given as goal
+use Rattle.lock_table.proofs.printed.own_from.Given as goal
 
 -- the record is among the rest
 abbrev pub invariant-loop-at : goal.invariant-loop-at

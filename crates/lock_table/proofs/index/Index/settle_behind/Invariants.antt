@@ -1,12 +1,16 @@
 use Rattle.std.proofs.Common.{◌≡◌, length}
+use Rattle.lock_table.specs.Indexed.{IsGrantedEnd}
 use Rattle.lock_table.specs.Locks.{settled, queue}
 use Rattle.lock_table.specs.Picture.{printed_cmp}
 use Rattle.lock_table.specs.Placed.{in_order}
-use Rattle.lock_table.proofs.index.Index.settle.Given as goal
+use Rattle.lock_table.proofs.index.Index.settle_behind.Given as goal
 
 -- what is settled from here shows what is settled from the start
 abbrev pub invariant-loop-first : goal.invariant-loop-first
-invariant-loop-first l = in_order printed_cmp (settled l.self l.name) ≡ in_order printed_cmp (settled l.initial.self l.name)
+invariant-loop-first l = record {
+  same : in_order printed_cmp (settled l.self l.name) ≡ in_order printed_cmp (settled l.initial.self l.name);
+  end : IsGrantedEnd l.name l.self l.end;
+}
 
 abbrev pub decreases-loop-first : goal.decreases-loop-first
 decreases-loop-first l = length (queue l.self l.name)
