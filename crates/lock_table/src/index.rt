@@ -105,7 +105,7 @@ impl Index {
         printed::head(&self.printed, name, end)
     }
 
-    /// Whether a lock of the name stands in a queue.
+    /// Whether a lock of the name, whose granted locks end at a place, stands in a queue.
     pub fn has_queue(&self, name: &SpelledName, end: usize) -> bool
         requires end { IsGrantedEnd name.now self.now end }
         ensures { result ≡ has_queue self.now name.now }

@@ -87,7 +87,7 @@ fn stretch_near(printed: &ByPrintedOrder, all: usize, near: usize, key: u128) ->
     stretch_before(printed, near, key)
 }
 
-/// Where a stretch of more than four begins after three tests, which leave a quarter of it. None of the tests waits for another.
+/// Where a stretch of more than four begins after three tests, which leave a quarter of it, or up to two more. No test waits for another.
 #[inline(always)]
 fn narrowed(printed: &ByPrintedOrder, from: usize, size: usize, key: u128) -> usize
     requires sorted { IsSorted printed_cmp printed.now }
@@ -126,7 +126,7 @@ fn end_within(printed: &ByPrintedOrder, mut from: usize, mut size: usize, key: u
     place
 }
 
-/// How many locks have a lower key than each of two. No test for one key waits for a test for the other.
+/// How many locks have a key below one, and how many have a key below another. No test for one key waits for a test for the other.
 fn both_below(printed: &ByPrintedOrder, one: u128, other: u128) -> (usize, usize)
     requires sorted { IsSorted printed_cmp printed.now }
     requires small { one ≤ 2 ^ 126 }
@@ -336,11 +336,12 @@ pub fn restate(printed: &mut ByPrintedOrder, own: &LockRecord, new: &LockRecord,
     requires restated { new.now ≡ in_state own.now new.now.state }
     ensures items { printed.new ≡ placed printed_cmp new.now (without printed.old own.now.lock) }
 {
+    let at = place_of(printed, own, name);
     if is_granted(&own.state) && is_granted(&new.state) {
-        printed.set(place_of(printed, own, name), *new);
+        printed.set(at, *new);
         return;
     }
-    let _ = take_out(printed, own, name);
+    printed.remove(at);
     put_in(printed, new, name);
 }
 

@@ -14,13 +14,13 @@ use Rattle.lock_table.proofs.Regranted.{same_key, fits_still, set_is_placed}
 use Rattle.lock_table.proofs.printed.restate.Goals as goal
 
 pub set-requires-clause-fits : goal.set-requires-clause-fits
-set-requires-clause-fits c = subst (λ (r : LockRecord). HasKey r) (sym c.requires.restated) (fits_still c.args.own.now c.args.new.now.state c.place_of.ensures.fits)
+set-requires-clause-fits c = subst (λ (r : LockRecord). HasKey r) (sym c.requires.restated) (fits_still c.args.own.now c.args.new.now.state c.place_of-at.ensures.fits)
 
 pub set-requires-clause-key : goal.set-requires-clause-key
 set-requires-clause-key c = λ d.
     let granted = not-true (is_queued c.args.own.now.state) (sym c.if-is_granted.ensures) in
     let stays = not-true (is_queued c.args.new.now.state) (sym c.if-is_granted-2.ensures) in
-    ap lock_key c.requires.restated ∙ same_key c.args.own.now granted c.args.new.now.state stays ∙ ap lock_key (sym (c.place_of.ensures.lock d))
+    ap lock_key c.requires.restated ∙ same_key c.args.own.now granted c.args.new.now.state stays ∙ ap lock_key (sym (c.place_of-at.ensures.lock d))
 
 pub returns-then-is_granted-2 : goal.returns-then-is_granted-2
 returns-then-is_granted-2 c =
@@ -30,12 +30,12 @@ returns-then-is_granted-2 c =
     let stays = not-true (is_queued c.args.new.now.state) (sym c.if-is_granted-2.ensures) in
     record {
       items = c.set.ensures
-          ∙ ap (set xs c.place_of.result) c.requires.restated
-          ∙ set_is_placed own granted c.args.new.now.state stays xs c.place_of.result c.requires.sorted c.requires.distinct c.place_of.ensures.bound c.place_of.ensures.lock c.place_of.ensures.place
+          ∙ ap (set xs c.place_of-at.result) c.requires.restated
+          ∙ set_is_placed own granted c.args.new.now.state stays xs c.place_of-at.result c.requires.sorted c.requires.distinct c.place_of-at.ensures.bound c.place_of-at.ensures.lock c.place_of-at.ensures.place
           ∙ ap (λ r. placed printed_cmp r (without xs own.lock)) (sym c.requires.restated);
     }
 
 pub put_in-requires-clause-sorted : goal.put_in-requires-clause-sorted
 put_in-requires-clause-sorted c =
-    subst (λ (l : List LockRecord). IsSorted printed_cmp l) (sym c.take_out.ensures.items)
+    subst (λ (l : List LockRecord). IsSorted printed_cmp l) (sym (c.remove.ensures.locks ∙ c.place_of-at.ensures.place))
     (IsSortedBy-filter (λ x y. is_lt (printed_cmp x y)) printed_order (λ o. not (is_lock c.args.own.now.lock o)) c.args.printed.now c.requires.sorted)
