@@ -1,14 +1,15 @@
 -- Where the granted locks of a name end, and where a new one joins them.
-use Rattle.std.proofs.Common.{◌≡◌, ◌≤◌, ◌<◌, ◌+◌, ◌-◌, ℕ, zero, suc, Bool, true, false, cond, not, ◌&&◌, nat_lt, List, [], ◌∷◌, length, get_or, remove, Option, Some, None, refl, sym, ap, ◌∙◌, inl, inr, arith}
-use Rattle.std.specs.List.{find, list_any, AllWithin}
+use Rattle.std.proofs.Common.{◌≡◌, ◌≤◌, ◌<◌, ◌+◌, ◌-◌, ℕ, zero, suc, Bool, true, false, cond, not, ◌&&◌, nat_lt, List, [], ◌∷◌, length, get_or, insert, remove, Option, Some, None, refl, sym, ap, ◌∙◌, inl, inr, arith}
+use Rattle.std.specs.List.{find, list_any, slice_get, AllWithin}
 use Rattle.std.specs.List.Sorted.{IsPartitionPoint}
 use Rattle.std.specs.Ordering.{is_lt, nat_cmp, ordering_then, ordering_reverse}
 use Rattle.std.specs.Cmp.Lexicographic.{slice_cmp}
 use Rattle.std.specs.declared.cmp.Ordering.{Ordering}
 use Rattle.std.specs.declared.cmp.Ordering.TheVariants.{Less, Equal, Greater}
 use Rattle.std.proofs.lemmas.Bool.{cases_lt, ltb-true, ltb-false, lt-ltb, le-ltb, not-true}
-use Rattle.std.proofs.lemmas.Cmp.{nat_list_cmp_total}
-use Rattle.std.proofs.lemmas.List.Edits.{length-remove, get_or-remove_below, get_or-remove_above}
+use Rattle.std.proofs.lemmas.Cmp.{nat_list_cmp_total, tied_itself}
+use Rattle.std.proofs.lemmas.List.Edits.{length-insert, length-remove, get_or-insert_at, get_or-insert_below, get_or-insert_above, get_or-remove_below, get_or-remove_above}
+use Rattle.std.proofs.lemmas.Option.{slice_get_cases, none-some}
 use Rattle.std.proofs.lemmas.List.Folds.{list_any_at}
 use Rattle.lock_modes.specs.declared.mode.Mode.{Mode}
 use Rattle.lock_command.specs.Name.{IsName}
@@ -56,6 +57,40 @@ cut_without p xs at cut rest inside bound point front behind =
             ),
           )
     ]
+
+-- A cut moves by one where one that passes is put in in front of it.
+pub cut_with : {X : Type 0} (p : X → Bool) (xs : List X) (x : X) (at cut : ℕ) → p x ≡ true → at ≤ cut → cut ≤ length xs
+    → IsPartitionPoint (λ y. p y ≡ true) (λ y. p y ≡ false) xs cut
+    → (cut + 1 ≤ length (insert xs at x)) × IsPartitionPoint (λ y. p y ≡ true) (λ y. p y ≡ false) (insert xs at x) (cut + 1)
+cut_with p xs x at cut passes front bound point =
+    let more = length-insert xs at x (omega (arith, front, bound)) in
+    let fits : at ≤ length xs = omega (arith, front, bound) in (
+      omega (arith, more, bound),
+      (
+        λ k d low high. elim (cases_lt k at) as (λ w. p (get_or (insert xs at x) k d) ≡ true) [
+          | inl less ↦ ap p (get_or-insert_below xs at x d k less fits) ∙ point.0 k d low (omega (arith, less, front))
+          | inr after ↦ elim (cases_lt at k) as (λ w. p (get_or (insert xs at x) k d) ≡ true) [
+            | inl above ↦
+                let is : k ≡ k - 1 + 1 = omega (arith, above) in
+                ap (λ i. p (get_or (insert xs at x) i d)) is
+                ∙ ap p (get_or-insert_above xs at x d (k - 1) (omega (arith, above)) fits) ∙ point.0 (k - 1) d (omega arith) (omega (arith, high, above))
+            | inr not_above ↦
+                let is : k ≡ at = omega (arith, after, not_above) in
+                ap (λ i. p (get_or (insert xs at x) i d)) is ∙ ap p (get_or-insert_at xs at x d fits) ∙ passes
+          ]
+        ],
+        λ k d low high.
+            let is : k ≡ k - 1 + 1 = omega (arith, low) in
+            ap (λ i. p (get_or (insert xs at x) i d)) is
+            ∙ ap p (get_or-insert_above xs at x d (k - 1) (omega (arith, low, front)) fits) ∙ point.1 (k - 1) d (omega (arith, low)) (omega (arith, high, more, low)),
+      ),
+    )
+
+pub inside_at : {X : Type 0} (xs : List X) (i : ℕ) (x : X) → slice_get xs i ≡ Some x → i < length xs
+inside_at xs i x stands = elim (slice_get_cases xs i).1 as (λ w. i < length xs) [
+  | inl h ↦ h.1
+  | inr h ↦ absurd (none-some x (sym h.1 ∙ stands))
+]
 
 lower_then : (o p : Ordering) → is_lt o ≡ true → is_lt (ordering_then o p) ≡ true
 lower_then Less p h = refl
@@ -169,3 +204,30 @@ module _ (name : List ℕ) (xs : List LockRecord) (from end : ℕ) (inside : fro
         let impossible : ⊥ = cc in absurd impossible
     | false ↦ λ e. refl
   ] refl
+
+held_is_first : (s : LockState) (lock : ℕ) → is_queued s ≡ false → (rank_of s ≡ 0) × (number_among s lock ≡ lock)
+held_is_first (Granted mode) lock h = (refl, refl)
+held_is_first (Converting held wanted) lock h = let impossible : ⊥ = cc in absurd impossible
+held_is_first (Waiting wanted) lock h = let impossible : ⊥ = cc in absurd impossible
+
+-- a lock that holds and wants nothing more joins in front of where the granted locks of its name end
+pub joins_in_front : (name : List ℕ) (xs : List LockRecord) (end at key : ℕ) (new : LockRecord) → AllWithin HasKey xs 0 (length xs) → IsName name → IsGrantedEnd name xs end
+    → HasKey new → name ≡ new.name → is_queued new.state ≡ false → key ≡ lock_key new → at ≤ length xs → AllWithin (λ r. nat_lt (lock_key r) (key + 1) ≡ true) xs 0 at → at ≤ end
+joins_in_front name xs end at key new fit is_name ends fits named held is bound front = elim (cases_lt end at) as (λ w. at ≤ end) [
+  | inl less ↦
+      let first = held_is_first new.state new.lock held in
+      let own : key ≡ key_of name 0 new.lock = is ∙ (λ i. key_of (sym named i) (first.0 i) (first.1 i)) in
+      let r = get_or xs end no_lock in
+      let here : end < length xs = omega (arith, less, bound) in
+      let more : key_of name 1 0 ≤ lock_key r = ltb-false _ _ (before_by_key name 1 r (fit end no_lock (omega arith) here) is_name (omega arith) ∙ ends.point.1 end no_lock (omega arith) here) in
+      let low : lock_key r < key + 1 = ltb-true _ _ (front end no_lock (omega arith) less) in
+      absurd (omega (arith, more, low, own, fits.number))
+  | inr more ↦ more
+]
+
+-- and stands before the queues
+pub held_in_front : (name : List ℕ) (new : LockRecord) → name ≡ new.name → is_queued new.state ≡ false → stands_before_rank name 1 new ≡ true
+held_in_front name new named held =
+    (λ i. is_lt (ordering_then (slice_cmp nat_cmp (sym named i) name) (nat_cmp (rank_of new.state) 1)))
+    ∙ (λ i. is_lt (ordering_then (tied_itself nat_list_cmp_total name i) (nat_cmp (rank_of new.state) 1)))
+    ∙ granted_in_front new.state held

@@ -1,4 +1,5 @@
-ghost use Rattle.std.specs.Prelude.{◌≡◌, ◌+◌, ◌<◌, ◌≤◌, ◌↔◌, [], IfOk, IfSome, IsTrue, None, false, filter, length, not};
+ghost use Rattle.std.specs.Prelude.{◌≡◌, ◌+◌, ◌<◌, ◌≤◌, ◌↔◌, [], IfOk, IfSome, IsTrue, Some, None, false, filter, length, not};
+ghost use Rattle.std.specs.List.{slice_get};
 ghost use Rattle.std.specs.List.Sorted.{IsSorted};
 ghost use Rattle.lock_table.specs.Locks.{is_through};
 ghost use Rattle.lock_table.specs.Locks.{lock_in, without, put, has_queue, head_of, admits, in_state, settled, settled_all, IsDistinct};
@@ -98,6 +99,7 @@ impl Index {
         requires end { IsGrantedEnd name.now self.now end }
         ensures head { result ≡ head_of self.now name.now }
         ensures named { IfSome result (λ r. r.name ≡ name.now) }
+        ensures at { IfSome result (λ r. slice_get self.now end ≡ Some r) }
         ensures there { IfSome result (λ r. lock_in self.now r.lock ≡ Some r) }
         ensures printed { in_order printed_cmp self.now ≡ self.now }
         ensures distinct { IsDistinct self.now }
@@ -200,9 +202,22 @@ impl Index {
             if !self.admits(first.lock, name, wanted) {
                 return;
             }
-            self.restate(first, LockState::Granted(wanted), name);
-            end = self.granted_end(name);
+            end = self.grant_head(first, wanted, name, end);
         }
+    }
+
+    /// Grants the lock whose turn it is on a name, whose granted locks end at a place, and tells where they end then.
+    fn grant_head(&mut self, own: LockRecord, mode: Mode, name: &SpelledName, end: usize) -> usize
+        requires named { name.now ≡ own.name }
+        requires there { lock_in self.old own.lock ≡ Some own }
+        requires end { IsGrantedEnd name.now self.old end }
+        requires head { slice_get self.old end ≡ Some own }
+        ensures put { self.new ≡ in_order printed_cmp (put self.old (in_state own (Granted mode))) }
+        ensures end { IsGrantedEnd name.now self.new result }
+    {
+        let new = own.with_state(LockState::Granted(mode));
+        by_lock_number::replace(&mut self.numbers, new, name.near_by_number());
+        printed::grant_head(&mut self.printed, &own, &new, name, end)
     }
 
     /// Settles each of the names in turn.

@@ -1,9 +1,10 @@
 ghost use Rattle.std.specs.Prelude.{◌≡◌, ◌+◌, ◌-◌, ◌*◌, ◌/◌, ◌<◌, ◌≤◌, ◌^◌, IfSome, Some, None, is_some, length, filter, find, drop, insert, remove, slice_index_or, not, nat_lt, true, false};
-ghost use Rattle.std.specs.List.{AllWithin, list_any};
+ghost use Rattle.std.specs.List.{AllWithin, list_any, slice_get};
 ghost use Rattle.std.specs.List.Sorted.{IsSorted, IsPartitionPoint};
 ghost use Rattle.lock_table.specs.Locks.{is_through};
 ghost use Rattle.lock_table.specs.Indexed.{stands_before_rank, IsGrantedEnd};
 ghost use Rattle.lock_command.specs.declared.state.LockState.TheVariants.{Granted};
+ghost use Rattle.lock_table.specs.State.{is_queued};
 ghost use Rattle.lock_table.specs.Narrowed.{IsNarrowed};
 ghost use Rattle.lock_table.specs.Keys.{lock_key, HasKey};
 ghost use Rattle.lock_table.specs.Locks.{is_lock, is_on, lock_in, without, head_of, has_queue, admits, in_state, IsDistinct};
@@ -232,7 +233,8 @@ pub fn granted_end(printed: &ByPrintedOrder, name: &SpelledName) -> usize
 pub fn head(printed: &ByPrintedOrder, name: &SpelledName, end: usize) -> Option<LockRecord>
     requires sorted { IsSorted printed_cmp printed.now }
     requires end { IsGrantedEnd name.now printed.now end }
-    ensures { result ≡ head_of printed.now name.now }
+    ensures head { result ≡ head_of printed.now name.now }
+    ensures at { IfSome result (λ r. slice_get printed.now end ≡ Some r) }
 {
     let first = printed.lock_at(end)?;
     (first.name == name.name()).then_some(first)
@@ -306,6 +308,31 @@ pub fn put_in(printed: &mut ByPrintedOrder, new: &LockRecord, name: &SpelledName
     ensures items { printed.new ≡ placed printed_cmp new.now printed.old }
 {
     printed.insert(joining_place(printed, new, name), *new, name);
+}
+
+/// Grants the lock that stands where the granted locks of its name end, and tells where they end then.
+pub fn grant_head(
+    printed: &mut ByPrintedOrder,
+    own: &LockRecord,
+    new: &LockRecord,
+    name: &SpelledName,
+    end: usize,
+) -> usize
+    requires sorted { IsSorted printed_cmp printed.old }
+    requires named { name.now ≡ own.now.name }
+    requires distinct { IsDistinct printed.old }
+    requires end { IsGrantedEnd name.now printed.old end }
+    requires head { slice_get printed.old end ≡ Some own.now }
+    requires granted { new.now ≡ in_state own.now new.now.state }
+    requires held { is_queued new.now.state ≡ false }
+    ensures items { printed.new ≡ placed printed_cmp new.now (without printed.old own.now.lock) }
+    ensures end { IsGrantedEnd name.now printed.new result }
+{
+    printed.remove(end);
+    name.keep_near(end);
+    let at = locks_below(printed, name, new.key(name) + 1);
+    printed.insert(at, *new, name);
+    end + 1
 }
 
 /// Takes the record of a lock out, and tells where the granted locks of its name end then.
