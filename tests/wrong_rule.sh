@@ -1,24 +1,17 @@
 #!/usr/bin/env bash
-# wrong_rule.sh: a sweep finds what is wrong. In a copy of the crates a sync makes nothing safe (simulator/wrong/sync_left_out.edit). The copy's
-# dlm, of which nothing is proved, sweeps scripts that have a NAME.sweep. Crashes then lose what was acknowledged, so that runs have to be
-# wrong: as many as another program counts under that rule, and the same one first (scripts/sweep_wrong.txt: the script's name, what is printed
-# and told). It takes two minutes or so.
+# wrong_rule.sh [RUNS]: a sweep finds what is wrong. In a copy of the program's crates a sync makes nothing safe (simulator/wrong/sync_left_out.edit).
+# `rt try` compiles the copy's dlm, of which nothing is proved, and lets it sweep scripts one after the other. Crashes then lose what was
+# acknowledged, so that runs have to be wrong: as many as another program counts under that rule, and the same one first (scripts/sweep_wrong.txt:
+# the script's name, what is printed and told). Swept are the scripts of that list that make at most so many runs (none given: 350; 600 are all).
 set -uo pipefail
 
 source "$(dirname -- "$(readlink -f -- "${BASH_SOURCE[0]}")")/lib.sh"
+source "$top/build.sh"
+most=${1:-350}
 
-mkdir -- "$work/crates" "$work/compiled"
-cp -- "$top/"{crates.txt,HANDLES} "$work/"
-for crate in "$top/crates/"*/; do
-    name=$(basename -- "$crate")
-    mkdir -- "$work/crates/$name"
-    for part in src specs proofs; do
-        [[ ! -d $crate$part ]] || cp -r -- "$crate$part" "$work/crates/$name/"
-    done
-done
-
+copy_crates dlm "$work/copy"
 edit=$top/crates/simulator/wrong/sync_left_out.edit
-file=$work/crates/simulator/$(sed -n 's/^file: //p' "$edit")
+file=$work/copy/crates/simulator/$(sed -n 's/^file: //p' "$edit")
 right=$(sed -n 's/^old: //p' "$edit")
 wrong=$(sed -n 's/^new: //p' "$edit")
 source=$(<"$file")
@@ -28,23 +21,34 @@ if [[ $source != *"$right"* ]]; then
 fi
 printf '%s\n' "${source/"$right"/"$wrong"}" > "$file"
 
-source "$top/unproved.sh"
-top=$work
-compile_unproved "$work/compiled" dlm || exit 1
-
-printf 'cluster 1 4\nstart 0\nsubmit 0 1 enqueue 1 1 10 EX db\nstep 0 17\nsubmit 0 1 enqueue 2 1 11 EX db\nstep 0 17\n' > "$work/two_submissions.dlm"
-swept=0
-differ=0
-while IFS=: read -r name wanted; do
-    script=$(find "$tests/scripts" "$tests/../examples" -name "$name.dlm")
-    [[ $name != two_submissions ]] || script=$work/two_submissions.dlm
-    found=$("$work/compiled/made" sweep "$script" 2> "$work/told" < /dev/null) || true
-    found=" $found $(<"$work/told")"
-    swept=$((swept + 1))
-    if [[ ${found%"${found##*[! ]}"} != "${wanted%"${wanted##*[! ]}"}" ]]; then
-        echo "$name:$found, and not$wanted"
-        differ=$((differ + 1))
-    fi
+# The scripts, each under its name, and of each what is wanted.
+mkdir -- "$work/scripts"
+declare -A wanted
+while IFS=: read -r name text; do
+    runs=${text%% runs,*}
+    [[ $runs -le $most ]] || continue
+    wanted[$name]=$text
+    find "$tests/scripts" "$top/examples" -name "$name.dlm" -exec cp -t "$work/scripts" -- {} +
 done < <(echo 'two_submissions: 138 runs, 276 recovered, 34 wrong dlm: 31 WrongRun 70' && cat -- "$tests/scripts/sweep_wrong.txt")
-echo "a wrong rule is found: $swept sweeps, $differ differ"
-[[ $differ -eq 0 && $swept -gt 1 ]]
+printf 'cluster 1 4\nstart 0\nsubmit 0 1 enqueue 1 1 10 EX db\nstep 0 17\nsubmit 0 1 enqueue 2 1 11 EX db\nstep 0 17\n' > "$work/scripts/two_submissions.dlm"
+
+# It prints a line `== NAME.dlm`, what the sweep printed and told, and a line `case=NAME.dlm ..`.
+(cd -- "$work/copy/crates/dlm" && rt try --seconds 240 --cases "$work/scripts" -- sweep {} < /dev/null) > "$work/told" 2>&1
+declare -A found
+while IFS= read -r line; do
+    case $line in
+        '== '*.dlm) name=${line#== } name=${name%.dlm} found[$name]= ;;
+        case=*) name= ;;
+        *) [[ -z ${name-} ]] || found[$name]+=" $line" ;;
+    esac
+done < "$work/told"
+
+for name in "${!wanted[@]}"; do
+    text=${wanted[$name]}
+    if [[ ${found[$name]-} != "${text%"${text##*[! ]}"}" ]]; then
+        fail "$name:${found[$name]-}, and not$text"
+    fi
+done
+[[ ${#found[@]} -gt 0 ]] || cat -- "$work/told"
+echo "a wrong rule is found: ${#found[@]} sweeps, $failed differ"
+[[ $failed -eq 0 && ${#found[@]} -eq ${#wanted[@]} && ${#wanted[@]} -gt 1 ]]
