@@ -1,4 +1,4 @@
-# To be sourced by `dlm`, `bench.sh` and `tests/refused.sh`, which set `top` to the root: builds a program where it is missing, or where its code or contracts
+# To be sourced with `top` set to the root, as `dlm`, `bench.sh` and `release.sh` do: builds a program where it is missing, or where its code or contracts
 # changed since its last build began.
 
 # Sets `below` to the libraries of the repository that a crate stands on, lowest first: crates.txt names for each crate those that its own files cite.

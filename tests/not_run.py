@@ -10,8 +10,9 @@ PAGES = ("README.md", "docs/TUTORIAL.md", "docs/OPERATIONS.md")
 
 # What a line begins with, or the language of a block of code and what its first line begins with; and what runs it.
 KNOWN = {
-    ("README.md", "F=$(mktemp -d) && ./dlm-unproved"): "tests/unproved.sh, twice",
-    ("README.md", "tests/unproved.sh"): ".ci/run",
+    ("README.md", "(cd crates/dlm && rt try -- run"): "tests/readme.sh, in .ci/run",
+    ("README.md", "F=$(mktemp -d) && ./dlm format"): "tests/all.sh, twice",
+    ("README.md", "tests/all.sh"): ".ci/run",
     ("README.md", "rt ci"): ".ci/run",
     ("README.md", "PREFIX=$PWD/usr capi/install.sh"): "capi/check.sh does so in a folder of its own",
     ("README.md", "mkdir from_c"): "capi/check.sh does so in a folder of its own",

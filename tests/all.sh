@@ -1,0 +1,38 @@
+#!/usr/bin/env bash
+# all.sh: the tests of the program, by the proved one: all scripts of tests/scripts/ and examples/, words, folders, races, faults of files, damaged
+# images, kills, migrations, renewals and hosts at once, and README's own first command twice. `rt ci` is the gate, which proves; it stands beside.
+# The last line counts the tests, and the status is 1 where one failed.
+set -uo pipefail
+
+source "$(dirname -- "$(readlink -f -- "${BASH_SOURCE[0]}")")/lib.sh"
+need_program
+passed=0
+
+# try TEST WORD..: runs a test, and prints its last line and what it says that it left out, or all that it printed where it failed.
+try() {
+    local test=$1
+    shift
+    if "$tests/$test" "$@" > "$work/told" 2>&1 < /dev/null; then
+        grep '^left out: ' "$work/told"
+        echo "$test: $(tail -n 1 -- "$work/told")"
+        passed=$((passed + 1))
+    else
+        cat -- "$work/told"
+        echo "$test: FAILED"
+        failed=$((failed + 1))
+    fi
+}
+
+try readme.sh 'F=$(mktemp -d)' 2
+try check.sh "$tests/scripts" "$top/examples"
+try program.py
+try closed.py
+try race.sh
+try faults.sh
+try check_images.sh
+try kill.sh 40
+try migrate.py --kills 40
+try renew.py --kills 40 --long 5
+try at_once.py --rounds 2 --seconds 4
+echo "$passed passed, $failed failed"
+[[ $failed -eq 0 ]]
