@@ -1,3 +1,5 @@
+use cluster::{Entry, Receipt};
+use disk::DiskFault;
 use host::Refusal;
 use lock_command::{Answer, Command, LockState, Reply};
 use std::fmt::{self, Display, Formatter};
@@ -16,6 +18,12 @@ impl Digest {
     pub fn add(&mut self, word: u64) {
         let mixed = (self.value ^ word).wrapping_mul(0x9E37_79B9_7F4A_7C15);
         self.value = mixed ^ (mixed >> 29);
+    }
+
+    pub fn add_words(&mut self, words: &[u64]) {
+        for &word in words {
+            self.add(word);
+        }
     }
 
     pub fn add_bytes(&mut self, bytes: &[u8]) {
@@ -37,6 +45,59 @@ impl Digest {
         if let Some(value) = reply.value {
             self.add(u64::from(value.valid));
             self.add_bytes(&value.bytes);
+        }
+    }
+
+    /// All that a receipt says.
+    pub fn add_receipt(&mut self, receipt: &Receipt) {
+        self.add(u64::from(receipt.host.get()));
+        self.add_commands(&[receipt.command]);
+        self.add(u64::from(receipt.slot));
+        self.add_reply(&receipt.reply);
+        self.add(receipt.place as u64);
+    }
+
+    /// All that a journal keeps of a step.
+    pub fn add_entry(&mut self, entry: &Entry) {
+        match *entry {
+            Entry::Start(host) => self.add_words(&[1, u64::from(host.get())]),
+            Entry::Stop(host) => self.add_words(&[2, u64::from(host.get())]),
+            Entry::Submit {
+                host,
+                command,
+                tries,
+            } => {
+                self.add_words(&[3, u64::from(host.get()), u64::from(tries)]);
+                self.add_commands(&[command]);
+            }
+            Entry::Recover { host, tries } => {
+                self.add_words(&[4, u64::from(host.get()), u64::from(tries)])
+            }
+            Entry::Look(host) => self.add_words(&[5, u64::from(host.get())]),
+            Entry::Beat(host) => self.add_words(&[6, u64::from(host.get())]),
+            Entry::Mark { host, slot } => {
+                self.add_words(&[7, u64::from(host.get()), u64::from(slot)])
+            }
+            Entry::Called {
+                host,
+                disk,
+                call,
+                fault,
+            } => self.add_words(&[
+                8,
+                u64::from(host.get()),
+                u64::from(disk),
+                call as u64,
+                fault_word(fault),
+            ]),
+            Entry::Torn { host, disk } => {
+                self.add_words(&[9, u64::from(host.get()), u64::from(disk)])
+            }
+            Entry::DiskCrash(disk) => self.add_words(&[10, u64::from(disk)]),
+            Entry::DiskGone(disk) => self.add_words(&[11, u64::from(disk)]),
+            Entry::Migrated { disks, commands } => {
+                self.add_words(&[12, u64::from(disks), u64::from(commands)])
+            }
         }
     }
 
@@ -64,6 +125,10 @@ fn state_word(state: LockState) -> u64 {
         LockState::Converting { held, wanted } => 0x20_100 + 8 * (held as u64) + wanted as u64,
         LockState::Waiting(wanted) => 0x20_200 + wanted as u64,
     }
+}
+
+fn fault_word(fault: Option<DiskFault>) -> u64 {
+    fault.map_or(0, |fault| fault as u64 + 1)
 }
 
 impl Display for Digest {

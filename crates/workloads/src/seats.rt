@@ -6,7 +6,7 @@ use crate::digest::Digest;
 use crate::failure::Failure;
 use crate::numbers::Numbers;
 use crate::words::Size;
-use cluster::{Cluster, ClusterName, Config, HostSeat, OpenGate, Opening};
+use cluster::{Cluster, ClusterName, Config, Entry, HostSeat, OpenGate, Opening};
 use disk::SimDisk;
 use lock_command::HostNumber;
 use std::alloc::{AllocGlobal, Global};
@@ -64,7 +64,7 @@ fn fill_named<N: ClusterName, R: Wait + AllocGlobal>(
     let seats = work(rt, alloc, &cluster, slots, commands, digest)?;
     add_seats(&seats, digest);
     let record = cluster.finish(seats)?;
-    digest.add(record.entries.len() as u64);
+    add_entries(&record.entries, digest);
     Ok(())
 }
 
@@ -72,6 +72,14 @@ fn fill_named<N: ClusterName, R: Wait + AllocGlobal>(
 fn add_seats<N: ClusterName>(seats: &Vec<HostSeat<N>>, digest: &mut Digest) {
     for seat in seats {
         digest.add_commands(seat.prefix());
+    }
+}
+
+/// What the journal tells. One thread makes all calls, so it is the same at each run.
+fn add_entries(entries: &Vec<Entry>, digest: &mut Digest) {
+    digest.add(entries.len() as u64);
+    for entry in entries {
+        digest.add_entry(entry);
     }
 }
 
@@ -133,7 +141,6 @@ fn submit<N: ClusterName>(
     }
     let receipt = cluster.submit(rt, seat, &mut OpenGate, command, 8)?;
     commands.hear(&command, &receipt.reply);
-    digest.add(u64::from(receipt.slot));
-    digest.add_reply(&receipt.reply);
+    digest.add_receipt(&receipt);
     Ok(())
 }
