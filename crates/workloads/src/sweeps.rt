@@ -8,7 +8,7 @@ use simulator::sweep;
 use std::alloc::Global;
 
 /// How many scripts are swept.
-const SCRIPTS: u32 = 2;
+const SCRIPTS: u32 = 4;
 
 /// Sweeps of scripts in which hosts submit in turn, over three disks.
 pub fn sweep_scripts(alloc: Global, size: Size, seed: u32) -> Result<Digest, Failure> {

@@ -44,7 +44,7 @@ impl Job {
 pub enum Size {
     /// A small part, where nothing is timed.
     Small,
-    /// All of it, which takes a second or more.
+    /// All of it, which takes half a second or more.
     Whole,
 }
 
