@@ -1,6 +1,7 @@
 ghost use Rattle.std.specs.Prelude.{◌≡◌, true, IfSome};
 ghost use Rattle.lock_command.specs.Command.{is_submittable};
 
+use crate::names::name_of;
 use crate::numbers::Numbers;
 use lock_command::{
     Action, Answer, ClientNumber, Command, HostNumber, LockName, LockNumber, Refusal, Reply,
@@ -13,9 +14,6 @@ const LOCKS: usize = 256;
 
 /// How many clients there are: as many as a table knows. Each uses eight locks.
 const CLIENTS: usize = 32;
-
-/// What names look like; the last two letters tell them apart.
-const SPELLINGS: [&[u8]; 4] = [b"db??", b"volume/??", b"accounts/row??", b"inode:00004c??"];
 
 /// The modes, the common ones more than once.
 const MODES: [Mode; 8] = [
@@ -118,23 +116,14 @@ impl Commands {
     /// One value in four is given.
     fn value(&mut self, drawn: u64) -> Option<ValueBytes> {
         if (drawn >> 16) % 4 == 0 {
-            let mut bytes = [0; 16];
-            bytes[..8].copy_from_slice(&self.numbers.next().to_be_bytes());
-            Some(ValueBytes::new(bytes))
+            Some(value_of(self.numbers.next()))
         } else {
             None
         }
     }
 
     fn name(&self, drawn: u64) -> Option<LockName> {
-        let number = (drawn >> 20).checked_rem(self.names)?;
-        let spelling = SPELLINGS[(number % 4) as usize];
-        let mut bytes = [0; 14];
-        let length = spelling.len().min(14);
-        bytes[..length].copy_from_slice(&spelling[..length]);
-        bytes[length.checked_sub(2)?] = b'a' + (number / 26 % 26) as u8;
-        bytes[length.checked_sub(1)?] = b'a' + (number % 26) as u8;
-        LockName::new(&bytes[..length])
+        name_of((drawn >> 20).checked_rem(self.names)?)
     }
 
     /// The last command is taken to have been granted, where nobody tells.
@@ -166,4 +155,11 @@ fn is_enqueue(command: &Command) -> bool {
 
 fn mode_of(drawn: u64) -> Mode {
     MODES[(drawn % 8) as usize]
+}
+
+/// A value that begins with this number.
+pub fn value_of(number: u64) -> ValueBytes {
+    let mut bytes = [0; 16];
+    bytes[..8].copy_from_slice(&number.to_be_bytes());
+    ValueBytes::new(bytes)
 }

@@ -1,7 +1,8 @@
 use cluster::{Entry, Receipt};
 use disk::DiskFault;
 use host::Refusal;
-use lock_command::{Answer, Command, LockState, Reply};
+use lock_command::{Answer, Command, LockState, LockValue, Reply};
+use lock_table::{LockRecord, Picture};
 use std::fmt::{self, Display, Formatter};
 
 /// A number that all words and bytes given to it decide, in their order.
@@ -43,9 +44,36 @@ impl Digest {
             Answer::Refused(refusal) => self.add(0x30_000 + u64::from(refusal.number())),
         }
         if let Some(value) = reply.value {
-            self.add(u64::from(value.valid));
-            self.add_bytes(&value.bytes);
+            self.add_value(value);
         }
+    }
+
+    fn add_value(&mut self, value: LockValue) {
+        self.add(u64::from(value.valid));
+        self.add_bytes(&value.bytes);
+    }
+
+    /// All that a table shows.
+    pub fn add_picture(&mut self, picture: &Picture) {
+        for record in picture.locks() {
+            self.add_record(record);
+        }
+        for value in picture.values() {
+            self.add_value(*value);
+        }
+        for client in picture.clients() {
+            self.add(u64::from(client.client.get()));
+            self.add(client.request.get());
+            self.add_reply(&client.reply);
+        }
+    }
+
+    fn add_record(&mut self, record: &LockRecord) {
+        self.add(u64::from(record.lock.get()));
+        self.add(u64::from(record.client.get()));
+        self.add(u64::from(record.host.get()));
+        self.add_bytes(record.name.as_bytes());
+        self.add(state_word(record.state));
     }
 
     /// All that a receipt says.

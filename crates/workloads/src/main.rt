@@ -4,12 +4,15 @@
 mod commands;
 mod digest;
 mod failure;
+mod hands;
 mod long_logs;
 mod lookers;
+mod names;
 mod numbers;
 mod script_text;
 mod scripts;
 mod seats;
+mod sessions;
 mod sweeps;
 mod tables;
 mod words;
@@ -70,6 +73,7 @@ fn report<R: Print + Wait + AllocGlobal>(
         Job::Look => lookers::look_and_submit(alloc, size, seed)?,
         Job::Recover => long_logs::recover_logs(alloc, size, seed)?,
         Job::Seats => seats::submit_in_seats(rt, size, seed)?,
+        Job::Hand => hands::hand_on(alloc, size, seed)?,
     };
     let name = job.name();
     println!(rt; "{name} {digest}")?;

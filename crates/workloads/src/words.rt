@@ -15,16 +15,19 @@ pub enum Job {
     Recover,
     /// Submissions through the locks of a cluster.
     Seats,
+    /// Sessions that hand locks on.
+    Hand,
 }
 
 impl Job {
-    pub const ALL: [Job; 6] = [
+    pub const ALL: [Job; 7] = [
         Job::Sweep,
         Job::Run,
         Job::Table,
         Job::Look,
         Job::Recover,
         Job::Seats,
+        Job::Hand,
     ];
 
     pub fn name(self) -> &'static str {
@@ -35,6 +38,7 @@ impl Job {
             Job::Look => "look",
             Job::Recover => "recover",
             Job::Seats => "seats",
+            Job::Hand => "hand",
         }
     }
 }
