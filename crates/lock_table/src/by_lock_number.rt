@@ -116,6 +116,7 @@ impl ByLockNumber {
         let place = usize::from(self.order[at]);
         self.records[place] = new;
         self.lock_numbers[place] = lock.get();
+        self.hints[low_byte(lock)] = self.order[at];
     }
 
     /// The record of a lock, if the hint for its number is right.
