@@ -205,7 +205,7 @@ module _ (name : List ℕ) (xs : List LockRecord) (from end : ℕ) (inside : fro
     | false ↦ λ e. refl
   ] refl
 
-held_is_first : (s : LockState) (lock : ℕ) → is_queued s ≡ false → (rank_of s ≡ 0) × (number_among s lock ≡ lock)
+pub held_is_first : (s : LockState) (lock : ℕ) → is_queued s ≡ false → (rank_of s ≡ 0) × (number_among s lock ≡ lock)
 held_is_first (Granted mode) lock h = (refl, refl)
 held_is_first (Converting held wanted) lock h = let impossible : ⊥ = cc in absurd impossible
 held_is_first (Waiting wanted) lock h = let impossible : ⊥ = cc in absurd impossible

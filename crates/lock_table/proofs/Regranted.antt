@@ -14,6 +14,7 @@ use Rattle.lock_table.specs.State.{is_queued}
 use Rattle.lock_table.specs.Locks.{is_lock, without, in_state, IsDistinct}
 use Rattle.lock_table.specs.Picture.{rank_of, number_among, printed_cmp}
 use Rattle.lock_table.specs.Placed.{placed}
+use Rattle.lock_table.specs.Indexed.{stands_before_rank}
 use Rattle.lock_table.specs.Keys.{key_of, lock_key, HasKey}
 use Rattle.lock_table.proofs.Cuts.{each_in_front, each_behind, placed_between}
 use Rattle.lock_table.proofs.Pictures.{printed_total, printed_order}
@@ -38,6 +39,10 @@ module _ (own : LockRecord) (granted : is_queued own.state ≡ false) where
   module _ (s : LockState) (stays : is_queued s ≡ false) where
     rank : rank_of s ≡ rank_of own.state
     rank = granted_rank s stays ∙ sym (granted_rank own.state granted)
+
+    -- so it stands before the same ranks
+    pub same_rank : (name : List ℕ) (n : ℕ) → stands_before_rank name n (in_state own s) ≡ stands_before_rank name n own
+    same_rank name n = λ i. is_lt (ordering_then (slice_cmp nat_cmp own.name name) (nat_cmp (rank i) n))
 
     among : number_among s own.lock ≡ number_among own.state own.lock
     among = granted_among s own.lock stays ∙ sym (granted_among own.state own.lock granted)

@@ -24,6 +24,12 @@ pub record IsGrantedEnd (name : List ℕ) (locks : List LockRecord) (place : ℕ
   pub bound : place ≤ length locks
   pub point : IsPartitionPoint (λ r. stands_before_rank name 1 r ≡ true) (λ r. stands_before_rank name 1 r ≡ false) locks place
 
+-- the granted locks of a name stand from one place to before another
+pub record IsGrantedGroup (name : List ℕ) (locks : List LockRecord) (begin end : ℕ) : Type 0 where
+  pub bound : begin ≤ length locks
+  pub point : IsPartitionPoint (λ r. stands_before_rank name 0 r ≡ true) (λ r. stands_before_rank name 0 r ≡ false) locks begin
+  pub ends : IsGrantedEnd name locks end
+
 -- the locks stand in printed order, each once, and beside them stand the same records by rising number
 pub record IsIndexed (printed numbers : List LockRecord) : Type 0 where
   pub sorted : IsSorted printed_cmp printed

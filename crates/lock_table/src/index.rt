@@ -3,8 +3,7 @@ ghost use Rattle.std.specs.List.{slice_get};
 ghost use Rattle.std.specs.List.Sorted.{IsSorted};
 ghost use Rattle.lock_table.specs.Locks.{is_through};
 ghost use Rattle.lock_table.specs.Locks.{lock_in, without, put, has_queue, head_of, admits, in_state, settled, settled_all, IsDistinct};
-ghost use Rattle.lock_table.specs.Indexed.{IsGrantedEnd};
-ghost use Rattle.lock_command.specs.declared.state.LockState.TheVariants.{Granted};
+ghost use Rattle.lock_table.specs.Indexed.{IsGrantedEnd, IsGrantedGroup};
 ghost use Rattle.lock_table.specs.Picture.{printed_cmp};
 ghost use Rattle.lock_table.specs.Placed.{in_order};
 
@@ -12,6 +11,7 @@ use crate::by_lock_number::ByLockNumber;
 use crate::by_printed_order::ByPrintedOrder;
 use crate::keys::SpelledName;
 use crate::locks::LOCKS;
+use crate::printed::GrantedGroup;
 use crate::record::LockRecord;
 use crate::state::goal;
 use crate::{by_lock_number, printed};
@@ -87,11 +87,11 @@ impl Index {
         let _ = self.printed();
     }
 
-    /// Where the granted locks of a name end.
-    pub fn granted_end(&self, name: &SpelledName) -> usize
-        ensures { IsGrantedEnd name.now self.now result }
+    /// Where the granted locks of a name stand.
+    pub fn granted_group(&self, name: &SpelledName) -> GrantedGroup
+        ensures { IsGrantedGroup name.now self.now result.begin result.end }
     {
-        printed::granted_end(&self.printed, name)
+        printed::granted_group(&self.printed, name)
     }
 
     /// The lock whose turn it is on a name, whose granted locks end at a place.
@@ -116,63 +116,60 @@ impl Index {
     }
 
     /// Whether no other lock of the name holds a mode that conflicts with this one.
-    pub fn admits(&self, lock: LockNumber, name: &SpelledName, mode: Mode) -> bool
+    pub fn admits(
+        &self,
+        lock: LockNumber,
+        name: &SpelledName,
+        mode: Mode,
+        group: GrantedGroup,
+    ) -> bool
+        requires group { IsGrantedGroup name.now self.now group.begin group.end }
         ensures { result ≡ admits self.now lock name.now mode }
     {
-        printed::admits(&self.printed, lock, name, mode)
-    }
-
-    /// Puts in a lock that is new and granted, if no other lock of the name holds a mode that conflicts with its own, and tells whether
-    /// it did. Where locks queue, it may answer either.
-    pub fn grant_new(&mut self, new: LockRecord, mode: Mode, name: &SpelledName, end: usize) -> bool
-        requires named { name.now ≡ new.name }
-        requires granted { new.state ≡ Granted mode }
-        requires absent { lock_in self.old new.lock ≡ None }
-        requires room { length self.old < LOCKS }
-        requires end { IsGrantedEnd name.now self.old end }
-        ensures granted { IsTrue result → self.new ≡ in_order printed_cmp (put self.old new) }
-        ensures left { result ≡ false → self.new ≡ self.old }
-        ensures admitted { has_queue self.old name.now ≡ false → result ≡ admits self.old new.lock name.now mode }
-    {
-        let Some(place) = printed::admitted_place(&self.printed, &new, mode, name, end) else {
-            return false;
-        };
-        by_lock_number::put_new(&mut self.numbers, new, name.near_by_number());
-        self.printed.insert(place, new, name);
-        true
+        printed::admits(&self.printed, lock, name, mode, group)
     }
 
     /// Puts in a lock that is new.
-    pub fn put_new(&mut self, new: LockRecord, name: &SpelledName)
+    pub fn put_new(&mut self, new: LockRecord, name: &SpelledName, group: GrantedGroup)
         requires named { name.now ≡ new.name }
         requires absent { lock_in self.old new.lock ≡ None }
         requires room { length self.old < LOCKS }
+        requires group { IsGrantedGroup name.now self.old group.begin group.end }
         ensures { self.new ≡ in_order printed_cmp (put self.old new) }
     {
         by_lock_number::put_new(&mut self.numbers, new, name.near_by_number());
-        printed::put_in(&mut self.printed, &new, name);
+        let _ = printed::put_in(&mut self.printed, &new, name, group);
     }
 
-    /// Changes the state of a lock. If it queues then, it comes last in its queue.
-    pub fn restate(&mut self, own: LockRecord, state: LockState, name: &SpelledName)
+    /// Changes the state of a lock, and tells where the granted locks of its name stand then. If it queues then, it comes last in its queue.
+    pub fn restate(
+        &mut self,
+        own: LockRecord,
+        state: LockState,
+        name: &SpelledName,
+        group: GrantedGroup,
+    ) -> GrantedGroup
         requires named { name.now ≡ own.name }
         requires there { lock_in self.old own.lock ≡ Some own }
-        ensures { self.new ≡ in_order printed_cmp (put self.old (in_state own state)) }
+        requires group { IsGrantedGroup name.now self.old group.begin group.end }
+        ensures put { self.new ≡ in_order printed_cmp (put self.old (in_state own state)) }
+        ensures group { IsGrantedGroup name.now self.new result.begin result.end }
     {
         let new = own.with_state(state);
         by_lock_number::replace(&mut self.numbers, new, name.near_by_number());
-        printed::restate(&mut self.printed, &own, &new, name);
+        printed::restate(&mut self.printed, &own, &new, name, group)
     }
 
-    /// Takes a lock away, and tells where the granted locks of its name end then.
-    pub fn take_away(&mut self, own: LockRecord, name: &SpelledName) -> usize
+    /// Takes a lock away, and tells where the granted locks of its name stand then.
+    pub fn take_away(&mut self, own: LockRecord, name: &SpelledName) -> GrantedGroup
         requires named { name.now ≡ own.name }
         requires there { lock_in self.old own.lock ≡ Some own }
         ensures left { self.new ≡ without self.old own.lock }
-        ensures end { IsGrantedEnd name.now self.new result }
+        ensures group { IsGrantedGroup name.now self.new result.begin result.end }
     {
         by_lock_number::take_away(&mut self.numbers, own.lock, name.near_by_number());
-        printed::take_out(&mut self.printed, &own, name)
+        let group = printed::granted_group(&self.printed, name);
+        printed::take_out(&mut self.printed, &own, name, group)
     }
 
     /// Takes away the locks that were enqueued through a host.
@@ -188,36 +185,22 @@ impl Index {
     pub fn settle(&mut self, name: &SpelledName)
         ensures { self.new ≡ in_order printed_cmp (settled self.old name.now) }
     {
-        let end = self.granted_end(name);
-        self.settle_behind(name, end);
+        let group = self.granted_group(name);
+        self.settle_behind(name, group);
     }
 
-    /// Grants locks of the name, whose granted locks end at a place, in their turn, until one cannot be granted.
-    pub fn settle_behind(&mut self, name: &SpelledName, mut end: usize)
-        requires end { IsGrantedEnd name.now self.old end }
+    /// Grants locks of the name, whose granted locks stand at these places, in their turn, until one cannot be granted.
+    pub fn settle_behind(&mut self, name: &SpelledName, mut group: GrantedGroup)
+        requires group { IsGrantedGroup name.now self.old group.begin group.end }
         ensures { self.new ≡ in_order printed_cmp (settled self.old name.now) }
     {
-        while let Some(first) = self.head(name, end) {
+        while let Some(first) = self.head(name, group.end) {
             let wanted = goal(&first.state);
-            if !self.admits(first.lock, name, wanted) {
+            if !self.admits(first.lock, name, wanted, group) {
                 return;
             }
-            end = self.grant_head(first, wanted, name, end);
+            group = self.restate(first, LockState::Granted(wanted), name, group);
         }
-    }
-
-    /// Grants the lock whose turn it is on a name, whose granted locks end at a place, and tells where they end then.
-    fn grant_head(&mut self, own: LockRecord, mode: Mode, name: &SpelledName, end: usize) -> usize
-        requires named { name.now ≡ own.name }
-        requires there { lock_in self.old own.lock ≡ Some own }
-        requires end { IsGrantedEnd name.now self.old end }
-        requires head { slice_get self.old end ≡ Some own }
-        ensures put { self.new ≡ in_order printed_cmp (put self.old (in_state own (Granted mode))) }
-        ensures end { IsGrantedEnd name.now self.new result }
-    {
-        let new = own.with_state(LockState::Granted(mode));
-        by_lock_number::replace(&mut self.numbers, new, name.near_by_number());
-        printed::grant_head(&mut self.printed, &own, &new, name, end)
     }
 
     /// Settles each of the names in turn.

@@ -3,7 +3,6 @@ ghost use Rattle.lock_command.specs.Name.{IsName};
 ghost use Rattle.lock_table.specs.Keys.{spelled, key_of};
 
 use lock_command::LockName;
-use std::cell::Cell;
 use std::marker::Model;
 
 /// A name, and its bytes as one number, which sort keys begin with. A command computes it once.
@@ -11,9 +10,7 @@ use std::marker::Model;
 pub struct SpelledName {
     name: LockName,
     number: u128,
-    /// Where a search for the name ended. No contract speaks of it: the next one only begins there.
-    near: Cell<usize>,
-    /// Where a search by lock number ended, if there was one. No contract speaks of it either.
+    /// Where a search by lock number ended, if there was one. No contract speaks of it: the place is tested.
     near_by_number: usize,
 }
 
@@ -43,7 +40,6 @@ impl SpelledName {
         SpelledName {
             name,
             number: spelled(name.as_bytes()),
-            near: Cell::new(usize::MAX),
             near_by_number,
         }
     }
@@ -54,19 +50,9 @@ impl SpelledName {
         self.name
     }
 
-    /// A place near to the locks of the name, or behind all locks while nothing was searched for.
-    pub fn near(&self) -> usize {
-        self.near.get()
-    }
-
     /// A place near to the lock that a command is about, among the records by number, or behind all of them.
     pub fn near_by_number(&self) -> usize {
         self.near_by_number
-    }
-
-    /// Keeps where a search ended.
-    pub fn keep_near(&self, place: usize) {
-        self.near.set(place);
     }
 
     /// A sort key: it orders by the bytes of the name first, then by the rank, then by the number.

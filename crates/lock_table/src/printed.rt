@@ -2,8 +2,7 @@ ghost use Rattle.std.specs.Prelude.{◌≡◌, ◌+◌, ◌-◌, ◌*◌, ◌/�
 ghost use Rattle.std.specs.List.{AllWithin, list_any, slice_get};
 ghost use Rattle.std.specs.List.Sorted.{IsSorted, IsPartitionPoint};
 ghost use Rattle.lock_table.specs.Locks.{is_through};
-ghost use Rattle.lock_table.specs.Indexed.{stands_before_rank, IsGrantedEnd};
-ghost use Rattle.lock_command.specs.declared.state.LockState.TheVariants.{Granted};
+ghost use Rattle.lock_table.specs.Indexed.{stands_before_rank, IsGrantedEnd, IsGrantedGroup};
 ghost use Rattle.lock_table.specs.State.{is_queued};
 ghost use Rattle.lock_table.specs.Narrowed.{IsNarrowed};
 ghost use Rattle.lock_table.specs.Keys.{lock_key, HasKey};
@@ -21,71 +20,11 @@ use crate::state::is_granted;
 use lock_command::{HostNumber, LockName, LockNumber};
 use lock_modes::Mode;
 
-/// The stretch in which the locks of lower keys end, where all in front of `from` have such keys. Each step is twice the last, so
-/// that a near end takes few tests, and a far one at most twice as many as a search of all locks.
-fn stretch_behind(
-    printed: &ByPrintedOrder,
-    all: usize,
-    mut from: usize,
-    key: u128,
-) -> (usize, usize)
-    requires sorted { IsSorted printed_cmp printed.now }
-    requires small { key ≤ 2 ^ 126 }
-    requires all { all ≡ length printed.now }
-    requires few { length printed.now ≤ LOCKS }
-    requires fit { AllWithin HasKey printed.now 0 (length printed.now) }
-    requires bound { from ≤ length printed.now }
-    requires front { AllWithin (λ r. nat_lt (lock_key r) key ≡ true) printed.now 0 from }
-    ensures { IsNarrowed (λ r. nat_lt (lock_key r) key) printed.now result.0 result.1 }
-{
-    let mut step = 1;
-    while step <= all - from {
-        if printed.below(from + step - 1, key) == 0 {
-            return (from, step - 1);
-        }
-        from += step;
-        step *= 2;
-    }
-    (from, all - from)
-}
-
-/// The stretch in which the locks of lower keys end, where none of them stands from `to` on.
-fn stretch_before(printed: &ByPrintedOrder, mut to: usize, key: u128) -> (usize, usize)
-    requires sorted { IsSorted printed_cmp printed.now }
-    requires small { key ≤ 2 ^ 126 }
-    requires few { length printed.now ≤ LOCKS }
-    requires fit { AllWithin HasKey printed.now 0 (length printed.now) }
-    requires bound { to ≤ length printed.now }
-    requires behind { AllWithin (λ r. nat_lt (lock_key r) key ≡ false) printed.now to (length printed.now) }
-    ensures { IsNarrowed (λ r. nat_lt (lock_key r) key) printed.now result.0 result.1 }
-{
-    let mut step = 1;
-    while step <= to {
-        if printed.below(to - step, key) == 1 {
-            return (to - step + 1, step - 1);
-        }
-        to -= step;
-        step *= 2;
-    }
-    (0, to)
-}
-
-/// The stretch in which the locks of lower keys end: a short one if that is near to a place.
-fn stretch_near(printed: &ByPrintedOrder, all: usize, near: usize, key: u128) -> (usize, usize)
-    requires sorted { IsSorted printed_cmp printed.now }
-    requires small { key ≤ 2 ^ 126 }
-    requires all { all ≡ length printed.now }
-    requires few { length printed.now ≤ LOCKS }
-    requires fit { AllWithin HasKey printed.now 0 (length printed.now) }
-    ensures { IsNarrowed (λ r. nat_lt (lock_key r) key) printed.now result.0 result.1 }
-{
-    if near > all {
-        return (0, all);
-    }
-    if near < all && printed.below(near, key) == 1 {
-        return stretch_behind(printed, all, near + 1, key);
-    }
-    stretch_before(printed, near, key)
+/// Where the granted locks of a name stand: from one place to before another.
+#[derive(Clone, Copy)]
+pub struct GrantedGroup {
+    pub begin: usize,
+    pub end: usize,
 }
 
 /// Where a stretch of more than four begins after three tests, which leave a quarter of it, or up to two more. No test waits for another.
@@ -154,30 +93,72 @@ fn both_below(printed: &ByPrintedOrder, one: u128, other: u128) -> (usize, usize
     (place, place_too)
 }
 
-/// How many locks have a lower key. The search begins where an earlier one for the name ended.
-fn locks_below(printed: &ByPrintedOrder, name: &SpelledName, key: u128) -> usize
+/// How many locks have a lower key, where all in front of a place have. Often none behind it has, which one test tells.
+fn end_behind(printed: &ByPrintedOrder, from: usize, key: u128) -> usize
     requires sorted { IsSorted printed_cmp printed.now }
     requires small { key ≤ 2 ^ 126 }
+    requires bound { from ≤ length printed.now }
+    requires front { AllWithin (λ r. nat_lt (lock_key r) key ≡ true) printed.now 0 from }
     ensures bound { result ≤ length printed.now }
     ensures point { IsPartitionPoint (λ r. nat_lt (lock_key r) key ≡ true) (λ r. nat_lt (lock_key r) key ≡ false) printed.now result }
     ensures fit { AllWithin HasKey printed.now 0 (length printed.now) }
-    ensures few { length printed.now ≤ LOCKS }
 {
     let all = printed.len();
-    let (from, size) = stretch_near(printed, all, name.near(), key);
-    let place = end_within(printed, from, size, key);
-    name.keep_near(place);
-    place
+    if from >= all || printed.below(from, key) == 0 {
+        return from;
+    }
+    end_within(printed, from + 1, all - from - 1, key)
+}
+
+/// How many locks have a lower key, where it is the key of a lock of the name, or the next one. A granted lock has its place among the
+/// granted locks, and one that queues has it behind them.
+fn locks_below(
+    printed: &ByPrintedOrder,
+    of: &LockRecord,
+    name: &SpelledName,
+    group: GrantedGroup,
+    key: u128,
+) -> usize
+    requires sorted { IsSorted printed_cmp printed.now }
+    requires named { name.now ≡ of.now.name }
+    requires fits { HasKey of.now }
+    requires small { key ≤ 2 ^ 126 }
+    requires own { lock_key of.now ≤ key }
+    requires next { key ≤ lock_key of.now + 1 }
+    requires group { IsGrantedGroup name.now printed.now group.begin group.end }
+    ensures bound { result ≤ length printed.now }
+    ensures point { IsPartitionPoint (λ r. nat_lt (lock_key r) key ≡ true) (λ r. nat_lt (lock_key r) key ≡ false) printed.now result }
+    ensures fit { AllWithin HasKey printed.now 0 (length printed.now) }
+    ensures after { group.begin ≤ result }
+    ensures granted { is_queued of.now.state ≡ false → result ≤ group.end }
+    ensures queued { is_queued of.now.state ≡ true → group.end ≤ result }
+{
+    // Called for its contract only: all locks have keys.
+    let _ = printed.len();
+    if is_granted(&of.state) {
+        end_within(printed, group.begin, group.end - group.begin, key)
+    } else {
+        end_behind(printed, group.end, key)
+    }
 }
 
 /// The index at which a new record is inserted: after all records whose key is not above its own.
-fn joining_place(printed: &ByPrintedOrder, new: &LockRecord, name: &SpelledName) -> usize
+fn joining_place(
+    printed: &ByPrintedOrder,
+    new: &LockRecord,
+    name: &SpelledName,
+    group: GrantedGroup,
+) -> usize
     requires sorted { IsSorted printed_cmp printed.now }
     requires named { name.now ≡ new.now.name }
+    requires group { IsGrantedGroup name.now printed.now group.begin group.end }
     ensures bound { result ≤ length printed.now }
     ensures place { insert printed.now result new.now ≡ placed printed_cmp new.now printed.now }
+    ensures after { group.begin ≤ result }
+    ensures granted { is_queued new.now.state ≡ false → result ≤ group.end }
+    ensures queued { is_queued new.now.state ≡ true → group.end ≤ result }
 {
-    locks_below(printed, name, new.key(name) + 1)
+    locks_below(printed, new, name, group, new.key(name) + 1)
 }
 
 /// The index of a lock's record, which stands at a place or behind it. Records in one queue have one key, so the queue is searched from its
@@ -196,37 +177,45 @@ fn own_from(printed: &ByPrintedOrder, own: &LockRecord, mut at: usize) -> usize
 }
 
 /// The index of a lock's record.
-fn place_of(printed: &ByPrintedOrder, own: &LockRecord, name: &SpelledName) -> usize
+fn place_of(
+    printed: &ByPrintedOrder,
+    own: &LockRecord,
+    name: &SpelledName,
+    group: GrantedGroup,
+) -> usize
     requires sorted { IsSorted printed_cmp printed.now }
     requires named { name.now ≡ own.now.name }
     requires distinct { IsDistinct printed.now }
     requires there { lock_in printed.now own.now.lock ≡ Some own.now }
+    requires group { IsGrantedGroup name.now printed.now group.begin group.end }
     ensures bound { result < length printed.now }
     ensures lock { (d : LockRecord) → slice_index_or printed.now result d ≡ own.now }
     ensures fits { HasKey own.now }
     ensures place { remove printed.now result ≡ without printed.now own.now.lock }
 {
-    own_from(printed, own, locks_below(printed, name, own.key(name)))
+    let head = locks_below(printed, own, name, group, own.key(name));
+    own_from(printed, own, head)
 }
 
-/// How many locks are printed before the locks of a name that have this rank: 0 granted, 1 converting, 2 waiting.
-fn locks_before_rank(printed: &ByPrintedOrder, name: &SpelledName, rank: u8) -> usize
-    requires sorted { IsSorted printed_cmp printed.now }
-    requires rank { rank ≤ 2 }
-    ensures bound { result ≤ length printed.now }
-    ensures point { IsPartitionPoint (λ r. stands_before_rank name.now rank r ≡ true) (λ r. stands_before_rank name.now rank r ≡ false) printed.now result }
-    ensures fit { AllWithin HasKey printed.now 0 (length printed.now) }
-    ensures few { length printed.now ≤ LOCKS }
-{
-    locks_below(printed, name, name.key(rank, 0))
-}
-
-/// Where the granted locks of a name end.
-pub fn granted_end(printed: &ByPrintedOrder, name: &SpelledName) -> usize
+/// Where the granted locks of a name stand.
+pub fn granted_group(printed: &ByPrintedOrder, name: &SpelledName) -> GrantedGroup
     requires { IsSorted printed_cmp printed.now }
-    ensures { IsGrantedEnd name.now printed.now result }
+    ensures { IsGrantedGroup name.now printed.now result.begin result.end }
 {
-    locks_before_rank(printed, name, 1)
+    let (begin, end) = both_below(printed, name.key(0, 0), name.key(1, 0));
+    GrantedGroup { begin, end }
+}
+
+/// Where the conversions of a name end.
+fn conversions_end(printed: &ByPrintedOrder, name: &SpelledName, group: GrantedGroup) -> usize
+    requires sorted { IsSorted printed_cmp printed.now }
+    requires group { IsGrantedGroup name.now printed.now group.begin group.end }
+    ensures bound { result ≤ length printed.now }
+    ensures point { IsPartitionPoint (λ r. stands_before_rank name.now 2 r ≡ true) (λ r. stands_before_rank name.now 2 r ≡ false) printed.now result }
+{
+    // Called for its contract only: all locks have keys.
+    let _ = printed.len();
+    end_behind(printed, group.end, name.key(2, 0))
 }
 
 /// The lock whose turn it is on a name, whose granted locks end at a place: the first that converts, else the first that waits.
@@ -246,7 +235,7 @@ pub fn has_locks(printed: &ByPrintedOrder, name: LockName) -> bool
     ensures { result ≡ list_any (is_on name) printed.now }
 {
     let name = SpelledName::new(name);
-    match printed.lock_at(locks_before_rank(printed, &name, 0)) {
+    match printed.lock_at(end_behind(printed, 0, name.key(0, 0))) {
         Some(first) => first.name == name.name(),
         None => false,
     }
@@ -254,14 +243,19 @@ pub fn has_locks(printed: &ByPrintedOrder, name: LockName) -> bool
 
 /// Whether no other lock of the name holds a mode that conflicts with this one. The bits of the held modes are tested first,
 /// without a branch. Only if one conflicts are lock numbers compared, as the conflict may be with the lock itself.
-pub fn admits(printed: &ByPrintedOrder, lock: LockNumber, name: &SpelledName, mode: Mode) -> bool
-    requires { IsSorted printed_cmp printed.now }
+pub fn admits(
+    printed: &ByPrintedOrder,
+    lock: LockNumber,
+    name: &SpelledName,
+    mode: Mode,
+    group: GrantedGroup,
+) -> bool
+    requires sorted { IsSorted printed_cmp printed.now }
+    requires group { IsGrantedGroup name.now printed.now group.begin group.end }
     ensures { result ≡ admits printed.now lock name.now mode }
 {
-    let to = locks_before_rank(printed, name, 2);
-    let from = locks_before_rank(printed, name, 0);
-    // Most locks join at this end, so the next search begins there.
-    name.keep_near(to);
+    let from = group.begin;
+    let to = conversions_end(printed, name, group);
     if printed.none_against(from, to, mode) {
         return true;
     }
@@ -273,103 +267,82 @@ pub fn admits(printed: &ByPrintedOrder, lock: LockNumber, name: &SpelledName, mo
     true
 }
 
-/// The place of a new lock that is granted, if no lock of its name, whose granted locks end at a place, holds a mode that conflicts with
-/// its own.
-pub fn admitted_place(
-    printed: &ByPrintedOrder,
+/// Puts a record in its place, and tells where the granted locks of its name stand then.
+pub fn put_in(
+    printed: &mut ByPrintedOrder,
     new: &LockRecord,
-    mode: Mode,
     name: &SpelledName,
-    end: usize,
-) -> Option<usize>
-    requires sorted { IsSorted printed_cmp printed.now }
-    requires named { name.now ≡ new.now.name }
-    requires granted { new.now.state ≡ Granted mode }
-    requires absent { lock_in printed.now new.now.lock ≡ None }
-    requires end { IsGrantedEnd name.now printed.now end }
-    ensures bound { IfSome result (λ place. place ≤ length printed.now) }
-    ensures place { IfSome result (λ place. insert printed.now place new.now ≡ placed printed_cmp new.now printed.now) }
-    ensures admitted { has_queue printed.now name.now ≡ false → is_some result ≡ admits printed.now new.now.lock name.now mode }
-{
-    let from = locks_before_rank(printed, name, 0);
-    // A lock that has to wait joins behind this end.
-    name.keep_near(end);
-    if !printed.none_against(from, end, mode) {
-        return None;
-    }
-    Some(end_within(printed, from, end - from, new.key(name) + 1))
-}
-
-/// Puts a record in its place.
-pub fn put_in(printed: &mut ByPrintedOrder, new: &LockRecord, name: &SpelledName)
+    group: GrantedGroup,
+) -> GrantedGroup
     requires sorted { IsSorted printed_cmp printed.old }
     requires named { name.now ≡ new.now.name }
     requires room { length printed.old < LOCKS }
+    requires group { IsGrantedGroup name.now printed.old group.begin group.end }
     ensures items { printed.new ≡ placed printed_cmp new.now printed.old }
+    ensures group { IsGrantedGroup name.now printed.new result.begin result.end }
 {
-    printed.insert(joining_place(printed, new, name), *new, name);
+    printed.insert(joining_place(printed, new, name, group), *new, name);
+    let begin = group.begin;
+    let end = if is_granted(&new.state) {
+        group.end + 1
+    } else {
+        group.end
+    };
+    GrantedGroup { begin, end }
 }
 
-/// Grants the lock that stands where the granted locks of its name end, and tells where they end then.
-pub fn grant_head(
+/// Takes the record of a lock out, and tells where the granted locks of its name stand then.
+pub fn take_out(
     printed: &mut ByPrintedOrder,
     own: &LockRecord,
-    new: &LockRecord,
     name: &SpelledName,
-    end: usize,
-) -> usize
-    requires sorted { IsSorted printed_cmp printed.old }
-    requires named { name.now ≡ own.now.name }
-    requires distinct { IsDistinct printed.old }
-    requires end { IsGrantedEnd name.now printed.old end }
-    requires head { slice_get printed.old end ≡ Some own.now }
-    requires granted { new.now ≡ in_state own.now new.now.state }
-    requires held { is_queued new.now.state ≡ false }
-    ensures items { printed.new ≡ placed printed_cmp new.now (without printed.old own.now.lock) }
-    ensures end { IsGrantedEnd name.now printed.new result }
-{
-    printed.remove(end);
-    name.keep_near(end);
-    let at = locks_below(printed, name, new.key(name) + 1);
-    printed.insert(at, *new, name);
-    end + 1
-}
-
-/// Takes the record of a lock out, and tells where the granted locks of its name end then.
-pub fn take_out(printed: &mut ByPrintedOrder, own: &LockRecord, name: &SpelledName) -> usize
+    group: GrantedGroup,
+) -> GrantedGroup
     requires sorted { IsSorted printed_cmp printed.old }
     requires named { name.now ≡ own.now.name }
     requires distinct { IsDistinct printed.old }
     requires there { lock_in printed.old own.now.lock ≡ Some own.now }
+    requires group { IsGrantedGroup name.now printed.old group.begin group.end }
     ensures items { printed.new ≡ without printed.old own.now.lock }
     ensures room { length printed.new < LOCKS }
-    ensures end { IsGrantedEnd name.now printed.new result }
+    ensures group { IsGrantedGroup name.now printed.new result.begin result.end }
 {
-    let (head, end) = both_below(printed, own.key(name), name.key(1, 0));
-    let place = own_from(printed, own, head);
+    let place = place_of(printed, own, name, group);
     printed.remove(place);
-    let end = if place < end { end - 1 } else { end };
-    name.keep_near(end);
-    end
+    let begin = group.begin;
+    let end = if place < group.end {
+        group.end - 1
+    } else {
+        group.end
+    };
+    GrantedGroup { begin, end }
 }
 
-/// Replaces the record of a lock by that of the lock in another state. A granted lock that stays granted has the sort key that it
-/// had, and so its place: nothing is shifted.
-pub fn restate(printed: &mut ByPrintedOrder, own: &LockRecord, new: &LockRecord, name: &SpelledName)
+/// Replaces the record of a lock by that of the lock in another state, and tells where the granted locks of its name stand then. A granted
+/// lock that stays granted has the sort key that it had, and so its place: nothing is shifted.
+pub fn restate(
+    printed: &mut ByPrintedOrder,
+    own: &LockRecord,
+    new: &LockRecord,
+    name: &SpelledName,
+    group: GrantedGroup,
+) -> GrantedGroup
     requires sorted { IsSorted printed_cmp printed.old }
     requires named { name.now ≡ own.now.name }
     requires distinct { IsDistinct printed.old }
     requires there { lock_in printed.old own.now.lock ≡ Some own.now }
     requires restated { new.now ≡ in_state own.now new.now.state }
+    requires group { IsGrantedGroup name.now printed.old group.begin group.end }
     ensures items { printed.new ≡ placed printed_cmp new.now (without printed.old own.now.lock) }
+    ensures group { IsGrantedGroup name.now printed.new result.begin result.end }
 {
-    let at = place_of(printed, own, name);
     if is_granted(&own.state) && is_granted(&new.state) {
+        let at = place_of(printed, own, name, group);
         printed.set(at, *new);
-        return;
+        return group;
     }
-    printed.remove(at);
-    put_in(printed, new, name);
+    let left = take_out(printed, own, name, group);
+    put_in(printed, new, name, left)
 }
 
 /// Takes out the locks that were enqueued through a host.

@@ -9,8 +9,10 @@ use Rattle.lock_table.specs.Keys.{lock_key, HasKey}
 use Rattle.lock_table.specs.Locks.{is_lock, without}
 use Rattle.lock_table.specs.Picture.{printed_cmp}
 use Rattle.lock_table.specs.Placed.{placed}
+use Rattle.lock_table.specs.Indexed.{stands_before_rank, IsGrantedGroup}
 use Rattle.lock_table.proofs.Pictures.{printed_order}
-use Rattle.lock_table.proofs.Regranted.{same_key, fits_still, set_is_placed}
+use Rattle.lock_table.proofs.Groups.{group_set}
+use Rattle.lock_table.proofs.Regranted.{same_key, same_rank, fits_still, set_is_placed}
 use Rattle.lock_table.proofs.printed.restate.Goals as goal
 
 pub set-requires-clause-fits : goal.set-requires-clause-fits
@@ -33,9 +35,12 @@ returns-then-is_granted-2 c =
           ∙ ap (set xs c.place_of-at.result) c.requires.restated
           ∙ set_is_placed own granted c.args.new.now.state stays xs c.place_of-at.result c.requires.sorted c.requires.distinct c.place_of-at.ensures.bound c.place_of-at.ensures.lock c.place_of-at.ensures.place
           ∙ ap (λ r. placed printed_cmp r (without xs own.lock)) (sym c.requires.restated);
+      group = subst (λ (l : List LockRecord). IsGrantedGroup c.args.name.now l c.args.group.begin c.args.group.end) (sym c.set.ensures)
+          (group_set c.args.name.now xs c.args.group.begin c.args.group.end c.requires.group c.args.new.now c.place_of-at.result c.place_of-at.ensures.bound
+          (λ rank d. ap (stands_before_rank c.args.name.now rank) c.requires.restated ∙ same_rank own granted c.args.new.now.state stays c.args.name.now rank ∙ ap (stands_before_rank c.args.name.now rank) (sym (c.place_of-at.ensures.lock d))));
     }
 
 pub put_in-requires-clause-sorted : goal.put_in-requires-clause-sorted
 put_in-requires-clause-sorted c =
-    subst (λ (l : List LockRecord). IsSorted printed_cmp l) (sym (c.remove.ensures.locks ∙ c.place_of-at.ensures.place))
+    subst (λ (l : List LockRecord). IsSorted printed_cmp l) (sym c.take_out-left.ensures.items)
     (IsSortedBy-filter (λ x y. is_lt (printed_cmp x y)) printed_order (λ o. not (is_lock c.args.own.now.lock o)) c.args.printed.now c.requires.sorted)

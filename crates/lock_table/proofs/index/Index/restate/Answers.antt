@@ -31,7 +31,7 @@ invariant_of-self c =
     (indexed_put c.self.inside.printed c.self.inside.numbers c.self.invariant new c.replace.new.numbers c.replace.ensures.rising
     (subst (λ (r : LockRecord). (lock : ℕ) → filter (is_lock lock) c.replace.new.numbers ≡ filter (is_lock lock) (put c.self.inside.numbers r)) c.with_state-new.ensures c.replace.ensures.alike))
 
-pub returns : goal.returns
-returns c =
+pub returns-clause-put : goal.returns-clause-put
+returns-clause-put c =
     let new = in_state c.args.own c.args.state in
     placed_is c ∙ sym (shown_put c.self.inside.printed new c.self.invariant.sorted) ∙ ap (λ l. in_order printed_cmp (put l new)) c.self.view_is

@@ -19,7 +19,7 @@ loop-first-smaller c =
     let r = c.in-Some.first in
     let now = c.loop-first.self in
     let turn : head_of now c.args.name.now ≡ Some r = sym c.in-Some.ensures.head in
-    let next : c.grant_head-end.new.self ≡ shown (put now (granted r)) = c.grant_head-end.ensures.put ∙ ap (λ m. shown (put now (in_state r (Granted m)))) c.goal-wanted.ensures in
+    let next : c.restate-group.new.self ≡ shown (put now (granted r)) = c.restate-group.ensures.put ∙ ap (λ m. shown (put now (in_state r (Granted m)))) c.goal-wanted.ensures in
     let fewer = granted_fewer now c.args.name.now r c.in-Some.ensures.distinct turn in
     omega (arith, ap (λ l. length (queue l c.args.name.now)) next)
 
@@ -29,10 +29,10 @@ loop-first-preserved c =
     let now = c.loop-first.self in
     let turn : head_of now c.args.name.now ≡ Some r = sym c.in-Some.ensures.head in
     let may : admits now r.lock r.name (goal_of r.state) ≡ true = (λ i. admits now r.lock (c.in-Some.ensures.named i) (sym c.goal-wanted.ensures i)) ∙ sym c.if-not-admits.ensures in
-    let next : c.grant_head-end.new.self ≡ shown (put now (granted r)) = c.grant_head-end.ensures.put ∙ ap (λ m. shown (put now (in_state r (Granted m)))) c.goal-wanted.ensures in
+    let next : c.restate-group.new.self ≡ shown (put now (granted r)) = c.restate-group.ensures.put ∙ ap (λ m. shown (put now (in_state r (Granted m)))) c.goal-wanted.ensures in
     record {
       same = ap (λ l. shown (settled l c.args.name.now)) next ∙ granted_next now c.args.name.now r c.in-Some.ensures.distinct turn may ∙ c.loop-first.invariant.same;
-      end = c.grant_head-end.ensures.end;
+      group = c.restate-group.ensures.group;
     }
 
 pub returns : goal.returns
@@ -41,5 +41,5 @@ returns c =
     let turn : head_of now c.args.name.now ≡ None = sym c.in_default.ensures.head in
     sym c.in_default.ensures.printed ∙ ap shown (sym (settled-idle now c.args.name.now turn)) ∙ c.loop-first.invariant.same
 
-pub grant_head-end-requires-clause-named : goal.grant_head-end-requires-clause-named
-grant_head-end-requires-clause-named c = sym c.in-Some.ensures.named
+pub restate-group-requires-clause-named : goal.restate-group-requires-clause-named
+restate-group-requires-clause-named c = sym c.in-Some.ensures.named

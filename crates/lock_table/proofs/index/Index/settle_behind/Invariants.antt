@@ -1,5 +1,5 @@
 use Rattle.std.proofs.Common.{◌≡◌, length}
-use Rattle.lock_table.specs.Indexed.{IsGrantedEnd}
+use Rattle.lock_table.specs.Indexed.{IsGrantedGroup}
 use Rattle.lock_table.specs.Locks.{settled, queue}
 use Rattle.lock_table.specs.Picture.{printed_cmp}
 use Rattle.lock_table.specs.Placed.{in_order}
@@ -9,7 +9,7 @@ use Rattle.lock_table.proofs.index.Index.settle_behind.Given as goal
 abbrev pub invariant-loop-first : goal.invariant-loop-first
 invariant-loop-first l = record {
   same : in_order printed_cmp (settled l.self l.name) ≡ in_order printed_cmp (settled l.initial.self l.name);
-  end : IsGrantedEnd l.name l.self l.end;
+  group : IsGrantedGroup l.name l.self l.group.begin l.group.end;
 }
 
 abbrev pub decreases-loop-first : goal.decreases-loop-first
