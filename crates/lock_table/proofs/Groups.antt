@@ -1,26 +1,34 @@
 -- Where the granted locks of a name stand, as locks come and go.
-use Rattle.std.proofs.Common.{◌≡◌, ◌≤◌, ◌<◌, ◌+◌, ◌-◌, ℕ, Bool, true, false, nat_lt, List, length, get_or, insert, remove, set, refl, sym, ap, ◌∙◌, inl, inr, arith}
+use Rattle.std.proofs.Common.{cond, drop, Some, None, ◌≡◌, ◌≤◌, ◌<◌, ◌+◌, ◌-◌, ℕ, Bool, true, false, nat_lt, List, length, get_or, insert, remove, set, refl, sym, ap, ◌∙◌, inl, inr, arith}
 use Rattle.std.specs.List.{AllWithin}
-use Rattle.std.specs.List.Sorted.{IsPartitionPoint}
-use Rattle.std.specs.Ordering.{is_lt, nat_cmp, ordering_then}
+use Rattle.std.specs.List.Sorted.{IsSorted, IsPartitionPoint}
+use Rattle.std.specs.Ordering.{is_lt, nat_cmp, ordering_then, ordering_reverse}
+use Rattle.std.specs.declared.cmp.Ordering.TheVariants.{Less, Equal, Greater}
 use Rattle.std.specs.Cmp.Lexicographic.{slice_cmp}
 use Rattle.std.proofs.lemmas.Bool.{cases_lt, ltb-true, ltb-false, lt-ltb, le-ltb}
 use Rattle.std.proofs.lemmas.Cmp.{nat_list_cmp_total, tied_itself}
-use Rattle.std.proofs.lemmas.List.{length-set, get_or-set_same, get_or-set_other}
+use Rattle.std.proofs.lemmas.Option.{slice_get-get_or}
+use Rattle.std.proofs.lemmas.List.{drop_all, length-set, get_or-set_same, get_or-set_other}
 use Rattle.std.proofs.lemmas.List.Edits.{length-insert, get_or-insert_at, get_or-insert_below, get_or-insert_above}
 use Rattle.lock_command.specs.Name.{IsName}
 use Rattle.lock_command.specs.declared.state.LockState.{LockState}
 use Rattle.lock_command.specs.declared.state.LockState.TheVariants.{Granted, Converting, Waiting}
 use Rattle.lock_table.specs.declared.record.LockRecord.{LockRecord}
 use Rattle.lock_table.specs.State.{is_queued}
-use Rattle.lock_table.specs.Picture.{rank_of, number_among}
-use Rattle.lock_table.specs.Indexed.{stands_before_rank, IsGrantedGroup}
+use Rattle.lock_table.specs.Locks.{is_on, head_of}
+use Rattle.lock_table.specs.Picture.{rank_of, number_among, printed_cmp}
+use Rattle.lock_table.specs.Indexed.{stands_before_rank, IsGrantedEnd, IsGrantedGroup}
 use Rattle.lock_table.specs.Keys.{key_of, lock_key, HasKey}
 use Rattle.lock_table.specs.Narrowed.{IsNarrowed}
 use Rattle.lock_table.specs.Shelved.{no_lock}
 use Rattle.lock_table.proofs.Holders.{rank_not_lowest}
 use Rattle.lock_table.proofs.Granting.{begins_before, cut_without, cut_with, held_is_first, held_in_front}
 use Rattle.lock_table.proofs.Spelled.{before_by_key}
+use Rattle.lock_table.proofs.Cuts.{slice_get_is_first}
+use Rattle.lock_table.proofs.Keyed.{first_if}
+use Rattle.lock_table.proofs.Parts.{first}
+use Rattle.lock_table.proofs.Queued.{head_at_cut, tied_names}
+use Rattle.lock_table.proofs.Unique.{names_equal}
 
 -- A cut stays where one that fails is put in behind it.
 pub cut_behind : {X : Type 0} (p : X → Bool) (xs : List X) (x : X) (at cut : ℕ) → p x ≡ false → cut ≤ at → at ≤ length xs
@@ -200,3 +208,38 @@ module _ (name : List ℕ) (xs : List LockRecord) (begin end : ℕ) (group : IsG
         point = begins.1;
         ends = record { bound = ends.0; point = ends.1 };
       }
+
+below_last : (s : LockState) → is_lt (nat_cmp (rank_of s) 3) ≡ true
+below_last (Granted mode) = refl
+below_last (Converting held wanted) = refl
+below_last (Waiting wanted) = refl
+
+-- what stands behind the granted locks of a name is of the name where it stands before all that follow the name
+on_name_by_rank : (name : List ℕ) (r : LockRecord) → stands_before_rank name 1 r ≡ false → stands_before_rank name 3 r ≡ is_on name r
+on_name_by_rank name r later =
+    elim (slice_cmp nat_cmp r.name name) as (λ o. slice_cmp nat_cmp r.name name ≡ o → is_lt (ordering_then o (nat_cmp (rank_of r.state) 3)) ≡ is_on name r) [
+      | Less ↦ λ e.
+          let clash : true ≡ false = sym (ap (λ o. is_lt (ordering_then o (nat_cmp (rank_of r.state) 1))) e) ∙ later in
+          let impossible : ⊥ = cc in absurd impossible
+      | Equal ↦ λ e. below_last r.state ∙ sym (names_equal name r.name (nat_list_cmp_total.antisymm name r.name ∙ ap ordering_reverse e))
+      | Greater ↦ λ e. elim (is_on name r) as (λ b. is_on name r ≡ b → false ≡ b) [
+        | true ↦ λ own.
+            let clash : Greater ≡ Equal = sym e ∙ tied_names name r own in
+            let impossible : ⊥ = cc in absurd impossible
+        | false ↦ λ own. refl
+      ] refl
+    ] refl
+
+module _ (name : List ℕ) (xs : List LockRecord) (end : ℕ) (d : LockRecord) (ends : IsGrantedEnd name xs end) (sorted : IsSorted printed_cmp xs) where
+  -- so the key of the lock there tells whether it is its turn
+  pub turn_by_key : AllWithin HasKey xs 0 (length xs) → IsName name → end < length xs → (t : Bool) → nat_lt (lock_key (get_or xs end d)) (key_of name 3 0) ≡ t → head_of xs name ≡ cond t (Some (get_or xs end d)) None
+  turn_by_key fit is_name inside t tells =
+      let r = get_or xs end d in
+      let own : nat_lt (lock_key r) (key_of name 3 0) ≡ is_on name r =
+      before_by_key name 3 r (fit end d (omega arith) inside) is_name (omega arith) ∙ on_name_by_rank name r (ends.point.1 end d (omega arith) inside) in
+      let stands : first (drop end xs) ≡ Some r = sym (slice_get_is_first xs end) ∙ slice_get-get_or xs end d inside in
+      head_at_cut name xs end sorted ends.point ∙ ap (first_if (is_on name)) stands ∙ ap (λ b. cond b (Some r) None) (sym own ∙ tells)
+
+  -- and where no lock is there, it is nobody's turn
+  pub no_turn_behind : length xs ≤ end → head_of xs name ≡ None
+  no_turn_behind far = head_at_cut name xs end sorted ends.point ∙ ap (λ l. first_if (is_on name) (first l)) (drop_all end xs far)

@@ -99,7 +99,6 @@ impl Index {
         requires end { IsGrantedEnd name.now self.now end }
         ensures head { result ≡ head_of self.now name.now }
         ensures named { IfSome result (λ r. r.name ≡ name.now) }
-        ensures at { IfSome result (λ r. slice_get self.now end ≡ Some r) }
         ensures there { IfSome result (λ r. lock_in self.now r.lock ≡ Some r) }
         ensures printed { in_order printed_cmp self.now ≡ self.now }
         ensures distinct { IsDistinct self.now }

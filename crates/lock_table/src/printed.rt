@@ -222,11 +222,14 @@ fn conversions_end(printed: &ByPrintedOrder, name: &SpelledName, group: GrantedG
 pub fn head(printed: &ByPrintedOrder, name: &SpelledName, end: usize) -> Option<LockRecord>
     requires sorted { IsSorted printed_cmp printed.now }
     requires end { IsGrantedEnd name.now printed.now end }
-    ensures head { result ≡ head_of printed.now name.now }
-    ensures at { IfSome result (λ r. slice_get printed.now end ≡ Some r) }
+    ensures { result ≡ head_of printed.now name.now }
 {
-    let first = printed.lock_at(end)?;
-    (first.name == name.name()).then_some(first)
+    // All keys of the name are below this one, and of those that follow none else.
+    if end < printed.len() && printed.below(end, name.key(3, 0)) == 1 {
+        Some(*printed.get(end))
+    } else {
+        None
+    }
 }
 
 /// Whether a name has locks.

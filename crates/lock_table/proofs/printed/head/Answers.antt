@@ -1,28 +1,29 @@
-use Rattle.std.proofs.Common.{◌≡◌, drop, Some, None, sym, ap, ◌∙◌}
-use Rattle.std.specs.Bool.{then_some}
-use Rattle.lock_command.specs.Name.{same_name}
-use Rattle.lock_table.specs.Locks.{is_on}
-use Rattle.lock_table.proofs.Parts.{first}
-use Rattle.lock_table.proofs.Keyed.{first_if, then_some_if}
-use Rattle.lock_table.proofs.Cuts.{slice_get_is_first}
-use Rattle.lock_table.proofs.Queued.{head_at_cut}
+use Rattle.std.proofs.Common.{◌≡◌, Some, None, true, false, nat_lt, get_or, sym, ap, ◌∙◌, arith}
+use Rattle.lock_table.specs.declared.record.LockRecord.{LockRecord}
+use Rattle.lock_table.specs.Keys.{lock_key}
+use Rattle.lock_table.specs.Locks.{head_of}
+use Rattle.lock_table.specs.Shelved.{no_lock}
+use Rattle.lock_table.proofs.Groups.{turn_by_key, no_turn_behind}
+use Rattle.lock_table.proofs.Stretches.{passes_if, fails_if}
 use Rattle.lock_table.proofs.printed.head.Goals as goal
+use Rattle.lock_table.proofs.printed.head.Goals.{else-end-len-via-then-end-len+else-below-eq1, else-end-len-via-else-end-len}
 
-pub returns-in_err-first-clause-head : goal.returns-in_err-first-clause-head
-returns-in_err-first-clause-head c =
+pub returns-then-below-eq1 : goal.returns-then-below-eq1
+returns-then-below-eq1 c =
     let xs = c.args.printed.now in
-    let i = c.args.end in
-    let stands : None ≡ first (drop i xs) = sym c.in_err-first.was ∙ c.lock_at.ensures ∙ slice_get_is_first xs i in
-    c.from_residual.ensures ∙ ap (first_if (is_on c.args.name.now)) stands ∙ sym (head_at_cut c.args.name.now xs i c.requires.sorted c.requires.end.point)
+    let r = c.get.result.now in
+    let own = passes_if (nat_lt (lock_key (get_or xs c.args.end r)) c.key.result) c.below.result (c.below.ensures.below r) (omega (arith, c.if-below-eq1.true)) in
+    ap (λ (o : LockRecord). Some o) c.get.ensures.lock
+    ∙ sym (turn_by_key c.args.name.now xs c.args.end r c.requires.end c.requires.sorted c.len.ensures.fit c.key.ensures.name (omega (arith, c.if-end-len.true, c.len.ensures.len)) true
+    (ap (nat_lt (lock_key (get_or xs c.args.end r))) (sym c.key.ensures.key) ∙ own))
 
-pub returns-clause-head : goal.returns-clause-head
-returns-clause-head c =
+pub returns-else-end-len : goal.returns-else-end-len
+returns-else-end-len c =
     let xs = c.args.printed.now in
-    let i = c.args.end in
-    let stands : Some c.in_ok-first.first ≡ first (drop i xs) = sym c.in_ok-first.was ∙ c.lock_at.ensures ∙ slice_get_is_first xs i in
-    c.then_some.ensures
-    ∙ ap (λ b. then_some b c.in_ok-first.first) c.eq.ensures
-    ∙ ap (λ n. then_some (same_name c.in_ok-first.first.name n) c.in_ok-first.first) c.name.ensures
-    ∙ then_some_if (is_on c.args.name.now) c.in_ok-first.first
-    ∙ ap (first_if (is_on c.args.name.now)) stands
-    ∙ sym (head_at_cut c.args.name.now xs i c.requires.sorted c.requires.end.point)
+    sym (elim c.else-end-len.branch as (λ w. head_of xs c.args.name.now ≡ None) [
+      | else-end-len-via-then-end-len+else-below-eq1 w ↦
+          let other = fails_if (nat_lt (lock_key (get_or xs c.args.end no_lock)) w.key.result) w.below.result (w.below.ensures.below no_lock) (omega (arith, w.if-below-eq1.false, w.below.ensures.few)) in
+          turn_by_key c.args.name.now xs c.args.end no_lock c.requires.end c.requires.sorted c.len.ensures.fit w.key.ensures.name (omega (arith, w.if-end-len.true, c.len.ensures.len)) false
+          (ap (nat_lt (lock_key (get_or xs c.args.end no_lock))) (sym w.key.ensures.key) ∙ other)
+      | else-end-len-via-else-end-len w ↦ no_turn_behind c.args.name.now xs c.args.end no_lock c.requires.end c.requires.sorted (omega (arith, w.if-end-len.false, c.len.ensures.len))
+    ])

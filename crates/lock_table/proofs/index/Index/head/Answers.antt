@@ -11,7 +11,7 @@ use Rattle.lock_table.proofs.index.Index.head.Goals as goal
 pub returns-clause-there : goal.returns-clause-there
 returns-clause-there c =
     let xs = c.self.inside.printed in
-    let is : c.head.result ≡ head_of xs c.args.name.now = c.head.ensures.head in
+    let is : c.head.result ≡ head_of xs c.args.name.now = c.head.ensures in
     if_some c.head.result (λ r. lock_in c.args.self.now r.lock ≡ Some r) (λ r e.
     ap (λ l. lock_in l r.lock) (sym c.self.view_is) ∙ turn_by_number c.args.name.now xs r c.self.invariant.distinct (sym is ∙ e))
 
@@ -21,4 +21,4 @@ returns-clause-printed c = subst (λ (l : List LockRecord). in_order printed_cmp
 pub returns-clause-named : goal.returns-clause-named
 returns-clause-named c =
     let xs = c.self.inside.printed in
-    if_some c.head.result (λ r. r.name ≡ c.args.name.now) (λ r e. name_is r.name c.args.name.now (head_on_name c.args.name.now xs r (sym c.head.ensures.head ∙ e)))
+    if_some c.head.result (λ r. r.name ≡ c.args.name.now) (λ r e. name_is r.name c.args.name.now (head_on_name c.args.name.now xs r (sym c.head.ensures ∙ e)))
