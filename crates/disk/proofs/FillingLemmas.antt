@@ -1,6 +1,7 @@
 -- How a loop fills a range, or the marked positions, one at a time.
-use Rattle.std.proofs.Common.{◌≡◌, ℕ, ◌+◌, ◌<◌, ◌≤◌, zero, suc, Bool, true, false, List, [], ◌∷◌, ◌++◌, length, get_or, set, take, drop, refl, sym, ◌∙◌, ap, arith, append_assoc, length-append}
-use Rattle.std.proofs.lemmas.List.{drop_more, drop-set-lt, take_more_set, take_more, set_at, length-take-le}
+use Rattle.std.proofs.Common.{◌≡◌, ℕ, ◌+◌, ◌-◌, ◌%◌, ◌<◌, ◌≤◌, zero, suc, Bool, true, false, List, [], ◌∷◌, ◌++◌, length, get_or, set, take, drop, refl, sym, ◌∙◌, ap, arith, append_assoc, length-append}
+use Rattle.std.proofs.Math.Nat.{mod-eq_of_lt}
+use Rattle.std.proofs.lemmas.List.{take_all, drop_more, drop-set-lt, take_more_set, take_more, set_at, length-take-le}
 use Rattle.disk.specs.Disk.{put_at, KeepsSynced}
 use Rattle.disk.specs.Filling.{nth_given, spread, filled}
 
@@ -28,6 +29,37 @@ put_more old xs at y within =
     ∙ sym (append_assoc p (y ∷ []) (drop (at + length xs + 1) old))
     ∙ ap (λ (l : List ℕ). l ++ drop (at + length xs + 1) old) (append_assoc (take at old) xs (y ∷ []))
     ∙ ap (λ (k : ℕ). take at old ++ (xs ++ y ∷ []) ++ drop k old) (sym next)
+
+pub spread_split : (given : List ℕ) (i m n : ℕ) → spread given i (m + n) ≡ spread given i m ++ spread given (i + m) n
+spread_split given i zero n =
+    let e : i ≡ i + 0 = omega arith in
+    let z : 0 + n ≡ n = omega arith in
+    ap (λ (k : ℕ). spread given i k) z ∙ ap (λ (k : ℕ). spread given k n) e
+spread_split given i (suc m) n =
+    let shift : suc m + n ≡ suc (m + n) = omega arith in
+    let e : (i + 1) + m ≡ i + suc m = omega arith in
+    ap (spread given i) shift
+    ∙ ap (λ (l : List ℕ). nth_given given i ∷ l) (spread_split given (i + 1) m n)
+    ∙ ap (λ (k : ℕ). nth_given given i ∷ (spread given (i + 1) m ++ spread given k n)) e
+
+-- where the given bytes do not end before, they are taken as they stand
+part : (given : List ℕ) (i n : ℕ) → i + n ≤ length given → take n (drop i given) ≡ spread given i n
+part given i zero fits = refl
+part given i (suc n) fits =
+    let here : i % length given ≡ i = mod-eq_of_lt (omega (arith, fits)) in
+    let first : get_or given i 0 ≡ nth_given given i = ap (λ (k : ℕ). get_or given k 0) (sym here) in
+    ap (λ (l : List ℕ). take (suc n) l) (drop_more given i 0 (omega (arith, fits)))
+    ∙ ap (λ (x : ℕ). x ∷ take n (drop (i + 1) given)) first
+    ∙ ap (λ (l : List ℕ). nth_given given i ∷ l) (part given (i + 1) n (omega (arith, fits)))
+
+pub spread_part : (given : List ℕ) (i n : ℕ) → i + n ≤ length given → take ((i + n) - i) (drop i given) ≡ spread given i n
+spread_part given i n fits =
+    let e : (i + n) - i ≡ n = omega arith in
+    ap (λ (k : ℕ). take k (drop i given)) e ∙ part given i n fits
+
+pub spread_all : (given : List ℕ) → spread given 0 (length given) ≡ given
+spread_all given =
+    sym (part given 0 (length given) (omega arith)) ∙ take_all (length given) given (omega arith)
 
 module _ (given : List ℕ) (next : ℕ) (flags : List Bool) (bytes : List ℕ) (i : ℕ) (within : i < length bytes) (same : length flags ≡ length bytes) where
   flags_at : (b : Bool) → get_or flags i false ≡ b → drop i flags ≡ b ∷ drop (i + 1) flags
@@ -65,11 +97,12 @@ filled_unmarked given next flags bytes i (suc n) fits same clear =
     ∙ filled_unmarked given next flags bytes (i + 1) n (omega arith) same (λ k from under. clear k (omega arith) (omega arith))
     ∙ ap (λ (k : ℕ). take k bytes ++ filled given next (drop k flags) (drop k bytes)) e
 
-pub length-filled : (given : List ℕ) (next : ℕ) (flags : List Bool) (bytes : List ℕ) → length flags ≡ length bytes → length (filled given next flags bytes) ≡ length bytes
-length-filled given next [] bytes same = refl
-length-filled given next (flag ∷ flags) [] same = absurd (omega arith)
-length-filled given next (true ∷ flags) (b ∷ bytes) same = ap suc (length-filled given (next + 1) flags bytes (omega arith))
-length-filled given next (false ∷ flags) (b ∷ bytes) same = ap suc (length-filled given next flags bytes (omega arith))
+-- no byte is lost or gained, however many flags there are
+pub filled_length : (given : List ℕ) (next : ℕ) (flags : List Bool) (bytes : List ℕ) → length (filled given next flags bytes) ≡ length bytes
+filled_length given next [] bytes = refl
+filled_length given next (flag ∷ flags) [] = refl
+filled_length given next (true ∷ flags) (b ∷ bytes) = ap suc (filled_length given (next + 1) flags bytes)
+filled_length given next (false ∷ flags) (b ∷ bytes) = ap suc (filled_length given next flags bytes)
 
 pub unmarked_stays : (given : List ℕ) (next : ℕ) (flags : List Bool) (bytes : List ℕ) (k : ℕ) → get_or flags k false ≡ false → get_or (filled given next flags bytes) k 0 ≡ get_or bytes k 0
 unmarked_stays given next [] bytes k synced = refl
@@ -80,6 +113,9 @@ unmarked_stays given next (false ∷ flags) (b ∷ bytes) zero synced = refl
 unmarked_stays given next (false ∷ flags) (b ∷ bytes) (suc k) synced = unmarked_stays given next flags bytes k synced
 
 -- only marked positions are filled
+pub filled_only : (given : List ℕ) (next : ℕ) (flags : List Bool) (bytes : List ℕ) → KeepsSynced flags bytes (filled given next flags bytes)
+filled_only given next flags bytes =
+    record { as_many = filled_length given next flags bytes; same = λ k synced. unmarked_stays given next flags bytes k synced }
+
 pub filled_keeps : (given : List ℕ) (next : ℕ) (flags : List Bool) (bytes : List ℕ) → length flags ≡ length bytes → KeepsSynced flags bytes (filled given next flags bytes)
-filled_keeps given next flags bytes same =
-    record { as_many = length-filled given next flags bytes same; same = λ k synced. unmarked_stays given next flags bytes k synced }
+filled_keeps given next flags bytes same = filled_only given next flags bytes

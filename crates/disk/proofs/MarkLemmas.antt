@@ -1,5 +1,5 @@
 -- Which positions are marked after a write, and after a step of the epoch.
-use Rattle.std.proofs.Common.{◌≡◌, ℕ, ◌+◌, ◌-◌, ◌*◌, ◌/◌, ◌%◌, ◌<◌, ◌≤◌, ◌==◌, min, max, Bool, true, false, cond, List, length, get_or, set, replicate, sym, ◌∙◌, ap, inl, inr, arith}
+use Rattle.std.proofs.Common.{◌≡◌, ℕ, ◌+◌, ◌-◌, ◌*◌, ◌/◌, ◌%◌, ◌<◌, ◌≤◌, ◌==◌, min, max, Bool, true, false, cond, List, [], ◌++◌, length, get_or, set, replicate, refl, sym, ◌∙◌, ap, inl, inr, arith}
 use Rattle.std.proofs.lemmas.Bool.{cases_lt, cases_eq, ne_eqb}
 use Rattle.std.proofs.lemmas.List.{length-replicate, get_or-replicate, get_or-set_same, get_or-set_other, get_or_past, ext_get_or}
 use Rattle.std.proofs.lemmas.List.FromFn.{length-map-range_with_len, get_or-map-range_with_len}
@@ -7,8 +7,9 @@ use Rattle.std.proofs.lemmas.Nat.Bits.{bit_at-zero}
 use Rattle.std.specs.Int.{bit_at}
 use Rattle.disk.specs.Disk.{put_at}
 use Rattle.disk.proofs.CrashLemmas.{length-put, put-below, put-inside, put-above}
+use Rattle.disk.proofs.ListLemmas.{get_or_more}
 use Rattle.disk.specs.declared.word.Word.{Word}
-use Rattle.disk.specs.Marks.{blank, is_marked_in, is_marked, marks}
+use Rattle.disk.specs.Marks.{blank, is_marked_in, is_marked, marks, all_marks}
 
 pub length-marks : (epoch : ℕ) (words : List Word) (size : ℕ) → length (marks epoch words size) ≡ size
 unfolding marks
@@ -122,9 +123,48 @@ marks_later later words size some below =
     ∙ ap (λ (n : ℕ). n == 1) (bit_at-zero (k % 64))
     ∙ sym (get_or-replicate size k false false k_in))
 
--- nothing is marked in blank words
-pub marks_blank : (n size : ℕ) → marks 1 (replicate n blank) size ≡ replicate size false
-marks_blank n size =
-    marks_later 1 (replicate n blank) size (omega arith) (λ j within.
-    let e : (get_or (replicate n blank) j blank).stamp ≡ 0 = ap (λ (w : Word). w.stamp) (get_or-replicate n j blank blank (omega (arith, length-replicate n blank))) in
-    omega arith)
+-- ALL WORDS
+
+none_of_none : (b : Bool) → ◌≡◌ {A = ℕ} (cond {A = ℕ} b 0 0) 0
+none_of_none true = refl
+none_of_none false = refl
+
+blank_unmarked : (epoch place : ℕ) → is_marked_in epoch blank place ≡ false
+blank_unmarked epoch place =
+    ap (λ (n : ℕ). bit_at n place == 1) (none_of_none (0 == epoch)) ∙ ap (λ (n : ℕ). n == 1) (bit_at-zero place)
+
+-- behind the words nothing is marked
+pub get_or-all_marks : (epoch : ℕ) (words : List Word) (k : ℕ) → get_or (all_marks epoch words) k false ≡ is_marked epoch words k
+get_or-all_marks epoch words k =
+    elim (cases_lt k (64 * length words)) [
+      | inl under ↦ get_or-marks epoch words (64 * length words) k under
+      | inr past ↦
+          (let word = get_or words (k / 64) blank in
+          let is : word ≡ blank = get_or_past words (k / 64) blank (omega arith) in
+          get_or_past (all_marks epoch words) k false (omega (arith, length-marks epoch words (64 * length words), past))
+          ∙ sym (blank_unmarked epoch (k % 64))
+          ∙ ap (λ (w : Word). is_marked_in epoch w (k % 64)) (sym is))
+    ]
+
+-- blank words more mark nothing
+pub more_words : (epoch : ℕ) (words : List Word) (n k : ℕ) → get_or (all_marks epoch (words ++ replicate n blank)) k false ≡ get_or (all_marks epoch words) k false
+more_words epoch words n k =
+    get_or-all_marks epoch (words ++ replicate n blank) k
+    ∙ ap (λ (w : Word). is_marked_in epoch w (k % 64)) (get_or_more words n (k / 64) blank)
+    ∙ sym (get_or-all_marks epoch words k)
+
+-- once nothing is marked
+pub none_marked : (epoch : ℕ) (words : List Word) (k : ℕ) → ((size : ℕ) → marks epoch words size ≡ replicate size false) → get_or (all_marks epoch words) k false ≡ false
+none_marked epoch words k none =
+    ap (λ (l : List Bool). get_or l k false) (none (64 * length words)) ∙ get_or_more [] (64 * length words) k false
+
+pub none_at_first : (k : ℕ) → get_or (all_marks 1 []) k false ≡ false
+none_at_first k = get_or-all_marks 1 [] k ∙ blank_unmarked 1 (k % 64)
+
+-- the range was marked
+pub all_marks_put : (epoch at n : ℕ) (old new : List Word) → at + n ≤ 64 * length old → length new ≡ length old → ((size : ℕ) → at + n ≤ size → marks epoch new size ≡ put_at (marks epoch old size) at (replicate ((at + n) - at) true)) → all_marks epoch new ≡ put_at (all_marks epoch old) at (replicate n true)
+all_marks_put epoch at n old new fits as_many marked =
+    let run : (at + n) - at ≡ n = omega arith in
+    ap (λ (k : ℕ). marks epoch new (64 * k)) as_many
+    ∙ marked (64 * length old) fits
+    ∙ ap (λ (k : ℕ). put_at (all_marks epoch old) at (replicate k true)) run

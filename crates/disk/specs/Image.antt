@@ -1,12 +1,13 @@
--- The bytes of a simulated disk. It keeps those up to some place: all behind them are zeros.
-use Rattle.std.specs.Prelude.{◌-◌, ◌*◌, ◌<◌, ◌≤◌, ℕ, List, ◌++◌, length, replicate}
+-- What a simulated disk holds, and what a write makes of it.
+use Rattle.std.specs.Prelude.{ℕ, Bool, true, List, length, replicate}
+use Rattle.disk.specs.Disk.{put_at}
 
--- all bytes of a disk of this size
-unfoldable pub padded : ℕ → List ℕ → List ℕ
-padded size bytes = bytes ++ replicate (size - length bytes) 0
+-- the bytes, and for each position whether it is unsynced
+pub record Contents : Type 0 where
+  pub bytes : List ℕ
+  pub unsynced : List Bool
 
--- For n bytes of a disk of this size so many words are kept: one for each 64. None reaches behind the bytes, unless these are all.
-pub record WordsFit (size n words : ℕ) : Type 0 where
-  pub fits : n ≤ size
-  pub enough : n ≤ 64 * words
-  pub behind : n < size → 64 * words ≤ n
+-- the range from a place on holds these bytes, unsynced
+abbrev pub overwritten : Contents → ℕ → List ℕ → Contents
+overwritten old at from =
+    record { bytes = put_at old.bytes at from; unsynced = put_at old.unsynced at (replicate (length from) true) }

@@ -1,5 +1,5 @@
 -- Which positions are marked, by words of sixty-four.
-use Rattle.std.specs.Prelude.{if◌then◌else◌, ℕ, Bool, ◌/◌, ◌%◌, ◌==◌, List, map, slice_index_or}
+use Rattle.std.specs.Prelude.{if◌then◌else◌, ℕ, Bool, ◌*◌, ◌/◌, ◌%◌, ◌==◌, List, length, map, slice_index_or}
 use Rattle.std.specs.Int.{bit_at}
 use Rattle.std.specs.List.{range_with_len}
 use Rattle.disk.specs.declared.word.Word.{Word}
@@ -23,3 +23,7 @@ is_marked epoch words k = is_marked_in epoch (slice_index_or words (k / 64) blan
 -- which of so many positions are marked
 unfoldable pub marks : ℕ → List Word → ℕ → List Bool
 marks epoch words size = map (is_marked epoch words) (range_with_len 0 size)
+
+-- which of all their positions the words mark
+abbrev pub all_marks : ℕ → List Word → List Bool
+all_marks epoch words = marks epoch words (64 * length words)

@@ -1,155 +1,206 @@
-// The bytes of a simulated disk, up to some place that rises until the disk is renewed. All bytes behind it are zeros.
-ghost use Rattle.std.specs.Prelude.{◌≡◌, ◌+◌, ◌-◌, ◌*◌, ◌≤◌, ◌<◌, ◌^◌, ℕ, ◌++◌, length, replicate, slice_index_or, slice_range, All, vec_capacity};
-ghost use Rattle.disk.specs.Disk.{put_at};
+ghost use Rattle.std.specs.Prelude.{◌≡◌, ◌+◌, ◌%◌, ◌≤◌, ◌<◌, ◌^◌, false, length, replicate, slice_range, IfOk};
 ghost use Rattle.disk.specs.Filling.{spread, filled};
-ghost use Rattle.disk.specs.Image.{padded, WordsFit};
-ghost use Rattle.disk.specs.Marks.{marks};
+ghost use Rattle.disk.specs.Image.{overwritten};
 
-use crate::pages::{Extent, PAGE};
+use crate::NoMemory;
+use crate::bytes::{fill_marked, get_page, put, put_given};
+use crate::marks::{mark, next_epoch};
+use crate::pages::{NOWHERE, PAGE, Page, UNWRITTEN, give_room, widen};
 use crate::word::Word;
+use std::alloc::Global;
+use std::marker::Model;
 
-/// The bytes up to `end` are kept, or more of them, and their words. Nothing else changes: new bytes are zeros, and new words are blank. It
-/// takes no memory.
-#[inline(always)]
-pub fn extend(bytes: &mut Vec<u8>, words: &mut Vec<Word>, end: usize, size: usize)
-    requires within { end ≤ size }
-    requires fit { WordsFit size (length bytes.old.items) (length words.old.items) }
-    requires room { size ≤ vec_capacity bytes.old }
-    requires word_room { size ≤ 64 * vec_capacity words.old }
-    ensures bytes { padded size bytes.new.items ≡ padded size bytes.old.items }
-    ensures marks { (epoch : ℕ) → marks epoch words.new.items size ≡ marks epoch words.old.items size }
-    ensures no_later { (epoch : ℕ) → All (λ w. w.stamp ≤ epoch) words.old.items → All (λ w. w.stamp ≤ epoch) words.new.items }
-    ensures reaches { end ≤ length bytes.new.items }
-    ensures fit { WordsFit size (length bytes.new.items) (length words.new.items) }
-    ensures room { size ≤ vec_capacity bytes.new }
-    ensures word_room { size ≤ 64 * vec_capacity words.new }
-{
-    if bytes.len() < end {
-        grow(bytes, words, end, size);
+/// What a simulated disk holds: its bytes, and which of them are unsynced. A page gets room at its first write, in the order of
+/// first writes, within the memory that `new` asked for. One that has none reads as zeros.
+#[derive(Drop)]
+pub struct Image {
+    /// The pages that have room.
+    bytes: Vec<u8>,
+    /// A word for each 64 of these bytes.
+    words: Vec<Word>,
+    /// All pages of the disk, and one more, in which positions at its very end lie.
+    pages: Vec<Page>,
+    size: usize,
+    epoch: u64,
+}
+
+impl Model for Image {
+    ghost use Rattle.std.specs.Prelude.{◌≡◌, ◌+◌, ◌*◌, ◌/◌, ◌≤◌, false, length, All, vec_capacity};
+    ghost use Rattle.disk.specs.Image.{Contents};
+    ghost use Rattle.disk.specs.Marks.{all_marks};
+    ghost use Rattle.disk.specs.Pages.{seen, HaveRooms, BlankOutside};
+
+    ghost Value = { Contents };
+
+    ghost view = { λ d. record {
+      bytes = seen d.pages.items 0 d.bytes.items d.size;
+      unsynced = seen d.pages.items false (all_marks d.epoch d.words.items) d.size;
+    } };
+
+    ghost invariant = { λ d. record {
+      listed : length d.pages.items ≡ d.size / 4096 + 1;
+      rooms : HaveRooms d.pages.items (length d.bytes.items);
+      words : length d.bytes.items ≡ 64 * length d.words.items;
+      room : 4096 * length d.pages.items ≤ vec_capacity d.bytes;
+      word_room : 64 * length d.pages.items ≤ vec_capacity d.words;
+      blank : BlankOutside d.pages.items (seen d.pages.items 0 d.bytes.items d.size) (seen d.pages.items false (all_marks d.epoch d.words.items) d.size);
+      no_later : All (λ w. w.stamp ≤ d.epoch) d.words.items;
+    } };
+}
+
+impl Image {
+    /// An image of zeros.
+    pub fn new(alloc: Global, size: usize) -> Result<Image, NoMemory>
+        ensures { IfOk result (λ d. d ≡ record { bytes = replicate size 0; unsynced = replicate size false }) }
+    {
+        let count = size / PAGE + 1;
+        Ok(Image {
+            bytes: Vec::with_capacity(alloc, PAGE.saturating_mul(count))?,
+            words: Vec::with_capacity(alloc, PAGE / 64 * count)?,
+            pages: vec![in alloc; UNWRITTEN; count]?,
+            size,
+            epoch: 1,
+        })
     }
-}
 
-// What `extend` does where the bytes up to `end` are not kept yet.
-fn grow(bytes: &mut Vec<u8>, words: &mut Vec<Word>, end: usize, size: usize)
-    requires more { length bytes.old.items < end }
-    requires within { end ≤ size }
-    requires fit { WordsFit size (length bytes.old.items) (length words.old.items) }
-    requires room { size ≤ vec_capacity bytes.old }
-    requires word_room { size ≤ 64 * vec_capacity words.old }
-    ensures bytes { padded size bytes.new.items ≡ padded size bytes.old.items }
-    ensures marks { (epoch : ℕ) → marks epoch words.new.items size ≡ marks epoch words.old.items size }
-    ensures no_later { (epoch : ℕ) → All (λ w. w.stamp ≤ epoch) words.old.items → All (λ w. w.stamp ≤ epoch) words.new.items }
-    ensures reaches { end ≤ length bytes.new.items }
-    ensures fit { WordsFit size (length bytes.new.items) (length words.new.items) }
-    ensures room { size ≤ vec_capacity bytes.new }
-    ensures word_room { size ≤ 64 * vec_capacity words.new }
-{
-    let to = size.min(end.div_ceil(PAGE) * PAGE);
-    add_zeros(bytes, to);
-    let _ = words.resize(to.div_ceil(64), Word { stamp: 0, bits: 0 });
-}
-
-// Adds zeros up to this length, by pages: a copy of a page is faster than a loop over its bytes.
-fn add_zeros(bytes: &mut Vec<u8>, to: usize)
-    requires more { length bytes.old.items ≤ to }
-    requires room { to ≤ vec_capacity bytes.old }
-    ensures bytes { bytes.new.items ≡ bytes.old.items ++ replicate (to - length bytes.old.items) 0 }
-    ensures room { vec_capacity bytes.old ≤ vec_capacity bytes.new }
-{
-    let zeros = [0; PAGE];
-    while bytes.len() < to {
-        let more = PAGE.min(to - bytes.len());
-        let _ = bytes.extend_from_slice(&zeros[..more]);
+    /// Makes the image one of zeros again. It takes no memory, and writes no zeros: the room of its pages is used anew.
+    pub fn clear(&mut self)
+        ensures { self.new ≡ record { bytes = replicate (length self.old.bytes) 0; unsynced = replicate (length self.old.bytes) false } }
+    {
+        self.bytes.clear();
+        self.words.clear();
+        self.pages.fill(UNWRITTEN);
+        self.epoch = 1;
     }
-}
 
-/// Reads the bytes from `at` on.
-#[inline(always)]
-pub fn get(bytes: &[u8], at: usize, into: &mut [u8])
-    ensures { (size : ℕ) → length bytes.now ≤ size → at + length into.old ≤ size → into.new ≡ slice_range (padded size bytes.now) at (at + length into.old) }
-{
-    // Where all of them are kept, the length that the caller knows is the one that is copied: the compiler sees it.
-    if at <= bytes.len() && into.len() <= bytes.len() - at {
-        into.copy_from_slice(&bytes[at..at + into.len()]);
-    } else {
-        get_and_fill(bytes, at, into);
+    /// How many bytes there are.
+    pub fn len(&self) -> usize
+        ensures { result ≡ length self.now.bytes }
+    {
+        self.size
     }
-}
 
-// What `get` does where some of the bytes are behind those that are kept.
-#[inline(never)]
-fn get_and_fill(bytes: &[u8], at: usize, into: &mut [u8])
-    ensures { (size : ℕ) → length bytes.now ≤ size → at + length into.old ≤ size → into.new ≡ slice_range (padded size bytes.now) at (at + length into.old) }
-{
-    let from = at.min(bytes.len());
-    let kept = into.len().min(bytes.len() - from);
-    into[..kept].copy_from_slice(&bytes[from..from + kept]);
-    into[kept..].fill(0);
-}
-
-/// Reads the bytes from `at` on, of which all outside the range `extent` are zeros.
-pub fn get_page(bytes: &[u8], at: usize, extent: Extent, into: &mut [u8])
-    requires { at + length into.old < 2 ^ 64 }
-    ensures { (size : ℕ) → length bytes.now ≤ size → at + length into.old ≤ size →
-        ((k : ℕ) → k < extent.from → k < length into.old → slice_index_or (padded size bytes.now) (at + k) 0 ≡ 0) →
-        ((k : ℕ) → extent.to ≤ k → k < length into.old → slice_index_or (padded size bytes.now) (at + k) 0 ≡ 0) →
-        into.new ≡ slice_range (padded size bytes.now) at (at + length into.old) }
-{
-    let to = into.len().min(extent.to as usize);
-    let from = to.min(extent.from as usize);
-    into[..from].fill(0);
-    get_front(bytes, at + from, to - from, &mut into[from..]);
-}
-
-// Reads so many bytes from `at` on, and then zeros.
-fn get_front(bytes: &[u8], at: usize, len: usize, into: &mut [u8])
-    requires { len ≤ length into.old }
-    ensures { (size : ℕ) → length bytes.now ≤ size → at + len ≤ size → into.new ≡ slice_range (padded size bytes.now) at (at + len) ++ replicate (length into.old - len) 0 }
-{
-    get(bytes, at, &mut into[..len]);
-    into[len..].fill(0);
-}
-
-/// The range from `at` on holds these bytes.
-#[inline(always)]
-pub fn put(bytes: &mut Vec<u8>, at: usize, from: &[u8])
-    requires { at + length from.now ≤ length bytes.old.items }
-    ensures bytes { bytes.new.items ≡ put_at bytes.old.items at from.now }
-    ensures room { vec_capacity bytes.new ≡ vec_capacity bytes.old }
-{
-    bytes[at..at + from.len()].copy_from_slice(from);
-}
-
-/// The range from `at` on takes the given bytes in turn.
-pub fn put_given(bytes: &mut Vec<u8>, at: usize, len: usize, given: &[u8])
-    requires range { at + len ≤ length bytes.old.items }
-    requires given { 0 < length given.now }
-    ensures bytes { bytes.new.items ≡ put_at bytes.old.items at (spread given.now 0 len) }
-    ensures room { vec_capacity bytes.new ≡ vec_capacity bytes.old }
-{
-    for i in 0..len {
-        bytes[at + i] = given[i % given.len()];
-    }
-}
-
-/// The marked bytes take the given bytes in turn.
-pub fn fill_marked(bytes: &mut Vec<u8>, words: &Vec<Word>, epoch: u64, given: &[u8])
-    requires enough { length bytes.old.items ≤ 64 * length words.now.items }
-    requires given { 0 < length given.now }
-    ensures bytes { bytes.new.items ≡ filled given.now 0 (marks epoch words.now.items (length bytes.old.items)) bytes.old.items }
-    ensures room { vec_capacity bytes.new ≡ vec_capacity bytes.old }
-{
-    let mut next = 0;
-    for index in 0..bytes.len().div_ceil(64) {
-        let word = words[index];
-        if word.counted(epoch) != 0 {
-            let first = 64 * index;
-            for i in first..bytes.len().min(first + 64) {
-                if word.is_marked(epoch, i - first) {
-                    bytes[i] = given[next % given.len()];
-                    next += 1;
-                }
-            }
+    /// Reads the bytes from `at` on.
+    #[inline(always)]
+    pub fn read(&self, at: usize, into: &mut [u8])
+        requires { at + length into.old ≤ length self.now.bytes }
+        ensures { into.new ≡ slice_range self.now.bytes at (at + length into.old) }
+    {
+        let page = self.pages[at / PAGE];
+        let first = at % PAGE;
+        if first == 0 && into.len() == PAGE {
+            get_page(&self.bytes, page, into);
+        } else if page.room != NOWHERE && into.len() <= PAGE - first {
+            // The length that the caller knows is the one that is copied: the compiler sees it.
+            let place = PAGE * page.room + first;
+            into.copy_from_slice(&self.bytes[place..place + into.len()]);
+        } else {
+            self.read_pages(at, into);
         }
+    }
+
+    /// The range from `at` on holds these bytes, unsynced.
+    #[inline(always)]
+    pub fn overwrite(&mut self, at: usize, from: &[u8])
+        requires { at + length from.now ≤ length self.old.bytes }
+        ensures { self.new ≡ overwritten self.old at from.now }
+    {
+        let page = self.pages[at / PAGE];
+        let first = at % PAGE;
+        // Most writes are where something was written before.
+        if usize::from(page.from) <= first && first + from.len() <= usize::from(page.to) {
+            let place = PAGE * page.room + first;
+            put(&mut self.bytes, place, from);
+            mark(&mut self.words, place, place + from.len(), self.epoch);
+        } else {
+            self.fill(at, from.len(), from);
+        }
+    }
+
+    /// The range from `at` on takes the given bytes in turn, unsynced.
+    #[inline(never)]
+    pub fn fill(&mut self, at: usize, len: usize, given: &[u8])
+        requires range { at + len ≤ length self.old.bytes }
+        requires given { 0 < len → 0 < length given.now }
+        ensures { self.new ≡ overwritten self.old at (spread given.now 0 len) }
+    {
+        prove!(len <= self.size - at);
+        let mut done = 0;
+        while done < len {
+            let next = at + done;
+            let more = (len - done).min(PAGE - next % PAGE);
+            self.fill_page(next, more, done, given);
+            done += more;
+        }
+    }
+
+    /// The unsynced positions take the given bytes in turn.
+    pub fn fill_unsynced(&mut self, given: &[u8])
+        requires { 0 < length given.now }
+        ensures { self.new ≡ record { bytes = filled given.now 0 self.old.unsynced self.old.bytes; unsynced = self.old.unsynced } }
+    {
+        fill_marked(
+            &mut self.bytes,
+            &self.words,
+            &self.pages,
+            self.size,
+            self.epoch,
+            given,
+        );
+    }
+
+    /// Nothing is unsynced.
+    pub fn settle(&mut self)
+        ensures { self.new ≡ record { bytes = self.old.bytes; unsynced = replicate (length self.old.bytes) false } }
+    {
+        self.epoch = next_epoch(&mut self.words, self.epoch);
+    }
+
+    // Reads the bytes from `at` on, page by page.
+    #[inline(never)]
+    fn read_pages(&self, at: usize, into: &mut [u8])
+        requires { at + length into.old ≤ length self.now.bytes }
+        ensures { into.new ≡ slice_range self.now.bytes at (at + length into.old) }
+    {
+        prove!(into.len() <= self.size - at);
+        let mut done = 0;
+        while done < into.len() {
+            let next = at + done;
+            let more = (into.len() - done).min(PAGE - next % PAGE);
+            self.read_in_page(next, &mut into[done..done + more]);
+            done += more;
+        }
+    }
+
+    // Reads some bytes of one page.
+    fn read_in_page(&self, at: usize, into: &mut [u8])
+        requires range { at + length into.old ≤ length self.now.bytes }
+        requires one { at % 4096 + length into.old ≤ 4096 }
+        ensures { into.new ≡ slice_range self.now.bytes at (at + length into.old) }
+    {
+        let page = self.pages[at / PAGE];
+        if page.room == NOWHERE {
+            into.fill(0);
+        } else {
+            let place = PAGE * page.room + at % PAGE;
+            into.copy_from_slice(&self.bytes[place..place + into.len()]);
+        }
+    }
+
+    // A range of one page takes the given bytes in turn, from the one at `first` on.
+    fn fill_page(&mut self, at: usize, len: usize, first: usize, given: &[u8])
+        requires range { at + len ≤ length self.old.bytes }
+        requires one { at % 4096 + len ≤ 4096 }
+        requires given { 0 < length given.now }
+        requires count { first + len < 2 ^ 64 }
+        ensures { self.new ≡ overwritten self.old at (spread given.now first len) }
+    {
+        let index = at / PAGE;
+        let from = at % PAGE;
+        give_room(&mut self.pages, &mut self.bytes, &mut self.words, index);
+        widen(&mut self.pages, index, from, from + len);
+        let place = PAGE * self.pages[index].room + from;
+        put_given(&mut self.bytes, place, len, first, given);
+        mark(&mut self.words, place, place + len, self.epoch);
     }
 }

@@ -2,6 +2,7 @@
 #![tactic(auto)]
 
 mod boot;
+mod bytes;
 mod device;
 mod fault;
 mod file;

@@ -8,6 +8,7 @@ ghost use Rattle.disk.specs.Marks.{marks};
 use crate::word::Word;
 
 /// The positions from `at` up to `end`, that one left out, are marked, too.
+#[inline(always)]
 pub fn mark(words: &mut Vec<Word>, at: usize, end: usize, epoch: u64)
     requires order { at ≤ end }
     requires within { end ≤ 64 * length words.old.items }
@@ -17,11 +18,17 @@ pub fn mark(words: &mut Vec<Word>, at: usize, end: usize, epoch: u64)
     ensures as_many { length words.new.items ≡ length words.old.items }
     ensures room { vec_capacity words.new ≡ vec_capacity words.old }
 {
-    for index in at / 64..end.div_ceil(64) {
-        let first = 64 * index;
-        let from = at.saturating_sub(first);
-        let to = (end - first).min(64);
-        words[index] = words[index].marked(epoch, from, to);
+    let mut index = at / 64;
+    let mut from = at % 64;
+    let mut left = end - 64 * index;
+    while left > 64 {
+        words[index] = words[index].marked(epoch, from, 64);
+        index += 1;
+        from = 0;
+        left -= 64;
+    }
+    if from < left {
+        words[index] = words[index].marked(epoch, from, left);
     }
 }
 

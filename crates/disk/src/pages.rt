@@ -1,84 +1,79 @@
-// Where a simulated disk was written since it was new.
-ghost use Rattle.std.specs.Prelude.{◌≡◌, ◌*◌, ◌<◌, ◌≤◌, ℕ, IsTrue, length, slice_index_or, vec_capacity};
-ghost use Rattle.disk.specs.Pages.{nothing, Covers};
+// Where a simulated disk keeps its pages, and where each was written since the disk was new.
+ghost use Rattle.std.specs.Prelude.{◌≡◌, ◌↔◌, ◌+◌, ◌*◌, ◌<◌, ◌≤◌, ℕ, false, length, All, vec_capacity};
+ghost use Rattle.disk.specs.Marks.{all_marks};
+ghost use Rattle.disk.specs.Pages.{nth_page, home, seen, HaveRooms, Covers};
+
+use crate::word::Word;
 
 /// How many bytes a page has.
 pub const PAGE: usize = 4096;
 
-/// The bytes of a page from `from` up to `to`, that one left out.
+/// The room of a page that has none. No memory reaches so far.
+pub const NOWHERE: usize = usize::MAX;
+
+/// A page of a disk.
 #[derive(Clone, Copy)]
-pub struct Extent {
+pub struct Page {
+    /// Which of the pages that are kept it is, or `NOWHERE`. All bytes of a page without room are zeros.
+    pub room: usize,
+    /// The first byte of it that was written.
     pub from: u16,
+    /// Behind the last byte of it that was written.
     pub to: u16,
 }
 
-/// The range of a page. A page that is not there was not written.
-pub fn extent_of(pages: &Vec<Extent>, index: usize) -> Extent
-    ensures { result ≡ slice_index_or pages.now.items index nothing }
-{
-    if index < pages.len() {
-        pages[index]
-    } else {
-        Extent { from: 4096, to: 0 }
-    }
-}
+/// A page that was not written.
+pub const UNWRITTEN: Page = Page {
+    room: NOWHERE,
+    from: 4096,
+    to: 0,
+};
 
-/// The positions from `at` up to `end`, that one left out, are in the ranges, too. It takes no memory.
-#[inline(always)]
-pub fn widen(pages: &mut Vec<Extent>, at: usize, end: usize)
-    requires order { at ≤ end }
-    requires room { end ≤ 4096 * vec_capacity pages.old }
-    ensures keeps { (k : ℕ) → Covers pages.old.items k → Covers pages.new.items k }
-    ensures range { (k : ℕ) → at ≤ k → k < end → Covers pages.new.items k }
-    ensures room { vec_capacity pages.old ≤ vec_capacity pages.new }
+/// The page has room. If it had none it gets the next, with blank bytes and words, so nothing else changes. It takes no memory.
+pub fn give_room(pages: &mut Vec<Page>, bytes: &mut Vec<u8>, words: &mut Vec<Word>, index: usize)
+    requires within { index < length pages.old.items }
+    requires rooms { HaveRooms pages.old.items (length bytes.old.items) }
+    requires words { length bytes.old.items ≡ 64 * length words.old.items }
+    requires room { 4096 * length pages.old.items ≤ vec_capacity bytes.old }
+    requires word_room { 64 * length pages.old.items ≤ vec_capacity words.old }
+    ensures bytes { (size : ℕ) → seen pages.new.items 0 bytes.new.items size ≡ seen pages.old.items 0 bytes.old.items size }
+    ensures marks { (epoch size : ℕ) →
+        seen pages.new.items false (all_marks epoch words.new.items) size ≡ seen pages.old.items false (all_marks epoch words.old.items) size }
+    ensures no_later { (epoch : ℕ) → All (λ w. w.stamp ≤ epoch) words.old.items → All (λ w. w.stamp ≤ epoch) words.new.items }
+    ensures ranges { (k : ℕ) → Covers pages.new.items k ↔ Covers pages.old.items k }
+    ensures kept { 4096 * (nth_page pages.new.items index).room < length bytes.new.items }
+    ensures rooms { HaveRooms pages.new.items (length bytes.new.items) }
+    ensures words { length bytes.new.items ≡ 64 * length words.new.items }
+    ensures as_many { length pages.new.items ≡ length pages.old.items }
+    ensures room { vec_capacity bytes.old ≤ vec_capacity bytes.new }
+    ensures word_room { vec_capacity words.old ≤ vec_capacity words.new }
 {
-    // Most writes are where something was written before.
-    if !are_covered(pages, at, end) {
-        widen_each(pages, at, end);
-    }
-}
-
-// Whether the positions are in the range of one page.
-fn are_covered(pages: &Vec<Extent>, at: usize, end: usize) -> bool
-    requires { at ≤ end }
-    ensures { IsTrue result → (k : ℕ) → at ≤ k → k < end → Covers pages.now.items k }
-{
-    let index = at / PAGE;
-    let first = PAGE * index;
-    let range = extent_of(pages, index);
-    usize::from(range.from) <= at - first && end - first <= PAGE.min(usize::from(range.to))
-}
-
-// Widens the range of each page.
-fn widen_each(pages: &mut Vec<Extent>, at: usize, end: usize)
-    requires order { at ≤ end }
-    requires room { end ≤ 4096 * vec_capacity pages.old }
-    ensures keeps { (k : ℕ) → Covers pages.old.items k → Covers pages.new.items k }
-    ensures range { (k : ℕ) → at ≤ k → k < end → Covers pages.new.items k }
-    ensures room { vec_capacity pages.old ≤ vec_capacity pages.new }
-{
-    let count = end.div_ceil(PAGE);
-    add_pages(pages, count);
-    for index in at / PAGE..count {
-        let first = PAGE * index;
-        let from = at.saturating_sub(first);
-        let to = (end - first).min(PAGE);
-        let old = pages[index];
-        pages[index] = Extent {
-            from: old.from.min(from as u16),
-            to: old.to.max(to as u16),
+    if pages[index].room == NOWHERE {
+        pages[index] = Page {
+            room: bytes.len() / PAGE,
+            from: 4096,
+            to: 0,
         };
+        let _ = bytes.extend_from_slice(&[0; PAGE]);
+        let _ = words.resize(bytes.len() / 64, Word { stamp: 0, bits: 0 });
     }
 }
 
-// So many pages are there.
-fn add_pages(pages: &mut Vec<Extent>, count: usize)
-    requires { count ≤ vec_capacity pages.old }
-    ensures same { (k : ℕ) → slice_index_or pages.new.items k nothing ≡ slice_index_or pages.old.items k nothing }
-    ensures as_many { count ≤ length pages.new.items }
-    ensures room { vec_capacity pages.old ≤ vec_capacity pages.new }
+/// The bytes of the page from `from` up to `to`, that one left out, are in its range, too.
+pub fn widen(pages: &mut Vec<Page>, index: usize, from: usize, to: usize)
+    requires within { index < length pages.old.items }
+    requires range { to ≤ 4096 }
+    requires order { from ≤ to }
+    ensures keeps { (k : ℕ) → Covers pages.old.items k → Covers pages.new.items k }
+    ensures range { (k : ℕ) → 4096 * index + from ≤ k → k < 4096 * index + to → Covers pages.new.items k }
+    ensures homes { (k : ℕ) → home pages.new.items k ≡ home pages.old.items k }
+    ensures rooms { (n : ℕ) → HaveRooms pages.old.items n → 4096 * (nth_page pages.old.items index).room < n → HaveRooms pages.new.items n }
+    ensures as_many { length pages.new.items ≡ length pages.old.items }
 {
-    if pages.len() < count {
-        let _ = pages.resize(count, Extent { from: 4096, to: 0 });
-    }
+    let page = pages[index];
+    pages[index] = Page {
+        room: page.room,
+        from: page.from.min(from as u16),
+        to: page.to.max(to as u16),
+    };
 }

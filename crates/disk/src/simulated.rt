@@ -2,10 +2,7 @@ ghost use Rattle.std.specs.Prelude.{◌≡◌, ◌↔◌, ◌+◌, ◌≤◌, �
 ghost use Rattle.disk.specs.Disk.{Torn, Crashes, written, synced, lost};
 ghost use Rattle.disk.specs.Simulated.{fresh_disk, filling, crashed, items_of, refusal_under, TakesFailure};
 
-use crate::image::{extend, fill_marked, get, get_page, put, put_given};
-use crate::marks::{mark, next_epoch};
-use crate::pages::{Extent, PAGE, extent_of, widen};
-use crate::word::Word;
+use crate::image::Image;
 use crate::{Boot, Disk, DiskFault, NoMemory};
 use std::alloc::Global;
 use std::marker::Model;
@@ -14,19 +11,13 @@ use std::marker::Model;
 const LAST_BOOT: u64 = 1 << 62;
 
 /// A disk in memory, which fails, tears, crashes and is lost when a test or a script says so. No call after `new` takes
-/// memory. Only `crash`, and a write or tear that is the first to reach so far, do work that grows with the disk.
+/// memory. Only `crash` does work that grows with the disk. A write or tear takes the time of its bytes, and of the pages that it
+/// is the first to touch.
 ///
 /// Where a list of bytes fills positions, the i-th of them in rising order, from 0, takes byte `i mod len` of the list.
 #[derive(Drop)]
 pub struct SimDisk {
-    /// The bytes up to some place. All behind it are zeros, and none of them is unsynced.
-    bytes: Vec<u8>,
-    /// A word for each 64 of these bytes.
-    words: Vec<Word>,
-    /// For each page the range that was written since the disk was new.
-    pages: Vec<Extent>,
-    size: usize,
-    epoch: u64,
+    image: Image,
     boot: u64,
     gone: bool,
     failing: Option<Vec<u8>>,
@@ -34,18 +25,14 @@ pub struct SimDisk {
 }
 
 impl Model for SimDisk {
-    ghost use Rattle.std.specs.Prelude.{◌*◌, ◌≤◌, length, All, vec_capacity};
-    ghost use Rattle.disk.specs.Image.{padded, WordsFit};
-    ghost use Rattle.disk.specs.Marks.{marks};
-    ghost use Rattle.disk.specs.Pages.{BlankOutside};
     ghost use Rattle.disk.specs.Simulated.{SimState, IsGiven, items_of};
 
     ghost Value = { SimState };
 
     ghost view = { λ d. record {
       disk = record {
-        bytes = padded d.size d.bytes.items;
-        unsynced = marks d.epoch d.words.items d.size;
+        bytes = d.image.bytes;
+        unsynced = d.image.unsynced;
         boot = d.boot;
         gone = d.gone;
       };
@@ -54,12 +41,6 @@ impl Model for SimDisk {
     } };
 
     ghost invariant = { λ d. record {
-      fit : WordsFit d.size (length d.bytes.items) (length d.words.items);
-      room : d.size ≤ vec_capacity d.bytes;
-      word_room : d.size ≤ 64 * vec_capacity d.words;
-      page_room : d.size ≤ 4096 * vec_capacity d.pages;
-      blank : BlankOutside d.pages.items (padded d.size d.bytes.items) (marks d.epoch d.words.items d.size);
-      no_later : All (λ w. w.stamp ≤ d.epoch) d.words.items;
       given : IsGiven (items_of d.failing);
     } };
 }
@@ -72,11 +53,7 @@ impl SimDisk {
         ensures boot { IfOk result (λ d. d.disk.boot ≡ 1) }
     {
         Ok(SimDisk {
-            bytes: Vec::with_capacity(alloc, size as usize)?,
-            words: Vec::with_capacity(alloc, size.div_ceil(64) as usize)?,
-            pages: Vec::with_capacity(alloc, (size as usize).div_ceil(PAGE))?,
-            size: size as usize,
-            epoch: 1,
+            image: Image::new(alloc, size as usize)?,
             boot: 1,
             gone: false,
             failing: None,
@@ -88,10 +65,7 @@ impl SimDisk {
     pub fn renew(&mut self)
         ensures fresh { self.new ≡ record { disk = fresh_disk (length self.old.disk.bytes); failing = None; failures = 0 } }
     {
-        self.bytes.clear();
-        self.words.clear();
-        self.pages.clear();
-        self.epoch = 1;
+        self.image.clear();
         self.boot = 1;
         self.gone = false;
         self.failing = None;
@@ -135,20 +109,7 @@ impl SimDisk {
         ensures torn { Torn at len self.old.disk self.new.disk }
         ensures size { length self.new.disk.bytes ≡ length self.old.disk.bytes }
     {
-        extend(
-            &mut self.bytes,
-            &mut self.words,
-            at as usize + len as usize,
-            self.size,
-        );
-        put_given(&mut self.bytes, at as usize, len as usize, given);
-        mark(
-            &mut self.words,
-            at as usize,
-            (at + len) as usize,
-            self.epoch,
-        );
-        widen(&mut self.pages, at as usize, (at + len) as usize);
+        self.image.fill(at as usize, len as usize, given);
     }
 
     /// The disk loses power and comes up again: its unsynced positions take the given bytes.
@@ -159,12 +120,12 @@ impl SimDisk {
         ensures crashes { Crashes self.old.disk self.new.disk }
         ensures size { length self.new.disk.bytes ≡ length self.old.disk.bytes }
     {
-        fill_marked(&mut self.bytes, &self.words, self.epoch, given);
-        self.epoch = next_epoch(&mut self.words, self.epoch);
+        self.image.fill_unsynced(given);
+        self.image.settle();
         self.boot += 1;
     }
 
-    /// The disk is lost for good.
+    /// The disk is lost, until it is made anew.
     pub fn lose(&mut self)
         ensures { self.new ≡ record self.old { disk = lost self.old.disk } }
     {
@@ -184,38 +145,6 @@ impl SimDisk {
         } else {
             None
         }
-    }
-
-    // The range holds these bytes, unsynced.
-    #[inline(always)]
-    fn overwrite(&mut self, at: usize, from: &[u8])
-        requires { at + length from.now ≤ length self.old.disk.bytes }
-        ensures { self.new ≡ record self.old { disk = written self.old.disk at from.now } }
-    {
-        extend(&mut self.bytes, &mut self.words, at + from.len(), self.size);
-        put(&mut self.bytes, at, from);
-        mark(&mut self.words, at, at + from.len(), self.epoch);
-        widen(&mut self.pages, at, at + from.len());
-    }
-
-    // Reads the bytes from `at` on.
-    #[inline(always)]
-    fn fetch(&self, at: usize, into: &mut [u8])
-        requires { at + length into.old ≤ length self.now.disk.bytes }
-        ensures { into.new ≡ slice_range self.now.disk.bytes at (at + length into.old) }
-    {
-        if at % PAGE == 0 && into.len() == PAGE {
-            get_page(&self.bytes, at, extent_of(&self.pages, at / PAGE), into);
-        } else {
-            get(&self.bytes, at, into);
-        }
-    }
-
-    // Nothing is unsynced.
-    fn settle(&mut self)
-        ensures { self.new ≡ record self.old { disk = synced self.old.disk } }
-    {
-        self.epoch = next_epoch(&mut self.words, self.epoch);
     }
 
     // Takes the failure that was asked for, and counts it.
@@ -247,7 +176,7 @@ impl Disk for SimDisk {
     ghost told = { λ d tells. refl };
 
     fn size(&self) -> u64 {
-        self.size as u64
+        self.image.len() as u64
     }
 
     fn attach(&mut self) -> Result<Boot, DiskFault> {
@@ -266,7 +195,7 @@ impl Disk for SimDisk {
         }
         match self.take_failure() {
             None => {
-                self.fetch(at as usize, into);
+                self.image.read(at as usize, into);
                 Ok(())
             }
             Some(_) => Err(DiskFault::Failed),
@@ -279,7 +208,7 @@ impl Disk for SimDisk {
         }
         match self.take_failure() {
             None => {
-                self.overwrite(at as usize, from);
+                self.image.overwrite(at as usize, from);
                 Ok(())
             }
             Some(given) => {
@@ -295,7 +224,7 @@ impl Disk for SimDisk {
         }
         match self.take_failure() {
             None => {
-                self.settle();
+                self.image.settle();
                 Ok(())
             }
             Some(_) => Err(DiskFault::Failed),

@@ -1,4 +1,4 @@
-use Rattle.std.proofs.Common.{◌≡◌, ◌<◌, ◌≤◌, ℕ, length, ◌∙◌, subst, arith, length-set}
+use Rattle.std.proofs.Common.{◌≡◌, ◌+◌, ◌<◌, ◌≤◌, ℕ, length, set, refl, ◌∙◌, subst, arith, length-set}
 use Rattle.std.proofs.lemmas.List.{get_or_read}
 use Rattle.std.proofs.lemmas.List.Elements.{All-set}
 use Rattle.disk.specs.declared.word.Word.{Word}
@@ -6,26 +6,102 @@ use Rattle.disk.specs.Marks.{blank}
 use Rattle.disk.proofs.MarkLemmas.{MarksRange, reached, marks_more, marks_put}
 use Rattle.disk.proofs.marks.mark.Goals as goal
 
-pub loop-index-preserved : goal.loop-index-preserved
-loop-index-preserved c =
+pub loop-left-init : goal.loop-left-init
+loop-left-init c =
+    record {
+      begun = omega arith;
+      from = omega arith;
+      left = omega arith;
+      room = refl;
+      as_many = refl;
+      no_later = λ all. all;
+      marked = record { below = λ k b. refl; inside = λ k f u. absurd (omega arith); above = λ k o. refl };
+    }
+
+pub index-requires : goal.index-requires
+index-requires c = omega (arith, c.loop-left.invariant.left, c.loop-left.invariant.as_many, c.requires.within)
+
+pub marked-requires-clause-first : goal.marked-requires-clause-first
+marked-requires-clause-first c = omega (arith, c.loop-left.invariant.from, c.loop-left.invariant.begun)
+
+pub marked-requires-clause-order : goal.marked-requires-clause-order
+marked-requires-clause-order c = omega (arith, c.loop-left.invariant.from, c.loop-left.invariant.begun)
+
+pub index_mut-requires : goal.index_mut-requires
+index_mut-requires c = omega (arith, c.loop-left.invariant.left, c.loop-left.invariant.as_many, c.requires.within)
+
+pub overflow_add-index : goal.overflow_add-index
+overflow_add-index c = omega (arith, c.loop-left.invariant.left)
+
+pub loop-left-preserved : goal.loop-left-preserved
+loop-left-preserved c =
     let epoch = c.args.epoch in
-    let words = c.loop-index.words.items in
-    let i = c.loop-index.index in
+    let words = c.loop-left.words.items in
+    let i = c.loop-left.index in
     let word = c.marked.result in
-    let within : i < length words = omega arith in
+    let l = c.loop-left.invariant in
+    let within : i < length words = omega (arith, l.left, l.as_many, c.requires.within) in
     let P : Word → Type 0 = λ w. w.stamp ≤ epoch in
     record {
-      as_many = length-set words i word ∙ c.loop-index.invariant.as_many;
-      no_later = λ before. All-set P words i word (omega (arith, c.marked.ensures.stamp)) (c.loop-index.invariant.no_later before);
+      begun = omega (arith, l.begun);
+      from = omega (arith, l.begun);
+      left = omega (arith, l.left);
+      room = l.room;
+      as_many = length-set words i word ∙ l.as_many;
+      no_later = λ before. All-set P words i word (omega (arith, c.marked.ensures.stamp)) (l.no_later before);
       marked =
-          marks_more epoch c.args.at c.args.end i c.saturating_sub-from.result c.min-to.result c.args.words.now.items words c.index.result.now word
-          within (get_or_read words i c.index.result.now within c.index.ensures blank) c.requires.order (omega arith) (omega arith) (omega arith) (omega arith)
-          c.loop-index.invariant.marked
+          marks_more epoch c.args.at c.args.end i c.loop-left.from 64 c.args.words.now.items words c.index.result.now word
+          within (get_or_read words i c.index.result.now within c.index.ensures blank) c.requires.order l.begun (omega (arith, l.left)) l.from (omega (arith, l.left))
+          l.marked
           (record { below = c.marked.ensures.below; inside = c.marked.ensures.inside; above = c.marked.ensures.above });
     }
 
-pub returns-clause-marks : goal.returns-clause-marks
-returns-clause-marks c =
-    let all : reached c.args.at c.args.end c.loop-index.index ≡ c.args.end = omega arith in
-    let range = λ (m : ℕ). MarksRange c.args.epoch c.args.at m c.args.words.now.items c.loop-index.words.items in
-    λ size fits. marks_put c.args.epoch c.args.at c.args.end size _ _ c.requires.order fits (subst range all c.loop-index.invariant.marked)
+pub index-requires-then-from-left : goal.index-requires-then-from-left
+index-requires-then-from-left c = omega (arith, c.loop-left.invariant.left, c.loop-left.invariant.as_many, c.requires.within)
+
+pub index_mut-requires-then-from-left : goal.index_mut-requires-then-from-left
+index_mut-requires-then-from-left c = omega (arith, c.loop-left.invariant.left, c.loop-left.invariant.as_many, c.requires.within)
+
+pub returns-then-from-left-clause-marks : goal.returns-then-from-left-clause-marks
+returns-then-from-left-clause-marks c =
+    let epoch = c.args.epoch in
+    let words = c.loop-left.words.items in
+    let i = c.loop-left.index in
+    let word = c.marked-then-from-left.result in
+    let l = c.loop-left.invariant in
+    let within : i < length words = omega (arith, l.left, l.as_many, c.requires.within) in
+    let more =
+    marks_more epoch c.args.at c.args.end i c.loop-left.from c.loop-left.left c.args.words.now.items words c.index-then-from-left.result.now word
+    within (get_or_read words i c.index-then-from-left.result.now within c.index-then-from-left.ensures blank) c.requires.order l.begun (omega (arith, l.left)) l.from (omega (arith, l.left))
+    l.marked
+    (record { below = c.marked-then-from-left.ensures.below; inside = c.marked-then-from-left.ensures.inside; above = c.marked-then-from-left.ensures.above }) in
+    let all : reached c.args.at c.args.end (i + 1) ≡ c.args.end = omega (arith, l.left, l.begun) in
+    λ size fits. marks_put epoch c.args.at c.args.end size c.args.words.now.items (set words i word) c.requires.order fits (subst (λ (m : ℕ). MarksRange epoch c.args.at m c.args.words.now.items (set words i word)) all more)
+
+pub returns-then-from-left-clause-no_later : goal.returns-then-from-left-clause-no_later
+returns-then-from-left-clause-no_later c =
+    let words = c.loop-left.words.items in
+    let P : Word → Type 0 = λ w. w.stamp ≤ c.args.epoch in
+    λ before. All-set P words c.loop-left.index c.marked-then-from-left.result (omega (arith, c.marked-then-from-left.ensures.stamp)) (c.loop-left.invariant.no_later before)
+
+pub returns-then-from-left-clause-as_many : goal.returns-then-from-left-clause-as_many
+returns-then-from-left-clause-as_many c =
+    length-set c.loop-left.words.items c.loop-left.index c.marked-then-from-left.result ∙ c.loop-left.invariant.as_many
+
+pub returns-then-from-left-clause-room : goal.returns-then-from-left-clause-room
+returns-then-from-left-clause-room c = c.loop-left.invariant.room
+
+pub returns-else-from-left-clause-marks : goal.returns-else-from-left-clause-marks
+returns-else-from-left-clause-marks c =
+    let l = c.loop-left.invariant in
+    let all : reached c.args.at c.args.end c.loop-left.index ≡ c.args.end = omega (arith, l.left, l.begun, l.from) in
+    λ size fits. marks_put c.args.epoch c.args.at c.args.end size c.args.words.now.items c.loop-left.words.items c.requires.order fits (subst (λ (m : ℕ). MarksRange c.args.epoch c.args.at m c.args.words.now.items c.loop-left.words.items) all l.marked)
+
+pub returns-else-from-left-clause-no_later : goal.returns-else-from-left-clause-no_later
+returns-else-from-left-clause-no_later c = c.loop-left.invariant.no_later
+
+pub returns-else-from-left-clause-as_many : goal.returns-else-from-left-clause-as_many
+returns-else-from-left-clause-as_many c = c.loop-left.invariant.as_many
+
+pub returns-else-from-left-clause-room : goal.returns-else-from-left-clause-room
+returns-else-from-left-clause-room c = c.loop-left.invariant.room

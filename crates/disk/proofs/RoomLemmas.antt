@@ -1,0 +1,257 @@
+-- Which pages have room, after a page got some and after its range was widened.
+use Rattle.std.proofs.Common.{◌≡◌, ℕ, ◌+◌, ◌-◌, ◌*◌, ◌/◌, ◌%◌, ◌<◌, ◌≤◌, ◌^◌, Bool, true, false, cond, List, [], length, get_or, set, replicate, refl, sym, ◌∙◌, ap, subst, inl, inr, arith, length-set}
+use Rattle.std.specs.Prelude.{nat_lt}
+use Rattle.std.specs.List.{count_by}
+use Rattle.std.proofs.lemmas.Bool.{cases_lt, cases_eq, lt-ltb}
+use Rattle.std.proofs.lemmas.List.{get_or-set_same, get_or-set_other, get_or_past}
+use Rattle.std.proofs.lemmas.List.Folds.{sum_by-replicate}
+use Rattle.std.proofs.lemmas.List.Sums.{sum_by-set, count_by-le-length}
+use Rattle.disk.specs.declared.pages.Page.{Page}
+use Rattle.disk.specs.Pages.{unwritten, nth_page, home, has_room, HaveRooms, Covers}
+use Rattle.disk.proofs.ListLemmas.{get_or_more}
+use Rattle.disk.proofs.SeenLemmas.{whole_room}
+
+-- COUNTS
+
+count_raised : {X : Type 0} (p : X → Bool) (xs : List X) (i : ℕ) (y d : X) → i < length xs → p (get_or xs i d) ≡ false → p y ≡ true → count_by p (set xs i y) ≡ count_by p xs + 1
+count_raised {X} p xs i y d within missing counted =
+    let f : X → ℕ = λ x. cond (p x) 1 0 in
+    let was : f (get_or xs i d) ≡ 0 = ap (λ (b : Bool). cond {A = ℕ} b 1 0) missing in
+    let is : f y ≡ 1 = ap (λ (b : Bool). cond {A = ℕ} b 1 0) counted in
+    omega (arith, sum_by-set f xs i y d within, was, is)
+
+count_same : {X : Type 0} (p : X → Bool) (xs : List X) (i : ℕ) (y d : X) → i < length xs → p y ≡ p (get_or xs i d) → count_by p (set xs i y) ≡ count_by p xs
+count_same {X} p xs i y d within same =
+    let f : X → ℕ = λ x. cond (p x) 1 0 in
+    let is : f y ≡ f (get_or xs i d) = ap (λ (b : Bool). cond {A = ℕ} b 1 0) same in
+    omega (arith, sum_by-set f xs i y d within, is)
+
+count_none : {X : Type 0} (p : X → Bool) (n : ℕ) (y : X) → p y ≡ false → count_by p (replicate n y) ≡ 0
+count_none {X} p n y missing =
+    let f : X → ℕ = λ x. cond (p x) 1 0 in
+    let is : f y ≡ 0 = ap (λ (b : Bool). cond {A = ℕ} b 1 0) missing in
+    sum_by-replicate f n y ∙ ap (λ (k : ℕ). n * k) is ∙ (let z : n * 0 ≡ 0 = omega arith in z)
+
+-- ROOMS
+
+-- a fresh disk keeps nothing
+pub rooms_fresh : (n : ℕ) → HaveRooms (replicate n unwritten) 0
+rooms_fresh n =
+    record {
+      own = λ i j same under. absurd (omega (arith, under));
+      others = λ i past. get_or_more [] n i unwritten;
+      within = λ i. (let e : (nth_page (replicate n unwritten) i).to ≡ 0 = ap (λ (p : Page). p.to) (get_or_more [] n i unwritten) in omega (arith, e));
+      all = (let e : count_by has_room (replicate n unwritten) ≡ 0 = count_none has_room n unwritten refl in omega (arith, e));
+    }
+
+module _ (pages : List Page) (n i : ℕ) (rooms : HaveRooms pages n) where
+  -- a page that has no room is as at first
+  pub none_given : (nth_page pages i).room ≡ 2 ^ 64 - 1 → n < 2 ^ 64 → nth_page pages i ≡ unwritten
+  none_given nowhere small = rooms.others i (omega (arith, nowhere, small))
+
+  -- any other has its own
+  pub is_given : ((nth_page pages i).room ≡ 2 ^ 64 - 1 → ⊥) → 4096 * (nth_page pages i).room < n
+  is_given given =
+      elim (cases_lt (4096 * (nth_page pages i).room) n) [
+        | inl under ↦ under
+        | inr past ↦ absurd (given (ap (λ (p : Page). p.room) (rooms.others i past)))
+      ]
+
+-- all of the room of a page that was read
+pub room_kept : (pages : List Page) (n i : ℕ) (page : Page) → HaveRooms pages n → page ≡ nth_page pages i → (page.room ≡ 2 ^ 64 - 1 → ⊥) → 4096 * page.room + 4096 ≤ n
+room_kept pages n i page rooms is given =
+    let room = ap (λ (p : Page). p.room) is in
+    omega (arith, room, whole_room pages n i rooms (is_given pages n i rooms (λ e. given (room ∙ e))))
+
+-- a page in whose range something is has room
+pub range_kept : (pages : List Page) (n i : ℕ) (page : Page) → HaveRooms pages n → page ≡ nth_page pages i → page.from < 4096 → 4096 * (nth_page pages i).room < n
+range_kept pages n i page rooms is written =
+    elim (cases_lt (4096 * (nth_page pages i).room) n) [
+      | inl under ↦ under
+      | inr past ↦
+          (let none : page.from ≡ 4096 = ap (λ (p : Page). p.from) (is ∙ rooms.others i past) in
+          absurd (omega (arith, none, written)))
+    ]
+
+-- a page that had no room gets the next
+module _ (pages : List Page) (n i : ℕ) (page : Page) (rooms : HaveRooms pages n) (small : n < 2 ^ 64) (within : i < length pages) (nowhere : (nth_page pages i).room ≡ 2 ^ 64 - 1) (next : 4096 * page.room ≡ n) (from : page.from ≡ 4096) (to : page.to ≡ 0) where
+  was : nth_page pages i ≡ unwritten
+  was = none_given pages n i rooms nowhere small
+
+  here : nth_page (set pages i page) i ≡ page
+  here = get_or-set_same pages i page unwritten within
+
+  there : (j : ℕ) → (j ≡ i → ⊥) → nth_page (set pages i page) j ≡ nth_page pages j
+  there j not = get_or-set_other pages i j page unwritten not
+
+  -- the next room is nobody's yet
+  not_here : (j : ℕ) → (nth_page pages j).room ≡ page.room → ⊥
+  not_here j same =
+      let is : nth_page pages j ≡ unwritten = rooms.others j (omega (arith, same, next)) in
+      let room : (nth_page pages j).room ≡ 2 ^ 64 - 1 = ap (λ (p : Page). p.room) is in
+      omega (arith, room, same, next, small)
+
+  one_more : count_by has_room (set pages i page) ≡ count_by has_room pages + 1
+  one_more =
+      let missing : has_room (nth_page pages i) ≡ false = ap has_room was in
+      let counted : has_room page ≡ true = lt-ltb page.room (2 ^ 64 - 1) (omega (arith, next, small)) in
+      count_raised has_room pages i page unwritten within missing counted
+
+  -- there is room for it
+  pub is_room : n + 4096 ≤ 4096 * length pages
+  is_room = omega (arith, one_more, count_by-le-length has_room (set pages i page), length-set pages i page, rooms.all)
+
+  pub rooms_given : HaveRooms (set pages i page) (n + 4096)
+  rooms_given =
+      record {
+        own = λ a b same under.
+            elim (cases_eq a i) [
+              | inl a_is ↦
+                  elim (cases_eq b i) [
+                    | inl b_is ↦ a_is ∙ sym b_is
+                    | inr b_not ↦
+                        (let e : (nth_page pages b).room ≡ page.room =
+                        ap (λ (p : Page). p.room) (sym (there b b_not)) ∙ sym same ∙ ap (λ (j : ℕ). (nth_page (set pages i page) j).room) a_is ∙ ap (λ (p : Page). p.room) here in
+                        absurd (not_here b e))
+                  ]
+              | inr a_not ↦
+                  (let a_room : (nth_page (set pages i page) a).room ≡ (nth_page pages a).room = ap (λ (p : Page). p.room) (there a a_not) in
+                  elim (cases_eq b i) [
+                    | inl b_is ↦
+                        (let e : (nth_page pages a).room ≡ page.room =
+                        sym a_room ∙ same ∙ ap (λ (j : ℕ). (nth_page (set pages i page) j).room) b_is ∙ ap (λ (p : Page). p.room) here in
+                        absurd (not_here a e))
+                    | inr b_not ↦
+                        (let b_room : (nth_page (set pages i page) b).room ≡ (nth_page pages b).room = ap (λ (p : Page). p.room) (there b b_not) in
+                        let under_n : 4096 * (nth_page pages a).room < n =
+                        elim (cases_lt (4096 * (nth_page pages a).room) n) [
+                          | inl u ↦ u
+                          | inr past ↦
+                              (let far : (nth_page pages a).room ≡ 2 ^ 64 - 1 = ap (λ (p : Page). p.room) (rooms.others a past) in
+                              absurd (omega (arith, far, a_room, under, small)))
+                        ] in
+                        rooms.own a b (sym a_room ∙ same ∙ b_room) under_n)
+                  ])
+            ];
+        others = λ j past.
+            elim (cases_eq j i) [
+              | inl is ↦
+                  (let e : (nth_page (set pages i page) j).room ≡ page.room = ap (λ (k : ℕ). (nth_page (set pages i page) k).room) is ∙ ap (λ (p : Page). p.room) here in
+                  absurd (omega (arith, e, past, next)))
+              | inr not ↦
+                  (let e : (nth_page (set pages i page) j).room ≡ (nth_page pages j).room = ap (λ (p : Page). p.room) (there j not) in
+                  there j not ∙ rooms.others j (omega (arith, e, past)))
+            ];
+        within = λ j.
+            elim (cases_eq j i) [
+              | inl is ↦
+                  (let e : (nth_page (set pages i page) j).to ≡ page.to = ap (λ (k : ℕ). (nth_page (set pages i page) k).to) is ∙ ap (λ (p : Page). p.to) here in
+                  omega (arith, e, to))
+              | inr not ↦
+                  (let e : (nth_page (set pages i page) j).to ≡ (nth_page pages j).to = ap (λ (p : Page). p.to) (there j not) in
+                  omega (arith, e, rooms.within j))
+            ];
+        all = omega (arith, one_more, rooms.all);
+      }
+
+  -- where it had none before nothing was covered, and nothing is
+  pub same_covers : (k : ℕ) → (Covers (set pages i page) k → Covers pages k) × (Covers pages k → Covers (set pages i page) k)
+  same_covers k =
+      let a : (nth_page (set pages i page) (k / 4096)).from ≡ (nth_page pages (k / 4096)).from =
+      elim (cases_eq (k / 4096) i) [
+        | inl is ↦
+            ap (λ (j : ℕ). (nth_page (set pages i page) j).from) is ∙ ap (λ (p : Page). p.from) here ∙ from ∙ ap (λ (p : Page). p.from) (sym was) ∙ ap (λ (j : ℕ). (nth_page pages j).from) (sym is)
+        | inr not ↦ ap (λ (p : Page). p.from) (there (k / 4096) not)
+      ] in
+      let b : (nth_page (set pages i page) (k / 4096)).to ≡ (nth_page pages (k / 4096)).to =
+      elim (cases_eq (k / 4096) i) [
+        | inl is ↦ ap (λ (j : ℕ). (nth_page (set pages i page) j).to) is ∙ ap (λ (p : Page). p.to) here ∙ to ∙ ap (λ (p : Page). p.to) (sym was) ∙ ap (λ (j : ℕ). (nth_page pages j).to) (sym is)
+        | inr not ↦ ap (λ (p : Page). p.to) (there (k / 4096) not)
+      ] in (
+        λ covers. record { from = omega (arith, covers.from, a); to = omega (arith, covers.to, b) },
+        λ covers. record { from = omega (arith, covers.from, a); to = omega (arith, covers.to, b) },
+      )
+
+  -- what is added is blank, so the same is seen
+  pub same_seen : {X : Type 0} (blank : X) (old new : List X) (k : ℕ) → ((q : ℕ) → get_or new q blank ≡ get_or old q blank) → length old ≤ n → get_or new (home (set pages i page) k) blank ≡ get_or old (home pages k) blank
+  same_seen {X} blank old new k same few =
+      same (home (set pages i page) k)
+      ∙ elim (cases_eq (k / 4096) i) [
+        | inl is ↦
+            (let now : (nth_page (set pages i page) (k / 4096)).room ≡ page.room = ap (λ (j : ℕ). (nth_page (set pages i page) j).room) is ∙ ap (λ (p : Page). p.room) here in
+            let before : (nth_page pages (k / 4096)).room ≡ 2 ^ 64 - 1 = ap (λ (j : ℕ). (nth_page pages j).room) is ∙ nowhere in
+            get_or_past old (home (set pages i page) k) blank (let e : length old ≤ 4096 * (nth_page (set pages i page) (k / 4096)).room + k % 4096 = omega (arith, now, next, few) in e)
+            ∙ sym (get_or_past old (home pages k) blank (let e : length old ≤ 4096 * (nth_page pages (k / 4096)).room + k % 4096 = omega (arith, before, few, small) in e)))
+        | inr not ↦ ap (λ (p : Page). get_or old (4096 * p.room + k % 4096) blank) (there (k / 4096) not)
+      ]
+
+-- a page's range is widened
+module _ (pages : List Page) (i : ℕ) (page : Page) (within : i < length pages) (room : page.room ≡ (nth_page pages i).room) where
+  same_room : (j : ℕ) → (nth_page (set pages i page) j).room ≡ (nth_page pages j).room
+  same_room j =
+      elim (cases_eq j i) [
+        | inl is ↦
+            ap (λ (k : ℕ). (nth_page (set pages i page) k).room) is
+            ∙ ap (λ (p : Page). p.room) (get_or-set_same pages i page unwritten within)
+            ∙ room
+            ∙ ap (λ (k : ℕ). (nth_page pages k).room) (sym is)
+        | inr not ↦ ap (λ (p : Page). p.room) (get_or-set_other pages i j page unwritten not)
+      ]
+
+  pub same_home : (k : ℕ) → home (set pages i page) k ≡ home pages k
+  same_home k = ap (λ (r : ℕ). 4096 * r + k % 4096) (same_room (k / 4096))
+
+  pub rooms_widened : (n : ℕ) → page.to ≤ 4096 → HaveRooms pages n → 4096 * (nth_page pages i).room < n → HaveRooms (set pages i page) n
+  rooms_widened n last rooms here =
+      record {
+        own = λ a b same under. rooms.own a b (sym (same_room a) ∙ same ∙ same_room b) (omega (arith, same_room a, under));
+        others = λ j past.
+            elim (cases_eq j i) [
+              | inl is ↦
+                  (let e : (nth_page pages j).room ≡ (nth_page pages i).room = ap (λ (k : ℕ). (nth_page pages k).room) is in
+                  absurd (omega (arith, e, same_room j, past, here)))
+              | inr not ↦ get_or-set_other pages i j page unwritten not ∙ rooms.others j (omega (arith, same_room j, past))
+            ];
+        within = λ j.
+            elim (cases_eq j i) [
+              | inl is ↦
+                  (let e : (nth_page (set pages i page) j).to ≡ page.to =
+                  ap (λ (k : ℕ). (nth_page (set pages i page) k).to) is ∙ ap (λ (p : Page). p.to) (get_or-set_same pages i page unwritten within) in
+                  omega (arith, e, last))
+              | inr not ↦
+                  (let e : (nth_page (set pages i page) j).to ≡ (nth_page pages j).to = ap (λ (p : Page). p.to) (get_or-set_other pages i j page unwritten not) in
+                  omega (arith, e, rooms.within j))
+            ];
+        all =
+            (let same : has_room page ≡ has_room (nth_page pages i) = ap (λ (r : ℕ). nat_lt r (2 ^ 64 - 1)) room in
+            omega (arith, count_same has_room pages i page unwritten within same, rooms.all));
+      }
+
+  pub covers_here : (k : ℕ) → k / 4096 ≡ i → page.from ≤ k % 4096 → k % 4096 < page.to → Covers (set pages i page) k
+  covers_here k is from to =
+      let here : nth_page (set pages i page) (k / 4096) ≡ page = ap (λ (j : ℕ). nth_page (set pages i page) j) is ∙ get_or-set_same pages i page unwritten within in
+      record {
+        from = subst (λ (x : Page). x.from ≤ k % 4096) (sym here) from;
+        to = subst (λ (x : Page). k % 4096 < x.to) (sym here) to;
+      }
+
+  pub covers_set : (k : ℕ) → page.from ≤ (nth_page pages i).from → (nth_page pages i).to ≤ page.to → Covers pages k → Covers (set pages i page) k
+  covers_set k low high covers =
+      elim (cases_eq (k / 4096) i) [
+        | inl is ↦
+            (let from : (nth_page pages i).from ≤ k % 4096 = subst (λ (j : ℕ). (nth_page pages j).from ≤ k % 4096) is covers.from in
+            let to : k % 4096 < (nth_page pages i).to = subst (λ (j : ℕ). k % 4096 < (nth_page pages j).to) is covers.to in
+            covers_here k is (omega arith) (omega arith))
+        | inr other ↦
+            (let same : nth_page (set pages i page) (k / 4096) ≡ nth_page pages (k / 4096) = get_or-set_other pages i (k / 4096) page unwritten other in
+            record {
+              from = subst (λ (x : Page). x.from ≤ k % 4096) (sym same) covers.from;
+              to = subst (λ (x : Page). k % 4096 < x.to) (sym same) covers.to;
+            })
+      ]
+
+-- where its page was widened a range is still kept
+pub kept_after : (old new : List Page) (n at : ℕ) (page : Page) → HaveRooms new n → home new at ≡ home old at → 4096 * (nth_page old (at / 4096)).room < n → page ≡ nth_page new (at / 4096) → 4096 * page.room + 4096 ≤ n
+kept_after old new n at page rooms same here is =
+    let e : 4096 * (nth_page new (at / 4096)).room + at % 4096 ≡ 4096 * (nth_page old (at / 4096)).room + at % 4096 = same in
+    omega (arith, ap (λ (p : Page). p.room) is, whole_room new n (at / 4096) rooms (omega (arith, e, here)))
