@@ -185,7 +185,7 @@ fn lower_numbers(numbers: &ByLockNumber, lock: LockNumber) -> usize
 {
     let mut from = 0;
     let mut size = numbers.len();
-    while size > 4 {
+    while size > 8 {
         let quarter = (size + 1) / 4;
         let first = number_below(numbers, from + quarter - 1, lock);
         let second = number_below(numbers, from + 2 * quarter - 1, lock);
@@ -233,6 +233,7 @@ fn lower_numbers_near(numbers: &ByLockNumber, lock: LockNumber, near: usize) -> 
 }
 
 /// The record of a lock number. Where it stands, or would stand, is kept in `near`, if that had to be searched for.
+#[inline(always)]
 pub fn numbered(numbers: &ByLockNumber, lock: LockNumber, near: &Cell<usize>) -> Option<LockRecord>
     requires rising { IsSorted number_cmp numbers.now }
     requires distinct { IsDistinct numbers.now }

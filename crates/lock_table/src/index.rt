@@ -68,6 +68,7 @@ impl Index {
     }
 
     /// The record of a lock number. Where it stands by number, or would stand, is kept in `near`, if that was searched for.
+    #[inline(always)]
     pub fn lock_in(&self, lock: LockNumber, near: &Cell<usize>) -> Option<LockRecord>
         ensures found { result ≡ lock_in self.now lock }
         ensures there { IfSome result (λ r. lock_in self.now r.lock ≡ Some r) }
@@ -75,16 +76,6 @@ impl Index {
         ensures distinct { IsDistinct self.now }
     {
         by_lock_number::numbered(&self.numbers, lock, near)
-    }
-
-    /// What was found of a lock number is a record of the table. This is called for its contract.
-    pub fn as_found(&self, found: &Option<LockRecord>, lock: LockNumber)
-        requires { found.now ≡ lock_in self.now lock }
-        ensures there { IfSome found.now (λ r. lock_in self.now r.lock ≡ Some r) }
-        ensures printed { in_order printed_cmp self.now ≡ self.now }
-        ensures distinct { IsDistinct self.now }
-    {
-        let _ = self.printed();
     }
 
     /// Where the granted locks of a name stand.

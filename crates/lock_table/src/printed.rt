@@ -45,7 +45,8 @@ fn narrowed(printed: &ByPrintedOrder, from: usize, size: usize, key: u128) -> us
     from + passed_of_three(quarter, first + second + third)
 }
 
-/// Where the locks of lower keys end within a stretch.
+/// Where the locks of lower keys end within a stretch. Most stretches are short, and the tests branch: in what comes again and again a
+/// processor knows how they end.
 fn end_within(printed: &ByPrintedOrder, mut from: usize, mut size: usize, key: u128) -> usize
     requires sorted { IsSorted printed_cmp printed.now }
     requires small { key ≤ 2 ^ 126 }
@@ -55,15 +56,14 @@ fn end_within(printed: &ByPrintedOrder, mut from: usize, mut size: usize, key: u
     ensures bound { result ≤ length printed.now }
     ensures point { IsPartitionPoint (λ r. nat_lt (lock_key r) key ≡ true) (λ r. nat_lt (lock_key r) key ≡ false) printed.now result }
 {
-    while size > 4 {
-        from = narrowed(printed, from, size, key);
-        size -= 3 * ((size + 1) / 4);
+    while size > 0 {
+        let half = size - size / 2;
+        if printed.below(from + half - 1, key) == 1 {
+            from += half;
+        }
+        size /= 2;
     }
-    let mut place = from;
-    for at in from..from + size {
-        place += printed.below(at, key);
-    }
-    place
+    from
 }
 
 /// How many locks have a key below one, and how many have a key below another. No test for one key waits for a test for the other.
@@ -80,7 +80,7 @@ fn both_below(printed: &ByPrintedOrder, one: u128, other: u128) -> (usize, usize
     let mut first = 0;
     let mut second = 0;
     let mut left = printed.len();
-    while left > 4 {
+    while left > 8 {
         first = narrowed(printed, first, left, one);
         second = narrowed(printed, second, left, other);
         left -= 3 * ((left + 1) / 4);

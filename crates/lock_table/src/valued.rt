@@ -23,7 +23,6 @@ use lock_command::{
 };
 use lock_modes::{Mode, downward, writes_alone};
 use std::alloc::{AllocError, Global};
-use std::cell::Cell;
 use std::marker::Model;
 
 /// The locks, and the values of their names.
@@ -254,15 +253,15 @@ impl ValuedLocks {
         self.values.entries()
     }
 
-    /// The lock that a command is about, unless it is to be a new one. Where a search for its number ended is kept in `near`.
-    fn asked_lock(&self, action: &Action, near: &Cell<usize>) -> Option<LockRecord>
+    /// The lock that a command is about, unless it is to be a new one.
+    fn asked_lock(&self, action: &Action) -> Option<LockRecord>
         ensures found { result ≡ asked_lock self.now.locks action.now }
     {
         match action {
             Action::Convert { lock, .. }
             | Action::Release { lock, .. }
             | Action::Cancel(lock)
-            | Action::Status(lock) => self.locks.lock_in(*lock, near),
+            | Action::Status(lock) => self.locks.lock_in(*lock),
             _ => None,
         }
     }
@@ -377,17 +376,16 @@ impl ValuedLocks {
         ensures zeros { HasZeros self.new.locks (value_in self.new.entries) }
         ensures reply { result ≡ replied (value_in self.new.entries) self.old.locks action.now (done self.old.locks host client action.now).answer }
     {
-        let near = Cell::new(usize::MAX);
-        let found = self.asked_lock(action, &near);
         if self.leaves_zeros(action) {
-            let answer = self.locks.act(host, client, action, &found, near.get());
+            let answer = self.locks.act(host, client, action);
             return Reply {
                 answer,
                 value: returned(answer, LockValue::ZEROS),
             };
         }
+        let found = self.asked_lock(action);
         spoil_by(&mut self.values, self.locks.printed(), action);
-        let answer = self.locks.act(host, client, action, &found, near.get());
+        let answer = self.locks.act(host, client, action);
         store_by(&mut self.values, &found, action, &answer);
         keep_locked(&mut self.values, self.locks.printed(), &found, action);
         let value = self.told_value(&found, action, answer);

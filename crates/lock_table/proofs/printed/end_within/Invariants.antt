@@ -1,7 +1,6 @@
 use Rattle.std.proofs.Common.{nat_lt}
 use Rattle.lock_table.specs.Keys.{lock_key}
 use Rattle.lock_table.specs.Narrowed.{IsNarrowed}
-use Rattle.lock_table.proofs.Quarters.{IsCounted}
 use Rattle.lock_table.proofs.printed.end_within.Given as goal
 
 abbrev pub invariant-loop-size : goal.invariant-loop-size
@@ -9,6 +8,3 @@ invariant-loop-size l = IsNarrowed (λ r. nat_lt (lock_key r) l.key) l.printed l
 
 abbrev pub decreases-loop-size : goal.decreases-loop-size
 decreases-loop-size l = l.size
-
-abbrev pub invariant-loop-at : goal.invariant-loop-at
-invariant-loop-at l = IsCounted (λ r. nat_lt (lock_key r) l.key) l.printed l.place l.at

@@ -12,5 +12,5 @@ returns-in-Converting-clause-locks c =
     let now = c.self.inside.index in
     let new = in_state own (Granted c.in-Converting.held) in
     let direct : c.settle_behind.new.self ≡ shown (settled (put now new) own.name) =
-    c.settle_behind.ensures ∙ (λ i. shown (settled (c.restate-group.ensures.put i) (c.beside-name.ensures i))) ∙ shown-settled own.name (put now new) (IsDistinct-put now new c.as_found.ensures.distinct) in
+    c.settle_behind.ensures ∙ (λ i. shown (settled (c.restate-group.ensures.put i) (c.beside-name.ensures i))) ∙ shown-settled own.name (put now new) (IsDistinct-put now new c.in-Some.ensures.distinct) in
     first_of (search rules, grind (arith, common_steps, direct))
