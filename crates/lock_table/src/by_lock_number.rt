@@ -139,6 +139,15 @@ impl ByLockNumber {
         true
     }
 
+    /// Keeps the place of the record at this index as the hint for its number.
+    fn hint(&mut self, at: usize)
+        requires { at < length self.old }
+        ensures { self.new ≡ self.old }
+    {
+        let byte = low_byte(self.get(at).lock);
+        self.hints[byte] = self.order[at];
+    }
+
     /// Takes a record out.
     fn remove(&mut self, at: usize)
         requires { at < length self.old }
@@ -246,6 +255,15 @@ pub fn numbered(numbers: &ByLockNumber, lock: LockNumber, near: &Cell<usize>) ->
     near.set(place);
     let found = numbers.record_at(place)?;
     (found.lock == lock).then_some(found)
+}
+
+/// Hints at the record at a place that a search found, so that the next one for its number finds it at once.
+pub fn keep_found(numbers: &mut ByLockNumber, near: usize)
+    ensures { numbers.new ≡ numbers.old }
+{
+    if near < numbers.len() {
+        numbers.hint(near);
+    }
 }
 
 /// Puts in the record of a lock that has none.

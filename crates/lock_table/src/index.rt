@@ -78,6 +78,13 @@ impl Index {
         by_lock_number::numbered(&self.numbers, lock, near)
     }
 
+    /// Keeps the place of a lock that a search by number found, so that the next one finds it at once.
+    pub fn keep_found(&mut self, near: usize)
+        ensures { self.new ≡ self.old }
+    {
+        by_lock_number::keep_found(&mut self.numbers, near);
+    }
+
     /// Where the granted locks of a name stand.
     pub fn granted_group(&self, name: &SpelledName) -> GrantedGroup
         ensures { IsGrantedGroup name.now self.now result.begin result.end }
