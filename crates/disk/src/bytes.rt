@@ -8,7 +8,17 @@ ghost use Rattle.disk.specs.Pages.{HaveRooms, seen};
 use crate::pages::{NOWHERE, PAGE, Page};
 use crate::word::Word;
 
+/// Reads the bytes from `at` on.
+#[inline(always)]
+pub fn get(bytes: &[u8], at: usize, into: &mut [u8])
+    requires { at + length into.old ≤ length bytes.now }
+    ensures { into.new ≡ slice_range bytes.now at (at + length into.old) }
+{
+    into.copy_from_slice(&bytes[at..at + into.len()]);
+}
+
 /// Reads a page: only its range is copied, all else are zeros.
+#[inline(never)]
 pub fn get_page(bytes: &[u8], page: Page, into: &mut [u8])
     requires whole { length into.old ≡ 4096 }
     requires range { page.to ≤ 4096 }

@@ -3,7 +3,7 @@ ghost use Rattle.disk.specs.Filling.{spread, filled};
 ghost use Rattle.disk.specs.Image.{overwritten};
 
 use crate::NoMemory;
-use crate::bytes::{fill_marked, get_page, put, put_given};
+use crate::bytes::{fill_marked, get, get_page, put, put_given};
 use crate::marks::{mark, next_epoch};
 use crate::pages::{NOWHERE, PAGE, Page, UNWRITTEN, give_room, widen};
 use crate::word::Word;
@@ -92,8 +92,7 @@ impl Image {
             get_page(&self.bytes, page, into);
         } else if page.room != NOWHERE && into.len() <= PAGE - first {
             // The length that the caller knows is the one that is copied: the compiler sees it.
-            let place = PAGE * page.room + first;
-            into.copy_from_slice(&self.bytes[place..place + into.len()]);
+            get(&self.bytes, PAGE * page.room + first, into);
         } else {
             self.read_pages(at, into);
         }
@@ -182,8 +181,7 @@ impl Image {
         if page.room == NOWHERE {
             into.fill(0);
         } else {
-            let place = PAGE * page.room + at % PAGE;
-            into.copy_from_slice(&self.bytes[place..place + into.len()]);
+            get(&self.bytes, PAGE * page.room + at % PAGE, into);
         }
     }
 

@@ -35,8 +35,8 @@ get_page-requires-clause-kept c =
     let here = range_kept pages (length inside.bytes.items) (at / 4096) e c.self.invariant.rooms page (omega (arith, some, ap (λ (p : Page). p.to) page, c.self.invariant.rooms.within (at / 4096))) in
     omega (arith, ap (λ (p : Page). p.room) page, whole_room pages (length inside.bytes.items) (at / 4096) c.self.invariant.rooms here, ap length c.deref.ensures.value)
 
-pub overflow_mul-place : goal.overflow_mul-place
-overflow_mul-place c =
+pub overflow_mul-page : goal.overflow_mul-page
+overflow_mul-page c =
     let inside = c.self.inside in
     let pages = inside.pages.items in
     let at = c.args.at in
@@ -45,8 +45,8 @@ overflow_mul-place c =
     let page : e ≡ nth_page pages (at / 4096) = get_or_read pages (at / 4096) e (omega (arith, c.self.invariant.listed, size, c.requires)) c.index-page.ensures unwritten in
     omega (arith, room_kept pages (length inside.bytes.items) (at / 4096) e c.self.invariant.rooms page c.if-page.true)
 
-pub overflow_add-place : goal.overflow_add-place
-overflow_add-place c =
+pub overflow_add-page : goal.overflow_add-page
+overflow_add-page c =
     let inside = c.self.inside in
     let pages = inside.pages.items in
     let at = c.args.at in
@@ -55,18 +55,8 @@ overflow_add-place c =
     let page : e ≡ nth_page pages (at / 4096) = get_or_read pages (at / 4096) e (omega (arith, c.self.invariant.listed, size, c.requires)) c.index-page.ensures unwritten in
     omega (arith, room_kept pages (length inside.bytes.items) (at / 4096) e c.self.invariant.rooms page c.if-page.true)
 
-pub overflow_add-place-then-into-first : goal.overflow_add-place-then-into-first
-overflow_add-place-then-into-first c =
-    let inside = c.self.inside in
-    let pages = inside.pages.items in
-    let at = c.args.at in
-    let e = c.index-page.result.now in
-    let size = size_is _ _ _ _ _ c.self.view_is in
-    let page : e ≡ nth_page pages (at / 4096) = get_or_read pages (at / 4096) e (omega (arith, c.self.invariant.listed, size, c.requires)) c.index-page.ensures unwritten in
-    omega (arith, room_kept pages (length inside.bytes.items) (at / 4096) e c.self.invariant.rooms page c.if-page.true, c.if-into-first.true)
-
-pub slice_bounds-copy_from_slice-end : goal.slice_bounds-copy_from_slice-end
-slice_bounds-copy_from_slice-end c =
+pub get-requires : goal.get-requires
+get-requires c =
     let inside = c.self.inside in
     let pages = inside.pages.items in
     let at = c.args.at in
@@ -105,7 +95,7 @@ returns-then-into-first c =
     let n = length c.args.into.now in
     let room = ap (λ (p : Page). p.room) page in
     let here = is_given pages (length inside.bytes.items) (at / 4096) c.self.invariant.rooms (λ far. c.if-page.true (room ∙ far)) in
-    c.copy_from_slice.ensures.after
+    c.get.ensures
     ∙ ap (λ (l : List ℕ). slice_range l (4096 * e.room + at % 4096) (4096 * e.room + at % 4096 + n)) c.deref-then-into-first.ensures.value
     ∙ ap (λ (r : ℕ). slice_range inside.bytes.items (4096 * r + at % 4096) (4096 * r + at % 4096 + n)) room
     ∙ sym (seen_range pages 0 inside.bytes.items at n inside.size c.self.invariant.rooms (omega (arith, c.if-into-first.true)) here (omega (arith, size, c.requires)))

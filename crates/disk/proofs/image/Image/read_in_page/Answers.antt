@@ -11,32 +11,24 @@ use Rattle.disk.proofs.image.Image.read_in_page.Goals as goal
 pub index-page-requires : goal.index-page-requires
 index-page-requires c = omega (arith, c.self.invariant.listed, size_is _ _ _ _ _ c.self.view_is, c.requires.range)
 
-pub overflow_mul-place : goal.overflow_mul-place
-overflow_mul-place c =
+pub overflow_mul-page : goal.overflow_mul-page
+overflow_mul-page c =
     let pages = c.self.inside.pages.items in
     let i = c.args.at / 4096 in
     let within : i < length pages = omega (arith, c.self.invariant.listed, size_is _ _ _ _ _ c.self.view_is, c.requires.range) in
     let page : c.index-page.result.now ≡ nth_page pages i = get_or_read pages i c.index-page.result.now within c.index-page.ensures unwritten in
     omega (arith, room_kept pages (length c.self.inside.bytes.items) i c.index-page.result.now c.self.invariant.rooms page c.if-page.false)
 
-pub overflow_add-place : goal.overflow_add-place
-overflow_add-place c =
+pub overflow_add-page : goal.overflow_add-page
+overflow_add-page c =
     let pages = c.self.inside.pages.items in
     let i = c.args.at / 4096 in
     let within : i < length pages = omega (arith, c.self.invariant.listed, size_is _ _ _ _ _ c.self.view_is, c.requires.range) in
     let page : c.index-page.result.now ≡ nth_page pages i = get_or_read pages i c.index-page.result.now within c.index-page.ensures unwritten in
     omega (arith, room_kept pages (length c.self.inside.bytes.items) i c.index-page.result.now c.self.invariant.rooms page c.if-page.false)
 
-pub overflow_add-place-else-page : goal.overflow_add-place-else-page
-overflow_add-place-else-page c =
-    let pages = c.self.inside.pages.items in
-    let i = c.args.at / 4096 in
-    let within : i < length pages = omega (arith, c.self.invariant.listed, size_is _ _ _ _ _ c.self.view_is, c.requires.range) in
-    let page : c.index-page.result.now ≡ nth_page pages i = get_or_read pages i c.index-page.result.now within c.index-page.ensures unwritten in
-    omega (arith, room_kept pages (length c.self.inside.bytes.items) i c.index-page.result.now c.self.invariant.rooms page c.if-page.false, c.requires.one)
-
-pub slice_bounds-copy_from_slice-end : goal.slice_bounds-copy_from_slice-end
-slice_bounds-copy_from_slice-end c =
+pub get-requires : goal.get-requires
+get-requires c =
     let pages = c.self.inside.pages.items in
     let i = c.args.at / 4096 in
     let within : i < length pages = omega (arith, c.self.invariant.listed, size_is _ _ _ _ _ c.self.view_is, c.requires.range) in
@@ -67,7 +59,7 @@ returns-else-page c =
     let within : at / 4096 < length pages = omega (arith, c.self.invariant.listed, size, c.requires.range) in
     let page : c.index-page.result.now ≡ nth_page pages (at / 4096) = get_or_read pages (at / 4096) c.index-page.result.now within c.index-page.ensures unwritten in
     let here = is_given pages (length inside.bytes.items) (at / 4096) c.self.invariant.rooms (λ e. c.if-page.false (ap (λ (p : Page). p.room) page ∙ e)) in
-    c.copy_from_slice.ensures.after
+    c.get.ensures
     ∙ ap (λ (l : List ℕ). slice_range l (4096 * c.index-page.result.now.room + at % 4096) (4096 * c.index-page.result.now.room + at % 4096 + n)) c.deref.ensures.value
     ∙ ap (λ (p : Page). slice_range inside.bytes.items (4096 * p.room + at % 4096) (4096 * p.room + at % 4096 + n)) page
     ∙ sym (seen_range pages 0 inside.bytes.items at n inside.size c.self.invariant.rooms c.requires.one here (omega (arith, size, c.requires.range)))
