@@ -73,6 +73,10 @@ range_kept pages n i page rooms is written =
           absurd (omega (arith, none, written)))
     ]
 
+pub in_range : (pages : List Page) (n i : ℕ) (page : Page) → HaveRooms pages n → page ≡ nth_page pages i → page.from < 4096 → 4096 * page.room + 4096 ≤ n
+in_range pages n i page rooms is written =
+    omega (arith, ap (λ (p : Page). p.room) is, whole_room pages n i rooms (range_kept pages n i page rooms is written))
+
 -- a page that had no room gets the next
 module _ (pages : List Page) (n i : ℕ) (page : Page) (rooms : HaveRooms pages n) (small : n < 2 ^ 64) (within : i < length pages) (nowhere : (nth_page pages i).room ≡ 2 ^ 64 - 1) (next : 4096 * page.room ≡ n) (from : page.from ≡ 4096) (to : page.to ≡ 0) where
   was : nth_page pages i ≡ unwritten

@@ -3,9 +3,9 @@ ghost use Rattle.std.specs.Prelude.{◌≡◌, ◌+◌, ◌-◌, ◌*◌, ◌≤
 ghost use Rattle.disk.specs.Disk.{put_at};
 ghost use Rattle.disk.specs.Filling.{spread, filled};
 ghost use Rattle.disk.specs.Marks.{all_marks};
-ghost use Rattle.disk.specs.Pages.{HaveRooms, seen};
+ghost use Rattle.disk.specs.Pages.{HaveRooms, BlankOutside, seen};
 
-use crate::pages::{NOWHERE, PAGE, Page};
+use crate::pages::{PAGE, Page};
 use crate::word::Word;
 
 /// Reads the bytes from `at` on.
@@ -87,7 +87,8 @@ fn put_in_turn(bytes: &mut Vec<u8>, at: usize, len: usize, first: usize, given: 
     }
 }
 
-/// The marked positions take the given bytes in turn. Pages that have no room, and words that mark nothing, are passed at once.
+/// The marked positions take the given bytes in turn. What lies outside the ranges of the pages, and words that mark nothing, are
+/// passed at once.
 pub fn fill_marked(
     bytes: &mut Vec<u8>,
     words: &Vec<Word>,
@@ -100,6 +101,7 @@ pub fn fill_marked(
     requires room { 4096 * length pages.now.items ≤ vec_capacity bytes.old }
     requires rooms { HaveRooms pages.now.items (length bytes.old.items) }
     requires words { length bytes.old.items ≡ 64 * length words.now.items }
+    requires blank { BlankOutside pages.now.items (seen pages.now.items 0 bytes.old.items size) (seen pages.now.items false (all_marks epoch words.now.items) size) }
     requires given { 0 < length given.now }
     ensures bytes { seen pages.now.items 0 bytes.new.items size
         ≡ filled given.now 0 (seen pages.now.items false (all_marks epoch words.now.items) size) (seen pages.now.items 0 bytes.old.items size) }
@@ -109,11 +111,14 @@ pub fn fill_marked(
     let mut next = 0;
     let mut i = 0;
     while i < size {
-        let room = pages[i / PAGE].room;
-        if room == NOWHERE {
-            i += PAGE - i % PAGE;
+        let page = pages[i / PAGE];
+        let first = i % PAGE;
+        if first < usize::from(page.from) {
+            i += PAGE.min(usize::from(page.from)) - first;
+        } else if usize::from(page.to) <= first {
+            i += PAGE - first;
         } else {
-            let place = PAGE * room + i % PAGE;
+            let place = PAGE * page.room + first;
             let word = words[place / 64];
             if word.counted(epoch) == 0 {
                 i += 64 - i % 64;
