@@ -8,6 +8,8 @@ mod changing;
 #[cfg(test)]
 mod files;
 #[cfg(test)]
+mod pages;
+#[cfg(test)]
 mod rows;
 #[cfg(test)]
 mod simulated;
