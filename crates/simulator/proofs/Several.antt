@@ -1,23 +1,22 @@
 -- Several events, of which the last alone may be answered.
-use Rattle.std.specs.Prelude.{◌-◌, All, IfSome, IsSome, replicate, slice_get, slice_index_or, take, drop}
-use Rattle.std.proofs.Common.{ℕ, zero, suc, ◌+◌, ◌<◌, ◌≤◌, ◌≡◌, Option, Some, None, List, [], ◌∷◌, ◌++◌, length, map, get_or, refl, sym, ap, ◌∙◌, subst, arith, append-nil, append_assoc, length-append}
+use Rattle.std.specs.Prelude.{◌-◌, All, IsSome, replicate, slice_get, slice_index_or, take, drop}
+use Rattle.std.proofs.Common.{ℕ, zero, suc, ◌+◌, ◌<◌, ◌≤◌, ◌≡◌, Option, Some, None, List, [], ◌∷◌, ◌++◌, length, get_or, refl, sym, ap, ◌∙◌, subst, arith, append-nil, length-append}
 use Rattle.std.proofs.lemmas.List.{map-append, take_all, take-append-le, take-take, take-map, drop-take, take-append-drop, take-replicate}
 use Rattle.std.proofs.lemmas.List.Elements.{All-push, All-weaker}
 use Rattle.slot_log.specs.Shape.{Shape}
 use Rattle.lock_script.specs.declared.event.Event as code
-use Rattle.host.specs.declared.answer.HostAnswer.{HostAnswer}
 use Rattle.host.specs.Host.{said_of, next_of}
 use Rattle.world.specs.Entry.{Filled}
 use Rattle.world.specs.World.{world}
-use Rattle.world.specs.Happens.{Event, Step, Line, entry_of, happens, happen, lines_at, answers_from}
-use Rattle.world.specs.Opening.{begun, run_of, world_after, answers_to}
+use Rattle.world.specs.Happens.{Event, Step, Line, entry_of, happen, lines_at, answers_from}
+use Rattle.world.specs.Opening.{begun, run_of, world_after}
 use Rattle.simulator.specs.declared.answer.Answer.{Answer}
 use Rattle.simulator.specs.declared.simulated_cluster.Said.{Said}
 use Rattle.simulator.specs.Answers.{line_of, IsPictured}
 use Rattle.simulator.specs.Events.{event_of, events_of, lines_of}
-use Rattle.simulator.specs.Kept.{Kept, IsHost, LeadsTo, Brings, BringsAll}
+use Rattle.simulator.specs.Kept.{Kept, LeadsTo, Brings, BringsAll}
 use Rattle.simulator.specs.Past.{Past, world_of, answers_of}
-use Rattle.simulator.specs.Replayed.{later, SaysLast, IsListed, Lists, Played, IsOf}
+use Rattle.simulator.specs.Replayed.{later, SaysLast, IsListed, Played, IsOf}
 use Rattle.simulator.specs.Sweeping.{TellsNext}
 use Rattle.simulator.proofs.Entries.{happen_on, answers_on, get_behind, before, after, Told, told}
 use Rattle.simulator.proofs.Lines.{runs_by}

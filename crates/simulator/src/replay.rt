@@ -1,4 +1,4 @@
-ghost use Rattle.std.specs.Prelude.{◌≡◌, ◌≢◌, ◌<◌, ◌≤◌, ◌∷◌, [], Some, None, length, slice_get, slice_index_or, take, replicate, is_some, IsSome, IfOk, IfSome, OnOk, true, false, IsTrue, ◌↔◌};
+ghost use Rattle.std.specs.Prelude.{◌≡◌, ◌≢◌, ◌<◌, ◌≤◌, ◌+◌, ◌^◌, ◌∷◌, [], Some, None, length, slice_get, slice_index_or, take, replicate, is_some, IsSome, IfOk, IfSome, OnOk, true, false, IsTrue, ◌↔◌};
 ghost use Rattle.torn_block.specs.declared.layout.TheConstants.{HOSTS};
 ghost use Rattle.std.specs.Option.{option_map};
 ghost use Rattle.host.specs.Host.{learned_of};
@@ -77,18 +77,17 @@ impl Replay {
 
     /// Lets an event happen, and tells what was said with it.
     pub fn happen(&mut self, alloc: Global, event: &Event) -> Result<Option<Said>, NoMemory>
+        requires { self.old.place + 1 < 2 ^ 64 }
+        ensures counted { OnOk result (self.new.place ≡ self.old.place + 1) }
         ensures happened { OnOk result (GoesOn self.old self.new (event_of event.now ∷ [])) }
         ensures said { IfOk result (λ said. (p : Past) → IsOf p self.old → Says p (later p (event_of event.now ∷ [])) said) }
         ensures runs { IfOk result (λ said. IfSome said (λ s. IsSome (slice_index_or self.new.cluster.hosts s.host None))) }
     {
-        let Some(next) = self.place.checked_add(1) else {
-            return Err(NoMemory);
-        };
         self.room.prepare(alloc, event)?;
         self.answers.reserve(1)?;
         let said = self.cluster.event(alloc, event)?;
         let place = self.place;
-        self.place = next;
+        self.place += 1;
         match said {
             Some(said) => {
                 let answer = self.room.listed(&self.cluster, place, said);
@@ -105,7 +104,9 @@ impl Replay {
 
     /// Lets events happen, one after the other.
     pub fn follow(&mut self, alloc: Global, events: &[Event]) -> Result<(), NoMemory>
-        ensures { OnOk result (GoesOn self.old self.new (events_of events.now)) }
+        requires { self.old.place + length events.now < 2 ^ 64 }
+        ensures counted { OnOk result (self.new.place ≡ self.old.place + length events.now) }
+        ensures happened { OnOk result (GoesOn self.old self.new (events_of events.now)) }
     {
         let mut from = 0;
         while from < events.len() {
@@ -117,7 +118,9 @@ impl Replay {
     /// Lets the first of some events happen. If it is a step of a host, so do the steps of that host right behind it, until
     /// something is said. Gives how many events happened.
     fn follow_first(&mut self, alloc: Global, events: &[Event]) -> Result<usize, NoMemory>
-        requires { 1 ≤ length events.now }
+        requires some { 1 ≤ length events.now }
+        requires room { self.old.place + length events.now < 2 ^ 64 }
+        ensures counted { IfOk result (λ many. self.new.place ≡ self.old.place + many) }
         ensures many { IfOk result (λ many. (1 ≤ many) × (many ≤ length events.now)) }
         ensures happened { IfOk result (λ many. GoesOn self.old self.new (events_of (take many events.now))) }
     {
@@ -142,20 +145,17 @@ impl Replay {
         host: HostNumber,
         most: usize,
     ) -> Result<(usize, Option<Said>), NoMemory>
-        requires { 1 ≤ most }
+        requires some { 1 ≤ most }
+        requires room { self.old.place + most < 2 ^ 64 }
+        ensures counted { IfOk result (λ steps. self.new.place ≡ self.old.place + steps.0) }
         ensures made { IfOk result (λ steps. (1 ≤ steps.0) × (steps.0 ≤ most)) }
         ensures happened { IfOk result (λ steps. GoesOn self.old self.new (replicate steps.0 (happens.Step host))) }
         ensures said { IfOk result (λ steps. (p : Past) → IsOf p self.old → SaysLast p (later p (replicate steps.0 (happens.Step host))) steps.1) }
         ensures runs { IfOk result (λ steps. IfSome steps.1 (λ s. IsSome (slice_index_or self.new.cluster.hosts s.host None))) }
     {
-        // No more than can be counted.
-        let left = usize::MAX - self.place;
-        if left == 0 {
-            return Err(NoMemory);
-        }
         self.room.prepare(alloc, &Event::Step(host))?;
         self.answers.reserve(1)?;
-        let (made, said) = self.cluster.steps(host, most.min(left));
+        let (made, said) = self.cluster.steps(host, most);
         self.place += made;
         match said {
             Some(said) => {
@@ -174,6 +174,7 @@ impl Replay {
     /// Stops all hosts, lets the first recover and then the last, and gives how often these answered, and whether all answers
     /// go by the longer of what they learned, where both answered.
     pub fn end(&mut self, alloc: Global) -> Result<(usize, bool), NoMemory>
+        requires { self.old.place ≤ 2 ^ 63 }
         ensures few { IfOk result (λ end. end.0 ≤ 2) }
         ensures recovered { IfOk result (λ end. (p : Past) → IsOf p self.old → end.0 ≡ recovered_behind p.opening p.events) }
         ensures right { IfOk result (λ end. end.1 ≡ true) }
@@ -211,7 +212,9 @@ impl Replay {
     }
 
     fn stop_all(&mut self, alloc: Global) -> Result<(), NoMemory>
-        ensures { OnOk result (GoesOn self.old self.new stops) }
+        requires { self.old.place + HOSTS < 2 ^ 64 }
+        ensures counted { OnOk result (self.new.place ≡ self.old.place + HOSTS) }
+        ensures happened { OnOk result (GoesOn self.old self.new stops) }
     {
         for number in 0..HOSTS {
             let Some(host) = HostNumber::new(number as u8) else {
@@ -222,9 +225,12 @@ impl Replay {
         Ok(())
     }
 
-    /// A stopped host starts, recovers and stops. Gives what it has learned, if it answers.
+    /// A stopped host starts, recovers and stops. Gives what it has learned, if it answers. The most steps are 17 for each of 7 disks
+    /// in each of 4,096 slots and once more.
     fn recover(&mut self, alloc: Global, number: u8) -> Result<Option<Vec<Command>>, NoMemory>
-        requires { number < HOSTS }
+        requires host { number < HOSTS }
+        requires room { self.old.place + 500000 < 2 ^ 64 }
+        ensures counted { OnOk result (self.new.place ≤ self.old.place + 500000) }
         ensures happened { OnOk result ((p : Past) → IsOf p self.old → IsOf (later p (recovery p.opening.shape number)) self.new) }
         ensures learned { IfOk result (λ learned. (p : Past) → IsOf p self.old → is_some learned ≡ recovers p.opening p.events number) }
         ensures kept { IfOk result (λ learned. (p : Past) → IsOf p self.old →
@@ -251,6 +257,8 @@ impl Replay {
         steps: usize,
         learned: &mut Option<Vec<Command>>,
     ) -> Result<(), NoMemory>
+        requires { self.old.place + steps < 2 ^ 64 }
+        ensures counted { OnOk result (self.new.place ≡ self.old.place + steps) }
         ensures happened { OnOk result (GoesOn self.old self.new (replicate steps (happens.Step host))) }
         ensures heard { OnOk result ((start p : Past) → IsOf p self.old → Heard start p (is_some learned.old) →
             Heard start (later p (replicate steps (happens.Step host))) (is_some learned.new)) }
@@ -260,7 +268,7 @@ impl Replay {
         let mut done = 0;
         while done < steps {
             if self.cluster.is_idle(host) {
-                self.pass(host, steps - done)?;
+                self.pass(host, steps - done);
                 return Ok(());
             }
             done += self.listen_steps(alloc, host, steps - done, learned)?;
@@ -277,7 +285,9 @@ impl Replay {
         most: usize,
         learned: &mut Option<Vec<Command>>,
     ) -> Result<usize, NoMemory>
-        requires { 1 ≤ most }
+        requires some { 1 ≤ most }
+        requires room { self.old.place + most < 2 ^ 64 }
+        ensures counted { IfOk result (λ made. self.new.place ≡ self.old.place + made) }
         ensures made { IfOk result (λ made. (1 ≤ made) × (made ≤ most)) }
         ensures happened { IfOk result (λ made. GoesOn self.old self.new (replicate made (happens.Step host))) }
         ensures heard { IfOk result (λ made. (start p : Past) → IsOf p self.old → Heard start p (is_some learned.old) →
@@ -295,16 +305,14 @@ impl Replay {
     }
 
     /// Lets so many calls of a host that makes none happen: nothing changes, and nothing is said.
-    fn pass(&mut self, host: HostNumber, steps: usize) -> Result<(), NoMemory>
-        requires { TellsNext host None self.old.cluster }
-        ensures happened { OnOk result (GoesOn self.old self.new (replicate steps (happens.Step host))) }
+    fn pass(&mut self, host: HostNumber, steps: usize)
+        requires idle { TellsNext host None self.old.cluster }
+        requires room { self.old.place + steps < 2 ^ 64 }
+        ensures counted { self.new.place ≡ self.old.place + steps }
+        ensures happened { GoesOn self.old self.new (replicate steps (happens.Step host)) }
         ensures quiet { (p : Past) → IsOf p self.old → answers_of (later p (replicate steps (happens.Step host))) ≡ answers_of p }
     {
-        let Some(place) = self.place.checked_add(steps) else {
-            return Err(NoMemory);
-        };
-        self.place = place;
-        Ok(())
+        self.place += steps;
     }
 
     /// Lets an event happen, and keeps what a host has learned, where it answers that it has recovered.
@@ -314,6 +322,8 @@ impl Replay {
         event: &Event,
         learned: &mut Option<Vec<Command>>,
     ) -> Result<(), NoMemory>
+        requires { self.old.place + 1 < 2 ^ 64 }
+        ensures counted { OnOk result (self.new.place ≡ self.old.place + 1) }
         ensures happened { OnOk result (GoesOn self.old self.new (event_of event.now ∷ [])) }
         ensures heard { OnOk result ((start p : Past) → IsOf p self.old → Heard start p (is_some learned.old) →
             Heard start (later p (event_of event.now ∷ [])) (is_some learned.new)) }

@@ -1,4 +1,5 @@
 ghost use Rattle.std.specs.Prelude.{◌≡◌, ◌+◌, ◌*◌, ◌≤◌, [], true, None, length, sum_by, IfOk, IfSome, IsSome, OnOk};
+ghost use Rattle.lock_script.specs.declared.events.TheConstants.{MOST_EVENTS};
 ghost use Rattle.simulator.specs.Events.{event_of, events_of, opening_of};
 ghost use Rattle.simulator.specs.Replayed.{IsOf};
 ghost use Rattle.simulator.specs.Sweeping.{changed, recovered_behind, variants};
@@ -62,6 +63,7 @@ fn sweep_place(
     requires kept { IfSome kept.old (λ replay. replay.cluster.shape ≡ config) }
     requires place { place ≤ length events.now }
     requires few { (length changes.now ≤ 6) × (sweep.old.runs ≤ 6000000) }
+    requires events { length events.now ≤ MOST_EVENTS }
     requires counted { (sweep.old.recovered ≤ 2 * sweep.old.runs) × (sweep.old.wrong ≤ sweep.old.runs) }
     ensures runs { OnOk result (sweep.new.runs ≡ sweep.old.runs + length changes.now) }
     ensures recovered { OnOk result (sweep.new.recovered ≡ sweep.old.recovered
@@ -91,6 +93,7 @@ fn run_variant(
     requires log { length log.now ≤ config.slots }
     requires kept { IfSome kept.old (λ replay. replay.cluster.shape ≡ config) }
     requires place { place ≤ length events.now }
+    requires events { length events.now ≤ MOST_EVENTS }
     ensures kept { OnOk result (IfSome kept.new (λ replay. replay.cluster.shape ≡ config)) }
     ensures few { IfOk result (λ end. end.0 ≤ 2) }
     ensures right { IfOk result (λ end. end.1 ≡ true) }

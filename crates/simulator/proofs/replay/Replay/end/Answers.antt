@@ -14,7 +14,7 @@ pub returns-in-Some-Some-clause-recovered : goal.returns-in-Some-Some-clause-rec
 returns-in-Some-Some-clause-recovered c =
     λ p is.
     let p1 : Past = later p stops in
-    let on = c.in_ok-stop_all.ensures p is in
+    let on = c.in_ok-stop_all.ensures.happened p is in
     ap₂ (λ (m n : ℕ). m + n) c.one_if.ensures.counted c.one_if-2.ensures.counted
     ∙ both_recovered p c.is_some.result c.is_some-2.result (c.is_some.ensures ∙ c.in_ok-first.ensures.learned p1 on)
     (c.is_some-2.ensures ∙ c.in_ok-last.ensures.learned (later p1 (recovery p.opening.shape 0)) (c.in_ok-first.ensures.happened p1 on))
@@ -24,14 +24,14 @@ returns-in-Some-Some-clause-shape c =
     let was = c.place-was.ensures in
     let p1 : Past = later was.past stops in
     let p2 : Past = later p1 (recovery p1.opening.shape 0) in
-    let now = c.in_ok-last.ensures.happened p2 (c.in_ok-first.ensures.happened p1 (c.in_ok-stop_all.ensures was.past was.is)) in
+    let now = c.in_ok-last.ensures.happened p2 (c.in_ok-first.ensures.happened p1 (c.in_ok-stop_all.ensures.happened was.past was.is)) in
     now.own ∙ sym was.is.own
 
 pub returns-clause-recovered : goal.returns-clause-recovered
 returns-clause-recovered c =
     λ p is.
     let p1 : Past = later p stops in
-    let on = c.in_ok-stop_all.ensures p is in
+    let on = c.in_ok-stop_all.ensures.happened p is in
     ap₂ (λ (m n : ℕ). m + n) c.one_if.ensures.counted c.one_if-2.ensures.counted
     ∙ both_recovered p c.is_some.result c.is_some-2.result (c.is_some.ensures ∙ c.in_ok-first.ensures.learned p1 on)
     (c.is_some-2.ensures ∙ c.in_ok-last.ensures.learned (later p1 (recovery p.opening.shape 0)) (c.in_ok-first.ensures.happened p1 on))
@@ -41,7 +41,7 @@ returns-clause-shape c =
     let was = c.place-was.ensures in
     let p1 : Past = later was.past stops in
     let p2 : Past = later p1 (recovery p1.opening.shape 0) in
-    let now = c.in_ok-last.ensures.happened p2 (c.in_ok-first.ensures.happened p1 (c.in_ok-stop_all.ensures was.past was.is)) in
+    let now = c.in_ok-last.ensures.happened p2 (c.in_ok-first.ensures.happened p1 (c.in_ok-stop_all.ensures.happened was.past was.is)) in
     now.own ∙ sym was.is.own
 
 pub returns-in-Some-Some-clause-right : goal.returns-in-Some-Some-clause-right
@@ -52,7 +52,7 @@ returns-in-Some-Some-clause-right c =
     let p1 : Past = later was.past stops in
     let p2 : Past = later p1 (recovery p1.opening.shape 0) in
     let p3 : Past = later p2 (recovery p2.opening.shape (HOSTS - 1)) in
-    let is1 = c.in_ok-stop_all.ensures was.past was.is in
+    let is1 = c.in_ok-stop_all.ensures.happened was.past was.is in
     let is2 = c.in_ok-first.ensures.happened p1 is1 in
     let is3 = c.in_ok-last.ensures.happened p2 is2 in
     let report = c.recover-2.new.self.report in

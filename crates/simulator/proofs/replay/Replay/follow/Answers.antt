@@ -16,14 +16,17 @@ loop-from-preserved c =
     let start = c.args.self.now in
     let events = c.args.events.now in
     let rest : take (length events - k) (drop k events) ≡ drop k events = take_all (length events - k) (drop k events) (omega (arith, length-drop k events)) in
-    let more = subst (λ (l : List Event). GoesOn at.self c.follow_first.new.self (events_of (take m l))) rest c.in_ok-from.ensures.happened in (
-      omega (arith, c.in_ok-from.ensures.many.1),
-      subst (GoesOn start c.follow_first.new.self) (events_further k m events)
-          (goes_further start at.self c.follow_first.new.self (events_of (take k events)) (events_of (take m (drop k events))) at.invariant.1 more),
-    )
+    let more = subst (λ (l : List Event). GoesOn at.self c.follow_first.new.self (events_of (take m l))) rest c.in_ok-from.ensures.happened in
+    record {
+      within = omega (arith, c.in_ok-from.ensures.many.1);
+      counted = omega (arith, c.in_ok-from.ensures.counted);
+      happened =
+          subst (GoesOn start c.follow_first.new.self) (events_further k m events)
+          (goes_further start at.self c.follow_first.new.self (events_of (take k events)) (events_of (take m (drop k events))) at.invariant.happened more);
+    }
 
-pub returns : goal.returns
-returns c =
+pub returns-clause-happened : goal.returns-clause-happened
+returns-clause-happened c =
     let events = c.args.events.now in
     let all = take_all c.loop-from.from events (omega (arith, c.loop-from-test.false)) in
-    subst (GoesOn c.args.self.now c.loop-from.self) (ap events_of all) c.loop-from.invariant.1
+    subst (GoesOn c.args.self.now c.loop-from.self) (ap events_of all) c.loop-from.invariant.happened

@@ -1,5 +1,5 @@
 use Rattle.std.specs.Prelude.{IsSome, slice_index_or}
-use Rattle.std.proofs.Common.{ℕ, ◌+◌, ◌≡◌, List, [], ◌∷◌, ◌++◌, Some, None, sym, ap, ◌∙◌, subst}
+use Rattle.std.proofs.Common.{◌+◌, ◌≡◌, List, [], ◌∷◌, ◌++◌, Some, None, sym, ap, ◌∙◌, subst}
 use Rattle.world.specs.Entry.{Filled}
 use Rattle.world.specs.Happens.{Line}
 use Rattle.world.specs.Opening.{run_of}
@@ -19,9 +19,9 @@ listed-answer-requires-clause-room c =
     let event = event_of c.args.event.now in
     let was = c.self.invariant.1 in
     let log = run_of was.past.opening was.past.events in
-    let brings : Brings log event s.cluster c.event.new.self (Some c.in-Some-said.said) =
-    subst (Brings log event s.cluster c.event.new.self) c.in-Some-said.is (c.in_ok-said.ensures.brings log was.is.leads) in
-    λ tells. c.in_ok-prepare.ensures (only_learning log event s.cluster c.event.new.self c.in-Some-said.said brings tells)
+    let brings : Brings log event s.cluster c.event.new.self (Some c.in-Some.said) =
+    subst (Brings log event s.cluster c.event.new.self) c.in-Some.is (c.in_ok-said.ensures.brings log was.is.leads) in
+    λ tells. c.in_ok-prepare.ensures (only_learning log event s.cluster c.event.new.self c.in-Some.said brings tells)
 
 pub listed-answer-requires-clause-runs : goal.listed-answer-requires-clause-runs
 listed-answer-requires-clause-runs c =
@@ -29,30 +29,29 @@ listed-answer-requires-clause-runs c =
     let event = event_of c.args.event.now in
     let was = c.self.invariant.1 in
     let log = run_of was.past.opening was.past.events in
-    let brings : Brings log event s.cluster c.event.new.self (Some c.in-Some-said.said) =
-    subst (Brings log event s.cluster c.event.new.self) c.in-Some-said.is (c.in_ok-said.ensures.brings log was.is.leads) in
-    speaker_runs log event s.cluster c.event.new.self c.in-Some-said.said brings
+    let brings : Brings log event s.cluster c.event.new.self (Some c.in-Some.said) =
+    subst (Brings log event s.cluster c.event.new.self) c.in-Some.is (c.in_ok-said.ensures.brings log was.is.leads) in
+    speaker_runs log event s.cluster c.event.new.self c.in-Some.said brings
 
 -- what is then, where something is said
 then_said : (c : goal.After-push_reserved) (p : Past) → IsOf p (record { cluster = c.self.inside.cluster; place = c.self.inside.place; report = c.self.inside.answers.items })
-    → IsOf (later p (event_of c.args.event.now ∷ [])) (record { cluster = c.event.new.self; place = c.in-Some.next; report = c.push_reserved.new.self.items })
+    → IsOf (later p (event_of c.args.event.now ∷ [])) (record { cluster = c.event.new.self; place = c.self.inside.place + 1; report = c.push_reserved.new.self.items })
 then_said c p is =
     let s = c.self.inside in
     let event = event_of c.args.event.now in
     let new = c.event.new.self in
     let now : Past = later p (event ∷ []) in
     let old : Played = record { cluster = s.cluster; place = s.place; report = s.answers.items } in
-    let brings : (log : List Filled) → LeadsTo log s.cluster → Brings log event s.cluster new (Some c.in-Some-said.said) =
-    λ log leads. subst (Brings log event s.cluster new) c.in-Some-said.is (c.in_ok-said.ensures.brings log leads) in
+    let brings : (log : List Filled) → LeadsTo log s.cluster → Brings log event s.cluster new (Some c.in-Some.said) =
+    λ log leads. subst (Brings log event s.cluster new) c.in-Some.is (c.in_ok-said.ensures.brings log leads) in
     let items : c.push_reserved.new.self.items ≡ s.answers.items ++ c.listed-answer.result ∷ [] =
     c.push_reserved.ensures.items ∙ ap (λ (l : List Answer). l ++ c.listed-answer.result ∷ []) c.reserve.ensures.items in
-    subst (λ (n : ℕ). IsOf now (record { cluster = new; place = n; report = c.push_reserved.new.self.items })) (sym c.in-Some.ensures.1)
-    (subst (λ (l : List Answer). IsOf now (record { cluster = new; place = s.place + 1; report = l })) (sym items)
-    (plays_one p event old new is c.in-Some-said.said c.listed-answer.result brings c.listed-answer.ensures.line c.listed-answer.ensures.picture))
+    subst (λ (l : List Answer). IsOf now (record { cluster = new; place = s.place + 1; report = l })) (sym items)
+    (plays_one p event old new is c.in-Some.said c.listed-answer.result brings c.listed-answer.ensures.line c.listed-answer.ensures.picture)
 
 -- and where nothing is
 then_nothing : (c : goal.In-None) (p : Past) → IsOf p (record { cluster = c.self.inside.cluster; place = c.self.inside.place; report = c.self.inside.answers.items })
-    → IsOf (later p (event_of c.args.event.now ∷ [])) (record { cluster = c.event.new.self; place = c.in-Some.next; report = c.reserve.new.self.items })
+    → IsOf (later p (event_of c.args.event.now ∷ [])) (record { cluster = c.event.new.self; place = c.self.inside.place + 1; report = c.reserve.new.self.items })
 then_nothing c p is =
     let s = c.self.inside in
     let event = event_of c.args.event.now in
@@ -61,11 +60,10 @@ then_nothing c p is =
     let old : Played = record { cluster = s.cluster; place = s.place; report = s.answers.items } in
     let brings : (log : List Filled) → LeadsTo log s.cluster → Brings log event s.cluster new None =
     λ log leads. subst (Brings log event s.cluster new) c.in-None.is (c.in_ok-said.ensures.brings log leads) in
-    subst (λ (n : ℕ). IsOf now (record { cluster = new; place = n; report = c.reserve.new.self.items })) (sym c.in-Some.ensures.1)
-    (subst (λ (l : List Answer). IsOf now (record { cluster = new; place = s.place + 1; report = l })) (sym c.reserve.ensures.items) (plays_nothing p event old new is brings))
+    subst (λ (l : List Answer). IsOf now (record { cluster = new; place = s.place + 1; report = l })) (sym c.reserve.ensures.items) (plays_nothing p event old new is brings)
 
-pub invariant_of-self-in-Some-said : goal.invariant_of-self-in-Some-said
-invariant_of-self-in-Some-said c =
+pub invariant_of-self-in-Some : goal.invariant_of-self-in-Some
+invariant_of-self-in-Some c =
     let was = c.self.invariant.1 in
     let on = then_said c was.past was.is in
     (c.self.invariant.0 ∙ was.is.own ∙ sym on.own, record { past = later was.past (event_of c.args.event.now ∷ []); is = on })
@@ -76,31 +74,31 @@ invariant_of-self-in-None c =
     let on = then_nothing c was.past was.is in
     (c.self.invariant.0 ∙ was.is.own ∙ sym on.own, record { past = later was.past (event_of c.args.event.now ∷ []); is = on })
 
-pub returns-in-Some-said-clause-happened : goal.returns-in-Some-said-clause-happened
-returns-in-Some-said-clause-happened c = λ p is. then_said c p (subst (IsOf p) (sym c.self.view_is) is)
+pub returns-in-Some-clause-happened : goal.returns-in-Some-clause-happened
+returns-in-Some-clause-happened c = λ p is. then_said c p (subst (IsOf p) (sym c.self.view_is) is)
 
-pub returns-in-Some-said-clause-said : goal.returns-in-Some-said-clause-said
-returns-in-Some-said-clause-said c =
+pub returns-in-Some-clause-said : goal.returns-in-Some-clause-said
+returns-in-Some-clause-said c =
     let s = c.self.inside in
     let event = event_of c.args.event.now in
     let new = c.event.new.self in
     let old : Played = record { cluster = s.cluster; place = s.place; report = s.answers.items } in
-    let brings : (log : List Filled) → LeadsTo log s.cluster → Brings log event s.cluster new (Some c.in-Some-said.said) =
-    λ log leads. subst (Brings log event s.cluster new) c.in-Some-said.is (c.in_ok-said.ensures.brings log leads) in
+    let brings : (log : List Filled) → LeadsTo log s.cluster → Brings log event s.cluster new (Some c.in-Some.said) =
+    λ log leads. subst (Brings log event s.cluster new) c.in-Some.is (c.in_ok-said.ensures.brings log leads) in
     λ p is.
     subst (λ (x : Line). Says p (later p (event ∷ [])) (Some (record { host = x.host; answer = x.said }))) (sym c.listed-answer.ensures.line)
-    (plays_says p event old new (subst (IsOf p) (sym c.self.view_is) is) (Some c.in-Some-said.said) brings)
+    (plays_says p event old new (subst (IsOf p) (sym c.self.view_is) is) (Some c.in-Some.said) brings)
 
-pub returns-in-Some-said-clause-runs : goal.returns-in-Some-said-clause-runs
-returns-in-Some-said-clause-runs c =
+pub returns-in-Some-clause-runs : goal.returns-in-Some-clause-runs
+returns-in-Some-clause-runs c =
     let s = c.self.inside in
     let event = event_of c.args.event.now in
     let was = c.self.invariant.1 in
     let log = run_of was.past.opening was.past.events in
-    let brings : Brings log event s.cluster c.event.new.self (Some c.in-Some-said.said) =
-    subst (Brings log event s.cluster c.event.new.self) c.in-Some-said.is (c.in_ok-said.ensures.brings log was.is.leads) in
+    let brings : Brings log event s.cluster c.event.new.self (Some c.in-Some.said) =
+    subst (Brings log event s.cluster c.event.new.self) c.in-Some.is (c.in_ok-said.ensures.brings log was.is.leads) in
     subst (λ (x : Line). IsSome (slice_index_or c.event.new.self.hosts x.host None)) (sym c.listed-answer.ensures.line)
-    (speaker_runs log event s.cluster c.event.new.self c.in-Some-said.said brings)
+    (speaker_runs log event s.cluster c.event.new.self c.in-Some.said brings)
 
 pub returns-in-None-clause-happened : goal.returns-in-None-clause-happened
 returns-in-None-clause-happened c = λ p is. then_nothing c p (subst (IsOf p) (sym c.self.view_is) is)

@@ -19,7 +19,7 @@ listed-answer-requires-clause-runs c =
     let made = replicate c.steps-made.result.0 (Step c.args.host) in
     let old : Played = record { cluster = s.cluster; place = s.place; report = s.answers.items } in
     let new = c.steps-made.new.self in
-    let least : 1 ≤ c.steps-made.result.0 = c.steps-made.ensures.some (omega (arith, c.min.ensures, c.requires, c.if-left-eq0.false)) in
+    let least : 1 ≤ c.steps-made.result.0 = c.steps-made.ensures.some c.requires.some in
     let some : 1 ≤ length made = omega (arith, least, length-replicate c.steps-made.result.0 (Step c.args.host)) in
     let brings : (log : List Filled) → LeadsTo log s.cluster → BringsAll log made s.cluster new (Some c.in-Some.said) =
     λ log leads. subst (BringsAll log made s.cluster new) c.in-Some.is (c.steps-made.ensures.brings log leads) in
@@ -36,7 +36,7 @@ then_said c p is =
     let made = replicate n (Step c.args.host) in
     let old : Played = record { cluster = s.cluster; place = s.place; report = s.answers.items } in
     let new = c.steps-made.new.self in
-    let least : 1 ≤ n = c.steps-made.ensures.some (omega (arith, c.min.ensures, c.requires, c.if-left-eq0.false)) in
+    let least : 1 ≤ n = c.steps-made.ensures.some c.requires.some in
     let some : 1 ≤ length made = omega (arith, least, length-replicate n (Step c.args.host)) in
     let brings : (log : List Filled) → LeadsTo log s.cluster → BringsAll log made s.cluster new (Some c.in-Some.said) =
     λ log leads. subst (BringsAll log made s.cluster new) c.in-Some.is (c.steps-made.ensures.brings log leads) in
@@ -82,7 +82,7 @@ returns-in-Some-clause-said c =
     let made = replicate c.steps-made.result.0 (Step c.args.host) in
     let old : Played = record { cluster = s.cluster; place = s.place; report = s.answers.items } in
     let new = c.steps-made.new.self in
-    let least : 1 ≤ c.steps-made.result.0 = c.steps-made.ensures.some (omega (arith, c.min.ensures, c.requires, c.if-left-eq0.false)) in
+    let least : 1 ≤ c.steps-made.result.0 = c.steps-made.ensures.some c.requires.some in
     let some : 1 ≤ length made = omega (arith, least, length-replicate c.steps-made.result.0 (Step c.args.host)) in
     let brings : (log : List Filled) → LeadsTo log s.cluster → BringsAll log made s.cluster new (Some c.in-Some.said) =
     λ log leads. subst (BringsAll log made s.cluster new) c.in-Some.is (c.steps-made.ensures.brings log leads) in
@@ -96,7 +96,7 @@ returns-in-Some-clause-runs c =
     let made = replicate c.steps-made.result.0 (Step c.args.host) in
     let old : Played = record { cluster = s.cluster; place = s.place; report = s.answers.items } in
     let new = c.steps-made.new.self in
-    let least : 1 ≤ c.steps-made.result.0 = c.steps-made.ensures.some (omega (arith, c.min.ensures, c.requires, c.if-left-eq0.false)) in
+    let least : 1 ≤ c.steps-made.result.0 = c.steps-made.ensures.some c.requires.some in
     let some : 1 ≤ length made = omega (arith, least, length-replicate c.steps-made.result.0 (Step c.args.host)) in
     let brings : (log : List Filled) → LeadsTo log s.cluster → BringsAll log made s.cluster new (Some c.in-Some.said) =
     λ log leads. subst (BringsAll log made s.cluster new) c.in-Some.is (c.steps-made.ensures.brings log leads) in

@@ -19,6 +19,7 @@ pub returns-in_default-answer : goal.returns-in_default-answer
 returns-in_default-answer c =
     let e = event_of c.args.event.now in
     record {
+      counted = c.in_ok-said.ensures.counted;
       happened = c.in_ok-said.ensures.happened;
       heard = λ start p is heard.
           hears_other start p (later p (e ∷ [])) _ c.in-Some.said c.in_default-answer.not-Recovered (subst (Says p (later p (e ∷ []))) c.in-Some.is (c.in_ok-said.ensures.said p is)) heard;

@@ -1,11 +1,31 @@
 use Rattle.std.specs.Prelude.{is_some, ◌*◌}
-use Rattle.std.proofs.Common.{ℕ, ◌+◌, ◌≡◌, ap, ◌∙◌}
+use Rattle.std.proofs.Common.{ℕ, ◌+◌, ◌≡◌, ◌≤◌, ap, ◌∙◌, arith}
+use Rattle.std.proofs.lemmas.Nat.{mul-le}
 use Rattle.slot_log.specs.Shape.{Shape}
 use Rattle.simulator.specs.Replayed.{Heard, HasKept, Played}
 use Rattle.simulator.specs.Sweeping.{recovery}
 use Rattle.simulator.proofs.Covering.{nothing_kept}
 use Rattle.simulator.proofs.Replaying.{recovery_on, recovery_keeps, heard_nothing, all_heard}
 use Rattle.simulator.proofs.replay.Replay.recover.Goals as goal
+
+-- the steps of a recovery are 17 for each disk in each slot and once more
+few_steps : (disks slots : ℕ) → disks ≤ 7 → slots ≤ 4096 → 17 * disks * (slots + 1) ≤ 487543
+few_steps disks slots few least = mul-le (17 * disks) (slots + 1) 119 4097 (omega arith) (omega arith)
+
+pub step-requires : goal.step-requires
+step-requires c =
+    let few = few_steps c.from.result c.from-2.result (omega (arith, c.from.ensures, c.disks.ensures.range)) (omega (arith, c.from-2.ensures, c.slots.ensures.range)) in
+    omega (arith, few, c.in_ok-listen.ensures.counted, c.in_ok-listen-2.ensures.counted)
+
+pub listen-requires-3 : goal.listen-requires-3
+listen-requires-3 c =
+    let few = few_steps c.from.result c.from-2.result (omega (arith, c.from.ensures, c.disks.ensures.range)) (omega (arith, c.from-2.ensures, c.slots.ensures.range)) in
+    omega (arith, few, c.in_ok-listen.ensures.counted, c.in_ok-listen-2.ensures.counted, c.in_ok-step.ensures.counted)
+
+pub returns-clause-counted : goal.returns-clause-counted
+returns-clause-counted c =
+    let few = few_steps c.from.result c.from-2.result (omega (arith, c.from.ensures, c.disks.ensures.range)) (omega (arith, c.from-2.ensures, c.slots.ensures.range)) in
+    omega (arith, few, c.in_ok-listen.ensures.counted, c.in_ok-listen-2.ensures.counted, c.in_ok-step.ensures.counted, c.in_ok-listen-3.ensures.counted)
 
 pub returns-clause-happened : goal.returns-clause-happened
 returns-clause-happened c =

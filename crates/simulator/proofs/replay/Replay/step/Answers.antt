@@ -19,7 +19,7 @@ returns-then-is_idle-clause-happened c =
     let all : k + rest ≡ c.args.steps = omega (arith, c.loop-done-test.true) in
     λ p is.
     subst (λ (q : Past). IsOf q c.pass.new.self) (later_steps p h k rest c.args.steps all)
-    (c.in_ok-pass.ensures.happened (later p (replicate k (Step h))) (c.loop-done.invariant.happened p is))
+    (c.pass.ensures.happened (later p (replicate k (Step h))) (c.loop-done.invariant.happened p is))
 
 pub returns-then-is_idle-clause-heard : goal.returns-then-is_idle-clause-heard
 returns-then-is_idle-clause-heard c =
@@ -31,7 +31,7 @@ returns-then-is_idle-clause-heard c =
     let here : Past = later p (replicate k (Step h)) in
     subst (λ (q : Past). Heard start q (is_some c.loop-done.learned)) (later_steps p h k rest c.args.steps all)
     (heard_still start here (later here (replicate rest (Step h))) (is_some c.loop-done.learned)
-    (c.in_ok-pass.ensures.quiet here (c.loop-done.invariant.happened p is)) (c.loop-done.invariant.heard start p is heard))
+    (c.pass.ensures.quiet here (c.loop-done.invariant.happened p is)) (c.loop-done.invariant.heard start p is heard))
 
 pub returns-then-is_idle-clause-kept : goal.returns-then-is_idle-clause-kept
 returns-then-is_idle-clause-kept c =
@@ -56,6 +56,7 @@ loop-done-preserved c =
     let here : Past → Past = λ p. later p (replicate k (Step h)) in
     record {
       within = omega (arith, c.in_ok-done.ensures.made.1, c.loop-done-test.true);
+      counted = omega (arith, c.in_ok-done.ensures.counted);
       happened = λ p is. subst (λ (q : Past). IsOf q c.listen_steps.new.self) (one p h k m) (c.in_ok-done.ensures.happened (here p) (c.loop-done.invariant.happened p is));
       heard = λ start p is heard.
           subst (λ (q : Past). Heard start q (is_some c.listen_steps.new.learned)) (one p h k m)

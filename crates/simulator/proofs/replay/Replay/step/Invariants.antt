@@ -1,6 +1,6 @@
 use Rattle.std.specs.Prelude.{replicate, is_some}
 use Rattle.std.specs.Option.{option_map}
-use Rattle.std.proofs.Common.{◌≤◌, ◌-◌}
+use Rattle.std.proofs.Common.{◌≡◌, ◌≤◌, ◌+◌, ◌-◌}
 use Rattle.world.specs.Happens.{Step}
 use Rattle.simulator.specs.Past.{Past}
 use Rattle.simulator.specs.Replayed.{later, IsOf, GoesOn, Heard, HasKept}
@@ -9,6 +9,7 @@ use Rattle.simulator.proofs.replay.Replay.step.Given as goal
 abbrev pub invariant-loop-done : goal.invariant-loop-done
 invariant-loop-done l = record {
   within : l.done ≤ l.fn.steps;
+  counted : l.self.place ≡ l.initial.self.place + l.done;
   happened : GoesOn l.initial.self l.self (replicate l.done (Step l.fn.host));
   heard : (start p : Past) → IsOf p l.initial.self → Heard start p (is_some l.initial.learned)
       → Heard start (later p (replicate l.done (Step l.fn.host))) (is_some l.learned);

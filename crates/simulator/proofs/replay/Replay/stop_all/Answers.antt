@@ -13,5 +13,9 @@ loop-number-preserved c =
     let start = c.args.self.now in
     let one_more : map Stop (range_with_len 0 at.number) ++ Stop c.in-Some.host ∷ [] ≡ map Stop (range_with_len 0 (at.number + 1)) =
     ap (λ (h : ℕ). map Stop (range_with_len 0 at.number) ++ Stop h ∷ []) c.in-Some.ensures.host.1 ∙ sym (map-range_with_len_more Stop 0 at.number at.number (omega arith)) in
-    subst (GoesOn start c.happen.new.self) one_more
-    (goes_further start at.self c.happen.new.self (map Stop (range_with_len 0 at.number)) (Stop c.in-Some.host ∷ []) at.invariant c.in_ok-happen.ensures.happened)
+    record {
+      counted = omega (arith, c.in_ok-happen.ensures.counted);
+      happened =
+          subst (GoesOn start c.happen.new.self) one_more
+          (goes_further start at.self c.happen.new.self (map Stop (range_with_len 0 at.number)) (Stop c.in-Some.host ∷ []) at.invariant.happened c.in_ok-happen.ensures.happened);
+    }
