@@ -19,10 +19,11 @@ home pages k = 4096 * (nth_page pages (k / 4096)).room + k % 4096
 unfoldable pub seen : {X : Type 0} → List Page → X → List X → ℕ → List X
 seen pages blank kept size = map (λ k. slice_index_or kept (home pages k) blank) (range_with_len 0 size)
 
+-- a page that was written has room
 abbrev pub has_room : Page → Bool
 has_room page = nat_lt page.room (2 ^ 64 - 1)
 
--- n positions are kept: each page that has room has 4,096 of them to itself
+-- n positions are kept: each page that has room has 4,096 of them to itself, and no range goes beyond its page
 pub record HaveRooms (pages : List Page) (n : ℕ) : Type 0 where
   pub own : (i j : ℕ) → (nth_page pages i).room ≡ (nth_page pages j).room → 4096 * (nth_page pages i).room < n → i ≡ j
   pub others : (i : ℕ) → n ≤ 4096 * (nth_page pages i).room → nth_page pages i ≡ unwritten

@@ -18,7 +18,7 @@ pub struct Image {
     bytes: Vec<u8>,
     /// A word for each 64 of these bytes.
     words: Vec<Word>,
-    /// All pages of the disk, and one more, in which positions at its very end lie.
+    /// The pages of the disk, up to the one in which the position behind its last byte lies.
     pages: Vec<Page>,
     size: usize,
     epoch: u64,
@@ -112,6 +112,7 @@ impl Image {
             put(&mut self.bytes, place, from);
             mark(&mut self.words, place, place + from.len(), self.epoch);
         } else {
+            // As many bytes are given as the range has, so each takes its own.
             self.fill(at, from.len(), from);
         }
     }

@@ -20,6 +20,7 @@ pub fn mark(words: &mut Vec<Word>, at: usize, end: usize, epoch: u64)
 {
     let mut index = at / 64;
     let mut from = at % 64;
+    // Counted from the first place of the word.
     let mut left = end - 64 * index;
     while left > 64 {
         words[index] = words[index].marked(epoch, from, 64);

@@ -1,5 +1,5 @@
-ghost use Rattle.std.specs.Prelude.{◌≡◌, ◌↔◌, ◌+◌, ◌≤◌, ◌<◌, ◌^◌, true, false, Some, None, length, slice_range, IfOk};
-ghost use Rattle.disk.specs.Disk.{Torn, Crashes, written, synced, lost};
+ghost use Rattle.std.specs.Prelude.{◌≡◌, ◌↔◌, ◌+◌, ◌≤◌, ◌<◌, ◌^◌, true, false, Some, None, length, IfOk};
+ghost use Rattle.disk.specs.Disk.{Torn, Crashes, lost};
 ghost use Rattle.disk.specs.Simulated.{fresh_disk, filling, crashed, items_of, refusal_under, TakesFailure};
 
 use crate::image::Image;
@@ -11,8 +11,8 @@ use std::marker::Model;
 const LAST_BOOT: u64 = 1 << 62;
 
 /// A disk in memory, which fails, tears, crashes and is lost when a test or a script says so. No call after `new` takes
-/// memory. Only `crash` does work that grows with the disk. A write or tear takes the time of its bytes, and of the pages that it
-/// is the first to touch.
+/// memory. Only `crash` and `renew` do work that grows with the disk: they pass its pages. A write or tear takes the time of its
+/// bytes, and of the pages that it is the first to touch.
 ///
 /// Where a list of bytes fills positions, the i-th of them in rising order, from 0, takes byte `i mod len` of the list.
 #[derive(Drop)]
