@@ -22,7 +22,7 @@ use Rattle.simulator.specs.Answers.{line_of, lines_in, IsPictured}
 use Rattle.simulator.specs.Events.{lines_of}
 use Rattle.simulator.specs.Past.{Past, world_of, answers_of}
 use Rattle.simulator.specs.Kept.{Kept, LeadsTo, Brings}
-use Rattle.simulator.specs.Replayed.{later, Says, Heard, IsListed, Lists, Played, IsOf, GoesOn}
+use Rattle.simulator.specs.Replayed.{later, Says, Heard, IsListed, Lists, AddsAnswer, Played, IsOf, GoesOn}
 use Rattle.simulator.specs.Sweeping.{TellsNext, told_call, is_recovery, recovery, recovers, recovered_behind, one_if, stops}
 use Rattle.simulator.proofs.Entries.{happen_on, answers_on, one_answer_more}
 use Rattle.simulator.proofs.Lines.{behind}
@@ -255,22 +255,23 @@ module _ (p : Past) (event : Event) (old : Played) (new : Kept) (is : IsOf p old
       }
 
   -- something is said, and listed with its picture
-  pub plays_one : (said : Said) (a : Answer) → ((log : List Filled) → LeadsTo log old.cluster → Brings log event old.cluster new (Some said))
-      → line_of a ≡ record { place = old.place; host = said.host; said = said.answer }
-      → ((log : List Filled) → LeadsTo log new → IsPictured (world new.shape log) a)
-      → IsOf now (record { cluster = new; place = old.place + 1; report = old.report ++ a ∷ [] })
-  plays_one said a brings line pictured =
+  pub plays_one : (said : Said) (report : List Answer) → ((log : List Filled) → LeadsTo log old.cluster → Brings log event old.cluster new (Some said))
+      → AddsAnswer new old.place said old.report report → IsOf now (record { cluster = new; place = old.place + 1; report = report })
+  plays_one said report brings adds =
+      let a : Answer = adds.answer in
       let leads = leads_on (Some said) brings in
       let own = own_on (Some said) brings in
-      let picture : IsPictured (world_of now) a = subst (λ (s : Shape). IsPictured (world s (run_of p.opening now.events)) a) own (pictured (run_of p.opening now.events) leads) in
+      let picture : IsPictured (world_of now) a = subst (λ (s : Shape). IsPictured (world s (run_of p.opening now.events)) a) own (adds.picture (run_of p.opening now.events) leads) in
       let listed : lines_of (length p.events) (Some said) ≡ line_of a ∷ [] =
-      ap (λ (n : ℕ). lines_of n (Some said)) (sym is.many) ∙ ap (λ (x : Line). x ∷ []) (sym line) in
+      ap (λ (n : ℕ). lines_of n (Some said)) (sym is.many) ∙ ap (λ (x : Line). x ∷ []) (sym adds.line) in
       record {
         can = is.can;
         own = own;
         leads = leads;
         many = one_more;
-        lists = lists_one p event old.report is.lists a (answers_then (Some said) brings ∙ ap (λ (l : List Line). answers_of p ++ l) listed) picture;
+        lists =
+            subst (Lists now) (sym adds.added)
+            (lists_one p event old.report is.lists a (answers_then (Some said) brings ∙ ap (λ (l : List Line). answers_of p ++ l) listed) picture);
       }
 
 -- CALLS OF A HOST THAT MAKES NONE

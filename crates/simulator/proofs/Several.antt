@@ -1,7 +1,7 @@
 -- Several events, of which the last alone may be answered.
 use Rattle.std.specs.Prelude.{◌-◌, All, IsSome, replicate, slice_get, slice_index_or, take, drop}
 use Rattle.std.proofs.Common.{ℕ, zero, suc, ◌+◌, ◌<◌, ◌≤◌, ◌≡◌, Option, Some, None, List, [], ◌∷◌, ◌++◌, length, get_or, refl, sym, ap, ◌∙◌, subst, arith, append-nil, length-append}
-use Rattle.std.proofs.lemmas.List.{map-append, take_all, take-append-le, take-take, take-map, drop-take, take-append-drop, take-replicate}
+use Rattle.std.proofs.lemmas.List.{map-append, take_all, take-append-le, take-take, take-map, drop-take, take-append-drop, take-replicate, length-replicate}
 use Rattle.std.proofs.lemmas.List.Elements.{All-push, All-weaker}
 use Rattle.slot_log.specs.Shape.{Shape}
 use Rattle.lock_script.specs.declared.event.Event as code
@@ -16,7 +16,7 @@ use Rattle.simulator.specs.Answers.{line_of, IsPictured}
 use Rattle.simulator.specs.Events.{event_of, events_of, lines_of}
 use Rattle.simulator.specs.Kept.{Kept, LeadsTo, Brings, BringsAll}
 use Rattle.simulator.specs.Past.{Past, world_of, answers_of}
-use Rattle.simulator.specs.Replayed.{later, SaysLast, IsListed, Played, IsOf}
+use Rattle.simulator.specs.Replayed.{later, SaysLast, IsListed, Lists, AddsAnswer, Played, IsOf}
 use Rattle.simulator.specs.Sweeping.{TellsNext}
 use Rattle.simulator.proofs.Entries.{happen_on, answers_on, get_behind, before, after, Told, told}
 use Rattle.simulator.proofs.Lines.{runs_by}
@@ -233,28 +233,63 @@ module _ (p : Past) (events : List Event) (old : Played) (new : Kept) (is : IsOf
         runs_by new.shape said.host _ _ said.answer says (leads.shows.hosts said.host)
 
     -- it is listed with its picture
-    pub goes_spoken : (a : Answer) (place : ℕ) → place ≡ old.place + length events → line_of a ≡ record { place = place - 1; host = said.host; said = said.answer }
-        → ((log : List Filled) → LeadsTo log new → IsPictured (world new.shape log) a)
-        → IsOf now (record { cluster = new; place = place; report = old.report ++ a ∷ [] })
-    goes_spoken a place many line pictured =
+    pub goes_spoken : (place : ℕ) (report : List Answer) → place ≡ old.place + length events → AddsAnswer new (place - 1) said old.report report
+        → IsOf now (record { cluster = new; place = place; report = report })
+    goes_spoken place report many adds =
+        let a : Answer = adds.answer in
         let leads = leads_all (Some said) brings in
         let picture : IsPictured (world_of now) a =
-        subst (λ (s : Shape). IsPictured (world s (run_of p.opening now.events)) a) (own_all (Some said) brings) (pictured (run_of p.opening now.events) leads) in
+        subst (λ (s : Shape). IsPictured (world s (run_of p.opening now.events)) a) (own_all (Some said) brings) (adds.picture (run_of p.opening now.events) leads) in
         let counts : place ≡ length now.events = omega (arith, many, is.many, longer) in
         let listed : lines_of (length now.events - 1) (Some said) ≡ line_of a ∷ [] =
-        ap (λ (n : ℕ). lines_of (n - 1) (Some said)) (sym counts) ∙ ap (λ (x : Line). x ∷ []) (sym line) in
-        let at : a.place ≡ place - 1 = ap (λ (x : Line). x.place) line in
+        ap (λ (n : ℕ). lines_of (n - 1) (Some said)) (sym counts) ∙ ap (λ (x : Line). x ∷ []) (sym adds.line) in
+        let at : a.place ≡ place - 1 = ap (λ (x : Line). x.place) adds.line in
         let whole : take (a.place + 1) now.events ≡ now.events = take_all (a.place + 1) now.events (omega (arith, at, counts, last)) in
+        let lists : Lists now (old.report ++ a ∷ []) = record {
+          lines =
+              map-append line_of old.report (a ∷ []) ∙ ap (λ (l : List Line). l ++ line_of a ∷ []) is.lists.lines
+              ∙ sym (answers_all (Some said) brings ∙ ap (λ (l : List Line). answers_of p ++ l) listed);
+          pictures = All-push (IsListed now) old.report a stay
+              (omega (arith, at, counts, last), subst (λ (l : List Event). IsPictured (world_after p.opening l) a) (sym whole) picture);
+        } in
         record {
           can = is.can;
           own = own_all (Some said) brings;
           leads = leads;
           many = counts;
-          lists = record {
-            lines =
-                map-append line_of old.report (a ∷ []) ∙ ap (λ (l : List Line). l ++ line_of a ∷ []) is.lists.lines
-                ∙ sym (answers_all (Some said) brings ∙ ap (λ (l : List Line). answers_of p ++ l) listed);
-            pictures = All-push (IsListed now) old.report a stay
-                (omega (arith, at, counts, last), subst (λ (l : List Event). IsPictured (world_after p.opening l) a) (sym whole) picture);
-          };
+          lists = subst (Lists now) (sym adds.added) lists;
         }
+
+-- STEPS OF A REPLAY
+
+-- a host makes so many, and this is told of them
+module _ (p : Past) (h n : ℕ) (old : Played) (new : Kept) (is : IsOf p old) (told : Option Said)
+    (brings : (log : List Filled) → LeadsTo log old.cluster → BringsAll log (replicate n (Step h)) old.cluster new told) where
+  abbrev steps : List Event
+  steps = replicate n (Step h)
+
+  so : (said : Option Said) → told ≡ said → (log : List Filled) → LeadsTo log old.cluster → BringsAll log steps old.cluster new said
+  so said same log leads = subst (BringsAll log steps old.cluster new) same (brings log leads)
+
+  -- nothing
+  pub steps_quiet : told ≡ None → SaysLast p (later p steps) None
+  steps_quiet none = quiet_last p steps old new is (so None none)
+
+  pub steps_pass : told ≡ None → IsOf (later p steps) (record { cluster = new; place = old.place + n; report = old.report })
+  steps_pass none = goes_quietly p steps old new is (so None none) (old.place + n) (omega (arith, length-replicate n (Step h)))
+
+  -- what its host said with the last
+  module _ (least : 1 ≤ n) (said : Said) (same : told ≡ Some said) where
+    some : 1 ≤ length steps
+    some = omega (arith, least, length-replicate n (Step h))
+
+    pub steps_say : SaysLast p (later p steps) (Some said)
+    steps_say = spoken_last p steps old new is some said (so (Some said) same)
+
+    pub steps_run : IsSome (slice_index_or new.hosts said.host None)
+    steps_run = last_runs p steps old new is some said (so (Some said) same)
+
+    pub steps_list : (report : List Answer) → AddsAnswer new (old.place + n - 1) said old.report report
+        → IsOf (later p steps) (record { cluster = new; place = old.place + n; report = report })
+    steps_list report adds =
+        goes_spoken p steps old new is some said (so (Some said) same) (old.place + n) report (omega (arith, length-replicate n (Step h))) adds

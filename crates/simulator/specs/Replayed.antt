@@ -1,15 +1,17 @@
 -- How a replay goes on: the events that happen, what is said with each, and whether a host has said that it has recovered.
-use Rattle.std.specs.Prelude.{◌≡◌, ◌<◌, ◌≤◌, ◌+◌, ◌-◌, ◌++◌, ℕ, Bool, List, length, map, All, Contains, Option, Some, IfSome}
+use Rattle.std.specs.Prelude.{◌≡◌, ◌<◌, ◌≤◌, ◌+◌, ◌-◌, ◌++◌, ℕ, Bool, List, [], ◌∷◌, length, map, All, Contains, Option, Some, IfSome}
 use Rattle.std.specs.List.{list_any}
 use Rattle.lock_command.specs.declared.command.Command.{Command}
 use Rattle.host.specs.declared.answer.HostAnswer.TheVariants.{Recovered}
 use Rattle.host.specs.Host.{said_of}
+use Rattle.world.specs.Entry.{Filled}
+use Rattle.world.specs.World.{world}
 use Rattle.world.specs.Happens.{Event, Line}
 use Rattle.world.specs.Opening.{CanBegin, run_of}
 use Rattle.world.specs.Told.{prefix_before}
 use Rattle.simulator.specs.declared.answer.Answer.{Answer}
 use Rattle.simulator.specs.declared.simulated_cluster.Said.{Said}
-use Rattle.simulator.specs.Answers.{line_of, IsPicturedIn}
+use Rattle.simulator.specs.Answers.{line_of, IsPictured, IsPicturedIn}
 use Rattle.simulator.specs.Events.{lines_of}
 use Rattle.simulator.specs.Kept.{Kept, LeadsTo}
 use Rattle.simulator.specs.Past.{Past, world_of, answers_of}
@@ -56,6 +58,13 @@ IsListed p a = (a.place < length p.events) × IsPicturedIn p.opening p.events a
 pub record Lists (p : Past) (report : List Answer) : Type 0 where
   pub lines : map line_of report ≡ answers_of p
   pub pictures : All (IsListed p) report
+
+-- To the answers this one was added: what was said with the event of this number, with its picture.
+pub record AddsAnswer (k : Kept) (place : ℕ) (said : Said) (old new : List Answer) : Type 0 where
+  pub answer : Answer
+  pub added : new ≡ old ++ answer ∷ []
+  pub line : line_of answer ≡ record { place = place; host = said.host; said = said.answer }
+  pub picture : (log : List Filled) → LeadsTo log k → IsPictured (world k.shape log) answer
 
 -- WHAT A REPLAY KEEPS
 

@@ -90,12 +90,8 @@ impl Replay {
         self.place += 1;
         match said {
             Some(said) => {
-                let answer = self.room.listed(&self.cluster, place, said);
-                let said = Said {
-                    host: answer.host,
-                    answer: answer.said,
-                };
-                self.answers.push_reserved(answer);
+                self.room
+                    .list(&self.cluster, place, &said, &mut self.answers);
                 Ok(Some(said))
             }
             None => Ok(None),
@@ -159,12 +155,9 @@ impl Replay {
         self.place += made;
         match said {
             Some(said) => {
-                let answer = self.room.listed(&self.cluster, self.place - 1, said);
-                let said = Said {
-                    host: answer.host,
-                    answer: answer.said,
-                };
-                self.answers.push_reserved(answer);
+                let last = self.place - 1;
+                self.room
+                    .list(&self.cluster, last, &said, &mut self.answers);
                 Ok((made, Some(said)))
             }
             None => Ok((made, None)),
@@ -225,8 +218,8 @@ impl Replay {
         Ok(())
     }
 
-    /// A stopped host starts, recovers and stops. Gives what it has learned, if it answers. The most steps are 17 for each of 7 disks
-    /// in each of 4,096 slots and once more.
+    /// A stopped host starts, recovers and stops. Gives what it has learned, if it answers. Its steps are at most 17 for each of 7
+    /// disks, in each of 4,096 slots and once more.
     fn recover(&mut self, alloc: Global, number: u8) -> Result<Option<Vec<Command>>, NoMemory>
         requires host { number < HOSTS }
         requires room { self.old.place + 500000 < 2 ^ 64 }

@@ -1,4 +1,4 @@
-ghost use Rattle.std.specs.Prelude.{◌≡◌, true, IsSome, OnOk, slice_index_or, List};
+ghost use Rattle.std.specs.Prelude.{◌≡◌, ◌<◌, vec_len, vec_capacity, true, IsSome, OnOk, slice_index_or, List};
 ghost use Rattle.world.specs.Entry.{Filled};
 ghost use Rattle.world.specs.World.{world};
 ghost use Rattle.host.specs.Host.{learned_of};
@@ -7,6 +7,7 @@ ghost use Rattle.lock_table.specs.Picture.{IsPictureOf};
 ghost use Rattle.simulator.specs.Answers.{line_of, is_pictured, may_be_pictured, IsPictured};
 ghost use Rattle.simulator.specs.Events.{event_of};
 ghost use Rattle.simulator.specs.Kept.{LeadsTo};
+ghost use Rattle.simulator.specs.Replayed.{AddsAnswer};
 
 use crate::answer::Answer;
 use crate::simulated_cluster::{Said, SimulatedCluster};
@@ -40,6 +41,27 @@ impl Room {
             self.picture = Some(picture);
         }
         Ok(())
+    }
+
+    /// Adds what a host said to answers that have room for one more, as a report lists it.
+    pub fn list(
+        &mut self,
+        cluster: &SimulatedCluster,
+        place: usize,
+        said: &Said,
+        answers: &mut Vec<Answer>,
+    )
+        requires room { is_pictured said.now.answer ≡ true → IsSome self.old.picture }
+        requires runs { IsSome (slice_index_or cluster.now.hosts said.now.host None) }
+        requires reserved { vec_len answers.old < vec_capacity answers.old }
+        ensures { AddsAnswer cluster.now place said.now answers.old.items answers.new.items }
+    {
+        let said = Said {
+            host: said.host,
+            answer: said.answer,
+        };
+        let answer = self.listed(cluster, place, said);
+        answers.push_reserved(answer);
     }
 
     /// What a host said, as a report lists it.

@@ -1,20 +1,18 @@
-use Rattle.std.specs.Prelude.{IsSome, slice_index_or}
-use Rattle.std.proofs.Common.{◌+◌, ◌≡◌, List, [], ◌∷◌, ◌++◌, Some, None, sym, ap, ◌∙◌, subst}
+use Rattle.std.proofs.Common.{◌+◌, List, [], ◌∷◌, Some, None, sym, ◌∙◌, subst}
 use Rattle.world.specs.Entry.{Filled}
-use Rattle.world.specs.Happens.{Line}
 use Rattle.world.specs.Opening.{run_of}
 use Rattle.simulator.specs.declared.answer.Answer.{Answer}
 use Rattle.simulator.specs.Events.{event_of}
 use Rattle.simulator.specs.Kept.{LeadsTo, Brings}
 use Rattle.simulator.specs.Past.{Past}
-use Rattle.simulator.specs.Replayed.{later, Says, Played, IsOf}
+use Rattle.simulator.specs.Replayed.{later, AddsAnswer, Played, IsOf}
 use Rattle.simulator.proofs.Lines.{speaker_runs}
 use Rattle.simulator.proofs.Learning.{only_learning}
 use Rattle.simulator.proofs.Replaying.{plays_says, plays_nothing, plays_one}
 use Rattle.simulator.proofs.replay.Replay.happen.Goals as goal
 
-pub listed-answer-requires-clause-room : goal.listed-answer-requires-clause-room
-listed-answer-requires-clause-room c =
+pub list-requires-clause-room : goal.list-requires-clause-room
+list-requires-clause-room c =
     let s = c.self.inside in
     let event = event_of c.args.event.now in
     let was = c.self.invariant.1 in
@@ -23,8 +21,8 @@ listed-answer-requires-clause-room c =
     subst (Brings log event s.cluster c.event.new.self) c.in-Some.is (c.in_ok-said.ensures.brings log was.is.leads) in
     λ tells. c.in_ok-prepare.ensures (only_learning log event s.cluster c.event.new.self c.in-Some.said brings tells)
 
-pub listed-answer-requires-clause-runs : goal.listed-answer-requires-clause-runs
-listed-answer-requires-clause-runs c =
+pub list-requires-clause-runs : goal.list-requires-clause-runs
+list-requires-clause-runs c =
     let s = c.self.inside in
     let event = event_of c.args.event.now in
     let was = c.self.invariant.1 in
@@ -34,20 +32,17 @@ listed-answer-requires-clause-runs c =
     speaker_runs log event s.cluster c.event.new.self c.in-Some.said brings
 
 -- what is then, where something is said
-then_said : (c : goal.After-push_reserved) (p : Past) → IsOf p (record { cluster = c.self.inside.cluster; place = c.self.inside.place; report = c.self.inside.answers.items })
-    → IsOf (later p (event_of c.args.event.now ∷ [])) (record { cluster = c.event.new.self; place = c.self.inside.place + 1; report = c.push_reserved.new.self.items })
+then_said : (c : goal.After-list) (p : Past) → IsOf p (record { cluster = c.self.inside.cluster; place = c.self.inside.place; report = c.self.inside.answers.items })
+    → IsOf (later p (event_of c.args.event.now ∷ [])) (record { cluster = c.event.new.self; place = c.self.inside.place + 1; report = c.list.new.answers.items })
 then_said c p is =
     let s = c.self.inside in
     let event = event_of c.args.event.now in
     let new = c.event.new.self in
-    let now : Past = later p (event ∷ []) in
     let old : Played = record { cluster = s.cluster; place = s.place; report = s.answers.items } in
     let brings : (log : List Filled) → LeadsTo log s.cluster → Brings log event s.cluster new (Some c.in-Some.said) =
     λ log leads. subst (Brings log event s.cluster new) c.in-Some.is (c.in_ok-said.ensures.brings log leads) in
-    let items : c.push_reserved.new.self.items ≡ s.answers.items ++ c.listed-answer.result ∷ [] =
-    c.push_reserved.ensures.items ∙ ap (λ (l : List Answer). l ++ c.listed-answer.result ∷ []) c.reserve.ensures.items in
-    subst (λ (l : List Answer). IsOf now (record { cluster = new; place = s.place + 1; report = l })) (sym items)
-    (plays_one p event old new is c.in-Some.said c.listed-answer.result brings c.listed-answer.ensures.line c.listed-answer.ensures.picture)
+    plays_one p event old new is c.in-Some.said c.list.new.answers.items brings
+    (subst (λ (l : List Answer). AddsAnswer new s.place c.in-Some.said l c.list.new.answers.items) c.reserve.ensures.items c.list.ensures)
 
 -- and where nothing is
 then_nothing : (c : goal.In-None) (p : Past) → IsOf p (record { cluster = c.self.inside.cluster; place = c.self.inside.place; report = c.self.inside.answers.items })
@@ -86,8 +81,7 @@ returns-in-Some-clause-said c =
     let brings : (log : List Filled) → LeadsTo log s.cluster → Brings log event s.cluster new (Some c.in-Some.said) =
     λ log leads. subst (Brings log event s.cluster new) c.in-Some.is (c.in_ok-said.ensures.brings log leads) in
     λ p is.
-    subst (λ (x : Line). Says p (later p (event ∷ [])) (Some (record { host = x.host; answer = x.said }))) (sym c.listed-answer.ensures.line)
-    (plays_says p event old new (subst (IsOf p) (sym c.self.view_is) is) (Some c.in-Some.said) brings)
+    plays_says p event old new (subst (IsOf p) (sym c.self.view_is) is) (Some c.in-Some.said) brings
 
 pub returns-in-Some-clause-runs : goal.returns-in-Some-clause-runs
 returns-in-Some-clause-runs c =
@@ -97,8 +91,7 @@ returns-in-Some-clause-runs c =
     let log = run_of was.past.opening was.past.events in
     let brings : Brings log event s.cluster c.event.new.self (Some c.in-Some.said) =
     subst (Brings log event s.cluster c.event.new.self) c.in-Some.is (c.in_ok-said.ensures.brings log was.is.leads) in
-    subst (λ (x : Line). IsSome (slice_index_or c.event.new.self.hosts x.host None)) (sym c.listed-answer.ensures.line)
-    (speaker_runs log event s.cluster c.event.new.self c.in-Some.said brings)
+    speaker_runs log event s.cluster c.event.new.self c.in-Some.said brings
 
 pub returns-in-None-clause-happened : goal.returns-in-None-clause-happened
 returns-in-None-clause-happened c = λ p is. then_nothing c p (subst (IsOf p) (sym c.self.view_is) is)
