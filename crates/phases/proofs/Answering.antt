@@ -46,12 +46,12 @@ reads_by v spelled bytes row (Some seen) is so = record { seen = seen; said = is
 pub reads_as : {V : Type 0} (v : Version) (spelled : V → List ℕ) (bytes : List ℕ) (row : Row V) → IsSomeAnd (decoded_row v bytes) (λ seen. AreSeenAs v spelled seen row) → ReadsAs v spelled bytes row
 reads_as v spelled bytes row so = reads_by v spelled bytes row (decoded_row v bytes) refl so
 
-gist_by : {V : Type 0} (v : Version) (spelled : V → List ℕ) (host : ℕ) (best : Said) (bytes : List ℕ) (row : Gist V) (o : Option (List DecodedBlock)) → decoded_row v bytes ≡ o → IsSomeAnd o (λ seen. IsGist v spelled host best seen row) → ReadsGist v spelled host best bytes row
-gist_by v spelled host best bytes row None is some = absurd some
-gist_by v spelled host best bytes row (Some seen) is so = record { seen = seen; said = is; so = so }
+gist_by : {V : Type 0} (v : Version) (spelled : V → List ℕ) (host : ℕ) (best : Said) (bytes : List ℕ) (gist : Gist V) (o : Option (List DecodedBlock)) → decoded_row v bytes ≡ o → IsSomeAnd o (λ seen. IsGist v spelled host best seen gist) → ReadsGist v spelled host best bytes gist
+gist_by v spelled host best bytes gist None is some = absurd some
+gist_by v spelled host best bytes gist (Some seen) is so = record { seen = seen; said = is; so = so }
 
-pub reads_gist : {V : Type 0} (v : Version) (spelled : V → List ℕ) (host : ℕ) (best : Said) (bytes : List ℕ) (row : Gist V) → IsSomeAnd (decoded_row v bytes) (λ seen. IsGist v spelled host best seen row) → ReadsGist v spelled host best bytes row
-reads_gist v spelled host best bytes row so = gist_by v spelled host best bytes row (decoded_row v bytes) refl so
+pub reads_gist : {V : Type 0} (v : Version) (spelled : V → List ℕ) (host : ℕ) (best : Said) (bytes : List ℕ) (gist : Gist V) → IsSomeAnd (decoded_row v bytes) (λ seen. IsGist v spelled host best seen gist) → ReadsGist v spelled host best bytes gist
+reads_gist v spelled host best bytes gist so = gist_by v spelled host best bytes gist (decoded_row v bytes) refl so
 
 -- what is known where a call is due, of an attempt that goes on
 pub visiting : (f : Answers) (n : Notes) → n.end ≡ None → Follows f n → IsVisiting n.phase f n

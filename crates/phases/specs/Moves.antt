@@ -52,10 +52,10 @@ pub record ReadsAs {V : Type 0} (v : Version) (spelled : V → List ℕ) (bytes 
   pub so : AreSeenAs v spelled seen row
 
 -- the same where only the row's gist is made, by a host that has found this vote
-pub record ReadsGist {V : Type 0} (v : Version) (spelled : V → List ℕ) (host : ℕ) (best : Said) (bytes : List ℕ) (row : Gist V) : Type 0 where
+pub record ReadsGist {V : Type 0} (v : Version) (spelled : V → List ℕ) (host : ℕ) (best : Said) (bytes : List ℕ) (gist : Gist V) : Type 0 where
   pub seen : List DecodedBlock
   pub said : decoded_row v bytes ≡ Some seen
-  pub so : IsGist v spelled host best seen row
+  pub so : IsGist v spelled host best seen gist
 
 -- from phase 1 on another host's greater ballot ends the attempt
 abbrev pub above : ℕ → ℕ → Option ℕ
