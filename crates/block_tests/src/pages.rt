@@ -57,7 +57,7 @@ impl Plain {
         for place in 0..usize::from(SIZE) {
             if place < self.bytes.len() && place < self.unsynced.len() && self.unsynced[place] {
                 self.bytes[place] = given[next % given.len()];
-                next = (next + 1) % given.len();
+                next = next.wrapping_add(1);
                 self.unsynced[place] = false;
             }
         }
