@@ -10,11 +10,12 @@ passed=0
 
 # try TEST WORD..: runs a test, and prints its last line and what it says that it left out, or all that it printed where it failed.
 try() {
-    local test=$1
+    local test=$1 last
     shift
     if "$tests/$test" "$@" > "$work/told" 2>&1 < /dev/null; then
         grep '^left out: ' "$work/told"
-        echo "$test: $(tail -n 1 -- "$work/told")"
+        last=$(tail -n 1 -- "$work/told")
+        echo "$test: ${last#"$test: "}"
         passed=$((passed + 1))
     else
         cat -- "$work/told"
