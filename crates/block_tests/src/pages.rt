@@ -140,14 +140,19 @@ fn pages_in_falling_order(rt: HostRuntime) -> Result<(), Fail> {
         let bytes = all_of(&mut disk, boot, alloc)?;
         assert_eq!(rt; bytes, plain.bytes);
         // The unsynced bytes took the given ones in turn, from one page to the next. What was synced is kept.
-        assert_eq!(rt;
-            [bytes[0], bytes[9], bytes[10], bytes[4_000], bytes[4_096]],
-            [11, 13, 0, 14, 12]
-        );
-        assert_eq!(rt;
-            [bytes[16_380], bytes[16_381], bytes[20_579], bytes[15_000]],
-            [9, round + 3, round + 3, 0]
-        );
+        for (place, byte) in [
+            (0, 11),
+            (9, 13),
+            (10, 0),
+            (4_000, 14),
+            (4_096, 12),
+            (16_380, 9),
+            (16_381, round + 3),
+            (20_579, round + 3),
+            (15_000, 0),
+        ] {
+            assert_eq!(rt; bytes.get(place).copied(), Some(byte));
+        }
         disk.renew();
     }
     Ok(())
