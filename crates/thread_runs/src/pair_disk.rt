@@ -117,7 +117,10 @@ pub fn pair<'a, R: Clock>(
 {
     let first = pair_disk(rt, alloc, config, flags, true)?;
     let second = pair_disk(rt, alloc, config, flags, false)?;
-    Ok(vec![in alloc; first, second].map_err(AllocError::from)?)
+    let mut disks = Vec::new(alloc);
+    disks.push(first).map_err(AllocError::from)?;
+    disks.push(second).map_err(AllocError::from)?;
+    Ok(disks)
 }
 
 fn pair_disk<'a, R: Clock>(
