@@ -71,7 +71,10 @@ pub fn two_slow_disks<R: Clock>(
 {
     let first = slow_disk(rt, alloc, config)?;
     let second = slow_disk(rt, alloc, config)?;
-    Ok(vec![in alloc; first, second].map_err(AllocError::from)?)
+    let mut disks = Vec::new(alloc);
+    disks.push(first).map_err(AllocError::from)?;
+    disks.push(second).map_err(AllocError::from)?;
+    Ok(disks)
 }
 
 fn slow_disk<R: Clock>(rt: &R, alloc: Global, config: Config) -> Result<SlowDisk<'_, R>, NoMemory>
