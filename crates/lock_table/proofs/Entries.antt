@@ -1,5 +1,5 @@
 -- The entries of values, where a lock is carried over.
-use Rattle.std.proofs.Common.{◌≡◌, ◌≤◌, ◌<◌, Bool, true, false, cond, not, nat_le, ◌||◌, List, [], ◌∷◌, length, None, is_some, refl, sym, ap, ◌∙◌, arith}
+use Rattle.std.proofs.Common.{◌≡◌, ◌≤◌, ◌<◌, Bool, true, false, cond, not, nat_le, ◌||◌, List, [], ◌∷◌, length, is_some, refl, sym, ap, ◌∙◌, arith}
 use Rattle.std.specs.List.{filter, list_any}
 use Rattle.std.proofs.lemmas.List.Folds.{list_any-append}
 use Rattle.lock_command.specs.declared.command.Action.TheVariants.{CarryLock}
@@ -10,7 +10,7 @@ use Rattle.lock_table.specs.declared.locks.TheConstants.{LOCKS}
 use Rattle.lock_table.specs.declared.record.LockRecord.{LockRecord}
 use Rattle.lock_table.specs.declared.values.NamedValue.{NamedValue}
 use Rattle.lock_table.specs.Locks.{is_on, lock_in, without, put, IsDistinct}
-use Rattle.lock_table.specs.Values.{Values, is_state, of_locked, stored, returned}
+use Rattle.lock_table.specs.Values.{Values, is_state, of_locked, stored}
 use Rattle.lock_table.specs.Apply.{CommandOutcome, refused, carried}
 use Rattle.lock_table.specs.Picture.{printed_cmp, HasZeros}
 use Rattle.lock_table.specs.Placed.{in_order}
@@ -34,24 +34,12 @@ outcome_by : Bool → Bool → List LockRecord → LockRecord → CommandOutcome
 outcome_by taken full locks r =
     cond taken (refused locks refusal.LockInUse) (cond full (refused locks refusal.TableFull) (record { locks = put locks r; answer = answer.State r.state }))
 
-refused_by : (taken full : Bool) (locks : List LockRecord) (r : LockRecord) → is_state (outcome_by taken full locks r).answer ≡ false
-    → (v : LockValue) → returned (outcome_by taken full locks r).answer v ≡ None
-unfolding outcome_by
-refused_by true full locks r h v = refl
-refused_by false true locks r h v = refl
-refused_by false false locks r h v = let impossible : ⊥ = cc in absurd impossible
-
 put_by : (taken full : Bool) (locks : List LockRecord) (r : LockRecord) → is_state (outcome_by taken full locks r).answer ≡ true
     → (full ≡ false) × (outcome_by taken full locks r ≡ record { locks = put locks r; answer = answer.State r.state })
 unfolding outcome_by
 put_by true full locks r h = let impossible : ⊥ = cc in absurd impossible
 put_by false true locks r h = let impossible : ⊥ = cc in absurd impossible
 put_by false false locks r h = (refl, refl)
-
--- a lock that is refused is told no value
-pub refused_none : (locks : List LockRecord) (r : LockRecord) → is_state (carried locks r).answer ≡ false → (v : LockValue) → returned (carried locks r).answer v ≡ None
-unfolding outcome_by
-refused_none locks r h = refused_by (is_some (lock_in locks r.lock)) (nat_le LOCKS (length locks)) locks r h
 
 or_yes : (b : Bool) → (b || true) ≡ true
 or_yes true = refl

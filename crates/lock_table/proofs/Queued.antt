@@ -1,15 +1,13 @@
 -- Whose turn it is on a name, where the locks stand in printed order.
-use Rattle.std.proofs.Common.{◌≡◌, ◌≤◌, ℕ, zero, suc, Bool, true, false, cond, ◌&&◌, ◌||◌, List, [], ◌∷◌, ◌++◌, take, drop, Option, Some, None, is_some, refl, sym, ap, subst, ◌∙◌, arith}
+use Rattle.std.proofs.Common.{◌≡◌, ℕ, Bool, true, false, cond, ◌&&◌, ◌||◌, List, [], ◌∷◌, ◌++◌, take, drop, Option, Some, None, is_some, refl, sym, ap, subst, ◌∙◌}
 use Rattle.std.specs.List.{find}
-use Rattle.std.specs.List.Sorted.{IsSorted, IsPartitionedBy, IsPartitionPoint}
+use Rattle.std.specs.List.Sorted.{IsSorted, IsPartitionPoint}
 use Rattle.std.specs.Ordering.{is_lt, nat_cmp, ordering_then, ordering_reverse}
 use Rattle.std.specs.Cmp.Lexicographic.{slice_cmp}
 use Rattle.std.specs.declared.cmp.Ordering.{Ordering}
 use Rattle.std.specs.declared.cmp.Ordering.TheVariants.{Less, Equal, Greater}
-use Rattle.std.proofs.lemmas.Bool.{le-ltb}
 use Rattle.std.proofs.lemmas.Cmp.{nat_list_cmp_total, tied_itself}
 use Rattle.std.proofs.lemmas.List.{take-append-drop}
-use Rattle.lock_modes.specs.declared.mode.Mode.TheVariants.{Null}
 use Rattle.lock_table.specs.declared.record.LockRecord.{LockRecord}
 use Rattle.lock_command.specs.declared.state.LockState.{LockState}
 use Rattle.lock_command.specs.declared.state.LockState.TheVariants.{Granted, Converting, Waiting}
@@ -22,48 +20,8 @@ use Rattle.lock_table.proofs.Ordered.{Each, IsAscending, each_more}
 use Rattle.lock_table.proofs.Unique.{ascends, names_equal}
 use Rattle.lock_table.proofs.Apart.{name_is}
 use Rattle.lock_table.proofs.Pictures.{printed_order}
-use Rattle.lock_table.proofs.Keyed.{is_lt_nat, first_if}
-use Rattle.lock_table.proofs.Cuts.{each_in_front, each_behind, ascends_behind, find_none, find_behind, partitioned, below_down}
-
--- a lock that would stand first of all of the name in its state
-probe : List ℕ → LockState → LockRecord
-probe name state = record { lock = 0; client = 0; host = 0; name = name; state = state }
-
--- a state of each rank
-state_of : ℕ → LockState
-state_of zero = Granted Null
-state_of (suc zero) = Converting Null Null
-state_of (suc (suc rank)) = Waiting Null
-
-rank_of-state_of : (rank : ℕ) → rank ≤ 2 → rank_of (state_of rank) ≡ rank
-unfolding state_of
-rank_of-state_of zero few = refl
-rank_of-state_of (suc zero) few = refl
-rank_of-state_of (suc (suc zero)) few = refl
-rank_of-state_of (suc (suc (suc rank))) few = absurd (omega (arith, few))
-
-number_of_none : (s : LockState) → number_among s 0 ≡ 0
-number_of_none (Granted mode) = refl
-number_of_none (Converting held wanted) = refl
-number_of_none (Waiting wanted) = refl
-
-pub last_is_never_less : (o p q : Ordering) → is_lt q ≡ false → is_lt (ordering_then o (ordering_then p q)) ≡ is_lt (ordering_then o p)
-last_is_never_less Less p q h = refl
-last_is_never_less Greater p q h = refl
-last_is_never_less Equal Less q h = refl
-last_is_never_less Equal Greater q h = refl
-last_is_never_less Equal Equal q h = h
-
-before_probe : (name : List ℕ) (rank : ℕ) (r : LockRecord) → rank ≤ 2 → is_lt (printed_cmp r (probe name (state_of rank))) ≡ stands_before_rank name rank r
-unfolding probe
-before_probe name rank r few =
-    (λ i. is_lt (ordering_then (slice_cmp nat_cmp r.name name) (ordering_then (nat_cmp (rank_of r.state) (rank_of-state_of rank few i)) (nat_cmp (number_among r.state r.lock) (number_of_none (state_of rank) i)))))
-    ∙ last_is_never_less (slice_cmp nat_cmp r.name name) (nat_cmp (rank_of r.state) rank) (nat_cmp (number_among r.state r.lock) 0)
-    (is_lt_nat (number_among r.state r.lock) 0 ∙ le-ltb (number_among r.state r.lock) 0 (omega arith))
-
-pub rank_partitioned : (name : List ℕ) (rank : ℕ) (xs : List LockRecord) → rank ≤ 2 → IsSorted printed_cmp xs → IsPartitionedBy (stands_before_rank name rank) xs
-rank_partitioned name rank xs few up = partitioned printed_cmp printed_order (stands_before_rank name rank) (λ x y not_less passes.
-    sym (before_probe name rank x few) ∙ below_down printed_cmp printed_order (probe name (state_of rank)) x y not_less (before_probe name rank y few ∙ passes)) xs up
+use Rattle.lock_table.proofs.Keyed.{first_if}
+use Rattle.lock_table.proofs.Cuts.{each_in_front, each_behind, ascends_behind, find_none, find_behind}
 
 abbrev IsQuiet : List ℕ → LockRecord → Type 0
 IsQuiet name r = (converts_on name r ≡ false) × (waits_on name r ≡ false)

@@ -1,5 +1,5 @@
 -- Names as numbers that rise as the names do.
-use Rattle.std.proofs.Common.{◌≡◌, ◌≤◌, ◌<◌, ◌+◌, ◌*◌, ◌^◌, ℕ, zero, suc, true, cond, ◌==◌, ◌&&◌, nat_le, nat_lt, List, [], ◌∷◌, length, get_or, refl, sym, ap, ◌∙◌, inl, inr, arith}
+use Rattle.std.proofs.Common.{◌≡◌, ◌≤◌, ◌<◌, ◌+◌, ◌*◌, ◌^◌, ℕ, zero, suc, true, false, cond, ◌==◌, ◌&&◌, nat_le, nat_lt, List, [], ◌∷◌, length, get_or, refl, sym, ap, ◌∙◌, inl, inr, arith}
 use Rattle.std.specs.List.{list_all}
 use Rattle.std.specs.Ordering.{is_lt, nat_cmp, ordering_then}
 use Rattle.std.specs.Cmp.Lexicographic.{slice_cmp}
@@ -15,7 +15,6 @@ use Rattle.lock_table.specs.Picture.{rank_of, number_among, printed_cmp}
 use Rattle.lock_table.specs.Indexed.{stands_before_rank}
 use Rattle.lock_table.specs.Keys.{spelled, key_of, lock_key, HasKey}
 use Rattle.lock_table.proofs.Keyed.{is_lt_nat}
-use Rattle.lock_table.proofs.Queued.{last_is_never_less}
 
 -- what a digit in front of so many others counts
 abbrev pub weight : ℕ → ℕ
@@ -165,6 +164,14 @@ pub printed_by_key : (a b : LockRecord) → HasKey a → HasKey b → nat_cmp (l
 printed_by_key a b one two =
     key_cmp a.name b.name (rank_of a.state) (rank_of b.state) (number_among a.state a.lock) (number_among b.state b.lock) one.named two.named (rank_small a.state) (rank_small b.state)
     (number_small a.state a.lock one.number) (number_small b.state b.lock two.number)
+
+-- whether a record stands in front is decided without its last part, where that is never less
+last_is_never_less : (o p q : Ordering) → is_lt q ≡ false → is_lt (ordering_then o (ordering_then p q)) ≡ is_lt (ordering_then o p)
+last_is_never_less Less p q h = refl
+last_is_never_less Greater p q h = refl
+last_is_never_less Equal Less q h = refl
+last_is_never_less Equal Greater q h = refl
+last_is_never_less Equal Equal q h = h
 
 -- keys tell which locks stand before a name and a rank
 pub before_by_key : (name : List ℕ) (rank : ℕ) (r : LockRecord) → HasKey r → IsName name → rank < 4 → nat_lt (lock_key r) (key_of name rank 0) ≡ stands_before_rank name rank r

@@ -27,8 +27,8 @@ pub struct ByLockNumber {
     free: Vec<u8>,
     /// The lock numbers, by place, and 0 at each place without a lock.
     lock_numbers: Vec<u16>,
-    /// For the low byte of a lock number the place of the last lock with that byte that was put in. No contract speaks of it:
-    /// the number at the place tells whether it is right.
+    /// For the low byte of a lock number the place of the lock with that byte that was put in, replaced or found last. No contract speaks
+    /// of it: the number at the place tells whether it is right.
     hints: [u8; 256],
 }
 

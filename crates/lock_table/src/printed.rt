@@ -1,12 +1,12 @@
-ghost use Rattle.std.specs.Prelude.{◌≡◌, ◌+◌, ◌-◌, ◌*◌, ◌/◌, ◌<◌, ◌≤◌, ◌^◌, IfSome, Some, None, is_some, length, filter, find, drop, insert, remove, slice_index_or, not, nat_lt, true, false};
-ghost use Rattle.std.specs.List.{AllWithin, list_any, slice_get};
+ghost use Rattle.std.specs.Prelude.{◌≡◌, ◌+◌, ◌-◌, ◌*◌, ◌/◌, ◌<◌, ◌≤◌, ◌^◌, Some, None, length, filter, find, drop, insert, remove, slice_index_or, not, nat_lt, true, false};
+ghost use Rattle.std.specs.List.{AllWithin, list_any};
 ghost use Rattle.std.specs.List.Sorted.{IsSorted, IsPartitionPoint};
 ghost use Rattle.lock_table.specs.Locks.{is_through};
 ghost use Rattle.lock_table.specs.Indexed.{stands_before_rank, IsGrantedEnd, IsGrantedGroup};
 ghost use Rattle.lock_table.specs.State.{is_queued};
 ghost use Rattle.lock_table.specs.Narrowed.{IsNarrowed};
 ghost use Rattle.lock_table.specs.Keys.{lock_key, HasKey};
-ghost use Rattle.lock_table.specs.Locks.{is_lock, is_on, lock_in, without, head_of, has_queue, admits, in_state, IsDistinct};
+ghost use Rattle.lock_table.specs.Locks.{is_lock, is_on, lock_in, without, head_of, admits, in_state, IsDistinct};
 ghost use Rattle.lock_table.specs.Picture.{printed_cmp};
 ghost use Rattle.lock_table.specs.Placed.{placed};
 ghost use Rattle.lock_table.specs.declared.record.LockRecord.{LockRecord};
@@ -45,8 +45,8 @@ fn narrowed(printed: &ByPrintedOrder, from: usize, size: usize, key: u128) -> us
     from + passed_of_three(quarter, first + second + third)
 }
 
-/// Where the locks of lower keys end within a stretch. Most stretches are short, and the tests branch: in what comes again and again a
-/// processor knows how they end.
+/// Where the locks of lower keys end within a stretch. The tests branch: in what comes again and again a processor knows how they end, and
+/// most stretches are the locks of one name.
 fn end_within(printed: &ByPrintedOrder, mut from: usize, mut size: usize, key: u128) -> usize
     requires sorted { IsSorted printed_cmp printed.now }
     requires small { key ≤ 2 ^ 126 }
@@ -80,7 +80,7 @@ fn both_below(printed: &ByPrintedOrder, one: u128, other: u128) -> (usize, usize
     let mut first = 0;
     let mut second = 0;
     let mut left = printed.len();
-    while left > 8 {
+    while left > 4 {
         first = narrowed(printed, first, left, one);
         second = narrowed(printed, second, left, other);
         left -= 3 * ((left + 1) / 4);
@@ -224,7 +224,7 @@ pub fn head(printed: &ByPrintedOrder, name: &SpelledName, end: usize) -> Option<
     requires end { IsGrantedEnd name.now printed.now end }
     ensures { result ≡ head_of printed.now name.now }
 {
-    // All keys of the name are below this one, and of those that follow none else.
+    // All keys of the name are below this one, and no key of a later name is.
     if end < printed.len() && printed.below(end, name.key(3, 0)) == 1 {
         Some(*printed.get(end))
     } else {
