@@ -114,8 +114,8 @@ unfolding fresh_disk sequence_of body_of number_bytes tail_with copy_in decoded_
 failed_and_lost = refl
 
 -- what does not apply changes nothing, but is counted: a step of an idle host, another host's command, no tries, no bytes to
--- fill with, a disk that there is not, a stop of a stopped host, an operation beside the one under way, a read that is torn
-nothing_applies : says 1 4 (Start 0 ∷ Step 0 ∷ Start 0 ∷ Submit 0 (asks 1) 1 ∷ Submit 0 (asks 0) 0 ∷ Recover 0 0 ∷ DiskCrash 1 (0 ∷ []) ∷ DiskGone 1 ∷ Stop 1 ∷ Start 8 ∷ Submit 0 (asks 0) 1 ∷ Recover 0 1 ∷ Tear 0 (1 ∷ [])
+-- fill with, a disk and a host that there are not, a stop of a stopped host, an operation beside the one under way, a read that is torn
+nothing_applies : says 1 4 (Start 0 ∷ Step 0 ∷ Start 0 ∷ Submit 0 (asks 1) 1 ∷ Submit 0 (asks 0) 0 ∷ Recover 0 0 ∷ DiskCrash 1 (0 ∷ []) ∷ DiskGone 1 ∷ Stop 1 ∷ Start 16 ∷ Submit 0 (asks 0) 1 ∷ Recover 0 1 ∷ Tear 0 (1 ∷ [])
     ∷ (steps 0 5 ++ DiskCrash 0 [] ∷ Tear 0 [] ∷ FailCall 0 [] ∷ steps 0 12)) ≡ at 32 0 (Ack 0 granted) ∷ []
 unfolding fresh_disk sequence_of body_of number_bytes tail_with copy_in decoded_row zeros heading body_saying number_at claim_of is_said number lock_at request_at mode_of name_at enqueue_at action_at command_at applied
 nothing_applies = refl
