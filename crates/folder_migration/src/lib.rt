@@ -1,4 +1,5 @@
-//! A cluster moves from a folder of images of the first layout to new images: its log is recovered, upgraded and written there.
+//! A cluster moves to new images: from a folder of the first layout its log is recovered, upgraded and written there, and from a full log of
+//! today's layout its table is carried over.
 #![tactic(auto)]
 
 mod device;
