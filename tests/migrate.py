@@ -138,6 +138,24 @@ def one_command():
 
 
 @test
+def images_of_other_numbers():
+    make_old("d", 3, 16, [FIRST])
+    os.mkdir("e")
+    # Whoever opened the new folder would look at this one, too.
+    with open("e/disk6.img", "wb") as file:
+        file.write(b"")
+    refused("migrate d e 16", "dlm: 29 AlreadyThere\n")
+    wants("the new folder", os.listdir("e"), ["disk6.img"])
+    # Nor is there room beside the old images, or in a folder that is not there.
+    os.remove("d/disk0.img")
+    old = {name: bytes_of(f"d/{name}") for name in ("disk1.img", "disk2.img")}
+    refused("migrate d d 16", "dlm: 29 AlreadyThere\n")
+    wants("the old folder", sorted(os.listdir("d")), ["disk1.img", "disk2.img", "host0.lock"])
+    wants("how long its images are", [os.path.getsize(f"d/{name}") for name in old], [len(data) for data in old.values()])
+    refused("migrate d no 16", "dlm: 26 Unreadable disk0\n")
+
+
+@test
 def finishing_touches_nothing_else():
     make_old("d", 3, 16, [FIRST])
     os.mkdir("e")

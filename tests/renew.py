@@ -233,11 +233,13 @@ def refusals():
     refused("renew d 1 e 3 2 8", "dlm: 33 TooFewSlots\n")
     wants("no successor is named", os.path.exists("d/renewed"), False)
     os.mkdir("e")
-    with open("e/disk2.img", "wb"):
-        pass
-    refused("renew d 1 e 3 16 8", "dlm: 29 AlreadyThere\n")
-    wants("what is there", (os.listdir("e"), os.path.exists("d/renewed")), (["disk2.img"], False))
-    os.remove("e/disk2.img")
+    # Whoever opened the new folder would look at an image of another number, too.
+    for disk in (2, 3, 6):
+        with open(f"e/disk{disk}.img", "wb"):
+            pass
+        refused("renew d 1 e 3 16 8", "dlm: 29 AlreadyThere\n")
+        wants("what is there", (os.listdir("e"), os.path.exists("d/renewed")), ([f"disk{disk}.img"], False))
+        os.remove(f"e/disk{disk}.img")
     # A folder that is not there, and one where somebody works as host 0, is not named.
     os.rmdir("e")
     refused("renew d 1 e 3 16 8", "dlm: 37 NoLock host0\n")
@@ -345,6 +347,21 @@ def a_format_that_was_ended_is_no_renewal():
     os.remove("e/disk2.img")
     refused("renew d 1 e 3 16 8", "dlm: 29 AlreadyThere\n")
     wants("the gate", bytes_of("e/disk1.img")[0], 0)
+
+
+@test
+def an_old_folder_is_no_new_one():
+    make("d", 3, 4, 7)
+    prints("submit d 0 enqueue 1 1 1 EX db", "ack 0 Granted\n")
+    fill("d", 3)
+    # Where its own image is missing that is to be made first, too; and by whatever path it is given.
+    os.remove("d/disk0.img")
+    os.symlink("d", "current")
+    for old, host, new in (("d", 1, "d"), ("d", 0, "current"), ("current", 0, "d/../d")):
+        for disks in (1, 3):
+            refused(f"renew {old} {host} {new} {disks} 16 8", "dlm: 29 AlreadyThere\n")
+    wants("what is there", sorted(os.listdir("d")), [*(f"disk{disk}.img" for disk in (1, 2)), *(f"host{host}.lock" for host in (0, 1, 3))])
+    prints("table d 1", "recovered 4\n" + HELD)
 
 
 @test

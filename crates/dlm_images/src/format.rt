@@ -13,13 +13,13 @@ use std::io;
 use std::os::unix::fs::{FileExt, FileTypeExt};
 use std::path::PathBuf;
 use std::rt::Files;
-use torn_block::{ClusterLayout, OPEN_GATE};
+use torn_block::{ClusterLayout, DISKS, OPEN_GATE};
 
 /// How many zeros are written at once.
 const CHUNK: usize = 4096;
 
 /// Makes the images of a set in a folder, of files that are not there yet and of block devices that are, by links that somebody
-/// put there. Where a file is there already, or a device that is formatted, nothing is made; after another fault what was made stays.
+/// put there. Where an image is taken nothing is made; after another fault what was made stays.
 pub fn format_folder<R: Files + AllocGlobal>(
     rt: &R,
     folder: &str,
@@ -31,17 +31,8 @@ where
     ensures laid_out { OnOk result (AreLaidOut config cluster config.disks) }
     ensures fault { IfErr result (IsFormatFault config.disks) }
 {
-    let disks = config.disks();
-    for disk in 0..disks {
-        let path = image_path(rt.alloc(), folder, disk)?;
-        let taken = is_taken(rt, path.as_str(), config.image_length()).map_err(
-            |fault| FolderFault::Image { disk, fault },
-        )?;
-        if taken {
-            return Err(FolderFault::AlreadyThere);
-        }
-    }
-    for disk in 0..disks {
+    refuse_taken(rt, folder, config)?;
+    for disk in 0..config.disks() {
         let path = image_path(rt.alloc(), folder, disk)?;
         make_image(rt, folder, path.as_str(), config, cluster, disk).map_err(
             |fault| FolderFault::Image { disk, fault },
@@ -50,8 +41,37 @@ where
     Ok(())
 }
 
+/// Refuses a folder in which an image of a set is taken that is to be made: by a file, or by a device that is formatted. Nothing at all has the name of
+/// an image beside those of the set: whoever opens the folder would look at it, too.
+pub fn refuse_taken<R: Files + AllocGlobal>(
+    rt: &R,
+    folder: &str,
+    config: Config,
+) -> Result<(), FolderFault>
+where
+    R::File: FileExt + OpenFile + Drop,
+    ensures fault { IfErr result (IsFormatFault config.disks) }
+{
+    for disk in 0..config.disks() {
+        let path = image_path(rt.alloc(), folder, disk)?;
+        let taken = is_taken(rt, path.as_str(), config.image_length()).map_err(
+            |fault| FolderFault::Image { disk, fault },
+        )?;
+        if taken {
+            return Err(FolderFault::AlreadyThere);
+        }
+    }
+    for disk in config.disks()..DISKS {
+        let path = image_path(rt.alloc(), folder, disk)?;
+        if rt.symlink_metadata(path.as_str()).is_ok() {
+            return Err(FolderFault::AlreadyThere);
+        }
+    }
+    Ok(())
+}
+
 /// Whether something is there that is not to be written over: all but a block device that is not formatted.
-pub fn is_taken<R: Files>(files: &R, path: &str, size: u64) -> Result<bool, ImageFault>
+fn is_taken<R: Files>(files: &R, path: &str, size: u64) -> Result<bool, ImageFault>
 where
     R::File: FileExt + OpenFile + Drop,
     ensures { IfErr result (λ fault. fault ≡ ImageFault.Unreadable) }

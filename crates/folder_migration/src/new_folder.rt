@@ -6,7 +6,7 @@ ghost use Rattle.folder_migration.specs.Migrating.{AreBlank, IsBlank};
 use crate::image::clear;
 use disk::{FileDisk, ImageFault};
 use dlm_images::{
-    Access, FolderFault, image_path, is_taken, new_device, open_cut_to_header, sync_folder,
+    Access, FolderFault, image_path, new_device, open_cut_to_header, refuse_taken, sync_folder,
 };
 use host::Config;
 use lock_command::HostNumber;
@@ -59,28 +59,6 @@ where
 {
     refuse_taken(rt, folder, config)?;
     make_images(rt, folder, config)
-}
-
-/// Refuses a folder where one of the new images is there.
-pub fn refuse_taken<R: Files + AllocGlobal>(
-    rt: &R,
-    folder: &str,
-    config: Config,
-) -> Result<(), FolderFault>
-where
-    R::File: FileExt + OpenFile + Drop,
-    ensures fault { IfErr result (IsFormatFault config.disks) }
-{
-    for disk in 0..config.disks() {
-        let path = image_path(rt.alloc(), folder, disk)?;
-        let taken = is_taken(rt, path.as_str(), config.image_length()).map_err(
-            |fault| FolderFault::Image { disk, fault },
-        )?;
-        if taken {
-            return Err(FolderFault::AlreadyThere);
-        }
-    }
-    Ok(())
 }
 
 /// Makes the new images of zeros.

@@ -9,13 +9,13 @@ ghost use Rattle.folder_migration.specs.RenewingFolders.{AreLeftFinished, AreLef
 ghost use Rattle.folder_migration.specs.declared.old_log.TheConstants.{TRIES};
 
 use crate::finishing::finish_left;
-use crate::new_folder::{first_host, make_images, open_new_folder, refuse_taken};
+use crate::new_folder::{first_host, make_images, open_new_folder};
 use crate::old_log::TRIES;
 use crate::renew_fault::{NewFault, RenewFault};
 use crate::renewal::renew_disks;
 use crate::successor::{name_successor, names_successor, successor_line};
 use disk::FileDisk;
-use dlm_images::{DiskHost, TryLock, lock_host, open_folder};
+use dlm_images::{DiskHost, TryLock, lock_host, open_folder, refuse_taken};
 use host::Config;
 use lock_command::{ClientNumber, HostNumber};
 use std::fs::OpenFile;
