@@ -339,7 +339,7 @@ int open(const char *path, int flags, ...) {
     va_end(rest);
     int fd = real_open(path, flags, mode);
     if (fd >= 0 && fd < MOST_FILES)
-        images[fd] = !strncmp(path, "e/disk", 6);
+        images[fd] = strstr(path, "/e/disk") != NULL;
     return fd;
 }
 

@@ -655,6 +655,8 @@ def main():
     lock_log.see_that_it_is_built(given.program)
     where = "/dev/shm" if os.access("/dev/shm", os.W_OK) else None
     with tempfile.TemporaryDirectory(dir=where) as work:
+        # The shim compares the paths of the old folder's files, which the program names without links.
+        work = os.path.realpath(work)
         shim = lock_log.built_shim(work)
         if not shim:
             print("left out: power_loss.py, losses of power: no C compiler (cc)")

@@ -7,8 +7,9 @@ row. Clients are left out, and begin anew. What is refused is refused in the ord
 another table, and that the next run with the same words ends it or is refused, while one with other words is refused.
 
 Each call on a file of a fill, of a renewal and of a run that ends one fails once. Before each call of a renewal it stops, and a second one with the
-same words or with others is made meanwhile; and some start at the same moment. For both, a few lines of C stand before the C library; where
-there is no C compiler this is left out. `--long` renews one cluster so many times in a row (none given: none), onto other numbers of disks and slots. Submissions, fills
+same words or with others is made meanwhile; and some start at the same moment. Two operators renew a folder by a link, which moves before each call of
+the second; and so it does before each call of the other commands. For all this a few lines of C stand before the C library; where
+there is no C compiler it is left out. `--long` renews one cluster so many times in a row (none given: none), onto other numbers of disks and slots. Submissions, fills
 and renewals are killed and begun again, as docs/OPERATIONS.md says. After each the table and each client's last reply are those of a plain table.
 
 It prints each difference, and how many there were; the status is 1 where there was one. The program has to be built: `./dlm` does so.
@@ -83,6 +84,17 @@ def put_byte(path, at, byte):
         file.write(bytes([byte]))
 
 
+def named(new, disks, slots, cluster):
+    """What the old folder has in its file `renewed`: the own path of the new one, which means the same from everywhere."""
+    return f"{os.path.realpath(new)} {disks} {slots} {cluster}\n".encode()
+
+
+def link(folder):
+    """Moves the link `current` to this folder, as docs/OPERATIONS.md says."""
+    os.symlink(folder, "next")
+    os.replace("next", "current")
+
+
 def make(folder, disks, slots, cluster):
     os.mkdir(folder)
     prints(f"format {folder} {disks} {slots} {cluster}", f"formatted {disks} disks, {slots} slots\n")
@@ -145,7 +157,7 @@ def is_renewed(old, new, disks, slots, cluster):
     status, printed, told = run(f"renew {old} 1 {new} {disks} {slots} {cluster}")
     words = printed.split(" ")
     wants(f"a renewal of {old}", (status, told, words[0], " ".join(words[2:])), (0, "", "renewed", f"commands, {disks} disks, {slots} slots\n"))
-    wants(f"what names the successor of {old}", bytes_of(f"{old}/renewed"), f"{new} {disks} {slots} {cluster}\n".encode())
+    wants(f"what names the successor of {old}", bytes_of(f"{old}/renewed"), named(new, disks, slots, cluster))
     count, again = table(new)
     wants(f"the table of {new}", (count, again), (int(words[1]), shown))
     wants(f"the table of {old}, once more", table(old)[1], shown)
@@ -212,6 +224,7 @@ def full(folder, cluster=7):
 
 
 HELD = "db\n  granted 1 1 0 EX\n"
+RENEWED_OF_TWO = "renewed 2 commands, 3 disks, 16 slots\n"
 
 
 @test
@@ -223,6 +236,8 @@ def refusals():
     make("d", 1, 4, 7)
     refused("fill d 1", "dlm: 40 NoClient\n")
     refused("renew d 1 e 3 16 7", "dlm: 39 SameCluster\n")
+    refused("renew d 1 e 3 16 8", "dlm: 37 NoLock host0\n")
+    os.mkdir("e")
     refused("renew d 1 e 3 16 8", "dlm: 38 NotFull\n")
     prints("submit d 0 enqueue 1 1 1 EX db", "ack 0 Granted\n")
     fill("d", 3)
@@ -232,7 +247,6 @@ def refusals():
         refused("fill d 1", "dlm: 36 HostInUse host1\n")
     refused("renew d 1 e 3 2 8", "dlm: 33 TooFewSlots\n")
     wants("no successor is named", os.path.exists("d/renewed"), False)
-    os.mkdir("e")
     # Whoever opened the new folder would look at an image of another number, too.
     for disk in (2, 3, 6):
         with open(f"e/disk{disk}.img", "wb"):
@@ -240,9 +254,10 @@ def refusals():
         refused("renew d 1 e 3 16 8", "dlm: 29 AlreadyThere\n")
         wants("what is there", (os.listdir("e"), os.path.exists("d/renewed")), ([f"disk{disk}.img"], False))
         os.remove(f"e/disk{disk}.img")
-    # A folder that is not there, and one where somebody works as host 0, is not named.
+    # A folder that is not there, or that has no name, and one where somebody works as host 0, is not named.
     os.rmdir("e")
-    refused("renew d 1 e 3 16 8", "dlm: 37 NoLock host0\n")
+    for new in ("e", ""):
+        refused(f"renew d 1 {new} 3 16 8", "dlm: 37 NoLock host0\n")
     os.mkdir("e")
     with open("e/host0.lock", "w+b") as lock:
         fcntl.flock(lock, fcntl.LOCK_EX)
@@ -256,7 +271,7 @@ def refusals():
     for words in ("renew d 1 f 3 16 8", "renew d 1 e 2 16 8", "renew d 1 e 3 17 8", "renew d 1 e 3 16 9"):
         refused(words, "dlm: 41 RenewedElsewhere\n")
     wants("the new folders", (os.listdir("e"), os.listdir("f")), ([], []))
-    prints("renew d 1 e 3 16 8", "renewed 2 commands, 3 disks, 16 slots\n")
+    prints("renew d 1 e 3 16 8", RENEWED_OF_TWO)
     prints("table e 1", "recovered 2\n" + HELD)
     # All gates are open: nobody is told that this is his table.
     refused("renew d 1 e 3 16 8", "dlm: 29 AlreadyThere\n")
@@ -288,7 +303,7 @@ def clients_are_left_out():
     os.mkdir("e")
     prints("renew d 1 e 3 16 8 2 200 2", "renewed 3 commands, 3 disks, 16 slots\n")
     wants("the table", table("e"), (3, shown))
-    wants("what names the successor", bytes_of("d/renewed"), b"e 3 16 8\n")
+    wants("what names the successor", bytes_of("d/renewed"), named("e", 3, 16, 8))
     # What was left out counts from 1 again. The others go on.
     prints("submit e 0 status 2 1 9", "ack 3 12 NoSuchLock\n")
     prints("submit e 0 status 3 6 9", f"ack 4 {STALE}\n")
@@ -365,14 +380,38 @@ def an_old_folder_is_no_new_one():
 
 
 @test
+def a_new_folder_is_the_same_from_everywhere():
+    full("d")
+    for folder in ("e", "apart", "apart/e"):
+        os.mkdir(folder)
+    prints("renew d 1 e 3 16 8", RENEWED_OF_TWO)
+    wants("what names the successor", bytes_of("d/renewed"), named("e", 3, 16, 8))
+    put_byte("e/disk2.img", 0, 0)
+    os.symlink("../e", "apart/link")
+    os.chdir("apart")
+    # The words that were given are another folder here, and this folder has other words.
+    refused("renew ../d 1 e 3 16 8", "dlm: 41 RenewedElsewhere\n")
+    for new in ("../e", "link", os.path.realpath("../e")):
+        prints(f"renew ../d 1 {new} 3 16 8", "finished 3 disks\n")
+        put_byte("../e/disk2.img", 0, 0)
+    wants("another folder of the same name", os.listdir("e"), [])
+    os.chdir("..")
+    # An earlier program wrote the words as they were given. They are still read so.
+    with open("d/renewed", "w") as file:
+        file.write("./e 3 16 8\n")
+    refused("renew d 1 apart/e 3 16 8", "dlm: 41 RenewedElsewhere\n")
+    prints("renew d 1 ./e 3 16 8", "finished 3 disks\n")
+
+
+@test
 def a_line_without_an_end_names_nobody():
     for left in (b"", b"e 3", b"another folder whose name is long 3"):
         full("d")
         os.mkdir("e")
         with open("d/renewed", "wb") as file:
             file.write(left)
-        prints("renew d 1 e 3 16 8", "renewed 2 commands, 3 disks, 16 slots\n")
-        wants("the successor", bytes_of("d/renewed"), b"e 3 16 8\n")
+        prints("renew d 1 e 3 16 8", RENEWED_OF_TWO)
+        wants("the successor", bytes_of("d/renewed"), named("e", 3, 16, 8))
         shutil.rmtree("d")
         shutil.rmtree("e")
     full("d")
@@ -473,7 +512,7 @@ def each_call_of_a_fill_fails():
     shown = table("d")[1]
     for call, times, process in at_each_call(library, "fill d 3", {"d": images_of("d")}):
         # One image of three may fail.
-        told = "dlm: 37 NoLock host3\n" if call.endswith(".lock") else ""
+        told = "dlm: 37 NoLock host3\n" if call.endswith(".lock") else "dlm: 26 Unreadable disk0\n" if call.startswith("realpath") else ""
         wants(f"a fill where {call} fails, {times}", end_of(process), (1, "", told) if told else (0, "filled 2 slots\n", ""))
         fill("d", 2 if told else 0)
         wants(f"the table after {call}", table("d"), (4, shown))
@@ -519,6 +558,8 @@ def each_call_fails():
 
 def of_a_renewal(name, path, times):
     """What a renewal comes to where this call fails, which it made this often. One old image of three may fail."""
+    if name == "realpath":
+        return of_no_folder(path)
     if path.startswith("d/disk"):
         return 0, RENEWED, ""
     if path.endswith(".lock"):
@@ -535,6 +576,8 @@ def of_a_renewal(name, path, times):
 
 def of_a_finish(name, path, times):
     """And a run that opens the last two gates. A new image that cannot be read is passed over, and left to the next run."""
+    if name == "realpath":
+        return of_no_folder(path)
     if path == "d/renewed":
         return 1, "", "dlm: 26 Unreadable\n"
     if path == "e/disk0.img" and (name == "open" or name == "pread" and times <= 2):
@@ -542,6 +585,10 @@ def of_a_finish(name, path, times):
     if path.startswith("e/") and name in ("pwrite", "fdatasync"):
         return 1, "", "dlm: 34 MigrationFailed\n"
     return 0, "finished 3 disks\n", ""
+
+
+def of_no_folder(path):
+    return 1, "", "dlm: 26 Unreadable disk0\n" if path == "d" else "dlm: 37 NoLock host0\n"
 
 
 # TWO AT ONCE
@@ -584,9 +631,66 @@ def one_has_renewed(what, second, ended, shown, new):
         wants(f"{what}: the other folder", images_of(empty), {})
         refused(other, "dlm: 41 RenewedElsewhere\n")
     wants(f"{what}: the new images", images_of(made), new)
-    wants(f"{what}: what is named", bytes_of("d/renewed"), f"{made} 3 6 8\n".encode())
+    wants(f"{what}: what is named", bytes_of("d/renewed"), named(made, 3, 6, 8))
     wants(f"{what}: what is read", looks(shown, made), True)
     refused(words, "dlm: 29 AlreadyThere\n")
+
+
+# LINKS THAT MOVE
+
+@test
+def two_operators_renew_by_a_link():
+    """Each renews `current` as a host of its own, onto a folder of its own. The second one stops before each of its calls, and the first one is made
+    meanwhile. Whoever is done moves the link. The old folder alone has a successor, and it has one."""
+    library = built_failing()
+    if not library:
+        return
+    shown, old, _ = full_and_renewed()
+    link("d")
+    for call, times, process in at_each_call(library, "renew current 2 f 3 6 9", {"d": old, "e": {}, "f": {}}, FAIL_STOP="yes"):
+        first = run("renew current 1 e 3 6 8")
+        if first[0] == 0:
+            link("e")
+        process.send_signal(signal.SIGCONT)
+        tells = [printed or told for _, printed, told in (first, end_of(process))]
+        what = f"before {call}, {times}"
+        wants(f"{what}: how often it was renewed, {tells}", tells.count(RENEWED), 1)
+        # A link that moved before it was followed leads to the new folder, whose log is not full.
+        wants(f"{what}: others than what may be told, {tells}", [told for told in tells if told not in (*OF_TWO, "dlm: 38 NotFull\n")], [])
+        made, other, cluster = ("e", "f", 8) if tells[0] == RENEWED else ("f", "e", 9)
+        wants(f"{what}: folders that have a successor", [folder for folder in "def" if os.path.exists(f"{folder}/renewed")], ["d"])
+        wants(f"{what}: what is named", bytes_of("d/renewed"), named(made, 3, 6, cluster))
+        wants(f"{what}: the other folder", images_of(other), {})
+        wants(f"{what}: what is read", looks(shown, made), True)
+        link("d")
+
+
+@test
+def a_link_is_followed_once():
+    """Before each call of a command the link to its folder moves to another one. It works on one of the two, and under that one's lock."""
+    library = built_failing()
+    if not library:
+        return
+    _, old, new = full_and_renewed()
+    both = {"d": old, "e": new}
+    for words in ("table current 2", "submit current 2 status 1 9 1", "mark current 2", "fill current 2", "check current"):
+        may = []
+        for folder in both:
+            for each, files in both.items():
+                put(each, files)
+            link(folder)
+            may.append((run(words), locked(both)))
+        link("d")
+        for call, times, process in at_each_call(library, words, both, FAIL_STOP="yes"):
+            link("e")
+            process.send_signal(signal.SIGCONT)
+            found = end_of(process), locked(both)
+            wants(f"`{words}`, where the link moves before {call}, {times}, came to {found}: it may", found in may, True)
+            link("d")
+
+
+def locked(folders):
+    return [folder for folder in folders if os.path.exists(f"{folder}/host2.lock")]
 
 
 # MANY IN A ROW

@@ -1,9 +1,9 @@
 /* One call of a process fails, or the process stops before it. For LD_PRELOAD; tests/renew.py builds it with `cc -shared -fPIC`.
  *
- * FAIL_AT=N       of the opens, locks, reads, writes, cuts, syncs and renames of files that have a relative path the N-th fails,
- *                 counted from 1. A write leaves the first half of its bytes.
+ * FAIL_AT=N       of the opens, locks, reads, writes, cuts, syncs and renames of files below the folder in which the process was started the
+ *                 N-th fails, counted from 1; and of the calls that follow the links to such a folder. A write leaves the first half of its bytes.
  * FAIL_STOP=yes   it does not fail: before it the process stops, as by SIGSTOP
- * FAIL_TOLD=FILE  which one that was: its name and the path, in a line
+ * FAIL_TOLD=FILE  which one that was: its name and the path from that folder, in a line
  */
 #define _GNU_SOURCE
 #include <dlfcn.h>
@@ -19,14 +19,25 @@
 
 #define MOST_FILES 1024
 
-/* By descriptor: its relative path, or nothing. */
+/* By descriptor: its path from the folder in which the process was started, or nothing. */
 static char paths[MOST_FILES][256];
+static char start[4096];
 static int left;
 
 #define REAL(name) ((__typeof__(&name))dlsym(RTLD_NEXT, #name))
 
 __attribute__((constructor)) static void begin(void) {
     left = getenv("FAIL_AT") ? atoi(getenv("FAIL_AT")) : 0;
+    if (!getcwd(start, sizeof start))
+        *start = 0;
+}
+
+/* The path from the folder in which the process was started, or nothing where it leads elsewhere. */
+static const char *from_start(const char *path) {
+    size_t length = strlen(start);
+    if (*path != '/')
+        return path;
+    return length && !strncmp(path, start, length) && path[length] == '/' ? path + length + 1 : "";
 }
 
 static const char *path_of(int fd) {
@@ -35,7 +46,7 @@ static const char *path_of(int fd) {
 
 /* Whether the call of this name is the one that fails. */
 static int fails(const char *name, const char *path) {
-    if (!*path || *path == '/' || !left || --left)
+    if (!*path || !left || --left)
         return 0;
     FILE *told = fopen(getenv("FAIL_TOLD"), "w");
     fprintf(told, "%s %s\n", name, path);
@@ -53,11 +64,11 @@ int open(const char *path, int flags, ...) {
     va_start(rest, flags);
     int mode = flags & O_CREAT ? va_arg(rest, int) : 0;
     va_end(rest);
-    if (fails("open", path))
+    if (fails("open", from_start(path)))
         return -1;
     int fd = REAL(open)(path, flags, mode);
     if (fd >= 0 && fd < MOST_FILES)
-        snprintf(paths[fd], sizeof paths[fd], "%s", *path == '/' ? "" : path);
+        snprintf(paths[fd], sizeof paths[fd], "%s", from_start(path));
     return fd;
 }
 
@@ -102,5 +113,9 @@ int fsync(int fd) {
 }
 
 int rename(const char *from, const char *to) {
-    return fails("rename", from) ? -1 : REAL(rename)(from, to);
+    return fails("rename", from_start(from)) ? -1 : REAL(rename)(from, to);
+}
+
+char *realpath(const char *path, char *into) {
+    return fails("realpath", from_start(path)) ? NULL : REAL(realpath)(path, into);
 }

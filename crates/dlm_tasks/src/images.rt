@@ -11,8 +11,8 @@ use crate::command_failure::CommandFailure;
 use crate::fault::Fault;
 use disk::FileDisk;
 use dlm_images::{
-    Acknowledgement, DiskHost, MarkedLog, TryLock, check_folder, format_folder, lock_host,
-    open_folder, open_folder_to_read, submit_patiently,
+    Acknowledgement, DiskHost, MarkedLog, TryLock, check_folder, find_folder, format_folder,
+    lock_host, open_folder, open_folder_to_read, submit_patiently,
 };
 use dlm_words::ReplyText;
 use folder_migration::{Moved, Renewed, fill_log, migrate_folder, renew_folder};
@@ -45,7 +45,8 @@ where
     R::File: FileExt + OpenFile + Drop,
     ensures { OnOk result (Appends (O.contents out.old) (O.contents out.new) (formatted_text config)) }
 {
-    format_folder(rt, folder, config, cluster).map_err(Fault::from)?;
+    let folder = find_folder(rt, folder).map_err(Fault::from)?;
+    format_folder(rt, folder.as_str(), config, cluster).map_err(Fault::from)?;
     let disks = config.disks();
     let slots = config.slots();
     writeln!(out, "formatted {disks} disks, {slots} slots")?;
@@ -109,8 +110,9 @@ pub fn check<R: Files + AllocGlobal, O: Write>(
 where
     R::File: FileExt + OpenFile + Drop,
 {
-    let folder = open_folder_to_read(rt, folder).map_err(Fault::from)?;
-    let found = check_folder(folder, out)?;
+    let folder = find_folder(rt, folder).map_err(Fault::from)?;
+    let images = open_folder_to_read(rt, folder.as_str()).map_err(Fault::from)?;
+    let found = check_folder(images, out)?;
     if found.is_none() {
         out.write_all(b"sound\n")?;
     }
@@ -202,9 +204,10 @@ where
     ensures fresh { IfOk result (λ over. LeadsTo over.0 host fresh over.1.core) }
     ensures locked { IfOk result (λ over. R.File.locked over.2) }
 {
-    let images = open_folder(rt, folder)?;
+    let folder = find_folder(rt, folder)?;
+    let images = open_folder(rt, folder.as_str())?;
     let config = images.config;
-    let lock = lock_host(rt, folder, host)?;
+    let lock = lock_host(rt, folder.as_str(), host)?;
     let over = images.host(rt.alloc(), host)?;
     Ok((config, over, lock))
 }

@@ -7,7 +7,7 @@ use crate::gate::Gate;
 use crate::migrating::migrate_disks;
 use crate::new_folder::{first_host, make_free_images, open_new_folder};
 use crate::old_folder::open_old_folder;
-use dlm_images::{FolderFault, TryLock, lock_host};
+use dlm_images::{FolderFault, TryLock, find_folder, lock_host};
 use host::Config;
 use slot_log::SlotCount;
 use std::fs::OpenFile;
@@ -37,15 +37,17 @@ where
     ensures came_to { IfOk result (CameTo slots) }
     ensures fault { IfErr result (MayFail slots) }
 {
-    let images = open_old_folder(rt, old)?;
+    let old = find_folder(rt, old)?;
+    let images = open_old_folder(rt, old.as_str())?;
     let cluster = images.cluster;
     let config = new_config(images.config, slots)?;
     let disks = config.disks();
-    if finish_earlier(rt, new, config, cluster)? {
+    let new = find_folder(rt, new)?;
+    if finish_earlier(rt, new.as_str(), config, cluster)? {
         return Ok(Moved::Finished { disks });
     }
     // Two migrations at once would both be host 0.
-    let _lock = lock_host(rt, old, first_host())?;
+    let _lock = lock_host(rt, old.as_str(), first_host())?;
     let mut old_disks = images.disks;
     let commands = migrate_disks(
         rt.alloc(),
@@ -53,7 +55,7 @@ where
         cluster,
         &mut old_disks,
         config,
-        || make_free_images(rt, new, config),
+        || make_free_images(rt, new.as_str(), config),
     )?;
     Ok(Moved::Moved { commands, disks })
 }

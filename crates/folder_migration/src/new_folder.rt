@@ -1,17 +1,20 @@
-ghost use Rattle.std.specs.Prelude.{◌≡◌, ◌<◌, IfOk, IfErr, length};
+ghost use Rattle.std.specs.Prelude.{◌≡◌, ◌⊎◌, ◌<◌, IfOk, IfErr, length};
 ghost use Rattle.paxos_block.specs.Places.{image_length};
 ghost use Rattle.dlm_images.specs.SetFaults.{IsFormatFault};
 ghost use Rattle.folder_migration.specs.Migrating.{AreBlank, IsBlank};
 
 use crate::image::clear;
+use crate::renew_fault::NewFault;
 use disk::{FileDisk, ImageFault};
 use dlm_images::{
-    Access, FolderFault, image_path, new_device, open_cut_to_header, refuse_taken, sync_folder,
+    Access, FolderFault, LockFault, find_folder, image_path, new_device, open_cut_to_header,
+    refuse_taken, sync_folder,
 };
 use host::Config;
 use lock_command::HostNumber;
 use std::fs::OpenFile;
 use std::os::unix::fs::FileExt;
+use std::path::PathBuf;
 use std::rt::Files;
 
 /// The host that recovers a log of the first layout, and that writes new images: what is moved is as this host would have left it.
@@ -21,6 +24,17 @@ pub fn first_host() -> HostNumber
     match HostNumber::new(0) {
         Some(host) => host,
         None => unreachable!(),
+    }
+}
+
+/// The own path of the new folder of a renewal. Where there is none nobody can be locked out of it, and that is told.
+pub fn find_new<R: Files + AllocGlobal>(rt: &R, folder: &str) -> Result<PathBuf, NewFault>
+    ensures fault { IfErr result (λ fault. (fault ≡ NewFault.Folder FolderFault.NoMemory) ⊎ (fault ≡ NewFault.Lock (LockFault.NoLock 0))) }
+{
+    match find_folder(rt, folder) {
+        Ok(path) => Ok(path),
+        Err(FolderFault::NoMemory) => Err(NewFault::Folder(FolderFault::NoMemory)),
+        Err(_) => Err(NewFault::Lock(LockFault::NoLock(first_host().get()))),
     }
 }
 

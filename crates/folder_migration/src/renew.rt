@@ -9,13 +9,13 @@ ghost use Rattle.folder_migration.specs.RenewingFolders.{AreLeftFinished, AreLef
 ghost use Rattle.folder_migration.specs.declared.old_log.TheConstants.{TRIES};
 
 use crate::finishing::finish_left;
-use crate::new_folder::{first_host, make_images, open_new_folder};
+use crate::new_folder::{find_new, first_host, make_images, open_new_folder};
 use crate::old_log::TRIES;
 use crate::renew_fault::{NewFault, RenewFault};
 use crate::renewal::renew_disks;
-use crate::successor::{name_successor, names_successor, successor_line};
+use crate::successor::{SuccessorLine, name_successor, names_successor};
 use disk::FileDisk;
-use dlm_images::{DiskHost, TryLock, lock_host, open_folder, refuse_taken};
+use dlm_images::{DiskHost, TryLock, find_folder, lock_host, open_folder, refuse_taken};
 use host::Config;
 use lock_command::{ClientNumber, HostNumber};
 use std::fs::OpenFile;
@@ -48,29 +48,31 @@ where
     ensures came_to { IfOk result (CameToRenew host config cluster leave.now) }
     ensures fault { IfErr result (MayNotRenew host config cluster leave.now) }
 {
-    let images = open_folder(rt, old)?;
+    let old = find_folder(rt, old)?;
+    let images = open_folder(rt, old.as_str())?;
     if images.cluster == cluster {
         return Err(RenewFault::SameCluster);
     }
-    let Ok(line) = successor_line(rt.alloc(), new, config, cluster) else {
+    let found = find_new(rt, new)?;
+    let Ok(line) = SuccessorLine::new(rt.alloc(), found.as_str(), new, config, cluster) else {
         return Err(RenewFault::NoMemory);
     };
-    let named = names_successor(rt, old, line.as_str())?;
+    let named = names_successor(rt, old.as_str(), &line)?;
     let disks = config.disks();
     // Nothing is made of a set before it is named. So what else looks like a run that was ended, as a `format` that was, is none.
-    if named && finish_renewal(rt, new, config, cluster)? {
+    if named && finish_renewal(rt, found.as_str(), config, cluster)? {
         return Ok(Renewed::Finished { disks });
     }
-    let _lock = lock_host(rt, old, host)?;
+    let _lock = lock_host(rt, old.as_str(), host)?;
     let slots = images.config.slots();
     let mut over = images.host(rt.alloc(), host)?;
     let commands = renew_over(
         rt,
         &mut over,
         slots,
-        old,
-        line.as_str(),
-        new,
+        old.as_str(),
+        &line,
+        found.as_str(),
         config,
         cluster,
         leave,
@@ -108,7 +110,7 @@ fn renew_over<R: Files + AllocGlobal>(
     host: &mut DiskHost<FileDisk<R::File>>,
     slots: u16,
     old: &str,
-    line: &str,
+    line: &SuccessorLine,
     new: &str,
     config: Config,
     cluster: u64,
@@ -140,7 +142,7 @@ where
 fn make_successor<R: Files + AllocGlobal>(
     rt: &R,
     old: &str,
-    line: &str,
+    line: &SuccessorLine,
     new: &str,
     config: Config,
 ) -> Result<(Vec<FileDisk<R::File>>, R::File), NewFault>

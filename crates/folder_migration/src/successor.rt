@@ -18,12 +18,35 @@ const NAME: &str = "renewed";
 const DRAFT: &str = "renewed.new";
 
 /// The line by which a folder names its successor.
-pub fn successor_line(
-    alloc: Global,
-    new: &str,
-    config: Config,
-    cluster: u64,
-) -> Result<String, AllocError> {
+#[derive(Drop)]
+pub struct SuccessorLine {
+    /// With the new folder's own path, so that it means the same wherever a run is started.
+    whole: String,
+    /// With the path that was given. Earlier programs wrote that.
+    given: String,
+}
+
+impl SuccessorLine {
+    /// The line of a set in a new folder, which was found at this path, and was given so.
+    pub fn new(
+        alloc: Global,
+        found: &str,
+        given: &str,
+        config: Config,
+        cluster: u64,
+    ) -> Result<SuccessorLine, AllocError> {
+        let whole = line_of(alloc, found, config, cluster)?;
+        let given = line_of(alloc, given, config, cluster)?;
+        Ok(SuccessorLine { whole, given })
+    }
+
+    /// Whether a folder that has this line names the set.
+    fn is(&self, named: &str) -> bool {
+        named == self.whole.as_str() || named == self.given.as_str()
+    }
+}
+
+fn line_of(alloc: Global, new: &str, config: Config, cluster: u64) -> Result<String, AllocError> {
     let disks = config.disks();
     let slots = config.slots();
     format!(in alloc; "{new} {disks} {slots} {cluster}\n")
@@ -35,7 +58,7 @@ pub fn successor_line(
 pub fn names_successor<R: Files + AllocGlobal>(
     rt: &R,
     folder: &str,
-    line: &str,
+    line: &SuccessorLine,
 ) -> Result<bool, NewFault>
     ensures fault { IfErr result IsNamingFault }
 {
@@ -50,10 +73,10 @@ pub fn names_successor<R: Files + AllocGlobal>(
     }
 }
 
-fn of_named(named: &str, line: &str) -> Result<bool, NewFault>
+fn of_named(named: &str, line: &SuccessorLine) -> Result<bool, NewFault>
     ensures fault { IfErr result IsNamingFault }
 {
-    if named == line {
+    if line.is(named) {
         Ok(true)
     } else if named.ends_with('\n') {
         Err(NewFault::RenewedElsewhere)
@@ -66,7 +89,7 @@ fn of_named(named: &str, line: &str) -> Result<bool, NewFault>
 pub fn name_successor<R: Files + AllocGlobal>(
     rt: &R,
     folder: &str,
-    line: &str,
+    line: &SuccessorLine,
 ) -> Result<(), NewFault>
 where
     R::File: OpenFile + TryLock,
@@ -80,7 +103,11 @@ where
 }
 
 /// Puts the line there as a whole: a loss of power leaves all of it, or what was there before.
-fn put_line<R: Files + AllocGlobal>(rt: &R, folder: &str, line: &str) -> Result<(), NewFault>
+fn put_line<R: Files + AllocGlobal>(
+    rt: &R,
+    folder: &str,
+    line: &SuccessorLine,
+) -> Result<(), NewFault>
 where
     R::File: OpenFile + TryLock,
     ensures fault { IfErr result IsNamingFault }
@@ -104,7 +131,7 @@ where
         return Ok(());
     }
     let path = path_in(rt.alloc(), folder, NAME)?;
-    if write_line(&mut file, line).is_err()
+    if write_line(&mut file, line.whole.as_str()).is_err()
         || fs::rename(rt, draft.as_str(), path.as_str()).is_err()
     {
         return Err(NewFault::NotNamed);

@@ -1,0 +1,28 @@
+ghost use Rattle.std.specs.Prelude.{IfErr};
+ghost use Rattle.dlm_images.specs.SetFaults.{MayRefuse};
+
+use crate::fault::FolderFault;
+use disk::ImageFault;
+use std::path::PathBuf;
+use std::rt::Files;
+use std::{fs, io};
+
+/// A folder's own path, from the root. The links that lead to it are followed here, and not again: whoever works on several files of a
+/// folder finds it once, and names each of them by this path. Otherwise a link that is moved meanwhile would give images of one folder, and the
+/// lock of another. A folder that is itself renamed meanwhile is not noticed.
+///
+/// Where there is none, that is told as of a folder in which no image can be read.
+pub fn find_folder<R: Files + AllocGlobal>(rt: &R, folder: &str) -> Result<PathBuf, FolderFault>
+    ensures fault { IfErr result MayRefuse }
+{
+    match fs::canonicalize(rt, folder) {
+        Ok(path) => Ok(path),
+        Err(error) => match error.kind() {
+            io::ErrorKind::OutOfMemory => Err(FolderFault::NoMemory),
+            _ => Err(FolderFault::Image {
+                disk: 0,
+                fault: ImageFault::Unreadable,
+            }),
+        },
+    }
+}
