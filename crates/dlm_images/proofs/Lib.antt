@@ -3,6 +3,7 @@ pub mod Counting
 pub mod Damage
 pub mod Driving
 pub mod Ending
+pub mod Finding
 pub mod Found
 pub mod Headers
 pub mod Images

@@ -6,4 +6,5 @@ pub mod OldFolders
 pub mod Recovery
 pub mod Renewing
 pub mod RenewingFolders
+pub mod Successor
 pub mod Writing

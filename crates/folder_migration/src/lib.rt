@@ -32,3 +32,4 @@ pub use old_log::recover_log;
 pub use renew::{Renewed, renew_folder};
 pub use renew_fault::{NewFault, RenewFault};
 pub use renewal::renew_disks;
+pub use successor::successor_path;

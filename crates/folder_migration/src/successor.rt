@@ -1,5 +1,7 @@
-ghost use Rattle.std.specs.Prelude.{◌≡◌, IfErr};
+ghost use Rattle.std.specs.Prelude.{◌≡◌, IfErr, IfOk};
+ghost use Rattle.std.specs.Path.{path_buf_bytes, path_join};
 ghost use Rattle.folder_migration.specs.RenewingFolders.{IsNamingFault};
+ghost use Rattle.folder_migration.specs.Successor.{draft_name, successor_name};
 
 use crate::renew_fault::NewFault;
 use dlm_images::{FolderFault, TryLock, sync_folder};
@@ -10,12 +12,6 @@ use std::io::Write;
 use std::path::{Path, PathBuf};
 use std::rt::Files;
 use std::{fs, io};
-
-/// The file of a folder that names the set into which the folder's log was renewed.
-const NAME: &str = "renewed";
-
-/// The file that becomes it, once all of it is written and synced.
-const DRAFT: &str = "renewed.new";
 
 /// The line by which a folder names its successor.
 #[derive(Drop)]
@@ -62,7 +58,7 @@ pub fn names_successor<R: Files + AllocGlobal>(
 ) -> Result<bool, NewFault>
     ensures fault { IfErr result IsNamingFault }
 {
-    let path = path_in(rt.alloc(), folder, NAME)?;
+    let path = successor_path(rt.alloc(), folder)?;
     match fs::read_to_string(rt, path.as_str()) {
         Ok(named) => of_named(named.as_str(), line),
         Err(error) => match error.kind() {
@@ -112,7 +108,7 @@ where
     R::File: OpenFile + TryLock,
     ensures fault { IfErr result IsNamingFault }
 {
-    let draft = path_in(rt.alloc(), folder, DRAFT)?;
+    let draft = draft_path(rt.alloc(), folder)?;
     let Ok(mut file) = OpenOptions::new()
         .read(true)
         .write(true)
@@ -130,7 +126,7 @@ where
     if names_successor(rt, folder, line)? {
         return Ok(());
     }
-    let path = path_in(rt.alloc(), folder, NAME)?;
+    let path = successor_path(rt.alloc(), folder)?;
     if write_line(&mut file, line.whole.as_str()).is_err()
         || fs::rename(rt, draft.as_str(), path.as_str()).is_err()
     {
@@ -146,6 +142,16 @@ fn write_line<F: Write + OpenFile>(file: &mut F, line: &str) -> io::Result<()> {
     file.sync_all()
 }
 
-fn path_in(alloc: Global, folder: &str, name: &str) -> Result<PathBuf, AllocError> {
-    Path::new(folder).join(alloc, name)
+/// The path of the file of a folder that names the set into which the folder's log was renewed.
+pub fn successor_path(alloc: Global, folder: &str) -> Result<PathBuf, AllocError>
+    ensures path { IfOk result (λ path. path_buf_bytes path ≡ path_join folder.now successor_name) }
+{
+    Path::new(folder).join(alloc, "renewed")
+}
+
+/// The path of the file that becomes it, once all of it is written and synced.
+fn draft_path(alloc: Global, folder: &str) -> Result<PathBuf, AllocError>
+    ensures path { IfOk result (λ path. path_buf_bytes path ≡ path_join folder.now draft_name) }
+{
+    Path::new(folder).join(alloc, "renewed.new")
 }
