@@ -18,7 +18,7 @@ KNOWN = {
     ("README.md", "mkdir from_c"): "capi/check.sh does so in a folder of its own",
     ("docs/OPERATIONS.md", "ln -s /dev/disk/"): "tests/devices.sh, with loop devices",
     ("docs/OPERATIONS.md", "dlm format images 3 64 7"): "tests/devices.sh, with loop devices",
-    ("docs/OPERATIONS.md", "rust: let folder = open_folder"): "crates/host_tests/src/folders.rt makes such calls",
+    ("docs/OPERATIONS.md", "rust: let found = find_folder"): "crates/host_tests/src/folders.rt makes such calls",
     ("docs/OPERATIONS.md", "rust: let waits = host.submit"): "crates/host_tests/src/folders.rt makes such calls",
     ("docs/OPERATIONS.md", "mg-lock "): "capi/tests/mg_lock.py, over a folder of its own",
     ("docs/OPERATIONS.md", "ini: [Unit]"): "nothing: systemd-analyze verify, by hand",

@@ -1,4 +1,6 @@
-ghost use Rattle.std.specs.Prelude.{IfErr};
+ghost use Rattle.std.specs.Prelude.{◌≡◌, ◌⊎◌, IfErr};
+ghost use Rattle.disk.specs.declared.fault.ImageFault.TheVariants.{Unreadable};
+ghost use Rattle.dlm_images.specs.declared.fault.FolderFault.TheVariants.{NoMemory, Image};
 ghost use Rattle.dlm_images.specs.SetFaults.{MayRefuse};
 
 use crate::fault::FolderFault;
@@ -14,6 +16,7 @@ use std::{fs, io};
 /// Where there is none, that is told as of a folder in which no image can be read.
 #[tactic(auto, using(crate::proofs::Finding::unfound_refuses))]
 pub fn find_folder<R: Files + AllocGlobal>(rt: &R, folder: &str) -> Result<PathBuf, FolderFault>
+    ensures unreadable { IfErr result (λ fault. (fault ≡ NoMemory) ⊎ (fault ≡ Image 0 Unreadable)) }
     ensures fault { IfErr result MayRefuse }
 {
     match fs::canonicalize(rt, folder) {
