@@ -12,6 +12,7 @@ use Rattle.dlm_images.specs.Operations.{HasOperated, Standing}
 use Rattle.dlm_images.specs.SetFaults.{IsFormatFault, MayRefuse}
 use Rattle.dlm_images.specs.Sets.{Found}
 use Rattle.dlm_images.specs.declared.fault.FolderFault.TheVariants as folder
+use Rattle.dlm_images.specs.declared.host_lock.LockFault.TheVariants as lock
 use Rattle.folder_migration.specs.Gates.{AreFinishedFrom, AreStoppedFrom, HaveNothingLeft}
 use Rattle.folder_migration.specs.Migrating.{AreBlank, file_device}
 use Rattle.folder_migration.specs.Renewing.{Carries, HasLocksOf, HasTooFewSlots}
@@ -102,6 +103,13 @@ IsNewFault disks new.RenewedElsewhere = Unit {0}
 IsNewFault disks new.NotNamed = Unit {0}
 IsNewFault disks (new.Folder fault) = IsFormatFault disks fault
 IsNewFault disks (new.Lock fault) = IsLockFault 0 fault
+
+-- the new folder is not there, so that nobody can be locked out of it, or no memory
+abbrev pub IsUnfound : NewFault → Type 0
+IsUnfound new.RenewedElsewhere = ⊥
+IsUnfound new.NotNamed = ⊥
+IsUnfound (new.Folder fault) = fault ≡ folder.NoMemory
+IsUnfound (new.Lock fault) = fault ≡ lock.NoLock 0
 
 -- what stops it once a host has recovered a log of so many slots
 abbrev pub EndsOver : (slots : ℕ) → Shape → (cluster : ℕ) → (leave : List ℕ) → Standing FileState → RenewFault → Type 0

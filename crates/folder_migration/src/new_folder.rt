@@ -1,7 +1,8 @@
-ghost use Rattle.std.specs.Prelude.{◌≡◌, ◌⊎◌, ◌<◌, IfOk, IfErr, length};
+ghost use Rattle.std.specs.Prelude.{◌≡◌, ◌<◌, IfOk, IfErr, length};
 ghost use Rattle.paxos_block.specs.Places.{image_length};
 ghost use Rattle.dlm_images.specs.SetFaults.{IsFormatFault};
 ghost use Rattle.folder_migration.specs.Migrating.{AreBlank, IsBlank};
+ghost use Rattle.folder_migration.specs.RenewingFolders.{IsUnfound};
 
 use crate::image::clear;
 use crate::renew_fault::NewFault;
@@ -29,7 +30,7 @@ pub fn first_host() -> HostNumber
 
 /// The own path of the new folder of a renewal. Where there is none nobody can be locked out of it, and that is told.
 pub fn find_new<R: Files + AllocGlobal>(rt: &R, folder: &str) -> Result<PathBuf, NewFault>
-    ensures fault { IfErr result (λ fault. (fault ≡ NewFault.Folder FolderFault.NoMemory) ⊎ (fault ≡ NewFault.Lock (LockFault.NoLock 0))) }
+    ensures fault { IfErr result IsUnfound }
 {
     match find_folder(rt, folder) {
         Ok(path) => Ok(path),
