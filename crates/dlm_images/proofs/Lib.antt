@@ -3,7 +3,6 @@ pub mod Counting
 pub mod Damage
 pub mod Driving
 pub mod Ending
-pub mod Finding
 pub mod Found
 pub mod Headers
 pub mod Images
@@ -11,5 +10,6 @@ pub mod Opening
 pub mod Sets
 pub mod ShortRuns
 pub mod Trying
+pub mod Unfound
 mod Printed
 mod Reading

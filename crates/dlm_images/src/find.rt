@@ -14,7 +14,7 @@ use std::{fs, io};
 /// lock of another. A folder that is itself renamed meanwhile is not noticed.
 ///
 /// Where there is none, that is told as of a folder in which no image can be read.
-#[tactic(auto, using(crate::proofs::Finding::unfound_refuses))]
+#[tactic(auto, using(crate::proofs::Unfound::unfound_refuses))]
 pub fn find_folder<R: Files + AllocGlobal>(rt: &R, folder: &str) -> Result<PathBuf, FolderFault>
     ensures unreadable { IfErr result (λ fault. (fault ≡ NoMemory) ⊎ (fault ≡ Image 0 Unreadable)) }
     ensures fault { IfErr result MayRefuse }

@@ -8,23 +8,23 @@ use Rattle.dlm_images.specs.SetFaults.{MayRefuse}
 use Rattle.dlm_images.specs.Sets.{Found, Says}
 
 -- an image that cannot be read
-unread : Result Header ImageFault
+abbrev unread : Result Header ImageFault
 unread = Err Unreadable
 
 -- seven of them
-all_unread : Found
+abbrev all_unread : Found
 all_unread = unread ∷ unread ∷ unread ∷ unread ∷ unread ∷ unread ∷ unread ∷ []
 
 -- none of them says a header
 none_says : (k : ℕ) (header : Header) → Says all_unread k header → ⊥
-none_says 0 header says = absurd says
-none_says 1 header says = absurd says
-none_says 2 header says = absurd says
-none_says 3 header says = absurd says
-none_says 4 header says = absurd says
-none_says 5 header says = absurd says
-none_says 6 header says = absurd says
-none_says (suc (suc (suc (suc (suc (suc (suc k))))))) header says = absurd says
+none_says zero header says = absurd (cc)
+none_says (suc zero) header says = absurd (cc)
+none_says (suc (suc zero)) header says = absurd (cc)
+none_says (suc (suc (suc zero))) header says = absurd (cc)
+none_says (suc (suc (suc (suc zero)))) header says = absurd (cc)
+none_says (suc (suc (suc (suc (suc zero))))) header says = absurd (cc)
+none_says (suc (suc (suc (suc (suc (suc zero)))))) header says = absurd (cc)
+none_says (suc (suc (suc (suc (suc (suc (suc k))))))) header says = absurd (cc)
 
 pub unfound_refuses : MayRefuse (Image 0 Unreadable)
 unfound_refuses = (
