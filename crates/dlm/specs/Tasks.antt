@@ -3,13 +3,13 @@ use Rattle.std.specs.Prelude.{◌+◌, ℕ, List, Option, ⊤}
 use Rattle.std.specs.Io.KnownBytes.{Appends}
 use Rattle.dlm_words.specs.declared.words.Subcommand.{Subcommand}
 use Rattle.dlm_words.specs.declared.words.Subcommand.TheVariants.{Run, Sweep, Format, Submit, Table, Mark, Check, Migrate, Fill, Renew, Race}
-use Rattle.dlm_tasks.specs.Printed.{WritesAcknowledgement, WritesFilling, WritesMarks, WritesMove, WritesRenewal, WritesSweep, WritesTable, formatted_text}
+use Rattle.dlm_tasks.specs.Printed.{WritesAcknowledgement, WritesFilling, WritesMarks, WritesMove, WritesRenewal, WritesRun, WritesSweep, WritesTable, formatted_text}
 use Rattle.dlm_tasks.specs.declared.images.TheConstants.{TRIES}
 use Rattle.dlm.specs.RaceText.{WritesRace}
 
--- Nothing is said of a run as a whole, and of a check.
+-- Nothing is said of a check.
 abbrev pub HasPrinted : Subcommand → Option (List ℕ) → Option (List ℕ) → Type 0
-HasPrinted (Run script) before after = ⊤
+HasPrinted (Run script) before after = (bytes : List ℕ) × WritesRun bytes before after
 HasPrinted (Sweep script) before after = (bytes : List ℕ) × WritesSweep bytes before after
 HasPrinted (Format folder config cluster) before after = Appends before after (formatted_text config)
 HasPrinted (Submit folder command) before after = WritesAcknowledgement TRIES command before after

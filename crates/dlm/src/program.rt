@@ -1,7 +1,7 @@
 ghost use Rattle.std.specs.Prelude.{◌≡◌, ◌≢◌, ◌≤◌, ◌↔◌, ℕ, List, OnOk, is_ok, if◌then◌else◌};
 ghost use Rattle.std.specs.Io.KnownBytes.{Keeps};
 ghost use Rattle.dlm_words.specs.Asked.{MayBeAsked};
-ghost use Rattle.dlm_tasks.specs.Printed.{WritesSweep};
+ghost use Rattle.dlm_tasks.specs.Printed.{WritesRun, WritesSweep};
 ghost use Rattle.dlm.specs.Tasks.{HasPrinted};
 
 use crate::racing;
@@ -115,13 +115,17 @@ fn run_file<R: Files + Input + AllocGlobal, O: Write>(
     rt: &R,
     path: &str,
     out: &mut O,
-) -> Result<(), CommandFailure> {
+) -> Result<(), CommandFailure>
+    ensures { OnOk result ((bytes : List ℕ) × WritesRun bytes (O.contents out.old) (O.contents out.new)) }
+{
     let bytes = read_source(rt, path)?;
     run_bytes(rt.alloc(), bytes.as_slice(), out)
 }
 
 /// Reads the whole script and runs it. What it printed goes out also where it is refused later on.
-fn run_bytes<O: Write>(alloc: Global, bytes: &[u8], out: &mut O) -> Result<(), CommandFailure> {
+fn run_bytes<O: Write>(alloc: Global, bytes: &[u8], out: &mut O) -> Result<(), CommandFailure>
+    ensures { OnOk result (WritesRun bytes.now (O.contents out.old) (O.contents out.new)) }
+{
     let script = read_script(alloc, bytes).map_err(Fault::from)?;
     let end = run_script(alloc, &script, out);
     out.flush()?;

@@ -1,9 +1,10 @@
 -- What is printed of events, tables, folders and sweeps.
-use Rattle.std.specs.Prelude.{◌≡◌, ℕ, List, [], ◌∷◌, ◌++◌, codes, decimal, flat_map, length, sum_by, Option, Some, None}
+use Rattle.std.specs.Prelude.{◌≡◌, ◌≤◌, ◌+◌, ◌-◌, ℕ, List, [], ◌∷◌, ◌++◌, codes, decimal, flat_map, length, take, drop, slice_get, slice_index_or, sum_by, Option, Some, None, IfSome}
 use Rattle.std.specs.Io.KnownBytes.{Appends}
 use Rattle.disk.specs.FileStates.{FileState, FileGives}
 use Rattle.world.specs.Entry.{Filled}
 use Rattle.world.specs.World.{world}
+use Rattle.world.specs.Opening.{begun}
 use Rattle.world.specs.Happens as happens
 use Rattle.world.specs.Happens.{Line, entry_of, happens, lines_at}
 use Rattle.lock_command.specs.declared.command.Command.{Command}
@@ -85,6 +86,46 @@ stopped_line host = codes "host " ++ decimal host ++ (codes " is stopped" ++ 10 
 abbrev pub IsShowOf : Show → Option hosts.Kept → List ℕ → Type 0
 IsShowOf show None text = text ≡ stopped_line show.host
 IsShowOf show (Some core) text = (shown : Shown) × IsPictureOf shown (table_after core.prefix) × IsViewOf show.view shown text
+
+-- SCRIPTS
+
+-- The text of events and of tables that are shown between them, where so many events came before. A table is shown behind the answers to the events in front of its place,
+-- or behind those to all.
+abbrev pub IsText : Shape → List Filled → ℕ → List happens.Event → List Show → List ℕ → Type 0
+IsText c log first events [] text = text ≡ lines_text (happens.answers_from c log first events)
+IsText c log first events (show ∷ shows) text =
+    let n = show.place - first in
+    let then = happens.happen c log (take n events) in
+    (kept : Kept) × LeadsTo then kept × (shown : List ℕ) × IsShowOf show (slice_index_or kept.hosts show.host None) shown
+    × (rest : List ℕ) × IsText c then (first + n) (drop n events) shows rest
+    × (text ≡ lines_text (happens.answers_from c log first (take n events)) ++ (shown ++ rest))
+
+-- Such a text was written.
+abbrev pub WritesText : Shape → List Filled → ℕ → List happens.Event → List Show → Option (List ℕ) → Option (List ℕ) → Type 0
+WritesText c log first events shows before after = (text : List ℕ) × IsText c log first events shows text × Appends before after text
+
+-- The script's events happened to a cluster as the script begins, and their text was written, with the tables that the script shows.
+abbrev pub WritesScript : Script → Option (List ℕ) → Option (List ℕ) → Type 0
+WritesScript script before after = WritesText script.config (begun (opening_of script)) 0 (events_of script.events) script.shows.items before after
+
+-- the next table that is shown, if there is one, has this place or a later one
+abbrev pub IsFrom : ℕ → List Show → Type 0
+IsFrom place shows = IfSome (slice_get shows 0) (λ show. place ≤ show.place)
+
+-- The bytes are a script, which was run.
+pub record WritesRun (bytes : List ℕ) (before after : Option (List ℕ)) : Type 0 where
+  pub script : Script
+  pub is_script : IsScript (lines_of bytes) (content_of script)
+  pub written : WritesScript script before after
+
+-- Events happened, after so many others, and tables were shown between them, of which these are left. What is written further on makes the text of all.
+pub record WritesPart (log : List Filled) (events : List happens.Event) (first : ℕ) (shows left : List Show) (old new : Kept) (before after : Option (List ℕ)) : Type 0 where
+  pub shape : new.shape ≡ old.shape
+  pub leads : LeadsTo (happens.happen old.shape log events) new
+  pub text : List ℕ
+  pub written : Appends before after text
+  pub goes_on : (later : List happens.Event) (rest : List ℕ) → IsText old.shape (happens.happen old.shape log events) (first + length events) later left rest
+      → IsText old.shape log first (events ++ later) shows (text ++ rest)
 
 -- FOLDERS
 

@@ -1,10 +1,10 @@
-ghost use Rattle.std.specs.Prelude.{◌≤◌, ◌+◌, ℕ, List, Some, None, IfOk, OnOk, length, replicate, slice_index_or};
+ghost use Rattle.std.specs.Prelude.{◌≤◌, ◌<◌, ◌+◌, ℕ, List, [], Some, None, IfOk, OnOk, length, replicate, slice_index_or};
 ghost use Rattle.std.specs.Io.KnownBytes.{Appends};
 ghost use Rattle.world.specs.Entry.{Filled};
 ghost use Rattle.world.specs.Happens.{Step};
-ghost use Rattle.simulator.specs.Events.{event_of, lines_of};
+ghost use Rattle.simulator.specs.Events.{event_of, events_of, lines_of};
 ghost use Rattle.simulator.specs.Kept.{LeadsTo};
-ghost use Rattle.dlm_tasks.specs.Printed.{WritesAnswer, WritesAnswers, lines_text, IsShowOf, IsViewOf, blocking_text, stopped_line};
+ghost use Rattle.dlm_tasks.specs.Printed.{WritesAnswer, WritesAnswers, WritesPart, WritesScript, WritesText, IsFrom, IsShowOf, IsViewOf, blocking_text, lines_text, stopped_line};
 
 use crate::command_failure::CommandFailure;
 use crate::fault::Fault;
@@ -25,6 +25,7 @@ pub fn run_script<O: Write>(
     out: &mut O,
 ) -> Result<(), CommandFailure>
     requires { length script.now.log.items ≤ script.now.config.slots }
+    ensures { OnOk result (WritesScript script.now (O.contents out.old) (O.contents out.new)) }
 {
     let mut cluster = SimulatedCluster::migrated(alloc, script.config, &script.log).map_err(
         Fault::from,
@@ -32,38 +33,78 @@ pub fn run_script<O: Write>(
     happen_all(alloc, &mut cluster, script, out)
 }
 
+/// Lets the script's events happen, prints what is answered with them, and shows each table when its turn comes.
 fn happen_all<O: Write>(
     alloc: Global,
     cluster: &mut SimulatedCluster,
     script: &Script,
     out: &mut O,
-) -> Result<(), CommandFailure> {
+) -> Result<(), CommandFailure>
+    ensures { OnOk result ((log : List Filled) → LeadsTo log cluster.old →
+        WritesText cluster.old.shape log 0 (events_of script.now.events) script.now.shows.items (O.contents out.old) (O.contents out.new)) }
+{
     let mut shows = script.shows.as_slice();
     let mut place = 0;
-    // A table is shown between two lines of the script, and so between two runs of events.
     for run in script.events.runs() {
-        shows = show_due(alloc, cluster, shows, place, out)?;
-        repeat(alloc, cluster, place, run, out)?;
+        shows = happen_run(alloc, cluster, place, run, shows, out)?;
         place += run.times;
     }
     show_all(alloc, cluster, shows, out)
 }
 
-/// Lets a run of events happen, the first of which has this number, and prints what is answered with them.
-fn repeat<O: Write>(
+/// Lets a run of events happen, the first of which has this number, prints what is answered with them, and shows each table that is due before
+/// one of them. Gives the shows that are left.
+fn happen_run<'a, O: Write>(
     alloc: Global,
     cluster: &mut SimulatedCluster,
     first: usize,
     run: &Run,
+    mut shows: &'a [Show],
+    out: &mut O,
+) -> Result<&'a [Show], CommandFailure>
+    requires { first + run.now.times ≤ MOST_EVENTS }
+    ensures { IfOk result (λ left. (log : List Filled) → LeadsTo log cluster.old →
+        WritesPart log (replicate run.now.times (event_of run.now.event)) first shows.now left.now cluster.old cluster.new (O.contents out.old) (O.contents out.new)) }
+{
+    let mut made = 0;
+    while made < run.times {
+        shows = show_due(alloc, cluster, shows, first + made, out)?;
+        let times = times_before(shows, first + made, run.times - made);
+        repeat(alloc, cluster, first + made, &run.event, times, out)?;
+        made += times;
+    }
+    Ok(shows)
+}
+
+/// How many of so many events that are left, the first of which has this number, happen before a table is shown.
+fn times_before(shows: &[Show], first: usize, left: usize) -> usize
+    requires ahead { IsFrom (first + 1) shows.now }
+    ensures some { 0 < left → 0 < result }
+    ensures few { result ≤ left }
+    ensures before { IsFrom (first + result) shows.now }
+{
+    match shows.first() {
+        None => left,
+        Some(show) => left.min(show.place - first),
+    }
+}
+
+/// Lets an event happen so many times, the first of which has this number, and prints what is answered with them.
+fn repeat<O: Write>(
+    alloc: Global,
+    cluster: &mut SimulatedCluster,
+    first: usize,
+    event: &Event,
+    times: usize,
     out: &mut O,
 ) -> Result<(), CommandFailure>
-    requires { first + run.now.times ≤ MOST_EVENTS }
+    requires { first + times ≤ MOST_EVENTS }
     ensures { OnOk result ((log : List Filled) → LeadsTo log cluster.old →
-        WritesAnswers log (replicate run.now.times (event_of run.now.event)) first cluster.old cluster.new (O.contents out.old) (O.contents out.new)) }
+        WritesAnswers log (replicate times (event_of event.now)) first cluster.old cluster.new (O.contents out.old) (O.contents out.new)) }
 {
-    match &run.event {
-        Event::Step(host) => repeat_steps(cluster, first, *host, run.times, out),
-        event => repeat_event(alloc, cluster, first, event, run.times, out),
+    match event {
+        Event::Step(host) => repeat_steps(cluster, first, *host, times, out),
+        _ => repeat_event(alloc, cluster, first, event, times, out),
     }
 }
 
@@ -153,26 +194,38 @@ fn tell<O: Write>(place: usize, said: &Said, out: &mut O) -> io::Result<()>
     writeln!(out, "{place} h{host} {answer}")
 }
 
-/// Shows what is to be shown after so many events, and gives what is left.
+/// Shows what is due after so many events, and gives what is left.
 fn show_due<'a, O: Write>(
     alloc: Global,
     cluster: &SimulatedCluster,
-    shows: &'a [Show],
+    mut shows: &'a [Show],
     place: usize,
     out: &mut O,
-) -> Result<&'a [Show], CommandFailure> {
-    let due = shows.iter().take_while(|show| show.place <= place).count();
-    let (now, later) = shows.split_at(due);
-    show_all(alloc, cluster, now, out)?;
-    Ok(later)
+) -> Result<&'a [Show], CommandFailure>
+    ensures written { IfOk result (λ left. (log : List Filled) → LeadsTo log cluster.now →
+        WritesPart log [] place shows.now left.now cluster.now cluster.now (O.contents out.old) (O.contents out.new)) }
+    ensures ahead { IfOk result (λ left. IsFrom (place + 1) left.now) }
+{
+    while let Some((show, later)) = shows.split_first() {
+        if show.place > place {
+            break;
+        }
+        show_host(alloc, cluster, show, out)?;
+        shows = later;
+    }
+    Ok(shows)
 }
 
+/// Shows what is left after all events.
 fn show_all<O: Write>(
     alloc: Global,
     cluster: &SimulatedCluster,
     shows: &[Show],
     out: &mut O,
-) -> Result<(), CommandFailure> {
+) -> Result<(), CommandFailure>
+    ensures { OnOk result ((log : List Filled) (place : ℕ) → LeadsTo log cluster.now →
+        WritesText cluster.now.shape log place [] shows.now (O.contents out.old) (O.contents out.new)) }
+{
     for show in shows {
         show_host(alloc, cluster, show, out)?;
     }
