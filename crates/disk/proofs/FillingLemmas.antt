@@ -1,6 +1,6 @@
 -- How a loop fills a range, or the marked positions, one at a time.
-use Rattle.std.proofs.Common.{◌≡◌, ℕ, ◌+◌, ◌-◌, ◌%◌, ◌<◌, ◌≤◌, zero, suc, Bool, true, false, List, [], ◌∷◌, ◌++◌, length, get_or, set, take, drop, refl, sym, ◌∙◌, ap, arith, append_assoc, length-append}
-use Rattle.std.proofs.Math.Nat.{mod-eq_of_lt}
+use Rattle.std.proofs.Common.{◌≡◌, ℕ, ◌+◌, ◌-◌, ◌%◌, ◌<◌, ◌≤◌, min, zero, suc, Bool, true, false, List, [], ◌∷◌, ◌++◌, length, get_or, set, take, drop, refl, sym, ◌∙◌, ap, arith, append_assoc, length-append}
+use Rattle.std.proofs.Math.Nat.{mod-eq_of_lt, mod-add-mod, mod-mod}
 use Rattle.std.proofs.lemmas.List.{take_all, drop_more, drop-set-lt, take_more_set, take_more, set_at, length-take-le}
 use Rattle.disk.specs.Disk.{put_at, KeepsSynced}
 use Rattle.disk.specs.Filling.{nth_given, spread, filled}
@@ -86,8 +86,22 @@ module _ (given : List ℕ) (next : ℕ) (flags : List Bool) (bytes : List ℕ) 
       ∙ sym (append_assoc (take i bytes) (get_or bytes i 0 ∷ []) rest)
       ∙ ap (λ (l : List ℕ). l ++ rest) (sym (take_more bytes i 0 within))
 
--- positions that are not marked are passed at once
-pub filled_unmarked : (given : List ℕ) (next : ℕ) (flags : List Bool) (bytes : List ℕ) (i n : ℕ) → i + n ≤ length bytes → length flags ≡ length bytes → ((k : ℕ) → i ≤ k → k < i + n → get_or flags k false ≡ false) → take i bytes ++ filled given next (drop i flags) (drop i bytes) ≡ take (i + n) bytes ++ filled given next (drop (i + n) flags) (drop (i + n) bytes)
+-- a turn counts only by what is left of it once the given bytes are taken away as often as can be
+pub filled_turn : (given : List ℕ) (i j : ℕ) (flags : List Bool) (bytes : List ℕ) → i % length given ≡ j % length given → filled given i flags bytes ≡ filled given j flags bytes
+filled_turn given i j [] bytes same = refl
+filled_turn given i j (flag ∷ flags) [] same = refl
+filled_turn given i j (true ∷ flags) (b ∷ bytes) same =
+    let n = length given in
+    let next : (i + 1) % n ≡ (j + 1) % n = sym (mod-add-mod i n 1) ∙ ap (λ (k : ℕ). (k + 1) % n) same ∙ mod-add-mod j n 1 in
+    ap (λ (k : ℕ). get_or given k 0 ∷ filled given (i + 1) flags bytes) same
+    ∙ ap (λ (l : List ℕ). nth_given given j ∷ l) (filled_turn given (i + 1) (j + 1) flags bytes next)
+filled_turn given i j (false ∷ flags) (b ∷ bytes) same = ap (λ (l : List ℕ). b ∷ l) (filled_turn given i j flags bytes same)
+
+-- what the bytes come to, with those before the i-th filled, and the byte at `turn` next
+abbrev pub when_filled : List ℕ → ℕ → List Bool → List ℕ → ℕ → List ℕ
+when_filled given turn flags bytes i = take i bytes ++ filled given turn (drop i flags) (drop i bytes)
+
+filled_unmarked : (given : List ℕ) (next : ℕ) (flags : List Bool) (bytes : List ℕ) (i n : ℕ) → i + n ≤ length bytes → length flags ≡ length bytes → ((k : ℕ) → i ≤ k → k < i + n → get_or flags k false ≡ false) → take i bytes ++ filled given next (drop i flags) (drop i bytes) ≡ take (i + n) bytes ++ filled given next (drop (i + n) flags) (drop (i + n) bytes)
 filled_unmarked given next flags bytes i zero fits same clear =
     let e : i ≡ i + 0 = omega arith in
     ap (λ (k : ℕ). take k bytes ++ filled given next (drop k flags) (drop k bytes)) e
@@ -96,6 +110,26 @@ filled_unmarked given next flags bytes i (suc n) fits same clear =
     filled_false given next flags bytes i (omega arith) same (clear i (omega arith) (omega arith))
     ∙ filled_unmarked given next flags bytes (i + 1) n (omega arith) same (λ k from under. clear k (omega arith) (omega arith))
     ∙ ap (λ (k : ℕ). take k bytes ++ filled given next (drop k flags) (drop k bytes)) e
+
+-- positions that are not marked are passed at once, up to the end or to some position before it
+pub passed : (given : List ℕ) (turn : ℕ) (flags : List Bool) (bytes : List ℕ) (i j size : ℕ) → length bytes ≡ size → length flags ≡ size → i < size → i ≤ j → ((k : ℕ) → i ≤ k → k < j → get_or flags k false ≡ false) → when_filled given turn flags bytes (min i size) ≡ when_filled given turn flags bytes (min j size)
+passed given turn flags bytes i j size long same inside order clear =
+    let n = min j size - i in
+    let first : min i size ≡ i = omega (arith, inside) in
+    let last : i + n ≡ min j size = omega (arith, inside, order) in
+    ap (when_filled given turn flags bytes) first
+    ∙ filled_unmarked given turn flags bytes i n (omega (arith, long, last)) (same ∙ sym long) (λ k from under. clear k from (omega (arith, under, last)))
+    ∙ ap (when_filled given turn flags bytes) last
+
+-- one position: if it is marked it takes the byte whose turn it is
+pub taken : (given : List ℕ) (turn : ℕ) (flags : List Bool) (bytes : List ℕ) (i : ℕ) → turn < length given → i < length bytes → length flags ≡ length bytes → get_or flags i false ≡ true → when_filled given turn flags bytes i ≡ when_filled given ((turn + 1) % length given) flags (set bytes i (get_or given turn 0)) (i + 1)
+taken given turn flags bytes i under within same is =
+    let n = length given in
+    let own : nth_given given turn ≡ get_or given turn 0 = ap (λ (k : ℕ). get_or given k 0) (mod-eq_of_lt under) in
+    let new = set bytes i (get_or given turn 0) in
+    filled_true given turn flags bytes i within same is
+    ∙ ap (λ (v : ℕ). when_filled given (turn + 1) flags (set bytes i v) (i + 1)) own
+    ∙ ap (λ (l : List ℕ). take (i + 1) new ++ l) (filled_turn given (turn + 1) ((turn + 1) % n) (drop (i + 1) flags) (drop (i + 1) new) (sym (mod-mod (turn + 1) n)))
 
 -- no byte is lost or gained, however many flags there are
 pub filled_length : (given : List ℕ) (next : ℕ) (flags : List Bool) (bytes : List ℕ) → length (filled given next flags bytes) ≡ length bytes

@@ -1,5 +1,5 @@
 // The bytes that a simulated disk keeps.
-ghost use Rattle.std.specs.Prelude.{◌≡◌, ◌+◌, ◌-◌, ◌*◌, ◌≤◌, ◌<◌, ◌^◌, false, ◌++◌, length, replicate, slice_range, vec_capacity};
+ghost use Rattle.std.specs.Prelude.{◌≡◌, ◌+◌, ◌-◌, ◌*◌, ◌%◌, ◌≤◌, ◌<◌, ◌^◌, false, ◌++◌, length, replicate, slice_range, vec_capacity};
 ghost use Rattle.disk.specs.Disk.{put_at};
 ghost use Rattle.disk.specs.Filling.{spread, filled};
 ghost use Rattle.disk.specs.Marks.{all_marks};
@@ -54,7 +54,7 @@ fn copy_front(from: &[u8], into: &mut [u8])
 pub fn put(bytes: &mut Vec<u8>, at: usize, from: &[u8])
     requires { at + length from.now ≤ length bytes.old.items }
     ensures bytes { bytes.new.items ≡ put_at bytes.old.items at from.now }
-    ensures room { vec_capacity bytes.new ≡ vec_capacity bytes.old }
+    ensures capacity { vec_capacity bytes.new ≡ vec_capacity bytes.old }
 {
     bytes[at..at + from.len()].copy_from_slice(from);
 }
@@ -65,7 +65,7 @@ pub fn put_given(bytes: &mut Vec<u8>, at: usize, len: usize, first: usize, given
     requires given { 0 < length given.now }
     requires count { first + len < 2 ^ 64 }
     ensures bytes { bytes.new.items ≡ put_at bytes.old.items at (spread given.now first len) }
-    ensures room { vec_capacity bytes.new ≡ vec_capacity bytes.old }
+    ensures capacity { vec_capacity bytes.new ≡ vec_capacity bytes.old }
 {
     if first + len <= given.len() {
         put(bytes, at, &given[first..first + len]);
@@ -80,15 +80,26 @@ fn put_in_turn(bytes: &mut Vec<u8>, at: usize, len: usize, first: usize, given: 
     requires given { 0 < length given.now }
     requires count { first + len < 2 ^ 64 }
     ensures bytes { bytes.new.items ≡ put_at bytes.old.items at (spread given.now first len) }
-    ensures room { vec_capacity bytes.new ≡ vec_capacity bytes.old }
+    ensures capacity { vec_capacity bytes.new ≡ vec_capacity bytes.old }
 {
+    let mut turn = first % given.len();
     for i in 0..len {
-        bytes[at + i] = given[(first + i) % given.len()];
+        bytes[at + i] = given[turn];
+        turn = turn_after(turn, given);
     }
 }
 
-/// The marked positions take the given bytes in turn. What lies outside the ranges of the pages, and words that mark nothing, are
-/// passed at once.
+// Which of the given bytes comes after the one at `turn`. To count on takes less time than a division for each byte.
+#[inline(always)]
+fn turn_after(turn: usize, given: &[u8]) -> usize
+    requires { turn < length given.now }
+    ensures { result ≡ (turn + 1) % length given.now }
+{
+    if turn + 1 < given.len() { turn + 1 } else { 0 }
+}
+
+/// The marked positions take the given bytes in turn, word by word. What lies outside the ranges of the pages, and words that mark
+/// nothing, are passed at once.
 pub fn fill_marked(
     bytes: &mut Vec<u8>,
     words: &Vec<Word>,
@@ -98,7 +109,7 @@ pub fn fill_marked(
     given: &[u8],
 )
     requires listed { size ≤ 4096 * length pages.now.items }
-    requires room { 4096 * length pages.now.items ≤ vec_capacity bytes.old }
+    requires capacity { 4096 * length pages.now.items ≤ vec_capacity bytes.old }
     requires rooms { HaveRooms pages.now.items (length bytes.old.items) }
     requires words { length bytes.old.items ≡ 64 * length words.now.items }
     requires blank { BlankOutside pages.now.items (seen pages.now.items 0 bytes.old.items size) (seen pages.now.items false (all_marks epoch words.now.items) size) }
@@ -106,9 +117,9 @@ pub fn fill_marked(
     ensures bytes { seen pages.now.items 0 bytes.new.items size
         ≡ filled given.now 0 (seen pages.now.items false (all_marks epoch words.now.items) size) (seen pages.now.items 0 bytes.old.items size) }
     ensures as_many { length bytes.new.items ≡ length bytes.old.items }
-    ensures room { vec_capacity bytes.new ≡ vec_capacity bytes.old }
+    ensures capacity { vec_capacity bytes.new ≡ vec_capacity bytes.old }
 {
-    let mut next = 0;
+    let mut turn = 0;
     let mut i = 0;
     while i < size {
         let page = pages[i / PAGE];
@@ -118,17 +129,18 @@ pub fn fill_marked(
         } else if usize::from(page.to) <= first {
             i += PAGE - first;
         } else {
-            let place = PAGE * page.room + first;
-            let word = words[place / 64];
-            if word.counted(epoch) == 0 {
-                i += 64 - i % 64;
-            } else {
-                if word.is_marked(epoch, i % 64) {
-                    bytes[place] = given[next % given.len()];
-                    next += 1;
+            let start = PAGE * page.room;
+            let word = words[(start + first) / 64];
+            let end = size.min(i + 64 - i % 64);
+            if word.counted(epoch) != 0 {
+                for k in i..end {
+                    if word.is_marked(epoch, k % 64) {
+                        bytes[start + k % PAGE] = given[turn];
+                        turn = turn_after(turn, given);
+                    }
                 }
-                i += 1;
             }
+            i = end;
         }
     }
 }

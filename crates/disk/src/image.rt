@@ -41,8 +41,8 @@ impl Model for Image {
       listed : length d.pages.items ≡ d.size / 4096 + 1;
       rooms : HaveRooms d.pages.items (length d.bytes.items);
       words : length d.bytes.items ≡ 64 * length d.words.items;
-      room : 4096 * length d.pages.items ≤ vec_capacity d.bytes;
-      word_room : 64 * length d.pages.items ≤ vec_capacity d.words;
+      capacity : 4096 * length d.pages.items ≤ vec_capacity d.bytes;
+      word_capacity : 64 * length d.pages.items ≤ vec_capacity d.words;
       blank : BlankOutside d.pages.items (seen d.pages.items 0 d.bytes.items d.size) (seen d.pages.items false (all_marks d.epoch d.words.items) d.size);
       no_later : All (λ w. w.stamp ≤ d.epoch) d.words.items;
     } };

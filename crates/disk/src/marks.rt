@@ -16,7 +16,7 @@ pub fn mark(words: &mut Vec<Word>, at: usize, end: usize, epoch: u64)
         marks epoch words.new.items size ≡ put_at (marks epoch words.old.items size) at (replicate (end - at) true) }
     ensures no_later { All (λ w. w.stamp ≤ epoch) words.old.items → All (λ w. w.stamp ≤ epoch) words.new.items }
     ensures as_many { length words.new.items ≡ length words.old.items }
-    ensures room { vec_capacity words.new ≡ vec_capacity words.old }
+    ensures capacity { vec_capacity words.new ≡ vec_capacity words.old }
 {
     let mut index = at / 64;
     let mut from = at % 64;
@@ -40,7 +40,7 @@ pub fn next_epoch(words: &mut Vec<Word>, epoch: u64) -> u64
     ensures none { (size : ℕ) → marks result words.new.items size ≡ replicate size false }
     ensures no_later { All (λ w. w.stamp ≤ result) words.new.items }
     ensures as_many { length words.new.items ≡ length words.old.items }
-    ensures room { vec_capacity words.new ≡ vec_capacity words.old }
+    ensures capacity { vec_capacity words.new ≡ vec_capacity words.old }
 {
     if epoch == u64::MAX {
         words.fill(Word { stamp: 0, bits: 0 });

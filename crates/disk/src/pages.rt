@@ -34,8 +34,8 @@ pub fn give_room(pages: &mut Vec<Page>, bytes: &mut Vec<u8>, words: &mut Vec<Wor
     requires within { index < length pages.old.items }
     requires rooms { HaveRooms pages.old.items (length bytes.old.items) }
     requires words { length bytes.old.items ≡ 64 * length words.old.items }
-    requires room { 4096 * length pages.old.items ≤ vec_capacity bytes.old }
-    requires word_room { 64 * length pages.old.items ≤ vec_capacity words.old }
+    requires capacity { 4096 * length pages.old.items ≤ vec_capacity bytes.old }
+    requires word_capacity { 64 * length pages.old.items ≤ vec_capacity words.old }
     ensures bytes { (size : ℕ) → seen pages.new.items 0 bytes.new.items size ≡ seen pages.old.items 0 bytes.old.items size }
     ensures marks { (epoch size : ℕ) →
         seen pages.new.items false (all_marks epoch words.new.items) size ≡ seen pages.old.items false (all_marks epoch words.old.items) size }
@@ -45,8 +45,8 @@ pub fn give_room(pages: &mut Vec<Page>, bytes: &mut Vec<u8>, words: &mut Vec<Wor
     ensures rooms { HaveRooms pages.new.items (length bytes.new.items) }
     ensures words { length bytes.new.items ≡ 64 * length words.new.items }
     ensures as_many { length pages.new.items ≡ length pages.old.items }
-    ensures room { vec_capacity bytes.old ≤ vec_capacity bytes.new }
-    ensures word_room { vec_capacity words.old ≤ vec_capacity words.new }
+    ensures capacity { vec_capacity bytes.old ≤ vec_capacity bytes.new }
+    ensures word_capacity { vec_capacity words.old ≤ vec_capacity words.new }
 {
     if pages[index].room == NOWHERE {
         pages[index] = Page {

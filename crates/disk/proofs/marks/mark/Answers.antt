@@ -12,7 +12,7 @@ loop-left-init c =
       begun = omega arith;
       from = omega arith;
       left = omega arith;
-      room = refl;
+      capacity = refl;
       as_many = refl;
       no_later = λ all. all;
       marked = record { below = λ k b. refl; inside = λ k f u. absurd (omega arith); above = λ k o. refl };
@@ -46,7 +46,7 @@ loop-left-preserved c =
       begun = omega (arith, l.begun);
       from = omega (arith, l.begun);
       left = omega (arith, l.left);
-      room = l.room;
+      capacity = l.capacity;
       as_many = length-set words i word ∙ l.as_many;
       no_later = λ before. All-set P words i word (omega (arith, c.marked.ensures.stamp)) (l.no_later before);
       marked =
@@ -88,8 +88,8 @@ pub returns-then-from-left-clause-as_many : goal.returns-then-from-left-clause-a
 returns-then-from-left-clause-as_many c =
     length-set c.loop-left.words.items c.loop-left.index c.marked-then-from-left.result ∙ c.loop-left.invariant.as_many
 
-pub returns-then-from-left-clause-room : goal.returns-then-from-left-clause-room
-returns-then-from-left-clause-room c = c.loop-left.invariant.room
+pub returns-then-from-left-clause-capacity : goal.returns-then-from-left-clause-capacity
+returns-then-from-left-clause-capacity c = c.loop-left.invariant.capacity
 
 pub returns-else-from-left-clause-marks : goal.returns-else-from-left-clause-marks
 returns-else-from-left-clause-marks c =
@@ -103,5 +103,5 @@ returns-else-from-left-clause-no_later c = c.loop-left.invariant.no_later
 pub returns-else-from-left-clause-as_many : goal.returns-else-from-left-clause-as_many
 returns-else-from-left-clause-as_many c = c.loop-left.invariant.as_many
 
-pub returns-else-from-left-clause-room : goal.returns-else-from-left-clause-room
-returns-else-from-left-clause-room c = c.loop-left.invariant.room
+pub returns-else-from-left-clause-capacity : goal.returns-else-from-left-clause-capacity
+returns-else-from-left-clause-capacity c = c.loop-left.invariant.capacity

@@ -8,7 +8,7 @@ invariant-loop-left l = record {
   begun : l.at / 64 ≤ l.index;
   from : l.from ≡ l.at - 64 * l.index;
   left : 64 * l.index + l.left ≡ l.end;
-  room : vec_capacity l.words ≡ vec_capacity l.fn.words;
+  capacity : vec_capacity l.words ≡ vec_capacity l.fn.words;
   as_many : length l.words.items ≡ length l.fn.words.items;
   no_later : All (λ w. w.stamp ≤ l.epoch) l.fn.words.items → All (λ w. w.stamp ≤ l.epoch) l.words.items;
   marked : MarksRange l.epoch l.at (reached l.at l.end l.index) l.fn.words.items l.words.items;

@@ -46,7 +46,7 @@ module _ (c : goal.After-resize) where
   more_bytes : c.extend_from_slice.new.self.items ≡ bytes ++ zeros
   more_bytes =
       c.extend_from_slice.ensures.items
-      ∙ ap (λ (b : Bool). if b then bytes ++ zeros else bytes) (c.extend_from_slice.ensures.succeeds (omega (arith, long, enough, c.requires.room)))
+      ∙ ap (λ (b : Bool). if b then bytes ++ zeros else bytes) (c.extend_from_slice.ensures.succeeds (omega (arith, long, enough, c.requires.capacity)))
 
   now_long : length c.extend_from_slice.new.self.items ≡ length bytes + 4096
   now_long = ap length more_bytes ∙ length-append bytes zeros ∙ ap (λ (k : ℕ). length bytes + k) long
@@ -58,7 +58,7 @@ module _ (c : goal.After-resize) where
   more_words_is =
       let n = count - vec_len c.args.words.now in
       c.resize.ensures.items
-      ∙ ap (λ (b : Bool). if b then take count words ++ replicate n blank else words) (c.resize.ensures.succeeds (omega (arith, now_long, c.len-then-index.ensures, enough, c.requires.word_room)))
+      ∙ ap (λ (b : Bool). if b then take count words ++ replicate n blank else words) (c.resize.ensures.succeeds (omega (arith, now_long, c.len-then-index.ensures, enough, c.requires.word_capacity)))
       ∙ ap (λ (l : List Word). l ++ replicate n blank) (take_all count words (omega (arith, now_long, c.len-then-index.ensures, c.requires.words)))
 
 pub returns-then-index-clause-bytes : goal.returns-then-index-clause-bytes

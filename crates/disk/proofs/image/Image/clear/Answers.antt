@@ -20,8 +20,8 @@ invariant_of-self c =
       listed = omega (arith, c.fill.ensures.len, c.self.invariant.listed);
       rooms = rw (pages, bytes) (rooms_fresh _);
       words = omega (arith, ap length bytes, ap length words);
-      room = omega (arith, c.clear.ensures.capacity, c.fill.ensures.len, c.self.invariant.room);
-      word_room = omega (arith, c.clear-2.ensures.capacity, c.fill.ensures.len, c.self.invariant.word_room);
+      capacity = omega (arith, c.clear.ensures.capacity, c.fill.ensures.len, c.self.invariant.capacity);
+      word_capacity = omega (arith, c.clear-2.ensures.capacity, c.fill.ensures.len, c.self.invariant.word_capacity);
       blank = rw (zeros, flags) (blank_fresh now size size);
       no_later = λ k d under. absurd (omega (arith, ap length words));
     }

@@ -122,8 +122,8 @@ invariant_of-self c =
       listed = omega (arith, c.self.invariant.listed, c.give_room.ensures.as_many, c.widen.ensures.as_many);
       rooms = subst (HaveRooms new) (sym same) rooms;
       words = omega (arith, same, c.give_room.ensures.words, c.mark.ensures.as_many);
-      room = omega (arith, c.self.invariant.room, c.give_room.ensures.room, c.give_room.ensures.as_many, c.widen.ensures.as_many, c.put_given.ensures.room);
-      word_room = omega (arith, c.self.invariant.word_room, c.give_room.ensures.word_room, c.give_room.ensures.as_many, c.widen.ensures.as_many, c.mark.ensures.room);
+      capacity = omega (arith, c.self.invariant.capacity, c.give_room.ensures.capacity, c.give_room.ensures.as_many, c.widen.ensures.as_many, c.put_given.ensures.capacity);
+      word_capacity = omega (arith, c.self.invariant.word_capacity, c.give_room.ensures.word_capacity, c.give_room.ensures.as_many, c.widen.ensures.as_many, c.mark.ensures.capacity);
       blank =
           rw (bytes, flags)
           (blank_put old new seen_bytes xs seen_flags (replicate (length xs) true) at (at + c.args.len) (omega (arith, long)) (length-replicate (length xs) true)

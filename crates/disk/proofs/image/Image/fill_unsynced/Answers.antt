@@ -13,8 +13,8 @@ invariant_of-self c =
       listed = c.self.invariant.listed;
       rooms = subst (HaveRooms pages) (sym c.fill_marked.ensures.as_many) c.self.invariant.rooms;
       words = omega (arith, c.fill_marked.ensures.as_many, c.self.invariant.words);
-      room = omega (arith, c.fill_marked.ensures.room, c.self.invariant.room);
-      word_room = c.self.invariant.word_room;
+      capacity = omega (arith, c.fill_marked.ensures.capacity, c.self.invariant.capacity);
+      word_capacity = c.self.invariant.word_capacity;
       blank = rw c.fill_marked.ensures.bytes (blank_filled pages c.args.given.now (seen pages 0 inside.bytes.items inside.size) flags c.self.invariant.blank);
       no_later = c.self.invariant.no_later;
     }

@@ -20,8 +20,8 @@ invariant_of-result c =
       listed = omega (arith, c.in_ok-vec.ensures.len);
       rooms = rw (pages, bytes) (rooms_fresh _);
       words = omega (arith, ap length bytes, ap length words);
-      room = omega (arith, c.in_ok-with_capacity.ensures.exact, c.saturating_mul.ensures, c.in_ok-vec.ensures.len, c.in_ok-with_capacity.field-0.small);
-      word_room = omega (arith, c.in_ok-with_capacity-2.ensures.exact, c.in_ok-vec.ensures.len);
+      capacity = omega (arith, c.in_ok-with_capacity.ensures.exact, c.saturating_mul.ensures, c.in_ok-vec.ensures.len, c.in_ok-with_capacity.field-0.small);
+      word_capacity = omega (arith, c.in_ok-with_capacity-2.ensures.exact, c.in_ok-vec.ensures.len);
       blank = rw (zeros, flags) (blank_fresh now size size);
       no_later = λ k d under. absurd (omega (arith, ap length words));
     }

@@ -130,8 +130,8 @@ invariant_of-self c =
       listed = c.self.invariant.listed;
       rooms = subst (HaveRooms pages) (sym same) c.self.invariant.rooms;
       words = omega (arith, same, c.self.invariant.words, c.mark.ensures.as_many);
-      room = omega (arith, c.self.invariant.room, c.put.ensures.room);
-      word_room = omega (arith, c.self.invariant.word_room, c.mark.ensures.room);
+      capacity = omega (arith, c.self.invariant.capacity, c.put.ensures.capacity);
+      word_capacity = omega (arith, c.self.invariant.word_capacity, c.mark.ensures.capacity);
       blank =
           rw (bytes, flags)
           (blank_put pages pages (seen pages 0 kept inside.size) xs (seen pages false (all_marks inside.epoch inside.words.items) inside.size) (replicate (length xs) true) at (at + length xs) refl (length-replicate (length xs) true)

@@ -17,8 +17,8 @@ invariant_of-self c =
       listed = c.self.invariant.listed;
       rooms = c.self.invariant.rooms;
       words = omega (arith, c.self.invariant.words, c.next_epoch-self-inside.ensures.as_many);
-      room = c.self.invariant.room;
-      word_room = omega (arith, c.self.invariant.word_room, c.next_epoch-self-inside.ensures.room);
+      capacity = c.self.invariant.capacity;
+      word_capacity = omega (arith, c.self.invariant.word_capacity, c.next_epoch-self-inside.ensures.capacity);
       blank =
           rw none
           (blank_settled pages (seen pages 0 inside.bytes.items inside.size) (seen pages false (all_marks inside.epoch inside.words.items) inside.size) inside.size c.self.invariant.blank);
