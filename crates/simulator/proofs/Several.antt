@@ -109,10 +109,6 @@ pub first_is : (events : List code.Event) (e : code.Event) (x : Event) → 0 < l
 first_is [] e x within is of = absurd (omega (arith, within))
 first_is (y ∷ es) e x within is of = ap Some (sym (ap event_of is) ∙ of)
 
-pub first_one : (events : List code.Event) (e : code.Event) → 0 < length events → e ≡ get_or events 0 e → event_of e ∷ [] ≡ events_of (take 1 events)
-first_one [] e within is = absurd (omega (arith, within))
-first_one (y ∷ es) e within is = ap (λ (x : code.Event). event_of x ∷ []) is
-
 -- so many of the first are steps of a host, and so is the next
 pub steps_also : (events : List code.Event) (i h : ℕ) (e : code.Event) → i < length events → e ≡ get_or events i e → event_of e ≡ Step h
     → events_of (take i events) ≡ replicate i (Step h) → events_of (take (i + 1) events) ≡ replicate (i + 1) (Step h)
