@@ -1,5 +1,5 @@
 -- A folder that is not found is refused as one in which no image can be read.
-use Rattle.std.proofs.Common.{◌≡◌, ℕ, zero, suc, List, [], ◌∷◌, Some, Result, Ok, Err, slice_get, refl, inl}
+use Rattle.std.proofs.Common.{ℕ, zero, suc, [], ◌∷◌, Result, Err, refl, inl}
 use Rattle.disk.specs.declared.fault.ImageFault.{ImageFault}
 use Rattle.disk.specs.declared.fault.ImageFault.TheVariants.{Unreadable}
 use Rattle.paxos_block.specs.declared.header.Header.{Header}

@@ -2,7 +2,7 @@
 use Rattle.std.specs.Prelude.{◌≡◌, ◌≢◌, ◌⊎◌, ◌↔◌, ◌≤◌, ◌<◌, ◌+◌, ℕ, Bool, false, IsTrue, List, [], ◌∷◌, ◌++◌, codes, decimal, length, slice_get, slice_index_or, Option, Some, None, Result, Ok, Err, if◌then◌else◌}
 use Rattle.std.specs.Io.KnownBytes.{Appends}
 use Rattle.std.specs.List.{concat, flat_map, range_with_len}
-use Rattle.disk.specs.Disk.{Device, DiskState}
+use Rattle.disk.specs.Disk.{Device, DiskState, Call, Answer}
 use Rattle.disk.specs.declared.fault.DiskFault.{DiskFault}
 use Rattle.disk.specs.declared.fault.ImageFault.{ImageFault}
 use Rattle.disk.specs.declared.fault.ImageFault.TheVariants.{Unreadable}
@@ -14,6 +14,7 @@ use Rattle.heartbeat.specs.Damage as areas
 use Rattle.paxos_block.specs.Row.{IsDamagedRow}
 use Rattle.heartbeat.specs.Beat.{IsDamagedArea}
 use Rattle.dlm_images.specs.ImageFaults.{image_fault_number, image_fault_name}
+use Rattle.dlm_images.specs.Reading.{OneCannotBeRead}
 use Rattle.dlm_images.specs.Sets.{Found}
 use Rattle.dlm_images.specs.declared.check.Blocks.{Blocks}
 use Rattle.dlm_images.specs.declared.check.Blocks.TheVariants.{Heartbeat, Slot}
@@ -172,3 +173,9 @@ IsToldOfFolder found n None = NoneRefused found n
 IsToldOfFolder found n (Some (Image k fault)) =
     (k < n) × NoneRefused found k × ((slice_get found k ≡ Some (Err fault)) ⊎ ((fault ≡ Unreadable) × NoneRefused found (k + 1)))
 IsToldOfFolder found n (Some Damaged) = (k : ℕ) × (k < n) × NoneRefused found (k + 1)
+
+-- That an image which is used cannot be read is told only where a call of its disk failed.
+abbrev pub FailsIfUnread : {D : Type 0} → (D → Call → Answer → D → Type 0) → (slots : ℕ) → Found → (old new : List D) → Option Finding → Type 0
+FailsIfUnread gives slots found old new None = Unit {0}
+FailsIfUnread gives slots found old new (Some Damaged) = Unit {0}
+FailsIfUnread gives slots found old new (Some (Image k fault)) = (header : Header) → slice_get found k ≡ Some (Ok header) → OneCannotBeRead gives slots old new k

@@ -1,10 +1,11 @@
 -- How a check reads an image: the calls that it makes in turn, and the one at which the device failed.
-use Rattle.std.specs.Prelude.{◌≡◌, ◌⊎◌, ℕ, List, [], ◌∷◌, map, slice_get, Some}
+use Rattle.std.specs.Prelude.{◌≡◌, ◌⊎◌, ◌<◌, ℕ, List, [], ◌∷◌, map, slice_get, Option, Some, None}
 use Rattle.std.specs.List.{range_with_len}
 use Rattle.disk.specs.Disk.{Call, Attach, Read, Answer, Booted, Told, Fault}
 use Rattle.disk.specs.declared.fault.DiskFault.{DiskFault}
 use Rattle.torn_block.specs.declared.layout.TheConstants.{ROW_LENGTH}
 use Rattle.paxos_block.specs.Places.{area_place, row_place}
+use Rattle.dlm_images.specs.declared.check.Finding.{Finding}
 
 -- the reads of the heartbeat area, of a slot's row, and of the rows of so many slots, under a boot number
 abbrev pub area_read : ℕ → Call
@@ -40,3 +41,24 @@ CannotBeRead gives slots old new = (fault : DiskFault) × FailsToShow gives slot
 abbrev pub OneCannotBeRead : {D : Type 0} → (D → Call → Answer → D → Type 0) → (slots : ℕ) → (old new : List D) → ℕ → Type 0
 OneCannotBeRead {D} gives slots old new k =
     (before : D) × (after : D) × (slice_get old k ≡ Some before) × (slice_get new k ≡ Some after) × CannotBeRead gives slots before after
+
+-- READ TO THE END
+
+-- these reads were made, one after another, and each was answered with bytes
+abbrev pub TellsAll : {D : Type 0} → (D → Call → Answer → D → Type 0) → List Call → (old new : D) → Type 0
+TellsAll gives [] old new = new ≡ old
+TellsAll {D} gives (call ∷ calls) old new = (between : D) × Tells gives call old between × TellsAll gives calls between new
+
+-- an image of so many slots was read to its end
+abbrev pub IsReadWhole : {D : Type 0} → (D → Call → Answer → D → Type 0) → (slots : ℕ) → (old new : D) → Type 0
+IsReadWhole {D} gives slots old new =
+    (boot : ℕ) × (attached : D) × gives old Attach (Booted boot) attached × TellsAll gives (area_read boot ∷ row_reads boot slots) attached new
+
+-- so was that of this number
+abbrev pub OneIsReadWhole : {D : Type 0} → (D → Call → Answer → D → Type 0) → (slots : ℕ) → (old new : List D) → ℕ → Type 0
+OneIsReadWhole {D} gives slots old new k =
+    (before : D) × (after : D) × (slice_get old k ≡ Some before) × (slice_get new k ≡ Some after) × IsReadWhole gives slots before after
+
+-- nothing was found only where each of the first n was
+abbrev pub AreReadIfSound : {D : Type 0} → (D → Call → Answer → D → Type 0) → (slots : ℕ) → (old new : List D) → (n : ℕ) → Option Finding → Type 0
+AreReadIfSound gives slots old new n finding = finding ≡ None → (k : ℕ) → k < n → OneIsReadWhole gives slots old new k

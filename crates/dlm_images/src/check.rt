@@ -1,7 +1,8 @@
-ghost use Rattle.std.specs.Prelude.{◌≡◌, ◌⊎◌, ◌+◌, ◌≤◌, ◌<◌, ◌↔◌, ℕ, true, IsTrue, Contains, List, Err, IfOk, IfErr, OnOk, length, map};
+ghost use Rattle.std.specs.Prelude.{◌≡◌, ◌⊎◌, ◌+◌, ◌≤◌, ◌<◌, ◌↔◌, ℕ, true, IsTrue, Contains, List, None, Err, IfOk, IfErr, OnOk, length, map};
 ghost use Rattle.std.specs.List.{list_any};
 ghost use Rattle.std.specs.Io.KnownBytes.{Appends};
 ghost use Rattle.disk.specs.Disk.{Fault};
+ghost use Rattle.disk.specs.FileStates.{FileGives};
 ghost use Rattle.torn_block.specs.declared.layout.TheConstants.{DISKS};
 ghost use Rattle.paxos_block.specs.Places.{area_of, row_of, image_length};
 ghost use Rattle.paxos_block.specs.Row.{IsDamagedRow};
@@ -9,8 +10,8 @@ ghost use Rattle.paxos_block.specs.Damage as rows;
 ghost use Rattle.heartbeat.specs.Beat.{IsDamagedArea};
 ghost use Rattle.heartbeat.specs.Damage as areas;
 ghost use Rattle.dlm_images.specs.declared.check.CheckFault.TheVariants.{Device, Output};
-ghost use Rattle.dlm_images.specs.Damage.{IfDevice, AreLarge, IsDamagedImage, IsDamagedBelow, PrintsNothing, IsLeftInRows, IsLeftAt, IsTextOfUsed, AllTell, WritesTextOf, WritesTexts, Shows, TellsOf, IsToldFirst, IsToldOfFolder, line_of, lines_of, fault_line, image_text, area_text, row_text, rows_text};
-ghost use Rattle.dlm_images.specs.Reading.{area_read, row_read, row_reads, Tells, FailsAmong, FailsToShow, CannotBeRead, OneCannotBeRead};
+ghost use Rattle.dlm_images.specs.Damage.{IfDevice, AreLarge, IsDamagedImage, IsDamagedBelow, PrintsNothing, IsLeftInRows, IsLeftAt, IsTextOfUsed, AllTell, WritesTextOf, WritesTexts, FailsIfUnread, Shows, TellsOf, IsToldFirst, IsToldOfFolder, line_of, lines_of, fault_line, image_text, area_text, row_text, rows_text};
+ghost use Rattle.dlm_images.specs.Reading.{area_read, row_read, row_reads, Tells, FailsAmong, FailsToShow, CannotBeRead, OneCannotBeRead, TellsAll, IsReadWhole, AreReadIfSound};
 
 use crate::folder::Folder;
 use crate::image_fault::{image_fault_name, image_fault_number};
@@ -67,14 +68,16 @@ impl From<io::Error> for CheckFault {
 
 /// Prints what is wrong with the images of a folder, and tells what it found first. It writes to no image.
 pub fn check_folder<F: FileExt + OpenFile + Drop, O: Write>(
-    folder: Folder<F>,
+    folder: &mut Folder<F>,
     out: &mut O,
 ) -> io::Result<Option<Finding>>
-    ensures { IfOk result (IsToldOfFolder folder.found folder.config.disks) }
+    ensures told { IfOk result (IsToldOfFolder folder.old.found folder.old.config.disks) }
+    // That an image cannot be read is told only where a call of its disk failed, and nothing only where none did.
+    ensures unread { IfOk result (FailsIfUnread FileGives folder.old.config.slots folder.old.found folder.old.disks.items folder.new.disks.items) }
+    ensures whole { IfOk result (AreReadIfSound FileGives folder.old.config.slots folder.old.disks.items folder.new.disks.items folder.old.config.disks) }
 {
     let slots = u32::from(folder.config.slots());
-    let mut disks = folder.disks;
-    check_disks(&mut disks, &folder.found, slots, out)
+    check_disks(&mut folder.disks, &folder.found, slots, out)
 }
 
 /// For each disk, prints why it is not used, or a line for each damaged block. If a disk cannot be read to its end, one more line
@@ -96,6 +99,9 @@ fn check_disks<D: Disk, O: Write>(
         (OneCannotBeRead D.gives slots disks.old disks.new) (length disks.old)) }
     // What this says of images that were refused, by what was found of each image alone.
     ensures refusals { IfOk result (IsToldOfFolder found.now (length disks.old)) }
+    ensures unread { IfOk result (FailsIfUnread D.gives slots found.now disks.old disks.new) }
+    ensures whole { IfOk result (AreReadIfSound D.gives slots disks.old disks.new (length disks.old)) }
+    ensures devices { map D.device disks.new ≡ map D.device disks.old }
 {
     let mut first = None;
     for disk in 0..disks.len() {
@@ -122,6 +128,7 @@ fn check_image<D: Disk, O: Write>(
     ensures told { IfOk result (TellsOf found.now disk (IsTrue (D.device device.old).tells) (IsDamagedImage slots (D.state device.old).bytes)
         (CannotBeRead D.gives slots device.old device.new)) }
     ensures line { OnOk result ((fault : ImageFault) → found.now ≡ Err fault → Appends (O.contents out.old) (O.contents out.new) (fault_line disk fault)) }
+    ensures whole { IfOk result (λ finding. finding ≡ None → IsReadWhole D.gives slots device.old device.new) }
 {
     match found {
         Ok(_) => check_disk(device, disk, slots, out),
@@ -143,6 +150,7 @@ fn check_disk<D: Disk, O: Write>(
         Appends (O.contents out.old) (O.contents out.new) text) }
     ensures told { IfOk result (Shows disk (IsTrue (D.device device.old).tells) (IsDamagedImage slots (D.state device.old).bytes)
         (CannotBeRead D.gives slots device.old device.new)) }
+    ensures whole { IfOk result (λ finding. finding ≡ None → IsReadWhole D.gives slots device.old device.new) }
 {
     let mut any = false;
     let unread = match print_damage(device, disk, slots, out, &mut any) {
@@ -174,6 +182,7 @@ pub fn print_damage<D: Disk, O: Write>(
     ensures left { IfErr result (λ fault. IsTrue (D.device device.old).tells →
         IsLeftAt fault disk slots (D.state device.old).bytes (O.contents out.old) (O.contents out.new) any.old any.new) }
     ensures device_fault { IfErr result (λ fault. IfDevice fault (λ cause. FailsToShow D.gives slots device.old cause device.new)) }
+    ensures whole { OnOk result (IsReadWhole D.gives slots device.old device.new) }
 {
     let boot = device.attach()?;
     let beats = print_area(device, boot, disk, out)?;
@@ -227,6 +236,7 @@ fn print_rows<D: Disk, O: Write>(
         IsLeftInRows fault disk slots (D.state device.old).bytes (O.contents out.old) (O.contents out.new) any.old any.new) }
     ensures device_fault { IfErr result (λ fault. IfDevice fault (λ cause.
         FailsAmong D.gives (row_reads boot.number slots) device.old cause device.new)) }
+    ensures whole { OnOk result (TellsAll D.gives (row_reads boot.number slots) device.old device.new) }
 {
     for slot in 0..slots {
         let damaged = print_row(device, boot, disk, slot, out)?;

@@ -111,8 +111,8 @@ where
     R::File: FileExt + OpenFile + Drop,
 {
     let folder = find_folder(rt, folder).map_err(Fault::from)?;
-    let images = open_folder_to_read(rt, folder.as_str()).map_err(Fault::from)?;
-    let found = check_folder(images, out)?;
+    let mut images = open_folder_to_read(rt, folder.as_str()).map_err(Fault::from)?;
+    let found = check_folder(&mut images, out)?;
     if found.is_none() {
         out.write_all(b"sound\n")?;
     }

@@ -20,10 +20,10 @@ const SLOT_1: usize = AREA + 2 * ROW_LENGTH;
 // The image gets these bytes, its folder is opened, and then the image is cut off behind slot 0: what a check prints, and what it found first.
 fn check_cut_off(rt: &HostRuntime, bytes: &[u8]) -> Result<(Vec<u8>, Option<Finding>), Fail> {
     fs::write(rt, IMAGE, bytes)?;
-    let folder = open_folder_to_read(rt, FOLDER)?;
+    let mut folder = open_folder_to_read(rt, FOLDER)?;
     fs::write(rt, IMAGE, bytes.get(..SLOT_1).ok_or("slot 0")?)?;
     let mut out = Vec::new(rt.alloc());
-    let found = check_folder(folder, &mut out)?;
+    let found = check_folder(&mut folder, &mut out)?;
     Ok((out, found))
 }
 

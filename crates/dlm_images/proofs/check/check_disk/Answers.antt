@@ -1,4 +1,4 @@
-use Rattle.std.proofs.Common.{◌≡◌, ◌∙◌, Some, true, refl, sym, ap, subst, inl, inr}
+use Rattle.std.proofs.Common.{◌≡◌, ◌∙◌, Some, None, true, refl, sym, ap, subst, inl, inr}
 use Rattle.std.specs.Prelude.{IsTrue}
 use Rattle.std.proofs.lemmas.Bool.{false≢true}
 use Rattle.dlm_images.specs.declared.check.Finding.{Finding}
@@ -63,4 +63,11 @@ returns-else-any-clause-text g c = λ t.
           let why = why_left (λ (fault : DiskFault). FailsToShow g.D.Disk.gives c.args.slots c.args.device.now fault c.print_damage.new.device) w.in-Err-Device.field-0 cause w.in-Err-Device.field-0-is w.in-Err-Device.ensures.device_fault in
           read_in_part w.in-Err-Device.field-0 cause c.args.disk c.args.slots bytes failed _ _ before (g.O.Write.contents c.print_damage.new.out) (g.O.Write.contents c.match-print_damage.out) w.in-Err-Device.field-0-is (cause, why) (w.in-Err-Device.ensures.left t)
           (subst (λ (o : Option (List ℕ)). Appends (g.O.Write.contents c.print_damage.new.out) o (fault_line c.args.disk Unreadable)) is w.in_ok-print_fault-in-Err-Device.ensures.text)
+    ]
+
+pub returns-else-any-clause-whole : goal.returns-else-any-clause-whole
+returns-else-any-clause-whole g c = λ none.
+    elim c.match-print_damage.branch [
+      | in-Ok w ↦ w.in-Ok.ensures.whole
+      | in-Err-Device+in_ok-print_fault-in-Err-Device w ↦ (let both : Some w.in_ok-print_fault-in-Err-Device.field-0 ≡ None = sym w.unread-is ∙ none in absurd (cc))
     ]

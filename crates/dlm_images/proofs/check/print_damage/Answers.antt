@@ -105,3 +105,11 @@ returns-in_err-print_rows-clause-device_fault g c =
     rw (p.1, p.2)
     (fails_in_rows g.D.Disk.gives c.in_ok-boot.boot.number c.args.slots c.args.device.now c.in_err-print_rows.field-0.0 c.attach.new.self c.print_area.new.device c.print_rows.new.device
     c.in_ok-boot.ensures.gives c.in_ok-beats.ensures.read c.in_err-print_rows.ensures.device_fault)
+
+pub returns-clause-whole : goal.returns-clause-whole
+returns-clause-whole g c = (
+  c.in_ok-boot.boot.number,
+  c.attach.new.self,
+  c.in_ok-boot.ensures.gives,
+  (c.print_area.new.device, c.in_ok-beats.ensures.read, c.in_ok-print_rows.ensures.whole),
+)

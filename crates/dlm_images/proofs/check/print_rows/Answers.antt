@@ -4,7 +4,7 @@ use Rattle.std.specs.Io.KnownBytes.{Appends}
 use Rattle.dlm_images.specs.Damage.{rows_text, IsDamagedBelow}
 use Rattle.dlm_images.proofs.Damage.{none_looked, one_slot_more}
 use Rattle.std.proofs.lemmas.Result.{err_from_is_err_and}
-use Rattle.dlm_images.proofs.Reading.{none_told, told_here, fails_here}
+use Rattle.dlm_images.proofs.Reading.{LeadsOn, none_told, told_here, fails_here, all_told}
 use Rattle.dlm_images.proofs.check.print_rows.Goals as goal
 
 pub loop-slot-init : goal.loop-slot-init
@@ -41,3 +41,9 @@ returns-in_err-damaged-clause-device_fault g c =
     rw (p.1, p.2)
     (fails_here g.D.Disk.gives c.args.boot.number c.args.slots c.args.device.now c.in_err-damaged.field-0.0 c.loop-slot.slot c.loop-slot.device c.print_row.new.device c.loop-slot-test.true c.loop-slot.invariant.reads
     c.in_err-damaged.ensures.device_fault)
+
+pub returns-clause-whole : goal.returns-clause-whole
+returns-clause-whole g c =
+    let all : c.loop-slot.slot ≡ c.args.slots = omega arith in
+    all_told g.D.Disk.gives c.args.boot.number c.args.slots c.args.device.now c.loop-slot.device
+    (subst (λ (n : ℕ). LeadsOn g.D.Disk.gives c.args.boot.number n c.args.slots c.args.device.now c.loop-slot.device) all c.loop-slot.invariant.reads)
