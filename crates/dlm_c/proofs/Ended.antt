@@ -1,17 +1,15 @@
 -- What C is told where an operation has ended, from how the host says that it ended.
-use Rattle.std.proofs.Common.{◌≡◌, ◌≤◌, ℕ, true, List, length, Option, Some, None, inl, inr, refl, sym, ◌∙◌, ap, arith}
+use Rattle.std.proofs.Common.{ℕ, List, Option, Some, None, inl, inr, refl, ap, arith}
 use Rattle.disk.specs.Disk.{Call, Answer}
 use Rattle.lock_command.specs.declared.command.Command.{Command}
-use Rattle.slot_log.specs.Shape.{Shape}
 use Rattle.host.specs.declared.answer.HostAnswer.{HostAnswer}
 use Rattle.host.specs.declared.answer.HostAnswer.TheVariants.{Ack, Recovered, Looked, Beaten, Marked, Refused}
 use Rattle.host.specs.Host.{Operation, Submitting, Recovering, Looking, fresh}
-use Rattle.host.specs.Kept.{Kept, LeadsTo}
 use Rattle.host.proofs.Hosts.{idle_is}
-use Rattle.dlm_images.specs.Operations.{Standing, HasOperated, HasMarked, Ends, EndsMarking}
+use Rattle.dlm_images.specs.Operations.{Ends, EndsMarking}
 use Rattle.dlm_images.proofs.Driving.{known_operated, operated_ends, known_marked, marked_prefix, marked_ends}
 use Rattle.dlm_images.proofs.Ending.{ReadsBack, reads_back}
-use Rattle.dlm_c.specs.Ends.{TellsEnd, TellsMarked, HasNumbersInRange, IsResting, OpenedRest, OperationsTell, MarkingsTell}
+use Rattle.dlm_c.specs.Ends.{TellsEnd, TellsMarked, HasNumbersInRange, OpenedRest, OperationsTell, MarkingsTell}
 use Rattle.dlm_c.specs.Told.{answer_told, status_told}
 
 -- how an operation has ended is told

@@ -106,9 +106,9 @@ pub record HasAttached (boot : ℕ) (old new : Session) : Type 0 where
 abbrev pub Attaches : ℕ → Session → Session → Type 0
 Attaches boot old new = HasAttached boot old new ⊎ ((IsAttachDue old.core → ⊥) × (new ≡ old))
 
--- C is told this call, and its disk, unless it writes more bytes than there is room for
+-- C is told this call, and its disk, unless it writes more bytes than there is room for: then no call
 abbrev pub TellsCallDue : ℕ × Call → DueCall → List ℕ → ℤ → Type 0
-TellsCallDue due call written status = ((status ≡ done) × TellsDue call written due) ⊎ ((status ≡ no_room) × IsTooLong due.1)
+TellsCallDue due call written status = ((status ≡ done) × TellsDue call written due) ⊎ ((status ≡ no_room) × IsTooLong due.1 × (call ≡ no_call))
 
 -- C is told the call that is due, or that none is.
 abbrev pub TellsNext : Session → DueCall → List ℕ → ℤ → Type 0

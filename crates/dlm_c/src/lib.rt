@@ -4,9 +4,10 @@
 
 ghost use Rattle.std.specs.Prelude.{◌≡◌, ◌↔◌, None, IfOk, IfErr, IsTrue};
 ghost use Rattle.paxos_block.specs.Headers.{IsFormatted};
+ghost use Rattle.dlm_c.specs.Calls.{no_call};
 ghost use Rattle.dlm_c.specs.Headers.{LaysOut};
 ghost use Rattle.dlm_c.specs.Images.{IsOpenedIn, MayRefuse, OpensIn};
-ghost use Rattle.dlm_c.specs.Numbers.{done, fault_number};
+ghost use Rattle.dlm_c.specs.Numbers.{done, closed, fault_number};
 ghost use Rattle.dlm_c.specs.Steps.{InHandle, Submits, Recovers, Looks, Marks, CallsNext, GoesOn};
 ghost use Rattle.dlm_c.specs.Told.{answer_told, status_told};
 ghost use Rattle.dlm_c.specs.Views.{ShowsHost, TellsLock, TellsValue, ShowsLocks, ShowsClients, ShowsText, Tells};
@@ -184,10 +185,11 @@ pub extern "C" fn dlm_c_call(
     call: &mut DueCall,
     written: &mut Written,
 ) -> i32
-    ensures { InHandle (λ old new. CallsNext boot old new call.new written.new.bytes result) handle.old.held.value handle.new.held.value result }
+    ensures next { InHandle (λ old new. CallsNext boot old new call.new written.new.bytes result) handle.old.held.value handle.new.held.value result }
+    ensures none { handle.old.held.value ≡ None → call.new ≡ no_call }
 {
     let Some(mut session) = handle.take(alloc) else {
-        return CLOSED;
+        return no_host(call);
     };
     let status = session.call(boot, call, written);
     handle.keep(session);
@@ -204,15 +206,25 @@ pub extern "C" fn dlm_c_next(
     call: &mut DueCall,
     written: &mut Written,
 ) -> i32
-    ensures { InHandle (λ old new. GoesOn told.now row.now.bytes old new call.new written.new.bytes result)
+    ensures next { InHandle (λ old new. GoesOn told.now row.now.bytes old new call.new written.new.bytes result)
         handle.old.held.value handle.new.held.value result }
+    ensures none { handle.old.held.value ≡ None → call.new ≡ no_call }
 {
     let Some(mut session) = handle.take(alloc) else {
-        return CLOSED;
+        return no_host(call);
     };
     let status = session.next(told, row, call, written);
     handle.keep(session);
     status
+}
+
+// No host is kept, so no call is due.
+fn no_host(call: &mut DueCall) -> i32
+    ensures call { call.new ≡ no_call }
+    ensures status { result ≡ closed }
+{
+    *call = DueCall::none();
+    CLOSED
 }
 
 /// Tells how the last operation ended.

@@ -209,7 +209,10 @@ fn tell(need: &Need<'_>, call: &mut DueCall, written: &mut Written) -> i32
             *call = due;
             0
         }
-        None => NO_ROOM,
+        None => {
+            *call = DueCall::none();
+            NO_ROOM
+        }
     }
 }
 
