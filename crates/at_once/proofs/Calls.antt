@@ -11,9 +11,9 @@ use Rattle.dlm_images.specs.Layout.{WritesZeros, none as no_zeros, more as more_
 use Rattle.dlm_images.specs.Operations.{Made, Gave, GaveOne}
 use Rattle.folder_migration.specs.Gates.{IsCleared}
 use Rattle.folder_migration.specs.Moving.{Makes, none, more, HasMoved}
-use Rattle.at_once.specs.Beginnings.{zeroing, laying, clearing, moving, succeeded, LaidOutFileIsBlank, ClearedFileIsFresh, FilesMakeAllOrNothing, StopsWithin, StoppedFilesAreAllOrNothing, MovedFilesAreWhole, MovedFilesHoldLog}
+use Rattle.at_once.specs.Beginnings.{zeroing, laying, clearing, moving, succeeded, LaidOutFileIsBlank, LaidOutFileSaysHeader, ClearedFileIsFresh, FilesMakeAllOrNothing, StopsWithin, StoppedFilesAreAllOrNothing, MovedFilesAreWhole, MovedFilesHoldLog}
 use Rattle.at_once.specs.Disks.{GaveAlone}
-use Rattle.at_once.proofs.Clearing.{cleared_is_fresh, laid_out_is_blank}
+use Rattle.at_once.proofs.Clearing.{cleared_is_fresh, laid_out_is_blank, laid_out_says_header}
 use Rattle.at_once.proofs.Moving.{makes_all_or_nothing, power_leaves_all_or_nothing, moved_is_whole, moved_holds_log}
 
 -- what is called behind the zeros
@@ -129,6 +129,10 @@ module _ {D : Type 0} (gives : D → Call → Answer → D → Type 0) where
     λ image left one gave. laid_out_is_blank Step (λ (d : DiskState). d) (λ a b call answer step. step) header image left one (image_laid gives header old new is image left gave),
   )
 
+  pub laid_out_file_says_header : LaidOutFileSaysHeader gives
+  laid_out_file_says_header header old new is image left one gave =
+      laid_out_says_header Step (λ (d : DiskState). d) (λ a b call answer step. step) header image left one (image_laid gives header old new is image left gave)
+
   pub cleared_file_is_fresh : ClearedFileIsFresh gives
   cleared_file_is_fresh size k old new is = (
     gave_clearing gives size k old new is,
@@ -154,12 +158,12 @@ module _ {D : Type 0} (gives : D → Call → Answer → D → Type 0) where
       )
 
   moved_so : (s : Setup) (old new : List D) (is : HasMoved gives s old new Migrated) (images left : List DiskState) → Gave Step images (moving is.makes) left → HasMoved Step s images left Migrated
-  moved_so s old new is images left gave = record { answers = is.answers; makes = images_moved gives s old is.answers new is.makes images left gave; history = is.history; ended = is.ended }
+  moved_so s old new is images left gave = record { room = is.room; answers = is.answers; makes = images_moved gives s old is.answers new is.makes images left gave; history = is.history; ended = is.ended }
 
   pub moved_files_are_whole : MovedFilesAreWhole gives
-  moved_files_are_whole s old new is images left fits fresh gave k below =
-      moved_is_whole Step (λ (d : DiskState). d) (λ a b call answer step. step) s images left fits fresh (moved_so s old new is images left gave) k below
+  moved_files_are_whole s old new is images left values fresh gave k below =
+      moved_is_whole Step (λ (d : DiskState). d) (λ a b call answer step. step) s images left values fresh (moved_so s old new is images left gave) k below
 
   pub moved_files_hold_log : MovedFilesHoldLog gives
-  moved_files_hold_log s commands old new is images left fits log fresh gave k image there =
-      moved_holds_log Step (λ (d : DiskState). d) (λ a b call answer step. step) s commands images left fits log fresh (moved_so s old new is images left gave) k image there
+  moved_files_hold_log s commands old new is images left values log fresh gave k image there =
+      moved_holds_log Step (λ (d : DiskState). d) (λ a b call answer step. step) s commands images left values log fresh (moved_so s old new is images left gave) k image there

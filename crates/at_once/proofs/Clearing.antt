@@ -10,11 +10,12 @@ use Rattle.torn_block.specs.declared.layout.TheConstants.{HEADER_LENGTH}
 use Rattle.torn_block.specs.declared.block.TheConstants.{OPEN_GATE}
 use Rattle.paxos_block.specs.declared.header.Header.{Header}
 use Rattle.paxos_block.specs.Headers.{header_saying}
+use Rattle.paxos_block.specs.layouts.Headers.{header_saying as header_by}
 use Rattle.paxos_block.specs.Places.{image_length}
 use Rattle.migration.proofs.Lengths.{length-header}
 use Rattle.dlm_images.specs.Layout.{WritesZeros, none, more, IsLaidOut, closed_header}
 use Rattle.folder_migration.specs.Gates.{IsCleared}
-use Rattle.at_once.specs.Beginnings.{IsFresh, ClearedIsFresh, LaidOutIsBlank}
+use Rattle.at_once.specs.Beginnings.{IsFresh, ClearedIsFresh, LaidOutIsBlank, LaidOutSaysHeader, SaysHeader}
 use Rattle.at_once.specs.Disks.{MakesSteps}
 use Rattle.at_once.specs.Images.{headed, HoldsNothing}
 use Rattle.at_once.proofs.Headless.{same_headed, take_same}
@@ -130,6 +131,40 @@ module _ {D : Type 0} (gives : D → Call → Answer → D → Type 0) (state : 
   length-closed : (header : Header) → length (closed_header header) ≡ HEADER_LENGTH
   length-closed header = omega (arith, length-drop 1 (header_saying header), length-header header)
 
+  bytes_laid : (header : Header) (old new : D) → (is : IsLaidOut gives old header new) → (state new).bytes ≡ last (state is.zeroed).bytes (closed_header header) (length-closed header)
+  bytes_laid header old new is =
+      let spelled = closed_header header in
+      ap (λ (d : DiskState). d.bytes) (after_sync is.opened new is.boot is.syncs_gate)
+      ∙ ap (λ (d : DiskState). d.bytes) (after_write is.ready is.opened is.boot 0 (OPEN_GATE ∷ []) is.opens)
+      ∙ ap (λ (d : DiskState). put_at d.bytes 0 (OPEN_GATE ∷ [])) (after_sync is.closed is.ready is.boot is.syncs_header)
+      ∙ ap (λ (d : DiskState). put_at d.bytes 0 (OPEN_GATE ∷ [])) (after_write is.blank is.closed is.boot 0 spelled is.writes)
+      ∙ ap (λ (d : DiskState). put_at (put_at d.bytes 0 spelled) 0 (OPEN_GATE ∷ [])) (after_sync is.zeroed is.blank is.boot is.syncs_zeros)
+
+  -- none of its bytes is unsynced, as far as it was made zeros
+  flags_laid : (header : Header) (old new : D) → (state old).boot ≡ 1 → IsLaidOut gives old header new → (n : ℕ) → n ≤ image_length header.slots → take n (state new).unsynced ≡ replicate n false
+  flags_laid header old new one is n within =
+      let zeros = (state is.zeroed).bytes in
+      let spelled = closed_header header in
+      let so = zeros_written is.boot 0 (image_length header.slots) is.attached is.zeroed is.clears refl (fine_attached old is.attached is.boot one is.attaches) in
+      let reach = long_zeros (image_length header.slots) zeros so.1 in
+      let sync = after_sync is.opened new is.boot is.syncs_gate in
+      let bytes : (state is.opened).bytes ≡ last zeros spelled (length-closed header) = sym (ap (λ (d : DiskState). d.bytes) sync) ∙ bytes_laid header old new is in
+      let size : length (state is.opened).bytes ≡ length zeros = ap length bytes ∙ as_long zeros spelled (length-closed header) (omega (arith, reach)) in
+      flags_synced n (state is.opened) (state new) sync (omega (arith, size, reach, within))
+
+  gated : (header : Header) → header_saying header ≡ OPEN_GATE ∷ drop 1 (header_saying header)
+  unfolding header_by
+  gated header = refl
+
+  laid_out_header : (header : Header) (old new : D) → (state old).boot ≡ 1 → IsLaidOut gives old header new → SaysHeader header (state new)
+  laid_out_header header old new one is =
+      let rest = drop (0 + length (closed_header header)) (state is.zeroed).bytes in (
+        ap (take HEADER_LENGTH) (bytes_laid header old new is)
+            ∙ ap (λ (l : List ℕ). take HEADER_LENGTH (l ++ rest)) (sym (gated header))
+            ∙ take_at (header_saying header) rest HEADER_LENGTH (length-header header),
+        flags_laid header old new one is HEADER_LENGTH (omega arith),
+      )
+
   laid_out : (header : Header) (old new : D) → (state old).boot ≡ 1 → IsLaidOut gives old header new → HoldsNothing header.slots (state new)
   unfolding fresh_disk
   laid_out header old new one is =
@@ -138,23 +173,13 @@ module _ {D : Type 0} (gives : D → Call → Answer → D → Type 0) (state : 
       let zeros = (state is.zeroed).bytes in
       let spelled = closed_header header in
       let long = length-closed header in
-      let reach = long_zeros n zeros so.1 in
       let blank = fine_then is.zeroed is.blank (Sync is.boot) Done so.0 is.syncs_zeros in
       let closed = fine_then is.blank is.closed (Write is.boot 0 spelled) Done blank is.writes in
       let ready = fine_then is.closed is.ready (Sync is.boot) Done closed is.syncs_header in
       let opened = fine_then is.ready is.opened (Write is.boot 0 (OPEN_GATE ∷ [])) Done ready is.opens in
       let fine = fine_then is.opened new (Sync is.boot) Done opened is.syncs_gate in
-      let sync = after_sync is.opened new is.boot is.syncs_gate in
-      let bytes_closed : (state is.closed).bytes ≡ first zeros spelled long =
-      ap (λ (d : DiskState). d.bytes) (after_write is.blank is.closed is.boot 0 spelled is.writes)
-      ∙ ap (λ (d : DiskState). put_at d.bytes 0 spelled) (after_sync is.zeroed is.blank is.boot is.syncs_zeros) in
-      let bytes_opened : (state is.opened).bytes ≡ last zeros spelled long =
-      ap (λ (d : DiskState). d.bytes) (after_write is.ready is.opened is.boot 0 (OPEN_GATE ∷ []) is.opens)
-      ∙ ap (λ (d : DiskState). put_at d.bytes 0 (OPEN_GATE ∷ [])) (after_sync is.closed is.ready is.boot is.syncs_header)
-      ∙ ap (λ (l : List ℕ). put_at l 0 (OPEN_GATE ∷ [])) bytes_closed in
-      let size : length (state is.opened).bytes ≡ length zeros = ap length bytes_opened ∙ as_long zeros spelled long (omega (arith, reach)) in
-      let bytes_new : (state new).bytes ≡ last zeros spelled long = ap (λ (d : DiskState). d.bytes) sync ∙ bytes_opened in
-      let flags : take n (state new).unsynced ≡ replicate n false = flags_synced n (state is.opened) (state new) sync (omega (arith, size, reach)) in
+      let bytes_new = bytes_laid header old new is in
+      let flags = flags_laid header old new one is n (omega arith) in
       λ i. record {
         bytes = (ap (λ (l : List ℕ). headed HEADER_LENGTH 0 (take n l)) bytes_new ∙ zeros_behind zeros spelled long n (omega arith) so.1) i;
         unsynced = (ap (headed HEADER_LENGTH false) flags ∙ same_headed false HEADER_LENGTH n (omega arith)) i;
@@ -167,3 +192,6 @@ cleared_is_fresh gives state steps size old new one is = cleared gives state ste
 
 pub laid_out_is_blank : {D : Type 0} (gives : D → Call → Answer → D → Type 0) (state : D → DiskState) → LaidOutIsBlank gives state
 laid_out_is_blank gives state steps header old new one is = laid_out gives state steps header old new one is
+
+pub laid_out_says_header : {D : Type 0} (gives : D → Call → Answer → D → Type 0) (state : D → DiskState) → LaidOutSaysHeader gives state
+laid_out_says_header gives state steps header old new one is = laid_out_header gives state steps header old new one is

@@ -333,7 +333,7 @@ module _ {D : Type 0} (gives : D → Call → Answer → D → Type 0) (state : 
   power_leaves_all_or_nothing steps s old new answers fits fresh makes images power = dark_so gives state steps s fits answers new (follows gives state steps s fits old fresh answers new makes) images power
 
   pub moved_is_whole : MovedIsWhole gives state
-  moved_is_whole steps s old new fits fresh moved k below = whole_there gives state steps s fits old new fresh moved k below
+  moved_is_whole steps s old new values fresh moved k below = whole_there gives state steps s (record { room = moved.room; values = values }) old new fresh moved k below
 
   pub moved_holds_log : MovedHoldsLog gives state
-  moved_holds_log steps s commands old new fits log fresh moved k disk is = holds_log gives state steps s fits old new fresh moved commands log k disk is
+  moved_holds_log steps s commands old new values log fresh moved k disk is = holds_log gives state steps s (record { room = moved.room; values = values }) old new fresh moved commands log k disk is

@@ -1,10 +1,12 @@
 -- What the calls of a format, and of a migration, leave of a disk that makes a step of the disk model with each of them.
-use Rattle.std.specs.Prelude.{◌≡◌, ◌<◌, ◌⊎◌, ℕ, List, [], ◌∷◌, ◌++◌, length, map, replicate, slice_get, slice_index_or, Some}
+use Rattle.std.specs.Prelude.{◌≡◌, ◌<◌, ◌⊎◌, ℕ, false, All, List, [], ◌∷◌, ◌++◌, length, map, replicate, slice_get, slice_index_or, take, Some}
 use Rattle.disk.specs.Disk.{DiskState, Call, Attach, Write, Sync, Answer, Booted, Done, Step}
 use Rattle.disk.specs.Cut.{cut}
 use Rattle.disk.specs.Simulated.{fresh_disk}
 use Rattle.torn_block.specs.declared.block.TheConstants.{OPEN_GATE}
+use Rattle.torn_block.specs.declared.layout.TheConstants.{HEADER_LENGTH, VALUE_LENGTH}
 use Rattle.paxos_block.specs.declared.header.Header.{Header}
+use Rattle.paxos_block.specs.Headers.{header_saying}
 use Rattle.paxos_block.specs.Places.{image_length}
 use Rattle.migration.specs.Fits.{Fits}
 use Rattle.migration.specs.Heard.{at_first, heard, next}
@@ -27,6 +29,15 @@ use Rattle.at_once.specs.Power.{LosesPower}
 abbrev pub LaidOutIsBlank : {D : Type 0} → (D → Call → Answer → D → Type 0) → (D → DiskState) → Type 0
 LaidOutIsBlank {D = D} gives state = MakesSteps gives state →
     (header : Header) (old new : D) → (state old).boot ≡ 1 → IsLaidOut gives old header new → HoldsNothing header.slots (state new)
+
+-- the first bytes of a disk are the header that says this, and none of them is unsynced
+abbrev pub SaysHeader : Header → DiskState → Type 0
+SaysHeader header disk = (take HEADER_LENGTH disk.bytes ≡ header_saying header) × (take HEADER_LENGTH disk.unsynced ≡ replicate HEADER_LENGTH false)
+
+-- It begins with its header.
+abbrev pub LaidOutSaysHeader : {D : Type 0} → (D → Call → Answer → D → Type 0) → (D → DiskState) → Type 0
+LaidOutSaysHeader {D = D} gives state = MakesSteps gives state →
+    (header : Header) (old new : D) → (state old).boot ≡ 1 → IsLaidOut gives old header new → SaysHeader header (state new)
 
 -- A MIGRATION
 
@@ -66,16 +77,20 @@ PowerLeavesAllOrNothing {D = D} gives state = MakesSteps gives state →
     (s : Setup) (old new : List D) (answers : List Answer) → Fits s → AreFresh state s old → Makes gives s old answers new →
     (images : List DiskState) → HaveLostPower state new images → IsAllOrNothing s (firsts (image_length s.slots) (λ image. image) images)
 
+-- each value of its log is as long as a value is
+abbrev pub HasValues : Setup → Type 0
+HasValues s = All (λ value. length value ≡ VALUE_LENGTH) s.log
+
 -- Where it ended well, every image is complete, and synced.
 abbrev pub MovedIsWhole : {D : Type 0} → (D → Call → Answer → D → Type 0) → (D → DiskState) → Type 0
 MovedIsWhole {D = D} gives state = MakesSteps gives state →
-    (s : Setup) (old new : List D) → Fits s → AreFresh state s old → HasMoved gives s old new Migrated →
+    (s : Setup) (old new : List D) → HasValues s → AreFresh state s old → HasMoved gives s old new Migrated →
     (k : ℕ) → k < s.disks → IsMigrated s k (firsts (image_length s.slots) state new k)
 
 -- So each disk holds the commands whose spellings were moved.
 abbrev pub MovedHoldsLog : {D : Type 0} → (D → Call → Answer → D → Type 0) → (D → DiskState) → Type 0
 MovedHoldsLog {D = D} gives state = MakesSteps gives state →
-    (s : Setup) (commands : List Command) (old new : List D) → Fits s → s.log ≡ map spelling commands → AreFresh state s old → HasMoved gives s old new Migrated →
+    (s : Setup) (commands : List Command) (old new : List D) → HasValues s → s.log ≡ map spelling commands → AreFresh state s old → HasMoved gives s old new Migrated →
     (k : ℕ) (disk : D) → slice_get new k ≡ Some disk → HoldsLog s.slots commands (state disk)
 
 -- THE CALLS THAT WERE MADE
@@ -113,6 +128,11 @@ abbrev pub LaidOutFileIsBlank : {D : Type 0} → (D → Call → Answer → D �
 LaidOutFileIsBlank {D = D} gives = (header : Header) (old new : D) (is : IsLaidOut gives old header new) →
     GaveAlone gives old (laying is) new × ((image left : DiskState) → image.boot ≡ 1 → GaveAlone Step image (laying is) left → HoldsNothing header.slots left)
 
+-- So it begins with that header.
+abbrev pub LaidOutFileSaysHeader : {D : Type 0} → (D → Call → Answer → D → Type 0) → Type 0
+LaidOutFileSaysHeader {D = D} gives = (header : Header) (old new : D) (is : IsLaidOut gives old header new) →
+    (image left : DiskState) → image.boot ≡ 1 → GaveAlone Step image (laying is) left → SaysHeader header left
+
 -- A file that was cleared gave these; and such an image is then fresh as far as that.
 abbrev pub ClearedFileIsFresh : {D : Type 0} → (D → Call → Answer → D → Type 0) → Type 0
 ClearedFileIsFresh {D = D} gives = (size k : ℕ) (old new : D) (is : IsCleared gives size old new) →
@@ -143,11 +163,11 @@ StoppedFilesAreAllOrNothing {D = D} gives = (s : Setup) (old new : List D) (answ
 -- Where it ended well, each of these images is complete, and synced.
 abbrev pub MovedFilesAreWhole : {D : Type 0} → (D → Call → Answer → D → Type 0) → Type 0
 MovedFilesAreWhole {D = D} gives = (s : Setup) (old new : List D) (is : HasMoved gives s old new Migrated) →
-    (images left : List DiskState) → Fits s → AreFreshImages s images → Gave Step images (moving is.makes) left →
+    (images left : List DiskState) → HasValues s → AreFreshImages s images → Gave Step images (moving is.makes) left →
     (k : ℕ) → k < s.disks → IsMigrated s k (firsts (image_length s.slots) (λ image. image) left k)
 
 -- So it holds the commands whose spellings were moved.
 abbrev pub MovedFilesHoldLog : {D : Type 0} → (D → Call → Answer → D → Type 0) → Type 0
 MovedFilesHoldLog {D = D} gives = (s : Setup) (commands : List Command) (old new : List D) (is : HasMoved gives s old new Migrated) →
-    (images left : List DiskState) → Fits s → s.log ≡ map spelling commands → AreFreshImages s images → Gave Step images (moving is.makes) left →
+    (images left : List DiskState) → HasValues s → s.log ≡ map spelling commands → AreFreshImages s images → Gave Step images (moving is.makes) left →
     (k : ℕ) (image : DiskState) → slice_get left k ≡ Some image → HoldsLog s.slots commands image

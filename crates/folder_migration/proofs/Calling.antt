@@ -2,6 +2,7 @@
 use Rattle.std.proofs.Common.{◌≡◌, ◌≤◌, ◌+◌, ◌*◌, ◌↔◌, ℕ, suc, Bool, true, false, List, [], ◌∷◌, ◌++◌, length, Some, None, refl, sym, ◌∙◌, ap, subst, arith, if◌then◌else◌, true≢false}
 use Rattle.std.proofs.lemmas.List.{length-append}
 use Rattle.disk.specs.Disk.{Call, Answer, Booted, Told, Done, Fault}
+use Rattle.migration.specs.Fits.{HasRoom}
 use Rattle.migration.specs.Heard.{Progress, at_first, heard, hears, next, next_in, answered, given_up}
 use Rattle.migration.specs.History.{IsHistory, IsAnswerTo}
 use Rattle.migration.specs.Image.{Setup}
@@ -38,8 +39,8 @@ moves_more gives s old now new n after made x due gave leads bound w = record {
 }
 
 -- it has ended
-pub moved : {D : Type 0} (gives : D → Call → Answer → D → Type 0) (s : Setup) (old now : List D) (n : Notes) (made : ℕ) (end : End) → (w : IsMoving gives s old n now made) → Some end ≡ end_by (heard (at_first s) w.answers) → HasMoved gives s old now end
-moved gives s old now n made end w is = record { answers = w.answers; makes = w.makes; history = w.leads.history; ended = sym is }
+pub moved : {D : Type 0} (gives : D → Call → Answer → D → Type 0) (s : Setup) (old now : List D) (n : Notes) (made : ℕ) (end : End) → HasRoom s → (w : IsMoving gives s old n now made) → Some end ≡ end_by (heard (at_first s) w.answers) → HasMoved gives s old now end
+moved gives s old now n made end room w is = record { room = room; answers = w.answers; makes = w.makes; history = w.leads.history; ended = sym is }
 
 -- HOW IT ENDED
 

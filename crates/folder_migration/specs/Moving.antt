@@ -1,6 +1,7 @@
 -- A migration onto the disks of a set, from its first call to its end.
 use Rattle.std.specs.Prelude.{◌≡◌, List, [], ◌∷◌, ◌++◌, Some}
 use Rattle.disk.specs.Disk.{Call, Answer, Fault}
+use Rattle.migration.specs.Fits.{HasRoom}
 use Rattle.migration.specs.Heard.{at_first, heard, next}
 use Rattle.migration.specs.History.{IsHistory}
 use Rattle.migration.specs.Image.{Setup}
@@ -14,8 +15,9 @@ pub data Makes {D : Type 0} (gives : D → Call → Answer → D → Type 0) (s 
   none : Makes gives s old [] old
   more : (answers : List Answer) → (now : List D) → Makes gives s old answers now → (x : Made) → next (heard (at_first s) answers) ≡ Some (x.disk, x.call) → (new : List D) → GaveOne gives now x new → Makes gives s old (answers ++ x.answer ∷ []) new
 
--- A migration made its calls until it ended so.
+-- A migration of a log that has room made its calls until it ended so.
 pub record HasMoved {D : Type 0} (gives : D → Call → Answer → D → Type 0) (s : Setup) (old new : List D) (end : End) : Type 0 where
+  pub room : HasRoom s
   pub answers : List Answer
   pub makes : Makes gives s old answers new
   pub history : IsHistory (at_first s) answers

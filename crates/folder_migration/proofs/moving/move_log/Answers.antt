@@ -5,9 +5,10 @@ use Rattle.disk.specs.Disk as device
 use Rattle.paxos_block.specs.Places.{image_length}
 use Rattle.phases.specs.Calls.{IsWithin, call_of_need, device_answer}
 use Rattle.migration.specs.Image.{Setup}
-use Rattle.migration.specs.Kept.{setup_by}
+use Rattle.migration.specs.Fits.{HasRoom}
+use Rattle.migration.specs.Kept.{setup_by, setup_of}
 use Rattle.dlm_images.proofs.Driving.{set_keeps, within_more}
-use Rattle.folder_migration.proofs.Calling.{moves_first, moves_more, ends_well, all_made}
+use Rattle.folder_migration.proofs.Calling.{moved, moves_first, moves_more, ends_well, all_made}
 use Rattle.folder_migration.proofs.moving.move_log.Goals as goal
 
 pub loop-made-init : goal.loop-made-init
@@ -16,6 +17,14 @@ loop-made-init g c = record {
   as_many = refl;
   large = c.requires.large;
 }
+
+pub returns-in-Some-clause-moved : goal.returns-in-Some-clause-moved
+returns-in-Some-clause-moved g c =
+    let s = setup_by c.args.config c.args.cluster c.args.log.items in
+    let moving = c.loop-made.invariant.moving in
+    let room = subst HasRoom (ap setup_of c.migrator.view_is ∙ moving.leads.of) c.migrator.invariant.room in
+    moved g.D.Disk.gives s c.args.disks.now c.loop-made.disks c.loop-made.migrator c.loop-made._made c.in-Some.end room moving
+    (c.in-Some.ensures.end s moving.answers moving.leads)
 
 pub returns-in-Some-clause-well : goal.returns-in-Some-clause-well
 returns-in-Some-clause-well g c = λ done. ends_well (setup_by c.args.config c.args.cluster c.args.log.items) done.answers c.in-Some.end done.history done.ended
