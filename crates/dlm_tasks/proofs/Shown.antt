@@ -19,6 +19,15 @@ use Rattle.simulator.specs.Kept.{Kept, LeadsTo}
 use Rattle.simulator.proofs.Entries.{happen_on, answers_on}
 use Rattle.dlm_tasks.specs.Printed.{WritesAnswers, WritesPart, WritesScript, WritesText, IsText, IsShowOf, IsFrom, line_text, lines_text}
 
+plus_none : (n : ℕ) → n + 0 ≡ n
+plus_none n = omega arith
+
+-- a show is due behind n of the events: `front` happens, its table is written, and then the rest
+DueBehind : (c : Shape) (log : List Filled) (first : ℕ) (show : Show) (shows : List Show) (text : List ℕ) (n : ℕ) (front back : List Event) → Type 0
+DueBehind c log first show shows text n front back =
+    (k : Kept) × LeadsTo (happen c log front) k × (s : List ℕ) × IsShowOf show (slice_index_or k.hosts show.host None) s
+    × (r : List ℕ) × IsText c (happen c log front) (first + n) back shows r × (text ≡ lines_text (answers_from c log first front) ++ (s ++ r))
+
 -- nothing happened yet
 pub nothing : (log : List Filled) (first : ℕ) (shows : List Show) (k : Kept) (at : Option (List ℕ)) → LeadsTo log k → WritesPart log [] first shows shows k k at at
 nothing log first shows k at leads = record {
@@ -28,9 +37,6 @@ nothing log first shows k at leads = record {
   written = Appends-nil at;
   goes_on = λ later rest text. subst (λ (n : ℕ). IsText k.shape log n later shows rest) (plus_none first) text;
 }
-  where
-    plus_none : (n : ℕ) → n + 0 ≡ n
-    plus_none n = omega arith
 
 -- a table is shown where no events come before its place
 pub at_once : (log : List Filled) (first : ℕ) (events : List Event) (show : Show) (shows : List Show) (k : Kept) (shown rest : List ℕ) (n : ℕ) → n ≡ show.place - first
@@ -39,10 +45,7 @@ pub at_once : (log : List Filled) (first : ℕ) (events : List Event) (show : Sh
 at_once log first events show shows k shown rest n is none all text leads is_shown = the_same is
   where
     Body : ℕ → List Event → List Event → Type 0
-    Body n before behind =
-        (kept : Kept) × LeadsTo (happen k.shape log before) kept × (s : List ℕ) × IsShowOf show (slice_index_or kept.hosts show.host None) s
-        × (r : List ℕ) × IsText k.shape (happen k.shape log before) (first + n) behind shows r
-        × (shown ++ rest ≡ lines_text (answers_from k.shape log first before) ++ (s ++ r))
+    Body = DueBehind k.shape log first show shows (shown ++ rest)
 
     here : Body n [] events
     here = (k, leads, shown, is_shown, rest, text, refl)
@@ -107,10 +110,7 @@ answered c log first events later (show ∷ shows) rest before (kept, leads, sho
     then = happen c log events
 
     Body : ℕ → List Event → List Event → Type 0
-    Body n front back =
-        (k : Kept) × LeadsTo (happen c log front) k × (s : List ℕ) × IsShowOf show (slice_index_or k.hosts show.host None) s
-        × (r : List ℕ) × IsText c (happen c log front) (first + n) back shows r
-        × (here ++ rest ≡ lines_text (answers_from c log first front) ++ (s ++ r))
+    Body = DueBehind c log first show shows (here ++ rest)
 
     far : length events + m ≡ show.place - first
     far = omega (arith, before)
@@ -201,7 +201,7 @@ more log e k m first shows left last old mid new p q r s one due answers before 
     (parts log (replicate k e) (replicate m e) first shows left last old mid new p q s one
     (subst (λ (n : ℕ). WritesPart then (replicate m e) n left last mid new q s) far
     (parts then [] (replicate m e) (first + k) left last last mid mid new q r s (due then one.leads)
-    (subst (λ (n : ℕ). WritesPart then (replicate m e) n last last mid new r s) (plus_none (first + k))
+    (subst (λ (n : ℕ). WritesPart then (replicate m e) n last last mid new r s) (sym (plus_none (first + k)))
     (part then (replicate m e) (first + k) last mid new r s
     (subst (λ (n : ℕ). IsFrom ((first + k) + n) last) (sym (length-replicate m e)) before)
     (answers then one.leads))))))
@@ -211,9 +211,6 @@ more log e k m first shows left last old mid new p q r s one due answers before 
 
     far : first + k ≡ first + length (replicate k e)
     far = ap (λ (n : ℕ). first + n) (sym (length-replicate k e))
-
-    plus_none : (n : ℕ) → n ≡ n + 0
-    plus_none n = omega arith
 
 -- Behind all events tables were shown, of which these are left. What is written further on makes the text of all.
 pub record ShowsLast (log : List Filled) (shows left : List Show) (k : Kept) (before after : Option (List ℕ)) : Type 0 where
@@ -255,9 +252,6 @@ shown_due log place shows show left k shown p q r passed one leads is_shown writ
       (subst (λ (n : ℕ). IsText k.shape log n later (show ∷ left) (shown ++ rest)) (sym (plus_none place))
       (due log place later show left k shown rest passed (subst (λ (n : ℕ). IsText k.shape log n later left rest) (plus_none place) text) leads is_shown)));
 }
-  where
-    plus_none : (n : ℕ) → n + 0 ≡ n
-    plus_none n = omega arith
 
 -- So many of all events happened, and these are left.
 pub record ShownSoFar (log : List Filled) (all left : List Event) (place : ℕ) (shows later : List Show) (old new : Kept) (before after : Option (List ℕ)) : Type 0 where
