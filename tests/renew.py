@@ -2,7 +2,7 @@
 """renew.py [--program PATH] [--kills N] [--long N]: renews folders with `dlm fill` and `dlm renew`. Random commands are submitted until a log of 16 slots is
 all but full, and `dlm fill` takes the slots that are left. Then the table is carried over onto another number of disks, and `dlm table` of both
 folders has to print the same. Each client's last request, made again in the new folder, gets the reply that it got before. So it is ten times in a
-row. Clients are left out, and begin anew. What is refused is refused in the order that docs/REFUSALS.md has. Then it kills as many renewals (none given: none) at random moments
+row. Clients are left out, and begin anew. Signs of life go with their locks. What is refused is refused in the order that docs/REFUSALS.md has. Then it kills as many renewals (none given: none) at random moments
 (`kill -9`): of three one at any, one once a new image is there, one once a gate is open. After each it looks that no state of the new folder reads as
 another table, and that the next run with the same words ends it or is refused, while one with other words is refused.
 
@@ -362,6 +362,39 @@ def a_format_that_was_ended_is_no_renewal():
     os.remove("e/disk2.img")
     refused("renew d 1 e 3 16 8", "dlm: 29 AlreadyThere\n")
     wants("the gate", bytes_of("e/disk1.img")[0], 0)
+
+
+def is_locked(path):
+    with open(path, "rb") as file:
+        try:
+            fcntl.flock(file, fcntl.LOCK_EX | fcntl.LOCK_NB)
+        except BlockingIOError:
+            return True
+    return False
+
+
+@test
+def signs_of_life_go_with_their_locks():
+    make("d", 1, 6, 7)
+    for lock in (1, 2, 3):
+        prints(f"submit d {lock} enqueue 1 {lock} {lock} EX name{lock}", f"ack {lock - 1} Granted\n")
+    fill("d", 3)
+    os.mkdir("e")
+    # Lock 1 is somebody's. Both folders were used before: there are signs of no lock, and one of lock 2, which has none now.
+    for path in ("d/mg-lock.1.1", "d/mg-lock.9.9", "e/mg-lock.1.1", "e/mg-lock.2.2"):
+        with open(path, "xb"):
+            pass
+    os.mkdir("e/mg-lock.3.3")
+    with open("d/mg-lock.1.1", "rb") as sign:
+        fcntl.flock(sign, fcntl.LOCK_EX)
+        refused("renew d 5 e 3 16 8", "dlm: 29 AlreadyThere\n")
+        wants("images", [it for it in os.listdir("e") if it.endswith(".img")], [])
+        os.rmdir("e/mg-lock.3.3")
+        prints("renew d 5 e 3 16 8", "renewed 4 commands, 3 disks, 16 slots\n")
+        wants("signs", sorted(it for it in os.listdir("e") if it.startswith("mg-lock")), ["mg-lock.1.1"])
+        wants("one file", os.path.samefile("d/mg-lock.1.1", "e/mg-lock.1.1"), True)
+        wants("somebody has it", is_locked("e/mg-lock.1.1"), True)
+    wants("nobody has it", is_locked("e/mg-lock.1.1"), False)
 
 
 @test

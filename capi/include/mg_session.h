@@ -91,7 +91,7 @@ int mg_check(struct mg_session *session, unsigned lock);
 int mg_purge_dead(struct mg_session *session, unsigned victim, unsigned *purged);
 
 /* For mg_recover: the locks without a sign of life, too, and those that are kept for a session without MG_SHARE. Only where no
- * process of this host number can be alive: when its machine has just started. A renewal carries locks over, and no signs. */
+ * process of this host number can be alive: when its machine has just started. */
 #define MG_ALL 1u
 
 /* Releases what processes of this host number that are gone have left, and marks what has no mark. `*released`, where it is not

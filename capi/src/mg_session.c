@@ -10,7 +10,8 @@
  *   lock is asked for: the table would be an old one, if the very same command stood far back in the log.
  * - As long as a lock is somebody's, its sign of life is locked by flock: the file mg-lock.HOST.LOCK in the folder. Signs are made
  *   before the lock is asked for and removed after it is gone, within talks. A lock whose sign is there, and nobody's, is left over.
- *   One without a sign may be somebody's: a renewal carries locks over, and no signs.
+ *   A renewal links the signs of the locks that it carries over, so each is one file under both folders. A lock without a sign may be
+ *   somebody's: where the new folder is on another file system, none is linked.
  * - A lock's number follows from its request's. It is odd with MG_SHARE, even without. A session with MG_SHARE leaves even ones alone:
  *   they may be kept for a session that begins again.
  */
@@ -288,11 +289,20 @@ static int take_sign(const struct mg_session *session, unsigned number, uint32_t
     return file;
 }
 
-/* Whether somebody else has the lock's number by now. In a renewed folder our sign does not keep it, once the lock was purged there. */
+/* Whether the lock's sign in the folder is the one that we have. */
+static bool has_our_sign(const struct mg_session *session, const struct entry *entry) {
+    char path[4200];
+    struct stat ours, there;
+    path_of_sign(session, session->number, entry->lock, path, sizeof path);
+    return entry->sign != NO_SIGN && fstat(entry->sign, &ours) == 0 && stat(path, &there) == 0 && ours.st_dev == there.st_dev &&
+           ours.st_ino == there.st_ino;
+}
+
+/* Whether somebody else has the lock's number by now. In a renewed folder our sign need not keep it, once the lock was purged there. */
 static bool is_anothers(const struct mg_session *session, struct mg_host *host, const struct entry *entry) {
     struct mg_host_view facts;
     int sign;
-    if (mg_host_facts(host, &facts) != MG_OK || facts.cluster == entry->cluster)
+    if (mg_host_facts(host, &facts) != MG_OK || facts.cluster == entry->cluster || has_our_sign(session, entry))
         return false;
     sign = take_sign(session, session->number, entry->lock, false);
     if (sign != NO_SIGN)

@@ -339,6 +339,29 @@ def renewed():
         expect(process.communicate("\n", timeout=60)[0] == "11\n" and process.returncode == 0, "and goes on in the new folder")
     expect("granted" not in table_of_current() and "waiting" not in table_of_current(), f"no lock is left:\n{table_of_current()}")
 
+    # In each order of a kill, a renewal and a wait: while its process lives nobody gets the lock, and then it is left over.
+    for number, order in ((12, "kill renew wait"), (13, "renew kill wait"), (14, "renew wait kill"), (15, "wait renew kill"), (16, "wait kill renew")):
+        first, waiting, lives = holder(1, "db", of=current), None, True
+        for step in order.split():
+            if step == "kill":
+                os.killpg(first.pid, signal.SIGKILL)
+                first.wait()
+                lives = False
+            elif step == "renew":
+                renew(number, 64)
+                if lives:
+                    said = run("--recover", "--all", current, 1)
+                    expect(said.stdout == "released 0\n", f"{order}: a lock that somebody has: {said}")
+            else:
+                waiting = begin(current, 1, "db", "--", "true")
+                if lives:
+                    expect(until(lambda: "waiting" in table_of_current()), f"{order}: it waits")
+            if lives and waiting:
+                time.sleep(0.5)
+                expect(waiting.poll() is None, f"{order}: it goes on waiting while the other one lives")
+        expect(waiting.wait(30) == 0, f"{order}: it gets a lock that is left over")
+        expect("granted" not in table_of_current() and "waiting" not in table_of_current(), f"{order}: no lock is left:\n{table_of_current()}")
+
 
 def lost_disks():
     folder()

@@ -1,5 +1,5 @@
--- The files by which a folder names the set into which its log was renewed.
-use Rattle.std.specs.Prelude.{ℕ, List, codes}
+-- The files by which a folder names the set into which its log was renewed, and the signs of life that are carried over to it.
+use Rattle.std.specs.Prelude.{ℕ, List, ◌++◌, codes, decimal}
 
 -- the name of the file that has the successor's line
 abbrev pub successor_name : List ℕ
@@ -8,3 +8,7 @@ successor_name = codes "renewed"
 -- the name of the file that becomes it
 abbrev pub draft_name : List ℕ
 draft_name = codes "renewed.new"
+
+-- the name of a lock's sign of life, by the host through which it was enqueued, and its number
+abbrev pub sign_name : (host lock : ℕ) → List ℕ
+sign_name host lock = codes "mg-lock." ++ decimal host ++ codes "." ++ decimal lock

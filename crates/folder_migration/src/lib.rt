@@ -17,6 +17,7 @@ mod old_log;
 mod renew;
 mod renew_fault;
 mod renewal;
+mod signs;
 mod successor;
 
 pub use fault::MoveFault;

@@ -13,11 +13,13 @@ use crate::new_folder::{find_new, first_host, make_images, open_new_folder};
 use crate::old_log::TRIES;
 use crate::renew_fault::{NewFault, RenewFault};
 use crate::renewal::renew_disks;
+use crate::signs::carry_signs;
 use crate::successor::{SuccessorLine, name_successor, names_successor};
 use disk::FileDisk;
 use dlm_images::{DiskHost, TryLock, find_folder, lock_host, open_folder, refuse_taken};
 use host::Config;
 use lock_command::{ClientNumber, HostNumber};
+use lock_table::LockRecord;
 use std::fs::OpenFile;
 use std::os::unix::fs::FileExt;
 use std::rt::Files;
@@ -127,24 +129,29 @@ where
     if host.learned() != slots {
         return Err(RenewFault::NotFull);
     }
+    let Ok(picture) = host.table().picture(rt.alloc()) else {
+        return Err(RenewFault::NoMemory);
+    };
     renew_disks(
         rt.alloc(),
         host,
         config,
         cluster,
         leave,
-        || make_successor(rt, old, line, new, config),
+        || make_successor(rt, old, line, new, config, picture.locks()),
     )
 }
 
-/// Names the successor of the old folder and makes its images of zeros, if none of them is there. The file that is given keeps others from
-/// working there as host 0, which is the one that writes new images. It is locked first, so a folder that is not there is never named.
+/// Names the successor of the old folder, carries the signs of life of these locks over, and makes its images of zeros, if none of them is
+/// there. The file that is given keeps others from working there as host 0, which is the one that writes new images. It is locked first, so a
+/// folder that is not there is never named.
 fn make_successor<R: Files + AllocGlobal>(
     rt: &R,
     old: &str,
     line: &SuccessorLine,
     new: &str,
     config: Config,
+    locks: &[LockRecord],
 ) -> Result<(Vec<FileDisk<R::File>>, R::File), NewFault>
 where
     R::File: FileExt + OpenFile + TryLock + Drop,
@@ -156,6 +163,8 @@ where
     // A run that had the lock may have made them meanwhile.
     refuse_taken(rt, new, config)?;
     name_successor(rt, old, line)?;
+    // Before the first gate is open, so that nobody finds a lock there without its sign.
+    carry_signs(rt, old, new, locks)?;
     let images = make_images(rt, new, config)?;
     Ok((images, lock))
 }

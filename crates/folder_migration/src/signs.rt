@@ -1,0 +1,68 @@
+ghost use Rattle.std.specs.Prelude.{◌≡◌, ◌⊎◌, IfErr, IfOk};
+ghost use Rattle.std.specs.Path.{path_buf_bytes, path_join};
+ghost use Rattle.dlm_images.specs.declared.fault.FolderFault.TheVariants as folder;
+ghost use Rattle.folder_migration.specs.Successor.{sign_name};
+
+use crate::renew_fault::NewFault;
+use dlm_images::FolderFault;
+use lock_command::{HostNumber, LockNumber};
+use lock_table::LockRecord;
+use std::alloc::{AllocError, Global};
+use std::path::{Path, PathBuf};
+use std::rt::Files;
+use std::{fs, io};
+
+/// Carries over the signs of life of these locks. A sign is a file that whoever has the lock keeps locked by `flock`: from then on it is the
+/// same file under both folders.
+///
+/// A lock may have no sign, and a sign may not be linked to another file system. Then the new folder has no sign of the lock, so that it may be
+/// somebody's.
+pub fn carry_signs<R: Files + AllocGlobal>(
+    rt: &R,
+    old: &str,
+    new: &str,
+    locks: &[LockRecord],
+) -> Result<(), NewFault>
+    ensures fault { IfErr result (λ fault. (fault ≡ NewFault.Folder folder.NoMemory) ⊎ (fault ≡ NewFault.Folder folder.AlreadyThere)) }
+{
+    for at in 0..locks.len() {
+        carry_sign(rt, old, new, locks[at].host, locks[at].lock)?;
+    }
+    Ok(())
+}
+
+/// What lies there of an earlier life of the new folder would be taken for the lock's, so it is removed first.
+fn carry_sign<R: Files + AllocGlobal>(
+    rt: &R,
+    old: &str,
+    new: &str,
+    host: HostNumber,
+    lock: LockNumber,
+) -> Result<(), NewFault>
+    ensures fault { IfErr result (λ fault. (fault ≡ NewFault.Folder folder.NoMemory) ⊎ (fault ≡ NewFault.Folder folder.AlreadyThere)) }
+{
+    let from = sign_path(rt.alloc(), old, host, lock)?;
+    let to = sign_path(rt.alloc(), new, host, lock)?;
+    if let Err(error) = fs::remove_file(rt, to.as_str())
+        && error.kind() != io::ErrorKind::NotFound
+    {
+        return Err(NewFault::Folder(FolderFault::AlreadyThere));
+    }
+    let _ = fs::hard_link(rt, from.as_str(), to.as_str());
+    Ok(())
+}
+
+/// The path of the sign of life of a lock in a folder.
+fn sign_path(
+    alloc: Global,
+    folder: &str,
+    host: HostNumber,
+    lock: LockNumber,
+) -> Result<PathBuf, AllocError>
+    ensures path { IfOk result (λ path. path_buf_bytes path ≡ path_join folder.now (sign_name host lock)) }
+{
+    let host = host.get();
+    let lock = lock.get();
+    let name = format!(in alloc; "mg-lock.{host}.{lock}")?;
+    Path::new(folder).join(alloc, name.as_str())
+}
