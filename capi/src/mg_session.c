@@ -289,25 +289,18 @@ static int take_sign(const struct mg_session *session, unsigned number, uint32_t
     return file;
 }
 
-/* Whether the lock's sign in the folder is the one that we have. */
-static bool has_our_sign(const struct mg_session *session, const struct entry *entry) {
-    char path[4200];
-    struct stat ours, there;
-    path_of_sign(session, session->number, entry->lock, path, sizeof path);
-    return entry->sign != NO_SIGN && fstat(entry->sign, &ours) == 0 && stat(path, &there) == 0 && ours.st_dev == there.st_dev &&
-           ours.st_ino == there.st_ino;
-}
-
-/* Whether somebody else has the lock's number by now. In a renewed folder our sign need not keep it, once the lock was purged there. */
+/* Whether somebody else has, or had, the lock's number by now: there is a sign, and it is not ours. In a renewed folder our sign keeps
+ * the number only where it is linked, once the lock was purged there. */
 static bool is_anothers(const struct mg_session *session, struct mg_host *host, const struct entry *entry) {
     struct mg_host_view facts;
-    int sign;
-    if (mg_host_facts(host, &facts) != MG_OK || facts.cluster == entry->cluster || has_our_sign(session, entry))
+    struct stat ours, there;
+    char path[4200];
+    if (mg_host_facts(host, &facts) != MG_OK || facts.cluster == entry->cluster)
         return false;
-    sign = take_sign(session, session->number, entry->lock, false);
-    if (sign != NO_SIGN)
-        close(sign);
-    return sign == NO_SIGN && errno == EWOULDBLOCK;
+    path_of_sign(session, session->number, entry->lock, path, sizeof path);
+    if (stat(path, &there) != 0)
+        return false;
+    return entry->sign == NO_SIGN || fstat(entry->sign, &ours) != 0 || ours.st_dev != there.st_dev || ours.st_ino != there.st_ino;
 }
 
 /* Whether it shows the lock as it was asked for, and whether that is granted then. */

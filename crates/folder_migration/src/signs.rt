@@ -4,10 +4,11 @@ ghost use Rattle.dlm_images.specs.declared.fault.FolderFault.TheVariants as fold
 ghost use Rattle.folder_migration.specs.Successor.{sign_name};
 
 use crate::renew_fault::NewFault;
-use dlm_images::FolderFault;
+use dlm_images::{FolderFault, TryLock};
 use lock_command::{HostNumber, LockNumber};
 use lock_table::LockRecord;
 use std::alloc::{AllocError, Global};
+use std::fs::{File, OpenFile, TryLockError};
 use std::path::{Path, PathBuf};
 use std::rt::Files;
 use std::{fs, io};
@@ -15,14 +16,16 @@ use std::{fs, io};
 /// Carries over the signs of life of these locks. A sign is a file that whoever has the lock keeps locked by `flock`: from then on it is the
 /// same file under both folders.
 ///
-/// A lock may have no sign, and a sign may not be linked to another file system. Then the new folder has no sign of the lock, so that it may be
-/// somebody's.
+/// A lock may have no sign, and there are signs that cannot be linked, as to another file system. Then the new folder has no sign of the lock, so
+/// that it may be somebody's.
 pub fn carry_signs<R: Files + AllocGlobal>(
     rt: &R,
     old: &str,
     new: &str,
     locks: &[LockRecord],
 ) -> Result<(), NewFault>
+where
+    R::File: OpenFile + TryLock + Drop,
     ensures fault { IfErr result (λ fault. (fault ≡ NewFault.Folder folder.NoMemory) ⊎ (fault ≡ NewFault.Folder folder.AlreadyThere)) }
 {
     for at in 0..locks.len() {
@@ -39,17 +42,39 @@ fn carry_sign<R: Files + AllocGlobal>(
     host: HostNumber,
     lock: LockNumber,
 ) -> Result<(), NewFault>
+where
+    R::File: OpenFile + TryLock + Drop,
     ensures fault { IfErr result (λ fault. (fault ≡ NewFault.Folder folder.NoMemory) ⊎ (fault ≡ NewFault.Folder folder.AlreadyThere)) }
 {
     let from = sign_path(rt.alloc(), old, host, lock)?;
     let to = sign_path(rt.alloc(), new, host, lock)?;
-    if let Err(error) = fs::remove_file(rt, to.as_str())
-        && error.kind() != io::ErrorKind::NotFound
+    if let Err(error) = fs::remove_file(rt, to.as_str()) {
+        match error.kind() {
+            io::ErrorKind::NotFound => {}
+            io::ErrorKind::OutOfMemory => return Err(NewFault::Folder(FolderFault::NoMemory)),
+            _ => return Err(NewFault::Folder(FolderFault::AlreadyThere)),
+        }
+    }
+    if fs::hard_link(rt, from.as_str(), to.as_str()).is_ok()
+        && !is_one_file(rt, from.as_str(), to.as_str())
+        && fs::remove_file(rt, to.as_str()).is_err()
     {
         return Err(NewFault::Folder(FolderFault::AlreadyThere));
     }
-    let _ = fs::hard_link(rt, from.as_str(), to.as_str());
     Ok(())
+}
+
+/// Whether whoever has the one locked has the other one locked, too. There are file systems, of user space or of a network, that keep locks by name.
+fn is_one_file<R: Files>(files: &R, old: &str, new: &str) -> bool
+where
+    R::File: OpenFile + TryLock + Drop,
+{
+    let (Ok(old), Ok(new)) = (File::open(files, old), File::open(files, new)) else {
+        return false;
+    };
+    // Somebody has it now, if not before.
+    let _ = old.try_lock();
+    matches!(new.try_lock(), Err(TryLockError::WouldBlock))
 }
 
 /// The path of the sign of life of a lock in a folder.
