@@ -595,6 +595,10 @@ def of_a_renewal(name, path, times):
         return of_no_folder(path)
     if path.startswith("d/disk"):
         return 0, RENEWED, ""
+    if name == "unlink":
+        return 1, "", "dlm: 29 AlreadyThere\n"
+    if name == "link":
+        return 0, RENEWED, ""
     if path.endswith(".lock"):
         return 1, "", f"dlm: 37 NoLock {path[2:-5]}\n"
     if path in ("d", "d/renewed", "d/renewed.new"):

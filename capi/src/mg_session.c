@@ -11,7 +11,7 @@
  * - As long as a lock is somebody's, its sign of life is locked by flock: the file mg-lock.HOST.LOCK in the folder. Signs are made
  *   before the lock is asked for and removed after it is gone, within talks. A lock whose sign is there, and nobody's, is left over.
  *   A renewal links the signs of the locks that it carries over, so each is one file under both folders. A lock without a sign may be
- *   somebody's: where the new folder is on another file system, none is linked.
+ *   somebody's: not each sign can be linked, as to another file system.
  * - A lock's number follows from its request's. It is odd with MG_SHARE, even without. A session with MG_SHARE leaves even ones alone:
  *   they may be kept for a session that begins again.
  */

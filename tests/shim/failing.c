@@ -1,6 +1,6 @@
 /* One call of a process fails, or the process stops before it. For LD_PRELOAD; tests/renew.py builds it with `cc -shared -fPIC`.
  *
- * FAIL_AT=N       of the opens, locks, reads, writes, cuts, syncs and renames of files below the folder in which the process was started the
+ * FAIL_AT=N       of the opens, locks, reads, writes, cuts, syncs, renames, unlinks and links of files below the folder in which the process was started the
  *                 N-th fails, counted from 1; and of the calls that follow the links to such a folder. A write leaves the first half of its bytes.
  * FAIL_STOP=yes   it does not fail: before it the process stops, as by SIGSTOP
  * FAIL_TOLD=FILE  which one that was: its name and the path from that folder, in a line
@@ -114,6 +114,14 @@ int fsync(int fd) {
 
 int rename(const char *from, const char *to) {
     return fails("rename", from_start(from)) ? -1 : REAL(rename)(from, to);
+}
+
+int unlink(const char *path) {
+    return fails("unlink", from_start(path)) ? -1 : REAL(unlink)(path);
+}
+
+int link(const char *from, const char *to) {
+    return fails("link", from_start(to)) ? -1 : REAL(link)(from, to);
 }
 
 char *realpath(const char *path, char *into) {
