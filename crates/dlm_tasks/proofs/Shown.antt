@@ -23,7 +23,7 @@ plus_none : (n : ℕ) → n + 0 ≡ n
 plus_none n = omega arith
 
 -- a show is due behind n of the events: `front` happens, its table is written, and then the rest
-DueBehind : (c : Shape) (log : List Filled) (first : ℕ) (show : Show) (shows : List Show) (text : List ℕ) (n : ℕ) (front back : List Event) → Type 0
+abbrev DueBehind : (c : Shape) (log : List Filled) (first : ℕ) (show : Show) (shows : List Show) (text : List ℕ) (n : ℕ) (front back : List Event) → Type 0
 DueBehind c log first show shows text n front back =
     (k : Kept) × LeadsTo (happen c log front) k × (s : List ℕ) × IsShowOf show (slice_index_or k.hosts show.host None) s
     × (r : List ℕ) × IsText c (happen c log front) (first + n) back shows r × (text ≡ lines_text (answers_from c log first front) ++ (s ++ r))
