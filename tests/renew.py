@@ -380,21 +380,22 @@ def signs_of_life_go_with_their_locks():
         prints(f"submit d {lock} enqueue 1 {lock} {lock} EX name{lock}", f"ack {lock - 1} Granted\n")
     fill("d", 3)
     os.mkdir("e")
-    # Lock 1 is somebody's. Both folders were used before: there are signs of no lock, and one of lock 2, which has none now.
-    for path in ("d/mg-lock.1.1", "d/mg-lock.9.9", "e/mg-lock.1.1", "e/mg-lock.2.2"):
+    # Lock 1 is somebody's. Both folders were used before: there are signs of no lock, and of the same locks in other sets and in one of the same number.
+    others = ["mg-lock.1.1", "mg-lock.3.3", "mg-lock.7.1.1", "mg-lock.5.2.2"]
+    for path in ("d/mg-lock.7.1.1", "d/mg-lock.7.9.9", "d/mg-lock.8.2.2", "e/mg-lock.8.1.1", "e/mg-lock.8.2.2", *(f"e/{name}" for name in others)):
         with open(path, "xb"):
             pass
-    os.mkdir("e/mg-lock.3.3")
-    with open("d/mg-lock.1.1", "rb") as sign:
+    os.mkdir("e/mg-lock.8.3.3")
+    with open("d/mg-lock.7.1.1", "rb") as sign:
         fcntl.flock(sign, fcntl.LOCK_EX)
         refused("renew d 5 e 3 16 8", "dlm: 29 AlreadyThere\n")
         wants("images", [it for it in os.listdir("e") if it.endswith(".img")], [])
-        os.rmdir("e/mg-lock.3.3")
+        os.rmdir("e/mg-lock.8.3.3")
         prints("renew d 5 e 3 16 8", "renewed 4 commands, 3 disks, 16 slots\n")
-        wants("signs", sorted(it for it in os.listdir("e") if it.startswith("mg-lock")), ["mg-lock.1.1"])
-        wants("one file", os.path.samefile("d/mg-lock.1.1", "e/mg-lock.1.1"), True)
-        wants("somebody has it", is_locked("e/mg-lock.1.1"), True)
-    wants("nobody has it", is_locked("e/mg-lock.1.1"), False)
+        wants("signs", sorted(it for it in os.listdir("e") if it.startswith("mg-lock")), sorted(["mg-lock.8.1.1", *others]))
+        wants("one file", os.path.samefile("d/mg-lock.7.1.1", "e/mg-lock.8.1.1"), True)
+        wants("somebody has it", is_locked("e/mg-lock.8.1.1"), True)
+    wants("nobody has it", is_locked("e/mg-lock.8.1.1"), False)
 
 
 @test

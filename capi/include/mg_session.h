@@ -41,8 +41,9 @@ struct mg_session;
  * number is the session's own until mg_end, and MG_HOST_IN_USE says that another process has it. At MG_OK `*out` is a session,
  * which is to be ended; else it is NULL. `disk` as in mg_open.
  *
- * Each lock of a session has a sign of life, the file mg-lock.HOST.LOCK in the folder. The session has it locked (flock) as long as
- * it has the lock. What former runs left are the locks whose signs are there, and locked by nobody. Do not remove signs. */
+ * Each lock of a session has a sign of life, the file mg-lock.SET.HOST.LOCK in the folder, where SET is its cluster number. The session
+ * has it locked (flock) as long as it has the lock. What former runs left are the locks whose signs are there, and locked by nobody. Do
+ * not remove signs. */
 int mg_begin(const char *folder, unsigned host, unsigned flags, struct mg_session **out, int *disk);
 
 /* Ends a session. NULL is nothing. Locks that were not given stay in the log. The next session of this host number releases

@@ -8,10 +8,11 @@
  *   where the table does not show it. So it does no harm if a request number was used before, by a command that came into the log
  *   late: then the table does not show what was asked, and the next number is taken. All that was acknowledged is learned before a
  *   lock is asked for: the table would be an old one, if the very same command stood far back in the log.
- * - As long as a lock is somebody's, its sign of life is locked by flock: the file mg-lock.HOST.LOCK in the folder. Signs are made
- *   before the lock is asked for and removed after it is gone, within talks. A lock whose sign is there, and nobody's, is left over.
- *   A renewal links the signs of the locks that it carries over, so each is one file under both folders. A lock without a sign may be
- *   somebody's: not each sign can be linked, as to another file system.
+ * - As long as a lock is somebody's, its sign of life is locked by flock: the file mg-lock.SET.HOST.LOCK in the folder, SET being the
+ *   cluster number. Signs are made before the lock is asked for and removed after it is gone, within talks. A lock whose sign is there, and
+ *   nobody's, is left over. What sets of an earlier life of the folder left there are no signs of its locks.
+ *   A renewal links the signs of the locks that it carries over, so each is one file under both folders. Not each can be linked, as to
+ *   another file system. So a lock without a sign may be somebody's, until a session makes another one for it.
  * - A lock's number follows from its request's. It is odd with MG_SHARE, even without. A session with MG_SHARE leaves even ones alone:
  *   they may be kept for a session that begins again.
  */
@@ -27,6 +28,7 @@
 #include <dirent.h>
 #include <errno.h>
 #include <fcntl.h>
+#include <inttypes.h>
 #include <stdbool.h>
 #include <stdio.h>
 #include <stdlib.h>
@@ -52,6 +54,7 @@ struct entry {
     int sign;
     enum state state;
     bool in_doubt; /* a release of it may be in the log */
+    bool is_lent;  /* a child may have its sign */
     char name[MG_NAME_LENGTH + 1];
 };
 
@@ -258,15 +261,20 @@ static uint64_t next_request(struct mg_session *session) {
 
 /* ---- signs of life ---- */
 
-static void path_of_sign(const struct mg_session *session, unsigned number, uint32_t lock, char *into, size_t size) {
-    (void)snprintf(into, size, "%s/mg-lock.%u.%u", session->at, number, (unsigned)lock);
+/* The cluster number of the set whose folder is open. What is open is of one folder. */
+static uint64_t set_of(const struct mg_session *session) {
+    struct mg_host_view facts = {0, 0, 0, 0, 0, 0};
+    (void)mg_host_facts(session->host ? session->host : session->eye, &facts);
+    return facts.cluster;
 }
 
-/* Locks a sign, which is made where `makes`. NO_SIGN with EWOULDBLOCK: somebody has it. */
-static int take_sign(const struct mg_session *session, unsigned number, uint32_t lock, bool makes) {
-    char path[4200];
+static void path_of_sign(const struct mg_session *session, unsigned number, uint32_t lock, char *into, size_t size) {
+    (void)snprintf(into, size, "%s/mg-lock.%" PRIu64 ".%u.%u", session->at, set_of(session), number, (unsigned)lock);
+}
+
+/* Locks a file, which is made where `makes`. NO_SIGN with EWOULDBLOCK: somebody has it. */
+static int take_file(const char *path, bool makes) {
     int file, low, done;
-    path_of_sign(session, number, lock, path, sizeof path);
     file = open(path, O_RDWR | O_CLOEXEC | O_NOCTTY | (makes ? O_CREAT : 0), 0666);
     if (file < 0 && errno == EACCES)
         file = open(path, O_RDONLY | O_CLOEXEC | O_NOCTTY);
@@ -289,6 +297,13 @@ static int take_sign(const struct mg_session *session, unsigned number, uint32_t
     return file;
 }
 
+/* The same of a lock's sign. */
+static int take_sign(const struct mg_session *session, unsigned number, uint32_t lock, bool makes) {
+    char path[4200];
+    path_of_sign(session, number, lock, path, sizeof path);
+    return take_file(path, makes);
+}
+
 /* Whether somebody else has, or had, the lock's number by now: there is a sign, and it is not ours. In a renewed folder our sign keeps
  * the number only where it is linked, once the lock was purged there. */
 static bool is_anothers(const struct mg_session *session, struct mg_host *host, const struct entry *entry) {
@@ -303,6 +318,25 @@ static bool is_anothers(const struct mg_session *session, struct mg_host *host, 
     return entry->sign == NO_SIGN || fstat(entry->sign, &ours) != 0 || ours.st_dev != there.st_dev || ours.st_ino != there.st_ino;
 }
 
+/* In a renewed folder to which a sign of ours could not be linked another one is made, in a talk: so nobody finds it before it is locked. A child
+ * that has the first one keeps the lock if this process is killed, so then there is no other one. */
+static void sign_anew(struct mg_session *session, const struct mg_host *host, const struct entry *entry) {
+    struct entry *ours = entry_of(session, entry->lock);
+    char path[4200];
+    int sign;
+    if (host != session->host || set_of(session) == entry->cluster || !ours || ours->is_lent)
+        return;
+    path_of_sign(session, session->number, entry->lock, path, sizeof path);
+    if (access(path, F_OK) == 0 || errno != ENOENT)
+        return;
+    sign = take_file(path, true);
+    if (sign == NO_SIGN)
+        return;
+    if (ours->sign != NO_SIGN)
+        close(ours->sign);
+    ours->sign = sign;
+}
+
 /* Whether it shows the lock as it was asked for, and whether that is granted then. */
 static int find(struct mg_session *session, struct mg_host *host, const struct entry *entry, bool *granted) {
     struct mg_lock_view view;
@@ -313,6 +347,7 @@ static int find(struct mg_session *session, struct mg_host *host, const struct e
     bool is_granted = view.wanted == MG_NONE;
     if (is_anothers(session, host, entry) || strcmp(view.name, entry->name) != 0 || (is_granted ? view.held : view.wanted) != entry->mode)
         return MG_NO_SUCH_LOCK;
+    sign_anew(session, host, entry);
     *granted = is_granted;
     return MG_OK;
 }
@@ -326,18 +361,38 @@ static void end_sign(const struct mg_session *session, uint32_t lock, int sign) 
     close(sign);
 }
 
-/* Removes signs that nobody has, of no lock: of commands that never came into the log. One that does all the same leaves a lock without
- * a sign. So they stay elsewhere: there are no more of them than a host has lock numbers, and each serves the next lock of its number. */
+/* Whether the name is that of a sign of this host number which is no lock's: of no lock in the table, of another set, or as the version before
+ * this one named them, without a set. */
+static bool is_old_sign(struct mg_session *session, const char *name) {
+    unsigned long long set = 0;
+    unsigned number, lock;
+    struct mg_lock_view view;
+    int length = 0;
+    bool has_set = sscanf(name, "mg-lock.%20llu.%5u.%5u%n", &set, &number, &lock, &length) == 3;
+    if (!has_set && sscanf(name, "mg-lock.%5u.%5u%n", &number, &lock, &length) != 2)
+        return false;
+    if (name[length] != '\0' || number != session->number)
+        return false;
+    return !has_set || set != set_of(session) ||
+           (!entry_of(session, lock) && mg_lock(session->host, lock, &view) == MG_NO_SUCH_LOCK);
+}
+
+/* Removes such signs that nobody has. A command that comes into the log all the same leaves a lock without a sign. So they stay elsewhere: of a
+ * set there are no more of them than a host has lock numbers, and each serves the next lock of its number. */
 static void remove_old_signs(struct mg_session *session) {
     DIR *folder = opendir(session->at);
     struct dirent *found;
     while (folder && (found = readdir(folder))) {
-        unsigned number, lock;
-        struct mg_lock_view view;
-        int length = 0;
-        if (sscanf(found->d_name, "mg-lock.%5u.%5u%n", &number, &lock, &length) == 2 && found->d_name[length] == '\0' &&
-            number == session->number && !entry_of(session, lock) && mg_lock(session->host, lock, &view) == MG_NO_SUCH_LOCK)
-            end_sign(session, lock, take_sign(session, number, lock, false));
+        char path[4400];
+        int sign;
+        if (!is_old_sign(session, found->d_name))
+            continue;
+        (void)snprintf(path, sizeof path, "%s/%s", session->at, found->d_name);
+        sign = take_file(path, false);
+        if (sign == NO_SIGN)
+            continue;
+        (void)unlink(path);
+        close(sign);
     }
     if (folder)
         closedir(folder);
@@ -968,6 +1023,9 @@ int mg_host_of(struct mg_session *session, struct mg_host **host) {
 }
 
 int mg_sign_of(struct mg_session *session, unsigned lock) {
-    const struct entry *entry = session ? entry_of(session, lock) : NULL;
-    return entry ? entry->sign : NO_SIGN;
+    struct entry *entry = session ? entry_of(session, lock) : NULL;
+    if (!entry)
+        return NO_SIGN;
+    entry->is_lent = true;
+    return entry->sign;
 }

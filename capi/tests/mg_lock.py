@@ -363,6 +363,57 @@ def renewed():
         expect("granted" not in table_of_current() and "waiting" not in table_of_current(), f"{order}: no lock is left:\n{table_of_current()}")
 
 
+def of_another_machine():
+    """Two machines share the disks, and each has a folder of its own: the renewal does not link the second one's signs. In its new folder are signs
+    of earlier lives, of the very locks that are carried over."""
+    sets = {number: os.path.join(work, f"shared{number}") for number in (7, 8)}
+    near = {number: os.path.join(work, f"near{number}") for number in sets}
+    link = os.path.join(work, "near")
+    for number in sets:
+        os.mkdir(sets[number])
+        os.mkdir(near[number])
+        for disk in range(3):
+            os.symlink(f"{sets[number]}/disk{disk}.img", f"{near[number]}/disk{disk}.img")
+    subprocess.run([dlm, "format", sets[7], "3", "40", "7"], check=True, stdout=subprocess.DEVNULL)
+    os.symlink(near[7], link)
+
+    def lines():
+        return [it for it in subprocess.run([dlm, "table", link, "14"], capture_output=True, text=True).stdout.splitlines() if it.startswith("  ")]
+
+    first = holder(1, "db", of=link)
+    waiting = begin(link, 1, "db", "--", "true")
+    expect(until(lambda: len(lines()) == 2), "one holds and one waits")
+    held, waited = (int(line.split()[1]) for line in lines())
+    old = [f"mg-lock.1.{held}", f"mg-lock.1.{waited}", f"mg-lock.6.1.{held}", f"mg-lock.6.1.{waited}", f"mg-lock.6.2.{held}"]
+    for name in old:
+        with open(os.path.join(near[8], name), "x"):
+            pass
+    for words in (["fill", sets[7], "15"], ["renew", sets[7], "15", sets[8], "3", "64", "8"]):
+        said = subprocess.run([dlm, *words], capture_output=True, text=True)
+        expect(said.returncode == 0, f"{words}: {said}")
+    os.symlink(near[8], link + ".next")
+    os.rename(link + ".next", link)
+    said = run("-n", link, 1, "other", "--", "true")
+    expect(said.returncode == 0 and said.stderr == "", f"nobody's sign is taken for a lock's: {said}")
+    expect(run("-n", link, 1, "db", "--", "true").returncode == 1, "it is still held")
+    # One that waits makes another sign in its next talk. So it is known once it is killed.
+    expect(until(lambda: os.path.exists(f"{near[8]}/mg-lock.8.1.{waited}")), "a sign is made anew")
+    expect(run("--recover", link, 1).stdout == "released 0\n", "it waits on")
+    waiting.kill()
+    waiting.wait()
+    expect(run("--recover", link, 1).stdout == "released 1\n", "a waiting lock that is left over")
+    # The command of one that holds has the first sign alone.
+    first.kill()
+    first.wait()
+    expect(run("--recover", link, 1).stdout == "released 0\n", "the command of a killed mg-lock keeps the lock")
+    os.killpg(first.pid, signal.SIGKILL)
+    expect(run("--recover", link, 1).stdout == "released 0\n", "a lock without a sign stays")
+    expect(run("--recover", "--all", link, 1).stdout == "released 1\n", "until all are released")
+    expect(lines() == [], f"no lock is left: {lines()}")
+    left = sorted(it for it in os.listdir(near[8]) if it.startswith("mg-lock."))
+    expect(left == [f"mg-lock.6.2.{held}"], f"old signs of this host number are removed: {left}")
+
+
 def lost_disks():
     folder()
     first = holder()
@@ -487,7 +538,7 @@ def counted(hosts, kills=0):
     print(f"{hosts} hosts: counted {total}, {done} ended well, {commands()} commands", flush=True)
 
 
-for test in (statuses, pages, environment, waits, modes, signals, killed, taken_away, ends_of_logs, renewed, lost_disks, unmarked,
+for test in (statuses, pages, environment, waits, modes, signals, killed, taken_away, ends_of_logs, renewed, of_another_machine, lost_disks, unmarked,
              lambda: counted(1), lambda: counted(8), lambda: counted(2, kills=4 * rounds)):
     test()
 print(f"mg_lock: {checks} checks, {failed} failed")

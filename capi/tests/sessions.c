@@ -308,7 +308,7 @@ static void left_over(void) {
     killed(takes_db_shared, path);
     {
         char command[400];
-        snprintf(command, sizeof command, "rm %s/mg-lock.0.*", path);
+        snprintf(command, sizeof command, "rm %s/mg-lock.7.0.*", path);
         IS(system(command), 0);
     }
     session = begun(path, 0, MG_SHARE);
@@ -474,7 +474,7 @@ static void anothers_number(void) {
     other = begun(link, 0, MG_SHARE);
     IS(mg_take(other, "db", MG_EX, 0, &b), MG_OK);
     IS(b.lock, a.lock);
-    snprintf(sign, sizeof sign, "%s/mg-lock.0.%u", link, (unsigned)b.lock);
+    snprintf(sign, sizeof sign, "%s/mg-lock.8.0.%u", link, (unsigned)b.lock);
     IS(mg_give(session, a.lock, NULL), MG_NO_SUCH_LOCK);
     IS(mg_give(session, a.lock, NULL), MG_NO_SUCH_LOCK);
     IS(access(sign, F_OK), 0);

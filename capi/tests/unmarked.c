@@ -22,7 +22,7 @@ static void left_without_a_mark(const char *folder) {
     char sign[400];
     size_t count = 9;
     enqueue.mode = MG_EX;
-    snprintf(sign, sizeof sign, "%s/mg-lock.0.1539", folder);
+    snprintf(sign, sizeof sign, "%s/mg-lock.7.0.1539", folder);
     IS(mkdir(folder, 0777), 0);
     IS(mg_format(folder, 3, 64, 7, NULL), MG_OK);
     IS(mg_open(folder, 0, &host, NULL), MG_OK);
@@ -56,7 +56,7 @@ static void asked_for_again(const char *folder, int timeout, bool is_stale) {
     struct mg_held held;
     char sign[400];
     enqueue.mode = MG_EX;
-    snprintf(sign, sizeof sign, "%s/mg-lock.0.1541", folder);
+    snprintf(sign, sizeof sign, "%s/mg-lock.7.0.1541", folder);
     IS(mkdir(folder, 0777), 0);
     IS(mg_format(folder, 3, 64, 7, NULL), MG_OK);
     IS(mg_open(folder, 0, &host, NULL), MG_OK);

@@ -9,6 +9,6 @@ successor_name = codes "renewed"
 abbrev pub draft_name : List ℕ
 draft_name = codes "renewed.new"
 
--- the name of a lock's sign of life, by the host through which it was enqueued, and its number
-abbrev pub sign_name : (host lock : ℕ) → List ℕ
-sign_name host lock = codes "mg-lock." ++ decimal host ++ codes "." ++ decimal lock
+-- the name of a lock's sign of life, by the cluster number of the set whose table has the lock, the host through which it was enqueued, and its number
+abbrev pub sign_name : (cluster host lock : ℕ) → List ℕ
+sign_name cluster host lock = codes "mg-lock." ++ decimal cluster ++ codes "." ++ decimal host ++ codes "." ++ decimal lock

@@ -13,7 +13,7 @@ use crate::new_folder::{find_new, first_host, make_images, open_new_folder};
 use crate::old_log::TRIES;
 use crate::renew_fault::{NewFault, RenewFault};
 use crate::renewal::renew_disks;
-use crate::signs::carry_signs;
+use crate::signs::{SetFolder, carry_signs};
 use crate::successor::{SuccessorLine, name_successor, names_successor};
 use disk::FileDisk;
 use dlm_images::{DiskHost, TryLock, find_folder, lock_host, open_folder, refuse_taken};
@@ -67,12 +67,16 @@ where
     }
     let _lock = lock_host(rt, old.as_str(), host)?;
     let slots = images.config.slots();
+    let from = SetFolder {
+        path: old.as_str(),
+        cluster: images.cluster,
+    };
     let mut over = images.host(rt.alloc(), host)?;
     let commands = renew_over(
         rt,
         &mut over,
         slots,
-        old.as_str(),
+        from,
         &line,
         found.as_str(),
         config,
@@ -111,7 +115,7 @@ fn renew_over<R: Files + AllocGlobal>(
     rt: &R,
     host: &mut DiskHost<FileDisk<R::File>>,
     slots: u16,
-    old: &str,
+    old: SetFolder<'_>,
     line: &SuccessorLine,
     new: &str,
     config: Config,
@@ -138,7 +142,13 @@ where
         config,
         cluster,
         leave,
-        || make_successor(rt, old, line, new, config, picture.locks()),
+        ||
+            ensures blank { IfOk result (λ made. AreBlank config made.0.items) }
+            ensures fault { IfErr result (IsNewFault config.disks) }
+        {
+            let new = SetFolder { path: new, cluster };
+            make_successor(rt, old, line, new, config, picture.locks())
+        },
     )
 }
 
@@ -147,9 +157,9 @@ where
 /// folder that is not there is never named.
 fn make_successor<R: Files + AllocGlobal>(
     rt: &R,
-    old: &str,
+    old: SetFolder<'_>,
     line: &SuccessorLine,
-    new: &str,
+    new: SetFolder<'_>,
     config: Config,
     locks: &[LockRecord],
 ) -> Result<(Vec<FileDisk<R::File>>, R::File), NewFault>
@@ -158,13 +168,13 @@ where
     ensures blank { IfOk result (λ made. AreBlank config made.0.items) }
     ensures fault { IfErr result (IsNewFault config.disks) }
 {
-    refuse_taken(rt, new, config)?;
-    let lock = lock_host(rt, new, first_host())?;
+    refuse_taken(rt, new.path, config)?;
+    let lock = lock_host(rt, new.path, first_host())?;
     // A run that had the lock may have made them meanwhile.
-    refuse_taken(rt, new, config)?;
-    name_successor(rt, old, line)?;
+    refuse_taken(rt, new.path, config)?;
+    name_successor(rt, old.path, line)?;
     // Before the first gate is open, so that nobody finds a lock there without its sign.
     carry_signs(rt, old, new, locks)?;
-    let images = make_images(rt, new, config)?;
+    let images = make_images(rt, new.path, config)?;
     Ok((images, lock))
 }

@@ -13,15 +13,22 @@ use std::path::{Path, PathBuf};
 use std::rt::Files;
 use std::{fs, io};
 
+/// The folder of a set of images, and the number of that set.
+#[derive(Clone, Copy)]
+pub struct SetFolder<'a> {
+    pub path: &'a str,
+    pub cluster: u64,
+}
+
 /// Carries over the signs of life of these locks. A sign is a file that whoever has the lock keeps locked by `flock`: from then on it is the
-/// same file under both folders.
+/// same file under both folders, in each under a name of its set. What sets of an earlier life of the new folder left there has other names.
 ///
 /// A lock may have no sign, and there are signs that cannot be linked, as to another file system. Then the new folder has no sign of the lock, so
 /// that it may be somebody's.
 pub fn carry_signs<R: Files + AllocGlobal>(
     rt: &R,
-    old: &str,
-    new: &str,
+    old: SetFolder<'_>,
+    new: SetFolder<'_>,
     locks: &[LockRecord],
 ) -> Result<(), NewFault>
 where
@@ -34,11 +41,11 @@ where
     Ok(())
 }
 
-/// What lies there of an earlier life of the new folder would be taken for the lock's, so it is removed first.
+/// What an earlier run left under that name is removed first, and so what a set of the same number left there.
 fn carry_sign<R: Files + AllocGlobal>(
     rt: &R,
-    old: &str,
-    new: &str,
+    old: SetFolder<'_>,
+    new: SetFolder<'_>,
     host: HostNumber,
     lock: LockNumber,
 ) -> Result<(), NewFault>
@@ -46,8 +53,8 @@ where
     R::File: OpenFile + TryLock + Drop,
     ensures fault { IfErr result (λ fault. (fault ≡ NewFault.Folder folder.NoMemory) ⊎ (fault ≡ NewFault.Folder folder.AlreadyThere)) }
 {
-    let from = sign_path(rt.alloc(), old, host, lock)?;
-    let to = sign_path(rt.alloc(), new, host, lock)?;
+    let from = sign_path(rt.alloc(), old.path, old.cluster, host, lock)?;
+    let to = sign_path(rt.alloc(), new.path, new.cluster, host, lock)?;
     if let Err(error) = fs::remove_file(rt, to.as_str()) {
         match error.kind() {
             io::ErrorKind::NotFound => {}
@@ -77,17 +84,18 @@ where
     matches!(new.try_lock(), Err(TryLockError::WouldBlock))
 }
 
-/// The path of the sign of life of a lock in a folder.
+/// The path of the sign of life of a lock in the folder of its set.
 fn sign_path(
     alloc: Global,
     folder: &str,
+    cluster: u64,
     host: HostNumber,
     lock: LockNumber,
 ) -> Result<PathBuf, AllocError>
-    ensures path { IfOk result (λ path. path_buf_bytes path ≡ path_join folder.now (sign_name host lock)) }
+    ensures path { IfOk result (λ path. path_buf_bytes path ≡ path_join folder.now (sign_name cluster host lock)) }
 {
     let host = host.get();
     let lock = lock.get();
-    let name = format!(in alloc; "mg-lock.{host}.{lock}")?;
+    let name = format!(in alloc; "mg-lock.{cluster}.{host}.{lock}")?;
     Path::new(folder).join(alloc, name.as_str())
 }
