@@ -2,7 +2,7 @@
 """renew.py [--program PATH] [--kills N] [--long N]: renews folders with `dlm fill` and `dlm renew`. Random commands are submitted until a log of 16 slots is
 all but full, and `dlm fill` takes the slots that are left. Then the table is carried over onto another number of disks, and `dlm table` of both
 folders has to print the same. Each client's last request, made again in the new folder, gets the reply that it got before. So it is ten times in a
-row. Clients are left out, and begin anew. Signs of life go with their locks. What is refused is refused in the order that docs/REFUSALS.md has. Then it kills as many renewals (none given: none) at random moments
+row. Clients are left out, and begin anew. Signs of life go with their locks, and host numbers stay whose they are. What is refused is refused in the order that docs/REFUSALS.md has. Then it kills as many renewals (none given: none) at random moments
 (`kill -9`): of three one at any, one once a new image is there, one once a gate is open. After each it looks that no state of the new folder reads as
 another table, and that the next run with the same words ends it or is refused, while one with other words is refused.
 
@@ -262,8 +262,13 @@ def refusals():
     with open("e/host0.lock", "w+b") as lock:
         fcntl.flock(lock, fcntl.LOCK_EX)
         refused("renew d 1 e 3 16 8", "dlm: 36 HostInUse host0\n")
-    wants("what was made", (os.listdir("e"), os.path.exists("d/renewed")), (["host0.lock"], False))
-    os.remove("e/host0.lock")
+    wants("what was made", (sorted(os.listdir("e")), os.path.exists("d/renewed")), (["host0.lock", "renewal.lock"], False))
+    # So it is while another run makes images there.
+    with open("e/renewal.lock", "r+b") as lock:
+        fcntl.flock(lock, fcntl.LOCK_EX)
+        refused("renew d 1 e 3 16 8", "dlm: 36 HostInUse host0\n")
+    for name in ("host0.lock", "renewal.lock"):
+        os.remove(f"e/{name}")
     # Once a successor is named, other words are refused.
     with open("d/renewed", "w") as file:
         file.write("e 3 16 8\n")
@@ -396,6 +401,51 @@ def signs_of_life_go_with_their_locks():
         wants("one file", os.path.samefile("d/mg-lock.7.1.1", "e/mg-lock.8.1.1"), True)
         wants("somebody has it", is_locked("e/mg-lock.8.1.1"), True)
     wants("nobody has it", is_locked("e/mg-lock.8.1.1"), False)
+
+
+@test
+def a_number_is_one_number_in_both_folders():
+    full("d")
+    os.mkdir("e")
+    # Folder e was used before. Of its locks 5 is nobody's, 6 and 7 are somebody's, 8 is a link, and 9 is a folder.
+    for host in (5, 6):
+        with open(f"e/host{host}.lock", "xb"):
+            pass
+    with open("d/host7.lock", "xb"):
+        pass
+    os.link("d/host7.lock", "e/host7.lock")
+    os.symlink("elsewhere", "e/host8.lock")
+    os.mkdir("e/host9.lock")
+    with open("apart", "xb"):
+        pass
+    os.symlink("../apart", "d/host10.lock")
+    with open("d/host4.lock", "xb") as old, open("e/host6.lock", "rb") as other, open("d/host7.lock", "rb") as one, open("d/host0.lock", "wb") as first:
+        for lock in (old, other, one, first):
+            fcntl.flock(lock, fcntl.LOCK_EX)
+        prints("renew d 1 e 3 16 8", RENEWED_OF_TWO)
+        two = [host for host in range(16) if not same_file(f"d/host{host}.lock", f"e/host{host}.lock")]
+        wants("numbers that are two", two, [6, 8, 9])
+        for host in (0, 4, 7):
+            refused(f"table e {host}", f"dlm: 36 HostInUse host{host}\n")
+            refused(f"table d {host}", f"dlm: 36 HostInUse host{host}\n")
+        prints("table e 5", "recovered 2\n" + HELD)
+        prints("table d 6", "recovered 4\n" + HELD)
+        # The same words again, while host 0 is somebody's in the old folder.
+        put_byte("e/disk2.img", 0, 0)
+        prints("renew d 1 e 3 16 8", "finished 3 disks\n")
+        for disk in range(3):
+            os.remove(f"e/disk{disk}.img")
+        prints("renew d 1 e 3 16 8", RENEWED_OF_TWO)
+    prints("table e 4", "recovered 2\n" + HELD)
+    # By host 0 itself, and on into a third folder.
+    fill("e", 14)
+    os.mkdir("f")
+    prints("renew e 0 f 3 16 9", RENEWED_OF_TWO)
+    wants("one number in all three", same_file("d/host4.lock", "f/host4.lock"), True)
+
+
+def same_file(one, other):
+    return os.path.exists(one) and os.path.exists(other) and os.path.samefile(one, other)
 
 
 @test
@@ -590,18 +640,23 @@ def each_call_fails():
             wants(f"the new images in the end, after {call}, {times}", images_of("e"), new)
 
 
+# And the host of which each tells.
+LOCKS_OF_A_RENEWAL = {"d/host1.lock": 1, "e/renewal.lock": 0, "e/host0.lock": 0}
+
+
 def of_a_renewal(name, path, times):
     """What a renewal comes to where this call fails, which it made this often. One old image of three may fail."""
-    if name == "realpath":
+    if name == "realpath" and path in ("d", "e"):
         return of_no_folder(path)
     if path.startswith("d/disk"):
         return 0, RENEWED, ""
-    if name == "unlink":
+    if name == "unlink" and path.startswith("e/mg-lock."):
         return 1, "", "dlm: 29 AlreadyThere\n"
-    if name == "link":
+    # Each lock is opened and taken. Later a number whose file cannot be linked is two numbers, and the renewal goes on.
+    if path in LOCKS_OF_A_RENEWAL and name in ("open", "flock") and times == 1:
+        return 1, "", f"dlm: 37 NoLock host{LOCKS_OF_A_RENEWAL[path]}\n"
+    if name == "link" or path.endswith(".lock"):
         return 0, RENEWED, ""
-    if path.endswith(".lock"):
-        return 1, "", f"dlm: 37 NoLock {path[2:-5]}\n"
     if path in ("d", "d/renewed", "d/renewed.new"):
         return 1, "", "dlm: 26 Unreadable\n"
     # The file of each new image is made, in eight writes and a sync, and then its folder is synced.

@@ -414,6 +414,26 @@ def of_another_machine():
     expect(left == [f"mg-lock.6.2.{held}"], f"old signs of this host number are removed: {left}")
 
 
+def numbers():
+    """A session has its host number to itself, also while the log is renewed: nobody gets it in the new folder before it is there."""
+    if not library:
+        return
+    os.mkdir(os.path.join(work, "set17"))
+    subprocess.run([dlm, "format", os.path.join(work, "set17"), "3", "40", "17"], check=True, stdout=subprocess.DEVNULL)
+    os.symlink("set17", os.path.join(work, "next"))
+    os.rename(os.path.join(work, "next"), current)
+    across, begins = ([sys.executable, "-c", text.format(examples=examples, folder=current, library=library)] for text in (ACROSS, BEGINS))
+    first = subprocess.Popen(across, stdin=subprocess.PIPE, stdout=subprocess.PIPE, text=True)
+    expect(first.stdout.readline() == "17\n", "a session holds")
+    renew(18, 64)
+    said = subprocess.run(begins, capture_output=True, text=True, timeout=60)
+    expect(said.returncode == 1 and "somebody else works under this host number" in said.stderr, f"another one is refused: {said}")
+    expect(first.communicate("\n", timeout=60)[0] == "18\n" and first.returncode == 0, "the first one goes on in the new folder")
+    said = subprocess.run(begins, capture_output=True, text=True, timeout=60)
+    expect(said.returncode == 0, f"once it has ended another one begins: {said}")
+    expect("granted" not in table_of_current(), f"no lock is left:\n{table_of_current()}")
+
+
 def lost_disks():
     folder()
     first = holder()
@@ -474,6 +494,14 @@ with session.lock("mine") as held:
     sys.stdin.readline()
 with session.lock("mine", timeout=5) as held:
     print(held.cluster)
+"""
+
+
+BEGINS = """
+import sys
+sys.path.insert(0, {examples!r}); sys.dont_write_bytecode = True
+from midgegalena import Session
+Session({folder!r}, 3, library={library!r}).close()
 """
 
 
@@ -538,7 +566,7 @@ def counted(hosts, kills=0):
     print(f"{hosts} hosts: counted {total}, {done} ended well, {commands()} commands", flush=True)
 
 
-for test in (statuses, pages, environment, waits, modes, signals, killed, taken_away, ends_of_logs, renewed, of_another_machine, lost_disks, unmarked,
+for test in (statuses, pages, environment, waits, modes, signals, killed, taken_away, ends_of_logs, renewed, of_another_machine, numbers, lost_disks, unmarked,
              lambda: counted(1), lambda: counted(8), lambda: counted(2, kills=4 * rounds)):
     test()
 print(f"mg_lock: {checks} checks, {failed} failed")

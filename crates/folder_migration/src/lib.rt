@@ -12,6 +12,7 @@ mod migrate;
 mod migrating;
 mod moving;
 mod new_folder;
+mod numbers;
 mod old_folder;
 mod old_log;
 mod renew;

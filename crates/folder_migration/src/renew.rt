@@ -9,7 +9,8 @@ ghost use Rattle.folder_migration.specs.RenewingFolders.{AreLeftFinished, AreLef
 ghost use Rattle.folder_migration.specs.declared.old_log.TheConstants.{TRIES};
 
 use crate::finishing::finish_left;
-use crate::new_folder::{find_new, first_host, make_images, open_new_folder};
+use crate::new_folder::{find_new, make_images, open_new_folder};
+use crate::numbers::{NewFolderLock, link_numbers, lock_new_folder};
 use crate::old_log::TRIES;
 use crate::renew_fault::{NewFault, RenewFault};
 use crate::renewal::renew_disks;
@@ -152,9 +153,8 @@ where
     )
 }
 
-/// Names the successor of the old folder, carries the signs of life of these locks over, and makes its images of zeros, if none of them is
-/// there. The file that is given keeps others from working there as host 0, which is the one that writes new images. It is locked first, so a
-/// folder that is not there is never named.
+/// Names the successor of the old folder, carries the signs of life of these locks and the host numbers over, and makes its images of zeros, if none
+/// of them is there. The lock that is given keeps others away. It is taken first, so a folder that is not there is never named.
 fn make_successor<R: Files + AllocGlobal>(
     rt: &R,
     old: SetFolder<'_>,
@@ -162,19 +162,20 @@ fn make_successor<R: Files + AllocGlobal>(
     new: SetFolder<'_>,
     config: Config,
     locks: &[LockRecord],
-) -> Result<(Vec<FileDisk<R::File>>, R::File), NewFault>
+) -> Result<(Vec<FileDisk<R::File>>, NewFolderLock<R::File>), NewFault>
 where
     R::File: FileExt + OpenFile + TryLock + Drop,
     ensures blank { IfOk result (λ made. AreBlank config made.0.items) }
     ensures fault { IfErr result (IsNewFault config.disks) }
 {
     refuse_taken(rt, new.path, config)?;
-    let lock = lock_host(rt, new.path, first_host())?;
+    let lock = lock_new_folder(rt, old.path, new.path)?;
     // A run that had the lock may have made them meanwhile.
     refuse_taken(rt, new.path, config)?;
     name_successor(rt, old.path, line)?;
-    // Before the first gate is open, so that nobody finds a lock there without its sign.
+    // Before the first gate is open, so that nobody finds a lock there without its sign, or has a number there that is somebody's in the old folder.
     carry_signs(rt, old, new, locks)?;
+    link_numbers(rt, old.path, new.path)?;
     let images = make_images(rt, new.path, config)?;
     Ok((images, lock))
 }
