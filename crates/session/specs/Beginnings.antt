@@ -1,0 +1,39 @@
+-- How operations on a claim begin.
+use Rattle.std.specs.Prelude.{◌≡◌, ◌≢◌, ℕ, List, Bool, Option, None}
+use Rattle.lock_modes.specs.declared.mode.Mode.{Mode}
+use Rattle.session.specs.declared.beginning.Asker.{Asker}
+use Rattle.session.specs.declared.claim.Claim.{Claim}
+use Rattle.session.specs.declared.claim.Goal.{Goal}
+use Rattle.session.specs.declared.claim.Goal.TheVariants.{Take}
+use Rattle.session.specs.declared.claim.Standing.TheVariants.{Unasked}
+use Rattle.session.specs.declared.claim.Step.TheVariants.{Opening}
+
+-- A lock on this name is to be taken in this mode. Nothing was asked for yet.
+pub record IsNewClaim (asker : Asker) (bytes : List ℕ) (wanted : Mode) (waits : Bool) (c : Claim) : Type 0 where
+  pub host : c.host ≡ asker.host
+  pub shares : c.shares ≡ asker.shares
+  pub name : c.name ≡ bytes
+  pub mode : c.mode ≡ wanted
+  pub goal : c.goal ≡ Take waits
+  pub step : c.step ≡ Opening
+  pub standing : c.standing ≡ Unasked
+  pub asked : c.asked ≡ None
+  pub release : c.release ≡ None
+  pub over : c.over ≡ None
+
+-- An operation begins. The claim is of the same lock, and what may be in the log stays known.
+pub record Begins (wanted : Goal) (old new : Claim) : Type 0 where
+  pub goal : new.goal ≡ wanted
+  pub over : new.over ≡ None
+  pub host : new.host ≡ old.host
+  pub name : new.name ≡ old.name
+  pub mode : new.mode ≡ old.mode
+  pub lock : new.lock ≡ old.lock
+  pub set : new.set ≡ old.set
+  pub asked : new.asked ≡ old.asked
+  pub release : new.release ≡ old.release
+  pub since : new.since ≡ old.since
+
+-- a release that stores another value may be in the log
+abbrev pub IsAnotherValue : Claim → Option (List ℕ) → Type 0
+IsAnotherValue c value = (c.release ≢ None) × (c.value ≢ value)

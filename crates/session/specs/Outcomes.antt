@@ -1,0 +1,106 @@
+-- What has to be heard before an operation on a claim may end so.
+use Rattle.std.specs.Prelude.{◌≡◌, ◌≢◌, ◌≤◌, ◌⊎◌, ⊤, ℕ, Bool, Option, Some, None, length, slice_get}
+use Rattle.lock_command.specs.declared.command.Command.{Command}
+use Rattle.lock_command.specs.declared.command.Action.TheVariants.{Enqueue, Release}
+use Rattle.lock_command.specs.declared.state.LockState.TheVariants.{Granted}
+use Rattle.session.specs.Evidence.{HasHeard, IsRequest, Lacks, NoneBetween, Purges, Shows}
+use Rattle.session.specs.Numbers.{client_of}
+use Rattle.session.specs.declared.claim.Claim.{Claim}
+use Rattle.session.specs.declared.claim.Goal.TheVariants.{Give}
+use Rattle.session.specs.declared.claim.Standing.TheVariants.{Unasked}
+use Rattle.session.specs.declared.claim.Step.{Step}
+use Rattle.session.specs.declared.claim.Step.TheVariants.{Dropping, Ended, Submitting}
+use Rattle.session.specs.declared.claim.Then.{Then}
+use Rattle.session.specs.declared.claim.Then.TheVariants.{AskAgain, End}
+use Rattle.session.specs.declared.learned.Learned.{Learned}
+use Rattle.session.specs.declared.outcome.Outcome.{Outcome}
+use Rattle.session.specs.declared.outcome.Why.{Why}
+use Rattle.session.specs.declared.outcome.Outcome.TheVariants.{Held, NotHeld, Given, Failed}
+
+-- what the step leads to, with nothing left to hear but that a sign of life is given up
+abbrev pub then_of : Step → Option Then
+then_of (Ended outcome) = Some (End outcome)
+then_of (Dropping sign then) = Some then
+then_of step = None
+
+-- the operation ends so
+abbrev pub EndsIn : Claim → Outcome → Type 0
+EndsIn c outcome = (then_of c.step ≡ Some (End outcome))
+
+-- it goes on by another number
+abbrev pub AsksAgain : Claim → Type 0
+AsksAgain c = (then_of c.step ≡ Some AskAgain)
+
+-- The table of the folder that was opened last shows the lock, granted.
+pub record IsHeldIn (l : Learned) (c : Claim) : Type 0 where
+  pub newest : l.set ≡ c.newest
+  pub shown : Shows l.table.now c (Granted c.mode)
+
+-- The command that asked for the lock has no further effect: the client has gone on to a later one, or the log is full, or is one of other images.
+abbrev pub IsOut : Learned → Claim → Option ℕ → Type 0
+IsOut l c None = ⊤
+IsOut l c (Some request) = (l.set ≢ c.set) ⊎ (l.slots ≤ length l.log.now) ⊎ HasHeard l.table.now (client_of c.host) request
+
+-- The table of the folder that was opened last lacks the lock, and it does not come into it any more.
+pub record IsGone (l : Learned) (c : Claim) : Type 0 where
+  pub newest : l.set ≡ c.newest
+  pub lacks : Lacks l.table.now c
+  pub out : IsOut l c c.asked
+
+-- At this slot the log has the claim's own release with the claim's value. Since its number was chosen, while the lock was in the table, no command of that
+-- number came before it, and no purge of the host.
+pub record GivesBack (l : Learned) (c : Claim) (slot : ℕ) : Type 0 where
+  pub command : Command
+  pub there : slice_get l.log.now slot ≡ Some command
+  pub request : c.release ≡ Some command.request
+  pub action : command.action ≡ Release c.lock c.value
+  pub first : NoneBetween (IsRequest (client_of c.host) command.request) l.log.now c.since slot
+  pub client : command.client ≡ client_of c.host
+  pub spared : NoneBetween (Purges c.host) l.log.now c.since slot
+  pub lacks : Lacks l.table.now c
+
+-- The lock is gone, or was given back.
+abbrev pub IsRidOf : Learned → Claim → Type 0
+IsRidOf l c = IsGone l c ⊎ ((slot : ℕ) × GivesBack l c slot)
+
+-- no release of it may be in the log
+abbrev pub IsUnreleased : Claim → Type 0
+IsUnreleased c = (c.release ≡ None)
+
+-- The command is the session's own: the one that asks for the claimed lock, or the one that releases it.
+pub record IsOwn (c : Claim) (command : Command) : Type 0 where
+  pub host : command.host ≡ c.host
+  pub client : command.client ≡ client_of c.host
+  pub action : ((c.asked ≡ Some command.request) × ((no_queue : Bool) × (command.action ≡ Enqueue c.lock c.name c.mode no_queue)))
+      ⊎ ((c.release ≡ Some command.request) × (command.action ≡ Release c.lock c.value))
+
+-- What was heard bears out whatever the step leads to.
+pub record IsBorneOut (l : Learned) (c : Claim) : Type 0 where
+  pub held : EndsIn c Held → IsHeldIn l c
+  pub nothing : (why : Why) → EndsIn c (NotHeld why) → (c.standing ≡ Unasked) ⊎ IsRidOf l c
+  pub given : (slot : ℕ) → EndsIn c (Given slot) → GivesBack l c slot
+  pub again : AsksAgain c → IsRidOf l c
+  pub failed : (why : Why) → EndsIn c (Failed why) → c.goal ≡ Give → IsUnreleased c
+  pub own : (command : Command) → c.step ≡ Submitting command → IsOwn c command
+
+-- Nothing was heard, and the step leads to nothing that would have to be.
+pub record IsUnheard (c : Claim) : Type 0 where
+  pub held : EndsIn c Held → ⊥
+  pub nothing : (why : Why) → EndsIn c (NotHeld why) → c.standing ≡ Unasked
+  pub given : (slot : ℕ) → EndsIn c (Given slot) → ⊥
+  pub again : AsksAgain c → ⊥
+  pub failed : (why : Why) → EndsIn c (Failed why) → c.goal ≡ Give → IsUnreleased c
+  pub own : (command : Command) → c.step ≡ Submitting command → IsOwn c command
+
+-- it leads to nothing but that the lock is not held, or asked for by another number
+abbrev pub IsWithout : Then → Type 0
+IsWithout AskAgain = ⊤
+IsWithout (End (NotHeld why)) = ⊤
+IsWithout then = ⊥
+
+-- or that it was given back by the command at this slot
+abbrev pub IsWithoutOrGiven : ℕ → Then → Type 0
+IsWithoutOrGiven slot AskAgain = ⊤
+IsWithoutOrGiven slot (End (NotHeld why)) = ⊤
+IsWithoutOrGiven slot (End (Given at)) = (at ≡ slot)
+IsWithoutOrGiven slot then = ⊥

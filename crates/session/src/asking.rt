@@ -1,0 +1,303 @@
+ghost use Rattle.std.specs.Prelude.{◌≡◌, ◌+◌, ◌≢◌, ◌≤◌, ◌^◌, is_some, false, true};
+ghost use Rattle.session.specs.Bounds.{ComesNearer, is_leaving, orders_left};
+ghost use Rattle.session.specs.declared.claim.Standing.{Standing};
+ghost use Rattle.session.specs.Outcomes.{IsBorneOut, IsUnheard, IsWithout};
+
+use crate::claim::{Choice, Claim, Goal, Sign, Standing, Step, Then};
+use crate::evidence::{Seen, asks_for, find, first_of, is_numbered, is_taken, last_request};
+use crate::learned::Learned;
+use crate::numbers::{NUMBERS, client_of, lock_of};
+use crate::outcome::{Failure, Outcome, Why};
+use lock_command::{Action, Command, RequestNumber};
+use lock_table::{Answer, Refusal, Reply};
+
+impl Claim {
+    /// Asks for the lock, unless that is of no use.
+    pub(crate) fn ask(&mut self, learned: &Learned<'_>)
+        requires unasked { self.old.standing ≡ Standing.Unasked }
+        ensures unheard { IsUnheard self.new }
+    {
+        if let Some(why) = self.over {
+            return self.give_up(why);
+        }
+        if !self.waits() && is_taken(learned.table, self.name, self.mode) {
+            self.step = Step::Ended(Outcome::NotHeld(Why::Taken));
+        } else {
+            self.choose(learned);
+        }
+    }
+
+    fn waits(&self) -> bool {
+        match self.goal {
+            Goal::Take { waits } => waits,
+            _ => true,
+        }
+    }
+
+    /// The number that was asked by was not free after all.
+    pub(crate) fn ask_again(&mut self, learned: &Learned<'_>)
+        requires unasked { self.old.standing ≡ Standing.Unasked }
+        ensures unheard { IsUnheard self.new }
+        ensures soon { is_some self.old.over ≡ true → orders_left self.new ≡ 0 }
+    {
+        if let Some(why) = self.over {
+            return self.give_up(why);
+        }
+        if self.tries == 0 {
+            self.give_up(Why::Refused(Refusal::Stale));
+        } else {
+            self.tries -= 1;
+            self.choose(learned);
+        }
+    }
+
+    /// The number that was chosen is somebody else's.
+    fn ask_on(&mut self, learned: &Learned<'_>)
+        requires unasked { self.old.standing ≡ Standing.Unasked }
+        ensures unheard { IsUnheard self.new }
+        ensures soon { is_some self.old.over ≡ true → orders_left self.new ≡ 0 }
+    {
+        match self.over {
+            Some(why) => self.give_up(why),
+            None => self.choose(learned),
+        }
+    }
+
+    /// Chooses the next request whose lock number is free, and takes the sign of life of that.
+    pub(crate) fn choose(&mut self, learned: &Learned<'_>)
+        requires unasked { self.old.standing ≡ Standing.Unasked }
+        ensures unheard { IsUnheard self.new }
+    {
+        match self.free_number(learned) {
+            Some(choice) => {
+                self.request = choice.request.get();
+                self.step = Step::Signing(choice);
+            }
+            None => self.step = Step::Ended(Outcome::NotHeld(Why::NoNumber)),
+        }
+    }
+
+    /// The next request whose lock number is free. It is odd for a command that does not queue: so a former run's command of this number, name
+    /// and mode is the very same, and is acknowledged where it stands.
+    fn free_number(&self, learned: &Learned<'_>) -> Option<Choice> {
+        let last = self.last_request(learned);
+        let first = last + 1 + (last + 1 + u64::from(!self.waits())) % 2;
+        for turn in 0..u64::from(NUMBERS) {
+            let request = RequestNumber::new(first + 2 * turn)?;
+            let lock = lock_of(self.host, self.shares, request.get());
+            if !is_numbered(learned.table, lock) {
+                return Some(Choice { lock, request });
+            }
+        }
+        None
+    }
+
+    /// The last request of the session or of any other process of the host number.
+    pub(crate) fn last_request(&self, learned: &Learned<'_>) -> u64
+        ensures range { result ≤ 2 ^ 62 }
+    {
+        last_request(learned.table, client_of(self.host))
+            .max(self.request)
+            .min(RequestNumber::LAST)
+    }
+
+    /// The sign of life is this session's.
+    pub fn signed(&mut self, learned: &Learned<'_>)
+        ensures borne_out { IsBorneOut learned.now self.new }
+        ensures nearer { ComesNearer self.old self.new }
+    {
+        match self.step {
+            Step::Signing(choice) => self.go_on_with(&choice, learned),
+            _ => self.break_off(),
+        }
+    }
+
+    /// The claim has this lock number now.
+    fn go_on_with(&mut self, choice: &Choice, learned: &Learned<'_>)
+        ensures borne_out { IsBorneOut learned.now self.new }
+        ensures soon { is_some self.old.over ≡ true → orders_left self.new ≡ 1 }
+    {
+        self.lock = choice.lock;
+        match self.over {
+            Some(why) => {
+                self.standing = Standing::Unasked;
+                self.drop_sign(learned, Then::End(Outcome::NotHeld(why)));
+            }
+            None => {
+                self.set = learned.set;
+                self.since = learned.log.len();
+                self.pace.outrun = 0;
+                self.submit_ask(choice.request);
+            }
+        }
+    }
+
+    /// Asks for the lock by this request.
+    pub(crate) fn submit_ask(&mut self, request: RequestNumber)
+        ensures unheard { IsUnheard self.new }
+    {
+        self.asked = Some(request);
+        self.standing = Standing::Asked;
+        self.step = Step::Submitting(Command {
+            host: self.host,
+            client: client_of(self.host),
+            request,
+            action: Action::Enqueue {
+                lock: self.lock,
+                name: self.name,
+                mode: self.mode,
+                no_queue: !self.waits(),
+            },
+        });
+    }
+
+    /// Somebody else has the sign of life: of a number that was chosen, or, in a folder that was renewed, of this lock's number.
+    pub fn sign_is_held(&mut self, learned: &Learned<'_>)
+        ensures nearer { ComesNearer self.old self.new }
+    {
+        match self.step {
+            Step::Signing(_) => {
+                self.standing = Standing::Unasked;
+                self.ask_on(learned);
+            }
+            Step::Opening | Step::OpeningToLook => self.step = Step::Ended(Outcome::NotHeld(
+                Why::Gone,
+            )),
+            _ => self.break_off(),
+        }
+    }
+
+    /// The sign of life cannot be made or locked.
+    pub fn sign_failed(&mut self)
+        ensures unheard { IsUnheard self.new }
+        ensures nearer { ComesNearer self.old self.new }
+    {
+        match self.step {
+            Step::Signing(_) => self.fail(Failure::NoLock),
+            _ => self.break_off(),
+        }
+    }
+
+    /// The command stands in the log, and this was the reply to it.
+    pub fn replied(&mut self, reply: &Reply, learned: &Learned<'_>)
+        ensures borne_out { IsBorneOut learned.now self.new }
+        ensures follows { learned.now.set ≢ self.old.newest → IsUnheard self.new }
+        ensures nearer { ComesNearer self.old self.new }
+    {
+        if learned.set != self.newest {
+            return self.break_off();
+        }
+        match self.step {
+            Step::Submitting(_) if self.standing == Standing::Leaving => self.release_replied(
+                learned,
+            ),
+            Step::Submitting(command) => self.ask_replied(&command, reply, learned),
+            _ => self.break_off(),
+        }
+    }
+
+    fn ask_replied(&mut self, command: &Command, reply: &Reply, learned: &Learned<'_>)
+        requires newest { learned.now.set ≡ self.old.newest }
+        ensures borne_out { IsBorneOut learned.now self.new }
+        ensures soon { is_some self.old.over ≡ true → orders_left self.new ≤ 12 }
+    {
+        let ours = self.asked_at(command, learned);
+        match find(learned.table, self) {
+            Seen::Absent if self.is_out(learned) => self.drop_sign(learned, self.after(reply)),
+            Seen::Absent => self.give_up(Why::Gone),
+            Seen::Granted if ours.is_some() => {
+                self.slot = ours;
+                self.hold();
+            }
+            Seen::Waiting if ours.is_some() => {
+                self.slot = ours;
+                self.standing = Standing::Waiting;
+                self.wait(learned);
+            }
+            // The command of a former run has taken it in this moment, at a slot that is not known.
+            Seen::Granted | Seen::Waiting => self.give_over(learned),
+        }
+    }
+
+    /// Releases a lock that is another command's, and then asks again.
+    fn give_over(&mut self, learned: &Learned<'_>)
+        requires newest { learned.now.set ≡ self.old.newest }
+        ensures borne_out { IsBorneOut learned.now self.new }
+        ensures soon { is_some self.old.over ≡ true → orders_left self.new ≤ 12 }
+    {
+        if let Some(why) = self.over {
+            return self.give_up(why);
+        }
+        self.standing = Standing::Leaving;
+        self.release = None;
+        self.value = None;
+        self.let_go(learned);
+    }
+
+    /// Where the command that asked for the lock stands, if that is the first one of its number.
+    fn asked_at(&self, command: &Command, learned: &Learned<'_>) -> Option<u16> {
+        let slot = first_of(learned.log, self.since, command.client, command.request)?;
+        if asks_for(&learned.log[slot], self) {
+            u16::try_from(slot).ok()
+        } else {
+            None
+        }
+    }
+
+    /// What is done where the table has not got the lock.
+    fn after(&self, reply: &Reply) -> Then
+        ensures { IsWithout result }
+    {
+        match reply.answer {
+            Answer::Refused(Refusal::NotQueued) => Then::End(Outcome::NotHeld(Why::Taken)),
+            Answer::Refused(Refusal::Stale | Refusal::LockInUse) => Then::AskAgain,
+            Answer::Refused(refusal) => Then::End(Outcome::NotHeld(Why::Refused(refusal))),
+            // The reply to another command of this number.
+            _ => Then::AskAgain,
+        }
+    }
+
+    /// The command was not acknowledged.
+    pub(crate) fn submit_failed(&mut self, failure: Failure, learned: &Learned<'_>)
+        requires newest { learned.now.set ≡ self.old.newest }
+        ensures borne_out { IsBorneOut learned.now self.new }
+        ensures soon { is_some self.old.over ≡ true → is_leaving self.old.standing ≡ false → orders_left self.new ≤ 12 }
+        ensures leaves { is_some self.old.over ≡ true → is_leaving self.old.standing ≡ true → orders_left self.new ≤ 1 + self.old.tries }
+    {
+        if failure == Failure::LogFull {
+            return self.meet_end(learned);
+        }
+        let is_outrun = failure == Failure::Outrun;
+        match self.over {
+            None if is_outrun => {
+                self.pace.fall_back();
+                self.step = Step::Yielding;
+            }
+            None => self.fail(failure),
+            Some(why) if is_outrun => self.try_once_more(why),
+            Some(why) => self.give_up(why),
+        }
+    }
+
+    /// The log is full, and the command is not in it.
+    fn meet_end(&mut self, learned: &Learned<'_>)
+        requires newest { learned.now.set ≡ self.old.newest }
+        ensures borne_out { IsBorneOut learned.now self.new }
+        ensures soon { is_some self.old.over ≡ true → orders_left self.new ≤ 12 }
+        ensures leaves { is_some self.old.over ≡ true → is_leaving self.old.standing ≡ true → orders_left self.new ≡ 0 }
+    {
+        let why = Why::Failed(Failure::LogFull);
+        if learned.log.len() < usize::from(learned.slots) {
+            return self.break_off();
+        }
+        if self.standing == Standing::Leaving {
+            self.release = None;
+            self.give_up(why);
+        } else {
+            match find(learned.table, self) {
+                Seen::Absent => self.drop_sign(learned, Then::End(Outcome::NotHeld(why))),
+                _ => self.give_up(why),
+            }
+        }
+    }
+}

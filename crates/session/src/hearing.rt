@@ -1,0 +1,350 @@
+ghost use Rattle.std.specs.Prelude.{◌≡◌, ◌+◌, ◌≢◌, ◌≤◌, ◌⊎◌, IsTrue, Some, is_some, true};
+ghost use Rattle.session.specs.Bounds.{ComesNearer, IsReading, is_leaving, orders_left};
+ghost use Rattle.session.specs.Outcomes.{IsBorneOut, IsOut, IsUnheard, then_of};
+
+use crate::beginning::LAST_TRIES;
+use crate::claim::{Claim, Goal, Sign, Standing, Step, Then};
+use crate::evidence::{Seen, find, has_heard, is_numbered, is_taken};
+use crate::learned::Learned;
+use crate::numbers::client_of;
+use crate::outcome::{Failure, Outcome, Why};
+
+impl Claim {
+    /// The folder is open, and its host has learned so much.
+    pub fn opened(&mut self, learned: &Learned<'_>)
+        ensures borne_out { IsBorneOut learned.now self.new }
+        ensures nearer { ComesNearer self.old self.new }
+    {
+        self.newest = learned.set;
+        match self.step {
+            Step::Opening => self.talk(learned),
+            Step::OpeningToLook => self.look(),
+            _ => self.break_off(),
+        }
+    }
+
+    /// The folder is open to look.
+    fn look(&mut self)
+        ensures unheard { IsUnheard self.new }
+        ensures soon { is_some self.old.over ≡ true → orders_left self.new ≤ 12 }
+    {
+        match self.over {
+            Some(why) => self.give_up(why),
+            None => self.step = Step::Looking,
+        }
+    }
+
+    /// The folder is open under the host number.
+    fn talk(&mut self, learned: &Learned<'_>)
+        requires newest { learned.now.set ≡ self.old.newest }
+        ensures borne_out { IsBorneOut learned.now self.new }
+        ensures soon { is_some self.old.over ≡ true → orders_left self.new ≤ 12 ⊎ is_leaving self.old.standing ≡ true }
+        ensures leaves { is_leaving self.old.standing ≡ true → orders_left self.new ≤ 3 + self.old.tries }
+    {
+        if self.standing == Standing::Leaving {
+            // A release that may be in the log is put there once more, and found where it stands: so nothing is learned before.
+            if self.shares && self.release.is_none() {
+                self.step = Step::Looking;
+            } else {
+                self.let_go(learned);
+            }
+            return;
+        }
+        if let Some(why) = self.over {
+            return self.give_up(why);
+        }
+        self.step = match (self.standing, self.goal) {
+            (Standing::Unasked, Goal::Take { waits: true }) if !self.shares => Step::Tidying,
+            (Standing::Unasked | Standing::Left, _) if !self.shares => Step::Looking,
+            _ => Step::Learning,
+        };
+    }
+
+    /// What was ordered is done, and so much is learned by now.
+    pub fn learned(&mut self, learned: &Learned<'_>)
+        ensures borne_out { IsBorneOut learned.now self.new }
+        ensures follows { learned.now.set ≢ self.old.newest → IsUnheard self.new }
+        ensures nearer { ComesNearer self.old self.new }
+    {
+        match self.step {
+            Step::Learning | Step::Looking | Step::Tidying => self.read(learned),
+            _ => self.break_off(),
+        }
+    }
+
+    /// The log is read, unless it is one of other images than those that were opened last: then the folder was renewed.
+    fn read(&mut self, learned: &Learned<'_>)
+        requires reads { IsReading self.old.step }
+        ensures borne_out { IsBorneOut learned.now self.new }
+        ensures follows { learned.now.set ≢ self.old.newest → IsUnheard self.new }
+        ensures nearer { ComesNearer self.old self.new }
+    {
+        if learned.set != self.newest {
+            return self.fail(Failure::LogFull);
+        }
+        self.pace.hear(learned.log.len());
+        match self.step {
+            Step::Learning | Step::Looking if self.standing == Standing::Leaving => self.let_go(
+                learned,
+            ),
+            _ if self.standing == Standing::Unasked => self.seek(learned),
+            Step::Learning if self.over.is_none() => self.step = Step::Tidying,
+            _ => self.judge(learned),
+        }
+    }
+
+    /// Nothing was asked for yet.
+    fn seek(&mut self, learned: &Learned<'_>)
+        requires unasked { self.old.standing ≡ Standing.Unasked }
+        ensures unheard { IsUnheard self.new }
+        ensures soon { is_some self.old.over ≡ true → orders_left self.new ≡ 0 }
+    {
+        if let Some(why) = self.over {
+            return self.give_up(why);
+        }
+        match self.step {
+            Step::Looking if is_taken(learned.table, self.name, self.mode) => self.step =
+                Step::Learning,
+            Step::Learning | Step::Looking => self.step = Step::Tidying,
+            _ => self.ask(learned),
+        }
+    }
+
+    /// Looks in the table for the lock that was asked for.
+    fn judge(&mut self, learned: &Learned<'_>)
+        requires newest { learned.now.set ≡ self.old.newest }
+        ensures borne_out { IsBorneOut learned.now self.new }
+        ensures soon { is_some self.old.over ≡ true → orders_left self.new ≤ 12 }
+    {
+        match find(learned.table, self) {
+            Seen::Granted => self.hold(),
+            Seen::Waiting => {
+                self.standing = Standing::Waiting;
+                self.wait(learned);
+            }
+            Seen::Absent if self.is_out(learned) => self.drop_sign(
+                learned,
+                Then::End(Outcome::NotHeld(Why::Gone)),
+            ),
+            Seen::Absent => self.wait(learned),
+        }
+    }
+
+    pub(crate) fn hold(&mut self)
+        ensures held { self.new ≡ record self.old { standing = Standing.Held; step = Step.Ended Outcome.Held } }
+    {
+        self.standing = Standing::Held;
+        self.step = Step::Ended(Outcome::Held);
+    }
+
+    /// Whether the lock, which the table lacks, does not come into it any more.
+    pub(crate) fn is_out(&self, learned: &Learned<'_>) -> bool
+        ensures { IsTrue result → IsOut learned.now self.now self.now.asked }
+    {
+        match self.asked {
+            Some(asked) => {
+                learned.set != self.set
+                    || learned.log.len() >= usize::from(learned.slots)
+                    || has_heard(learned.table, client_of(self.host), asked.get())
+            }
+            None => true,
+        }
+    }
+
+    /// The lock waits, or is not there yet.
+    pub(crate) fn wait(&mut self, learned: &Learned<'_>)
+        ensures unheard { IsUnheard self.new }
+        ensures soon { is_some self.old.over ≡ true → orders_left self.new ≤ 12 }
+    {
+        if let Some(why) = self.over {
+            return self.give_up(why);
+        }
+        match self.goal {
+            Goal::Take { waits: true } => self.rest(learned),
+            Goal::Take { waits: false } => self.give_up(Why::Taken),
+            Goal::Check if self.step_is_look() => self.step = Step::Opening,
+            Goal::Check | Goal::Give | Goal::GiveUp(_) => self.step = Step::Ended(Outcome::InDoubt(
+                Why::Waits,
+            )),
+        }
+    }
+
+    fn step_is_look(&self) -> bool {
+        match self.step {
+            Step::Looking => true,
+            _ => false,
+        }
+    }
+
+    /// Pauses before the next look, or learns all where a look may not see all.
+    fn rest(&mut self, learned: &Learned<'_>)
+        ensures unheard { IsUnheard self.new }
+    {
+        let is_full = learned.log.len() >= usize::from(learned.slots);
+        if !is_full && (learned.left_over || self.pace.is_quiet(self.lock.get())) {
+            self.pace.wake();
+            self.step = Step::Opening;
+        } else {
+            self.step = Step::Resting(self.pace.next_pause());
+        }
+    }
+
+    /// The pause is over.
+    pub fn rested(&mut self)
+        ensures unheard { IsUnheard self.new }
+    {
+        match self.step {
+            Step::Yielding => self.submit_again(),
+            Step::Resting(_) => {
+                self.step = match self.standing {
+                    Standing::Unasked | Standing::Leaving => Step::Opening,
+                    _ => Step::OpeningToLook,
+                };
+            }
+            _ => self.break_off(),
+        }
+    }
+
+    /// The command that was outrun is submitted once more.
+    fn submit_again(&mut self)
+        ensures unheard { IsUnheard self.new }
+    {
+        match (self.standing, self.asked, self.release) {
+            (Standing::Leaving, _, Some(request)) => self.submit_release(request),
+            (Standing::Asked, Some(request), _) => self.submit_ask(request),
+            _ => self.break_off(),
+        }
+    }
+
+    /// The sign of life is removed.
+    pub fn dropped(&mut self, learned: &Learned<'_>)
+        // The outcome is the one that was borne out when the sign was to be given up.
+        ensures ends { (sign : Sign) (outcome : Outcome) → self.old.step ≡ Step.Dropping sign (Then.End outcome) →
+            self.new ≡ record self.old { step = Step.Ended outcome } }
+        ensures nearer { ComesNearer self.old self.new }
+        ensures other { ((sign : Sign) (outcome : Outcome) → self.old.step ≡ Step.Dropping sign (Then.End outcome) → ⊥) → IsUnheard self.new }
+    {
+        match self.step {
+            Step::Dropping(_, Then::End(outcome)) => self.step = Step::Ended(outcome),
+            Step::Dropping(_, Then::AskAgain) => {
+                self.standing = Standing::Unasked;
+                self.asked = None;
+                self.ask_again(learned);
+            }
+            _ => self.break_off(),
+        }
+    }
+
+    /// Gives the sign of life up, and then goes on.
+    pub(crate) fn drop_sign(&mut self, learned: &Learned<'_>, then: Then)
+        ensures then { then_of self.new.step ≡ Some then }
+        ensures one { orders_left self.new ≡ 1 }
+        ensures rest { self.new ≡ record self.old { step = self.new.step } }
+    {
+        let sign = Sign {
+            lock: self.lock,
+            removes: !is_numbered(learned.table, self.lock),
+        };
+        self.step = Step::Dropping(sign, then);
+    }
+
+    /// The folder could not be opened, or what was ordered could not be done.
+    pub fn refused(&mut self, failure: Failure, learned: &Learned<'_>)
+        ensures borne_out { IsBorneOut learned.now self.new }
+        ensures nearer { ComesNearer self.old self.new }
+    {
+        match self.step {
+            Step::Submitting(_) if learned.set == self.newest => self.submit_failed(
+                failure, learned,
+            ),
+            Step::Learning | Step::Looking | Step::Tidying | Step::Submitting(_) => self.fail(
+                failure,
+            ),
+            _ => self.break_off(),
+        }
+    }
+
+    /// The folder could not be opened.
+    pub fn closed(&mut self, failure: Failure)
+        ensures unheard { IsUnheard self.new }
+        ensures nearer { ComesNearer self.old self.new }
+    {
+        match self.step {
+            Step::Opening | Step::OpeningToLook => self.fail(failure),
+            _ => self.break_off(),
+        }
+    }
+
+    /// What is told does not go with what was ordered.
+    pub(crate) fn break_off(&mut self)
+        ensures { self.new ≡ record self.old { step = Step.Ended (Outcome.InDoubt (Why.Failed Failure.Broken)) } }
+    {
+        self.step = Step::Ended(Outcome::InDoubt(Why::Failed(Failure::Broken)));
+    }
+
+    /// Nothing can be learned or asked for now.
+    pub(crate) fn fail(&mut self, failure: Failure)
+        ensures unheard { IsUnheard self.new }
+        ensures soon { is_some self.old.over ≡ true → orders_left self.new ≤ 12 }
+        ensures leaves { is_some self.old.over ≡ true → is_leaving self.old.standing ≡ true → orders_left self.new ≡ 0 }
+    {
+        let why = Why::Failed(failure);
+        if let Some(over) = self.over {
+            return self.give_up(over);
+        }
+        if self.is_worth_waiting(failure) {
+            match self.pace.pause_away() {
+                Some(pause) => {
+                    self.step = Step::Resting(pause);
+                    return;
+                }
+                None => {}
+            }
+        }
+        self.give_up(why);
+    }
+
+    /// Whether it may pass soon.
+    fn is_worth_waiting(&self, failure: Failure) -> bool {
+        let waits = match self.goal {
+            Goal::Take { .. } => self.standing != Standing::Unasked,
+            Goal::Give => true,
+            Goal::Check | Goal::GiveUp(_) => false,
+        };
+        match failure {
+            Failure::NoMajority | Failure::Unreadable => waits,
+            Failure::HostInUse => self.shares,
+            Failure::Outrun => true,
+            _ => false,
+        }
+    }
+
+    /// The operation ends without what it was begun for. What may be in the log is released before, if it was not to be kept.
+    pub(crate) fn give_up(&mut self, why: Why)
+        ensures unheard { IsUnheard self.new }
+        ensures over { self.new.over ≡ self.old.over }
+        ensures soon { orders_left self.new ≤ 12 }
+        ensures leaves { is_leaving self.old.standing ≡ true → orders_left self.new ≡ 0 }
+        ensures unasked { self.old.standing ≡ Standing.Unasked → orders_left self.new ≡ 0 }
+    {
+        match (self.goal, self.standing) {
+            (Goal::Check, _) => self.step = Step::Ended(Outcome::Failed(why)),
+            (Goal::Give, _) if self.release.is_none() => {
+                self.standing = Standing::Held;
+                self.step = Step::Ended(Outcome::Failed(why));
+            }
+            (_, Standing::Unasked) => self.step = Step::Ended(Outcome::NotHeld(why)),
+            (Goal::Give | Goal::GiveUp(_), _) | (_, Standing::Leaving) => self.step = Step::Ended(
+                Outcome::InDoubt(why),
+            ),
+            (Goal::Take { .. }, _) => {
+                self.goal = Goal::GiveUp(why);
+                self.standing = Standing::Leaving;
+                self.release = None;
+                self.value = None;
+                self.tries = LAST_TRIES;
+                self.step = Step::Opening;
+            }
+        }
+    }
+}

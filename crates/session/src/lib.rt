@@ -1,0 +1,23 @@
+//! What a session does for a lock: asks for it, waits, looks whether it is still there, and gives it back. It names what is to be done next, and
+//! hears what came of it: a machine without disks, files and clocks.
+#![tactic(auto)]
+
+mod asking;
+mod beginning;
+mod claim;
+mod evidence;
+mod hearing;
+mod learned;
+mod numbers;
+mod order;
+mod outcome;
+mod pace;
+mod releasing;
+
+pub use beginning::Asker;
+pub use claim::{Choice, Claim, Goal, Sign, Standing, Step, Then};
+pub use learned::Learned;
+pub use numbers::{FIRST_CLIENT, FIRST_LOCK, LOCKS_OF_A_HOST, client_of, lock_of};
+pub use order::Order;
+pub use outcome::{Failure, Outcome, Why};
+pub use pace::Pace;

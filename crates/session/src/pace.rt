@@ -1,0 +1,83 @@
+/// How fast a wait looks, and what it has waited in vain.
+#[derive(Clone, Copy, Debug, PartialEq, Eq)]
+pub struct Pace {
+    /// The next pause, in milliseconds.
+    pub pause: u16,
+    /// The longest pause between two looks, in milliseconds.
+    pub interval: u16,
+    /// How many commands were learned when there was news last.
+    pub learned: usize,
+    /// For so many milliseconds there was no news.
+    pub quiet: u32,
+    /// For so many milliseconds the disks were away.
+    pub away: u32,
+    /// How often the command that is submitted was outrun.
+    pub outrun: u8,
+}
+
+/// The longest pause while the disks are away, in milliseconds.
+const LONG_PAUSE: u16 = 200;
+
+/// So long the disks may be away while a lock waits, in milliseconds.
+const PATIENCE: u32 = 60_000;
+
+/// After so long without news a wait learns all that there is, in milliseconds; some waits after twice as long.
+const QUIET: u32 = 2_000;
+
+impl Pace {
+    pub fn new(interval: u16) -> Pace {
+        Pace {
+            pause: 1,
+            interval,
+            learned: 0,
+            quiet: 0,
+            away: 0,
+            outrun: 0,
+        }
+    }
+
+    /// The pause before the next look: 1 ms, then twice as long each time.
+    pub fn next_pause(&mut self) -> u16 {
+        let pause = self.pause;
+        self.quiet = self.quiet.saturating_add(u32::from(pause));
+        self.pause = if pause < self.interval / 2 {
+            2 * pause
+        } else {
+            self.interval
+        };
+        pause
+    }
+
+    /// The pause while the disks are away, unless they have been away for too long.
+    pub fn pause_away(&mut self) -> Option<u16> {
+        if self.away >= PATIENCE {
+            return None;
+        }
+        self.away += u32::from(LONG_PAUSE);
+        Some(LONG_PAUSE)
+    }
+
+    /// So many commands were learned by now.
+    pub fn hear(&mut self, learned: usize) {
+        self.away = 0;
+        if learned != self.learned {
+            self.learned = learned;
+            self.quiet = 0;
+        }
+    }
+
+    /// Whether there was no news for so long that a command without a mark may stand before all looks. `spread` keeps waits apart.
+    pub fn is_quiet(&self, spread: u16) -> bool {
+        self.quiet >= QUIET + u32::from(spread) % QUIET
+    }
+
+    /// All there is will be learned now.
+    pub fn wake(&mut self) {
+        self.quiet = 0;
+    }
+
+    /// A command was outrun.
+    pub fn fall_back(&mut self) {
+        self.outrun = self.outrun.saturating_add(1);
+    }
+}

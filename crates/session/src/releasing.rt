@@ -1,0 +1,143 @@
+ghost use Rattle.std.specs.Prelude.{◌≡◌, ◌+◌, ◌≤◌, IfSome, IsTrue, false, true};
+ghost use Rattle.session.specs.Bounds.{is_leaving, orders_left};
+ghost use Rattle.session.specs.Outcomes.{GivesBack, IsBorneOut, IsGone, IsUnheard, IsWithout, IsWithoutOrGiven};
+
+use crate::claim::{Claim, Goal, Standing, Step, Then};
+use crate::evidence::{Seen, find, first_of, is_spared, releases};
+use crate::learned::Learned;
+use crate::numbers::client_of;
+use crate::outcome::{Outcome, Why};
+use lock_command::{Action, Command, RequestNumber};
+use lock_table::Refusal;
+
+impl Claim {
+    /// Releases the lock: by the command that may be in the log, where there is one, else by a new one, unless the lock is gone.
+    pub(crate) fn let_go(&mut self, learned: &Learned<'_>)
+        requires newest { learned.now.set ≡ self.old.newest }
+        requires leaving { self.old.standing ≡ Standing.Leaving }
+        ensures borne_out { IsBorneOut learned.now self.new }
+        ensures soon { orders_left self.new ≤ 2 + self.old.tries }
+    {
+        match self.release {
+            Some(request) if self.set == learned.set => self.submit_release(request),
+            _ if self.is_gone(learned) => self.drop_sign(learned, self.then_gone()),
+            _ => self.release_anew(learned),
+        }
+    }
+
+    /// Whether the table lacks the lock, and that does not come into it any more.
+    fn is_gone(&self, learned: &Learned<'_>) -> bool
+        requires newest { learned.now.set ≡ self.now.newest }
+        ensures { IsTrue result → IsGone learned.now self.now }
+    {
+        find(learned.table, self) == Seen::Absent && self.is_out(learned)
+    }
+
+    /// Releases the lock by the next request.
+    fn release_anew(&mut self, learned: &Learned<'_>)
+        requires leaving { self.old.standing ≡ Standing.Leaving }
+        ensures unheard { IsUnheard self.new }
+        ensures soon { orders_left self.new ≤ 2 + self.old.tries }
+    {
+        self.release = None;
+        match RequestNumber::new(self.last_request(learned) + 1) {
+            Some(request) => {
+                self.request = request.get();
+                self.since = learned.log.len();
+                self.set = learned.set;
+                self.pace.outrun = 0;
+                self.submit_release(request);
+            }
+            None => self.give_up(Why::NoNumber),
+        }
+    }
+
+    pub(crate) fn submit_release(&mut self, request: RequestNumber)
+        ensures unheard { IsUnheard self.new }
+        ensures soon { orders_left self.new ≡ 2 + self.old.tries }
+    {
+        self.release = Some(request);
+        self.standing = Standing::Leaving;
+        self.step = Step::Submitting(Command {
+            host: self.host,
+            client: client_of(self.host),
+            request,
+            action: Action::Release {
+                lock: self.lock,
+                value: self.value,
+            },
+        });
+    }
+
+    /// A release stands in the log.
+    pub(crate) fn release_replied(&mut self, learned: &Learned<'_>)
+        requires newest { learned.now.set ≡ self.old.newest }
+        requires leaving { self.old.standing ≡ Standing.Leaving }
+        ensures borne_out { IsBorneOut learned.now self.new }
+        ensures soon { orders_left self.new ≤ 1 + self.old.tries }
+    {
+        match self.given_at(learned) {
+            Some(slot) => self.drop_sign(learned, self.then_given(slot)),
+            None if self.is_gone(learned) => self.drop_sign(learned, self.then_gone()),
+            // Another command of this number came first.
+            None if self.tries > 0 => {
+                self.tries -= 1;
+                self.release_anew(learned);
+            }
+            None => {
+                self.release = None;
+                self.give_up(Why::Refused(Refusal::Stale));
+            }
+        }
+    }
+
+    /// Where the release stands that took the lock out of the table, if it was this claim's own.
+    fn given_at(&self, learned: &Learned<'_>) -> Option<u16>
+        ensures { IfSome result (λ slot. GivesBack learned.now self.now slot) }
+    {
+        let slot = first_of(learned.log, self.since, client_of(self.host), self.release?)?;
+        if releases(&learned.log[slot], self.lock, self.value)
+            && is_spared(learned.log, self.since, slot, self.host)
+            && find(learned.table, self) == Seen::Absent
+        {
+            u16::try_from(slot).ok()
+        } else {
+            None
+        }
+    }
+
+    fn then_given(&self, slot: u16) -> Then
+        ensures { IsWithoutOrGiven slot result }
+    {
+        match self.goal {
+            Goal::Give => Then::End(Outcome::Given { slot }),
+            Goal::GiveUp(why) => Then::End(Outcome::NotHeld(why)),
+            Goal::Take { .. } | Goal::Check => Then::AskAgain,
+        }
+    }
+
+    fn then_gone(&self) -> Then
+        ensures { IsWithout result }
+    {
+        match self.goal {
+            Goal::Give => Then::End(Outcome::NotHeld(Why::Gone)),
+            Goal::GiveUp(why) => Then::End(Outcome::NotHeld(why)),
+            Goal::Take { .. } | Goal::Check => Then::AskAgain,
+        }
+    }
+
+    /// A release was outrun, and the operation is to end soon.
+    pub(crate) fn try_once_more(&mut self, why: Why)
+        ensures unheard { IsUnheard self.new }
+        ensures soon { is_leaving self.old.standing ≡ false → orders_left self.new ≤ 12 }
+        ensures leaves { is_leaving self.old.standing ≡ true → orders_left self.new ≤ 1 + self.old.tries }
+    {
+        match (self.standing, self.release) {
+            (Standing::Leaving, Some(request)) if self.tries > 0 => {
+                self.tries -= 1;
+                self.submit_release(request);
+            }
+            _ => self.give_up(why),
+        }
+    }
+}
