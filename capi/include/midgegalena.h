@@ -55,6 +55,7 @@ enum mg_outcome {
     MG_BROKEN = -3,       /* the handle is in no state that it should be in. Close it. No cause is known */
     MG_ONLY_LOOKS = -4,   /* the handle is of mg_open_to_look, and the call is more than a look. Nothing was done */
     MG_STOPPED = -5,      /* mg_take: it was told to stop (mg_set_rest) */
+    MG_IN_DOUBT = -6,     /* mg_take, mg_give: it is not known whether the lock is, or stays, in the table (mg_session.h) */
 
     /* The host refused the operation. The command is not acknowledged, and may be in the log all the same: ask again with the
      * same request number */
