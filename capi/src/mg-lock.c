@@ -142,9 +142,13 @@ static void put_environment(void) {
     }
 }
 
-/* In the child. The sign gets a number above those that scripts use. */
-static void become_command(int sign, const sigset_t *before) {
+/* In the child, once nobody has the other end of the gate. The sign gets a number above those that scripts use. */
+static void become_command(int gate, int sign, const sigset_t *before) {
+    char none;
     int cause;
+    while (read(gate, &none, 1) < 0 && errno == EINTR)
+        ;
+    close(gate);
     if (!asked.closes && sign >= 0 && fcntl(sign, F_DUPFD, LOWEST_SIGN) < 0)
         fcntl(sign, F_SETFD, 0);
     sigprocmask(SIG_SETMASK, before, NULL);
@@ -152,6 +156,15 @@ static void become_command(int sign, const sigset_t *before) {
     cause = errno;
     say("%s: %s", asked.command[0], strerror(cause));
     _exit(cause == ENOENT ? NOT_FOUND : CANNOT_RUN);
+}
+
+/* Signals that came before the child was there did not reach it, not even a terminal's. Until these are handed on it waits, with all
+ * blocked: so one that did reach it meanwhile is the same as the one that is handed on. */
+static void hand_on_earlier(pid_t child) {
+    const struct timespec now = {0, 0};
+    int signal;
+    while ((signal = sigtimedwait(&ends, NULL, &now)) > 0)
+        kill(child, signal);
 }
 
 /* Waits for the command, or without one for a signal. Hands signals on, and ends the command once the lock was taken away. */
@@ -183,15 +196,21 @@ static int attend(struct mg_session *session, pid_t child, bool *lost) {
 
 static int run(struct mg_session *session, const sigset_t *before, bool *lost) {
     pid_t child = -1;
+    int gate[2];
     put_environment();
     if (asked.command[0]) {
-        child = fork();
+        child = pipe(gate) == 0 ? fork() : -1;
         if (child < 0) {
             say("no process for the command: %s", strerror(errno));
             return FAILED;
         }
-        if (child == 0)
-            become_command(mg_sign_of(session, db.lock), before);
+        if (child == 0) {
+            close(gate[1]);
+            become_command(gate[0], mg_sign_of(session, db.lock), before);
+        }
+        close(gate[0]);
+        hand_on_earlier(child);
+        close(gate[1]);
     }
     return attend(session, child, lost);
 }
