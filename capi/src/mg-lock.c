@@ -353,10 +353,29 @@ static int recover(struct mg_session *session) {
     return 0;
 }
 
-/* The status where the lock was not granted. */
+/* Says which lock was not given back. Where a session has the host number for itself, no mg-lock gets it: that session's mg_take releases. */
+static void say_what_stays(int status) {
+    bool in_doubt = status == MG_IN_DOUBT;
+    say("the lock %u on %s %s in the table: %s; the next mg-lock or mg_take under host %u releases it, once the log can be written",
+        (unsigned)db.lock, asked.name, in_doubt ? "may stay" : "stays", in_doubt ? "its release was not acknowledged" : told(status), asked.host);
+}
+
+/* MG_OK, or MG_NO_SUCH_LOCK where it was taken away before. */
+static int give_back(struct mg_session *session) {
+    int status = mg_give(session, db.lock, NULL);
+    if (status != MG_OK && status != MG_NO_SUCH_LOCK)
+        say_what_stays(status);
+    return status;
+}
+
+/* The status where the lock was not granted. Where it may stay that is no conflict. */
 static int decline(int status) {
-    if (ended)
+    if (status == MG_IN_DOUBT)
+        say_what_stays(status);
+    if (has_ended())
         return end_by(ended);
+    if (status == MG_IN_DOUBT)
+        return FAILED;
     if (status == MG_BAD_ARGUMENT)
         return refuse("a name has 1 to 15 bytes from 0x21 to 0x7E", asked.name);
     if (status == MG_NO_SUCH_LOCK)
@@ -380,7 +399,7 @@ static int take_and_run(struct mg_session *session, const sigset_t *before) {
     int result, status = mg_take(session, asked.name, asked.mode, asked.timeout, &db);
     /* Not so long as to run what is not wanted any more. */
     if (status == MG_OK && has_ended()) {
-        (void)mg_give(session, db.lock, NULL);
+        (void)give_back(session);
         status = MG_STOPPED;
     }
     if (status != MG_OK)
@@ -391,11 +410,9 @@ static int take_and_run(struct mg_session *session, const sigset_t *before) {
         say("%s was granted after %.3f s", asked.name, seconds_since_begin());
     warn_of_end(session);
     result = run(session, before, &lost);
-    status = mg_give(session, db.lock, NULL);
+    status = give_back(session);
     if (status == MG_NO_SUCH_LOCK && !lost)
         say("the lock on %s was taken away while the command ran", asked.name);
-    else if (status != MG_OK && status != MG_NO_SUCH_LOCK)
-        say("the lock on %s stays in the table: %s; the next mg-lock under host %u releases it", asked.name, told(status), asked.host);
     return result == 0 && (lost || status != MG_OK) ? FAILED : result;
 }
 

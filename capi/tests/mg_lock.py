@@ -1,12 +1,16 @@
 #!/usr/bin/env python3
 """Tries mg-lock: statuses, waits, signals, processes that are killed, several at once.
 
-    mg_lock.py MG_LOCK DLM WORK [ROUNDS [LIBRARY]]
+    mg_lock.py MG_LOCK DLM WORK [ROUNDS [LIBRARY [ANSWERS]]]
 
 MG_LOCK and DLM are the programs, WORK an empty folder. ROUNDS: turns of each of eight processes that count, 4 if left out. With LIBRARY,
-libmidgegalena.so, half of those that count are in Python. Prints what was wrong, and how many checks there were."""
+libmidgegalena.so, half of those that count are in Python. ANSWERS is the mg-lock of answers.c. Prints what was wrong, and how many checks
+there were."""
+import contextlib
 import os
+import pty
 import random
+import re
 import select
 import shlex
 import shutil
@@ -18,9 +22,13 @@ import time
 mg_lock, dlm, work = map(os.path.abspath, sys.argv[1:4])
 rounds = int(sys.argv[4]) if len(sys.argv) > 4 else 4
 library = os.path.abspath(sys.argv[5]) if len(sys.argv) > 5 else None
+with_answers = os.path.abspath(sys.argv[6]) if len(sys.argv) > 6 else None
 images = os.path.join(work, "images")
 current = os.path.join(work, "current")
 examples = os.path.join(os.path.dirname(os.path.abspath(__file__)), "..", "examples", "python")
+sys.path.insert(0, examples)
+from midgegalena import Session  # noqa: E402
+
 checks = failed = 0
 # Where this runs in the background SIGINT may be ignored, and what is ignored stays so.
 signal.signal(signal.SIGINT, signal.default_int_handler)
@@ -198,6 +206,78 @@ def signals():
     left_nothing("signals")
 
 
+def is_pending(process, number):
+    with open(f"/proc/{process}/status") as file:
+        return int(re.search(r"ShdPnd:\s*(\w+)", file.read())[1], 16) >> (number - 1) & 1
+
+
+def full_pipe():
+    reads, writes = os.pipe()
+    os.set_blocking(writes, False)
+    with contextlib.suppress(BlockingIOError):
+        while True:
+            os.write(writes, bytes(4096))
+    os.set_blocking(writes, True)
+    return reads, writes
+
+
+def before_the_command():
+    """A terminal's signal that comes after the lock was granted, and before the command is there: mg-lock stands still in between, as
+    nobody reads the value that it prints."""
+    folder()
+    ran = os.path.join(work, "ran_on")
+    for key, number in ((b"\x03", signal.SIGINT), (b"\x1c", signal.SIGQUIT)):
+        reads, writes = full_pipe()
+        process, terminal = pty.fork()
+        if process == 0:
+            os.dup2(writes, 1)
+            os.execv(mg_lock, [mg_lock, "-v", "--verbose", images, "0", "db", "--", "sh", "-c", f"sleep 1; echo > {ran}"])
+        os.close(writes)
+        said = b""
+        while b"was granted" not in said:
+            said += os.read(terminal, 1000)
+        os.write(terminal, key)
+        expect(until(lambda: is_pending(process, number)), f"{number.name} has come")
+        while os.read(reads, 4096):
+            pass
+        status = os.waitpid(process, 0)[1]
+        expect(os.waitstatus_to_exitcode(status) == 128 + number, f"{number.name} before the command is there: {status}")
+        expect(not os.path.exists(ran), f"{number.name} before the command is there: it did not run on")
+        os.close(reads), os.close(terminal)
+    left_nothing("before the command")
+
+
+def answers():
+    """A lock that is not given back is said, whatever the status, and the next run under the host number releases it."""
+    if not with_answers:
+        return
+    folder()
+    stays = "mg-lock: the lock \\d+ on db {}; the next mg-lock or mg_take under host 0 releases it, once the log can be written\n"
+    doubt, lost = stays.format("may stay in the table: its release was not acknowledged"), stays.format("stays in the table: 7 NoMajority .*")
+    for given, status, said in ((["TAKE=-6"], 125, doubt), (["TAKE=-6", "STOPPED="], -signal.SIGTERM, doubt), (["GIVE=7"], 125, lost), (["GIVE=-6"], 125, doubt),
+                                (["GIVE=7", "STOPPED="], -signal.SIGTERM, lost), (["TAKE=36"], 125, "mg-lock: 36 HostInUse .*\n"), (["TAKE=-2"], 75, "")):
+        told = subprocess.run(["env", *given, with_answers, "-n", "-E", "75", images, "0", "db", "--", "true"], capture_output=True, text=True)
+        expect(told.returncode == status and re.fullmatch(said, told.stderr), f"{given}: {told}")
+        told = run("-n", images, 0, "db", "--", "true")
+        expect(told.returncode == 0 and told.stderr == "mg-lock: released 1 locks whose processes are gone\n", f"{given}: the next: {told}")
+    told = subprocess.run(["env", "GIVE=7", with_answers, images, "0", "db", "--", "sh", "-c", "exit 3"], capture_output=True, text=True)
+    expect(told.returncode == 3 and re.fullmatch(lost, told.stderr), f"a command's own status, and what stays: {told}")
+    told = subprocess.run(["env", "STOPPED=", with_answers, images, "0", "db", "--", "true"], capture_output=True, text=True)
+    expect(told.returncode == -signal.SIGTERM and told.stderr == "", f"a signal at the grant, and it is given back: {told}")
+    run("--recover", images, 0)
+    # A session that got the number meanwhile releases it.
+    if library:
+        process = subprocess.Popen(["env", "GIVE=36", with_answers, images, "0", "db", "--", "sh", "-c", "echo; read line"], stdin=subprocess.PIPE,
+                                   stdout=subprocess.PIPE, stderr=subprocess.DEVNULL)
+        process.stdout.readline()
+        with Session(images, 0, library=library) as service:
+            process.communicate(b"\n")
+            expect(process.returncode == 125 and "granted" in table(), "it is not given back")
+            with service.lock("other"):
+                expect([it[0] for it in service.locks()] == ["other"], "a session that has the number releases it")
+    left_nothing("answers")
+
+
 def killed():
     folder()
     # mg-lock alone is killed: its command keeps the lock
@@ -270,7 +350,9 @@ def ends_of_logs():
     first = holder()
     expect(run("-n", images, 1, "db", "--", "true").returncode == 1, "no slot")
     expect(end(first) == 143, "four")
-    expect(run(images, 0, "db", "--", "true").returncode == 125, "the fifth is granted, and cannot be released")
+    said = run(images, 0, "db", "--", "true")
+    expect(said.returncode == 125, "the fifth is granted, and cannot be released")
+    expect(re.match("mg-lock: the lock \\d+ on db stays in the table: 9 LogFull ", said.stderr.splitlines()[-1]), f"and that is said: {said}")
     said = run(images, 0, "other", "--", "true")
     expect(said.returncode == 125 and "9 LogFull" in said.stderr, f"full: {said}")
 
@@ -566,7 +648,8 @@ def counted(hosts, kills=0):
     print(f"{hosts} hosts: counted {total}, {done} ended well, {commands()} commands", flush=True)
 
 
-for test in (statuses, pages, environment, waits, modes, signals, killed, taken_away, ends_of_logs, renewed, of_another_machine, numbers, lost_disks, unmarked,
+for test in (statuses, pages, environment, waits, modes, signals, before_the_command, answers, killed, taken_away, ends_of_logs, renewed,
+             of_another_machine, numbers, lost_disks, unmarked,
              lambda: counted(1), lambda: counted(8), lambda: counted(2, kills=4 * rounds)):
     test()
 print(f"mg_lock: {checks} checks, {failed} failed")
