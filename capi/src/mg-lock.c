@@ -85,7 +85,7 @@ static int rest(void *with, int length) {
 
 static bool has_ended(void) { return rest(NULL, 0) != 0; }
 
-/* What was ignored when this began stays so, for the command too. */
+/* What was ignored when this began stays so, for the command too. Where nobody reads what is printed the lock is given back all the same. */
 static void block_signals(sigset_t *before) {
     sigset_t blocked;
     sigemptyset(&ends);
@@ -96,6 +96,7 @@ static void block_signals(sigset_t *before) {
     }
     blocked = ends;
     sigaddset(&blocked, SIGCHLD);
+    sigaddset(&blocked, SIGPIPE);
     sigprocmask(SIG_BLOCK, &blocked, before);
     signal(SIGCHLD, SIG_DFL);
 }

@@ -144,6 +144,12 @@ def environment():
         subprocess.run([dlm, "submit", images, str(host), *line.split()], check=True, stdout=subprocess.DEVNULL)
     subprocess.run([dlm, "submit", images, "1", "purge", "1", "4", "2"], check=True, stdout=subprocess.DEVNULL)
     expect(run("-v", images, 0, "db", "--", "true").stdout == "000102030405060708090a0b0c0d0e0f invalid\n", "-v of an invalid value")
+    reads, writes = os.pipe()
+    os.close(reads)
+    said = subprocess.run([mg_lock, "-v", images, "0", "db", "--", "sh", "-c", "kill -PIPE $$"], stdout=writes)
+    os.close(writes)
+    expect(said.returncode == 128 + signal.SIGPIPE, f"-v that nobody reads: {said}")
+    expect("240" not in table(), f"and the lock is given back:\n{table()}")
 
 
 def waits():
