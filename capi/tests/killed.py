@@ -1,5 +1,5 @@
 """A process that holds a lock is killed, and so it stays in the log: the next session of its host number begins by releasing it. A
-request that was refused without a majority leaves no lock behind either, and Ctrl-C ends a wait.
+request that was refused without a majority leaves no lock behind either, and Ctrl-C ends a wait. What could not be given back is given again.
 
     killed.py LIBRARY FOLDER      an empty folder
 """
@@ -10,7 +10,7 @@ import threading
 import time
 
 sys.path.insert(0, os.path.join(os.path.dirname(os.path.dirname(os.path.realpath(__file__))), "examples/python"))
-from midgegalena import EX, NO_MAJORITY, Refused, Session, load  # noqa: E402
+from midgegalena import EX, IN_DOUBT, NL, NO_MAJORITY, PR, InDoubt, Refused, Session, load, milliseconds  # noqa: E402
 
 library, folder = sys.argv[1:]
 # Where this runs in the background it may be ignored.
@@ -90,6 +90,49 @@ with Session(folder, host=0, library=library) as session:
             raise AssertionError("held after Ctrl-C")
     except KeyboardInterrupt:
         pass
+    session.lib.mg_take = take
+    assert session.locks() == [], session.locks()
+
+    # A timeout that is none is refused, and a short one waits all the same.
+    for wrong, why in ((-0.5, ValueError), (float("nan"), ValueError), (float("inf"), OverflowError), (4294968.0, OverflowError)):
+        try:
+            with session.lock("db", EX, timeout=wrong):
+                raise AssertionError("a timeout that is none")
+        except why:
+            pass
+    assert [milliseconds(it) for it in (None, 0, 0.0001, 1.5, 2147483)] == [-1, 0, 1, 1500, 2147483000]
+
+    # What could not be given back is given again, with its value: by give(), or by the next lock().
+    give = session.lib.mg_give
+    with session.lock("db", NL):
+        for again, value in ((session.give, bytes(range(16))), (None, bytes(range(1, 17)))):
+            try:
+                with session.lock("db", EX) as held:
+                    held.leaves = value
+                    session.lib.mg_give = lambda *words: NO_MAJORITY
+                raise AssertionError("given back without a majority")
+            except Refused as why:
+                assert (why.status, why.lock) == (NO_MAJORITY, held.lock), why
+            session.lib.mg_give = give
+            assert len(session.locks()) == 2, session.locks()
+            if again:
+                again(held.lock)
+            with session.lock("db", PR, timeout=3) as held:
+                assert held.value == value, held.value
+            assert len(session.locks()) == 1 and session.left == {}, session.locks()
+
+    # A lock of which it is not known whether it stays.
+    def in_doubt(*words):
+        assert take(*words) == 0
+        return IN_DOUBT
+
+    session.lib.mg_take = in_doubt
+    try:
+        with session.lock("db", EX):
+            raise AssertionError("held in doubt")
+    except InDoubt as why:
+        assert [it[1] for it in session.locks()] == [why.lock], session.locks()
+        session.give(why.lock)
     session.lib.mg_take = take
     assert session.locks() == [], session.locks()
 

@@ -7,16 +7,18 @@
 Such a session has the host number to itself. Programs that share one, with each other and with mg-lock, use share=True.
 """
 import ctypes
+import math
 import os
 import sys
 import time
-from contextlib import contextmanager
+from contextlib import contextmanager, suppress
 from ctypes import CFUNCTYPE, POINTER, Structure, byref, c_char_p, c_int, c_int32, c_size_t, c_uint, c_uint8, c_uint32, c_uint64, c_void_p
 
 NL, CR, CW, PR, PW, EX = range(6)
-OK, TIMED_OUT, NO_MAJORITY, NO_SUCH_LOCK = 0, -2, 7, 12
+OK, TIMED_OUT, IN_DOUBT, NO_MAJORITY, NO_SUCH_LOCK = 0, -2, -6, 7, 12
 KEEP, SHARE, ALL = 1, 2, 1
 VALID = 1
+LONGEST = 2**31 - 1  # milliseconds
 
 
 class Value(Structure):
@@ -63,15 +65,31 @@ def load(path=None):
 
 
 class Refused(Exception):
-    """A call was refused; `status` is its number, as in docs/REFUSALS.md."""
+    """A call was refused; `status` is its number, as in docs/REFUSALS.md. `lock` is the lock's, 0 where there is none."""
 
-    def __init__(self, lib, status):
+    def __init__(self, lib, status, lock=0):
         super().__init__(lib.mg_strerror(status).decode())
-        self.status = status
+        self.status, self.lock = status, lock
 
 
 class Lost(Refused):
     """The lock was taken away while it was waited for or held."""
+
+
+class InDoubt(Refused):
+    """It is not known whether the lock stays in the table. The session's next call releases it, or give(why.lock) does."""
+
+
+def milliseconds(timeout):
+    """A timeout as the library counts it: below 0 for no end, 0 only where it is 0."""
+    if timeout is None:
+        return -1
+    if timeout < 0:
+        raise ValueError("a timeout is not below 0")
+    length = math.ceil(timeout * 1000)
+    if length > LONGEST:
+        raise OverflowError(f"a timeout has at most {LONGEST // 1000} seconds")
+    return length
 
 
 class Held:
@@ -103,6 +121,8 @@ class Session:
 
     def __init__(self, folder, host, share=False, keep=False, library=None):
         self.lib, self.handle, self.why = load(library), c_void_p(), None
+        # What could not be given back, with the bytes that it leaves.
+        self.left = {}
         self._check(self.lib.mg_begin(os.fsencode(folder), host, SHARE * share | KEEP * keep, byref(self.handle), None))
         # Kept as long as the library may call it.
         self.rest = Rest(self._rest)
@@ -144,37 +164,49 @@ class Session:
         finally:
             sys.unraisablehook = hook
 
-    def _check(self, status):
-        if status == NO_SUCH_LOCK:
-            raise Lost(self.lib, status)
+    def _check(self, status, lock=0):
         if status != OK:
-            raise Refused(self.lib, status)
+            raise {NO_SUCH_LOCK: Lost, IN_DOUBT: InDoubt}.get(status, Refused)(self.lib, status, lock)
 
     @contextmanager
     def lock(self, name, mode=EX, timeout=None):
         """Holds a lock on a name, and gives a Held. With a timeout, in seconds, it raises TimeoutError where it was not granted by
-        then; a timeout of 0 does not wait at all. If the lock was taken away meanwhile it raises Lost at the end."""
-        view, held = HeldView(), None
+        then; a timeout of 0 does not wait at all, and without one it waits without an end. If the lock was taken away meanwhile it raises
+        Lost at the end. What could not be given back is given back first, which may wait a minute."""
+        length = milliseconds(timeout)
+        for lock in list(self.left):
+            with suppress(Refused):
+                self.give(lock)
+        view, held, status = HeldView(), None, OK
         try:
             with self._caught():
-                status = self.lib.mg_take(self.handle, name.encode(), mode, -1 if timeout is None else int(timeout * 1000), byref(view))
+                status = self.lib.mg_take(self.handle, name.encode(), mode, length, byref(view))
             if self.why is not None:
-                raise self.why
+                raise self.why from (InDoubt(self.lib, status, view.lock) if status == IN_DOUBT else None)
             if status == TIMED_OUT:
                 raise TimeoutError(f"{name} is taken")
-            self._check(status)
+            self._check(status, view.lock)
             held = Held(view)
             yield held
         finally:
             # Ctrl-C may come as soon as it is taken.
-            if view.lock:
-                self._check(self.lib.mg_give(self.handle, view.lock, held.leaves if held else None))
+            if view.lock and status == OK:
+                self.give(view.lock, held.leaves if held else None)
+
+    def give(self, lock, leaves=None):
+        """Gives a lock back. Where that fails it is still the session's, and is given again with the bytes of the first time: by this, or
+        by the next lock()."""
+        leaves = self.left.setdefault(lock, leaves)
+        status = self.lib.mg_give(self.handle, lock, leaves)
+        if status in (OK, NO_SUCH_LOCK):
+            del self.left[lock]
+        self._check(status, lock)
 
     def is_held(self, held):
         """Whether nobody has taken the lock away, as far as a look tells."""
         status = self.lib.mg_check(self.handle, held.lock)
         if status not in (OK, NO_SUCH_LOCK):
-            self._check(status)
+            self._check(status, held.lock)
         return status == OK
 
     def _look(self):

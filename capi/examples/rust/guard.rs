@@ -47,6 +47,7 @@ unsafe extern "C" {
 
 const BAD_ARGUMENT: c_int = -1;
 const TIMED_OUT: c_int = -2;
+const IN_DOUBT: c_int = -6;
 const NO_SUCH_LOCK: c_int = 12;
 
 /// As the library counts them. This program has use for one of them.
@@ -68,6 +69,8 @@ enum Error {
     TimedOut,
     /// The lock was taken away, while it was waited for or held.
     Lost,
+    /// It is not known whether the lock stays in the table. The session's next `take` releases it.
+    InDoubt,
     /// Any other number of the library's.
     Refused(c_int),
 }
@@ -78,6 +81,7 @@ impl Error {
             0 => Ok(()),
             TIMED_OUT => Err(Error::TimedOut),
             NO_SUCH_LOCK => Err(Error::Lost),
+            IN_DOUBT => Err(Error::InDoubt),
             status => Err(Error::Refused(status)),
         }
     }
@@ -86,6 +90,7 @@ impl Error {
         match self {
             Error::TimedOut => TIMED_OUT,
             Error::Lost => NO_SUCH_LOCK,
+            Error::InDoubt => IN_DOUBT,
             Error::Refused(status) => *status,
         }
     }
