@@ -240,7 +240,7 @@ static void usage(FILE *where) {
           "  -h, --help; -V, --version\n"
           "\n"
           "Exit status: that of COMMAND, 128 + N if signal N ended it; 1 (-E) not granted; 125 mg-lock failed, or the\n"
-          "lock was lost; 126, 127 COMMAND cannot be run, was not found.\n",
+          "lock was lost, or may stay; 126, 127 COMMAND cannot be run, was not found.\n",
           where);
 }
 
