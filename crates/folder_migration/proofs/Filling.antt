@@ -1,5 +1,5 @@
 -- What a host says of what it learned, since it had learned so much; and a request that is known to be an old one.
-use Rattle.std.proofs.Common.{◌≡◌, ◌<◌, ◌≤◌, ◌+◌, ℕ, Bool, true, false, List, [], ◌∷◌, ◌++◌, length, nat_lt, nat_le, filter, find, slice_get, Option, Some, None, refl, sym, ◌∙◌, ap, subst, arith, eq-eqb, if◌then◌else◌}
+use Rattle.std.proofs.Common.{◌≡◌, ◌<◌, ◌≤◌, ◌+◌, ℕ, Bool, true, false, List, [], ◌∷◌, ◌++◌, length, nat_lt, nat_le, filter, find, slice_get, Option, Some, None, Result, Err, refl, sym, ◌∙◌, ap, subst, arith, eq-eqb, if◌then◌else◌}
 use Rattle.std.proofs.lemmas.Bool.{ltb-false}
 use Rattle.std.proofs.lemmas.List.{length-append}
 use Rattle.attempt.specs.Answers.{Answered, on, heard_as}
@@ -194,6 +194,18 @@ is_one_more slots had now slot reply said is told = subst (Told slots had now) i
 
 pub is_full : (slots had now : ℕ) (said : Option HostAnswer) → said ≡ Some (Refused refusal.LogFull) → Told slots had now said → slots ≤ now
 is_full slots had now said is told = subst (Told slots had now) is told
+
+-- WHY IT STOPS
+
+-- a submission that was refused used all its tries, where it was outrun
+pub tries_used : {A D : Type 0} (gives : D → Call → Answer → D → Type 0) (command : Command) (tries : ℕ) (old new : Standing D) (result : Result A Refusal) (refused : Refusal) → result ≡ Err refused → HasTried gives command tries old new
+    → (result ≡ Err refusal.Outrun → (done : HasTried gives command tries old new) × (done.outrun + 1 ≡ tries)) → (tried : HasTried gives command tries old new) × (refused ≡ refusal.Outrun → tried.outrun + 1 ≡ tries)
+tries_used gives command tries old new result refusal.Outrun is tried outrun = let used = outrun is in (used.0, λ same. used.1)
+tries_used gives command tries old new result refusal.NoMajority is tried outrun = (tried, λ never. absurd (cc))
+tries_used gives command tries old new result refusal.BallotsSpent is tried outrun = (tried, λ never. absurd (cc))
+tries_used gives command tries old new result refusal.LogFull is tried outrun = (tried, λ never. absurd (cc))
+tries_used gives command tries old new result refusal.NotACommand is tried outrun = (tried, λ never. absurd (cc))
+tries_used gives command tries old new result refusal.NotLearned is tried outrun = (tried, λ never. absurd (cc))
 
 -- AN OLD REQUEST
 

@@ -1,5 +1,5 @@
 -- A renewal of a folder, by what it came to over the host that recovered.
-use Rattle.std.proofs.Common.{◌≡◌, ℕ, List, length, Result, Ok, Err, IfErr, sym, ◌∙◌, subst, inl}
+use Rattle.std.proofs.Common.{◌≡◌, ℕ, List, length, Result, Ok, Err, IfErr, sym, ◌∙◌, subst, inl, inr}
 use Rattle.disk.specs.FileStates.{FileState, FileGives}
 use Rattle.disk.specs.Disk.{Call, Answer}
 use Rattle.lock_command.specs.declared.command.Command.{Command}
@@ -36,7 +36,7 @@ ends_over slots config cluster leave host makes fails (Err fault) full blank fai
     by_fault NoMemory stops = tt
     by_fault (HasLocks client) stops = (full, stops)
     by_fault TooFewSlots stops = (full, stops)
-    by_fault (New fault) stops = failed fault stops
+    by_fault (New fault) stops = (full, stops.0, failed fault stops.1)
     by_fault RenewalFailed stops = (full, stops.0, carried_as FileGives makes (AreBlank config) config cluster leave host.core.prefix stops.0 end.MigrationFailed blank stops.1)
     by_fault (Old fault) stops = absurd stops
     by_fault SameCluster stops = absurd stops
@@ -68,7 +68,7 @@ may_not host config old_config cluster leave slots old left fault recovers as_ma
 
     by_fault : (fault : RenewFault) → EndsOver old_config.slots config cluster leave left fault → MayNotRenew host config cluster leave fault
     by_fault NoMemory ends = tt
-    by_fault (New fault) ends = ends
+    by_fault (New fault) ends = inr (inr (stopped (New fault) ends))
     by_fault (Refused refusal) ends = stopped (Refused refusal) ends
     by_fault NotFull ends = stopped NotFull ends
     by_fault (HasLocks client) ends = stopped (HasLocks client) ends

@@ -23,6 +23,13 @@ carried_without leave shown = carried_over (without_clients (is_among leave) sho
 abbrev pub first_with_locks : List ℕ → Shown → Option ℕ
 first_with_locks leave shown = find (has_locks shown.locks) leave
 
+-- The table after these commands may be carried over into so many slots: no client that is to be left out has a lock, and a slot stays free.
+pub record MayCarry (slots : ℕ) (leave : List ℕ) (learned : List Command) : Type 0 where
+  pub shown : Shown
+  pub pictured : IsPictureOf shown (table_after learned)
+  pub lockless : first_with_locks leave shown ≡ None
+  pub free : length (carried_without leave shown) < slots
+
 -- The table after these commands was carried over onto disks that were made, up to this end. Clients that were to be left out have no lock, and were left out.
 pub record Carries {E : Type 0} (gives : E → Call → Answer → E → Type 0) (makes : List E → Type 0) (config : Shape) (cluster : ℕ) (leave : List ℕ) (learned : List Command) (commands : ℕ) (end : End) : Type 0 where
   pub shown : Shown
@@ -43,12 +50,12 @@ HasLocksOf leave learned client = (shown : Shown) × IsPictureOf shown (table_af
 abbrev pub HasTooFewSlots : ℕ → (leave : List ℕ) → List Command → Type 0
 HasTooFewSlots slots leave learned = (shown : Shown) × IsPictureOf shown (table_after learned) × (first_with_locks leave shown ≡ None) × (slots ≤ length (carried_without leave shown))
 
--- why it stops: no memory; a client that is to be left out has a lock; too few slots for what is carried over; no disks are made; a call on those fails
+-- why it stops: no memory; a client that is to be left out has a lock; too few slots for what is carried over; no disks are made, though it may be; a call on those fails
 abbrev pub StopsRenewing : {E : Type 0} → (E → Call → Answer → E → Type 0) → (makes : List E → Type 0) → (fails : NewFault → Type 0) → (config : Shape) → (cluster : ℕ) → (leave : List ℕ) → (learned : List Command) → RenewFault → Type 0
 StopsRenewing gives makes fails config cluster leave learned NoMemory = Unit {0}
 StopsRenewing gives makes fails config cluster leave learned (HasLocks client) = HasLocksOf leave learned client
 StopsRenewing gives makes fails config cluster leave learned TooFewSlots = HasTooFewSlots config.slots leave learned
-StopsRenewing gives makes fails config cluster leave learned (New fault) = fails fault
+StopsRenewing gives makes fails config cluster leave learned (New fault) = MayCarry config.slots leave learned × fails fault
 StopsRenewing gives makes fails config cluster leave learned RenewalFailed = (commands : ℕ) × Carries gives makes config cluster leave learned commands end.MigrationFailed
 StopsRenewing gives makes fails config cluster leave learned (Old fault) = ⊥
 StopsRenewing gives makes fails config cluster leave learned SameCluster = ⊥

@@ -15,7 +15,7 @@ use Rattle.dlm_images.specs.declared.fault.FolderFault.TheVariants as folder
 use Rattle.dlm_images.specs.declared.host_lock.LockFault.TheVariants as lock
 use Rattle.folder_migration.specs.Gates.{AreFinishedFrom, AreStoppedFrom, HaveNothingLeft}
 use Rattle.folder_migration.specs.Migrating.{AreBlank, file_device}
-use Rattle.folder_migration.specs.Renewing.{Carries, HasLocksOf, HasTooFewSlots}
+use Rattle.folder_migration.specs.Renewing.{Carries, HasLocksOf, HasTooFewSlots, MayCarry}
 use Rattle.folder_migration.specs.declared.old_log.TheConstants.{TRIES}
 use Rattle.folder_migration.specs.declared.renew.Renewed.{Renewed}
 use Rattle.folder_migration.specs.declared.renew.Renewed.TheVariants.{Renewed as WasRenewed, Finished}
@@ -118,7 +118,7 @@ EndsOver slots config cluster leave host (Refused refusal) = host.core.said ≡ 
 EndsOver slots config cluster leave host NotFull = (host.core.said ≡ Some (answer.Recovered (length host.core.prefix))) × ¬ (length host.core.prefix ≡ slots)
 EndsOver slots config cluster leave host (HasLocks client) = (length host.core.prefix ≡ slots) × HasLocksOf leave host.core.prefix client
 EndsOver slots config cluster leave host TooFewSlots = (length host.core.prefix ≡ slots) × HasTooFewSlots config.slots leave host.core.prefix
-EndsOver slots config cluster leave host (New fault) = IsNewFault config.disks fault
+EndsOver slots config cluster leave host (New fault) = (length host.core.prefix ≡ slots) × MayCarry config.slots leave host.core.prefix × IsNewFault config.disks fault
 EndsOver slots config cluster leave host RenewalFailed =
     (length host.core.prefix ≡ slots) × (commands : ℕ) × Carries FileGives (AreBlank config) config cluster leave host.core.prefix commands end.MigrationFailed
 EndsOver slots config cluster leave host (Old fault) = ⊥
@@ -140,12 +140,16 @@ pub record IsSame (cluster : ℕ) : Type 0 where
   pub disks : List FileState
   pub opened : IsOpened found config cluster disks
 
+-- no new images are made: the new folder is not there, or the successor is another one; or else only once a host had recovered a full log that may be carried over
+abbrev pub IsNotMade : (host : ℕ) → Shape → (cluster : ℕ) → (leave : List ℕ) → NewFault → Type 0
+IsNotMade host config cluster leave fault = IsUnfound fault ⊎ IsNamingFault fault ⊎ StopsOver host config cluster leave (New fault)
+
 abbrev pub MayNotRenew : (host : ℕ) → Shape → (cluster : ℕ) → (leave : List ℕ) → RenewFault → Type 0
 MayNotRenew host config cluster leave NoMemory = Unit {0}
 MayNotRenew host config cluster leave (Old fault) = MayRefuse fault
 MayNotRenew host config cluster leave SameCluster = IsSame cluster
 MayNotRenew host config cluster leave (Lock fault) = IsLockFault host fault
-MayNotRenew host config cluster leave (New fault) = IsNewFault config.disks fault
+MayNotRenew host config cluster leave (New fault) = IsNotMade host config cluster leave fault
 MayNotRenew host config cluster leave (Refused refusal) = StopsOver host config cluster leave (Refused refusal)
 MayNotRenew host config cluster leave NotFull = StopsOver host config cluster leave NotFull
 MayNotRenew host config cluster leave (HasLocks client) = StopsOver host config cluster leave (HasLocks client)

@@ -1,5 +1,6 @@
 -- The files by which a folder names the set into which its log was renewed, that which is locked meanwhile, and the signs of life that are carried over.
-use Rattle.std.specs.Prelude.{ℕ, List, ◌++◌, codes, decimal}
+use Rattle.std.specs.Prelude.{◌≡◌, ◌⊎◌, ℕ, List, [], ◌∷◌, ◌++◌, codes, decimal}
+use Rattle.slot_log.specs.Shape.{Shape}
 
 -- the name of the file that has the successor's line
 abbrev pub successor_name : List ℕ
@@ -16,3 +17,15 @@ renewal_lock_name = codes "renewal.lock"
 -- the name of a lock's sign of life, by the cluster number of the set whose table has the lock, the host through which it was enqueued, and its number
 abbrev pub sign_name : (cluster host lock : ℕ) → List ℕ
 sign_name cluster host lock = codes "mg-lock." ++ decimal cluster ++ codes "." ++ decimal host ++ codes "." ++ decimal lock
+
+-- the line that names a set: the path of its folder, its numbers of disks and slots, and its cluster number
+abbrev pub successor_line : (path : List ℕ) → Shape → (cluster : ℕ) → List ℕ
+successor_line path config cluster = path ++ codes " " ++ decimal config.disks ++ codes " " ++ decimal config.slots ++ codes " " ++ decimal cluster ++ 10 ∷ []
+
+-- a text names a set of which these are the lines: by the path that was found, or by the one that was given
+abbrev pub Names : (found given text : List ℕ) → Type 0
+Names found given text = (text ≡ found) ⊎ (text ≡ given)
+
+-- it is a whole line, or several
+abbrev pub IsWhole : List ℕ → Type 0
+IsWhole text = (front : List ℕ) × (text ≡ front ++ 10 ∷ [])

@@ -1,13 +1,13 @@
-ghost use Rattle.std.specs.Prelude.{◌≡◌, ◌≤◌, true, Some, IfOk, IfErr, length};
+ghost use Rattle.std.specs.Prelude.{◌≡◌, ◌≤◌, true, IfOk, IfErr, length};
 ghost use Rattle.lock_command.specs.Command.{is_submittable};
-ghost use Rattle.folder_migration.specs.Filling.{Fills, IsOldRequest, IsOver, KnowsNobody, StopsFilling, Submits};
+ghost use Rattle.folder_migration.specs.Filling.{EndsRefused, Fills, IsOldRequest, IsOver, KnowsNobody, StopsFilling, Submits};
 ghost use Rattle.folder_migration.specs.declared.fill.FillFault.TheVariants.{NoMemory, Refused};
 ghost use Rattle.folder_migration.specs.declared.old_log.TheConstants.{TRIES};
 
 use crate::old_log::TRIES;
 use disk::Disk;
 use dlm_images::{DiskHost, submit_patiently};
-use host::{Config, HostAnswer, Refusal};
+use host::{Config, Refusal};
 use lock_command::{Action, Command, LockNumber};
 use std::alloc::Global;
 use std::random::RandomSource;
@@ -100,7 +100,7 @@ fn fill_with<R: Clock + RandomSource, D: Disk>(
     requires over { IsOver config host.old }
     ensures submits { IfOk result (λ count. Submits D.gives command.now host.old count host.new) }
     ensures full { IfOk result (λ count. config.slots ≤ length host.new.core.prefix) }
-    ensures refused { IfErr result (λ fault. (refusal : _) × (fault ≡ Refused refusal) × (host.new.core.said ≡ Some (HostAnswer.Refused refusal))) }
+    ensures refused { IfErr result (λ fault. (refusal : _) × (fault ≡ Refused refusal) × EndsRefused D.gives command.now refusal host.old host.new) }
 {
     let slots = config.slots();
     let mut count = 0;

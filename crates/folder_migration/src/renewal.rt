@@ -1,7 +1,7 @@
 ghost use Rattle.std.specs.Prelude.{◌≡◌, IfErr, IfOk, Err, Ok, length};
 ghost use Rattle.migration.specs.declared.end.End.TheVariants.{Migrated};
 ghost use Rattle.folder_migration.specs.Moving.{AreLarge};
-ghost use Rattle.folder_migration.specs.Renewing.{Carries, StopsRenewing, first_with_locks};
+ghost use Rattle.folder_migration.specs.Renewing.{Carries, MayCarry, StopsRenewing, first_with_locks};
 
 use crate::moving::move_log;
 use crate::renew_fault::{NewFault, RenewFault};
@@ -24,7 +24,8 @@ pub fn renew_disks<D: Disk, E: Disk + Drop, K: Drop, F: FnOnce() -> Result<(Vec<
     leave: &[ClientNumber],
     make: F,
 ) -> Result<u16, RenewFault>
-    requires may_make { F.pre make }
+    // They are made only once the table may be carried over.
+    requires may_make { MayCarry config.slots leave.now host.now.core.prefix → F.pre make }
     requires made { (made : _) → F.post make (Ok made) → (length made.0.items ≡ config.disks) × AreLarge E.device config.slots made.0.items }
     ensures renewed { IfOk result (λ commands. Carries E.gives (λ images. (made : _) × F.post make (Ok made) × (made.0.items ≡ images)) config cluster leave.now host.now.core.prefix commands Migrated) }
     ensures stopped { IfErr result (StopsRenewing E.gives (λ images. (made : _) × F.post make (Ok made) × (made.0.items ≡ images)) (λ fault. F.post make (Err fault)) config cluster leave.now host.now.core.prefix) }

@@ -1,7 +1,8 @@
-ghost use Rattle.std.specs.Prelude.{◌≡◌, IfErr, IfOk};
+ghost use Rattle.std.specs.Prelude.{◌≡◌, ◌↔◌, Ok, true, false, IsTrue, IfErr, IfOk};
 ghost use Rattle.std.specs.Path.{path_buf_bytes, path_join};
+ghost use Rattle.std.specs.String.{string_bytes};
 ghost use Rattle.folder_migration.specs.RenewingFolders.{IsNamingFault};
-ghost use Rattle.folder_migration.specs.Successor.{draft_name, successor_name};
+ghost use Rattle.folder_migration.specs.Successor.{IsWhole, Names, draft_name, successor_line, successor_name};
 
 use crate::renew_fault::NewFault;
 use dlm_images::{FolderFault, TryLock, sync_folder};
@@ -30,19 +31,26 @@ impl SuccessorLine {
         given: &str,
         config: Config,
         cluster: u64,
-    ) -> Result<SuccessorLine, AllocError> {
+    ) -> Result<SuccessorLine, AllocError>
+        ensures found { IfOk result (λ line. string_bytes line.whole ≡ successor_line found.now config cluster) }
+        ensures given { IfOk result (λ line. string_bytes line.given ≡ successor_line given.now config cluster) }
+    {
         let whole = line_of(alloc, found, config, cluster)?;
         let given = line_of(alloc, given, config, cluster)?;
         Ok(SuccessorLine { whole, given })
     }
 
     /// Whether a folder that has this line names the set.
-    fn is(&self, named: &str) -> bool {
+    fn is(&self, named: &str) -> bool
+        ensures { IsTrue result ↔ Names (string_bytes self.now.whole) (string_bytes self.now.given) named.now }
+    {
         named == self.whole.as_str() || named == self.given.as_str()
     }
 }
 
-fn line_of(alloc: Global, new: &str, config: Config, cluster: u64) -> Result<String, AllocError> {
+fn line_of(alloc: Global, new: &str, config: Config, cluster: u64) -> Result<String, AllocError>
+    ensures line { IfOk result (λ line. string_bytes line ≡ successor_line new.now config cluster) }
+{
     let disks = config.disks();
     let slots = config.slots();
     format!(in alloc; "{new} {disks} {slots} {cluster}\n")
@@ -69,8 +77,12 @@ pub fn names_successor<R: Files + AllocGlobal>(
     }
 }
 
+// What the text that was found there says.
 fn of_named(named: &str, line: &SuccessorLine) -> Result<bool, NewFault>
     ensures fault { IfErr result IsNamingFault }
+    ensures named { (result ≡ Ok true) ↔ Names (string_bytes line.now.whole) (string_bytes line.now.given) named.now }
+    ensures elsewhere { IfErr result (λ fault. (fault ≡ NewFault.RenewedElsewhere) × IsWhole named.now) }
+    ensures cut { (result ≡ Ok false) → ¬ IsWhole named.now }
 {
     if line.is(named) {
         Ok(true)

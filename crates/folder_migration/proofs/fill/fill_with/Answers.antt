@@ -1,9 +1,9 @@
-use Rattle.std.proofs.Common.{◌≡◌, ◌<◌, ◌≤◌, Some, length, arith, rules, sym, ◌∙◌}
+use Rattle.std.proofs.Common.{◌≡◌, ◌<◌, ◌≤◌, Some, length, arith, refl, rules, sym, ◌∙◌}
 use Rattle.slot_log.specs.declared.outcome.Refusal.TheVariants as refusal
 use Rattle.host.specs.declared.answer.HostAnswer.TheVariants as answer
-use Rattle.folder_migration.specs.Filling.{none, acknowledged, refused}
+use Rattle.folder_migration.specs.Filling.{EndsRefused, none, acknowledged, full}
 use Rattle.folder_migration.specs.declared.old_log.TheConstants.{TRIES}
-use Rattle.folder_migration.proofs.Filling.{goes, is_full, is_one_more, still_over}
+use Rattle.folder_migration.proofs.Filling.{goes, is_full, is_one_more, still_over, tries_used}
 use Rattle.folder_migration.proofs.fill.fill_with.Goals as goal
 
 pub loop-host-init : goal.loop-host-init
@@ -52,8 +52,25 @@ loop-host-preserved g c =
     let w = goes g.D.Disk.gives c.args.command.now TRIES c.args.config old new at.over tried in
     let said : new.core.said ≡ Some (answer.Refused refusal.LogFull) = search rules in
     record {
-      submits = refused c.loop-host.count old new at.submits tried refusal.LogFull said;
+      submits = full c.loop-host.count old new at.submits tried said;
       over = still_over g.D.Disk.gives c.args.command.now TRIES c.args.config old new at.over tried;
       same = at.same ∙ sym w.same;
       grown = omega (arith, at.grown, w.grows);
     }
+
+pub returns-in-Err : goal.returns-in-Err
+returns-in-Err g c =
+    let refused = c.in-Err.refusal in
+    let used = tries_used g.D.Disk.gives c.args.command.now TRIES c.loop-host.host c.submit_patiently.new.host c.submit_patiently.result refused c.in-Err.is c.submit_patiently.ensures.tried c.submit_patiently.ensures.outrun in
+    let not_full : ¬ (refused ≡ refusal.LogFull) = search rules in
+    let ends : EndsRefused g.D.Disk.gives c.args.command.now refused c.args.host.now c.submit_patiently.new.host =
+    record {
+      count = c.loop-host.count;
+      before = c.loop-host.host;
+      submits = c.loop-host.invariant.submits;
+      tried = used.0;
+      said = c.in-Err.ensures.refused;
+      not_full = not_full;
+      outrun = used.1;
+    } in
+    record { submits = tt; full = tt; refused = (refused, refl, ends) }
