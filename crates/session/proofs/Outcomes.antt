@@ -2,7 +2,7 @@
 use Rattle.std.proofs.Common.{◌≡◌, ◌∙◌, ℕ, None, Some, ap, inl, inr, subst, sym}
 use Rattle.lock_command.specs.declared.command.Command.{Command}
 use Rattle.session.specs.declared.claim.Step.TheVariants.{Submitting}
-use Rattle.session.specs.Outcomes.{EndsIn, GivesBack, IsBorneOut, IsUnheard, IsWithoutOrGiven, then_of}
+use Rattle.session.specs.Outcomes.{GivesBack, IsBorneOut, IsUnheard, IsWithoutOrGiven, then_of}
 use Rattle.session.specs.declared.claim.Claim.{Claim}
 use Rattle.session.specs.declared.claim.Step.{Step}
 use Rattle.session.specs.declared.claim.Then.{Then}
@@ -59,6 +59,7 @@ by_release l c slot (End (Failed why)) gives without leads = absurd without
 at_step : (l : Learned) (c : Claim) (slot : ℕ) (step : Step) → GivesBack l c slot → GivesBack l (record c { step = step }) slot
 at_step l c slot step gives = record {
   command = gives.command;
+  late = gives.late;
   there = gives.there;
   request = gives.request;
   action = gives.action;

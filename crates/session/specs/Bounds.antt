@@ -2,9 +2,9 @@
 use Rattle.std.specs.Prelude.{◌≡◌, ◌+◌, ◌<◌, ◌⊎◌, ℕ, Bool, true, false, is_some}
 use Rattle.session.specs.declared.claim.Claim.{Claim}
 use Rattle.session.specs.declared.claim.Standing.{Standing}
-use Rattle.session.specs.declared.claim.Standing.TheVariants.{Unasked, Asked, Waiting, Held, Left, Leaving}
+use Rattle.session.specs.declared.claim.Standing.TheVariants.{Leaving}
 use Rattle.session.specs.declared.claim.Step.{Step}
-use Rattle.session.specs.declared.claim.Step.TheVariants.{Opening, Learning, Looking, Tidying, Submitting, Dropping, Ended}
+use Rattle.session.specs.declared.claim.Step.TheVariants.{Opening, OpeningToLook, Learning, Looking, Tidying, Submitting, Dropping, Resting, Yielding, Ended}
 
 abbrev pub is_leaving : Standing → Bool
 is_leaving Leaving = true
@@ -27,6 +27,14 @@ orders_left c = left_by c.step (is_leaving c.standing) c.tries
 -- An operation that is to end soon comes nearer to its end.
 abbrev pub ComesNearer : Claim → Claim → Type 0
 ComesNearer old new = is_some old.over ≡ true → 0 < orders_left old → orders_left new < orders_left old
+
+-- the folder is opened
+abbrev pub IsOpening : Step → Type 0
+IsOpening step = (step ≡ Opening) ⊎ (step ≡ OpeningToLook)
+
+-- nothing is done for a time
+abbrev pub IsPause : Step → Type 0
+IsPause step = ((milliseconds : ℕ) × (step ≡ Resting milliseconds)) ⊎ (step ≡ Yielding)
 
 -- what it leads to depends on a log that is read
 abbrev pub IsReading : Step → Type 0

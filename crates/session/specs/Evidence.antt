@@ -4,7 +4,7 @@ use Rattle.std.specs.List.{list_any}
 use Rattle.lock_modes.specs.declared.mode.Mode.{Mode}
 use Rattle.lock_modes.specs.Mode.{conflict}
 use Rattle.lock_command.specs.declared.command.Command.{Command}
-use Rattle.lock_command.specs.declared.command.Action.TheVariants.{Purge, QuietPurge}
+use Rattle.lock_command.specs.declared.command.Action.TheVariants.{Enqueue, Purge, QuietPurge}
 use Rattle.lock_command.specs.declared.state.LockState.{LockState}
 use Rattle.lock_command.specs.declared.state.LockState.TheVariants.{Granted, Converting, Waiting}
 use Rattle.lock_table.specs.Locks.{is_lock, is_on}
@@ -61,6 +61,13 @@ pub record HasHeard (table : Shown) (client request : ℕ) : Type 0 where
   pub is : known.client ≡ client
   pub late : request ≤ known.request
 
+-- What the table knows of the client: the first entry with its number.
+pub record Knows (table : Shown) (client : ℕ) (known : KnownClient) : Type 0 where
+  pub at : ℕ
+  pub there : slice_get table.clients at ≡ Some known
+  pub is : known.client ≡ client
+  pub first : (before : ℕ) (other : KnownClient) → before < at → slice_get table.clients before ≡ Some other → other.client ≡ client → ⊥
+
 -- the command is this request of the client
 abbrev pub IsRequest : ℕ → ℕ → Command → Type 0
 IsRequest client request command = (command.client ≡ client) × (command.request ≡ request)
@@ -72,9 +79,14 @@ NoneBetween Is log from to = (at : ℕ) (command : Command) → from ≤ at → 
 -- The first command from here on that is this request of the client stands at this slot.
 pub record IsFirst (log : List Command) (from client request slot : ℕ) : Type 0 where
   pub command : Command
+  pub late : from ≤ slot
   pub there : slice_get log slot ≡ Some command
   pub is : IsRequest client request command
   pub first : NoneBetween (IsRequest client request) log from slot
+
+-- it asks for the claimed lock
+abbrev pub AsksFor : Claim → Command → Type 0
+AsksFor c command = (no_queue : Bool) × (command.action ≡ Enqueue c.lock c.name c.mode no_queue)
 
 -- it takes away all locks of the host
 abbrev pub Purges : ℕ → Command → Type 0

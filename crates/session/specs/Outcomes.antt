@@ -1,12 +1,13 @@
 -- What has to be heard before an operation on a claim may end so.
-use Rattle.std.specs.Prelude.{◌≡◌, ◌≢◌, ◌≤◌, ◌⊎◌, ⊤, ℕ, Bool, Option, Some, None, length, slice_get}
+use Rattle.std.specs.Prelude.{◌≡◌, ◌≢◌, ◌≤◌, ◌⊎◌, ⊤, ℕ, Option, Some, None, length, not, slice_get}
 use Rattle.lock_command.specs.declared.command.Command.{Command}
-use Rattle.lock_command.specs.declared.command.Action.TheVariants.{Enqueue, Release}
+use Rattle.lock_command.specs.declared.command.Action.TheVariants.{Release}
 use Rattle.lock_command.specs.declared.state.LockState.TheVariants.{Granted}
-use Rattle.session.specs.Evidence.{HasHeard, IsRequest, Lacks, NoneBetween, Purges, Shows}
+use Rattle.session.specs.Evidence.{AsksFor, HasHeard, IsFirst, IsRequest, Lacks, NoneBetween, Purges, Shows, is_numbered}
 use Rattle.session.specs.Numbers.{client_of}
 use Rattle.session.specs.declared.claim.Claim.{Claim}
 use Rattle.session.specs.declared.claim.Goal.TheVariants.{Give}
+use Rattle.session.specs.declared.claim.Sign.{Sign}
 use Rattle.session.specs.declared.claim.Standing.TheVariants.{Unasked}
 use Rattle.session.specs.declared.claim.Step.{Step}
 use Rattle.session.specs.declared.claim.Step.TheVariants.{Dropping, Ended, Submitting}
@@ -51,6 +52,7 @@ pub record IsGone (l : Learned) (c : Claim) : Type 0 where
 -- number came before it, and no purge of the host.
 pub record GivesBack (l : Learned) (c : Claim) (slot : ℕ) : Type 0 where
   pub command : Command
+  pub late : c.since ≤ slot
   pub there : slice_get l.log.now slot ≡ Some command
   pub request : c.release ≡ Some command.request
   pub action : command.action ≡ Release c.lock c.value
@@ -58,6 +60,20 @@ pub record GivesBack (l : Learned) (c : Claim) (slot : ℕ) : Type 0 where
   pub client : command.client ≡ client_of c.host
   pub spared : NoneBetween (Purges c.host) l.log.now c.since slot
   pub lacks : Lacks l.table.now c
+
+-- At this slot the log has the command that asks for the claimed lock, as the first of its number since that was chosen.
+pub record AsksAt (l : Learned) (c : Claim) (asking : Command) (slot : ℕ) : Type 0 where
+  pub first : IsFirst l.log.now c.since asking.client asking.request slot
+  pub asks : (command : Command) → slice_get l.log.now slot ≡ Some command → AsksFor c command
+
+-- it is the slot of the command that was submitted
+abbrev pub IsSlotOf : Learned → Claim → ℕ → Type 0
+IsSlotOf l c slot = (command : Command) × (c.step ≡ Submitting command) × AsksAt l c command slot
+
+-- The sign of life is that of the claimed lock's number. Its file is removed exactly where no lock in the table has the number.
+pub record IsGivenUp (l : Learned) (c : Claim) (sign : Sign) : Type 0 where
+  pub lock : sign.lock ≡ c.lock
+  pub removes : sign.removes ≡ not (is_numbered l.table.now c.lock)
 
 -- The lock is gone, or was given back.
 abbrev pub IsRidOf : Learned → Claim → Type 0
@@ -71,7 +87,7 @@ IsUnreleased c = (c.release ≡ None)
 pub record IsOwn (c : Claim) (command : Command) : Type 0 where
   pub host : command.host ≡ c.host
   pub client : command.client ≡ client_of c.host
-  pub action : ((c.asked ≡ Some command.request) × ((no_queue : Bool) × (command.action ≡ Enqueue c.lock c.name c.mode no_queue)))
+  pub action : ((c.asked ≡ Some command.request) × AsksFor c command)
       ⊎ ((c.release ≡ Some command.request) × (command.action ≡ Release c.lock c.value))
 
 -- What was heard bears out whatever the step leads to.

@@ -1,7 +1,12 @@
-ghost use Rattle.std.specs.Prelude.{◌≡◌, ◌+◌, ◌≢◌, ◌≤◌, ◌^◌, is_some, false, true};
-ghost use Rattle.session.specs.Bounds.{ComesNearer, is_leaving, orders_left};
+ghost use Rattle.std.specs.Prelude.{◌≡◌, ◌+◌, ◌≢◌, ◌≤◌, ◌^◌, ◌⊎◌, ◌↔◌, IfSome, IsTrue, Some, is_some, false, true};
+ghost use Rattle.lock_table.specs.declared.record.KnownClient.{KnownClient};
+ghost use Rattle.session.specs.Bounds.{ComesNearer, IsOpening, is_leaving, orders_left};
+ghost use Rattle.session.specs.Choosing.{IsFree};
+ghost use Rattle.session.specs.Evidence.{Knows};
+ghost use Rattle.session.specs.Keeping.{IsOnSame, Keeps};
+ghost use Rattle.session.specs.Numbers.{client_of};
 ghost use Rattle.session.specs.declared.claim.Standing.{Standing};
-ghost use Rattle.session.specs.Outcomes.{IsBorneOut, IsUnheard, IsWithout};
+ghost use Rattle.session.specs.Outcomes.{AsksAt, IsBorneOut, IsSlotOf, IsUnheard, IsWithout};
 
 use crate::claim::{Choice, Claim, Goal, Sign, Standing, Step, Then};
 use crate::evidence::{Seen, asks_for, find, first_of, is_numbered, is_taken, last_request};
@@ -16,6 +21,7 @@ impl Claim {
     pub(crate) fn ask(&mut self, learned: &Learned<'_>)
         requires unasked { self.old.standing ≡ Standing.Unasked }
         ensures unheard { IsUnheard self.new }
+        ensures keeps { Keeps self.old self.new }
     {
         if let Some(why) = self.over {
             return self.give_up(why);
@@ -27,7 +33,9 @@ impl Claim {
         }
     }
 
-    fn waits(&self) -> bool {
+    fn waits(&self) -> bool
+        ensures { IsTrue result ↔ (self.now.goal ≢ Goal.Take false) }
+    {
         match self.goal {
             Goal::Take { waits } => waits,
             _ => true,
@@ -39,6 +47,7 @@ impl Claim {
         requires unasked { self.old.standing ≡ Standing.Unasked }
         ensures unheard { IsUnheard self.new }
         ensures soon { is_some self.old.over ≡ true → orders_left self.new ≡ 0 }
+        ensures keeps { Keeps self.old self.new }
     {
         if let Some(why) = self.over {
             return self.give_up(why);
@@ -56,6 +65,7 @@ impl Claim {
         requires unasked { self.old.standing ≡ Standing.Unasked }
         ensures unheard { IsUnheard self.new }
         ensures soon { is_some self.old.over ≡ true → orders_left self.new ≡ 0 }
+        ensures keeps { Keeps self.old self.new }
     {
         match self.over {
             Some(why) => self.give_up(why),
@@ -67,6 +77,9 @@ impl Claim {
     pub(crate) fn choose(&mut self, learned: &Learned<'_>)
         requires unasked { self.old.standing ≡ Standing.Unasked }
         ensures unheard { IsUnheard self.new }
+        ensures free { (choice : Choice) → self.new.step ≡ Step.Signing choice → IsFree learned.now self.old choice }
+        ensures last { (choice : Choice) → self.new.step ≡ Step.Signing choice → self.new.request ≡ choice.request }
+        ensures keeps { Keeps self.old self.new }
     {
         match self.free_number(learned) {
             Some(choice) => {
@@ -79,7 +92,9 @@ impl Claim {
 
     /// The next request whose lock number is free. It is odd for a command that does not queue: so a former run's command of this number, name
     /// and mode is the very same, and is acknowledged where it stands.
-    fn free_number(&self, learned: &Learned<'_>) -> Option<Choice> {
+    fn free_number(&self, learned: &Learned<'_>) -> Option<Choice>
+        ensures free { IfSome result (IsFree learned.now self.now) }
+    {
         let last = self.last_request(learned);
         let first = last + 1 + (last + 1 + u64::from(!self.waits())) % 2;
         for turn in 0..u64::from(NUMBERS) {
@@ -95,6 +110,8 @@ impl Claim {
     /// The last request of the session or of any other process of the host number.
     pub(crate) fn last_request(&self, learned: &Learned<'_>) -> u64
         ensures range { result ≤ 2 ^ 62 }
+        ensures last { (self.now.request ≤ result) ⊎ (result ≡ 2 ^ 62) }
+        ensures known { (known : KnownClient) → Knows learned.now.table.now (client_of self.now.host) known → known.request ≤ result }
     {
         last_request(learned.table, client_of(self.host))
             .max(self.request)
@@ -105,6 +122,7 @@ impl Claim {
     pub fn signed(&mut self, learned: &Learned<'_>)
         ensures borne_out { IsBorneOut learned.now self.new }
         ensures nearer { ComesNearer self.old self.new }
+        ensures same { IsOnSame self.old self.new }
     {
         match self.step {
             Step::Signing(choice) => self.go_on_with(&choice, learned),
@@ -116,6 +134,7 @@ impl Claim {
     fn go_on_with(&mut self, choice: &Choice, learned: &Learned<'_>)
         ensures borne_out { IsBorneOut learned.now self.new }
         ensures soon { is_some self.old.over ≡ true → orders_left self.new ≡ 1 }
+        ensures same { IsOnSame self.old self.new }
     {
         self.lock = choice.lock;
         match self.over {
@@ -135,6 +154,8 @@ impl Claim {
     /// Asks for the lock by this request.
     pub(crate) fn submit_ask(&mut self, request: RequestNumber)
         ensures unheard { IsUnheard self.new }
+        ensures keeps { self.old.asked ≡ Some request → Keeps self.old self.new }
+        ensures same { IsOnSame self.old self.new }
     {
         self.asked = Some(request);
         self.standing = Standing::Asked;
@@ -154,6 +175,9 @@ impl Claim {
     /// Somebody else has the sign of life: of a number that was chosen, or, in a folder that was renewed, of this lock's number.
     pub fn sign_is_held(&mut self, learned: &Learned<'_>)
         ensures nearer { ComesNearer self.old self.new }
+        ensures gone { IsOpening self.old.step → self.new ≡ record self.old { step = Step.Ended (Outcome.NotHeld Why.Gone) } }
+        ensures other { (IsOpening self.old.step → ⊥) → IsUnheard self.new }
+        ensures same { IsOnSame self.old self.new }
     {
         match self.step {
             Step::Signing(_) => {
@@ -171,6 +195,7 @@ impl Claim {
     pub fn sign_failed(&mut self)
         ensures unheard { IsUnheard self.new }
         ensures nearer { ComesNearer self.old self.new }
+        ensures keeps { Keeps self.old self.new }
     {
         match self.step {
             Step::Signing(_) => self.fail(Failure::NoLock),
@@ -183,6 +208,8 @@ impl Claim {
         ensures borne_out { IsBorneOut learned.now self.new }
         ensures follows { learned.now.set ≢ self.old.newest → IsUnheard self.new }
         ensures nearer { ComesNearer self.old self.new }
+        ensures slot { self.new.slot ≡ self.old.slot ⊎ IfSome self.new.slot (IsSlotOf learned.now self.old) }
+        ensures keeps { Keeps self.old (record self.new { slot = self.old.slot }) }
     {
         if learned.set != self.newest {
             return self.break_off();
@@ -200,6 +227,8 @@ impl Claim {
         requires newest { learned.now.set ≡ self.old.newest }
         ensures borne_out { IsBorneOut learned.now self.new }
         ensures soon { is_some self.old.over ≡ true → orders_left self.new ≤ 12 }
+        ensures slot { self.new.slot ≡ self.old.slot ⊎ IfSome self.new.slot (AsksAt learned.now self.old command.now) }
+        ensures keeps { Keeps self.old (record self.new { slot = self.old.slot }) }
     {
         let ours = self.asked_at(command, learned);
         match find(learned.table, self) {
@@ -224,6 +253,7 @@ impl Claim {
         requires newest { learned.now.set ≡ self.old.newest }
         ensures borne_out { IsBorneOut learned.now self.new }
         ensures soon { is_some self.old.over ≡ true → orders_left self.new ≤ 12 }
+        ensures keeps { Keeps self.old self.new }
     {
         if let Some(why) = self.over {
             return self.give_up(why);
@@ -235,7 +265,9 @@ impl Claim {
     }
 
     /// Where the command that asked for the lock stands, if that is the first one of its number.
-    fn asked_at(&self, command: &Command, learned: &Learned<'_>) -> Option<u16> {
+    fn asked_at(&self, command: &Command, learned: &Learned<'_>) -> Option<u16>
+        ensures { IfSome result (AsksAt learned.now self.now command.now) }
+    {
         let slot = first_of(learned.log, self.since, command.client, command.request)?;
         if asks_for(&learned.log[slot], self) {
             u16::try_from(slot).ok()
@@ -263,6 +295,7 @@ impl Claim {
         ensures borne_out { IsBorneOut learned.now self.new }
         ensures soon { is_some self.old.over ≡ true → is_leaving self.old.standing ≡ false → orders_left self.new ≤ 12 }
         ensures leaves { is_some self.old.over ≡ true → is_leaving self.old.standing ≡ true → orders_left self.new ≤ 1 + self.old.tries }
+        ensures keeps { Keeps self.old self.new }
     {
         if failure == Failure::LogFull {
             return self.meet_end(learned);
@@ -285,6 +318,7 @@ impl Claim {
         ensures borne_out { IsBorneOut learned.now self.new }
         ensures soon { is_some self.old.over ≡ true → orders_left self.new ≤ 12 }
         ensures leaves { is_some self.old.over ≡ true → is_leaving self.old.standing ≡ true → orders_left self.new ≡ 0 }
+        ensures keeps { Keeps self.old self.new }
     {
         let why = Why::Failed(Failure::LogFull);
         if learned.log.len() < usize::from(learned.slots) {

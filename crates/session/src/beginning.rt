@@ -1,6 +1,7 @@
 ghost use Rattle.std.specs.Prelude.{◌≡◌, ◌≤◌, ◌⊎◌, IsTrue, None, Some, false};
 ghost use Rattle.session.specs.Beginnings.{Begins, IsAnotherValue, IsNewClaim};
-ghost use Rattle.session.specs.Bounds.{orders_left};
+ghost use Rattle.session.specs.Bounds.{IsPause, orders_left};
+ghost use Rattle.session.specs.Keeping.{Keeps};
 
 use crate::claim::{Claim, Goal, Standing, Step};
 use crate::numbers::lock_of;
@@ -74,11 +75,29 @@ impl Claim {
         }
     }
 
+    /// No lock: a place for a claim.
+    pub fn idle(host: HostNumber) -> Claim
+        ensures idle { result.step ≡ Step.Ended (Outcome.Failed Why.Gone) }
+        ensures unasked { result.standing ≡ Standing.Unasked }
+    {
+        let asker = Asker {
+            host,
+            shares: false,
+            request: 0,
+            interval: 1,
+        };
+        Claim {
+            step: Step::Ended(Outcome::Failed(Why::Gone)),
+            ..Claim::take(&asker, LockName::new(b"-").unwrap(), Mode::Null, true)
+        }
+    }
+
     /// The lock that a former run left is to be taken.
     pub fn take_left(&mut self, asker: &Asker, waits: bool)
         ensures begins { Begins (Goal.Take waits) self.old self.new }
         ensures opens { self.new.step ≡ Step.Opening }
         ensures stands { self.new.standing ≡ self.old.standing }
+        ensures keeps { Keeps self.old self.new }
     {
         self.begin(asker, Goal::Take { waits });
         self.step = Step::Opening;
@@ -89,6 +108,7 @@ impl Claim {
         ensures begins { Begins Goal.Check self.old self.new }
         ensures opens { self.new.step ≡ Step.OpeningToLook }
         ensures stands { self.new.standing ≡ self.old.standing }
+        ensures keeps { Keeps self.old self.new }
     {
         self.begin(asker, Goal::Check);
         self.step = Step::OpeningToLook;
@@ -102,6 +122,7 @@ impl Claim {
         ensures opens { IsTrue result → self.new.step ≡ Step.Opening }
         ensures value { IsTrue result → self.new.value ≡ value }
         ensures same { IsTrue result → (self.old.release ≡ None) ⊎ (self.old.value ≡ value) }
+        ensures keeps { Keeps self.old self.new }
     {
         if self.release.is_some() && self.value != value {
             return false;
@@ -117,6 +138,7 @@ impl Claim {
     pub fn give_up_again(&mut self, asker: &Asker)
         ensures begins { Begins (Goal.GiveUp Why.Gone) self.old self.new }
         ensures opens { self.new.step ≡ Step.Opening }
+        ensures keeps { Keeps self.old self.new }
     {
         self.begin(asker, Goal::GiveUp(Why::Gone));
         self.standing = Standing::Leaving;
@@ -128,6 +150,7 @@ impl Claim {
         ensures step { self.new.step ≡ self.old.step }
         ensures stands { self.new.standing ≡ self.old.standing }
         ensures value { self.new.value ≡ self.old.value }
+        ensures keeps { Keeps self.old self.new }
     {
         self.goal = goal;
         self.request = self.request.max(asker.request);
@@ -140,11 +163,16 @@ impl Claim {
     pub fn stop(&mut self, why: Why)
         ensures over { self.new.over ≡ Some why }
         ensures soon { orders_left self.new ≤ 13 }
+        ensures no_pause { IsPause self.new.step → ⊥ }
+        ensures keeps { Keeps self.old self.new }
     {
         self.over = Some(why);
         self.tries = LAST_TRIES;
         match self.step {
-            Step::Resting(_) | Step::Yielding => self.give_up(why),
+            Step::Resting(_) | Step::Yielding => match self.pace.failure {
+                Some(failure) => self.give_up(self.cause(failure)),
+                None => self.give_up(why),
+            },
             _ => {}
         }
     }

@@ -1,8 +1,9 @@
 ghost use Rattle.std.specs.Prelude.{◌≡◌, ◌≤◌, ◌<◌, ◌^◌, ◌↔◌, IsTrue, IfSome, length};
 ghost use Rattle.lock_command.specs.declared.state.LockState.TheVariants as lock;
 ghost use Rattle.lock_table.specs.State.{goal_of};
+ghost use Rattle.lock_table.specs.declared.record.KnownClient.{KnownClient};
 ghost use Rattle.session.specs.Evidence as evidence;
-ghost use Rattle.session.specs.Evidence.{HasHeard, IsFirst, IsOf, IsRequest, Lacks, NoneBetween, Purges, Shows};
+ghost use Rattle.session.specs.Evidence.{AsksFor, HasHeard, IsFirst, IsOf, IsRequest, Knows, Lacks, NoneBetween, Purges, Shows};
 
 use crate::claim::Claim;
 use crate::numbers::client_of;
@@ -94,6 +95,7 @@ fn holds_up(mode: Mode, state: &LockState) -> bool
 /// The client's last request, or 0.
 pub fn last_request(table: &Picture, client: ClientNumber) -> u64
     ensures range { result ≤ 2 ^ 62 }
+    ensures last { (known : KnownClient) → Knows table.now client known → known.request ≡ result }
 {
     let clients = table.clients();
     for at in 0..clients.len() {
@@ -170,7 +172,9 @@ pub fn releases(command: &Command, lock: LockNumber, value: Option<ValueBytes>) 
 }
 
 /// Whether the command asks for this claim's lock.
-pub fn asks_for(command: &Command, claim: &Claim) -> bool {
+pub fn asks_for(command: &Command, claim: &Claim) -> bool
+    ensures { IsTrue result ↔ AsksFor claim.now command.now }
+{
     match &command.action {
         Action::Enqueue {
             lock,

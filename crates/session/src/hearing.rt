@@ -1,6 +1,7 @@
 ghost use Rattle.std.specs.Prelude.{◌≡◌, ◌+◌, ◌≢◌, ◌≤◌, ◌⊎◌, IsTrue, Some, is_some, true};
 ghost use Rattle.session.specs.Bounds.{ComesNearer, IsReading, is_leaving, orders_left};
-ghost use Rattle.session.specs.Outcomes.{IsBorneOut, IsOut, IsUnheard, then_of};
+ghost use Rattle.session.specs.Keeping.{IsOnSame, Keeps};
+ghost use Rattle.session.specs.Outcomes.{IsBorneOut, IsGivenUp, IsOut, IsUnheard, then_of};
 
 use crate::beginning::LAST_TRIES;
 use crate::claim::{Claim, Goal, Sign, Standing, Step, Then};
@@ -14,8 +15,10 @@ impl Claim {
     pub fn opened(&mut self, learned: &Learned<'_>)
         ensures borne_out { IsBorneOut learned.now self.new }
         ensures nearer { ComesNearer self.old self.new }
+        ensures keeps { Keeps (record self.old { newest = learned.now.set }) self.new }
     {
         self.newest = learned.set;
+        self.pace.failure = None;
         match self.step {
             Step::Opening => self.talk(learned),
             Step::OpeningToLook => self.look(),
@@ -27,6 +30,7 @@ impl Claim {
     fn look(&mut self)
         ensures unheard { IsUnheard self.new }
         ensures soon { is_some self.old.over ≡ true → orders_left self.new ≤ 12 }
+        ensures keeps { Keeps self.old self.new }
     {
         match self.over {
             Some(why) => self.give_up(why),
@@ -40,6 +44,7 @@ impl Claim {
         ensures borne_out { IsBorneOut learned.now self.new }
         ensures soon { is_some self.old.over ≡ true → orders_left self.new ≤ 12 ⊎ is_leaving self.old.standing ≡ true }
         ensures leaves { is_leaving self.old.standing ≡ true → orders_left self.new ≤ 3 + self.old.tries }
+        ensures keeps { Keeps self.old self.new }
     {
         if self.standing == Standing::Leaving {
             // A release that may be in the log is put there once more, and found where it stands: so nothing is learned before.
@@ -65,6 +70,7 @@ impl Claim {
         ensures borne_out { IsBorneOut learned.now self.new }
         ensures follows { learned.now.set ≢ self.old.newest → IsUnheard self.new }
         ensures nearer { ComesNearer self.old self.new }
+        ensures keeps { Keeps self.old self.new }
     {
         match self.step {
             Step::Learning | Step::Looking | Step::Tidying => self.read(learned),
@@ -78,6 +84,7 @@ impl Claim {
         ensures borne_out { IsBorneOut learned.now self.new }
         ensures follows { learned.now.set ≢ self.old.newest → IsUnheard self.new }
         ensures nearer { ComesNearer self.old self.new }
+        ensures keeps { Keeps self.old self.new }
     {
         if learned.set != self.newest {
             return self.fail(Failure::LogFull);
@@ -98,6 +105,7 @@ impl Claim {
         requires unasked { self.old.standing ≡ Standing.Unasked }
         ensures unheard { IsUnheard self.new }
         ensures soon { is_some self.old.over ≡ true → orders_left self.new ≡ 0 }
+        ensures keeps { Keeps self.old self.new }
     {
         if let Some(why) = self.over {
             return self.give_up(why);
@@ -115,6 +123,7 @@ impl Claim {
         requires newest { learned.now.set ≡ self.old.newest }
         ensures borne_out { IsBorneOut learned.now self.new }
         ensures soon { is_some self.old.over ≡ true → orders_left self.new ≤ 12 }
+        ensures keeps { Keeps self.old self.new }
     {
         match find(learned.table, self) {
             Seen::Granted => self.hold(),
@@ -155,6 +164,7 @@ impl Claim {
     pub(crate) fn wait(&mut self, learned: &Learned<'_>)
         ensures unheard { IsUnheard self.new }
         ensures soon { is_some self.old.over ≡ true → orders_left self.new ≤ 12 }
+        ensures keeps { Keeps self.old self.new }
     {
         if let Some(why) = self.over {
             return self.give_up(why);
@@ -179,6 +189,7 @@ impl Claim {
     /// Pauses before the next look, or learns all where a look may not see all.
     fn rest(&mut self, learned: &Learned<'_>)
         ensures unheard { IsUnheard self.new }
+        ensures keeps { Keeps self.old self.new }
     {
         let is_full = learned.log.len() >= usize::from(learned.slots);
         if !is_full && (learned.left_over || self.pace.is_quiet(self.lock.get())) {
@@ -192,6 +203,7 @@ impl Claim {
     /// The pause is over.
     pub fn rested(&mut self)
         ensures unheard { IsUnheard self.new }
+        ensures keeps { Keeps self.old self.new }
     {
         match self.step {
             Step::Yielding => self.submit_again(),
@@ -208,6 +220,7 @@ impl Claim {
     /// The command that was outrun is submitted once more.
     fn submit_again(&mut self)
         ensures unheard { IsUnheard self.new }
+        ensures keeps { Keeps self.old self.new }
     {
         match (self.standing, self.asked, self.release) {
             (Standing::Leaving, _, Some(request)) => self.submit_release(request),
@@ -223,6 +236,7 @@ impl Claim {
             self.new ≡ record self.old { step = Step.Ended outcome } }
         ensures nearer { ComesNearer self.old self.new }
         ensures other { ((sign : Sign) (outcome : Outcome) → self.old.step ≡ Step.Dropping sign (Then.End outcome) → ⊥) → IsUnheard self.new }
+        ensures same { IsOnSame self.old self.new }
     {
         match self.step {
             Step::Dropping(_, Then::End(outcome)) => self.step = Step::Ended(outcome),
@@ -235,9 +249,28 @@ impl Claim {
         }
     }
 
+    /// The sign of life is given up, and there is no memory to read the table.
+    pub fn dropped_unread(&mut self)
+        ensures ends { (sign : Sign) (outcome : Outcome) → self.old.step ≡ Step.Dropping sign (Then.End outcome) →
+            self.new ≡ record self.old { step = Step.Ended outcome } }
+        ensures other { ((sign : Sign) (outcome : Outcome) → self.old.step ≡ Step.Dropping sign (Then.End outcome) → ⊥) → IsUnheard self.new }
+        ensures nearer { ComesNearer self.old self.new }
+    {
+        match self.step {
+            Step::Dropping(_, Then::End(outcome)) => self.step = Step::Ended(outcome),
+            Step::Dropping(_, Then::AskAgain) => {
+                self.standing = Standing::Unasked;
+                self.asked = None;
+                self.give_up(Why::Failed(Failure::NoMemory));
+            }
+            _ => self.break_off(),
+        }
+    }
+
     /// Gives the sign of life up, and then goes on.
     pub(crate) fn drop_sign(&mut self, learned: &Learned<'_>, then: Then)
         ensures then { then_of self.new.step ≡ Some then }
+        ensures sign { (sign : Sign) (after : Then) → self.new.step ≡ Step.Dropping sign after → IsGivenUp learned.now self.old sign }
         ensures one { orders_left self.new ≡ 1 }
         ensures rest { self.new ≡ record self.old { step = self.new.step } }
     {
@@ -252,6 +285,7 @@ impl Claim {
     pub fn refused(&mut self, failure: Failure, learned: &Learned<'_>)
         ensures borne_out { IsBorneOut learned.now self.new }
         ensures nearer { ComesNearer self.old self.new }
+        ensures keeps { Keeps self.old self.new }
     {
         match self.step {
             Step::Submitting(_) if learned.set == self.newest => self.submit_failed(
@@ -264,14 +298,17 @@ impl Claim {
         }
     }
 
-    /// The folder could not be opened.
+    /// The folder could not be opened, or there is no memory to hear what came of it.
     pub fn closed(&mut self, failure: Failure)
         ensures unheard { IsUnheard self.new }
         ensures nearer { ComesNearer self.old self.new }
+        ensures keeps { Keeps self.old self.new }
+        ensures release { self.old.goal ≡ Goal.Give → self.new.release ≡ self.old.release }
     {
         match self.step {
-            Step::Opening | Step::OpeningToLook => self.fail(failure),
-            _ => self.break_off(),
+            Step::Resting(_) | Step::Yielding | Step::Dropping(..) | Step::Ended(_) =>
+                self.break_off(),
+            _ => self.fail(failure),
         }
     }
 
@@ -287,21 +324,28 @@ impl Claim {
         ensures unheard { IsUnheard self.new }
         ensures soon { is_some self.old.over ≡ true → orders_left self.new ≤ 12 }
         ensures leaves { is_some self.old.over ≡ true → is_leaving self.old.standing ≡ true → orders_left self.new ≡ 0 }
+        ensures keeps { Keeps self.old self.new }
+        ensures release { self.old.goal ≡ Goal.Give → self.new.release ≡ self.old.release }
     {
-        let why = Why::Failed(failure);
-        if let Some(over) = self.over {
-            return self.give_up(over);
+        if self.over.is_some() {
+            return self.give_up(self.cause(failure));
         }
         if self.is_worth_waiting(failure) {
-            match self.pace.pause_away() {
-                Some(pause) => {
-                    self.step = Step::Resting(pause);
-                    return;
-                }
-                None => {}
+            if let Some(pause) = self.pace.pause_away() {
+                self.pace.failure = Some(failure);
+                self.step = Step::Resting(pause);
+                return;
             }
         }
-        self.give_up(why);
+        self.give_up(Why::Failed(failure));
+    }
+
+    /// Why an operation ends that is to end soon, where this failed last. Who was outrun had no luck in its time.
+    pub(crate) fn cause(&self, failure: Failure) -> Why {
+        match self.over {
+            Some(over) if failure == Failure::Outrun || over == Why::Stopped => over,
+            _ => Why::Failed(failure),
+        }
     }
 
     /// Whether it may pass soon.
@@ -326,6 +370,8 @@ impl Claim {
         ensures soon { orders_left self.new ≤ 12 }
         ensures leaves { is_leaving self.old.standing ≡ true → orders_left self.new ≡ 0 }
         ensures unasked { self.old.standing ≡ Standing.Unasked → orders_left self.new ≡ 0 }
+        ensures keeps { Keeps self.old self.new }
+        ensures release { self.old.goal ≡ Goal.Give → self.new.release ≡ self.old.release }
     {
         match (self.goal, self.standing) {
             (Goal::Check, _) => self.step = Step::Ended(Outcome::Failed(why)),

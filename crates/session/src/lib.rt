@@ -1,5 +1,5 @@
-//! What a session does for a lock: asks for it, waits, looks whether it is still there, and gives it back. It names what is to be done next, and
-//! hears what came of it: a machine without disks, files and clocks.
+//! What a session does for a lock: it asks for it, waits, looks whether it is still there, and gives it back, as a machine that names what is to be
+//! done next and hears what came of it.
 #![tactic(auto)]
 
 mod asking;

@@ -1,4 +1,8 @@
-/// How fast a wait looks, and what it has waited in vain.
+ghost use Rattle.std.specs.Prelude.{◌≡◌, ◌+◌, ◌*◌, ◌≤◌, ◌⊎◌, IfSome, IsTrue, None, min};
+
+use crate::outcome::Failure;
+
+/// How fast a wait looks, and how long it has waited in vain.
 #[derive(Clone, Copy, Debug, PartialEq, Eq)]
 pub struct Pace {
     /// The next pause, in milliseconds.
@@ -13,6 +17,8 @@ pub struct Pace {
     pub away: u32,
     /// How often the command that is submitted was outrun.
     pub outrun: u8,
+    /// What it is waited for that passes.
+    pub failure: Option<Failure>,
 }
 
 /// The longest pause while the disks are away, in milliseconds.
@@ -25,7 +31,12 @@ const PATIENCE: u32 = 60_000;
 const QUIET: u32 = 2_000;
 
 impl Pace {
-    pub fn new(interval: u16) -> Pace {
+    /// A wait that begins.
+    pub fn new(interval: u16) -> Pace
+        ensures first { result.pause ≡ 1 }
+        ensures interval { result.interval ≡ interval }
+        ensures fresh { (result.quiet ≡ 0) × (result.away ≡ 0) × (result.outrun ≡ 0) }
+    {
         Pace {
             pause: 1,
             interval,
@@ -33,11 +44,18 @@ impl Pace {
             quiet: 0,
             away: 0,
             outrun: 0,
+            failure: None,
         }
     }
 
     /// The pause before the next look: 1 ms, then twice as long each time.
-    pub fn next_pause(&mut self) -> u16 {
+    pub fn next_pause(&mut self) -> u16
+        ensures pause { result ≡ self.old.pause }
+        ensures within { self.new.pause ≤ self.old.interval }
+        ensures grows { (self.new.pause ≡ 2 * self.old.pause) ⊎ (self.new.pause ≡ self.old.interval) }
+        ensures interval { self.new.interval ≡ self.old.interval }
+        ensures quiet { self.old.quiet ≤ self.new.quiet }
+    {
         let pause = self.pause;
         self.quiet = self.quiet.saturating_add(u32::from(pause));
         self.pause = if pause < self.interval / 2 {
@@ -49,7 +67,11 @@ impl Pace {
     }
 
     /// The pause while the disks are away, unless they have been away for too long.
-    pub fn pause_away(&mut self) -> Option<u16> {
+    pub fn pause_away(&mut self) -> Option<u16>
+        ensures pause { IfSome result (λ pause. pause ≡ LONG_PAUSE) }
+        ensures away { IfSome result (λ pause. self.new ≡ record self.old { away = self.old.away + pause }) }
+        ensures patience { result ≡ None → PATIENCE ≤ self.old.away }
+    {
         if self.away >= PATIENCE {
             return None;
         }
@@ -58,7 +80,10 @@ impl Pace {
     }
 
     /// So many commands were learned by now.
-    pub fn hear(&mut self, learned: usize) {
+    pub fn hear(&mut self, learned: usize)
+        ensures away { self.new.away ≡ 0 }
+        ensures learned { self.new.learned ≡ learned }
+    {
         self.away = 0;
         if learned != self.learned {
             self.learned = learned;
@@ -67,17 +92,23 @@ impl Pace {
     }
 
     /// Whether there was no news for so long that a command without a mark may stand before all looks. `spread` keeps waits apart.
-    pub fn is_quiet(&self, spread: u16) -> bool {
+    pub fn is_quiet(&self, spread: u16) -> bool
+        ensures { IsTrue result → QUIET ≤ self.now.quiet }
+    {
         self.quiet >= QUIET + u32::from(spread) % QUIET
     }
 
     /// All there is will be learned now.
-    pub fn wake(&mut self) {
+    pub fn wake(&mut self)
+        ensures { self.new ≡ record self.old { quiet = 0 } }
+    {
         self.quiet = 0;
     }
 
     /// A command was outrun.
-    pub fn fall_back(&mut self) {
+    pub fn fall_back(&mut self)
+        ensures { self.new ≡ record self.old { outrun = min 255 (self.old.outrun + 1) } }
+    {
         self.outrun = self.outrun.saturating_add(1);
     }
 }

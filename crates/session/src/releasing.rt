@@ -1,5 +1,6 @@
 ghost use Rattle.std.specs.Prelude.{◌≡◌, ◌+◌, ◌≤◌, IfSome, IsTrue, false, true};
 ghost use Rattle.session.specs.Bounds.{is_leaving, orders_left};
+ghost use Rattle.session.specs.Keeping.{Keeps};
 ghost use Rattle.session.specs.Outcomes.{GivesBack, IsBorneOut, IsGone, IsUnheard, IsWithout, IsWithoutOrGiven};
 
 use crate::claim::{Claim, Goal, Standing, Step, Then};
@@ -17,6 +18,7 @@ impl Claim {
         requires leaving { self.old.standing ≡ Standing.Leaving }
         ensures borne_out { IsBorneOut learned.now self.new }
         ensures soon { orders_left self.new ≤ 2 + self.old.tries }
+        ensures keeps { Keeps self.old self.new }
     {
         match self.release {
             Some(request) if self.set == learned.set => self.submit_release(request),
@@ -35,9 +37,11 @@ impl Claim {
 
     /// Releases the lock by the next request.
     fn release_anew(&mut self, learned: &Learned<'_>)
+        requires newest { learned.now.set ≡ self.old.newest }
         requires leaving { self.old.standing ≡ Standing.Leaving }
         ensures unheard { IsUnheard self.new }
         ensures soon { orders_left self.new ≤ 2 + self.old.tries }
+        ensures keeps { Keeps self.old self.new }
     {
         self.release = None;
         match RequestNumber::new(self.last_request(learned) + 1) {
@@ -55,6 +59,7 @@ impl Claim {
     pub(crate) fn submit_release(&mut self, request: RequestNumber)
         ensures unheard { IsUnheard self.new }
         ensures soon { orders_left self.new ≡ 2 + self.old.tries }
+        ensures keeps { Keeps self.old self.new }
     {
         self.release = Some(request);
         self.standing = Standing::Leaving;
@@ -75,6 +80,7 @@ impl Claim {
         requires leaving { self.old.standing ≡ Standing.Leaving }
         ensures borne_out { IsBorneOut learned.now self.new }
         ensures soon { orders_left self.new ≤ 1 + self.old.tries }
+        ensures keeps { Keeps self.old self.new }
     {
         match self.given_at(learned) {
             Some(slot) => self.drop_sign(learned, self.then_given(slot)),
@@ -131,6 +137,7 @@ impl Claim {
         ensures unheard { IsUnheard self.new }
         ensures soon { is_leaving self.old.standing ≡ false → orders_left self.new ≤ 12 }
         ensures leaves { is_leaving self.old.standing ≡ true → orders_left self.new ≤ 1 + self.old.tries }
+        ensures keeps { Keeps self.old self.new }
     {
         match (self.standing, self.release) {
             (Standing::Leaving, Some(request)) if self.tries > 0 => {

@@ -1,0 +1,25 @@
+-- What an operation on a claim leaves as it is.
+use Rattle.std.specs.Prelude.{◌≡◌, ◌⊎◌}
+use Rattle.session.specs.declared.claim.Claim.{Claim}
+use Rattle.session.specs.declared.claim.Standing.TheVariants.{Unasked}
+
+-- The lock is wanted on the same name, in the same mode, through the same host.
+pub record IsOnSame (old new : Claim) : Type 0 where
+  pub host : new.host ≡ old.host
+  pub shares : new.shares ≡ old.shares
+  pub name : new.name ≡ old.name
+  pub mode : new.mode ≡ old.mode
+
+-- It is also the same lock, asked for by the same command at the same slot. What was asked for stays asked for. The images count as others only if they are
+-- those that were opened last.
+pub record Keeps (old new : Claim) : Type 0 where
+  pub host : new.host ≡ old.host
+  pub shares : new.shares ≡ old.shares
+  pub name : new.name ≡ old.name
+  pub mode : new.mode ≡ old.mode
+  pub lock : new.lock ≡ old.lock
+  pub asked : new.asked ≡ old.asked
+  pub slot : new.slot ≡ old.slot
+  pub newest : new.newest ≡ old.newest
+  pub set : (new.set ≡ old.set) ⊎ (new.set ≡ old.newest)
+  pub unasked : new.standing ≡ Unasked → old.standing ≡ Unasked
