@@ -1,3 +1,4 @@
+mod ClaimValues
 mod Ended
 mod Shown
 mod Steps

@@ -30,14 +30,14 @@ use Rattle.std_heap.proofs.Global.TheLaws as heap_laws
 use Rattle.dlm_c.specs.Held.{may_own}
 use Rattle.dlm_c.specs.contracts.parts.Parts as parts
 use Rattle.dlm_c.specs.contracts.held.Held as held
-use Rattle.dlm_c.specs.contracts.session.Session as session
+use Rattle.dlm_c.specs.contracts.open_host.OpenHost as open_host
 
 -- two machine values in a struct
 abbrev pub both : Val → Val → Val
 both v w = vstruct (vcons v (vcons w vnil))
 
 abbrev pub R : RattleType
-R = session.the_row
+R = open_host.the_row
 
 abbrev pub Z : RattleType
 Z = heap.the_row

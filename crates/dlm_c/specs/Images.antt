@@ -18,7 +18,7 @@ use Rattle.dlm_c.specs.declared.fault.Fault.TheVariants as cause
 use Rattle.dlm_c.specs.declared.images.Image.{Image}
 use Rattle.dlm_c.specs.declared.images.Images.{Images}
 use Rattle.dlm_c.specs.declared.images.Opened.{Opened}
-use Rattle.dlm_c.specs.declared.session.Session.{Session}
+use Rattle.dlm_c.specs.declared.open_host.OpenHost.{OpenHost}
 use Rattle.dlm_c.specs.Numbers.{done, no_disk, fault_number, disk_number}
 
 -- how long it is as an image: of a device, what its first bytes say, as far as there is room
@@ -61,13 +61,13 @@ pub record TellsImages (found : Found) (config : Shape) (told : Opened) : Type 0
   pub used : (k : ℕ) (said : Result Header ImageFault) (flag : ℕ) → slice_get found k ≡ Some said → slice_get told.used k ≡ Some flag → flag ≡ used_of said
 
 -- The host has this number and has learned nothing, and the folder the numbers of the set that was found; C is told of its images.
-pub record IsOpened (images : Images) (number : ℕ) (session : Session) (told : Opened) : Type 0 where
+pub record IsOpened (images : Images) (number : ℕ) (host : OpenHost) (told : Opened) : Type 0 where
   pub found : Found
   pub all : length found ≡ DISKS
   pub are : AreFound images.all found
-  pub set : HasNumbers found session.config session.cluster
-  pub tells : TellsImages found session.config told
-  pub leads : LeadsTo session.config number fresh session.core
+  pub set : HasNumbers found host.config host.cluster
+  pub tells : TellsImages found host.config told
+  pub leads : LeadsTo host.config number fresh host.core
 
 -- The images are no set, and this is told of one of them.
 pub record IsNoSet (images : Images) (why : SetFault) : Type 0 where
@@ -77,7 +77,7 @@ pub record IsNoSet (images : Images) (why : SetFault) : Type 0 where
   pub fault : HasSetFault found why
 
 -- why no host is opened over these images under this number, in a handle that keeps this
-abbrev pub MayRefuse : Images → ℕ → Option Session → Fault → Type 0
+abbrev pub MayRefuse : Images → ℕ → Option OpenHost → Fault → Type 0
 MayRefuse images number old cause.BadArgument = number < HOSTS → ⊥
 MayRefuse images number old cause.Closed = ⊥
 MayRefuse images number old cause.Open = old ≡ None → ⊥
@@ -86,18 +86,18 @@ MayRefuse images number old cause.NoMemory = Unit {0}
 MayRefuse images number old (cause.Images why) = IsNoSet images why
 
 -- A host is kept where none was.
-abbrev pub IsOpenedIn : Images → ℕ → Option Session → Opened → Type 0
+abbrev pub IsOpenedIn : Images → ℕ → Option OpenHost → Opened → Type 0
 IsOpenedIn images number None told = ⊥
 IsOpenedIn images number (Some new) told = IsOpened images number new told
 
 -- Nothing is changed, and C is told why, and of which image.
-pub record IsNotOpened (images : Images) (number : ℕ) (old new : Option Session) (status disk : ℤ) : Type 0 where
+pub record IsNotOpened (images : Images) (number : ℕ) (old new : Option OpenHost) (status disk : ℤ) : Type 0 where
   pub fault : Fault
   pub may : MayRefuse images number old fault
   pub same : new ≡ old
   pub told : status ≡ fault_number fault
   pub image : disk ≡ disk_number fault
 
-abbrev pub OpensIn : Images → ℕ → Option Session → Option Session → Opened → ℤ → ℤ → Type 0
+abbrev pub OpensIn : Images → ℕ → Option OpenHost → Option OpenHost → Opened → ℤ → ℤ → Type 0
 OpensIn images number old new told status disk =
     ((status ≡ done) × (disk ≡ no_disk) × (old ≡ None) × IsOpenedIn images number new told) ⊎ IsNotOpened images number old new status disk

@@ -1,4 +1,5 @@
 pub mod Calls
+pub mod Claims
 pub mod Ends
 pub mod Headers
 pub mod Held

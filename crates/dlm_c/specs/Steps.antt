@@ -10,7 +10,7 @@ use Rattle.dlm_images.specs.Operations.{Made, IsDue, Gave, HasOperated, HasMarke
 use Rattle.dlm_c.specs.declared.call.DueCall.{DueCall}
 use Rattle.dlm_c.specs.declared.call.ToldAnswer.{ToldAnswer}
 use Rattle.dlm_c.specs.declared.request.Request.{Request}
-use Rattle.dlm_c.specs.declared.session.Session.{Session}
+use Rattle.dlm_c.specs.declared.open_host.OpenHost.{OpenHost}
 use Rattle.dlm_c.specs.Calls.{TellsDue, IsTooLong, no_call, answer_in}
 use Rattle.dlm_c.specs.Numbers.{done, bad_argument, closed, busy, nothing_due, no_room}
 use Rattle.dlm_c.specs.Requests.{IsAsked}
@@ -18,13 +18,13 @@ use Rattle.dlm_c.specs.Requests.{IsAsked}
 -- A HANDLE
 
 -- this is so of the host that is kept; where none is, C is told so
-abbrev pub InHandle : (Session → Session → Type 0) → Option Session → Option Session → ℤ → Type 0
+abbrev pub InHandle : (OpenHost → OpenHost → Type 0) → Option OpenHost → Option OpenHost → ℤ → Type 0
 InHandle Changes None new status = (new ≡ None) × (status ≡ closed)
 InHandle Changes (Some old) None status = ⊥
 InHandle Changes (Some old) (Some new) status = Changes old new
 
 -- the folder is the same
-pub record IsSameFolder (old new : Session) : Type 0 where
+pub record IsSameFolder (old new : OpenHost) : Type 0 where
   pub config : new.config ≡ old.config
   pub cluster : new.cluster ≡ old.cluster
 
@@ -39,18 +39,18 @@ abbrev pub BeginsMarking : ℕ → Kept → Kept → Type 0
 BeginsMarking slot old new = (c : Shape) (h : ℕ) (m : Memory) → LeadsTo c h m old → LeadsTo c h (starts_marking m slot) new
 
 -- An idle host began what was asked.
-pub record HasBegun (Asked : Kept → Kept → Type 0) (old new : Session) (status : ℤ) : Type 0 where
+pub record HasBegun (Asked : Kept → Kept → Type 0) (old new : OpenHost) (status : ℤ) : Type 0 where
   pub told : status ≡ done
   pub idle : is_idle old.core ≡ true
   pub begins : Asked old.core new.core
   pub same : IsSameFolder old new
 
 -- Nothing was begun, since an operation is under way, or since nothing was asked that may be; the host is as it was.
-pub record IsRefused (Wrong : Kept → Type 0) (old new : Session) (status : ℤ) : Type 0 where
+pub record IsRefused (Wrong : Kept → Type 0) (old new : OpenHost) (status : ℤ) : Type 0 where
   pub same : new ≡ old
   pub told : ((status ≡ busy) × (is_idle old.core ≡ false)) ⊎ ((status ≡ bad_argument) × Wrong old.core)
 
-abbrev pub BeginsOr : (Kept → Kept → Type 0) → (Kept → Type 0) → Session → Session → ℤ → Type 0
+abbrev pub BeginsOr : (Kept → Kept → Type 0) → (Kept → Type 0) → OpenHost → OpenHost → ℤ → Type 0
 BeginsOr Asked Wrong old new status = HasBegun Asked old new status ⊎ IsRefused Wrong old new status
 
 -- so many tries may be given
@@ -69,16 +69,16 @@ pub record SubmitsAsked (r : Request) (name : List ℕ) (tries : ℕ) (old new :
 abbrev pub AsksNothing : Request → List ℕ → ℕ → Kept → Type 0
 AsksNothing r name tries old = (command : Command) → Fits command → IsAsked r name old.learner.host command → AreTries tries → ⊥
 
-abbrev pub Submits : Request → List ℕ → ℕ → Session → Session → ℤ → Type 0
+abbrev pub Submits : Request → List ℕ → ℕ → OpenHost → OpenHost → ℤ → Type 0
 Submits r name tries = BeginsOr (SubmitsAsked r name tries) (AsksNothing r name tries)
 
-abbrev pub Recovers : ℕ → Session → Session → ℤ → Type 0
+abbrev pub Recovers : ℕ → OpenHost → OpenHost → ℤ → Type 0
 Recovers tries = BeginsOr (λ old new. AreTries tries × Begins Recovering tries old new) (λ old. AreTries tries → ⊥)
 
-abbrev pub Looks : Session → Session → ℤ → Type 0
+abbrev pub Looks : OpenHost → OpenHost → ℤ → Type 0
 Looks = BeginsOr (Begins Looking 1) (λ old. ⊥)
 
-abbrev pub Marks : ℕ → Session → Session → ℤ → Type 0
+abbrev pub Marks : ℕ → OpenHost → OpenHost → ℤ → Type 0
 Marks slot = BeginsOr (BeginsMarking slot) (λ old. slot < 2 ^ 16 → ⊥)
 
 -- ITS CALLS
@@ -97,13 +97,13 @@ abbrev pub IsAttachDue : Kept → Type 0
 IsAttachDue k = (is_idle k ≡ false) × ((due_call k).1 ≡ Attach)
 
 -- The host heard that the disk to be attached answered with this boot number, and nothing else.
-pub record HasAttached (boot : ℕ) (old new : Session) : Type 0 where
+pub record HasAttached (boot : ℕ) (old new : OpenHost) : Type 0 where
   pub due : IsAttachDue old.core
   pub heard : IsHeard old.core (made_of old.core (Booted boot)) new.core
   pub same : IsSameFolder old new
 
 -- so it is where an attach is due; else the host is as it was
-abbrev pub Attaches : ℕ → Session → Session → Type 0
+abbrev pub Attaches : ℕ → OpenHost → OpenHost → Type 0
 Attaches boot old new = HasAttached boot old new ⊎ ((IsAttachDue old.core → ⊥) × (new ≡ old))
 
 -- C is told this call, and its disk, unless it writes more bytes than there is room for: then no call
@@ -111,18 +111,18 @@ abbrev pub TellsCallDue : ℕ × Call → DueCall → List ℕ → ℤ → Type 
 TellsCallDue due call written status = ((status ≡ done) × TellsDue call written due) ⊎ ((status ≡ no_room) × IsTooLong due.1 × (call ≡ no_call))
 
 -- C is told the call that is due, or that none is.
-abbrev pub TellsNext : Session → DueCall → List ℕ → ℤ → Type 0
-TellsNext session call written status =
-    ((is_idle session.core ≡ false) × TellsCallDue (due_call session.core) call written status)
-    ⊎ ((is_idle session.core ≡ true) × (status ≡ nothing_due) × (call ≡ no_call))
+abbrev pub TellsNext : OpenHost → DueCall → List ℕ → ℤ → Type 0
+TellsNext host call written status =
+    ((is_idle host.core ≡ false) × TellsCallDue (due_call host.core) call written status)
+    ⊎ ((is_idle host.core ≡ true) × (status ≡ nothing_due) × (call ≡ no_call))
 
 -- The same, after an attach that was due.
-pub record CallsNext (boot : ℕ) (old new : Session) (call : DueCall) (written : List ℕ) (status : ℤ) : Type 0 where
+pub record CallsNext (boot : ℕ) (old new : OpenHost) (call : DueCall) (written : List ℕ) (status : ℤ) : Type 0 where
   pub attaches : Attaches boot old new
   pub tells : TellsNext new call written status
 
 -- The host heard the answer that C told, and nothing else.
-pub record HasHeardTold (told : ToldAnswer) (row : List ℕ) (old new : Session) : Type 0 where
+pub record HasHeardTold (told : ToldAnswer) (row : List ℕ) (old new : OpenHost) : Type 0 where
   pub busy : is_idle old.core ≡ false
   pub answer : Answer
   pub is : answer_in (due_call old.core).1 told row ≡ Some answer
@@ -130,19 +130,19 @@ pub record HasHeardTold (told : ToldAnswer) (row : List ℕ) (old new : Session)
   pub same : IsSameFolder old new
 
 -- The host heard nothing, since no call is due, or since C told no answer; it is as it was.
-pub record HearsNothing (told : ToldAnswer) (row : List ℕ) (old new : Session) (status : ℤ) : Type 0 where
+pub record HearsNothing (told : ToldAnswer) (row : List ℕ) (old new : OpenHost) (status : ℤ) : Type 0 where
   pub same : new ≡ old
   pub why :
       ((status ≡ nothing_due) × (is_idle old.core ≡ true)) ⊎ ((status ≡ bad_argument) × (answer_in (due_call old.core).1 told row ≡ None))
 
 -- It heard the answer, and C is told the next call.
-pub record HeardGoesOn (told : ToldAnswer) (row : List ℕ) (old new : Session) (call : DueCall) (written : List ℕ) (status : ℤ) : Type 0 where
-  pub between : Session
+pub record HeardGoesOn (told : ToldAnswer) (row : List ℕ) (old new : OpenHost) (call : DueCall) (written : List ℕ) (status : ℤ) : Type 0 where
+  pub between : OpenHost
   pub heard : HasHeardTold told row old between
   pub next : CallsNext told.boot between new call written status
 
 -- where it heard nothing, C is told no call
-abbrev pub GoesOn : ToldAnswer → List ℕ → Session → Session → DueCall → List ℕ → ℤ → Type 0
+abbrev pub GoesOn : ToldAnswer → List ℕ → OpenHost → OpenHost → DueCall → List ℕ → ℤ → Type 0
 GoesOn told row old new call written status =
     HeardGoesOn told row old new call written status ⊎ (HearsNothing told row old new status × (call ≡ no_call))
 

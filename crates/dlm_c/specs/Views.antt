@@ -6,7 +6,7 @@ use Rattle.lock_command.specs.declared.command.Command.{Command}
 use Rattle.lock_table.specs.Apply.{table_after}
 use Rattle.lock_table.specs.Picture.{IsPictureOf, Shown}
 use Rattle.inspect.specs.Text.{queues_text}
-use Rattle.dlm_c.specs.declared.session.Session.{Session}
+use Rattle.dlm_c.specs.declared.open_host.OpenHost.{OpenHost}
 use Rattle.dlm_c.specs.declared.view.HostView.{HostView}
 use Rattle.dlm_c.specs.declared.view.LockView.{LockView}
 use Rattle.dlm_c.specs.declared.view.ClientView.{ClientView}
@@ -14,12 +14,12 @@ use Rattle.dlm_c.specs.declared.view.ValueView.{ValueView}
 use Rattle.dlm_c.specs.Numbers.{done, no_such_lock, no_memory, held_number, wanted_number, answer_of, status_of, value_of}
 
 -- The view shows this host, and how much it has learned.
-pub record ShowsHost (view : HostView) (session : Session) : Type 0 where
-  pub number : view.host ≡ session.core.learner.host
-  pub learned : view.learned ≡ length session.core.prefix
-  pub disks : view.disks ≡ session.config.disks
-  pub slots : view.slots ≡ session.config.slots
-  pub cluster : view.cluster ≡ session.cluster
+pub record ShowsHost (view : HostView) (host : OpenHost) : Type 0 where
+  pub number : view.host ≡ host.core.learner.host
+  pub learned : view.learned ≡ length host.core.prefix
+  pub disks : view.disks ≡ host.config.disks
+  pub slots : view.slots ≡ host.config.slots
+  pub cluster : view.cluster ≡ host.cluster
 
 -- The view shows this lock.
 pub record ShowsLock (view : LockView) (r : LockRecord) : Type 0 where

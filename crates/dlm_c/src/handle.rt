@@ -1,8 +1,8 @@
 ghost use Rattle.std.specs.Prelude.{◌≡◌, Some, None, IfSome, is_some};
 
 use crate::held::Held;
+use crate::open_host::OpenHost;
 use crate::parts::Parts;
-use crate::session::Session;
 use std::alloc::Global;
 use std::mem;
 
@@ -27,18 +27,18 @@ impl Handle {
     }
 
     /// A host that is kept.
-    pub fn opened(session: Box<Session>) -> Handle
-        ensures { result.held.value ≡ Some session.value }
+    pub fn opened(host: Box<OpenHost>) -> Handle
+        ensures { result.held.value ≡ Some host.value }
     {
         Handle {
             is_open: true,
-            held: Held::of(Parts::of(session)),
+            held: Held::of(Parts::of(host)),
         }
     }
 
     /// Takes the host that is kept, and leaves none.
-    pub fn take(&mut self, alloc: Global) -> Option<Box<Session>>
-        ensures some { IfSome result (λ session. self.old.held.value ≡ Some session.value) }
+    pub fn take(&mut self, alloc: Global) -> Option<Box<OpenHost>>
+        ensures some { IfSome result (λ host. self.old.held.value ≡ Some host.value) }
         ensures none { result ≡ None → self.old.held.value ≡ None }
         ensures left { self.new.held.value ≡ None }
     {
@@ -52,10 +52,10 @@ impl Handle {
     }
 
     /// Keeps a host where there is none.
-    pub fn keep(&mut self, session: Box<Session>)
+    pub fn keep(&mut self, host: Box<OpenHost>)
         requires { self.old.held.value ≡ None }
-        ensures { self.new.held.value ≡ Some session.value }
+        ensures { self.new.held.value ≡ Some host.value }
     {
-        mem::forget(mem::replace(self, Handle::opened(session)));
+        mem::forget(mem::replace(self, Handle::opened(host)));
     }
 }

@@ -1,8 +1,8 @@
 ghost use Rattle.std.specs.Prelude.{◌≡◌, Option, Some, None, IsSome};
-ghost use Rattle.dlm_c.specs.declared.session.Session.{Session};
+ghost use Rattle.dlm_c.specs.declared.open_host.OpenHost.{OpenHost};
 
+use crate::open_host::OpenHost;
 use crate::parts::Parts;
-use crate::session::Session;
 use std::alloc::{Allocator, Global};
 use std::marker::Model;
 
@@ -12,12 +12,12 @@ use std::marker::Model;
 pub struct Held {
     at: *mut u8,
     alloc: Global,
-    pub ghost value: { Option Session },
+    pub ghost value: { Option OpenHost },
 }
 
 impl Model for Held {
     ghost use Rattle.dlm_c.specs.Held.{may_own};
-    ghost use Rattle.dlm_c.specs.contracts.session.Session.{the_row};
+    ghost use Rattle.dlm_c.specs.contracts.open_host.OpenHost.{the_row};
 
     ghost also_owns = { λ h. may_own (⟦<Global as Allocator>⟧.dealloc_token h.alloc) the_row h.at h.value };
 }
@@ -33,7 +33,7 @@ impl Held {
         }
     }
 
-    pub fn of(parts: Parts<Session, Global>) -> Held
+    pub fn of(parts: Parts<OpenHost, Global>) -> Held
         ensures { result.value ≡ Some parts.value }
     {
         let Parts { ptr, alloc } = parts;
@@ -43,13 +43,13 @@ impl Held {
         }
     }
 
-    pub fn into_parts(self) -> Parts<Session, Global>
+    pub fn into_parts(self) -> Parts<OpenHost, Global>
         requires { IsSome self.value }
         ensures { self.value ≡ Some result.value }
     {
         let Held { at, alloc } = self;
         Parts {
-            ptr: at as *mut Session,
+            ptr: at as *mut OpenHost,
             alloc,
         }
     }

@@ -13,18 +13,23 @@ ghost use Rattle.dlm_c.specs.Told.{answer_told, status_told};
 ghost use Rattle.dlm_c.specs.Views.{ShowsHost, TellsLock, TellsValue, ShowsLocks, ShowsClients, ShowsText, Tells};
 
 mod answer;
+mod asker;
 mod call;
+mod claim_handle;
+mod claims;
+mod due_order;
 mod fault;
 mod handle;
 mod header;
 mod held;
+mod held_claim;
 mod images;
 mod law;
 mod looks;
 mod mode_number;
+mod open_host;
 mod parts;
 mod request;
-mod session;
 mod view;
 
 use answer::Answer;
@@ -34,9 +39,9 @@ use handle::Handle;
 use header::{HeaderBytes, lay_out};
 use images::{Images, Opened};
 pub use law::{calls_make_operations, ends_are_told};
+use open_host::OpenHost;
 use paxos_block::is_formatted;
 use request::Request;
-use session::Session;
 use std::alloc::Global;
 use view::{ClientView, HostView, LockView, ValueView};
 
@@ -95,14 +100,14 @@ fn open(
     ensures refused { IfErr result (MayRefuse images.now number handle.old.held.value) }
     ensures unchanged { IfErr result (λ _. handle.new.held.value ≡ handle.old.held.value) }
 {
-    if let Some(session) = handle.take(alloc) {
-        handle.keep(session);
+    if let Some(host) = handle.take(alloc) {
+        handle.keep(host);
         return Err(Fault::Open);
     }
-    let (session, opened) = Session::open(alloc, images, number)?;
-    match Box::new(alloc, session) {
-        Ok(session) => {
-            handle.keep(session);
+    let (host, opened) = OpenHost::open(alloc, images, number)?;
+    match Box::new(alloc, host) {
+        Ok(host) => {
+            handle.keep(host);
             *told = opened;
             Ok(())
         }
@@ -115,7 +120,7 @@ fn open(
 pub extern "C" fn dlm_c_close(alloc: Global, handle: &mut Handle)
     ensures { handle.new.held.value ≡ None }
 {
-    let _session = handle.take(alloc);
+    let _host = handle.take(alloc);
 }
 
 /// Begins to put a command of the host into the log.
@@ -129,11 +134,11 @@ pub extern "C" fn dlm_c_submit(
 ) -> i32
     ensures { InHandle (λ old new. Submits request.now name.now tries old new result) handle.old.held.value handle.new.held.value result }
 {
-    let Some(mut session) = handle.take(alloc) else {
+    let Some(mut host) = handle.take(alloc) else {
         return CLOSED;
     };
-    let status = session.submit(request, name, tries);
-    handle.keep(session);
+    let status = host.submit(request, name, tries);
+    handle.keep(host);
     status
 }
 
@@ -142,11 +147,11 @@ pub extern "C" fn dlm_c_submit(
 pub extern "C" fn dlm_c_recover(alloc: Global, handle: &mut Handle, tries: u32) -> i32
     ensures { InHandle (λ old new. Recovers tries old new result) handle.old.held.value handle.new.held.value result }
 {
-    let Some(mut session) = handle.take(alloc) else {
+    let Some(mut host) = handle.take(alloc) else {
         return CLOSED;
     };
-    let status = session.recover(tries);
-    handle.keep(session);
+    let status = host.recover(tries);
+    handle.keep(host);
     status
 }
 
@@ -155,11 +160,11 @@ pub extern "C" fn dlm_c_recover(alloc: Global, handle: &mut Handle, tries: u32) 
 pub extern "C" fn dlm_c_look(alloc: Global, handle: &mut Handle) -> i32
     ensures { InHandle (λ old new. Looks old new result) handle.old.held.value handle.new.held.value result }
 {
-    let Some(mut session) = handle.take(alloc) else {
+    let Some(mut host) = handle.take(alloc) else {
         return CLOSED;
     };
-    let status = session.look();
-    handle.keep(session);
+    let status = host.look();
+    handle.keep(host);
     status
 }
 
@@ -168,11 +173,11 @@ pub extern "C" fn dlm_c_look(alloc: Global, handle: &mut Handle) -> i32
 pub extern "C" fn dlm_c_mark(alloc: Global, handle: &mut Handle, slot: u32) -> i32
     ensures { InHandle (λ old new. Marks slot old new result) handle.old.held.value handle.new.held.value result }
 {
-    let Some(mut session) = handle.take(alloc) else {
+    let Some(mut host) = handle.take(alloc) else {
         return CLOSED;
     };
-    let status = session.mark(slot);
-    handle.keep(session);
+    let status = host.mark(slot);
+    handle.keep(host);
     status
 }
 
@@ -188,11 +193,11 @@ pub extern "C" fn dlm_c_call(
     ensures next { InHandle (λ old new. CallsNext boot old new call.new written.new.bytes result) handle.old.held.value handle.new.held.value result }
     ensures none { handle.old.held.value ≡ None → call.new ≡ no_call }
 {
-    let Some(mut session) = handle.take(alloc) else {
+    let Some(mut host) = handle.take(alloc) else {
         return no_host(call);
     };
-    let status = session.call(boot, call, written);
-    handle.keep(session);
+    let status = host.call(boot, call, written);
+    handle.keep(host);
     status
 }
 
@@ -210,11 +215,11 @@ pub extern "C" fn dlm_c_next(
         handle.old.held.value handle.new.held.value result }
     ensures none { handle.old.held.value ≡ None → call.new ≡ no_call }
 {
-    let Some(mut session) = handle.take(alloc) else {
+    let Some(mut host) = handle.take(alloc) else {
         return no_host(call);
     };
-    let status = session.next(told, row, call, written);
-    handle.keep(session);
+    let status = host.next(told, row, call, written);
+    handle.keep(host);
     status
 }
 
@@ -233,11 +238,11 @@ pub extern "C" fn dlm_c_answer(alloc: Global, handle: &mut Handle, answer: &mut 
     ensures { InHandle (λ old new. (new ≡ old) × (answer.new ≡ answer_told old.core.said) × (result ≡ status_told old.core.said))
         handle.old.held.value handle.new.held.value result }
 {
-    let Some(session) = handle.take(alloc) else {
+    let Some(host) = handle.take(alloc) else {
         return CLOSED;
     };
-    let status = session.answer(answer);
-    handle.keep(session);
+    let status = host.answer(answer);
+    handle.keep(host);
     status
 }
 
@@ -246,11 +251,11 @@ pub extern "C" fn dlm_c_answer(alloc: Global, handle: &mut Handle, answer: &mut 
 pub extern "C" fn dlm_c_host(alloc: Global, handle: &mut Handle, into: &mut HostView) -> i32
     ensures { InHandle (λ old new. (new ≡ old) × (result ≡ done) × ShowsHost into.new old) handle.old.held.value handle.new.held.value result }
 {
-    let Some(session) = handle.take(alloc) else {
+    let Some(host) = handle.take(alloc) else {
         return CLOSED;
     };
-    *into = session.view();
-    handle.keep(session);
+    *into = host.view();
+    handle.keep(host);
     0
 }
 
@@ -265,11 +270,11 @@ pub extern "C" fn dlm_c_lock(
     ensures { InHandle (λ old new. (new ≡ old) × TellsLock old.core.prefix lock into.new result)
         handle.old.held.value handle.new.held.value result }
 {
-    let Some(session) = handle.take(alloc) else {
+    let Some(host) = handle.take(alloc) else {
         return CLOSED;
     };
-    let outcome = session.lock(alloc, lock, into);
-    handle.keep(session);
+    let outcome = host.lock(alloc, lock, into);
+    handle.keep(host);
     number_of(outcome)
 }
 
@@ -284,11 +289,11 @@ pub extern "C" fn dlm_c_value(
     ensures { InHandle (λ old new. (new ≡ old) × TellsValue old.core.prefix lock into.new result)
         handle.old.held.value handle.new.held.value result }
 {
-    let Some(session) = handle.take(alloc) else {
+    let Some(host) = handle.take(alloc) else {
         return CLOSED;
     };
-    let outcome = session.value(alloc, lock, into);
-    handle.keep(session);
+    let outcome = host.value(alloc, lock, into);
+    handle.keep(host);
     number_of(outcome)
 }
 
@@ -304,11 +309,11 @@ pub extern "C" fn dlm_c_locks(
         handle.old.held.value handle.new.held.value result }
 {
     *count = 0;
-    let Some(session) = handle.take(alloc) else {
+    let Some(host) = handle.take(alloc) else {
         return CLOSED;
     };
-    let outcome = session.locks(alloc, into, count);
-    handle.keep(session);
+    let outcome = host.locks(alloc, into, count);
+    handle.keep(host);
     number_of(outcome)
 }
 
@@ -324,11 +329,11 @@ pub extern "C" fn dlm_c_clients(
         handle.old.held.value handle.new.held.value result }
 {
     *count = 0;
-    let Some(session) = handle.take(alloc) else {
+    let Some(host) = handle.take(alloc) else {
         return CLOSED;
     };
-    let outcome = session.clients(alloc, into, count);
-    handle.keep(session);
+    let outcome = host.clients(alloc, into, count);
+    handle.keep(host);
     number_of(outcome)
 }
 
@@ -344,11 +349,11 @@ pub extern "C" fn dlm_c_text(
         handle.old.held.value handle.new.held.value result }
 {
     *length = 0;
-    let Some(session) = handle.take(alloc) else {
+    let Some(host) = handle.take(alloc) else {
         return CLOSED;
     };
-    let outcome = session.text(alloc, into, length);
-    handle.keep(session);
+    let outcome = host.text(alloc, into, length);
+    handle.keep(host);
     number_of(outcome)
 }
 

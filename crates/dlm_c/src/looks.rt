@@ -5,13 +5,13 @@ ghost use Rattle.lock_table.specs.Picture.{IsPictureOf};
 ghost use Rattle.dlm_c.specs.Views.{ShowsHost, ShowsLock, ShowsClient, FindsLock, FindsValue, LacksLock, IsAt, ShowBelow, ShowsLocks, ShowsClients, ShowsText};
 
 use crate::fault::Fault;
-use crate::session::Session;
+use crate::open_host::OpenHost;
 use crate::view::{ClientView, HostView, LockView, ValueView};
 use inspect::queues;
 use lock_table::{KnownClient, LockRecord, Picture};
 use std::alloc::Global;
 
-impl Session {
+impl OpenHost {
     /// What does not change, and how much is learned.
     pub fn view(&self) -> HostView
         ensures { ShowsHost result self.now }

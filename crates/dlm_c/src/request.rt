@@ -6,7 +6,7 @@ ghost use Rattle.dlm_c.specs.Requests.{AsksFor, AsksValue, IsAsked, flag_number}
 ghost use Rattle.lock_command.specs.Command.{Fits, FitsAction, IsLock, IsValue};
 
 use crate::mode_number::mode_of;
-use crate::session::host_of;
+use crate::open_host::host_of;
 use lock_command::{
     Action, ClientNumber, Command, HostNumber, LockName, LockNumber, RequestNumber, ValueBytes,
 };

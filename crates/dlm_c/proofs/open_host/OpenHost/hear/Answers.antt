@@ -6,7 +6,7 @@ use Rattle.phases.specs.Calls.{device_call_of, heard_of}
 use Rattle.beats.specs.Calls.{device_answer}
 use Rattle.host.specs.Kept.{due_call}
 use Rattle.host.proofs.Hosts.{heard_same}
-use Rattle.dlm_c.proofs.session.Session.hear.Goals as goal
+use Rattle.dlm_c.proofs.open_host.OpenHost.hear.Goals as goal
 
 pub returns-clause-heard : goal.returns-clause-heard
 returns-clause-heard c =

@@ -1,7 +1,7 @@
 use Rattle.std.proofs.Common.{List, length, ap, subst}
 use Rattle.lock_table.specs.declared.record.KnownClient.{KnownClient}
 use Rattle.dlm_c.specs.Views.{ShowBelow, ShowsClient}
-use Rattle.dlm_c.proofs.session.Session.clients.Goals as goal
+use Rattle.dlm_c.proofs.open_host.OpenHost.clients.Goals as goal
 
 pub returns-clause-shown : goal.returns-clause-shown
 returns-clause-shown c = record {

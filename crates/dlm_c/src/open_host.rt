@@ -22,15 +22,15 @@ use std::alloc::Global;
 
 /// A host and the numbers of its folder, as C keeps them between calls.
 #[derive(Drop)]
-pub struct Session {
+pub struct OpenHost {
     pub core: HostCore,
     pub config: Config,
     pub cluster: u64,
 }
 
-impl Session {
+impl OpenHost {
     /// A host over these images, which has learned nothing yet, and what C is to know of the images.
-    pub fn open(alloc: Global, images: &Images, number: u32) -> Result<(Session, Opened), Fault>
+    pub fn open(alloc: Global, images: &Images, number: u32) -> Result<(OpenHost, Opened), Fault>
         ensures opened { IfOk result (λ made. IsOpened images.now number made.0 made.1) }
         ensures refused { IfErr result (MayRefuse images.now number None) }
     {
@@ -40,12 +40,12 @@ impl Session {
         let found = found_in(images);
         let set = set_of(&found)?;
         let core = HostCore::start(alloc, number, set.config)?;
-        let session = Session {
+        let host = OpenHost {
             core,
             config: set.config,
             cluster: set.cluster,
         };
-        Ok((session, told_of(&found, set.config)))
+        Ok((host, told_of(&found, set.config)))
     }
 
     /// Begins to put the command into the log that is asked.

@@ -1,7 +1,7 @@
 use Rattle.std.proofs.Common.{List, length, ap, subst}
 use Rattle.lock_table.specs.declared.record.LockRecord.{LockRecord}
 use Rattle.dlm_c.specs.Views.{ShowBelow, ShowsLock}
-use Rattle.dlm_c.proofs.session.Session.locks.Goals as goal
+use Rattle.dlm_c.proofs.open_host.OpenHost.locks.Goals as goal
 
 pub returns-clause-shown : goal.returns-clause-shown
 returns-clause-shown c = record {

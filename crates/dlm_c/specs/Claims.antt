@@ -1,0 +1,95 @@
+-- What C is told of a claim, and what a claim is told by C.
+use Rattle.std.specs.Prelude.{◌≡◌, ◌⊎◌, ℕ, ℤ, Option, Some, None, true, false, pos, negsuc, if◌then◌else◌}
+use Rattle.lock_table.specs.Apply.{table_after}
+use Rattle.lock_table.specs.Picture.{IsPictureOf}
+use Rattle.session.specs.declared.claim.Claim.{Claim}
+use Rattle.session.specs.declared.learned.Learned.{Learned}
+use Rattle.session.specs.declared.order.Order.{Order}
+use Rattle.session.specs.declared.order.Order.TheVariants as order
+use Rattle.session.specs.declared.outcome.Failure.{Failure}
+use Rattle.session.specs.declared.outcome.Failure.TheVariants as failure
+use Rattle.session.specs.declared.outcome.Outcome.{Outcome}
+use Rattle.session.specs.declared.outcome.Outcome.TheVariants as outcome
+use Rattle.session.specs.declared.outcome.Why.{Why}
+use Rattle.session.specs.declared.outcome.Why.TheVariants as why
+use Rattle.session.specs.Outcomes.{IsBorneOut, IsUnheard}
+use Rattle.lock_command.specs.declared.reply.Refusal.TheVariants.{NoSuchLock, StillWaiting, TableFull}
+use Rattle.dlm_c.specs.declared.due_order.DueOrder.{DueOrder}
+use Rattle.dlm_c.specs.declared.open_host.OpenHost.{OpenHost}
+use Rattle.dlm_c.specs.Numbers.{closed, table_number}
+
+-- THE NUMBERS OF WHAT FAILED
+
+abbrev pub failure_number : Failure → ℤ
+failure_number failure.Outrun = pos 6
+failure_number failure.NoMajority = pos 7
+failure_number failure.BallotsSpent = pos 8
+failure_number failure.LogFull = pos 9
+failure_number failure.NotACommand = pos 10
+failure_number failure.NoMemory = pos 21
+failure_number failure.NotFormatted = pos 24
+failure_number failure.WrongHeader = pos 25
+failure_number failure.Unreadable = pos 26
+failure_number failure.OldLayout = pos 32
+failure_number failure.HostInUse = pos 36
+failure_number failure.NoLock = pos 37
+failure_number failure.Broken = negsuc 2
+
+abbrev pub why_number : Why → ℤ
+why_number why.TimeOver = negsuc 1
+why_number why.Taken = negsuc 1
+why_number why.Stopped = negsuc 4
+why_number why.Gone = table_number NoSuchLock
+why_number why.Waits = table_number StillWaiting
+why_number why.NoNumber = table_number TableFull
+why_number (why.Refused refusal) = table_number refusal
+why_number (why.Failed failed) = failure_number failed
+
+-- ORDERS
+
+-- an order of this kind, with nothing to say of it
+abbrev pub of_kind : ℕ → DueOrder
+of_kind kind = record { kind = kind; lock = 0; amount = 0; outcome = 0; status = pos 0; slot = negsuc 0 }
+
+abbrev pub ended_as : Outcome → DueOrder
+ended_as outcome.Held = of_kind 11
+ended_as (outcome.NotHeld why) = record (of_kind 11) { outcome = 1; status = why_number why }
+ended_as (outcome.Given slot) = record (of_kind 11) { outcome = 2; slot = pos slot }
+ended_as (outcome.InDoubt why) = record (of_kind 11) { outcome = 3; status = why_number why }
+ended_as (outcome.Failed why) = record (of_kind 11) { outcome = 4; status = why_number why }
+
+-- each order as C is told it
+abbrev pub told_order : Order → DueOrder
+told_order order.Open = of_kind 1
+told_order order.OpenToLook = of_kind 2
+told_order order.Learn = of_kind 3
+told_order order.Look = of_kind 4
+told_order order.Tidy = of_kind 5
+told_order (order.TakeSign lock) = record (of_kind 6) { lock = lock }
+told_order (order.DropSign sign) = record (of_kind 7) { lock = sign.lock; amount = if sign.removes then 1 else 0 }
+told_order (order.Submit command) = of_kind 8
+told_order (order.Rest milliseconds) = record (of_kind 9) { amount = milliseconds }
+told_order (order.Yield outrun) = record (of_kind 10) { amount = outrun }
+told_order (order.Done outcome) = ended_as outcome
+
+-- WHAT IS HEARD
+
+-- What the host has learned bears out whatever the claim's step leads to.
+pub record IsBorneOutBy (host : OpenHost) (c : Claim) : Type 0 where
+  pub learned : Learned
+  pub set : learned.set ≡ host.cluster
+  pub slots : learned.slots ≡ host.config.slots
+  pub log : learned.log.now ≡ host.core.prefix
+  pub table : IsPictureOf learned.table.now (table_after host.core.prefix)
+  pub borne_out : IsBorneOut learned c
+
+-- Whatever the step leads to needs nothing heard, or is borne out by what the host has learned. That a sign of life is somebody else's, and that one was
+-- given up, the host does not know.
+abbrev pub HearsRight : ℕ → OpenHost → Claim → Type 0
+HearsRight event host c = (event ≡ 6) ⊎ (event ≡ 7) ⊎ IsUnheard c ⊎ IsBorneOutBy host c
+
+-- this is so of the claim that is kept; where none is, C is told so
+abbrev pub InClaim : (Claim → Claim → Type 0) → Option Claim → Option Claim → ℤ → Type 0
+InClaim Changes None new status = (new ≡ None) × (status ≡ closed)
+InClaim Changes (Some old) None status = ⊥
+InClaim Changes (Some old) (Some new) status = Changes old new
