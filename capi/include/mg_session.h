@@ -39,7 +39,7 @@ struct mg_session;
 
 /* Opens the folder for a host number, learns all, and releases what former runs of this host number left. Without MG_SHARE the
  * number is the session's own until mg_end, and MG_HOST_IN_USE says that another process has it. At MG_OK `*out` is a session,
- * which is to be ended; else it is NULL. `disk` as in mg_open.
+ * which is to be ended; else it is NULL. Where such locks could not be released it says why, as MG_LOG_FULL. `disk` as in mg_open.
  *
  * Each lock of a session has a sign of life, the file mg-lock.SET.HOST.LOCK in the folder, where SET is its cluster number. The session
  * has it locked (flock) as long as it has the lock. What former runs left are the locks whose signs are there, and locked by nobody. Do
@@ -62,24 +62,27 @@ struct mg_held {
 };
 
 /* Takes a lock on a name, and waits `timeout` milliseconds at most: 0 takes it at once or not at all, below 0 waits without an
- * end. MG_OK: the lock is held. With any other number nothing is held and nothing waits; `held->lock` is 0.
+ * end. MG_OK: the lock is held. MG_IN_DOUBT: it was given up, and what asked for it or releases it may come into the log, or
+ * stands there; `held->lock` is its number. The session's next call releases it, and so does mg_give; the next session of the
+ * host number does if this one ends. With any other number nothing is held and nothing waits; `held->lock` is 0.
  *
- * MG_TIMED_OUT: others have it. MG_NO_SUCH_LOCK: it was purged while it waited. MG_STOPPED: mg_set_rest. MG_LOG_FULL,
- * MG_NO_MAJORITY, MG_TABLE_FULL and others as of mg_enqueue. What a refused command may have left in the log all the same is
- * released by the session's next call, or by the next session of the host number. If the log gets full while it waits it goes on
- * waiting, and once that is renewed it waits in the new folder. To give up it may then take a minute longer.
+ * MG_TIMED_OUT: others have it. MG_NO_SUCH_LOCK: it was purged while it waited. MG_STOPPED: mg_set_rest. MG_HOST_IN_USE: somebody
+ * has the host number for so long. MG_LOG_FULL, MG_NO_MAJORITY, MG_TABLE_FULL and others as of mg_enqueue. If the log gets full
+ * while it waits it goes on waiting, and once that is renewed it waits in the new folder.
  *
  * `held->slot` is a fencing token: of those that hold MG_EX on a name in turn, each has a greater slot than the one before it. In
  * a renewed folder slots begin anew, and `cluster` tells the two apart. */
 int mg_take(struct mg_session *session, const char *name, int mode, int timeout, struct mg_held *held);
 
 /* Gives a lock back. Where `value` is not NULL its MG_VALUE_LENGTH bytes are kept with the name, if the lock holds MG_PW or MG_EX.
- * MG_NO_SUCH_LOCK: the lock had been taken away, by a purge, or is none of this session's. After any other number it is still
+ * MG_NO_SUCH_LOCK: the lock had been taken away, by a purge, or is none of this session's. MG_IN_DOUBT: its release may stand in
+ * the log; call again with the same value, for another one is MG_BAD_ARGUMENT by then. After any other number the lock is still
  * the session's: call again. It waits up to a minute for disks, for a full log to be renewed, and with MG_SHARE for the number. */
 int mg_give(struct mg_session *session, unsigned lock, const void *value);
 
-/* Looks whether a lock that was taken is still there: MG_OK, or MG_NO_SUCH_LOCK after a purge. As each look it sees nothing behind a
- * command that has no mark, until somebody recovers: call mg_recover before it to be sure. */
+/* Looks whether a lock that was taken is still there: MG_OK, or MG_NO_SUCH_LOCK after a purge. Where the folder's link has moved it
+ * looks in the folder to which that leads. As each look it sees nothing behind a command that has no mark, until somebody recovers:
+ * call mg_recover before it to be sure. */
 int mg_check(struct mg_session *session, unsigned lock);
 
 /* ---- of other hosts, and of other processes ---- */
@@ -96,7 +99,7 @@ int mg_purge_dead(struct mg_session *session, unsigned victim, unsigned *purged)
 #define MG_ALL 1u
 
 /* Releases what processes of this host number that are gone have left, and marks what has no mark. `*released`, where it is not
- * NULL, becomes the number of locks. */
+ * NULL, becomes the number of locks. Where some of them could not be released it says why. */
 int mg_recover(struct mg_session *session, unsigned flags, unsigned *released);
 
 /* ---- waiting ---- */

@@ -1,13 +1,10 @@
 /*
- * Sessions, over midgegalena.h alone. No proof covers this file. What keeps it right:
+ * Sessions, over midgegalena.h and claim.h. No proof covers this file. What keeps it right:
  *
  * - A *talk* is what a session does while it has the host number. Talks of a number do not overlap. Without MG_SHARE a session is one
  *   talk, but for the moment in which it opens the folder anew after a failure. With it each call opens the folder for a talk, and a
  *   wait looks by a handle that has no number.
- * - No reply is believed alone. A lock is had where the table shows its number with our client, host, name and mode, and it is gone
- *   where the table does not show it. So it does no harm if a request number was used before, by a command that came into the log
- *   late: then the table does not show what was asked, and the next number is taken. All that was acknowledged is learned before a
- *   lock is asked for: the table would be an old one, if the very same command stood far back in the log.
+ * - What a session does for a lock is decided by a proved claim (claim.h, crates/session). Here is done what that orders, and it is told what came of it.
  * - As long as a lock is somebody's, its sign of life is locked by flock: the file mg-lock.SET.HOST.LOCK in the folder, SET being the
  *   cluster number. Signs are made before the lock is asked for and removed after it is gone, within talks. A lock whose sign is there, and
  *   nobody's, is left over. What sets of an earlier life of the folder left there are no signs of its locks.
@@ -25,6 +22,8 @@
 
 #include "mg_session.h"
 
+#include "claim.h"
+
 #include <dirent.h>
 #include <errno.h>
 #include <fcntl.h>
@@ -40,30 +39,33 @@
 #include <unistd.h>
 
 enum { FIRST_CLIENT = 240, FIRST_LOCK = 1536, LOCKS_OF_A_HOST = 4000, NO_SIGN = -1, LEAST_FILE = 3 };
-enum { PATIENCE = 60000, LITTLE_PATIENCE = 5000, BEFORE_A_RECOVERY = 2000, FIRST_INTERVAL = 5, LONGEST_PAUSE = 200 }; /* milliseconds */
-enum { NUMBERS = LOCKS_OF_A_HOST / 2, MOST_TRIES = 64 };
+enum { PATIENCE = 60000, LITTLE_PATIENCE = 5000, FIRST_INTERVAL = 5, LONGEST_PAUSE = 200 }; /* milliseconds */
+
+static const struct claim_value NO_VALUE = {{0}};
 
 /* OURS: taken, or being taken. KEPT: a former run left it. UNWANTED: to be released once that can be done. */
-enum state { OURS, KEPT, UNWANTED };
+enum state { FREE, OURS, KEPT, UNWANTED };
 
 struct entry {
-    uint32_t lock; /* 0: the entry is free */
-    int32_t slot;
-    uint64_t cluster;
+    enum state state;
+    struct claim claim;
+    uint32_t lock;    /* 0: none is chosen yet */
     int mode;
     int sign;
-    enum state state;
-    bool in_doubt; /* a release of it may be in the log */
-    bool is_lent;  /* a child may have its sign */
+    uint64_t sign_of; /* the set in which the sign is */
+    bool is_lent;     /* a child may have its sign */
     char name[MG_NAME_LENGTH + 1];
 };
 
 struct mg_session {
     char *folder;         /* as it was given, but from the root; it may be a link */
     char *at;             /* where it led to */
+    dev_t device;         /* which folder that is */
+    ino_t inode;
     struct mg_host *host; /* of a talk */
     struct mg_host *eye;  /* with MG_SHARE, to look */
     bool is_worn;         /* the host is to be opened anew */
+    bool has_unwanted;    /* an entry is UNWANTED, or was */
     unsigned number, client, flags;
     uint64_t request; /* the last */
     int interval;
@@ -87,8 +89,6 @@ static unsigned any_below(unsigned bound) {
         part = (uint32_t)getpid() * 2654435761u;
     return part % bound;
 }
-
-static int64_t time_of_recovery(void) { return milliseconds() + BEFORE_A_RECOVERY + any_below(BEFORE_A_RECOVERY); }
 
 /* MG_OK after so long, or at `until`; MG_TIMED_OUT where that is past. A wait that may be stopped pauses as the caller wants it. */
 static int pause_for(struct mg_session *session, int64_t length, int64_t until, bool stops) {
@@ -119,56 +119,41 @@ static void close_all(struct mg_session *session) {
 
 /* Finds where the folder leads to. Where that has moved, what was open is closed: the log was renewed. */
 static int follow(struct mg_session *session) {
-    char *at = realpath(session->folder, NULL);
+    struct stat there;
+    char *at;
+    /* A path without a link leads where it led. */
+    if (session->at && strcmp(session->at, session->folder) == 0)
+        return MG_OK;
+    if (session->at && stat(session->folder, &there) == 0 && there.st_dev == session->device && there.st_ino == session->inode)
+        return MG_OK;
+    at = realpath(session->folder, NULL);
     if (!at)
         return errno == ENOMEM ? MG_NO_MEMORY : MG_UNREADABLE;
-    if (session->at && strcmp(session->at, at) == 0) {
+    if (stat(at, &there) != 0) {
         free(at);
-        return MG_OK;
+        return MG_UNREADABLE;
     }
     close_all(session);
     free(session->at);
     session->at = at;
+    session->device = there.st_dev;
+    session->inode = there.st_ino;
     return MG_OK;
 }
 
-/* Learns all that was acknowledged, and marks it. */
-static int mark_all(struct mg_host *host) {
-    int64_t until = milliseconds() + PATIENCE;
-    int status;
-    do
-        status = mg_mark(host, NULL);
-    while (status == MG_OUTRUN && milliseconds() < until);
-    return status;
-}
-
-/* Opens the folder under the host number, unless it is open. With MG_SHARE it waits for its turn. */
-static int begin_talk(struct mg_session *session, int64_t until, bool stops, int *disk) {
-    int64_t most = milliseconds() + PATIENCE;
-    int status;
+/* Opens the folder under the host number, unless it is open there. What it has learned then is all, or with MG_SHARE what marks tell. */
+static int open_once(struct mg_session *session, int *disk) {
+    int status = follow(session);
     if (session->host && session->is_worn) {
         mg_close(session->host);
         session->host = NULL;
     }
-    if (session->host)
-        return MG_OK;
-    session->is_worn = false;
-    for (;;) {
-        status = follow(session);
-        if (status == MG_OK)
-            status = mg_open(session->at, session->number, &session->host, disk);
-        if (status != MG_HOST_IN_USE || !is_shared(session))
-            break;
-        status = pause_for(session, 1 + any_below(16), until < most ? until : most, stops);
-        if (status == MG_TIMED_OUT && milliseconds() < until)
-            return MG_HOST_IN_USE;
-        if (status != MG_OK)
-            return status;
-    }
-    if (status != MG_OK)
+    if (status != MG_OK || session->host)
         return status;
-    /* For a release what is marked is enough, since nobody else releases the same lock. Who asks for one learns all before. */
-    status = is_shared(session) ? mg_look(session->host, NULL) : mark_all(session->host);
+    session->is_worn = false;
+    status = mg_open(session->at, session->number, &session->host, disk);
+    if (status == MG_OK)
+        status = is_shared(session) ? mg_look(session->host, NULL) : mg_mark(session->host, NULL);
     if (status != MG_OK) {
         mg_close(session->host);
         session->host = NULL;
@@ -176,35 +161,34 @@ static int begin_talk(struct mg_session *session, int64_t until, bool stops, int
     return status;
 }
 
-/* Passes the talk's status on. An image that failed is given up by its host, and a full log may be renewed. */
-static int end_talk(struct mg_session *session, int status) {
+/* The same, and with MG_SHARE it waits for its turn. */
+static int begin_talk(struct mg_session *session, int64_t until, int *disk) {
+    for (;;) {
+        int status = open_once(session, disk);
+        bool may_pass = status == MG_OUTRUN || (status == MG_HOST_IN_USE && is_shared(session));
+        if (!may_pass || pause_for(session, 1 + any_below(16), until, false) != MG_OK)
+            return status;
+    }
+}
+
+/* An image that failed is given up by its host, and a full log may be renewed. */
+static void wear(struct mg_session *session, int status) {
     session->is_worn |= status == MG_NO_MAJORITY || status == MG_LOG_FULL || status == MG_BROKEN;
+}
+
+static void end_talk(struct mg_session *session) {
     if (is_shared(session)) {
         mg_close(session->host);
         session->host = NULL;
     }
-    return status;
 }
 
-static bool is_full(struct mg_host *host) {
-    struct mg_host_view facts;
-    return mg_host_facts(host, &facts) == MG_OK && facts.learned >= facts.slots;
-}
-
-/* What a wait looks by: open, and not necessarily a talk. A full log may be renewed, so its folder is followed. */
-static int open_to_look(struct mg_session *session, int64_t until, struct mg_host **looks) {
-    struct mg_host *open = is_shared(session) ? session->eye : session->host;
-    int status = open && is_full(open) ? follow(session) : MG_OK;
+/* What a wait looks by: with MG_SHARE without the host number. */
+static int open_to_look(struct mg_session *session, struct mg_host **looks) {
+    int status = is_shared(session) ? follow(session) : open_once(session, NULL);
     *looks = NULL;
-    if (status != MG_OK)
-        return status;
-    if (!is_shared(session))
-        status = begin_talk(session, until, true, NULL);
-    else if (!session->eye) {
-        status = follow(session);
-        if (status == MG_OK)
-            status = mg_open_to_look(session->at, &session->eye, NULL);
-    }
+    if (status == MG_OK && is_shared(session) && !session->eye)
+        status = mg_open_to_look(session->at, &session->eye, NULL);
     *looks = is_shared(session) ? session->eye : session->host;
     return status;
 }
@@ -231,7 +215,7 @@ static bool was_shared(uint32_t lock) { return lock % 2 == 1; }
 
 static struct entry *entry_of(struct mg_session *session, uint32_t lock) {
     for (size_t i = 0; i < MG_LOCKS; i++)
-        if (lock != 0 && session->entries[i].lock == lock)
+        if (lock != 0 && session->entries[i].state != FREE && session->entries[i].lock == lock)
             return &session->entries[i];
     return NULL;
 }
@@ -240,12 +224,6 @@ static struct entry *entry_of(struct mg_session *session, uint32_t lock) {
 static int find_ours(struct mg_session *session, struct mg_host *host, uint32_t lock, struct mg_lock_view *view) {
     int status = mg_lock(host, lock, view);
     return status == MG_OK && !is_of(view, session->number) ? MG_NO_SUCH_LOCK : status;
-}
-
-/* Where the log has learned the command that asked for the lock. Of another log the lock was carried over. */
-static bool has_learned(struct mg_host *host, const struct entry *entry) {
-    struct mg_host_view facts;
-    return mg_host_facts(host, &facts) == MG_OK && (facts.cluster != entry->cluster || (int64_t)facts.learned > entry->slot);
 }
 
 /* One above the last of the client, and of this session. */
@@ -304,52 +282,29 @@ static int take_sign(const struct mg_session *session, unsigned number, uint32_t
     return take_file(path, makes);
 }
 
-/* Whether somebody else has, or had, the lock's number by now: there is a sign, and it is not ours. In a renewed folder our sign keeps
- * the number only where it is linked, once the lock was purged there. */
-static bool is_anothers(const struct mg_session *session, struct mg_host *host, const struct entry *entry) {
-    struct mg_host_view facts;
+/* Whether the entry's sign is ours in the folder that is open. In a renewed folder it is linked, or is made anew, in a talk: so nobody finds it before it
+ * is locked. A child that has the first one keeps the lock if this process is killed, so then there is no other one. */
+static bool keeps_sign(struct mg_session *session, struct entry *entry) {
     struct stat ours, there;
     char path[4200];
-    if (mg_host_facts(host, &facts) != MG_OK || facts.cluster == entry->cluster)
-        return false;
-    path_of_sign(session, session->number, entry->lock, path, sizeof path);
-    if (stat(path, &there) != 0)
-        return false;
-    return entry->sign == NO_SIGN || fstat(entry->sign, &ours) != 0 || ours.st_dev != there.st_dev || ours.st_ino != there.st_ino;
-}
-
-/* In a renewed folder to which a sign of ours could not be linked another one is made, in a talk: so nobody finds it before it is locked. A child
- * that has the first one keeps the lock if this process is killed, so then there is no other one. */
-static void sign_anew(struct mg_session *session, const struct mg_host *host, const struct entry *entry) {
-    struct entry *ours = entry_of(session, entry->lock);
-    char path[4200];
     int sign;
-    if (host != session->host || set_of(session) == entry->cluster || !ours || ours->is_lent)
-        return;
+    if (entry->lock == 0 || entry->sign == NO_SIGN || set_of(session) == entry->sign_of)
+        return true;
     path_of_sign(session, session->number, entry->lock, path, sizeof path);
-    if (access(path, F_OK) == 0 || errno != ENOENT)
-        return;
+    if (stat(path, &there) != 0) {
+        if (entry->is_lent || !session->host)
+            return true;
+    } else if (fstat(entry->sign, &ours) == 0 && ours.st_dev == there.st_dev && ours.st_ino == there.st_ino) {
+        entry->sign_of = set_of(session);
+        return true;
+    }
     sign = take_file(path, true);
     if (sign == NO_SIGN)
-        return;
-    if (ours->sign != NO_SIGN)
-        close(ours->sign);
-    ours->sign = sign;
-}
-
-/* Whether it shows the lock as it was asked for, and whether that is granted then. */
-static int find(struct mg_session *session, struct mg_host *host, const struct entry *entry, bool *granted) {
-    struct mg_lock_view view;
-    int status = find_ours(session, host, entry->lock, &view);
-    *granted = false;
-    if (status != MG_OK)
-        return status;
-    bool is_granted = view.wanted == MG_NONE;
-    if (is_anothers(session, host, entry) || strcmp(view.name, entry->name) != 0 || (is_granted ? view.held : view.wanted) != entry->mode)
-        return MG_NO_SUCH_LOCK;
-    sign_anew(session, host, entry);
-    *granted = is_granted;
-    return MG_OK;
+        return errno != EWOULDBLOCK;
+    close(entry->sign);
+    entry->sign = sign;
+    entry->sign_of = set_of(session);
+    return true;
 }
 
 static void end_sign(const struct mg_session *session, uint32_t lock, int sign) {
@@ -404,13 +359,11 @@ static void remove_old_signs(struct mg_session *session) {
 static bool is_in_log(int status) { return status == MG_OK || (status >= MG_LOCK_IN_USE && status <= MG_NOTHING_TO_CANCEL); }
 
 /* Releases a lock in a talk, until the table shows that it is gone. MG_NO_SUCH_LOCK: it was gone before. */
-static int release(struct mg_session *session, uint32_t lock, const void *value) {
-    int64_t until = milliseconds() + PATIENCE;
+static int release(struct mg_session *session, uint32_t lock, int64_t until) {
     uint64_t request = next_request(session);
     for (;;) {
         struct mg_lock_view view;
-        int status = value ? mg_release_value(session->host, session->client, request, lock, value, NULL)
-                           : mg_release(session->host, session->client, request, lock, NULL);
+        int status = mg_release(session->host, session->client, request, lock, NULL);
         if (status == MG_OUTRUN && milliseconds() < until)
             continue;
         if (!is_in_log(status) || status == MG_CLIENTS_FULL)
@@ -426,25 +379,6 @@ static int release(struct mg_session *session, uint32_t lock, const void *value)
     }
 }
 
-/* The same for a lock of this session, which is then none of it any more. */
-static int release_entry(struct mg_session *session, struct entry *entry, const void *value) {
-    int status;
-    if (is_anothers(session, session->host, entry)) {
-        close(entry->sign);
-        entry->lock = 0;
-        return MG_NO_SUCH_LOCK;
-    }
-    status = release(session, entry->lock, value);
-    if (status == MG_OK || status == MG_NO_SUCH_LOCK) {
-        if (entry->in_doubt)
-            status = MG_OK;
-        end_sign(session, entry->lock, entry->sign);
-        entry->lock = 0;
-    } else if (status == MG_OUTRUN || status == MG_NO_MAJORITY)
-        entry->in_doubt = true;
-    return status;
-}
-
 /* The sign of a lock of this host number that nobody has any more; NO_SIGN where somebody may have it. */
 static int sign_of_left_over(struct mg_session *session, uint32_t lock, bool all) {
     if (!all && is_shared(session) && !was_shared(lock))
@@ -452,16 +386,27 @@ static int sign_of_left_over(struct mg_session *session, uint32_t lock, bool all
     return take_sign(session, session->number, lock, all);
 }
 
-/* Releases in a talk what this session gave up, and what processes that are gone have left. Tells how many these left. */
-static unsigned release_left(struct mg_session *session, bool all) {
-    size_t count;
-    unsigned released = 0;
+/* How many locks were released, how many stay, and why the last of these does. */
+struct left {
+    unsigned released, stay;
+    int why;
+};
+
+static void count_left(struct left *left, int status) {
+    if (status == MG_OK || status == MG_NO_SUCH_LOCK)
+        left->released++;
+    else {
+        left->stay++;
+        left->why = status;
+    }
+}
+
+/* Releases in a talk what processes that are gone have left. */
+static void release_left(struct mg_session *session, bool all, int64_t until, struct left *left) {
     int status;
-    /* What may be in the log, or come into it, is released by a later request: a command that comes after that is stale. */
-    for (size_t i = 0; i < MG_LOCKS; i++)
-        if (session->entries[i].lock != 0 && session->entries[i].state == UNWANTED)
-            (void)release_entry(session, &session->entries[i], NULL);
-    count = read_table(session, session->host, &status);
+    size_t count = read_table(session, session->host, &status);
+    if (status != MG_OK)
+        count_left(left, status);
     for (size_t i = 0; i < count; i++) {
         uint32_t lock = session->table[i].lock;
         int sign;
@@ -470,14 +415,14 @@ static unsigned release_left(struct mg_session *session, bool all) {
         sign = sign_of_left_over(session, lock, all);
         if (sign == NO_SIGN)
             continue;
-        status = release(session, lock, NULL);
-        if (status == MG_OK || status == MG_NO_SUCH_LOCK) {
+        status = release(session, lock, until);
+        count_left(left, status);
+        wear(session, status);
+        if (status == MG_OK || status == MG_NO_SUCH_LOCK)
             end_sign(session, lock, sign);
-            released++;
-        } else
+        else
             close(sign);
     }
-    return released;
 }
 
 /* Whether a lock that nobody has any more holds a mode on the name. */
@@ -498,21 +443,180 @@ static bool holds_nobodys(struct mg_session *session, struct mg_host *looks, con
     return false;
 }
 
-/* Marks what has no mark, so that looks pass it, and releases what is left over. MG_NO_SUCH_LOCK: the entry's lock is gone. */
-static int recover(struct mg_session *session, const struct entry *entry, int64_t until, bool stops, bool all, unsigned *released) {
-    bool granted;
-    int status = begin_talk(session, until, stops, NULL);
-    if (status != MG_OK)
-        return status;
-    status = mark_all(session->host);
-    if (status == MG_OK) {
-        *released = release_left(session, all);
-        if (all)
-            remove_old_signs(session);
-        if (entry)
-            status = find(session, session->host, entry, &granted);
+/* ---- what a claim orders ---- */
+
+/* An operation on a claim: until when, and whether the caller may stop it; how it ended, and what it did besides. */
+struct work {
+    int64_t until;
+    bool stops;
+    bool is_part; /* of another operation, whose talk goes on */
+    struct due_order end;
+    struct left left;
+    uint32_t slots_left;
+    struct mg_value value;
+};
+
+static void release_unwanted(struct mg_session *session, int64_t until, bool is_part);
+
+static struct asker asker_of(const struct mg_session *session) {
+    struct asker asker = {0, 0, 0, 0, 0};
+    asker.request = session->request;
+    asker.host = session->number;
+    asker.shares = is_shared(session) ? 1 : 0;
+    asker.interval = (uint32_t)session->interval;
+    return asker;
+}
+
+static void free_entry(struct entry *entry) {
+    if (entry->sign != NO_SIGN)
+        close(entry->sign);
+    dlm_c_forget(&entry->claim);
+    memset(entry, 0, sizeof *entry);
+    entry->sign = NO_SIGN;
+}
+
+static void take_sign_for(struct mg_session *session, struct entry *entry, struct mg_host *host, uint32_t lock) {
+    int sign = entry_of(session, lock) ? NO_SIGN : take_sign(session, session->number, lock, true);
+    if (sign != NO_SIGN) {
+        entry->lock = lock;
+        entry->sign = sign;
+        entry->sign_of = set_of(session);
+        claim_hears(&entry->claim, host, SIGN_IS_OURS, 0, false);
+    } else if (entry_of(session, lock) || errno == EWOULDBLOCK)
+        claim_hears(&entry->claim, host, SIGN_IS_HELD, 0, false);
+    else
+        (void)dlm_c_hear_alone(&entry->claim, SIGN_FAILED, 0);
+}
+
+static void drop_sign(struct mg_session *session, struct entry *entry, struct mg_host *host, const struct due_order *order) {
+    if (order->amount == 1)
+        end_sign(session, entry->lock, entry->sign);
+    else if (entry->sign != NO_SIGN)
+        close(entry->sign);
+    entry->sign = NO_SIGN;
+    entry->lock = 0;
+    claim_hears(&entry->claim, host, SIGN_IS_DROPPED, 0, false);
+}
+
+static void rest(struct mg_session *session, struct entry *entry, const struct work *work, int64_t length) {
+    int status = pause_for(session, length, work->until, work->stops);
+    if (status == MG_STOPPED)
+        dlm_c_stop(&entry->claim, true);
+    else if (status == MG_OK)
+        (void)dlm_c_hear_alone(&entry->claim, HAS_RESTED, 0);
+}
+
+static struct mg_host *open_for(struct mg_session *session, struct entry *entry, bool to_look) {
+    struct mg_host *host = NULL;
+    int status = to_look ? open_to_look(session, &host) : open_once(session, NULL);
+    if (!to_look)
+        host = session->host;
+    if (status != MG_OK) {
+        if (to_look)
+            close_all(session); /* an image that failed is given up by its handle */
+        (void)dlm_c_hear_alone(&entry->claim, IS_CLOSED, status);
+        return NULL;
     }
-    return end_talk(session, status);
+    claim_hears(&entry->claim, host, keeps_sign(session, entry) ? IS_OPEN : SIGN_IS_HELD, 0, false);
+    return host;
+}
+
+/* NULL: an image failed, and is given up by its handle. */
+static struct mg_host *tell_learned(struct mg_session *session, struct entry *entry, struct mg_host *host, int status) {
+    wear(session, status);
+    if (status == MG_OK) {
+        /* Of interest while it waits. */
+        claim_hears(&entry->claim, host, HAS_LEARNED, 0, entry->lock != 0 && holds_nobodys(session, host, entry->name));
+        return host;
+    }
+    claim_hears(&entry->claim, host, IS_REFUSED, status, false);
+    if (status != MG_NO_MAJORITY && status != MG_BROKEN)
+        return host;
+    close_all(session);
+    return NULL;
+}
+
+/* The folder may have been opened anew meanwhile, or be closed. */
+static struct mg_host *tidy(struct mg_session *session, struct entry *entry, struct work *work) {
+    release_unwanted(session, work->until, true);
+    if (session->host)
+        release_left(session, false, work->until, &work->left);
+    if (session->host)
+        claim_hears(&entry->claim, session->host, HAS_LEARNED, 0, false);
+    else
+        (void)dlm_c_hear_alone(&entry->claim, IS_CLOSED, MG_NO_MAJORITY);
+    return session->host;
+}
+
+/* What the operation has come to, by the host that was heard last. */
+static void conclude(struct mg_session *session, struct entry *entry, struct mg_host *host, struct work *work) {
+    struct mg_host_view facts = {0, 0, 0, 0, 0, 0};
+    struct claim_view view = {0, 0, 0, -1, 0, 0};
+    (void)dlm_c_show(&entry->claim, &view);
+    if (view.request > session->request)
+        session->request = view.request;
+    if (host && mg_host_facts(host, &facts) == MG_OK)
+        work->slots_left = (uint32_t)(facts.slots - facts.learned);
+    if (host && work->end.outcome == IS_HELD)
+        (void)mg_value(host, entry->lock, &work->value);
+    if (!work->is_part)
+        end_talk(session);
+}
+
+/* Does what the claim orders, until its operation has ended. */
+static void operate(struct mg_session *session, struct entry *entry, struct work *work) {
+    struct mg_host *host = work->is_part ? session->host : NULL;
+    struct due_order *order = &work->end;
+    bool is_over = false;
+    for (;;) {
+        if (!is_over && milliseconds() >= work->until) {
+            dlm_c_stop(&entry->claim, false);
+            is_over = true;
+        }
+        memset(order, 0, sizeof *order);
+        if (dlm_c_order(&entry->claim, order) != 0)
+            order->outcome = HAS_FAILED, order->status = MG_BROKEN, order->kind = TO_END;
+        switch (order->kind) {
+        case TO_OPEN: host = open_for(session, entry, false); break;
+        case TO_OPEN_TO_LOOK: host = open_for(session, entry, true); break;
+        case TO_LEARN: host = tell_learned(session, entry, host, mg_mark(host, NULL)); break;
+        case TO_LOOK: host = tell_learned(session, entry, host, mg_look(host, NULL)); break;
+        case TO_TIDY: host = tidy(session, entry, work); break;
+        case TO_TAKE_SIGN: take_sign_for(session, entry, host, order->lock); break;
+        case TO_DROP_SIGN: drop_sign(session, entry, host, order); break;
+        case TO_SUBMIT: wear(session, claim_submits(&entry->claim, host)); break;
+        case TO_REST:
+            if (!work->is_part) {
+                end_talk(session);
+                host = NULL;
+            }
+            rest(session, entry, work, order->amount);
+            break;
+        case TO_YIELD: rest(session, entry, work, 1 + any_below(16u << (order->amount < 7 ? order->amount : 7))); break;
+        default: conclude(session, entry, host, work); return;
+        }
+    }
+}
+
+/* Releases what this session gave up, and could not release then. */
+static void release_unwanted(struct mg_session *session, int64_t until, bool is_part) {
+    bool stays = false;
+    for (size_t i = 0; i < MG_LOCKS && session->has_unwanted; i++) {
+        struct entry *entry = &session->entries[i];
+        struct asker asker = asker_of(session);
+        struct work work;
+        stays |= entry->state == UNWANTED;
+        if (entry->state != UNWANTED)
+            continue;
+        memset(&work, 0, sizeof work);
+        work.until = until;
+        work.is_part = is_part;
+        (void)dlm_c_begin(&entry->claim, &asker, GIVE_UP, &NO_VALUE);
+        operate(session, entry, &work);
+        if (work.end.outcome == IS_NOT_HELD)
+            free_entry(entry);
+    }
+    session->has_unwanted = stays;
 }
 
 /* ---- give ---- */
@@ -522,215 +626,52 @@ static bool is_link(const char *path) {
     return lstat(path, &facts) == 0 && S_ISLNK(facts.st_mode);
 }
 
-/* Releases a lock of this session. For a minute it waits for a full log to be renewed, and where it waits for disks, for them. */
-static int let_go(struct mg_session *session, struct entry *entry, const void *value, bool waits_for_disks) {
-    int64_t until = milliseconds() + PATIENCE;
-    for (;;) {
-        bool may_pass;
-        int status = begin_talk(session, until, false, NULL);
-        if (status == MG_OK)
-            status = end_talk(session, release_entry(session, entry, value));
-        may_pass = (status == MG_LOG_FULL && is_link(session->folder)) ||
-                   (waits_for_disks && (status == MG_NO_MAJORITY || status == MG_UNREADABLE || status == MG_OUTRUN));
-        if (!may_pass || pause_for(session, LONGEST_PAUSE, until, false) != MG_OK)
-            return status;
+static int begin_to_give(struct mg_session *session, struct entry *entry, const void *value) {
+    struct asker asker = asker_of(session);
+    struct claim_value stored = NO_VALUE;
+    if (value)
+        memcpy(stored.bytes, value, sizeof stored.bytes);
+    return dlm_c_begin(&entry->claim, &asker, value ? GIVE_VALUE : GIVE, &stored);
+}
+
+/* How an operation on a lock that was held has ended. */
+static int settle(struct entry *entry, const struct work *work) {
+    switch (work->end.outcome) {
+    case IS_HELD: return MG_OK;
+    case IS_GIVEN: free_entry(entry); return MG_OK;
+    case IS_NOT_HELD: free_entry(entry); return MG_NO_SUCH_LOCK;
+    case IS_IN_DOUBT: return MG_IN_DOUBT;
+    default: return work->end.status;
     }
 }
 
+/* For a minute it waits for disks, and for a full log to be renewed. */
 int mg_give(struct mg_session *session, unsigned lock, const void *value) {
     struct entry *entry = session ? entry_of(session, lock) : NULL;
+    int64_t until = milliseconds() + PATIENCE;
     if (!session)
         return MG_BAD_ARGUMENT;
-    return entry && entry->state == OURS ? let_go(session, entry, value, true) : MG_NO_SUCH_LOCK;
+    if (!entry || entry->state == KEPT)
+        return MG_NO_SUCH_LOCK;
+    for (;;) {
+        struct work work;
+        int status = begin_to_give(session, entry, value);
+        if (status != MG_OK)
+            return MG_BAD_ARGUMENT;
+        memset(&work, 0, sizeof work);
+        work.until = until;
+        operate(session, entry, &work);
+        status = settle(entry, &work);
+        if (status != MG_LOG_FULL || !is_link(session->folder) || pause_for(session, LONGEST_PAUSE, until, false) != MG_OK) {
+            release_unwanted(session, milliseconds() + LITTLE_PATIENCE, false);
+            return status;
+        }
+    }
 }
 
 /* ---- take ---- */
 
 static const struct mg_held NOTHING_HELD = {0, -1, 0, 0, 0, {{0}, 0}};
-
-/* Whether a lock in this mode would have to wait. */
-static bool is_taken(struct mg_session *session, const char *name, int mode) {
-    static const char *const AGAINST[] = {"", "5", "345", "245", "2345", "12345"};
-    int status;
-    size_t count = read_table(session, session->host, &status);
-    for (size_t i = 0; i < count; i++) {
-        const struct mg_lock_view *view = &session->table[i];
-        if (strcmp(view->name, name) == 0 && (view->wanted != MG_NONE || (mode > 0 && strchr(AGAINST[view->held], '0' + mode))))
-            return true;
-    }
-    return false;
-}
-
-/* Lets go of a lock number that did not become ours. Where the table has it a former run's command came into the log, and the sign
- * stays, and nobody's: so it is left over. */
-static void drop(struct mg_session *session, struct entry *entry) {
-    struct mg_lock_view view;
-    if (find_ours(session, session->host, entry->lock, &view) == MG_NO_SUCH_LOCK)
-        end_sign(session, entry->lock, entry->sign);
-    else
-        close(entry->sign);
-    entry->sign = NO_SIGN;
-    entry->lock = 0;
-}
-
-/* Finds a request number whose lock number is free, and takes the sign of that. The number is odd for a command that does not queue.
- * So a former run's command of this number, name and mode is the very same, which is acknowledged where it stands: the slot is that
- * of the lock. */
-static int choose(struct mg_session *session, struct entry *entry, unsigned flags, uint64_t *request) {
-    for (int i = 0; i < NUMBERS; i++) {
-        struct mg_lock_view view;
-        uint32_t lock;
-        int found;
-        do
-            *request = next_request(session);
-        while (*request % 2 != flags);
-        lock = (uint32_t)(FIRST_LOCK + LOCKS_OF_A_HOST * session->number + 2 * (*request % NUMBERS));
-        lock += is_shared(session) ? 1 : 0;
-        found = mg_lock(session->host, lock, &view);
-        if (found == MG_OK || entry_of(session, lock))
-            continue;
-        if (found != MG_NO_SUCH_LOCK)
-            return found;
-        entry->sign = take_sign(session, session->number, lock, true);
-        if (entry->sign != NO_SIGN) {
-            entry->lock = lock;
-            return MG_OK;
-        }
-        if (errno != EWOULDBLOCK)
-            return MG_NO_LOCK;
-        /* Somebody has it whose command is not learned. */
-    }
-    return MG_TABLE_FULL;
-}
-
-/* Asks for a lock by the next request numbers, until the table shows it, granted or waiting. */
-static int ask(struct mg_session *session, struct entry *entry, int64_t until, unsigned flags, bool *granted) {
-    for (int tries = 0; tries < MOST_TRIES; tries++) {
-        struct mg_answer answer;
-        uint64_t request;
-        int found, status = choose(session, entry, flags, &request);
-        if (status != MG_OK)
-            return status;
-        do
-            status = mg_enqueue(session->host, session->client, request, entry->lock, entry->mode, entry->name, flags, &answer);
-        while (status == MG_OUTRUN && milliseconds() < until);
-        /* It may be in the log all the same, and has to be released then. A full log is known to its end. */
-        if (!is_in_log(status) && status != MG_LOG_FULL)
-            return status;
-        found = find(session, session->host, entry, granted);
-        if (status == MG_OK && found != MG_NO_SUCH_LOCK) {
-            entry->slot = answer.slot;
-            return found;
-        }
-        if (found == MG_OK) {
-            /* A command of a former run has taken it in this moment. It has no slot that is known. */
-            status = release_entry(session, entry, NULL);
-            if (entry->lock == 0)
-                continue;
-        }
-        if (found != MG_NO_SUCH_LOCK)
-            return status;
-        /* The table refused it, or the answer was that to another command of this number. */
-        drop(session, entry);
-        if (status != MG_OK && status != MG_STALE && status != MG_LOCK_IN_USE)
-            return status;
-    }
-    return MG_STALE;
-}
-
-/* A talk in which the entry's lock is asked for, unless a former run has asked. */
-static int ask_in_talk(struct mg_session *session, struct entry *entry, int64_t until, bool no_queue, struct mg_held *held, bool *granted) {
-    struct mg_host_view facts = {0, 0, 0, 0, 0, 0};
-    int status = begin_talk(session, until, true, NULL);
-    if (status != MG_OK)
-        return status;
-    /* A number that was used already is not asked by again. The very same command would be acknowledged where it stands, far back, though
-     * its lock was given back since. */
-    if (is_shared(session))
-        status = mark_all(session->host);
-    else if (no_queue)
-        status = mg_look(session->host, NULL);
-    held->released += release_left(session, false);
-    if (status == MG_OK && entry->lock != 0)
-        status = find(session, session->host, entry, granted);
-    else if (status == MG_OK) {
-        (void)mg_host_facts(session->host, &facts);
-        entry->cluster = facts.cluster;
-        /* What is refused would take a slot all the same. */
-        if (no_queue && !is_shared(session) && is_taken(session, entry->name, entry->mode)) {
-            status = mark_all(session->host);
-            held->released += release_left(session, false);
-        }
-        if (status == MG_OK && no_queue && is_taken(session, entry->name, entry->mode))
-            status = MG_NOT_QUEUED;
-        if (status == MG_OK)
-            status = ask(session, entry, until, no_queue ? MG_NO_QUEUE : 0, granted);
-    }
-    (void)mg_host_facts(session->host, &facts);
-    held->slots_left = (uint32_t)(facts.slots - facts.learned);
-    if (status == MG_OK && *granted)
-        status = mg_value(session->host, entry->lock, &held->value);
-    return end_talk(session, status);
-}
-
-/* What a wait has learned so far, and when it recovers. */
-struct wait {
-    uint64_t learned;
-    int64_t recovers;
-};
-
-/* One look of a wait. MG_NO_SUCH_LOCK: the lock is gone. */
-static int look_for(struct mg_session *session, struct entry *entry, int64_t until, struct wait *wait, struct mg_held *held, bool *granted) {
-    struct mg_host *looks;
-    uint64_t learned = 0;
-    unsigned released = 0;
-    int found = MG_OK;
-    int status = open_to_look(session, until, &looks);
-    if (status == MG_OK)
-        status = mg_look(looks, &learned);
-    if (status != MG_OK)
-        return status;
-    if (learned != wait->learned)
-        wait->recovers = time_of_recovery();
-    wait->learned = learned;
-    if (has_learned(looks, entry))
-        found = find(session, looks, entry, granted);
-    if (found != MG_OK && found != MG_NO_SUCH_LOCK)
-        return found;
-    if (*granted)
-        return mg_value(looks, entry->lock, &held->value);
-    /* Nothing is left to recover. Once it is renewed the next look is in the folder where it goes on. */
-    if (is_full(looks))
-        return found;
-    if (found == MG_OK && milliseconds() < wait->recovers && !holds_nobodys(session, looks, entry->name))
-        return MG_OK;
-    wait->recovers = time_of_recovery();
-    status = recover(session, entry, until, true, false, &released);
-    held->released += released;
-    return status == MG_OUTRUN ? MG_OK : status;
-}
-
-/* Looks until the lock is granted. For a minute it waits for disks to come back. */
-static int await(struct mg_session *session, struct entry *entry, int64_t until, struct mg_held *held) {
-    struct wait wait = {0, time_of_recovery()};
-    int64_t pause = 1, gives_up = milliseconds() + PATIENCE;
-    for (;;) {
-        bool granted = false;
-        int status = look_for(session, entry, until, &wait, held, &granted);
-        if (status == MG_OK && granted)
-            return MG_OK;
-        if ((status == MG_NO_MAJORITY || status == MG_UNREADABLE) && milliseconds() < gives_up) {
-            close_all(session); /* an image that failed is given up by its handle */
-            status = pause_for(session, LONGEST_PAUSE, until, true);
-        } else if (status == MG_OK) {
-            gives_up = milliseconds() + PATIENCE;
-            status = pause_for(session, pause, until, true);
-            pause = pause < session->interval / 2 ? 2 * pause : session->interval;
-        }
-        if (status != MG_OK)
-            return status;
-    }
-}
 
 static bool is_name(const char *name) {
     size_t length = name ? strlen(name) : 0;
@@ -745,88 +686,86 @@ static struct entry *entry_for(struct mg_session *session, const char *name, int
     struct entry *free_one = NULL;
     for (size_t i = 0; i < MG_LOCKS; i++) {
         struct entry *entry = &session->entries[i];
-        if (entry->lock == 0)
+        if (entry->state == FREE)
             free_one = entry;
-        else if (entry->state == KEPT && entry->mode == mode && strcmp(entry->name, name) == 0) {
-            entry->state = OURS;
+        else if (entry->state == KEPT && entry->mode == mode && strcmp(entry->name, name) == 0)
             return entry;
-        }
     }
     if (free_one) {
-        memset(free_one, 0, sizeof *free_one);
-        free_one->slot = -1;
         free_one->mode = mode;
-        free_one->sign = NO_SIGN;
         strcpy(free_one->name, name);
     }
     return free_one;
 }
 
-/* Whether the folder leads elsewhere by now. */
-static bool has_moved(const struct mg_session *session) {
-    char *at = realpath(session->folder, NULL);
-    bool moved = at && strcmp(at, session->at) != 0;
-    free(at);
-    return moved;
+static int begin_to_take(struct mg_session *session, struct entry *entry, bool waits) {
+    struct asker asker = asker_of(session);
+    if (entry->state == KEPT)
+        return dlm_c_begin(&entry->claim, &asker, waits ? TAKE_LEFT : TAKE_LEFT_AT_ONCE, &NO_VALUE);
+    return dlm_c_take(&entry->claim, &asker, (const uint8_t *)entry->name, strlen(entry->name), (uint32_t)entry->mode, waits);
 }
 
 int mg_take(struct mg_session *session, const char *name, int mode, int timeout, struct mg_held *held) {
-    int64_t now = milliseconds();
-    int64_t until = timeout < 0 ? INT64_MAX : now + timeout;
-    bool granted = false;
+    struct claim_view view = {0, 0, 0, -1, 0, 0};
     struct entry *entry;
+    struct work work;
     int status;
     if (held)
         *held = NOTHING_HELD;
     if (!session || !held || !is_name(name) || mode < MG_NL || mode > MG_EX)
         return MG_BAD_ARGUMENT;
+    memset(&work, 0, sizeof work);
+    work.until = timeout < 0 ? INT64_MAX : milliseconds() + (timeout == 0 ? LITTLE_PATIENCE : timeout);
+    work.stops = true;
     entry = entry_for(session, name, mode);
     if (!entry)
         return MG_TABLE_FULL;
-    do
-        status = ask_in_talk(session, entry, timeout == 0 ? now + LITTLE_PATIENCE : until, timeout == 0, held, &granted);
-    while (status == MG_LOG_FULL && entry->lock == 0 && has_moved(session));
-    if (status == MG_OK && !granted)
-        status = await(session, entry, until, held);
-    if (status != MG_OK) {
+    status = begin_to_take(session, entry, timeout != 0);
+    if (status != MG_OK)
+        return status < MG_OK ? MG_BAD_ARGUMENT : status;
+    entry->state = OURS;
+    operate(session, entry, &work);
+    (void)dlm_c_show(&entry->claim, &view);
+    switch (work.end.outcome) {
+    case IS_HELD:
+        held->lock = entry->lock;
+        held->slot = view.slot;
+        held->cluster = view.set;
+        held->slots_left = work.slots_left;
+        held->released = work.left.released;
+        held->value = work.value;
+        return MG_OK;
+    case IS_IN_DOUBT:
         entry->state = UNWANTED;
-        if (entry->lock != 0)
-            (void)let_go(session, entry, NULL, false);
-        *held = NOTHING_HELD;
-        return status == MG_NOT_QUEUED || status == MG_OUTRUN ? MG_TIMED_OUT : status;
+        session->has_unwanted = true;
+        held->lock = entry->lock;
+        return MG_IN_DOUBT;
+    default:
+        free_entry(entry);
+        return work.end.status;
     }
-    held->lock = entry->lock;
-    held->slot = entry->slot;
-    held->cluster = entry->cluster;
-    return MG_OK;
 }
 
 /* ---- check ---- */
 
 int mg_check(struct mg_session *session, unsigned lock) {
-    int64_t until = milliseconds() + PATIENCE;
     struct entry *entry = session ? entry_of(session, lock) : NULL;
-    struct mg_host *looks;
-    unsigned released;
-    bool granted;
+    struct asker asker;
+    struct work work;
     int status;
     if (!session)
         return MG_BAD_ARGUMENT;
+    release_unwanted(session, milliseconds() + LITTLE_PATIENCE, false);
     if (!entry || entry->state != OURS)
         return MG_NO_SUCH_LOCK;
-    do {
-        status = open_to_look(session, until, &looks);
-        if (status == MG_OK)
-            status = mg_look(looks, NULL);
-    } while (status == MG_OK && is_full(looks) && has_moved(session));
-    if (status == MG_NO_MAJORITY)
-        close_all(session);
-    if (status != MG_OK || !has_learned(looks, entry))
-        return status;
-    status = find(session, looks, entry, &granted);
-    if (status != MG_NO_SUCH_LOCK)
-        return status;
-    return recover(session, entry, until, false, false, &released);
+    asker = asker_of(session);
+    memset(&work, 0, sizeof work);
+    work.until = milliseconds() + PATIENCE;
+    status = dlm_c_begin(&entry->claim, &asker, CHECK, &NO_VALUE);
+    if (status != MG_OK)
+        return MG_BROKEN;
+    operate(session, entry, &work);
+    return settle(entry, &work);
 }
 
 /* ---- of other hosts, and of other processes ---- */
@@ -880,18 +819,42 @@ int mg_purge_dead(struct mg_session *session, unsigned victim, unsigned *purged)
         *purged = 0;
     if (!session || victim >= MG_HOSTS || victim == session->number)
         return MG_BAD_ARGUMENT;
-    status = begin_talk(session, milliseconds() + PATIENCE, false, NULL);
+    status = begin_talk(session, milliseconds() + PATIENCE, NULL);
     if (status != MG_OK)
         return status;
     status = mg_open(session->at, victim, &dead, NULL);
     if (status == MG_OK)
-        status = mark_all(session->host);
+        status = mg_mark(session->host, NULL);
     if (status == MG_OK)
         status = has_living(session, victim) ? MG_HOST_IN_USE : purge(session, victim, &count);
     mg_close(dead);
     if (purged)
         *purged = count;
-    return end_talk(session, status);
+    wear(session, status);
+    end_talk(session);
+    return status;
+}
+
+/* Marks what has no mark, so that looks pass it, and releases what is left over. */
+static int recover(struct mg_session *session, int64_t until, bool all, unsigned *released) {
+    struct left left = {0, 0, MG_OK};
+    int status = begin_talk(session, until, NULL);
+    if (status != MG_OK)
+        return status;
+    do
+        status = mg_mark(session->host, NULL);
+    while (status == MG_OUTRUN && milliseconds() < until);
+    if (status == MG_OK) {
+        release_unwanted(session, until, true);
+        release_left(session, all, until, &left);
+        if (all)
+            remove_old_signs(session);
+        status = left.stay > 0 ? left.why : MG_OK;
+    }
+    *released = left.released;
+    wear(session, status);
+    end_talk(session);
+    return status;
 }
 
 int mg_recover(struct mg_session *session, unsigned flags, unsigned *released) {
@@ -901,7 +864,7 @@ int mg_recover(struct mg_session *session, unsigned flags, unsigned *released) {
         *released = 0;
     if (!session || (flags & ~MG_ALL) != 0)
         return MG_BAD_ARGUMENT;
-    status = recover(session, NULL, milliseconds() + PATIENCE, false, (flags & MG_ALL) != 0, &count);
+    status = recover(session, milliseconds() + PATIENCE, (flags & MG_ALL) != 0, &count);
     if (released)
         *released = count;
     return status;
@@ -911,25 +874,25 @@ int mg_recover(struct mg_session *session, unsigned flags, unsigned *released) {
 
 /* The locks that former runs without MG_SHARE left become entries. */
 static int keep_left(struct mg_session *session) {
-    struct mg_host_view facts = {0, 0, 0, 0, 0, 0};
+    struct asker asker = asker_of(session);
     int status;
     size_t count = read_table(session, session->host, &status);
-    (void)mg_host_facts(session->host, &facts);
-    for (size_t i = 0; i < count; i++) {
+    for (size_t i = 0; i < count && status == MG_OK; i++) {
         const struct mg_lock_view *view = &session->table[i];
         struct entry *entry = &session->entries[i];
+        int mode = view->wanted == MG_NONE ? view->held : view->wanted;
         int sign = NO_SIGN;
         if (is_of(view, session->number) && !was_shared(view->lock))
             sign = take_sign(session, session->number, view->lock, false);
         if (sign == NO_SIGN)
             continue;
-        entry->lock = view->lock;
-        entry->slot = -1;
-        entry->cluster = facts.cluster;
-        entry->mode = view->wanted == MG_NONE ? view->held : view->wanted;
-        entry->sign = sign;
-        entry->state = KEPT;
         memcpy(entry->name, view->name, sizeof entry->name);
+        status = dlm_c_left(&entry->claim, &asker, view->lock, (const uint8_t *)entry->name, strlen(entry->name), (uint32_t)mode, set_of(session));
+        entry->state = KEPT;
+        entry->lock = view->lock;
+        entry->mode = mode;
+        entry->sign = sign;
+        entry->sign_of = set_of(session);
     }
     return status;
 }
@@ -946,19 +909,17 @@ static char *from_root(const char *folder) {
 }
 
 static int begin(struct mg_session *session, int *disk) {
-    int status;
-    if (is_shared(session)) {
-        status = follow(session);
-        return status == MG_OK ? mg_open_to_look(session->at, &session->eye, disk) : status;
-    }
-    status = begin_talk(session, milliseconds(), false, disk);
+    struct left left = {0, 0, MG_OK};
+    int status = is_shared(session) ? follow(session) : begin_talk(session, milliseconds() + LITTLE_PATIENCE, disk);
     if (status != MG_OK)
         return status;
+    if (is_shared(session))
+        return mg_open_to_look(session->at, &session->eye, disk);
     if (session->flags & MG_KEEP)
         status = keep_left(session);
     if (status == MG_OK)
-        (void)release_left(session, false);
-    return status;
+        release_left(session, false, milliseconds() + PATIENCE, &left);
+    return status == MG_OK && left.stay > 0 ? left.why : status;
 }
 
 int mg_begin(const char *folder, unsigned host, unsigned flags, struct mg_session **out, int *disk) {
@@ -977,6 +938,8 @@ int mg_begin(const char *folder, unsigned host, unsigned flags, struct mg_sessio
     session->client = FIRST_CLIENT + host;
     session->flags = flags;
     session->interval = FIRST_INTERVAL;
+    for (size_t i = 0; i < MG_LOCKS; i++)
+        session->entries[i].sign = NO_SIGN;
     session->folder = from_root(folder);
     status = session->folder ? begin(session, disk) : MG_NO_MEMORY;
     if (status != MG_OK) {
@@ -992,8 +955,7 @@ void mg_end(struct mg_session *session) {
         return;
     close_all(session);
     for (size_t i = 0; i < MG_LOCKS; i++)
-        if (session->entries[i].lock != 0 && session->entries[i].sign != NO_SIGN)
-            close(session->entries[i].sign);
+        free_entry(&session->entries[i]);
     free(session->at);
     free(session->folder);
     free(session);
@@ -1019,7 +981,7 @@ int mg_host_of(struct mg_session *session, struct mg_host **host) {
         *host = NULL;
     if (!session || !host)
         return MG_BAD_ARGUMENT;
-    return open_to_look(session, milliseconds() + PATIENCE, host);
+    return open_to_look(session, host);
 }
 
 int mg_sign_of(struct mg_session *session, unsigned lock) {

@@ -10,6 +10,7 @@
 #define _POSIX_C_SOURCE 200809L
 #endif
 
+#include "claim.h"
 #include "midgegalena.h"
 
 #include <errno.h>
@@ -137,6 +138,9 @@ int32_t dlm_c_value(struct handle *handle, uint32_t lock, struct mg_value *into)
 int32_t dlm_c_locks(struct handle *handle, struct mg_lock_view *into, size_t room, size_t *count);
 int32_t dlm_c_clients(struct handle *handle, struct mg_client_view *into, size_t room, size_t *count);
 int32_t dlm_c_text(struct handle *handle, uint8_t *into, size_t room, size_t *length);
+
+int32_t dlm_c_submit_order(struct claim *claim, struct handle *handle);
+int32_t dlm_c_hear(struct claim *claim, struct handle *handle, uint32_t event, int32_t status, bool left_over);
 
 /* What it says below 0, but for a bad argument, is of calls that this file does not make. */
 static int status_of(int32_t told) { return told >= MG_BAD_ARGUMENT ? told : MG_BROKEN; }
@@ -714,6 +718,22 @@ int mg_purge(struct mg_host *host, unsigned client, uint64_t request, unsigned p
     struct request asked = asks(PURGE, client, request, 0);
     asked.purged = purged;
     return submit(host, &asked, "", answer);
+}
+
+/* ---- claims ---- */
+
+void claim_hears(struct claim *claim, struct mg_host *host, enum event event, int status, bool left_over) {
+    (void)dlm_c_hear(claim, &host->handle, event, status, left_over);
+}
+
+/* Puts the claim's command into the log, tells the claim what came of that, and then marks it. */
+int claim_submits(struct claim *claim, struct mg_host *host) {
+    struct answer answer, marked;
+    int status = carry_out(host, dlm_c_submit_order(claim, &host->handle), &answer);
+    claim_hears(claim, host, HAS_REPLIED, 0, false);
+    if (answer.slot >= 0)
+        (void)carry_out(host, dlm_c_mark(&host->handle, (uint32_t)answer.slot), &marked);
+    return status;
 }
 
 /* ---- what others did ---- */

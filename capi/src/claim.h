@@ -1,0 +1,75 @@
+/*
+ * claim.h: the claims of the proved library (crates/dlm_c/src/claims.rt), for mg_session.c. A claim is a lock that a session wants, has or gives back: it
+ * orders what is to be done next, and is told what came of that.
+ */
+#ifndef MG_CLAIM_H
+#define MG_CLAIM_H
+
+#include "midgegalena.h"
+
+#include <stdbool.h>
+
+/* ClaimHandle of claim_handle.rt: all zeros keep no claim. Nothing but the functions below reads or writes it. */
+struct claim {
+    bool is_open;
+    void *at;
+};
+
+/* AskerNumbers of asker.rt */
+struct asker {
+    uint64_t request;
+    uint32_t host;
+    uint32_t shares;
+    uint32_t interval;
+    uint32_t unused;
+};
+
+/* DueOrder of due_order.rt */
+struct due_order {
+    uint32_t kind;
+    uint32_t lock;
+    uint32_t amount;
+    uint32_t outcome;
+    int32_t status;
+    int32_t slot;
+};
+
+/* ValueNumbers and ClaimView of claims.rt */
+struct claim_value {
+    uint8_t bytes[MG_VALUE_LENGTH];
+};
+
+struct claim_view {
+    uint64_t set;
+    uint64_t request;
+    uint32_t lock;
+    int32_t slot;
+    uint32_t standing;
+    uint32_t unused;
+};
+
+typedef char claims_are_as_there[sizeof(struct claim) == 16 && sizeof(struct asker) == 24 && sizeof(struct due_order) == 24 &&
+                                         sizeof(struct claim_value) == 16 && sizeof(struct claim_view) == 32
+                                     ? 1
+                                     : -1];
+
+enum order { TO_OPEN = 1, TO_OPEN_TO_LOOK, TO_LEARN, TO_LOOK, TO_TIDY, TO_TAKE_SIGN, TO_DROP_SIGN, TO_SUBMIT, TO_REST, TO_YIELD, TO_END };
+enum end { IS_HELD, IS_NOT_HELD, IS_GIVEN, IS_IN_DOUBT, HAS_FAILED };
+enum goal { TAKE_LEFT = 1, TAKE_LEFT_AT_ONCE, CHECK, GIVE, GIVE_VALUE, GIVE_UP };
+enum event { IS_OPEN = 1, HAS_LEARNED, HAS_REPLIED, IS_REFUSED, SIGN_IS_OURS, SIGN_IS_HELD, SIGN_IS_DROPPED };
+enum event_alone { IS_CLOSED = 1, HAS_RESTED, SIGN_FAILED };
+
+int32_t dlm_c_take(struct claim *claim, const struct asker *asker, const uint8_t *name, size_t length, uint32_t mode, bool waits);
+int32_t dlm_c_left(struct claim *claim, const struct asker *asker, uint32_t lock, const uint8_t *name, size_t length, uint32_t mode, uint64_t set);
+int32_t dlm_c_begin(struct claim *claim, const struct asker *asker, uint32_t goal, const struct claim_value *value);
+void dlm_c_stop(struct claim *claim, bool told);
+int32_t dlm_c_order(struct claim *claim, struct due_order *into);
+int32_t dlm_c_hear_alone(struct claim *claim, uint32_t event, int32_t status);
+int32_t dlm_c_show(struct claim *claim, struct claim_view *into);
+void dlm_c_forget(struct claim *claim);
+
+/* By a host: of midgegalena.c. */
+int claim_submits(struct claim *claim, struct mg_host *host);
+void claim_hears(struct claim *claim, struct mg_host *host, enum event event, int status, bool left_over);
+
+#endif
