@@ -185,6 +185,29 @@ else
     left_out "mg-lock: there is no Python, or dlm is not built"
 fi
 
+# Device calls that fail, and processes that die, in the midst of a take or a give; and how late a take comes back.
+faults=(-Wl,--wrap=open,--wrap=pread,--wrap=pwrite,--wrap=fdatasync,--wrap=nanosleep,--wrap=clock_gettime)
+for program in doubt over; do
+    tried "$program, built" cc -std=c99 $common "${faults[@]}" "$here/tests/$program.c" "$here/tests/device_faults.c" "$PREFIX/lib/libmidgegalena.a" -o "$work/$program"
+    folder
+    tried "$program" "$work/$program" "$work/images"
+done
+
+# A session follows a renewal, and what is left of a wait or a program that gives up is said, and released.
+tried "followed, built" cc -std=c99 $common "$here/tests/followed.c" $flags -o "$work/followed"
+if [[ -x $dlm ]]; then
+    folder
+    tried "followed" "$work/followed" "$work/images" "$dlm"
+else
+    left_out "followed: dlm is not built"
+fi
+if command -v python3 > /dev/null && [[ -x $dlm ]]; then
+    folder
+    tried "gives up" env PYTHONDONTWRITEBYTECODE=1 python3 "$here/tests/gives_up.py" "$PREFIX/bin/mg-lock" "$dlm" "$PREFIX/lib/libmidgegalena.so" "$work/images"
+else
+    left_out "gives up: there is no Python, or dlm is not built"
+fi
+
 # A host dies, and the other goes on.
 tried "failover, built" cc -std=c99 $common "$here/examples/c/failover.c" $flags -o "$work/failover"
 folder

@@ -253,6 +253,18 @@ def before_the_command():
     left_nothing("before the command")
 
 
+def in_use():
+    """A session that has the host number keeps mg-lock out, and that is no conflict."""
+    if not library:
+        return
+    folder()
+    with Session(images, 0, library=library):
+        for given in (["-n"], ["-w", 1]):
+            said = run(*given, "-E", 75, images, 0, "db", "--", "true")
+            expect(said.returncode == 125 and said.stderr.startswith("mg-lock: 36 HostInUse "), f"{given}: a session has the number: {said}")
+    left_nothing("in use")
+
+
 def answers():
     """A lock that is not given back is said, whatever the status, and the next run under the host number releases it."""
     if not with_answers:
@@ -654,7 +666,7 @@ def counted(hosts, kills=0):
     print(f"{hosts} hosts: counted {total}, {done} ended well, {commands()} commands", flush=True)
 
 
-for test in (statuses, pages, environment, waits, modes, signals, before_the_command, answers, killed, taken_away, ends_of_logs, renewed,
+for test in (statuses, pages, environment, waits, modes, signals, before_the_command, in_use, answers, killed, taken_away, ends_of_logs, renewed,
              of_another_machine, numbers, lost_disks, unmarked,
              lambda: counted(1), lambda: counted(8), lambda: counted(2, kills=4 * rounds)):
     test()

@@ -78,7 +78,8 @@ static int refuse_session(const char *work, unsigned flags) {
             return status != MG_OK;
         }
         until_refused = -1;
-        if (status != MG_OK && status != MG_NO_MEMORY) {
+        /* In doubt: there was no memory to hear what became of a command. */
+        if (status != MG_OK && status != MG_NO_MEMORY && status != MG_IN_DOUBT) {
             printf("session, allocation %ld: %d\n", allocations, status);
             return 1;
         }

@@ -403,9 +403,9 @@ static void full(void) {
     mg_end(session);
     mg_end(shares);
     IS(locks_of(path), 1);
-    IS(mg_begin(path, 0, 0, &session, NULL), MG_OK);
-    IS(mg_take(session, "other", MG_EX, 0, &b), MG_LOG_FULL);
-    mg_end(session);
+    /* What stays is told. */
+    IS(mg_begin(path, 0, 0, &session, NULL), MG_LOG_FULL);
+    IS(session == NULL, 1);
     /* A link is followed to where it goes on. (No renewal here: the other folder is an empty one.) */
     snprintf(link, sizeof link, "%s/current", work);
     snprintf(next, sizeof next, "%s/next", work);

@@ -1,0 +1,163 @@
+/*
+ * How late a take comes back whose time is up, or which is told to stop, while five other hosts take and give without a pause.
+ * Linked as device_faults.c says: a sync of what was written lasts as long as SYNC, whatever the disk is.
+ *
+ *   over FOLDER      an empty folder
+ */
+#include <mg_session.h>
+
+#include <signal.h>
+#include <stdbool.h>
+#include <stdio.h>
+#include <stdlib.h>
+#include <sys/mman.h>
+#include <sys/stat.h>
+#include <sys/types.h>
+#include <sys/wait.h>
+#include <time.h>
+#include <unistd.h>
+
+#include "device_faults.h"
+#include "expect.h"
+
+#define SYNC 2000   /* microseconds */
+
+/* Milliseconds. */
+#define ENDS 100    /* when a take is to end */
+#define MOSTLY 400  /* when nine of ten takes have ended */
+#define ALWAYS 1500 /* when each has ended */
+
+enum { HOSTS = 5, FIRST_HOST = 2, TAKES = 20, SECONDS = 6, SLOTS = 2048, FEW_SLOTS = 500, MILLION = 1000000, IN_DOUBT = -6 };
+
+/* Slots that are left in the log, as the busy hosts know it. */
+static volatile uint32_t *slots_left;
+static const char *work;
+
+static int64_t milliseconds(void) {
+    struct timespec now;
+    clock_gettime(CLOCK_MONOTONIC, &now);
+    return (int64_t)now.tv_sec * 1000 + now.tv_nsec / MILLION;
+}
+
+static void works(const char *folder, unsigned host) {
+    struct mg_session *session;
+    struct mg_held held;
+    char name[MG_NAME_LENGTH + 1];
+    int status = mg_begin(folder, host, 0, &session, NULL);
+    snprintf(name, sizeof name, "work%u", host);
+    while (status == MG_OK || status == MG_TIMED_OUT || status == IN_DOUBT) {
+        status = mg_take(session, name, MG_EX, 1000, &held);
+        if (status == MG_OK) {
+            *slots_left = held.slots_left;
+            status = mg_give(session, held.lock, NULL);
+        }
+    }
+    _exit(status != MG_LOG_FULL);
+}
+
+/* The lock that is asked for is held by a session of this process, and the other hosts are at work. */
+struct scene {
+    char folder[400];
+    pid_t workers[HOSTS];
+    struct mg_session *holder;
+};
+
+static void begin(struct scene *scene) {
+    static int count = 0;
+    struct mg_held held;
+    snprintf(scene->folder, sizeof scene->folder, "%s/%d", work, count++);
+    IS(mkdir(scene->folder, 0777), 0);
+    IS(mg_format(scene->folder, 3, SLOTS, 7, NULL), MG_OK);
+    IS(mg_begin(scene->folder, 0, 0, &scene->holder, NULL), MG_OK);
+    IS(mg_take(scene->holder, "db", MG_EX, 0, &held), MG_OK);
+    *slots_left = SLOTS;
+    for (unsigned i = 0; i < HOSTS; i++) {
+        scene->workers[i] = fork();
+        if (scene->workers[i] == 0)
+            works(scene->folder, FIRST_HOST + i);
+    }
+    for (int i = 0; *slots_left == SLOTS && i < 10000; i++)
+        usleep(1000);
+}
+
+static void end(struct scene *scene) {
+    char image[500];
+    for (int i = 0; i < HOSTS; i++) {
+        kill(scene->workers[i], SIGKILL);
+        waitpid(scene->workers[i], NULL, 0);
+    }
+    mg_end(scene->holder);
+    for (int disk = 0; disk < 3; disk++) {
+        snprintf(image, sizeof image, "%s/disk%d.img", scene->folder, disk);
+        (void)unlink(image);
+    }
+}
+
+/* Pauses, and says stop from a time on, as a program does that gets a signal. */
+static int rest(void *with, int length) {
+    int64_t stops_at = *(const int64_t *)with, left = stops_at - milliseconds();
+    if (left > length)
+        left = length;
+    if (left > 0)
+        usleep((useconds_t)left * 1000);
+    return milliseconds() >= stops_at;
+}
+
+/* So long one take lasts. It ends by its time, or is told to stop then. */
+static int64_t take(struct mg_session *session, bool stops) {
+    int64_t began = milliseconds(), stops_at = began + ENDS;
+    struct mg_held held;
+    int status;
+    IS(mg_set_rest(session, stops ? rest : NULL, &stops_at), MG_OK);
+    status = mg_take(session, "db", MG_EX, stops ? -1 : ENDS, &held);
+    began = milliseconds() - began;
+    if (status != (stops ? MG_STOPPED : MG_TIMED_OUT) && status != IN_DOUBT) {
+        printf("a take of what another host holds said %d\n", status);
+        failures++;
+    }
+    return began;
+}
+
+static void try_takes(const char *kind, unsigned flags, bool stops) {
+    struct scene scene;
+    struct mg_session *session;
+    int64_t worst = 0, until = milliseconds() + SECONDS * 1000;
+    int takes = 0, late = 0;
+    begin(&scene);
+    IS(mg_begin(scene.folder, 1, flags, &session, NULL), MG_OK);
+    while (takes < TAKES && milliseconds() < until) {
+        int64_t lasted = take(session, stops);
+        worst = lasted > worst ? lasted : worst;
+        late += lasted > MOSTLY;
+        takes++;
+        if (*slots_left < FEW_SLOTS) {
+            mg_end(session);
+            end(&scene);
+            begin(&scene);
+            IS(mg_begin(scene.folder, 1, flags, &session, NULL), MG_OK);
+        }
+    }
+    mg_end(session);
+    end(&scene);
+    printf("%s, %s: %d takes that were to last %d ms, %d of them longer than %d ms, the longest %ld ms\n",
+           stops ? "told to stop" : "out of time", kind, takes, ENDS, late, MOSTLY, (long)worst);
+    if (10 * late > takes || worst > ALWAYS) {
+        puts("    too late");
+        failures++;
+    }
+}
+
+int main(int argc, char **argv) {
+    if (argc != 2)
+        return 2;
+    work = argv[1];
+    slots_left = mmap(NULL, sizeof *slots_left, PROT_READ | PROT_WRITE, MAP_SHARED | MAP_ANONYMOUS, -1, 0);
+    if (slots_left == MAP_FAILED)
+        return 2;
+    set_sync(SYNC);
+    for (int stops = 0; stops < 2; stops++) {
+        try_takes("own number", 0, stops);
+        try_takes("MG_SHARE", MG_SHARE, stops);
+    }
+    return failures != 0;
+}
