@@ -68,7 +68,8 @@ int32_t dlm_c_hear_alone(struct claim *claim, uint32_t event, int32_t status);
 int32_t dlm_c_show(struct claim *claim, struct claim_view *into);
 void dlm_c_forget(struct claim *claim);
 
-/* By a host: of midgegalena.c. */
+/* By a host: of midgegalena.c. Commands of others are marked until it is time, in milliseconds of CLOCK_MONOTONIC. */
+int learn_all(struct mg_host *host, int64_t until);
 int claim_submits(struct claim *claim, struct mg_host *host);
 void claim_hears(struct claim *claim, struct mg_host *host, enum event event, int status, bool left_over);
 

@@ -39,7 +39,7 @@
 #include <unistd.h>
 
 enum { FIRST_CLIENT = 240, FIRST_LOCK = 1536, LOCKS_OF_A_HOST = 4000, NO_SIGN = -1, LEAST_FILE = 3 };
-enum { PATIENCE = 60000, LITTLE_PATIENCE = 5000, FIRST_INTERVAL = 5, LONGEST_PAUSE = 200 }; /* milliseconds */
+enum { PATIENCE = 60000, LITTLE_PATIENCE = 5000, GRACE = 100, FIRST_INTERVAL = 5, LONGEST_PAUSE = 200 }; /* milliseconds */
 
 static const struct claim_value NO_VALUE = {{0}};
 
@@ -153,7 +153,7 @@ static int open_once(struct mg_session *session, int *disk) {
     session->is_worn = false;
     status = mg_open(session->at, session->number, &session->host, disk);
     if (status == MG_OK)
-        status = is_shared(session) ? mg_look(session->host, NULL) : mg_mark(session->host, NULL);
+        status = is_shared(session) ? mg_look(session->host, NULL) : learn_all(session->host, milliseconds() + LONGEST_PAUSE);
     if (status != MG_OK) {
         mg_close(session->host);
         session->host = NULL;
@@ -498,8 +498,13 @@ static void drop_sign(struct mg_session *session, struct entry *entry, struct mg
     claim_hears(&entry->claim, host, SIGN_IS_DROPPED, 0, false);
 }
 
+/* When the operation is to end. A take whose time is short may ask a little later, but once: to get there may take longer than its time. */
+static int64_t end_of(const struct entry *entry, const struct work *work) {
+    return entry->lock == 0 && work->until < INT64_MAX - GRACE ? work->until + GRACE : work->until;
+}
+
 static void rest(struct mg_session *session, struct entry *entry, const struct work *work, int64_t length) {
-    int status = pause_for(session, length, work->until, work->stops);
+    int status = pause_for(session, length, end_of(entry, work), work->stops);
     if (status == MG_STOPPED)
         dlm_c_stop(&entry->claim, true);
     else if (status == MG_OK)
@@ -569,7 +574,7 @@ static void operate(struct mg_session *session, struct entry *entry, struct work
     struct due_order *order = &work->end;
     bool is_over = false;
     for (;;) {
-        if (!is_over && milliseconds() >= work->until) {
+        if (!is_over && milliseconds() >= end_of(entry, work)) {
             dlm_c_stop(&entry->claim, false);
             is_over = true;
         }
@@ -579,7 +584,7 @@ static void operate(struct mg_session *session, struct entry *entry, struct work
         switch (order->kind) {
         case TO_OPEN: host = open_for(session, entry, false); break;
         case TO_OPEN_TO_LOOK: host = open_for(session, entry, true); break;
-        case TO_LEARN: host = tell_learned(session, entry, host, mg_mark(host, NULL)); break;
+        case TO_LEARN: host = tell_learned(session, entry, host, learn_all(host, milliseconds() + LONGEST_PAUSE)); break;
         case TO_LOOK: host = tell_learned(session, entry, host, mg_look(host, NULL)); break;
         case TO_TIDY: host = tidy(session, entry, work); break;
         case TO_TAKE_SIGN: take_sign_for(session, entry, host, order->lock); break;

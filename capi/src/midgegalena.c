@@ -784,11 +784,28 @@ static uint64_t learned_by(struct mg_host *host) {
     return view.learned;
 }
 
+/* Learns all that was acknowledged, and marks what it has learned so, until it is time. */
+static int learn_and_mark(struct mg_host *host, int64_t until, struct answer *answer) {
+    struct answer marked;
+    uint64_t first, end;
+    int status = look(host, answer);
+    if (status != MG_OK)
+        return status;
+    first = learned_by(host);
+    status = carry_out(host, dlm_c_recover(&host->handle, host->tries), answer);
+    end = learned_by(host);
+    for (uint64_t slot = first; slot < end && milliseconds() < until; slot++)
+        (void)carry_out(host, dlm_c_mark(&host->handle, (uint32_t)slot), &marked);
+    return status;
+}
+
+int learn_all(struct mg_host *host, int64_t until) {
+    struct answer answer;
+    return learn_and_mark(host, until, &answer);
+}
+
 int mg_mark(struct mg_host *host, uint64_t *learned) {
     struct answer answer;
-    struct answer marked;
-    uint64_t first;
-    uint64_t end;
     int status;
     if (learned)
         *learned = 0;
@@ -796,14 +813,7 @@ int mg_mark(struct mg_host *host, uint64_t *learned) {
         return MG_BAD_ARGUMENT;
     if (host->only_looks)
         return MG_ONLY_LOOKS;
-    status = look(host, &answer);
-    if (status != MG_OK)
-        return status;
-    first = learned_by(host);
-    status = carry_out(host, dlm_c_recover(&host->handle, host->tries), &answer);
-    end = learned_by(host);
-    for (uint64_t slot = first; slot < end; slot++)
-        (void)carry_out(host, dlm_c_mark(&host->handle, (uint32_t)slot), &marked);
+    status = learn_and_mark(host, INT64_MAX, &answer);
     if (learned)
         *learned = answer.count;
     return status;
