@@ -406,7 +406,8 @@ def renewed():
     gives_up = begin("-w", 1.5, current, 2, "db", "--", "true")
     expect(until(lambda: table_of_current().count("waiting") == 3), "the third waits")
     renew(8, 64)
-    expect(gives_up.wait(30) == 1, "one gives up in the midst of it")
+    # Where the log is full by then it says what may stay, and the next one under its number releases that.
+    expect(gives_up.wait(30) in (1, 125), "one gives up in the midst of it")
     waiting.append(begin(current, 2, "db", "--", *command))
     expect(until(lambda: table_of_current().count("waiting") == 3), "it waits in the new folder")
     expect(end(first) == 143, "one that held lets go there")
