@@ -137,7 +137,7 @@ impl Run {
             Some(claim) => {
                 if !process.holds && !process.gives {
                     claim.give_up_again(&asker);
-                } else if choice == 0 && process.holds {
+                } else if choice == 0 {
                     claim.check(&asker);
                 } else {
                     process.gives = true;
@@ -330,7 +330,8 @@ impl Run {
         process.holds = false;
         match outcome {
             Outcome::Held => {
-                process.holds = true;
+                process.holds = !gives;
+                process.gives = gives;
                 is_granted(picture, lock) && !others_hold
             }
             Outcome::NotHeld(_) => {

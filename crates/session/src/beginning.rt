@@ -1,6 +1,6 @@
 ghost use Rattle.std.specs.Prelude.{◌≡◌, ◌≤◌, ◌⊎◌, IsTrue, None, Some, false};
 ghost use Rattle.session.specs.Beginnings.{Begins, IsAnotherValue, IsNewClaim};
-ghost use Rattle.session.specs.Bounds.{IsPause, orders_left};
+ghost use Rattle.session.specs.Bounds.{IsPause, is_leaving, orders_left};
 ghost use Rattle.session.specs.Keeping.{Keeps};
 
 use crate::claim::{Claim, Goal, Standing, Step};
@@ -103,14 +103,18 @@ impl Claim {
         self.step = Step::Opening;
     }
 
-    /// It is to be looked whether the lock is still there.
+    /// It is to be looked whether the lock is still there. A release of it that may be in the log stays known.
     pub fn check(&mut self, asker: &Asker)
         ensures begins { Begins Goal.Check self.old self.new }
         ensures opens { self.new.step ≡ Step.OpeningToLook }
-        ensures stands { self.new.standing ≡ self.old.standing }
+        ensures stands { is_leaving self.old.standing ≡ false → self.new.standing ≡ self.old.standing }
+        ensures looks { is_leaving self.new.standing ≡ false }
         ensures keeps { Keeps self.old self.new }
     {
         self.begin(asker, Goal::Check);
+        if self.standing == Standing::Leaving {
+            self.standing = Standing::Held;
+        }
         self.step = Step::OpeningToLook;
     }
 

@@ -1,4 +1,4 @@
-ghost use Rattle.std.specs.Prelude.{◌≡◌, ◌+◌, ◌≢◌, ◌≤◌, ◌⊎◌, IsTrue, Some, is_some, true};
+ghost use Rattle.std.specs.Prelude.{◌≡◌, ◌+◌, ◌≢◌, ◌≤◌, ◌⊎◌, ◌↔◌, IsTrue, Some, is_some, true};
 ghost use Rattle.session.specs.Bounds.{ComesNearer, IsReading, is_leaving, orders_left};
 ghost use Rattle.session.specs.Keeping.{IsOnSame, Keeps};
 ghost use Rattle.session.specs.Outcomes.{IsBorneOut, IsGivenUp, IsOut, IsUnheard, then_of};
@@ -131,12 +131,19 @@ impl Claim {
                 self.standing = Standing::Waiting;
                 self.wait(learned);
             }
-            Seen::Absent if self.is_out(learned) => self.drop_sign(
+            Seen::Absent if self.is_out(learned) && !self.is_given_in_doubt() => self.drop_sign(
                 learned,
                 Then::End(Outcome::NotHeld(Why::Gone)),
             ),
             Seen::Absent => self.wait(learned),
         }
+    }
+
+    /// Whether a look may find the lock gone because the session's own release stands in the log. Then a give is to find that.
+    fn is_given_in_doubt(&self) -> bool
+        ensures { IsTrue result ↔ ((self.now.goal ≡ Goal.Check) × (is_some self.now.release ≡ true)) }
+    {
+        self.goal == Goal::Check && self.release.is_some()
     }
 
     pub(crate) fn hold(&mut self)
