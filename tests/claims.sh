@@ -1,0 +1,19 @@
+#!/usr/bin/env bash
+# claims.sh: claims of several processes over one log, in orders that numbers choose (tests/claims.txt), in a copy of the crate `session`. Commands come
+# into the log late or never, calls fail, time is over, processes die. What each process is told is compared with the table. The copy has the file as a
+# module of tests, which `rt try` compiles and runs; nothing is proved of them.
+set -uo pipefail
+
+source "$(dirname -- "$(readlink -f -- "${BASH_SOURCE[0]}")")/lib.sh"
+source "$top/build.sh"
+
+copy_crates session "$work/copy"
+copy=$work/copy/crates/session
+cp -- "$tests/claims.txt" "$copy/src/claims.rt"
+printf '\n#[cfg(test)]\nmod claims;\n' >> "$copy/src/lib.rt"
+(cd -- "$copy" && rt try --test < /dev/null) > "$work/told" 2>&1
+if ! grep -q '^test claims::nobody_believes_what_is_not_so \.\.\. ok$' "$work/told"; then
+    fail "$(<"$work/told")"
+fi
+echo "claims: $failed failed"
+[[ $failed -eq 0 ]]
