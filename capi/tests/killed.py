@@ -59,7 +59,7 @@ with Session(folder, host=0, library=library) as session:
         with session.lock("other", EX):
             raise AssertionError("granted without a majority")
     except Refused as why:
-        assert why.status == NO_MAJORITY, why
+        assert why.status in (NO_MAJORITY, IN_DOUBT), why
     for image, whole in zip(images, kept):
         with open(image, "r+b") as file:
             file.write(whole)

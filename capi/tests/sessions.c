@@ -420,7 +420,7 @@ static void full(void) {
     IS(a.cluster, 9);
     IS(mg_take(shares, "other", MG_EX, 10, &b), MG_TIMED_OUT);
     IS(mg_give(session, a.lock, NULL), MG_OK);
-    IS(mg_take(shares, "other", MG_EX, 10, &b), MG_OK);
+    IS(mg_take(shares, "other", MG_EX, 5000, &b), MG_OK);
     IS(mg_give(shares, b.lock, NULL), MG_OK);
     mg_end(session);
     mg_end(shares);
