@@ -1,5 +1,5 @@
 -- What a log that was learned tells of a claim.
-use Rattle.std.specs.Prelude.{◌≡◌, ◌<◌, ◌≤◌, ◌⊎◌, ◌&&◌, ℕ, Bool, true, List, Some, slice_get}
+use Rattle.std.specs.Prelude.{◌≡◌, ◌≢◌, ◌<◌, ◌≤◌, ◌⊎◌, ◌&&◌, ℕ, Bool, true, List, Some, slice_get}
 use Rattle.std.specs.List.{list_any}
 use Rattle.lock_modes.specs.declared.mode.Mode.{Mode}
 use Rattle.lock_modes.specs.Mode.{conflict}
@@ -32,6 +32,14 @@ pub record Shows (table : Shown) (c : Claim) (state : LockState) : Type 0 where
   pub there : slice_get table.locks at ≡ Some found
   pub is : IsOf c found
   pub stands : found.state ≡ state
+
+-- It shows it, but not granted.
+pub record ShowsWaiting (table : Shown) (c : Claim) : Type 0 where
+  pub at : ℕ
+  pub found : LockRecord
+  pub there : slice_get table.locks at ≡ Some found
+  pub is : IsOf c found
+  pub waits : found.state ≢ Granted (goal_of found.state)
 
 -- It shows no such lock.
 abbrev pub Lacks : Shown → Claim → Type 0

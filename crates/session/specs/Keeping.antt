@@ -1,14 +1,15 @@
 -- What an operation on a claim leaves as it is.
-use Rattle.std.specs.Prelude.{◌≡◌, ◌⊎◌}
+use Rattle.std.specs.Prelude.{◌≡◌, ◌≤◌, ◌⊎◌}
 use Rattle.session.specs.declared.claim.Claim.{Claim}
 use Rattle.session.specs.declared.claim.Standing.TheVariants.{Unasked}
 
--- The lock is wanted on the same name, in the same mode, through the same host.
+-- The lock is wanted on the same name, in the same mode, through the same host. The session's last request is no lower.
 pub record IsOnSame (old new : Claim) : Type 0 where
   pub host : new.host ≡ old.host
   pub shares : new.shares ≡ old.shares
   pub name : new.name ≡ old.name
   pub mode : new.mode ≡ old.mode
+  pub request : old.request ≤ new.request
 
 -- It is also the same lock, asked for by the same command at the same slot. What was asked for stays asked for. The images count as others only if they are
 -- those that were opened last.
@@ -17,6 +18,7 @@ pub record Keeps (old new : Claim) : Type 0 where
   pub shares : new.shares ≡ old.shares
   pub name : new.name ≡ old.name
   pub mode : new.mode ≡ old.mode
+  pub request : old.request ≤ new.request
   pub lock : new.lock ≡ old.lock
   pub asked : new.asked ≡ old.asked
   pub slot : new.slot ≡ old.slot

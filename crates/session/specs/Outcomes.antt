@@ -16,7 +16,7 @@ use Rattle.session.specs.declared.claim.Then.TheVariants.{AskAgain, End}
 use Rattle.session.specs.declared.learned.Learned.{Learned}
 use Rattle.session.specs.declared.outcome.Outcome.{Outcome}
 use Rattle.session.specs.declared.outcome.Why.{Why}
-use Rattle.session.specs.declared.outcome.Outcome.TheVariants.{Held, NotHeld, Given, Failed}
+use Rattle.session.specs.declared.outcome.Outcome.TheVariants.{Held, NotHeld, Given, InDoubt, Failed}
 
 -- what the step leads to, with nothing left to hear but that a sign of life is given up
 abbrev pub then_of : Step → Option Then
@@ -27,6 +27,17 @@ then_of step = None
 -- the operation ends so
 abbrev pub EndsIn : Claim → Outcome → Type 0
 EndsIn c outcome = (then_of c.step ≡ Some (End outcome))
+
+-- why it ended without what it was begun for, if it did
+abbrev pub why_of : Outcome → Option Why
+why_of (NotHeld why) = Some why
+why_of (InDoubt why) = Some why
+why_of (Failed why) = Some why
+why_of outcome = None
+
+-- If the operation ends, this is why.
+abbrev pub TellsWhy : Claim → Why → Type 0
+TellsWhy c why = (outcome : Outcome) → EndsIn c outcome → why_of outcome ≡ Some why
 
 -- it goes on by another number
 abbrev pub AsksAgain : Claim → Type 0

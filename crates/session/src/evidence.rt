@@ -1,9 +1,9 @@
-ghost use Rattle.std.specs.Prelude.{◌≡◌, ◌≤◌, ◌<◌, ◌^◌, ◌↔◌, IsTrue, IfSome, length};
+ghost use Rattle.std.specs.Prelude.{◌≡◌, ◌≢◌, ◌≤◌, ◌<◌, ◌^◌, ◌↔◌, IsTrue, IfSome, length, None};
 ghost use Rattle.lock_command.specs.declared.state.LockState.TheVariants as lock;
 ghost use Rattle.lock_table.specs.State.{goal_of};
 ghost use Rattle.lock_table.specs.declared.record.KnownClient.{KnownClient};
 ghost use Rattle.session.specs.Evidence as evidence;
-ghost use Rattle.session.specs.Evidence.{AsksFor, HasHeard, IsFirst, IsOf, IsRequest, Knows, Lacks, NoneBetween, Purges, Shows};
+ghost use Rattle.session.specs.Evidence.{AsksFor, HasHeard, IsFirst, IsOf, IsRequest, Knows, Lacks, NoneBetween, Purges, Shows, ShowsWaiting};
 
 use crate::claim::Claim;
 use crate::numbers::client_of;
@@ -25,6 +25,7 @@ pub enum Seen {
 /// How the table shows the claimed lock.
 pub fn find(table: &Picture, claim: &Claim) -> Seen
     ensures granted { result ≡ Seen.Granted → Shows table.now claim.now (lock.Granted claim.now.mode) }
+    ensures waiting { result ≡ Seen.Waiting → ShowsWaiting table.now claim.now }
     ensures absent { result ≡ Seen.Absent → Lacks table.now claim.now }
 {
     let locks = table.locks();
@@ -38,6 +39,7 @@ pub fn find(table: &Picture, claim: &Claim) -> Seen
 
 fn seen_in(found: &LockRecord) -> Seen
     ensures granted { result ≡ Seen.Granted → found.now.state ≡ lock.Granted (goal_of found.now.state) }
+    ensures waiting { result ≡ Seen.Waiting → found.now.state ≢ lock.Granted (goal_of found.now.state) }
     ensures there { result ≡ Seen.Absent → ⊥ }
 {
     match found.state {
@@ -108,7 +110,7 @@ pub fn last_request(table: &Picture, client: ClientNumber) -> u64
 
 /// Whether the table knows this request of the client, or a later one.
 pub fn has_heard(table: &Picture, client: ClientNumber, request: u64) -> bool
-    ensures { IsTrue result → HasHeard table.now client request }
+    ensures { IsTrue result ↔ HasHeard table.now client request }
 {
     let clients = table.clients();
     for at in 0..clients.len() {
@@ -128,6 +130,7 @@ pub fn first_of(
 ) -> Option<usize>
     ensures first { IfSome result (λ slot. IsFirst log.now from client request slot) }
     ensures within { IfSome result (λ slot. slot < length log.now) }
+    ensures none { result ≡ None → NoneBetween (IsRequest client request) log.now from (length log.now) }
 {
     for at in from..log.len() {
         if log[at].client == client && log[at].request == request {
@@ -139,7 +142,7 @@ pub fn first_of(
 
 /// Whether no command between these slots takes away the locks of the host.
 pub fn is_spared(log: &[Command], from: usize, to: usize, host: HostNumber) -> bool
-    ensures { IsTrue result → NoneBetween (Purges host) log.now from to }
+    ensures { IsTrue result ↔ NoneBetween (Purges host) log.now from to }
 {
     for at in from..to.min(log.len()) {
         if purges(&log[at], host) {

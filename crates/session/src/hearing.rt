@@ -1,7 +1,7 @@
-ghost use Rattle.std.specs.Prelude.{◌≡◌, ◌+◌, ◌≢◌, ◌≤◌, ◌⊎◌, ◌↔◌, IsTrue, Some, is_some, true};
-ghost use Rattle.session.specs.Bounds.{ComesNearer, IsReading, is_leaving, orders_left};
+ghost use Rattle.std.specs.Prelude.{◌≡◌, ◌+◌, ◌≢◌, ◌≤◌, ◌⊎◌, ◌↔◌, IsTrue, None, Some, is_some, true};
+ghost use Rattle.session.specs.Bounds.{ComesNearer, IsOpening, IsReading, is_leaving, orders_left};
 ghost use Rattle.session.specs.Keeping.{IsOnSame, Keeps};
-ghost use Rattle.session.specs.Outcomes.{IsBorneOut, IsGivenUp, IsOut, IsUnheard, then_of};
+ghost use Rattle.session.specs.Outcomes.{IsBorneOut, IsGivenUp, IsOut, IsUnheard, TellsWhy, then_of};
 
 use crate::beginning::LAST_TRIES;
 use crate::claim::{Claim, Goal, Sign, Standing, Step, Then};
@@ -293,6 +293,7 @@ impl Claim {
         ensures borne_out { IsBorneOut learned.now self.new }
         ensures nearer { ComesNearer self.old self.new }
         ensures keeps { Keeps self.old self.new }
+        ensures told { IsReading self.old.step → self.old.over ≡ None → TellsWhy self.new (Why.Failed failure) }
     {
         match self.step {
             Step::Submitting(_) if learned.set == self.newest => self.submit_failed(
@@ -311,6 +312,7 @@ impl Claim {
         ensures nearer { ComesNearer self.old self.new }
         ensures keeps { Keeps self.old self.new }
         ensures release { self.old.goal ≡ Goal.Give → self.new.release ≡ self.old.release }
+        ensures told { IsOpening self.old.step → self.old.over ≡ None → TellsWhy self.new (Why.Failed failure) }
     {
         match self.step {
             Step::Resting(_) | Step::Yielding | Step::Dropping(..) | Step::Ended(_) =>
@@ -333,6 +335,7 @@ impl Claim {
         ensures leaves { is_some self.old.over ≡ true → is_leaving self.old.standing ≡ true → orders_left self.new ≡ 0 }
         ensures keeps { Keeps self.old self.new }
         ensures release { self.old.goal ≡ Goal.Give → self.new.release ≡ self.old.release }
+        ensures told { self.old.over ≡ None → TellsWhy self.new (Why.Failed failure) }
     {
         if self.over.is_some() {
             return self.give_up(self.cause(failure));
@@ -379,6 +382,7 @@ impl Claim {
         ensures unasked { self.old.standing ≡ Standing.Unasked → orders_left self.new ≡ 0 }
         ensures keeps { Keeps self.old self.new }
         ensures release { self.old.goal ≡ Goal.Give → self.new.release ≡ self.old.release }
+        ensures told { TellsWhy self.new why }
     {
         match (self.goal, self.standing) {
             (Goal::Check, _) => self.step = Step::Ended(Outcome::Failed(why)),

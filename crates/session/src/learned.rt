@@ -8,7 +8,9 @@ pub struct Learned<'a> {
     pub set: u64,
     /// How many commands the log takes.
     pub slots: u16,
+    /// The commands learned, by slot.
     pub log: &'a [Command],
+    /// The locks and clients after them.
     pub table: &'a Picture,
     /// Whether a process that is gone holds the name which is wanted.
     pub left_over: bool,

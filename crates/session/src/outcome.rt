@@ -50,7 +50,9 @@ pub enum Failure {
     /// A chosen value is no command.
     NotACommand,
     NoMemory,
+    /// An image was not formatted to the end.
     NotFormatted,
+    /// An image's header is wrong.
     WrongHeader,
     /// An image, or the folder, cannot be opened or read.
     Unreadable,

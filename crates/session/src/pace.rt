@@ -1,4 +1,4 @@
-ghost use Rattle.std.specs.Prelude.{◌≡◌, ◌+◌, ◌*◌, ◌≤◌, ◌⊎◌, IfSome, IsTrue, None, min};
+ghost use Rattle.std.specs.Prelude.{◌≡◌, ◌+◌, ◌*◌, ◌%◌, ◌≤◌, ◌↔◌, ◌⊎◌, IfSome, IsTrue, None, min};
 
 use crate::outcome::Failure;
 
@@ -83,6 +83,8 @@ impl Pace {
     pub fn hear(&mut self, learned: usize)
         ensures away { self.new.away ≡ 0 }
         ensures learned { self.new.learned ≡ learned }
+        ensures kept { (self.new.pause ≡ self.old.pause) × (self.new.interval ≡ self.old.interval) × (self.new.outrun ≡ self.old.outrun) }
+        ensures quiet { self.old.learned ≡ learned → self.new.quiet ≡ self.old.quiet }
     {
         self.away = 0;
         if learned != self.learned {
@@ -93,7 +95,7 @@ impl Pace {
 
     /// Whether there was no news for so long that a command without a mark may stand before all looks. `spread` keeps waits apart.
     pub fn is_quiet(&self, spread: u16) -> bool
-        ensures { IsTrue result → QUIET ≤ self.now.quiet }
+        ensures { IsTrue result ↔ (QUIET + spread % QUIET ≤ self.now.quiet) }
     {
         self.quiet >= QUIET + u32::from(spread) % QUIET
     }
