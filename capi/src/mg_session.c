@@ -39,7 +39,7 @@
 #include <unistd.h>
 
 enum { FIRST_CLIENT = 240, FIRST_LOCK = 1536, LOCKS_OF_A_HOST = 4000, NO_SIGN = -1, LEAST_FILE = 3 };
-enum { PATIENCE = 60000, LITTLE_PATIENCE = 5000, GRACE = 100, FIRST_INTERVAL = 5, LONGEST_PAUSE = 200 }; /* milliseconds */
+enum { PATIENCE = 60000, LITTLE_PATIENCE = 5000, GRACE = 100, FIRST_INTERVAL = 5, SHORT_PAUSE = 20, LONGEST_PAUSE = 200 }; /* milliseconds */
 
 static const struct claim_value NO_VALUE = {{0}};
 
@@ -98,8 +98,13 @@ static int pause_for(struct mg_session *session, int64_t length, int64_t until, 
         return MG_TIMED_OUT;
     if (length > left)
         length = left;
-    if (stops && session->rest)
+    if (stops && session->rest) {
+        /* By short pauses: only between two of them the caller is asked. */
+        for (; length > SHORT_PAUSE; length -= SHORT_PAUSE)
+            if (session->rest(session->with, SHORT_PAUSE) != 0)
+                return MG_STOPPED;
         return session->rest(session->with, (int)length) == 0 ? MG_OK : MG_STOPPED;
+    }
     time.tv_sec = (time_t)(length / 1000);
     time.tv_nsec = (long)(length % 1000) * 1000000;
     while (nanosleep(&time, &time) != 0 && errno == EINTR)
@@ -158,6 +163,15 @@ static int open_once(struct mg_session *session, int *disk) {
         mg_close(session->host);
         session->host = NULL;
     }
+    return status;
+}
+
+/* Learns all that was acknowledged, and marks it. */
+static int mark_all(struct mg_host *host, int64_t until) {
+    int status;
+    do
+        status = mg_mark(host, NULL);
+    while (status == MG_OUTRUN && milliseconds() < until);
     return status;
 }
 
@@ -511,9 +525,26 @@ static void rest(struct mg_session *session, struct entry *entry, const struct w
         (void)dlm_c_hear_alone(&entry->claim, HAS_RESTED, 0);
 }
 
-static struct mg_host *open_for(struct mg_session *session, struct entry *entry, bool to_look) {
+/* Opens the folder under the host number. With MG_SHARE it waits for its turn, also a little where time is over. */
+static int open_in_turn(struct mg_session *session, struct entry *entry, const struct work *work) {
+    int64_t until = milliseconds() + LONGEST_PAUSE;
+    if (until < end_of(entry, work))
+        until = end_of(entry, work);
+    for (;;) {
+        int paused, status = open_once(session, NULL);
+        if (status != MG_HOST_IN_USE || !is_shared(session))
+            return status;
+        paused = pause_for(session, 1 + any_below(16), until, work->stops);
+        if (paused == MG_STOPPED)
+            dlm_c_stop(&entry->claim, true);
+        if (paused != MG_OK)
+            return status;
+    }
+}
+
+static struct mg_host *open_for(struct mg_session *session, struct entry *entry, const struct work *work, bool to_look) {
     struct mg_host *host = NULL;
-    int status = to_look ? open_to_look(session, &host) : open_once(session, NULL);
+    int status = to_look ? open_to_look(session, &host) : open_in_turn(session, entry, work);
     if (!to_look)
         host = session->host;
     if (status != MG_OK) {
@@ -582,8 +613,8 @@ static void operate(struct mg_session *session, struct entry *entry, struct work
         if (dlm_c_order(&entry->claim, order) != 0)
             order->outcome = HAS_FAILED, order->status = MG_BROKEN, order->kind = TO_END;
         switch (order->kind) {
-        case TO_OPEN: host = open_for(session, entry, false); break;
-        case TO_OPEN_TO_LOOK: host = open_for(session, entry, true); break;
+        case TO_OPEN: host = open_for(session, entry, work, false); break;
+        case TO_OPEN_TO_LOOK: host = open_for(session, entry, work, true); break;
         case TO_LEARN: host = tell_learned(session, entry, host, learn_all(host, milliseconds() + LONGEST_PAUSE)); break;
         case TO_LOOK: host = tell_learned(session, entry, host, mg_look(host, NULL)); break;
         case TO_TIDY: host = tidy(session, entry, work); break;
@@ -747,7 +778,7 @@ int mg_take(struct mg_session *session, const char *name, int mode, int timeout,
         return MG_IN_DOUBT;
     default:
         free_entry(entry);
-        return work.end.status;
+        return work.end.status == MG_OUTRUN ? MG_TIMED_OUT : work.end.status;
     }
 }
 
@@ -829,7 +860,7 @@ int mg_purge_dead(struct mg_session *session, unsigned victim, unsigned *purged)
         return status;
     status = mg_open(session->at, victim, &dead, NULL);
     if (status == MG_OK)
-        status = mg_mark(session->host, NULL);
+        status = mark_all(session->host, milliseconds() + PATIENCE);
     if (status == MG_OK)
         status = has_living(session, victim) ? MG_HOST_IN_USE : purge(session, victim, &count);
     mg_close(dead);
@@ -846,9 +877,7 @@ static int recover(struct mg_session *session, int64_t until, bool all, unsigned
     int status = begin_talk(session, until, NULL);
     if (status != MG_OK)
         return status;
-    do
-        status = mg_mark(session->host, NULL);
-    while (status == MG_OUTRUN && milliseconds() < until);
+    status = mark_all(session->host, until);
     if (status == MG_OK) {
         release_unwanted(session, until, true);
         release_left(session, all, until, &left);

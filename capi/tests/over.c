@@ -24,8 +24,8 @@
 
 /* Milliseconds. */
 #define ENDS 100    /* when a take is to end */
-#define MOSTLY 600  /* when nine of ten takes have ended, also where the machine has other work */
-#define ALWAYS 3000 /* when each has ended */
+#define MOSTLY 1000 /* when nine of ten takes have ended, also where the machine has other work */
+#define ALWAYS 8000 /* when each has ended */
 
 enum { HOSTS = 5, FIRST_HOST = 2, TAKES = 20, SECONDS = 6, SLOTS = 2048, FEW_SLOTS = 500, MILLION = 1000000, IN_DOUBT = -6 };
 
