@@ -525,11 +525,9 @@ static void rest(struct mg_session *session, struct entry *entry, const struct w
         (void)dlm_c_hear_alone(&entry->claim, HAS_RESTED, 0);
 }
 
-/* Opens the folder under the host number. With MG_SHARE it waits for its turn, also a little where time is over. */
+/* Opens the folder under the host number. With MG_SHARE it waits for its turn, but shortly: whoever waits for a lock has to look meanwhile. */
 static int open_in_turn(struct mg_session *session, struct entry *entry, const struct work *work) {
     int64_t until = milliseconds() + LONGEST_PAUSE;
-    if (until < end_of(entry, work))
-        until = end_of(entry, work);
     for (;;) {
         int paused, status = open_once(session, NULL);
         if (status != MG_HOST_IN_USE || !is_shared(session))
