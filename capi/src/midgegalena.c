@@ -726,13 +726,14 @@ void claim_hears(struct claim *claim, struct mg_host *host, enum event event, in
     (void)dlm_c_hear(claim, &host->handle, event, status, left_over);
 }
 
-/* Puts the claim's command into the log, tells the claim what came of that, and then marks it. */
+/* Puts the claim's command into the log, tells the claim what came of that, and then marks it. The status is of the command, or of the mark: an image
+ * that fails then is given up by the host, too. */
 int claim_submits(struct claim *claim, struct mg_host *host) {
     struct answer answer, marked;
     int status = carry_out(host, dlm_c_submit_order(claim, &host->handle), &answer);
     claim_hears(claim, host, HAS_REPLIED, 0, false);
     if (answer.slot >= 0)
-        (void)carry_out(host, dlm_c_mark(&host->handle, (uint32_t)answer.slot), &marked);
+        status = carry_out(host, dlm_c_mark(&host->handle, (uint32_t)answer.slot), &marked);
     return status;
 }
 
