@@ -212,11 +212,6 @@ def signals():
     left_nothing("signals")
 
 
-def is_pending(process, number):
-    with open(f"/proc/{process}/status") as file:
-        return int(re.search(r"ShdPnd:\s*(\w+)", file.read())[1], 16) >> (number - 1) & 1
-
-
 def full_pipe():
     reads, writes = os.pipe()
     os.set_blocking(writes, False)
@@ -232,7 +227,7 @@ def before_the_command():
     nobody reads the value that it prints."""
     folder()
     ran = os.path.join(work, "ran_on")
-    for key, number in ((b"\x03", signal.SIGINT), (b"\x1c", signal.SIGQUIT)):
+    for key, shown, number in ((b"\x03", b"^C", signal.SIGINT), (b"\x1c", b"^\\", signal.SIGQUIT)):
         reads, writes = full_pipe()
         process, terminal = pty.fork()
         if process == 0:
@@ -243,7 +238,10 @@ def before_the_command():
         while b"was granted" not in said:
             said += os.read(terminal, 1000)
         os.write(terminal, key)
-        expect(until(lambda: is_pending(process, number)), f"{number.name} has come")
+        # The terminal shows the key once it has sent the signal.
+        while shown not in said and select.select([terminal], [], [], 20)[0]:
+            said += os.read(terminal, 1000)
+        expect(shown in said, f"{number.name} has come")
         while os.read(reads, 4096):
             pass
         status = os.waitpid(process, 0)[1]
