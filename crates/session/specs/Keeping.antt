@@ -1,7 +1,9 @@
 -- What an operation on a claim leaves as it is.
-use Rattle.std.specs.Prelude.{◌≡◌, ◌≤◌, ◌⊎◌}
+use Rattle.std.specs.Prelude.{◌≡◌, ◌≤◌, ◌⊎◌, ℕ, Some}
+use Rattle.session.specs.Outcomes.{IsOut}
 use Rattle.session.specs.declared.claim.Claim.{Claim}
 use Rattle.session.specs.declared.claim.Standing.TheVariants.{Unasked}
+use Rattle.session.specs.declared.learned.Learned.{Learned}
 
 -- The lock is wanted on the same name, in the same mode, through the same host. The session's last request is no lower.
 pub record IsOnSame (old new : Claim) : Type 0 where
@@ -25,3 +27,18 @@ pub record Keeps (old new : Claim) : Type 0 where
   pub newest : new.newest ≡ old.newest
   pub set : (new.set ≡ old.set) ⊎ (new.set ≡ old.newest)
   pub unasked : new.standing ≡ Unasked → old.standing ≡ Unasked
+
+-- This release of the lock may be in the log of the same images, with the same value. As much was learned before it.
+pub record IsStillKnown (request : ℕ) (old new : Claim) : Type 0 where
+  pub release : new.release ≡ Some request
+  pub value : new.value ≡ old.value
+  pub since : new.since ≡ old.since
+  pub set : new.set ≡ old.set
+
+-- A release that may be in the log stays known.
+abbrev pub KeepsRelease : Claim → Claim → Type 0
+KeepsRelease old new = (request : ℕ) → old.release ≡ Some request → IsStillKnown request old new
+
+-- It does, unless it has no further effect.
+abbrev pub KeepsReleaseUntilOut : Learned → Claim → Claim → Type 0
+KeepsReleaseUntilOut l old new = (request : ℕ) → old.release ≡ Some request → IsStillKnown request old new ⊎ IsOut l old (Some request)

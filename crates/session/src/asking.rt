@@ -3,7 +3,7 @@ ghost use Rattle.lock_table.specs.declared.record.KnownClient.{KnownClient};
 ghost use Rattle.session.specs.Bounds.{ComesNearer, IsOpening, is_leaving, orders_left};
 ghost use Rattle.session.specs.Choosing.{IsFree};
 ghost use Rattle.session.specs.Evidence.{Knows};
-ghost use Rattle.session.specs.Keeping.{IsOnSame, Keeps};
+ghost use Rattle.session.specs.Keeping.{IsOnSame, Keeps, KeepsRelease, KeepsReleaseUntilOut};
 ghost use Rattle.session.specs.Numbers.{client_of};
 ghost use Rattle.session.specs.declared.claim.Standing.{Standing};
 ghost use Rattle.session.specs.Outcomes.{AsksAt, IsBorneOut, IsSlotOf, IsUnheard, IsWithout};
@@ -22,6 +22,7 @@ impl Claim {
         requires unasked { self.old.standing ≡ Standing.Unasked }
         ensures unheard { IsUnheard self.new }
         ensures keeps { Keeps self.old self.new }
+        ensures release { KeepsRelease self.old self.new }
     {
         if let Some(why) = self.over {
             return self.give_up(why);
@@ -48,6 +49,7 @@ impl Claim {
         ensures unheard { IsUnheard self.new }
         ensures soon { is_some self.old.over ≡ true → orders_left self.new ≡ 0 }
         ensures keeps { Keeps self.old self.new }
+        ensures release { KeepsRelease self.old self.new }
     {
         if let Some(why) = self.over {
             return self.give_up(why);
@@ -66,6 +68,7 @@ impl Claim {
         ensures unheard { IsUnheard self.new }
         ensures soon { is_some self.old.over ≡ true → orders_left self.new ≡ 0 }
         ensures keeps { Keeps self.old self.new }
+        ensures release { KeepsRelease self.old self.new }
     {
         match self.over {
             Some(why) => self.give_up(why),
@@ -80,6 +83,7 @@ impl Claim {
         ensures free { (choice : Choice) → self.new.step ≡ Step.Signing choice → IsFree learned.now self.old choice }
         ensures last { (choice : Choice) → self.new.step ≡ Step.Signing choice → self.new.request ≡ choice.request }
         ensures keeps { Keeps self.old self.new }
+        ensures release { KeepsRelease self.old self.new }
     {
         match self.free_number(learned) {
             Some(choice) => {
@@ -143,6 +147,7 @@ impl Claim {
                 self.drop_sign(learned, Then::End(Outcome::NotHeld(why)));
             }
             None => {
+                self.release = None;
                 self.set = learned.set;
                 self.since = learned.log.len();
                 self.pace.outrun = 0;
@@ -154,7 +159,9 @@ impl Claim {
     /// Asks for the lock by this request.
     pub(crate) fn submit_ask(&mut self, request: RequestNumber)
         ensures unheard { IsUnheard self.new }
+        ensures rest { self.new ≡ record self.old { asked = Some request; standing = Standing.Asked; step = self.new.step } }
         ensures keeps { self.old.asked ≡ Some request → Keeps self.old self.new }
+        ensures release { KeepsRelease self.old self.new }
         ensures same { IsOnSame self.old self.new }
     {
         self.asked = Some(request);
@@ -196,6 +203,7 @@ impl Claim {
         ensures unheard { IsUnheard self.new }
         ensures nearer { ComesNearer self.old self.new }
         ensures keeps { Keeps self.old self.new }
+        ensures release { KeepsRelease self.old self.new }
     {
         match self.step {
             Step::Signing(_) => self.fail(Failure::NoLock),
@@ -210,6 +218,7 @@ impl Claim {
         ensures nearer { ComesNearer self.old self.new }
         ensures slot { self.new.slot ≡ self.old.slot ⊎ IfSome self.new.slot (IsSlotOf learned.now self.old) }
         ensures keeps { Keeps self.old (record self.new { slot = self.old.slot }) }
+        ensures release { KeepsReleaseUntilOut learned.now self.old self.new }
     {
         if learned.set != self.newest {
             return self.break_off();
@@ -229,10 +238,14 @@ impl Claim {
         ensures soon { is_some self.old.over ≡ true → orders_left self.new ≤ 12 }
         ensures slot { self.new.slot ≡ self.old.slot ⊎ IfSome self.new.slot (AsksAt learned.now self.old command.now) }
         ensures keeps { Keeps self.old (record self.new { slot = self.old.slot }) }
+        ensures release { KeepsReleaseUntilOut learned.now self.old self.new }
     {
         let ours = self.asked_at(command, learned);
         match find(learned.table, self) {
-            Seen::Absent if self.is_out(learned) => self.drop_sign(learned, self.after(reply)),
+            Seen::Absent if self.is_out(learned, self.asked) => self.drop_sign(
+                learned,
+                self.after(reply),
+            ),
             Seen::Absent => self.give_up(Why::Gone),
             Seen::Granted if ours.is_some() => {
                 self.slot = ours;
@@ -254,13 +267,12 @@ impl Claim {
         ensures borne_out { IsBorneOut learned.now self.new }
         ensures soon { is_some self.old.over ≡ true → orders_left self.new ≤ 12 }
         ensures keeps { Keeps self.old self.new }
+        ensures release { KeepsReleaseUntilOut learned.now self.old self.new }
     {
         if let Some(why) = self.over {
             return self.give_up(why);
         }
-        self.standing = Standing::Leaving;
-        self.release = None;
-        self.value = None;
+        self.leave();
         self.let_go(learned);
     }
 
@@ -296,6 +308,7 @@ impl Claim {
         ensures soon { is_some self.old.over ≡ true → is_leaving self.old.standing ≡ false → orders_left self.new ≤ 12 }
         ensures leaves { is_some self.old.over ≡ true → is_leaving self.old.standing ≡ true → orders_left self.new ≤ 1 + self.old.tries }
         ensures keeps { Keeps self.old self.new }
+        ensures release { KeepsReleaseUntilOut learned.now self.old self.new }
     {
         if failure == Failure::LogFull {
             return self.meet_end(learned);
@@ -319,6 +332,7 @@ impl Claim {
         ensures soon { is_some self.old.over ≡ true → orders_left self.new ≤ 12 }
         ensures leaves { is_some self.old.over ≡ true → is_leaving self.old.standing ≡ true → orders_left self.new ≡ 0 }
         ensures keeps { Keeps self.old self.new }
+        ensures release { KeepsReleaseUntilOut learned.now self.old self.new }
     {
         let why = Why::Failed(Failure::LogFull);
         if learned.log.len() < usize::from(learned.slots) {

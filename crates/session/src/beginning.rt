@@ -1,7 +1,7 @@
 ghost use Rattle.std.specs.Prelude.{◌≡◌, ◌≤◌, ◌⊎◌, IsTrue, None, Some, false};
 ghost use Rattle.session.specs.Beginnings.{Begins, IsAnotherValue, IsNewClaim};
 ghost use Rattle.session.specs.Bounds.{IsPause, is_leaving, orders_left};
-ghost use Rattle.session.specs.Keeping.{Keeps};
+ghost use Rattle.session.specs.Keeping.{Keeps, KeepsRelease};
 
 use crate::claim::{Claim, Goal, Standing, Step};
 use crate::numbers::lock_of;
@@ -75,29 +75,13 @@ impl Claim {
         }
     }
 
-    /// No lock: a place for a claim.
-    pub fn idle(host: HostNumber) -> Claim
-        ensures idle { result.step ≡ Step.Ended (Outcome.Failed Why.Gone) }
-        ensures unasked { result.standing ≡ Standing.Unasked }
-    {
-        let asker = Asker {
-            host,
-            shares: false,
-            request: 0,
-            interval: 1,
-        };
-        Claim {
-            step: Step::Ended(Outcome::Failed(Why::Gone)),
-            ..Claim::take(&asker, LockName::new(b"-").unwrap(), Mode::Null, true)
-        }
-    }
-
     /// The lock that a former run left is to be taken.
     pub fn take_left(&mut self, asker: &Asker, waits: bool)
         ensures begins { Begins (Goal.Take waits) self.old self.new }
         ensures opens { self.new.step ≡ Step.Opening }
         ensures stands { self.new.standing ≡ self.old.standing }
         ensures keeps { Keeps self.old self.new }
+        ensures release { KeepsRelease self.old self.new }
     {
         self.begin(asker, Goal::Take { waits });
         self.step = Step::Opening;
@@ -110,6 +94,7 @@ impl Claim {
         ensures stands { is_leaving self.old.standing ≡ false → self.new.standing ≡ self.old.standing }
         ensures looks { is_leaving self.new.standing ≡ false }
         ensures keeps { Keeps self.old self.new }
+        ensures release { KeepsRelease self.old self.new }
     {
         self.begin(asker, Goal::Check);
         if self.standing == Standing::Leaving {
@@ -127,6 +112,7 @@ impl Claim {
         ensures value { IsTrue result → self.new.value ≡ value }
         ensures same { IsTrue result → (self.old.release ≡ None) ⊎ (self.old.value ≡ value) }
         ensures keeps { Keeps self.old self.new }
+        ensures release { KeepsRelease self.old self.new }
     {
         if self.release.is_some() && self.value != value {
             return false;
@@ -143,6 +129,7 @@ impl Claim {
         ensures begins { Begins (Goal.GiveUp Why.Gone) self.old self.new }
         ensures opens { self.new.step ≡ Step.Opening }
         ensures keeps { Keeps self.old self.new }
+        ensures release { KeepsRelease self.old self.new }
     {
         self.begin(asker, Goal::GiveUp(Why::Gone));
         self.standing = Standing::Leaving;
@@ -155,6 +142,7 @@ impl Claim {
         ensures stands { self.new.standing ≡ self.old.standing }
         ensures value { self.new.value ≡ self.old.value }
         ensures keeps { Keeps self.old self.new }
+        ensures release { KeepsRelease self.old self.new }
     {
         self.goal = goal;
         self.request = self.request.max(asker.request);
@@ -169,6 +157,7 @@ impl Claim {
         ensures soon { orders_left self.new ≤ 13 }
         ensures no_pause { IsPause self.new.step → ⊥ }
         ensures keeps { Keeps self.old self.new }
+        ensures release { KeepsRelease self.old self.new }
     {
         self.over = Some(why);
         self.tries = LAST_TRIES;

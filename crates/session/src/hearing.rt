@@ -1,6 +1,6 @@
 ghost use Rattle.std.specs.Prelude.{◌≡◌, ◌+◌, ◌≢◌, ◌≤◌, ◌⊎◌, ◌↔◌, IsTrue, None, Some, is_some, true};
 ghost use Rattle.session.specs.Bounds.{ComesNearer, IsOpening, IsReading, is_leaving, orders_left};
-ghost use Rattle.session.specs.Keeping.{IsOnSame, Keeps};
+ghost use Rattle.session.specs.Keeping.{IsOnSame, Keeps, KeepsRelease, KeepsReleaseUntilOut};
 ghost use Rattle.session.specs.Outcomes.{IsBorneOut, IsGivenUp, IsOut, IsUnheard, TellsWhy, then_of};
 
 use crate::beginning::LAST_TRIES;
@@ -9,6 +9,7 @@ use crate::evidence::{Seen, find, has_heard, is_numbered, is_taken};
 use crate::learned::Learned;
 use crate::numbers::client_of;
 use crate::outcome::{Failure, Outcome, Why};
+use lock_command::RequestNumber;
 
 impl Claim {
     /// The folder is open, and its host has learned so much.
@@ -16,6 +17,7 @@ impl Claim {
         ensures borne_out { IsBorneOut learned.now self.new }
         ensures nearer { ComesNearer self.old self.new }
         ensures keeps { Keeps (record self.old { newest = learned.now.set }) self.new }
+        ensures release { KeepsReleaseUntilOut learned.now self.old self.new }
     {
         self.newest = learned.set;
         self.pace.failure = None;
@@ -31,6 +33,7 @@ impl Claim {
         ensures unheard { IsUnheard self.new }
         ensures soon { is_some self.old.over ≡ true → orders_left self.new ≤ 12 }
         ensures keeps { Keeps self.old self.new }
+        ensures release { KeepsRelease self.old self.new }
     {
         match self.over {
             Some(why) => self.give_up(why),
@@ -45,6 +48,7 @@ impl Claim {
         ensures soon { is_some self.old.over ≡ true → orders_left self.new ≤ 12 ⊎ is_leaving self.old.standing ≡ true }
         ensures leaves { is_leaving self.old.standing ≡ true → orders_left self.new ≤ 3 + self.old.tries }
         ensures keeps { Keeps self.old self.new }
+        ensures release { KeepsReleaseUntilOut learned.now self.old self.new }
     {
         if self.standing == Standing::Leaving {
             // A release that may be in the log is put there once more, and found where it stands: so nothing is learned before.
@@ -71,6 +75,7 @@ impl Claim {
         ensures follows { learned.now.set ≢ self.old.newest → IsUnheard self.new }
         ensures nearer { ComesNearer self.old self.new }
         ensures keeps { Keeps self.old self.new }
+        ensures release { KeepsReleaseUntilOut learned.now self.old self.new }
     {
         match self.step {
             Step::Learning | Step::Looking | Step::Tidying => self.read(learned),
@@ -85,6 +90,7 @@ impl Claim {
         ensures follows { learned.now.set ≢ self.old.newest → IsUnheard self.new }
         ensures nearer { ComesNearer self.old self.new }
         ensures keeps { Keeps self.old self.new }
+        ensures release { KeepsReleaseUntilOut learned.now self.old self.new }
     {
         if learned.set != self.newest {
             return self.fail(Failure::LogFull);
@@ -106,6 +112,7 @@ impl Claim {
         ensures unheard { IsUnheard self.new }
         ensures soon { is_some self.old.over ≡ true → orders_left self.new ≡ 0 }
         ensures keeps { Keeps self.old self.new }
+        ensures release { KeepsRelease self.old self.new }
     {
         if let Some(why) = self.over {
             return self.give_up(why);
@@ -124,6 +131,7 @@ impl Claim {
         ensures borne_out { IsBorneOut learned.now self.new }
         ensures soon { is_some self.old.over ≡ true → orders_left self.new ≤ 12 }
         ensures keeps { Keeps self.old self.new }
+        ensures release { KeepsReleaseUntilOut learned.now self.old self.new }
     {
         match find(learned.table, self) {
             Seen::Granted => self.hold(),
@@ -131,10 +139,8 @@ impl Claim {
                 self.standing = Standing::Waiting;
                 self.wait(learned);
             }
-            Seen::Absent if self.is_out(learned) && !self.is_given_in_doubt() => self.drop_sign(
-                learned,
-                Then::End(Outcome::NotHeld(Why::Gone)),
-            ),
+            Seen::Absent if self.is_out(learned, self.asked) && !self.is_given_in_doubt() =>
+                self.drop_sign(learned, Then::End(Outcome::NotHeld(Why::Gone))),
             Seen::Absent => self.wait(learned),
         }
     }
@@ -153,17 +159,30 @@ impl Claim {
         self.step = Step::Ended(Outcome::Held);
     }
 
-    /// Whether the lock, which the table lacks, does not come into it any more.
-    pub(crate) fn is_out(&self, learned: &Learned<'_>) -> bool
-        ensures { IsTrue result → IsOut learned.now self.now self.now.asked }
+    /// Whether this command of the session, if there is one, has no further effect.
+    pub(crate) fn is_out(&self, learned: &Learned<'_>, request: Option<RequestNumber>) -> bool
+        ensures { IsTrue result → IsOut learned.now self.now request }
     {
-        match self.asked {
-            Some(asked) => {
+        match request {
+            Some(request) => {
                 learned.set != self.set
                     || learned.log.len() >= usize::from(learned.slots)
-                    || has_heard(learned.table, client_of(self.host), asked.get())
+                    || has_heard(learned.table, client_of(self.host), request.get())
             }
             None => true,
+        }
+    }
+
+    /// The lock is to be released. Nothing is stored, unless by a release that may be in the log.
+    pub(crate) fn leave(&mut self)
+        ensures leaving { self.new.standing ≡ Standing.Leaving }
+        ensures value { self.old.release ≡ None → self.new.value ≡ None }
+        ensures rest { self.new ≡ record self.old { standing = Standing.Leaving; value = self.new.value } }
+        ensures release { KeepsRelease self.old self.new }
+    {
+        self.standing = Standing::Leaving;
+        if self.release.is_none() {
+            self.value = None;
         }
     }
 
@@ -172,6 +191,7 @@ impl Claim {
         ensures unheard { IsUnheard self.new }
         ensures soon { is_some self.old.over ≡ true → orders_left self.new ≤ 12 }
         ensures keeps { Keeps self.old self.new }
+        ensures release { KeepsRelease self.old self.new }
     {
         if let Some(why) = self.over {
             return self.give_up(why);
@@ -197,6 +217,7 @@ impl Claim {
     fn rest(&mut self, learned: &Learned<'_>)
         ensures unheard { IsUnheard self.new }
         ensures keeps { Keeps self.old self.new }
+        ensures release { KeepsRelease self.old self.new }
     {
         let is_full = learned.log.len() >= usize::from(learned.slots);
         if !is_full && (learned.left_over || self.pace.is_quiet(self.lock.get())) {
@@ -211,6 +232,7 @@ impl Claim {
     pub fn rested(&mut self)
         ensures unheard { IsUnheard self.new }
         ensures keeps { Keeps self.old self.new }
+        ensures release { KeepsRelease self.old self.new }
     {
         match self.step {
             Step::Yielding => self.submit_again(),
@@ -228,6 +250,7 @@ impl Claim {
     fn submit_again(&mut self)
         ensures unheard { IsUnheard self.new }
         ensures keeps { Keeps self.old self.new }
+        ensures release { KeepsRelease self.old self.new }
     {
         match (self.standing, self.asked, self.release) {
             (Standing::Leaving, _, Some(request)) => self.submit_release(request),
@@ -293,6 +316,7 @@ impl Claim {
         ensures borne_out { IsBorneOut learned.now self.new }
         ensures nearer { ComesNearer self.old self.new }
         ensures keeps { Keeps self.old self.new }
+        ensures release { KeepsReleaseUntilOut learned.now self.old self.new }
         ensures told { IsReading self.old.step → self.old.over ≡ None → TellsWhy self.new (Why.Failed failure) }
     {
         match self.step {
@@ -311,7 +335,7 @@ impl Claim {
         ensures unheard { IsUnheard self.new }
         ensures nearer { ComesNearer self.old self.new }
         ensures keeps { Keeps self.old self.new }
-        ensures release { self.old.goal ≡ Goal.Give → self.new.release ≡ self.old.release }
+        ensures release { KeepsRelease self.old self.new }
         ensures told { IsOpening self.old.step → self.old.over ≡ None → TellsWhy self.new (Why.Failed failure) }
     {
         match self.step {
@@ -334,7 +358,7 @@ impl Claim {
         ensures soon { is_some self.old.over ≡ true → orders_left self.new ≤ 12 }
         ensures leaves { is_some self.old.over ≡ true → is_leaving self.old.standing ≡ true → orders_left self.new ≡ 0 }
         ensures keeps { Keeps self.old self.new }
-        ensures release { self.old.goal ≡ Goal.Give → self.new.release ≡ self.old.release }
+        ensures release { KeepsRelease self.old self.new }
         ensures told { self.old.over ≡ None → TellsWhy self.new (Why.Failed failure) }
     {
         if self.over.is_some() {
@@ -381,7 +405,7 @@ impl Claim {
         ensures leaves { is_leaving self.old.standing ≡ true → orders_left self.new ≡ 0 }
         ensures unasked { self.old.standing ≡ Standing.Unasked → orders_left self.new ≡ 0 }
         ensures keeps { Keeps self.old self.new }
-        ensures release { self.old.goal ≡ Goal.Give → self.new.release ≡ self.old.release }
+        ensures release { KeepsRelease self.old self.new }
         ensures told { TellsWhy self.new why }
     {
         match (self.goal, self.standing) {
@@ -396,9 +420,7 @@ impl Claim {
             ),
             (Goal::Take { .. }, _) => {
                 self.goal = Goal::GiveUp(why);
-                self.standing = Standing::Leaving;
-                self.release = None;
-                self.value = None;
+                self.leave();
                 self.tries = LAST_TRIES;
                 self.step = Step::Opening;
             }

@@ -1,7 +1,7 @@
-ghost use Rattle.std.specs.Prelude.{◌≡◌, ◌+◌, ◌≤◌, IfSome, IsTrue, false, true};
+ghost use Rattle.std.specs.Prelude.{◌≡◌, ◌+◌, ◌≤◌, ℕ, IfSome, IsTrue, Some, false, true};
 ghost use Rattle.session.specs.Bounds.{is_leaving, orders_left};
-ghost use Rattle.session.specs.Keeping.{Keeps};
-ghost use Rattle.session.specs.Outcomes.{GivesBack, IsBorneOut, IsGone, IsUnheard, IsWithout, IsWithoutOrGiven};
+ghost use Rattle.session.specs.Keeping.{Keeps, KeepsRelease, KeepsReleaseUntilOut};
+ghost use Rattle.session.specs.Outcomes.{GivesBack, IsBorneOut, IsGone, IsOut, IsUnheard, IsWithout, IsWithoutOrGiven};
 
 use crate::claim::{Claim, Goal, Standing, Step, Then};
 use crate::evidence::{Seen, find, first_of, is_spared, releases};
@@ -19,6 +19,7 @@ impl Claim {
         ensures borne_out { IsBorneOut learned.now self.new }
         ensures soon { orders_left self.new ≤ 2 + self.old.tries }
         ensures keeps { Keeps self.old self.new }
+        ensures release { KeepsReleaseUntilOut learned.now self.old self.new }
     {
         match self.release {
             Some(request) if self.set == learned.set => self.submit_release(request),
@@ -32,16 +33,18 @@ impl Claim {
         requires newest { learned.now.set ≡ self.now.newest }
         ensures { IsTrue result → IsGone learned.now self.now }
     {
-        find(learned.table, self) == Seen::Absent && self.is_out(learned)
+        find(learned.table, self) == Seen::Absent && self.is_out(learned, self.asked)
     }
 
-    /// Releases the lock by the next request.
+    /// Releases the lock by the next request. A release before this one has no further effect.
     fn release_anew(&mut self, learned: &Learned<'_>)
         requires newest { learned.now.set ≡ self.old.newest }
+        requires out { (request : ℕ) → self.old.release ≡ Some request → IsOut learned.now self.old (Some request) }
         requires leaving { self.old.standing ≡ Standing.Leaving }
         ensures unheard { IsUnheard self.new }
         ensures soon { orders_left self.new ≤ 2 + self.old.tries }
         ensures keeps { Keeps self.old self.new }
+        ensures release { KeepsReleaseUntilOut learned.now self.old self.new }
     {
         self.release = None;
         match RequestNumber::new(self.last_request(learned) + 1) {
@@ -60,6 +63,7 @@ impl Claim {
         ensures unheard { IsUnheard self.new }
         ensures soon { orders_left self.new ≡ 2 + self.old.tries }
         ensures keeps { Keeps self.old self.new }
+        ensures rest { self.new ≡ record self.old { release = Some request; standing = Standing.Leaving; step = self.new.step } }
     {
         self.release = Some(request);
         self.standing = Standing::Leaving;
@@ -81,10 +85,13 @@ impl Claim {
         ensures borne_out { IsBorneOut learned.now self.new }
         ensures soon { orders_left self.new ≤ 1 + self.old.tries }
         ensures keeps { Keeps self.old self.new }
+        ensures release { KeepsReleaseUntilOut learned.now self.old self.new }
     {
         match self.given_at(learned) {
             Some(slot) => self.drop_sign(learned, self.then_given(slot)),
             None if self.is_gone(learned) => self.drop_sign(learned, self.then_gone()),
+            // It stands in the log, and the table does not know it.
+            None if !self.is_out(learned, self.release) => self.break_off(),
             // Another command of this number came first.
             None if self.tries > 0 => {
                 self.tries -= 1;
@@ -138,6 +145,7 @@ impl Claim {
         ensures soon { is_leaving self.old.standing ≡ false → orders_left self.new ≤ 12 }
         ensures leaves { is_leaving self.old.standing ≡ true → orders_left self.new ≤ 1 + self.old.tries }
         ensures keeps { Keeps self.old self.new }
+        ensures release { KeepsRelease self.old self.new }
     {
         match (self.standing, self.release) {
             (Standing::Leaving, Some(request)) if self.tries > 0 => {
