@@ -99,8 +99,11 @@ int mg_purge_dead(struct mg_session *session, unsigned victim, unsigned *purged)
 #define MG_ALL 1u
 
 /* Releases what processes of this host number that are gone have left, and marks what has no mark. `*released`, where it is not
- * NULL, becomes the number of locks. Where some of them could not be released it says why. */
+ * NULL, becomes the number of locks. Where some of them could not be released it says why, and mg_stay how many. */
 int mg_recover(struct mg_session *session, unsigned flags, unsigned *released);
+
+/* How many locks of processes that are gone could not be released, when that was tried last: by mg_recover, or by mg_take. */
+unsigned mg_stay(const struct mg_session *session);
 
 /* ---- waiting ---- */
 

@@ -48,8 +48,21 @@ struct claim_view {
     uint32_t unused;
 };
 
+/* CleanupNumbers of cleanups.rt: locks of a host's sessions that are gone over, and the purge of a host */
+struct cleanup {
+    uint64_t request;
+    uint32_t host;
+    uint32_t whose;
+    uint32_t kind;
+    uint32_t from;
+    uint32_t released;
+    uint32_t stay;
+    int32_t status;
+    uint32_t unused;
+};
+
 typedef char claims_are_as_there[sizeof(struct claim) == 16 && sizeof(struct asker) == 24 && sizeof(struct due_order) == 24 &&
-                                         sizeof(struct claim_value) == 16 && sizeof(struct claim_view) == 32
+                                         sizeof(struct claim_value) == 16 && sizeof(struct claim_view) == 32 && sizeof(struct cleanup) == 40
                                      ? 1
                                      : -1];
 
@@ -58,6 +71,7 @@ enum end { IS_HELD, IS_NOT_HELD, IS_GIVEN, IS_IN_DOUBT, HAS_FAILED };
 enum goal { TAKE_LEFT = 1, TAKE_LEFT_AT_ONCE, CHECK, GIVE, GIVE_VALUE, GIVE_UP };
 enum event { IS_OPEN = 1, HAS_LEARNED, HAS_REPLIED, IS_REFUSED, SIGN_IS_OURS, SIGN_IS_HELD, SIGN_IS_DROPPED };
 enum event_alone { IS_CLOSED = 1, HAS_RESTED, SIGN_FAILED };
+enum kind { ALL_LOCKS, SHARED_LOCKS, LOCKS_ALONE };
 
 int32_t dlm_c_take(struct claim *claim, const struct asker *asker, const uint8_t *name, size_t length, uint32_t mode, bool waits);
 int32_t dlm_c_left(struct claim *claim, const struct asker *asker, uint32_t lock, const uint8_t *name, size_t length, uint32_t mode, uint64_t set);
@@ -67,10 +81,16 @@ int32_t dlm_c_order(struct claim *claim, struct due_order *into);
 int32_t dlm_c_hear_alone(struct claim *claim, uint32_t event, int32_t status);
 int32_t dlm_c_show(struct claim *claim, struct claim_view *into);
 void dlm_c_forget(struct claim *claim);
+void dlm_c_pass_left(struct cleanup *cleanup, uint32_t lock);
+int32_t dlm_c_settle_left(struct claim *claim, struct cleanup *cleanup, uint32_t lock);
 
-/* By a host: of midgegalena.c. Commands of others are marked until it is time, in milliseconds of CLOCK_MONOTONIC. */
+/* By a host: of midgegalena.c. Commands of others are marked until it is time, in milliseconds of CLOCK_MONOTONIC. A lock 0 is none: all are passed, or
+ * the purge is to be submitted. `ours` has MG_LOCKS numbers. */
 int learn_all(struct mg_host *host, int64_t until);
 int claim_submits(struct claim *claim, struct mg_host *host);
 void claim_hears(struct claim *claim, struct mg_host *host, enum event event, int status, bool left_over);
+int next_left(struct mg_host *host, const struct cleanup *cleanup, const uint32_t *ours, struct mg_lock_view *into);
+int next_purge(struct mg_host *host, const struct cleanup *cleanup, uint32_t *lock, bool *is_purged);
+int submit_purge(struct mg_host *host, const struct cleanup *cleanup, unsigned *purged);
 
 #endif

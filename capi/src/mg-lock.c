@@ -348,6 +348,8 @@ static int read_arguments(int argc, char **argv) {
 static int recover(struct mg_session *session) {
     unsigned released;
     int status = mg_recover(session, asked.all ? MG_ALL : 0, &released);
+    if (mg_stay(session) > 0)
+        say("%u locks whose processes are gone stay in the table", mg_stay(session));
     if (status != MG_OK)
         return refuse(told(status), NULL);
     printf("released %u\n", released);

@@ -66,7 +66,8 @@ struct mg_session {
     struct mg_host *eye;  /* with MG_SHARE, to look */
     bool is_worn;         /* the host is to be opened anew */
     bool has_unwanted;    /* an entry is UNWANTED, or was */
-    unsigned number, client, flags;
+    unsigned number, flags;
+    unsigned stay; /* locks of processes that are gone, which could not be released */
     uint64_t request; /* the last */
     int interval;
     int (*rest)(void *with, int milliseconds);
@@ -234,23 +235,6 @@ static struct entry *entry_of(struct mg_session *session, uint32_t lock) {
     return NULL;
 }
 
-/* Whether the table shows a lock of this host number under the lock number: MG_OK, or MG_NO_SUCH_LOCK. */
-static int find_ours(struct mg_session *session, struct mg_host *host, uint32_t lock, struct mg_lock_view *view) {
-    int status = mg_lock(host, lock, view);
-    return status == MG_OK && !is_of(view, session->number) ? MG_NO_SUCH_LOCK : status;
-}
-
-/* One above the last of the client, and of this session. */
-static uint64_t next_request(struct mg_session *session) {
-    struct mg_client_view all[MG_CLIENTS];
-    size_t count = 0;
-    if (mg_clients(session->host, all, MG_CLIENTS, &count) == MG_OK)
-        for (size_t i = 0; i < count && i < MG_CLIENTS; i++)
-            if (all[i].client == session->client && all[i].request > session->request)
-                session->request = all[i].request;
-    return ++session->request;
-}
-
 /* ---- signs of life ---- */
 
 /* The cluster number of the set whose folder is open. What is open is of one folder. */
@@ -367,77 +351,7 @@ static void remove_old_signs(struct mg_session *session) {
         closedir(folder);
 }
 
-/* ---- release ---- */
-
-/* Whether the command with this status stands in the log. */
-static bool is_in_log(int status) { return status == MG_OK || (status >= MG_LOCK_IN_USE && status <= MG_NOTHING_TO_CANCEL); }
-
-/* Releases a lock in a talk, until the table shows that it is gone. MG_NO_SUCH_LOCK: it was gone before. */
-static int release(struct mg_session *session, uint32_t lock, int64_t until) {
-    uint64_t request = next_request(session);
-    for (;;) {
-        struct mg_lock_view view;
-        int status = mg_release(session->host, session->client, request, lock, NULL);
-        if (status == MG_OUTRUN && milliseconds() < until)
-            continue;
-        if (!is_in_log(status) || status == MG_CLIENTS_FULL)
-            return status;
-        switch (find_ours(session, session->host, lock, &view)) {
-        case MG_OK: break;
-        case MG_NO_SUCH_LOCK: return status == MG_OK ? MG_OK : MG_NO_SUCH_LOCK;
-        default: return MG_NO_MEMORY;
-        }
-        if (milliseconds() >= until)
-            return MG_STALE;
-        request = next_request(session);
-    }
-}
-
-/* The sign of a lock of this host number that nobody has any more; NO_SIGN where somebody may have it. */
-static int sign_of_left_over(struct mg_session *session, uint32_t lock, bool all) {
-    if (!all && is_shared(session) && !was_shared(lock))
-        return NO_SIGN;
-    return take_sign(session, session->number, lock, all);
-}
-
-/* How many locks were released, how many stay, and why the last of these does. */
-struct left {
-    unsigned released, stay;
-    int why;
-};
-
-static void count_left(struct left *left, int status) {
-    if (status == MG_OK || status == MG_NO_SUCH_LOCK)
-        left->released++;
-    else {
-        left->stay++;
-        left->why = status;
-    }
-}
-
-/* Releases in a talk what processes that are gone have left. */
-static void release_left(struct mg_session *session, bool all, int64_t until, struct left *left) {
-    int status;
-    size_t count = read_table(session, session->host, &status);
-    if (status != MG_OK)
-        count_left(left, status);
-    for (size_t i = 0; i < count; i++) {
-        uint32_t lock = session->table[i].lock;
-        int sign;
-        if (!is_of(&session->table[i], session->number) || entry_of(session, lock))
-            continue;
-        sign = sign_of_left_over(session, lock, all);
-        if (sign == NO_SIGN)
-            continue;
-        status = release(session, lock, until);
-        count_left(left, status);
-        wear(session, status);
-        if (status == MG_OK || status == MG_NO_SUCH_LOCK)
-            end_sign(session, lock, sign);
-        else
-            close(sign);
-    }
-}
+/* ---- locks that are left over ---- */
 
 /* Whether a lock that nobody has any more holds a mode on the name. */
 static bool holds_nobodys(struct mg_session *session, struct mg_host *looks, const char *name) {
@@ -448,7 +362,9 @@ static bool holds_nobodys(struct mg_session *session, struct mg_host *looks, con
         int sign;
         if (view->held == MG_NONE || strcmp(view->name, name) != 0 || !is_of(view, session->number) || entry_of(session, view->lock))
             continue;
-        sign = sign_of_left_over(session, view->lock, false);
+        if (is_shared(session) && !was_shared(view->lock))
+            continue;
+        sign = take_sign(session, session->number, view->lock, false);
         if (sign == NO_SIGN)
             continue;
         close(sign);
@@ -465,12 +381,13 @@ struct work {
     bool stops;
     bool is_part; /* of another operation, whose talk goes on */
     struct due_order end;
-    struct left left;
+    unsigned released;
     uint32_t slots_left;
     struct mg_value value;
 };
 
 static void release_unwanted(struct mg_session *session, int64_t until, bool is_part);
+static struct cleanup release_left(struct mg_session *session, bool all, int64_t until);
 
 static struct asker asker_of(const struct mg_session *session) {
     struct asker asker = {0, 0, 0, 0, 0};
@@ -574,7 +491,7 @@ static struct mg_host *tell_learned(struct mg_session *session, struct entry *en
 static struct mg_host *tidy(struct mg_session *session, struct entry *entry, struct work *work) {
     release_unwanted(session, work->until, true);
     if (session->host)
-        release_left(session, false, work->until, &work->left);
+        work->released += release_left(session, false, work->until).released;
     if (session->host)
         claim_hears(&entry->claim, session->host, HAS_LEARNED, 0, false);
     else
@@ -632,25 +549,91 @@ static void operate(struct mg_session *session, struct entry *entry, struct work
     }
 }
 
+/* Has a claim released by an operation that is part of another one: MG_OK, or no claim could be begun. */
+static int give_up(struct mg_session *session, struct entry *entry, struct work *work, int64_t until, bool is_part) {
+    struct asker asker = asker_of(session);
+    int status = dlm_c_begin(&entry->claim, &asker, GIVE_UP, &NO_VALUE);
+    memset(work, 0, sizeof *work);
+    work->until = until;
+    work->is_part = is_part;
+    if (status == MG_OK)
+        operate(session, entry, work);
+    return status;
+}
+
 /* Releases what this session gave up, and could not release then. */
 static void release_unwanted(struct mg_session *session, int64_t until, bool is_part) {
     bool stays = false;
     for (size_t i = 0; i < MG_LOCKS && session->has_unwanted; i++) {
         struct entry *entry = &session->entries[i];
-        struct asker asker = asker_of(session);
         struct work work;
         stays |= entry->state == UNWANTED;
-        if (entry->state != UNWANTED)
-            continue;
-        memset(&work, 0, sizeof work);
-        work.until = until;
-        work.is_part = is_part;
-        (void)dlm_c_begin(&entry->claim, &asker, GIVE_UP, &NO_VALUE);
-        operate(session, entry, &work);
-        if (work.end.outcome == IS_NOT_HELD)
+        if (entry->state == UNWANTED && give_up(session, entry, &work, until, is_part) == MG_OK && work.end.outcome == IS_NOT_HELD)
             free_entry(entry);
     }
     session->has_unwanted = stays;
+}
+
+/* The locks of a host's sessions, of which none is passed yet. */
+static struct cleanup locks_of(const struct mg_session *session, unsigned whose, enum kind kind) {
+    struct cleanup locks = {0, 0, 0, 0, 0, 0, 0, MG_OK, 0};
+    locks.request = session->request;
+    locks.host = session->number;
+    locks.whose = whose;
+    locks.kind = kind;
+    return locks;
+}
+
+/* The entry becomes that of a lock which a former run left, with its sign. */
+static int enter_left(struct mg_session *session, struct entry *entry, const struct mg_lock_view *view, int sign) {
+    struct asker asker = asker_of(session);
+    memset(entry, 0, sizeof *entry);
+    memcpy(entry->name, view->name, sizeof entry->name);
+    entry->state = KEPT;
+    entry->lock = view->lock;
+    entry->mode = view->wanted == MG_NONE ? view->held : view->wanted;
+    entry->sign = sign;
+    entry->sign_of = set_of(session);
+    return dlm_c_left(&entry->claim, &asker, view->lock, (const uint8_t *)entry->name, strlen(entry->name), (uint32_t)entry->mode, entry->sign_of);
+}
+
+/* Releases it by a claim, in a talk. */
+static void release_one(struct mg_session *session, const struct mg_lock_view *view, int sign, int64_t until, struct cleanup *locks) {
+    struct entry entry;
+    struct work work;
+    int status = enter_left(session, &entry, view, sign);
+    if (status == MG_OK)
+        status = give_up(session, &entry, &work, until, true);
+    if (status != MG_OK || dlm_c_settle_left(&entry.claim, locks, view->lock) != MG_OK) {
+        dlm_c_pass_left(locks, view->lock);
+        locks->stay++;
+        locks->status = status > MG_OK ? status : MG_BROKEN;
+    }
+    free_entry(&entry);
+}
+
+/* Releases in a talk what processes that are gone have left, and tells how many were released, how many stay, and why. */
+static struct cleanup release_left(struct mg_session *session, bool all, int64_t until) {
+    struct cleanup locks = locks_of(session, session->number, !all && is_shared(session) ? SHARED_LOCKS : ALL_LOCKS);
+    uint32_t ours[MG_LOCKS];
+    for (size_t i = 0; i < MG_LOCKS; i++)
+        ours[i] = session->entries[i].state == FREE ? 0 : session->entries[i].lock;
+    for (;;) {
+        struct mg_lock_view view;
+        int sign, status = session->host ? next_left(session->host, &locks, ours, &view) : MG_NO_MAJORITY;
+        if (status != MG_OK) {
+            locks.stay++;
+            locks.status = status;
+        }
+        session->stay = locks.stay;
+        if (status != MG_OK || view.lock == 0)
+            return locks;
+        sign = take_sign(session, session->number, view.lock, all);
+        if (sign == NO_SIGN)
+            dlm_c_pass_left(&locks, view.lock);
+        else
+            release_one(session, &view, sign, until, &locks);
+    }
 }
 
 /* ---- give ---- */
@@ -766,7 +749,7 @@ int mg_take(struct mg_session *session, const char *name, int mode, int timeout,
         held->slot = view.slot;
         held->cluster = view.set;
         held->slots_left = work.slots_left;
-        held->released = work.left.released;
+        held->released = work.released;
         held->value = work.value;
         return MG_OK;
     case IS_IN_DOUBT:
@@ -804,45 +787,29 @@ int mg_check(struct mg_session *session, unsigned lock) {
 
 /* ---- of other hosts, and of other processes ---- */
 
-/* Whether somebody may have a lock that a session of this host number took. */
-static bool has_living(struct mg_session *session, unsigned number) {
-    int status;
-    size_t count = read_table(session, session->host, &status);
-    for (size_t i = 0; i < count; i++) {
-        int sign;
-        if (!is_of(&session->table[i], number))
-            continue;
-        sign = take_sign(session, number, session->table[i].lock, false);
-        if (sign == NO_SIGN)
-            return true;
-        close(sign);
-    }
-    return status != MG_OK;
-}
-
-static bool has_locks(struct mg_session *session, unsigned number, int *status) {
-    size_t count = read_table(session, session->host, status);
-    for (size_t i = 0; i < count; i++)
-        if (session->table[i].host == number)
-            return true;
-    return false;
-}
-
+/* Takes away all locks of a host, once nobody has the signs of its sessions' locks. */
 static int purge(struct mg_session *session, unsigned victim, unsigned *purged) {
+    struct cleanup locks = locks_of(session, victim, ALL_LOCKS);
     int64_t until = milliseconds() + PATIENCE;
-    uint64_t request = next_request(session);
-    int status;
-    while (has_locks(session, victim, &status)) {
-        struct mg_answer answer;
-        status = mg_purge(session->host, session->client, request, victim, &answer);
-        if (status == MG_OUTRUN && milliseconds() < until)
-            continue;
-        if (!is_in_log(status) || status == MG_CLIENTS_FULL)
+    for (;;) {
+        uint32_t lock;
+        bool is_purged;
+        int status = next_purge(session->host, &locks, &lock, &is_purged);
+        if (status != MG_OK || is_purged)
             return status;
-        *purged = answer.purged;
-        request = next_request(session);
+        if (lock != 0) {
+            int sign = take_sign(session, victim, lock, false);
+            if (sign == NO_SIGN)
+                return MG_HOST_IN_USE;
+            close(sign);
+            dlm_c_pass_left(&locks, lock);
+            continue;
+        }
+        status = submit_purge(session->host, &locks, purged);
+        /* Another command of this number came first, or another host's ballot was greater. */
+        if (status != MG_OK && status != MG_STALE && (status != MG_OUTRUN || pause_for(session, 1 + any_below(16), until, false) != MG_OK))
+            return status;
     }
-    return status;
 }
 
 int mg_purge_dead(struct mg_session *session, unsigned victim, unsigned *purged) {
@@ -860,7 +827,7 @@ int mg_purge_dead(struct mg_session *session, unsigned victim, unsigned *purged)
     if (status == MG_OK)
         status = mark_all(session->host, milliseconds() + PATIENCE);
     if (status == MG_OK)
-        status = has_living(session, victim) ? MG_HOST_IN_USE : purge(session, victim, &count);
+        status = purge(session, victim, &count);
     mg_close(dead);
     if (purged)
         *purged = count;
@@ -871,19 +838,19 @@ int mg_purge_dead(struct mg_session *session, unsigned victim, unsigned *purged)
 
 /* Marks what has no mark, so that looks pass it, and releases what is left over. */
 static int recover(struct mg_session *session, int64_t until, bool all, unsigned *released) {
-    struct left left = {0, 0, MG_OK};
     int status = begin_talk(session, until, NULL);
     if (status != MG_OK)
         return status;
     status = mark_all(session->host, until);
     if (status == MG_OK) {
+        struct cleanup left;
         release_unwanted(session, until, true);
-        release_left(session, all, until, &left);
-        if (all)
+        left = release_left(session, all, until);
+        if (all && session->host)
             remove_old_signs(session);
-        status = left.stay > 0 ? left.why : MG_OK;
+        *released = left.released;
+        status = left.status;
     }
-    *released = left.released;
     wear(session, status);
     end_talk(session);
     return status;
@@ -902,29 +869,23 @@ int mg_recover(struct mg_session *session, unsigned flags, unsigned *released) {
     return status;
 }
 
+unsigned mg_stay(const struct mg_session *session) { return session ? session->stay : 0; }
+
 /* ---- begin and end ---- */
 
 /* The locks that former runs without MG_SHARE left become entries. */
 static int keep_left(struct mg_session *session) {
-    struct asker asker = asker_of(session);
-    int status;
-    size_t count = read_table(session, session->host, &status);
-    for (size_t i = 0; i < count && status == MG_OK; i++) {
-        const struct mg_lock_view *view = &session->table[i];
-        struct entry *entry = &session->entries[i];
-        int mode = view->wanted == MG_NONE ? view->held : view->wanted;
-        int sign = NO_SIGN;
-        if (is_of(view, session->number) && !was_shared(view->lock))
-            sign = take_sign(session, session->number, view->lock, false);
-        if (sign == NO_SIGN)
-            continue;
-        memcpy(entry->name, view->name, sizeof entry->name);
-        status = dlm_c_left(&entry->claim, &asker, view->lock, (const uint8_t *)entry->name, strlen(entry->name), (uint32_t)mode, set_of(session));
-        entry->state = KEPT;
-        entry->lock = view->lock;
-        entry->mode = mode;
-        entry->sign = sign;
-        entry->sign_of = set_of(session);
+    struct cleanup locks = locks_of(session, session->number, LOCKS_ALONE);
+    const uint32_t none[MG_LOCKS] = {0};
+    struct mg_lock_view view;
+    int status = next_left(session->host, &locks, none, &view);
+    for (size_t i = 0; i < MG_LOCKS && status == MG_OK && view.lock != 0;) {
+        int sign = take_sign(session, session->number, view.lock, false);
+        if (sign != NO_SIGN)
+            status = enter_left(session, &session->entries[i++], &view, sign);
+        dlm_c_pass_left(&locks, view.lock);
+        if (status == MG_OK)
+            status = next_left(session->host, &locks, none, &view);
     }
     return status;
 }
@@ -941,7 +902,6 @@ static char *from_root(const char *folder) {
 }
 
 static int begin(struct mg_session *session, int *disk) {
-    struct left left = {0, 0, MG_OK};
     int status = is_shared(session) ? follow(session) : begin_talk(session, milliseconds() + LITTLE_PATIENCE, disk);
     if (status != MG_OK)
         return status;
@@ -949,9 +909,7 @@ static int begin(struct mg_session *session, int *disk) {
         return mg_open_to_look(session->at, &session->eye, disk);
     if (session->flags & MG_KEEP)
         status = keep_left(session);
-    if (status == MG_OK)
-        release_left(session, false, milliseconds() + PATIENCE, &left);
-    return status == MG_OK && left.stay > 0 ? left.why : status;
+    return status == MG_OK ? release_left(session, false, milliseconds() + PATIENCE).status : status;
 }
 
 int mg_begin(const char *folder, unsigned host, unsigned flags, struct mg_session **out, int *disk) {
@@ -967,7 +925,6 @@ int mg_begin(const char *folder, unsigned host, unsigned flags, struct mg_sessio
     if (!session)
         return MG_NO_MEMORY;
     session->number = host;
-    session->client = FIRST_CLIENT + host;
     session->flags = flags;
     session->interval = FIRST_INTERVAL;
     for (size_t i = 0; i < MG_LOCKS; i++)

@@ -141,6 +141,9 @@ int32_t dlm_c_text(struct handle *handle, uint8_t *into, size_t room, size_t *le
 
 int32_t dlm_c_submit_order(struct claim *claim, struct handle *handle);
 int32_t dlm_c_hear(struct claim *claim, struct handle *handle, uint32_t event, int32_t status, bool left_over);
+int32_t dlm_c_next_left(struct handle *handle, const struct cleanup *cleanup, const uint32_t *ours, size_t length, struct mg_lock_view *into);
+int32_t dlm_c_next_purge(struct handle *handle, const struct cleanup *cleanup, uint32_t *lock);
+int32_t dlm_c_submit_purge(struct handle *handle, const struct cleanup *cleanup);
 
 /* What it says below 0, but for a bad argument, is of calls that this file does not make. */
 static int status_of(int32_t told) { return told >= MG_BAD_ARGUMENT ? told : MG_BROKEN; }
@@ -726,14 +729,43 @@ void claim_hears(struct claim *claim, struct mg_host *host, enum event event, in
     (void)dlm_c_hear(claim, &host->handle, event, status, left_over);
 }
 
+/* Marks the slot of a command that stands in the log. Else the status is the command's. */
+static int mark_slot(struct mg_host *host, int32_t slot, int status) {
+    struct answer marked;
+    return slot < 0 ? status : carry_out(host, dlm_c_mark(&host->handle, (uint32_t)slot), &marked);
+}
+
 /* Puts the claim's command into the log, tells the claim what came of that, and then marks it. The status is of the command, or of the mark: an image
  * that fails then is given up by the host, too. */
 int claim_submits(struct claim *claim, struct mg_host *host) {
-    struct answer answer, marked;
+    struct answer answer;
     int status = carry_out(host, dlm_c_submit_order(claim, &host->handle), &answer);
     claim_hears(claim, host, HAS_REPLIED, 0, false);
-    if (answer.slot >= 0)
-        status = carry_out(host, dlm_c_mark(&host->handle, (uint32_t)answer.slot), &marked);
+    return mark_slot(host, answer.slot, status);
+}
+
+/* ---- locks of processes that are gone ---- */
+
+int next_left(struct mg_host *host, const struct cleanup *cleanup, const uint32_t *ours, struct mg_lock_view *into) {
+    int32_t told;
+    memset(into, 0, sizeof *into);
+    told = dlm_c_next_left(&host->handle, cleanup, ours, MG_LOCKS, into);
+    return told == NOTHING_DUE ? MG_OK : status_of(told);
+}
+
+int next_purge(struct mg_host *host, const struct cleanup *cleanup, uint32_t *lock, bool *is_purged) {
+    int32_t told;
+    *lock = 0;
+    told = dlm_c_next_purge(&host->handle, cleanup, lock);
+    *is_purged = told == NOTHING_DUE;
+    return *is_purged ? MG_OK : status_of(told);
+}
+
+int submit_purge(struct mg_host *host, const struct cleanup *cleanup, unsigned *purged) {
+    struct answer answer;
+    int status = carry_out(host, dlm_c_submit_purge(&host->handle, cleanup), &answer);
+    *purged += answer.purged;
+    (void)mark_slot(host, answer.slot, status);
     return status;
 }
 

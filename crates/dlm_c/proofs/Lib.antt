@@ -1,4 +1,5 @@
 mod ClaimValues
+mod Counted
 mod Ended
 mod Shown
 mod Steps

@@ -1,5 +1,6 @@
 pub mod Calls
 pub mod Claims
+pub mod Cleanups
 pub mod Ends
 pub mod Headers
 pub mod Held

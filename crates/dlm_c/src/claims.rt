@@ -1,5 +1,5 @@
 //! Claims in handles: what C calls to have a lock of a session.
-ghost use Rattle.std.specs.Prelude.{◌≡◌, Some};
+ghost use Rattle.std.specs.Prelude.{◌≡◌, IfSome, Some};
 ghost use Rattle.lock_table.specs.Apply.{table_after};
 ghost use Rattle.lock_table.specs.Picture.{IsPictureOf};
 ghost use Rattle.session.specs.Orders.{order_of};
@@ -62,7 +62,9 @@ pub extern "C" fn dlm_c_left(
     )
 }
 
-fn lock_of(number: u32) -> Option<LockNumber> {
+pub fn lock_of(number: u32) -> Option<LockNumber>
+    ensures lock { IfSome result (λ lock. lock ≡ number) }
+{
     LockNumber::new(u16::try_from(number).ok()?)
 }
 

@@ -17,6 +17,7 @@ mod asker;
 mod call;
 mod claim_handle;
 mod claims;
+mod cleanups;
 mod due_order;
 mod fault;
 mod handle;

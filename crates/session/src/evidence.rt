@@ -1,4 +1,4 @@
-ghost use Rattle.std.specs.Prelude.{◌≡◌, ◌≢◌, ◌≤◌, ◌<◌, ◌^◌, ◌↔◌, IsTrue, IfSome, length, None};
+ghost use Rattle.std.specs.Prelude.{◌≡◌, ◌≢◌, ◌≤◌, ◌<◌, ◌^◌, ◌↔◌, ◌⊎◌, IsTrue, IfSome, length, None};
 ghost use Rattle.lock_command.specs.declared.state.LockState.TheVariants as lock;
 ghost use Rattle.lock_table.specs.State.{goal_of};
 ghost use Rattle.lock_table.specs.declared.record.KnownClient.{KnownClient};
@@ -98,6 +98,7 @@ fn holds_up(mode: Mode, state: &LockState) -> bool
 pub fn last_request(table: &Picture, client: ClientNumber) -> u64
     ensures range { result ≤ 2 ^ 62 }
     ensures last { (known : KnownClient) → Knows table.now client known → known.request ≡ result }
+    ensures none { (result ≡ 0) ⊎ ((known : KnownClient) × Knows table.now client known × (known.request ≡ result)) }
 {
     let clients = table.clients();
     for at in 0..clients.len() {

@@ -16,6 +16,7 @@ mod releasing;
 
 pub use beginning::Asker;
 pub use claim::{Choice, Claim, Goal, Sign, Standing, Step, Then};
+pub use evidence::last_request;
 pub use learned::Learned;
 pub use numbers::{FIRST_CLIENT, FIRST_LOCK, LOCKS_OF_A_HOST, client_of, lock_of};
 pub use order::Order;
