@@ -93,7 +93,7 @@ impl Claim {
         ensures release { KeepsReleaseUntilOut learned.now self.old self.new }
     {
         if learned.set != self.newest {
-            return self.fail(Failure::LogFull);
+            return self.follow();
         }
         self.pace.hear(learned.log.len());
         match self.step {
@@ -103,6 +103,20 @@ impl Claim {
             _ if self.standing == Standing::Unasked => self.seek(learned),
             Step::Learning if self.over.is_none() => self.step = Step::Tidying,
             _ => self.judge(learned),
+        }
+    }
+
+    /// What was opened last is not what is heard now: the folder is opened anew.
+    fn follow(&mut self)
+        ensures unheard { IsUnheard self.new }
+        ensures soon { is_some self.old.over ≡ true → orders_left self.new ≤ 12 }
+        ensures leaves { is_some self.old.over ≡ true → is_leaving self.old.standing ≡ true → orders_left self.new ≡ 0 }
+        ensures keeps { Keeps self.old self.new }
+        ensures release { KeepsRelease self.old self.new }
+    {
+        match self.over {
+            Some(why) => self.give_up(why),
+            None => self.step = Step::Opening,
         }
     }
 
