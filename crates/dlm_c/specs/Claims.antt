@@ -1,8 +1,10 @@
 -- What C is told of a claim, and what a claim is told by C.
-use Rattle.std.specs.Prelude.{◌≡◌, ◌⊎◌, ℕ, ℤ, Option, Some, None, true, false, pos, negsuc, if◌then◌else◌}
+use Rattle.std.specs.Prelude.{◌≡◌, ◌≢◌, ◌⊎◌, ℕ, ℤ, Option, Some, None, pos, negsuc, if◌then◌else◌}
 use Rattle.lock_table.specs.Apply.{table_after}
 use Rattle.lock_table.specs.Picture.{IsPictureOf}
 use Rattle.session.specs.declared.claim.Claim.{Claim}
+use Rattle.session.specs.declared.claim.Standing.{Standing}
+use Rattle.session.specs.declared.claim.Standing.TheVariants as standing
 use Rattle.session.specs.declared.learned.Learned.{Learned}
 use Rattle.session.specs.declared.order.Order.{Order}
 use Rattle.session.specs.declared.order.Order.TheVariants as order
@@ -12,8 +14,11 @@ use Rattle.session.specs.declared.outcome.Outcome.{Outcome}
 use Rattle.session.specs.declared.outcome.Outcome.TheVariants as outcome
 use Rattle.session.specs.declared.outcome.Why.{Why}
 use Rattle.session.specs.declared.outcome.Why.TheVariants as why
-use Rattle.session.specs.Outcomes.{IsBorneOut, IsUnheard}
+use Rattle.session.specs.Bounds.{ComesNearer, IsOpening}
+use Rattle.session.specs.Keeping.{Keeps, KeepsRelease}
+use Rattle.session.specs.Outcomes.{IsBorneOut, IsUnheard, TellsWhy}
 use Rattle.lock_command.specs.declared.reply.Refusal.TheVariants.{NoSuchLock, StillWaiting, TableFull}
+use Rattle.dlm_c.specs.declared.claims.ClaimView.{ClaimView}
 use Rattle.dlm_c.specs.declared.due_order.DueOrder.{DueOrder}
 use Rattle.dlm_c.specs.declared.open_host.OpenHost.{OpenHost}
 use Rattle.dlm_c.specs.Numbers.{closed, table_number}
@@ -72,6 +77,29 @@ told_order (order.Rest milliseconds) = record (of_kind 9) { amount = millisecond
 told_order (order.Yield outrun) = record (of_kind 10) { amount = outrun }
 told_order (order.Done outcome) = ended_as outcome
 
+-- THE CLAIM
+
+-- where its command stands, or that this is not known
+abbrev pub slot_number : Option ℕ → ℤ
+slot_number None = negsuc 0
+slot_number (Some slot) = pos slot
+
+abbrev pub standing_number : Standing → ℕ
+standing_number standing.Unasked = 0
+standing_number standing.Asked = 1
+standing_number standing.Waiting = 2
+standing_number standing.Held = 3
+standing_number standing.Left = 4
+standing_number standing.Leaving = 5
+
+-- The view shows this claim.
+pub record ShowsClaim (view : ClaimView) (c : Claim) : Type 0 where
+  pub set : view.set ≡ c.set
+  pub request : view.request ≡ c.request
+  pub lock : view.lock ≡ c.lock
+  pub slot : view.slot ≡ slot_number c.slot
+  pub standing : view.standing ≡ standing_number c.standing
+
 -- WHAT IS HEARD
 
 -- What the host has learned bears out whatever the claim's step leads to.
@@ -87,6 +115,21 @@ pub record IsBorneOutBy (host : OpenHost) (c : Claim) : Type 0 where
 -- given up, the host does not know.
 abbrev pub HearsRight : ℕ → OpenHost → Claim → Type 0
 HearsRight event host c = (event ≡ 6) ⊎ (event ≡ 7) ⊎ IsUnheard c ⊎ IsBorneOutBy host c
+
+-- Where no host is open, whatever the step leads to needs nothing heard, and what may be in the log stays known. If the operation then ends since the folder
+-- could not be opened, it tells that failure, unless it was to end soon.
+pub record HearsAlone (event : ℕ) (status : ℤ) (old new : Claim) : Type 0 where
+  pub unheard : IsUnheard new
+  pub keeps : Keeps old new
+  pub release : KeepsRelease old new
+  pub nearer : event ≢ 2 → ComesNearer old new
+  pub told : (failed : Failure) → event ≢ 2 → event ≢ 3 → failure_number failed ≡ status → IsOpening old.step → old.over ≡ None → TellsWhy new (why.Failed failed)
+
+-- this is so of the claim that is kept, if one is
+abbrev pub InKept : (Claim → Claim → Type 0) → Option Claim → Option Claim → Type 0
+InKept Changes None new = new ≡ None
+InKept Changes (Some old) None = ⊥
+InKept Changes (Some old) (Some new) = Changes old new
 
 -- this is so of the claim that is kept; where none is, C is told so
 abbrev pub InClaim : (Claim → Claim → Type 0) → Option Claim → Option Claim → ℤ → Type 0

@@ -1,3 +1,6 @@
+ghost use Rattle.std.specs.Option.{SomeIff};
+ghost use Rattle.dlm_c.specs.Asking.{MayAsk, asker_of};
+
 use crate::open_host::host_of;
 use session::Asker;
 
@@ -17,7 +20,9 @@ pub struct AskerNumbers {
 
 impl AskerNumbers {
     /// The session that this is.
-    pub fn asker(&self) -> Option<Asker> {
+    pub fn asker(&self) -> Option<Asker>
+        ensures { SomeIff result (MayAsk self.now) (asker_of self.now) }
+    {
         Some(Asker {
             host: host_of(self.host)?,
             shares: self.shares == 1,

@@ -1,9 +1,14 @@
 //! Claims in handles: what C calls to have a lock of a session.
-ghost use Rattle.std.specs.Prelude.{◌≡◌, IfSome, Some};
+ghost use Rattle.std.specs.Prelude.{◌≡◌, ◌⊎◌, None, Some};
+ghost use Rattle.std.specs.Option.{SomeIff};
+ghost use Rattle.lock_command.specs.Command.{IsLock};
 ghost use Rattle.lock_table.specs.Apply.{table_after};
 ghost use Rattle.lock_table.specs.Picture.{IsPictureOf};
 ghost use Rattle.session.specs.Orders.{order_of};
-ghost use Rattle.dlm_c.specs.Claims.{HearsRight, InClaim, told_order};
+ghost use Rattle.dlm_c.specs.Asking.{BeginsGoalOr, KeepsLeft, KeepsNew, Stops, SubmitsOrder};
+ghost use Rattle.dlm_c.specs.Claims.{HearsAlone, HearsRight, InClaim, InKept, ShowsClaim, told_order};
+ghost use Rattle.dlm_c.specs.Numbers.{done, no_memory};
+ghost use Rattle.dlm_c.specs.Steps.{InHandle};
 ghost use Rattle.dlm_c.specs.declared.open_host.OpenHost.{OpenHost};
 
 use crate::asker::AskerNumbers;
@@ -28,7 +33,9 @@ pub extern "C" fn dlm_c_take(
     name: &[u8],
     mode: u32,
     waits: bool,
-) -> i32 {
+) -> i32
+    ensures { KeepsNew asker.now name.now mode waits handle.old.held.value handle.new.held.value result }
+{
     let (Some(asker), Some(name), Some(mode)) = (asker.asker(), LockName::new(name), mode_of(mode))
     else {
         return BAD_ARGUMENT;
@@ -46,7 +53,9 @@ pub extern "C" fn dlm_c_left(
     name: &[u8],
     mode: u32,
     set: u64,
-) -> i32 {
+) -> i32
+    ensures { KeepsLeft asker.now lock name.now mode set handle.old.held.value handle.new.held.value result }
+{
     let (Some(asker), Some(lock), Some(name), Some(mode)) = (
         asker.asker(),
         lock_of(lock),
@@ -63,12 +72,14 @@ pub extern "C" fn dlm_c_left(
 }
 
 pub fn lock_of(number: u32) -> Option<LockNumber>
-    ensures lock { IfSome result (λ lock. lock ≡ number) }
+    ensures { SomeIff result (IsLock number) number }
 {
     LockNumber::new(u16::try_from(number).ok()?)
 }
 
-fn keep(alloc: Global, handle: &mut ClaimHandle, claim: Claim) -> i32 {
+fn keep(alloc: Global, handle: &mut ClaimHandle, claim: Claim) -> i32
+    ensures { ((result ≡ done) × (handle.new.held.value ≡ Some claim)) ⊎ ((result ≡ no_memory) × (handle.new.held.value ≡ None)) }
+{
     let _last = handle.take(alloc);
     match Box::new(alloc, claim) {
         Ok(claim) => {
@@ -81,7 +92,9 @@ fn keep(alloc: Global, handle: &mut ClaimHandle, claim: Claim) -> i32 {
 
 /// Lets the claim go that is kept, if one is.
 #[unsafe(no_mangle)]
-pub extern "C" fn dlm_c_forget(alloc: Global, handle: &mut ClaimHandle) {
+pub extern "C" fn dlm_c_forget(alloc: Global, handle: &mut ClaimHandle)
+    ensures { handle.new.held.value ≡ None }
+{
     let _claim = handle.take(alloc);
 }
 
@@ -94,7 +107,10 @@ pub extern "C" fn dlm_c_begin(
     asker: &AskerNumbers,
     goal: u32,
     value: &ValueNumbers,
-) -> i32 {
+) -> i32
+    ensures { InClaim (λ old new. BeginsGoalOr asker.now goal value.now.bytes old new result)
+        handle.old.held.value handle.new.held.value result }
+{
     let Some(mut claim) = handle.take(alloc) else {
         return CLOSED;
     };
@@ -110,7 +126,9 @@ pub struct ValueNumbers {
     pub bytes: [u8; 16],
 }
 
-fn begin(claim: &mut Claim, asker: &AskerNumbers, goal: u32, value: &ValueNumbers) -> i32 {
+fn begin(claim: &mut Claim, asker: &AskerNumbers, goal: u32, value: &ValueNumbers) -> i32
+    ensures { BeginsGoalOr asker.now goal value.now.bytes claim.old claim.new result }
+{
     let Some(asker) = asker.asker() else {
         return BAD_ARGUMENT;
     };
@@ -140,7 +158,9 @@ fn begin(claim: &mut Claim, asker: &AskerNumbers, goal: u32, value: &ValueNumber
 
 /// The operation on the claim is to end soon: the caller's time is over, or it was told to stop.
 #[unsafe(no_mangle)]
-pub extern "C" fn dlm_c_stop(alloc: Global, handle: &mut ClaimHandle, told: bool) {
+pub extern "C" fn dlm_c_stop(alloc: Global, handle: &mut ClaimHandle, told: bool)
+    ensures { InKept (Stops told) handle.old.held.value handle.new.held.value }
+{
     if let Some(mut claim) = handle.take(alloc) {
         claim.stop(if told { Why::Stopped } else { Why::TimeOver });
         handle.keep(claim);
@@ -150,7 +170,8 @@ pub extern "C" fn dlm_c_stop(alloc: Global, handle: &mut ClaimHandle, told: bool
 /// Tells what is to be done next.
 #[unsafe(no_mangle)]
 pub extern "C" fn dlm_c_order(alloc: Global, handle: &mut ClaimHandle, into: &mut DueOrder) -> i32
-    ensures { InClaim (λ old new. (new ≡ old) × (into.new ≡ told_order (order_of old.step old.pace.outrun))) handle.old.held.value handle.new.held.value result }
+    ensures { InClaim (λ old new. (new ≡ old) × (result ≡ done) × (into.new ≡ told_order (order_of old.step old.pace.outrun)))
+        handle.old.held.value handle.new.held.value result }
 {
     let Some(claim) = handle.take(alloc) else {
         return CLOSED;
@@ -166,7 +187,12 @@ pub extern "C" fn dlm_c_submit_order(
     alloc: Global,
     handle: &mut ClaimHandle,
     host: &mut Handle,
-) -> i32 {
+) -> i32
+    ensures submits { InClaim (λ old new. (new ≡ old)
+        × InHandle (λ before after. SubmitsOrder old before after result) host.old.held.value host.new.held.value result)
+        handle.old.held.value handle.new.held.value result }
+    ensures none { handle.old.held.value ≡ None → host.new.held.value ≡ host.old.held.value }
+{
     let Some(claim) = handle.take(alloc) else {
         return CLOSED;
     };
@@ -175,22 +201,28 @@ pub extern "C" fn dlm_c_submit_order(
     status
 }
 
-fn submit_in(alloc: Global, claim: &Claim, host: &mut Handle) -> i32 {
-    let Some(mut open) = host.take(alloc) else {
+fn submit_in(alloc: Global, claim: &Claim, host: &mut Handle) -> i32
+    ensures { InHandle (λ old new. SubmitsOrder claim.now old new result) host.old.held.value host.new.held.value result }
+{
+    let Some(mut opened) = host.take(alloc) else {
         return CLOSED;
     };
-    let status = submit(claim, &mut open);
-    host.keep(open);
+    let status = submit(claim, &mut opened);
+    host.keep(opened);
     status
 }
 
-fn submit(claim: &Claim, open: &mut OpenHost) -> i32 {
-    if !open.core.idle() {
+fn submit(claim: &Claim, host: &mut OpenHost) -> i32
+    ensures { SubmitsOrder claim.now host.old host.new result }
+{
+    if !host.core.idle() {
         return BUSY;
     }
     match claim.next() {
-        Order::Submit(command) if command.host == open.core.host() => {
-            open.core.submit(command, 1);
+        Order::Submit(command) if command.host == host.core.host() => {
+            // Called for its contract only: the command's numbers are in their ranges.
+            let _spelled = command.encode();
+            host.core.submit(command, 1);
             0
         }
         _ => NOTHING_DUE,
@@ -233,12 +265,12 @@ fn hear_in(
         HearsRight event opened claim.new }
     ensures same { host.new.held.value ≡ host.old.held.value }
 {
-    let Some(open) = host.take(alloc) else {
+    let Some(opened) = host.take(alloc) else {
         claim.closed(Failure::Broken);
         return CLOSED;
     };
-    hear_by(alloc, claim, &open, event, status, left_over);
-    host.keep(open);
+    hear_by(alloc, claim, &opened, event, status, left_over);
+    host.keep(opened);
     0
 }
 
@@ -246,15 +278,15 @@ fn hear_in(
 fn hear_by(
     alloc: Global,
     claim: &mut Claim,
-    open: &OpenHost,
+    host: &OpenHost,
     event: u32,
     status: i32,
     left_over: bool,
 )
-    ensures { HearsRight event open.now claim.new }
+    ensures { HearsRight event host.now claim.new }
 {
-    match open.core.table().picture(alloc) {
-        Ok(table) => hear(claim, open, &table, event, status, left_over),
+    match host.core.table().picture(alloc) {
+        Ok(table) => hear(claim, host, &table, event, status, left_over),
         Err(_) if event == 7 => claim.dropped_unread(),
         Err(_) => claim.closed(Failure::NoMemory),
     }
@@ -262,26 +294,26 @@ fn hear_by(
 
 fn hear(
     claim: &mut Claim,
-    open: &OpenHost,
+    host: &OpenHost,
     table: &Picture,
     event: u32,
     status: i32,
     left_over: bool,
 )
-    requires table { IsPictureOf table.now (table_after open.now.core.prefix) }
-    ensures { HearsRight event open.now claim.new }
+    requires table { IsPictureOf table.now (table_after host.now.core.prefix) }
+    ensures { HearsRight event host.now claim.new }
 {
     let learned = Learned {
-        set: open.cluster,
-        slots: open.config.slots(),
-        log: open.core.prefix(),
+        set: host.cluster,
+        slots: host.config.slots(),
+        log: host.core.prefix(),
         table,
         left_over,
     };
     match event {
         1 => claim.opened(&learned),
         2 => claim.learned(&learned),
-        3 => match open.core.answer() {
+        3 => match host.core.answer() {
             Some(HostAnswer::Ack { reply, .. }) => claim.replied(&reply, &learned),
             Some(HostAnswer::Refused(refusal)) => claim.refused(
                 failure_of(i32::from(refusal.number())),
@@ -305,17 +337,25 @@ pub extern "C" fn dlm_c_hear_alone(
     handle: &mut ClaimHandle,
     event: u32,
     status: i32,
-) -> i32 {
+) -> i32
+    ensures { InClaim (λ old new. (result ≡ done) × HearsAlone event status old new) handle.old.held.value handle.new.held.value result }
+{
     let Some(mut claim) = handle.take(alloc) else {
         return CLOSED;
     };
+    hear_alone(&mut claim, event, status);
+    handle.keep(claim);
+    0
+}
+
+fn hear_alone(claim: &mut Claim, event: u32, status: i32)
+    ensures { HearsAlone event status claim.old claim.new }
+{
     match event {
         2 => claim.rested(),
         3 => claim.sign_failed(),
         _ => claim.closed(failure_of(status)),
     }
-    handle.keep(claim);
-    0
 }
 
 /// What C is shown of a claim.
@@ -336,7 +376,9 @@ pub struct ClaimView {
 
 /// Shows the claim.
 #[unsafe(no_mangle)]
-pub extern "C" fn dlm_c_show(alloc: Global, handle: &mut ClaimHandle, into: &mut ClaimView) -> i32 {
+pub extern "C" fn dlm_c_show(alloc: Global, handle: &mut ClaimHandle, into: &mut ClaimView) -> i32
+    ensures { InClaim (λ old new. (new ≡ old) × (result ≡ done) × ShowsClaim into.new old) handle.old.held.value handle.new.held.value result }
+{
     let Some(claim) = handle.take(alloc) else {
         return CLOSED;
     };
@@ -346,7 +388,9 @@ pub extern "C" fn dlm_c_show(alloc: Global, handle: &mut ClaimHandle, into: &mut
 }
 
 impl ClaimView {
-    fn of(claim: &Claim) -> ClaimView {
+    fn of(claim: &Claim) -> ClaimView
+        ensures { ShowsClaim result claim.now }
+    {
         ClaimView {
             set: claim.set,
             request: claim.request,

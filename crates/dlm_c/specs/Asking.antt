@@ -1,0 +1,155 @@
+-- What C asks of a claim, and what comes of that.
+use Rattle.std.specs.Prelude.{◌≡◌, ◌≤◌, ◌<◌, ◌^◌, ◌==◌, ◌⊎◌, ⊤, ℕ, ℤ, Bool, false, pos, List, Option, Some, None, if◌then◌else◌}
+use Rattle.lock_modes.specs.declared.mode.Mode.{Mode}
+use Rattle.lock_command.specs.Command.{Fits, IsLock}
+use Rattle.lock_command.specs.Name.{IsName}
+use Rattle.lock_command.specs.declared.command.Command.{Command}
+use Rattle.lock_command.specs.declared.number.TheConstants.{HOSTS}
+use Rattle.host.specs.Host.{Submitting}
+use Rattle.host.specs.Kept.{Kept, is_idle}
+use Rattle.session.specs.Beginnings as beginnings
+use Rattle.session.specs.Beginnings.{IsAnotherValue, IsNewClaim}
+use Rattle.session.specs.Bounds.{IsPause, is_leaving, orders_left}
+use Rattle.session.specs.Keeping.{Keeps, KeepsRelease}
+use Rattle.session.specs.declared.beginning.Asker.{Asker}
+use Rattle.session.specs.declared.claim.Claim.{Claim}
+use Rattle.session.specs.declared.claim.Goal.{Goal}
+use Rattle.session.specs.declared.claim.Goal.TheVariants.{Take, Check, Give, GiveUp}
+use Rattle.session.specs.declared.claim.Standing.{Standing}
+use Rattle.session.specs.declared.claim.Standing.TheVariants.{Left}
+use Rattle.session.specs.declared.claim.Step.{Step}
+use Rattle.session.specs.declared.claim.Step.TheVariants as step
+use Rattle.session.specs.declared.outcome.Outcome.TheVariants.{Failed}
+use Rattle.session.specs.declared.outcome.Why.TheVariants.{Gone, Stopped, TimeOver, Waits}
+use Rattle.dlm_c.specs.declared.asker.AskerNumbers.{AskerNumbers}
+use Rattle.dlm_c.specs.declared.open_host.OpenHost.{OpenHost}
+use Rattle.dlm_c.specs.Numbers.{bad_argument, busy, done, mode_number, no_memory, nothing_due}
+use Rattle.dlm_c.specs.Steps.{Begins, HasBegun}
+
+-- WHOSE CLAIM IT IS
+
+-- there are such a host and such an interval
+abbrev pub MayAsk : AskerNumbers → Type 0
+MayAsk numbers = (numbers.host < HOSTS) × (numbers.interval < 2 ^ 16)
+
+-- the asker of these numbers
+abbrev pub asker_of : AskerNumbers → Asker
+asker_of numbers = record { host = numbers.host; shares = numbers.shares == 1; request = numbers.request; interval = numbers.interval }
+
+-- A CLAIM IS KEPT
+
+-- The handle keeps such a claim; or it is as it was, since none can be made of the arguments; or memory was refused, and it keeps none.
+abbrev pub KeepsOne : (Claim → Type 0) → Type 0 → Option Claim → Option Claim → ℤ → Type 0
+KeepsOne IsAsked Wrong old new status =
+    ((status ≡ done) × ((c : Claim) × (new ≡ Some c) × IsAsked c))
+    ⊎ ((status ≡ bad_argument) × (new ≡ old) × Wrong)
+    ⊎ ((status ≡ no_memory) × (new ≡ None))
+
+-- there are such an asker and such a name, and this is the mode of that number
+abbrev pub MayTake : AskerNumbers → List ℕ → ℕ → Mode → Type 0
+MayTake numbers name mode wanted = MayAsk numbers × IsName name × (mode_number wanted ≡ pos mode)
+
+-- a new claim of this asker to a lock on this name in this mode
+abbrev pub IsNewOf : AskerNumbers → List ℕ → ℕ → Bool → Claim → Type 0
+IsNewOf numbers name mode waits c = (wanted : Mode) × MayTake numbers name mode wanted × IsNewClaim (asker_of numbers) name wanted waits c
+
+abbrev pub KeepsNew : AskerNumbers → List ℕ → ℕ → Bool → Option Claim → Option Claim → ℤ → Type 0
+KeepsNew numbers name mode waits = KeepsOne (IsNewOf numbers name mode waits) ((wanted : Mode) → MayTake numbers name mode wanted → ⊥)
+
+-- The claim is to this lock, which a former run left in these images. No operation on it is under way.
+pub record IsLeftClaim (asking number : ℕ) (bytes : List ℕ) (wanted : Mode) (images : ℕ) (c : Claim) : Type 0 where
+  pub host : c.host ≡ asking
+  pub lock : c.lock ≡ number
+  pub name : c.name ≡ bytes
+  pub mode : c.mode ≡ wanted
+  pub set : c.set ≡ images
+  pub standing : c.standing ≡ Left
+  pub idle : c.step ≡ step.Ended (Failed Waits)
+
+-- there are such an asker, such a lock and such a name, and this is the mode of that number
+abbrev pub MayBeLeft : AskerNumbers → ℕ → List ℕ → ℕ → Mode → Type 0
+MayBeLeft numbers lock name mode wanted = IsLock lock × MayTake numbers name mode wanted
+
+abbrev pub IsLeftOf : AskerNumbers → ℕ → List ℕ → ℕ → ℕ → Claim → Type 0
+IsLeftOf numbers lock name mode set c = (wanted : Mode) × MayBeLeft numbers lock name mode wanted × IsLeftClaim numbers.host lock name wanted set c
+
+abbrev pub KeepsLeft : AskerNumbers → ℕ → List ℕ → ℕ → ℕ → Option Claim → Option Claim → ℤ → Type 0
+KeepsLeft numbers lock name mode set = KeepsOne (IsLeftOf numbers lock name mode set) ((wanted : Mode) → MayBeLeft numbers lock name mode wanted → ⊥)
+
+-- AN OPERATION ON IT BEGINS
+
+-- the number of what is begun: a give stores no value, or one
+abbrev pub IsGoal : ℕ → Goal → Type 0
+IsGoal number (Take waits) = number ≡ (if waits then 1 else 2)
+IsGoal number Check = number ≡ 3
+IsGoal number Give = (number ≡ 4) ⊎ (number ≡ 5)
+IsGoal number (GiveUp why) = (number ≡ 6) × (why ≡ Gone)
+
+abbrev pub stored : ℕ → List ℕ → Option (List ℕ)
+stored number bytes = if number == 5 then Some bytes else None
+
+-- the step that it begins with
+abbrev pub first_step : Goal → Step
+first_step Check = step.OpeningToLook
+first_step goal = step.Opening
+
+-- where the lock stands then: to be taken it stands as before, and to be looked at it is not to be released
+abbrev pub StandsFor : Goal → Standing → Standing → Type 0
+StandsFor (Take waits) old new = new ≡ old
+StandsFor Check old new = is_leaving new ≡ false
+StandsFor Give old new = ⊤
+StandsFor (GiveUp why) old new = ⊤
+
+-- What is asked began. What may be in the log stays known.
+pub record BeginsGoal (numbers : AskerNumbers) (number : ℕ) (bytes : List ℕ) (old new : Claim) (status : ℤ) : Type 0 where
+  pub told : status ≡ done
+  pub may_ask : MayAsk numbers
+  pub goal : Goal
+  pub is : IsGoal number goal
+  pub begins : beginnings.Begins goal old new
+  pub first : new.step ≡ first_step goal
+  pub stands : StandsFor goal old.standing new.standing
+  pub value : goal ≡ Give → new.value ≡ stored number bytes
+  pub keeps : Keeps old new
+  pub release : KeepsRelease old new
+
+-- there is no such asker, or nothing has that number, or a release with another value may be in the log
+abbrev pub MayNotBegin : AskerNumbers → ℕ → List ℕ → Claim → Type 0
+MayNotBegin numbers number bytes old =
+    (MayAsk numbers → ⊥) ⊎ ((goal : Goal) → IsGoal number goal → ⊥) ⊎ (IsGoal number Give × IsAnotherValue old (stored number bytes))
+
+abbrev pub BeginsGoalOr : AskerNumbers → ℕ → List ℕ → Claim → Claim → ℤ → Type 0
+BeginsGoalOr numbers number bytes old new status =
+    BeginsGoal numbers number bytes old new status ⊎ ((status ≡ bad_argument) × (new ≡ old) × MayNotBegin numbers number bytes old)
+
+-- IT IS TO END SOON
+
+-- The operation is to end soon: it was told to stop, or time is over. What may be in the log stays known.
+pub record Stops (told : Bool) (old new : Claim) : Type 0 where
+  pub over : new.over ≡ Some (if told then Stopped else TimeOver)
+  pub soon : orders_left new ≤ 13
+  pub no_pause : IsPause new.step → ⊥
+  pub keeps : Keeps old new
+  pub release : KeepsRelease old new
+
+-- ITS COMMAND IS SUBMITTED
+
+-- this command is to be submitted, and through this host
+abbrev pub IsToSubmit : Claim → ℕ → Command → Type 0
+IsToSubmit c host command = (c.step ≡ step.Submitting command) × (command.host ≡ host)
+
+-- It is submitted. It may be outrun once.
+pub record SubmitsDue (c : Claim) (old new : Kept) : Type 0 where
+  pub command : Command
+  pub fits : Fits command
+  pub due : IsToSubmit c old.learner.host command
+  pub begins : Begins (Submitting command) 1 old new
+
+-- Nothing was begun, since an operation is under way, or since no such command is due; the host is as it was.
+pub record SubmitsNothing (c : Claim) (old new : OpenHost) (status : ℤ) : Type 0 where
+  pub same : new ≡ old
+  pub told : ((status ≡ busy) × (is_idle old.core ≡ false))
+      ⊎ ((status ≡ nothing_due) × ((command : Command) → IsToSubmit c old.core.learner.host command → ⊥))
+
+abbrev pub SubmitsOrder : Claim → OpenHost → OpenHost → ℤ → Type 0
+SubmitsOrder c old new status = HasBegun (SubmitsDue c) old new status ⊎ SubmitsNothing c old new status
