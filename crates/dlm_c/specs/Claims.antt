@@ -5,6 +5,9 @@ use Rattle.lock_table.specs.Picture.{IsPictureOf}
 use Rattle.session.specs.declared.claim.Claim.{Claim}
 use Rattle.session.specs.declared.claim.Standing.{Standing}
 use Rattle.session.specs.declared.claim.Standing.TheVariants as standing
+use Rattle.session.specs.declared.claim.Sign.{Sign}
+use Rattle.session.specs.declared.claim.Step.TheVariants.{Dropping, Ended}
+use Rattle.session.specs.declared.claim.Then.TheVariants.{End}
 use Rattle.session.specs.declared.learned.Learned.{Learned}
 use Rattle.session.specs.declared.order.Order.{Order}
 use Rattle.session.specs.declared.order.Order.TheVariants as order
@@ -115,6 +118,14 @@ pub record IsBorneOutBy (host : OpenHost) (c : Claim) : Type 0 where
 -- given up, the host does not know.
 abbrev pub HearsRight : ℕ → OpenHost → Claim → Type 0
 HearsRight event host c = (event ≡ 6) ⊎ (event ≡ 7) ⊎ IsUnheard c ⊎ IsBorneOutBy host c
+
+-- What C says of signs of life: 7 that one is given up, 6 that one is somebody else's. The first ends the operation as was borne out when that was ordered.
+-- The second, where the folder was being opened, may end it with a lock that is gone. Otherwise whatever the step leads to needs nothing heard.
+pub record HearsOfSigns (event : ℕ) (old new : Claim) : Type 0 where
+  pub ends : (sign : Sign) (ended : Outcome) → event ≡ 7 → old.step ≡ Dropping sign (End ended) → new ≡ record old { step = Ended ended }
+  pub dropped : event ≡ 7 → ((sign : Sign) (ended : Outcome) → old.step ≡ Dropping sign (End ended) → ⊥) → IsUnheard new
+  pub held : event ≡ 6 → (IsOpening old.step → ⊥) → IsUnheard new
+  pub gone : event ≡ 6 → IsOpening old.step → IsUnheard new ⊎ (new ≡ record old { step = Ended (outcome.NotHeld why.Gone) })
 
 -- Where no host is open, whatever the step leads to needs nothing heard, and what may be in the log stays known. If the operation then ends since the folder
 -- could not be opened, it tells that failure, unless it was to end soon.
