@@ -1,5 +1,5 @@
 -- How operations on a claim begin.
-use Rattle.std.specs.Prelude.{◌≡◌, ◌≢◌, ℕ, List, Bool, Option, None}
+use Rattle.std.specs.Prelude.{◌≡◌, ◌≢◌, ℕ, List, Bool, Option, None, max}
 use Rattle.lock_modes.specs.declared.mode.Mode.{Mode}
 use Rattle.session.specs.declared.beginning.Asker.{Asker}
 use Rattle.session.specs.declared.claim.Claim.{Claim}
@@ -18,8 +18,17 @@ pub record IsNewClaim (asker : Asker) (bytes : List ℕ) (wanted : Mode) (waits 
   pub step : c.step ≡ Opening
   pub standing : c.standing ≡ Unasked
   pub asked : c.asked ≡ None
+  pub slot : c.slot ≡ None
   pub release : c.release ≡ None
+  pub value : c.value ≡ None
   pub over : c.over ≡ None
+  pub request : c.request ≡ asker.request
+  pub interval : c.pace.interval ≡ asker.interval
+
+-- The session's last request is known, and how long it pauses at most.
+pub record AsksAs (asker : Asker) (old new : Claim) : Type 0 where
+  pub request : new.request ≡ max old.request asker.request
+  pub interval : new.pace.interval ≡ asker.interval
 
 -- An operation begins. The claim is of the same lock, and what may be in the log stays known.
 pub record Begins (wanted : Goal) (old new : Claim) : Type 0 where

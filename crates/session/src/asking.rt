@@ -6,7 +6,7 @@ ghost use Rattle.session.specs.Evidence.{Knows};
 ghost use Rattle.session.specs.Keeping.{IsOnSame, Keeps, KeepsRelease, KeepsReleaseUntilOut};
 ghost use Rattle.session.specs.Numbers.{client_of};
 ghost use Rattle.session.specs.declared.claim.Standing.{Standing};
-ghost use Rattle.session.specs.Outcomes.{AsksAt, IsBorneOut, IsSlotOf, IsUnheard, IsWithout};
+ghost use Rattle.session.specs.Outcomes.{AsksAt, IsBorneOut, IsSlotOf, IsUnheard, IsWithout, TellsWhy};
 
 use crate::claim::{Choice, Claim, Goal, Sign, Standing, Step, Then};
 use crate::evidence::{Seen, asks_for, find, first_of, is_numbered, is_taken, last_request};
@@ -201,6 +201,7 @@ impl Claim {
     /// The sign of life cannot be made or locked.
     pub fn sign_failed(&mut self)
         ensures unheard { IsUnheard self.new }
+        ensures told { (choice : Choice) → self.old.step ≡ Step.Signing choice → self.old.over ≡ None → TellsWhy self.new (Why.Failed Failure.NoLock) }
         ensures nearer { ComesNearer self.old self.new }
         ensures keeps { Keeps self.old self.new }
         ensures release { KeepsRelease self.old self.new }

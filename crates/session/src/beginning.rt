@@ -1,5 +1,5 @@
 ghost use Rattle.std.specs.Prelude.{◌≡◌, ◌≤◌, ◌⊎◌, IsTrue, None, Some, false};
-ghost use Rattle.session.specs.Beginnings.{Begins, IsAnotherValue, IsNewClaim};
+ghost use Rattle.session.specs.Beginnings.{AsksAs, Begins, IsAnotherValue, IsNewClaim};
 ghost use Rattle.session.specs.Bounds.{IsPause, is_leaving, orders_left};
 ghost use Rattle.session.specs.Keeping.{Keeps, KeepsRelease};
 
@@ -59,6 +59,7 @@ impl Claim {
         ensures standing { result.standing ≡ Standing.Left }
         ensures of { (result.host ≡ host) × (result.name ≡ name) × (result.mode ≡ mode) × (result.set ≡ set) }
         ensures idle { result.step ≡ Step.Ended (Outcome.Failed Why.Waits) }
+        ensures unknown { (result.asked ≡ None) × (result.slot ≡ None) × (result.release ≡ None) }
     {
         let asker = Asker {
             host,
@@ -78,6 +79,7 @@ impl Claim {
     /// The lock that a former run left is to be taken.
     pub fn take_left(&mut self, asker: &Asker, waits: bool)
         ensures begins { Begins (Goal.Take waits) self.old self.new }
+        ensures asks { AsksAs asker.now self.old self.new }
         ensures opens { self.new.step ≡ Step.Opening }
         ensures stands { self.new.standing ≡ self.old.standing }
         ensures keeps { Keeps self.old self.new }
@@ -90,6 +92,7 @@ impl Claim {
     /// It is to be looked whether the lock is still there. A release of it that may be in the log stays known.
     pub fn check(&mut self, asker: &Asker)
         ensures begins { Begins Goal.Check self.old self.new }
+        ensures asks { AsksAs asker.now self.old self.new }
         ensures opens { self.new.step ≡ Step.OpeningToLook }
         ensures stands { is_leaving self.old.standing ≡ false → self.new.standing ≡ self.old.standing }
         ensures looks { is_leaving self.new.standing ≡ false }
@@ -108,6 +111,8 @@ impl Claim {
         ensures refused { result ≡ false → IsAnotherValue self.old value }
         ensures unchanged { result ≡ false → self.new ≡ self.old }
         ensures begins { IsTrue result → Begins Goal.Give self.old self.new }
+        ensures asks { IsTrue result → AsksAs asker.now self.old self.new }
+        ensures leaves { IsTrue result → self.new.standing ≡ Standing.Leaving }
         ensures opens { IsTrue result → self.new.step ≡ Step.Opening }
         ensures value { IsTrue result → self.new.value ≡ value }
         ensures same { IsTrue result → (self.old.release ≡ None) ⊎ (self.old.value ≡ value) }
@@ -127,6 +132,8 @@ impl Claim {
     /// The lock was given up in an operation before this one, and is to be released.
     pub fn give_up_again(&mut self, asker: &Asker)
         ensures begins { Begins (Goal.GiveUp Why.Gone) self.old self.new }
+        ensures asks { AsksAs asker.now self.old self.new }
+        ensures leaves { self.new.standing ≡ Standing.Leaving }
         ensures opens { self.new.step ≡ Step.Opening }
         ensures keeps { Keeps self.old self.new }
         ensures release { KeepsRelease self.old self.new }
@@ -138,6 +145,7 @@ impl Claim {
 
     fn begin(&mut self, asker: &Asker, goal: Goal)
         ensures begins { Begins goal self.old self.new }
+        ensures asks { AsksAs asker.now self.old self.new }
         ensures step { self.new.step ≡ self.old.step }
         ensures stands { self.new.standing ≡ self.old.standing }
         ensures value { self.new.value ≡ self.old.value }
@@ -156,6 +164,7 @@ impl Claim {
         ensures over { self.new.over ≡ Some why }
         ensures soon { orders_left self.new ≤ 13 }
         ensures no_pause { IsPause self.new.step → ⊥ }
+        ensures goes_on { (IsPause self.old.step → ⊥) → self.new.step ≡ self.old.step }
         ensures keeps { Keeps self.old self.new }
         ensures release { KeepsRelease self.old self.new }
     {

@@ -1,4 +1,4 @@
-ghost use Rattle.std.specs.Prelude.{◌≡◌, ◌+◌, ◌≢◌, ◌≤◌, ◌⊎◌, ◌↔◌, IsTrue, None, Some, is_some, true};
+ghost use Rattle.std.specs.Prelude.{◌≡◌, ◌+◌, ◌≢◌, ◌≤◌, ◌⊎◌, ◌↔◌, ℕ, IsTrue, None, Some, is_some, true};
 ghost use Rattle.session.specs.Bounds.{ComesNearer, IsOpening, IsReading, is_leaving, orders_left};
 ghost use Rattle.session.specs.Keeping.{IsOnSame, Keeps, KeepsRelease, KeepsReleaseUntilOut};
 ghost use Rattle.session.specs.Outcomes.{IsBorneOut, IsGivenUp, IsOut, IsUnheard, TellsWhy, then_of};
@@ -245,6 +245,7 @@ impl Claim {
     /// The pause is over.
     pub fn rested(&mut self)
         ensures unheard { IsUnheard self.new }
+        ensures opens { (milliseconds : ℕ) → self.old.step ≡ Step.Resting milliseconds → IsOpening self.new.step }
         ensures keeps { Keeps self.old self.new }
         ensures release { KeepsRelease self.old self.new }
     {
@@ -299,6 +300,7 @@ impl Claim {
             self.new ≡ record self.old { step = Step.Ended outcome } }
         ensures other { ((sign : Sign) (outcome : Outcome) → self.old.step ≡ Step.Dropping sign (Then.End outcome) → ⊥) → IsUnheard self.new }
         ensures nearer { ComesNearer self.old self.new }
+        ensures same { IsOnSame self.old self.new }
     {
         match self.step {
             Step::Dropping(_, Then::End(outcome)) => self.step = Step::Ended(outcome),
