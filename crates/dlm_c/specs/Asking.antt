@@ -1,5 +1,5 @@
 -- What C asks of a claim, and what comes of that.
-use Rattle.std.specs.Prelude.{◌≡◌, ◌≤◌, ◌<◌, ◌^◌, ◌==◌, ◌⊎◌, ⊤, ℕ, ℤ, Bool, false, pos, List, Option, Some, None, if◌then◌else◌}
+use Rattle.std.specs.Prelude.{◌≡◌, ◌≤◌, ◌<◌, ◌^◌, ◌==◌, ◌⊎◌, ℕ, ℤ, Bool, false, pos, List, Option, Some, None, if◌then◌else◌}
 use Rattle.lock_modes.specs.declared.mode.Mode.{Mode}
 use Rattle.lock_command.specs.Command.{Fits, IsLock}
 use Rattle.lock_command.specs.Name.{IsName}
@@ -8,7 +8,7 @@ use Rattle.lock_command.specs.declared.number.TheConstants.{HOSTS}
 use Rattle.host.specs.Host.{Submitting}
 use Rattle.host.specs.Kept.{Kept, is_idle}
 use Rattle.session.specs.Beginnings as beginnings
-use Rattle.session.specs.Beginnings.{IsAnotherValue, IsNewClaim}
+use Rattle.session.specs.Beginnings.{AsksAs, IsAnotherValue, IsNewClaim}
 use Rattle.session.specs.Bounds.{IsPause, is_leaving, orders_left}
 use Rattle.session.specs.Keeping.{Keeps, KeepsRelease}
 use Rattle.session.specs.declared.beginning.Asker.{Asker}
@@ -16,7 +16,7 @@ use Rattle.session.specs.declared.claim.Claim.{Claim}
 use Rattle.session.specs.declared.claim.Goal.{Goal}
 use Rattle.session.specs.declared.claim.Goal.TheVariants.{Take, Check, Give, GiveUp}
 use Rattle.session.specs.declared.claim.Standing.{Standing}
-use Rattle.session.specs.declared.claim.Standing.TheVariants.{Left}
+use Rattle.session.specs.declared.claim.Standing.TheVariants.{Leaving, Left}
 use Rattle.session.specs.declared.claim.Step.{Step}
 use Rattle.session.specs.declared.claim.Step.TheVariants as step
 use Rattle.session.specs.declared.outcome.Outcome.TheVariants.{Failed}
@@ -64,6 +64,7 @@ pub record IsLeftClaim (asking number : ℕ) (bytes : List ℕ) (wanted : Mode) 
   pub mode : c.mode ≡ wanted
   pub set : c.set ≡ images
   pub standing : c.standing ≡ Left
+  pub unknown : (c.asked ≡ None) × (c.slot ≡ None) × (c.release ≡ None)
   pub idle : c.step ≡ step.Ended (Failed Waits)
 
 -- there are such an asker, such a lock and such a name, and this is the mode of that number
@@ -93,12 +94,12 @@ abbrev pub first_step : Goal → Step
 first_step Check = step.OpeningToLook
 first_step goal = step.Opening
 
--- where the lock stands then: to be taken it stands as before, and to be looked at it is not to be released
+-- where the lock stands then: to be taken it stands as before, to be looked at it is not to be released, and else it is
 abbrev pub StandsFor : Goal → Standing → Standing → Type 0
 StandsFor (Take waits) old new = new ≡ old
 StandsFor Check old new = is_leaving new ≡ false
-StandsFor Give old new = ⊤
-StandsFor (GiveUp why) old new = ⊤
+StandsFor Give old new = new ≡ Leaving
+StandsFor (GiveUp why) old new = new ≡ Leaving
 
 -- What is asked began. What may be in the log stays known.
 pub record BeginsGoal (numbers : AskerNumbers) (number : ℕ) (bytes : List ℕ) (old new : Claim) (status : ℤ) : Type 0 where
@@ -107,6 +108,7 @@ pub record BeginsGoal (numbers : AskerNumbers) (number : ℕ) (bytes : List ℕ)
   pub goal : Goal
   pub is : IsGoal number goal
   pub begins : beginnings.Begins goal old new
+  pub asks : AsksAs (asker_of numbers) old new
   pub first : new.step ≡ first_step goal
   pub stands : StandsFor goal old.standing new.standing
   pub value : goal ≡ Give → new.value ≡ stored number bytes
@@ -129,6 +131,7 @@ pub record Stops (told : Bool) (old new : Claim) : Type 0 where
   pub over : new.over ≡ Some (if told then Stopped else TimeOver)
   pub soon : orders_left new ≤ 13
   pub no_pause : IsPause new.step → ⊥
+  pub goes_on : (IsPause old.step → ⊥) → new.step ≡ old.step
   pub keeps : Keeps old new
   pub release : KeepsRelease old new
 

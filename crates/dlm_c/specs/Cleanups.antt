@@ -1,5 +1,5 @@
 -- What C is told of locks that processes which are gone have left, and of the purge of a host.
-use Rattle.std.specs.Prelude.{◌≡◌, ◌⊎◌, ◌<◌, ◌+◌, ◌-◌, ◌^◌, ℕ, ℤ, List, Option, Some, None, false, true, min}
+use Rattle.std.specs.Prelude.{◌≡◌, ◌⊎◌, ◌<◌, ◌+◌, ◌-◌, ◌^◌, ℕ, ℤ, List, Option, Some, None, false, min}
 use Rattle.lock_command.specs.declared.command.Command.{Command}
 use Rattle.lock_command.specs.declared.number.TheConstants.{HOSTS}
 use Rattle.lock_table.specs.declared.record.LockRecord.{LockRecord}

@@ -162,9 +162,15 @@ pub extern "C" fn dlm_c_stop(alloc: Global, handle: &mut ClaimHandle, told: bool
     ensures { InKept (Stops told) handle.old.held.value handle.new.held.value }
 {
     if let Some(mut claim) = handle.take(alloc) {
-        claim.stop(if told { Why::Stopped } else { Why::TimeOver });
+        stop(&mut claim, told);
         handle.keep(claim);
     }
+}
+
+fn stop(claim: &mut Claim, told: bool)
+    ensures { Stops told claim.old claim.new }
+{
+    claim.stop(if told { Why::Stopped } else { Why::TimeOver });
 }
 
 /// Tells what is to be done next.

@@ -1,5 +1,4 @@
 use Rattle.std.proofs.Common.{rules, ◌≡◌, None, inl, inr}
-use Rattle.cleanup.specs.Left.{AllPassed}
 use Rattle.dlm_c.proofs.cleanups.next_left.Goals as goal
 
 pub returns : goal.returns

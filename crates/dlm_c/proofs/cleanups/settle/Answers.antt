@@ -1,7 +1,7 @@
 use Rattle.std.proofs.Common.{rules, ◌≡◌, ℕ, Option, refl, subst, inl}
 use Rattle.session.specs.declared.outcome.Why.{Why}
 use Rattle.cleanup.specs.Left.{counted}
-use Rattle.dlm_c.specs.Cleanups.{IsCleanupOf, status_after}
+use Rattle.dlm_c.specs.Cleanups.{IsCleanupOf}
 use Rattle.dlm_c.proofs.Counted.{counts}
 use Rattle.dlm_c.proofs.cleanups.settle.Goals as goal
 
