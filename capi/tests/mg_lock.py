@@ -371,6 +371,9 @@ def ends_of_logs():
     expect(re.match("mg-lock: the lock \\d+ on db stays in the table: 9 LogFull ", said.stderr.splitlines()[-1]), f"and that is said: {said}")
     said = run(images, 0, "other", "--", "true")
     expect(said.returncode == 125 and "9 LogFull" in said.stderr, f"full: {said}")
+    said = run("--recover", images, 0)
+    expect(said.returncode == 125 and said.stdout == "", f"what is left cannot be released: {said}")
+    expect(re.fullmatch("mg-lock: 1 locks whose processes are gone stay in the table\nmg-lock: 9 LogFull .*\n", said.stderr), f"and how many: {said}")
 
 
 def renew(number, slots):

@@ -386,6 +386,7 @@ static void full(void) {
     char link[300], next[300];
     struct mg_session *session, *shares;
     struct mg_held a, b;
+    unsigned count;
     session = begun(path, 0, 0);
     shares = begun(path, 1, MG_SHARE);
     IS(mg_take(session, "db", MG_EX, 0, &a), MG_OK);
@@ -406,6 +407,14 @@ static void full(void) {
     /* What stays is told. */
     IS(mg_begin(path, 0, 0, &session, NULL), MG_LOG_FULL);
     IS(session == NULL, 1);
+    shares = begun(path, 0, MG_SHARE);
+    IS(mg_recover(shares, 0, &count), MG_OK);
+    IS(mg_stay(shares), 0);
+    IS(mg_recover(shares, MG_ALL, &count), MG_LOG_FULL);
+    IS(count, 0);
+    IS(mg_stay(shares), 1);
+    IS(mg_stay(NULL), 0);
+    mg_end(shares);
     /* A link is followed to where it goes on. (No renewal here: the other folder is an empty one.) */
     snprintf(link, sizeof link, "%s/current", work);
     snprintf(next, sizeof next, "%s/next", work);

@@ -56,6 +56,7 @@ def load(path=None):
     lib.mg_give.argtypes = [c_void_p, c_uint, c_char_p]
     lib.mg_check.argtypes = [c_void_p, c_uint]
     lib.mg_purge_dead.argtypes = lib.mg_recover.argtypes = [c_void_p, c_uint, POINTER(c_uint)]
+    lib.mg_stay.argtypes = [c_void_p]
     lib.mg_set_rest.argtypes = [c_void_p, Rest, c_void_p]
     lib.mg_host_of.argtypes = [c_void_p, POINTER(c_void_p)]
     lib.mg_look.argtypes = [c_void_p, POINTER(c_uint64)]
@@ -239,3 +240,7 @@ class Session:
         count = c_uint()
         self._check(self.lib.mg_recover(self.handle, ALL * all_of_them, byref(count)))
         return count.value
+
+    def stay(self):
+        """How many of these could not be released, when that was tried last."""
+        return self.lib.mg_stay(self.handle)
