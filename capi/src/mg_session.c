@@ -4,7 +4,8 @@
  * - A *talk* is what a session does while it has the host number. Talks of a number do not overlap. Without MG_SHARE a session is one
  *   talk, but for the moment in which it opens the folder anew after a failure. With it each call opens the folder for a talk, and a
  *   wait looks by a handle that has no number.
- * - What a session does for a lock is decided by a proved claim (claim.h, crates/session). Here is done what that orders, and it is told what came of it.
+ * - What a session does for a lock is decided by a proved claim (claim.h, crates/session), and which locks of processes that are gone it releases or purges
+ *   by a proved cleanup (crates/cleanup). Here is done what these order, and they are told what came of it.
  * - As long as a lock is somebody's, its sign of life is locked by flock: the file mg-lock.SET.HOST.LOCK in the folder, SET being the
  *   cluster number. Signs are made before the lock is asked for and removed after it is gone, within talks. A lock whose sign is there, and
  *   nobody's, is left over. What sets of an earlier life of the folder left there are no signs of its locks.
