@@ -102,7 +102,8 @@ int mg_purge_dead(struct mg_session *session, unsigned victim, unsigned *purged)
  * NULL, becomes the number of locks. Where some of them could not be released it says why, and mg_stay how many. */
 int mg_recover(struct mg_session *session, unsigned flags, unsigned *released);
 
-/* How many locks of processes that are gone could not be released, when that was tried last: by mg_recover, or by mg_take. */
+/* How many locks of processes that are gone could not be released, when that was tried last: by mg_recover, or by mg_take. A table that could not
+ * be read to its end counts as one more. */
 unsigned mg_stay(const struct mg_session *session);
 
 /* ---- waiting ---- */
