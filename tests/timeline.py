@@ -69,9 +69,9 @@ mark 0 0
 step 0 9
 start 1
 look 1
-step 1 4
+step 1 6
 """
-MARKED_CLASSES = "ooopppppppvvvvvvvmmmmmmmmmqqqq"
+MARKED_CLASSES = "ooopppppppvvvvvvvmmmmmmmmmqqqqqq"
 
 
 def drawn(script):

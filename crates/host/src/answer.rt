@@ -31,6 +31,7 @@ impl HostAnswer {
                 reply: reply?,
             }),
             LogOutcome::Recovered { length } => Some(HostAnswer::Recovered { length }),
+            LogOutcome::Looked { length } => Some(HostAnswer::Looked { length }),
             LogOutcome::Refused(refusal) => Some(HostAnswer::Refused(refusal)),
         }
     }

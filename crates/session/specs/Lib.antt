@@ -6,4 +6,3 @@ pub mod Keeping
 pub mod Numbers
 pub mod Orders
 pub mod Outcomes
-pub mod Signs

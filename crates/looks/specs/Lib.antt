@@ -1,4 +1,0 @@
-pub mod History
-pub mod Kept
-pub mod Shown
-pub mod Status
